@@ -1,17 +1,23 @@
 -- The columns that characters and toggles make.
-use Rattle.std.proofs.Common.{◌≡◌, ℕ, zero, suc, ◌+◌, ◌<◌, ◌≤◌, min, List, [], ◌∷◌, ◌++◌, length, take, drop, inl, inr}
-use Rattle.std.proofs.Common.{refl, sym, ap, ap₂, subst, ◌∙◌, arith, length-take, take-append-drop}
-use Rattle.std.proofs.lemmas.Bool.{cases_eq}
+use Rattle.std.proofs.Common.{◌≡◌, ℕ, zero, suc, ◌+◌, ◌*◌, ◌<◌, ◌≤◌, min, Bool, true, false, ◌||◌, List, [], ◌∷◌}
+use Rattle.std.proofs.Common.{◌++◌, length, take, drop, inl, inr, refl, sym, ap, ap₂, ◌∙◌, arith, length-take}
+use Rattle.std.proofs.Common.{take-append-drop}
+use Rattle.std.proofs.lemmas.Bool.{cases_eq, false≢true}
 use Rattle.std.proofs.lemmas.List.{take_all}
+use Rattle.std.specs.Cmp.{nat_cmp_total}
 use Rattle.std.specs.FinSet as set
+use Rattle.text_model.specs.Content.{Slots}
 use Rattle.text_model.specs.SlotSets.{differing}
+use Rattle.text_model.specs.declared.tag_set.TheConstants.{WORDS}
 use Rattle.toggle_sums.specs.Toggles.{parity, presence}
-use Rattle.toggle_sums.specs.CountLaws.{differing-empty, empty-differing, empty-union}
+use Rattle.toggle_sums.specs.CountLaws.{contains-differing, differing-associative, either}
+use Rattle.toggle_sums.specs.CountLaws.{empty-differing, empty-union, same_slots, union-associative}
 use Rattle.segments.specs.declared.toggles.Toggled.{Toggled}
 use Rattle.segments.specs.Columns.{Column, characters, plain_columns, tags_before, toggles}
-use Rattle.segments.specs.Entries.{LieIn, any_of, odd_of, toggled_at}
+use Rattle.segments.specs.Entries.{LieIn, RiseIn, any_of, odd_of, place_of, toggled_at}
 use Rattle.segments.specs.Kept.{columns_from}
-use Rattle.segments.proofs.EntryLaws.{front_alone, LieIn-both, LieIn-take, met, none_before, passed}
+use Rattle.segments.proofs.EntryLaws.{LieIn-both, RiseIn-take, front_alone, met, none_before, none_below, own_slot}
+use Rattle.segments.proofs.EntryLaws.{passed}
 
 pub length-columns : (at : ℕ) (text : List ℕ) (entries : List Toggled) →
     length (columns_from at text entries) ≡ length text
@@ -76,52 +82,93 @@ columns-front at from to (character ∷ text) front behind lie far =
     (columns-front (suc at) from to text front behind lie (omega arith))
 
 -- the parity of the columns is that of the entries
-pub parity-columns : (at to : ℕ) (text : List ℕ) (entries : List Toggled) → to ≡ at + length text →
-    LieIn at to entries → parity (toggles (columns_from at text entries)) ≡ odd_of entries
-parity-columns at to [] [] is lie = refl
-parity-columns at to [] (entry ∷ entries) is lie = absurd (omega (arith, lie.0, lie.1))
-parity-columns at to (character ∷ text) [] is lie =
-    ap (differing set.empty) (parity-columns (suc at) to text [] (omega arith) tt) ∙ empty-differing set.empty
-parity-columns at to (character ∷ text) (entry ∷ entries) is lie =
+parity-rise : (at from to : ℕ) (text : List ℕ) (entries : List Toggled) → to ≡ at + length text →
+    RiseIn from (WORDS * to) entries → WORDS * at ≤ from →
+    parity (toggles (columns_from at text entries)) ≡ odd_of entries
+parity-rise at from to [] [] is rise low = refl
+parity-rise at from to [] (entry ∷ entries) is rise low = absurd (omega (arith, rise.0, rise.1))
+parity-rise at from to (character ∷ text) [] is rise low =
+    ap (differing set.empty) (parity-rise (suc at) (WORDS * suc at) to text [] (omega arith) tt (omega arith))
+    ∙ empty-differing set.empty
+parity-rise at from to (character ∷ text) (entry ∷ entries) is rise low =
     elim (cases_eq entry.column at) [
       | inl here ↦
-          ap₂ differing
-          (met entry entries at here ∙ ap (differing entry.slots)
-          (none_before (suc entry.column) to entries at lie.2 (omega arith)) ∙ differing-empty entry.slots)
-          (ap (λ columns. parity (toggles columns)) (columns-passed (suc at) text entry entries (omega arith))
-          ∙ parity-columns (suc at) to text entries (omega arith)
-          (subst (λ n. LieIn (suc n) to entries) here lie.2))
+          let behind = parity (toggles (columns_from (suc at) text entries)) in
+          ap₂ differing (met entry entries at here)
+          (ap (λ columns. parity (toggles columns)) (columns-passed (suc at) text entry entries (omega arith)))
+          ∙ differing-associative entry.slots (toggled_at entries at) behind
+          ∙ ap (differing entry.slots)
+          (parity-rise at (suc (place_of entry)) to (character ∷ text) entries is rise.3 (omega (arith, rise.0)))
       | inr other ↦
-          let later : suc at ≤ entry.column = omega (arith, lie.0) in
+          let rising : RiseIn (WORDS * suc at) (WORDS * to) (entry ∷ entries) = (
+            omega (arith, rise.0, other, rise.2.within),
+            rise.1,
+            rise.2,
+            rise.3,
+          ) in
           ap₂ differing
-          (none_before (suc at) to (entry ∷ entries) at (later, lie.1, lie.2) (omega arith))
-          (parity-columns (suc at) to text (entry ∷ entries) (omega arith) (later, lie.1, lie.2))
+          (none_below (WORDS * suc at) (WORDS * to) (entry ∷ entries) at rising (omega arith))
+          (parity-rise (suc at) (WORDS * suc at) to text (entry ∷ entries) (omega arith) rising (omega arith))
           ∙ empty-differing (odd_of (entry ∷ entries))
     ]
 
+pub parity-columns : (at to : ℕ) (text : List ℕ) (entries : List Toggled) → to ≡ at + length text →
+    LieIn at to entries → parity (toggles (columns_from at text entries)) ≡ odd_of entries
+parity-columns at to text entries is lie = parity-rise at (WORDS * at) to text entries is lie (omega arith)
+
+-- two sets without a common slot differ in all of theirs
+apart_test : (a b : Bool) → (a ≡ true → b ≡ false) → either a b ≡ (a || b)
+apart_test true true apart = absurd (false≢true (sym (apart refl)))
+apart_test true false apart = refl
+apart_test false true apart = refl
+apart_test false false apart = refl
+
+apart_union : (first second : Slots) → ((q : ℕ) → set.contains first q ≡ true → set.contains second q ≡ false) →
+    differing first second ≡ set.union first second
+apart_union first second apart =
+    same_slots _ _ (λ q. contains-differing first second q
+    ∙ apart_test (set.contains first q) (set.contains second q) (apart q)
+    ∙ sym (set.contains-union nat_cmp_total first second q))
+
 -- the presence of the columns is that of the entries
-pub presence-columns : (at to : ℕ) (text : List ℕ) (entries : List Toggled) → to ≡ at + length text →
-    LieIn at to entries → presence (toggles (columns_from at text entries)) ≡ any_of entries
-presence-columns at to [] [] is lie = refl
-presence-columns at to [] (entry ∷ entries) is lie = absurd (omega (arith, lie.0, lie.1))
-presence-columns at to (character ∷ text) [] is lie =
-    ap (set.union set.empty) (presence-columns (suc at) to text [] (omega arith) tt) ∙ empty-union set.empty
-presence-columns at to (character ∷ text) (entry ∷ entries) is lie =
+presence-rise : (at from to : ℕ) (text : List ℕ) (entries : List Toggled) → to ≡ at + length text →
+    RiseIn from (WORDS * to) entries → WORDS * at ≤ from →
+    presence (toggles (columns_from at text entries)) ≡ any_of entries
+presence-rise at from to [] [] is rise low = refl
+presence-rise at from to [] (entry ∷ entries) is rise low = absurd (omega (arith, rise.0, rise.1))
+presence-rise at from to (character ∷ text) [] is rise low =
+    ap (set.union set.empty) (presence-rise (suc at) (WORDS * suc at) to text [] (omega arith) tt (omega arith))
+    ∙ empty-union set.empty
+presence-rise at from to (character ∷ text) (entry ∷ entries) is rise low =
     elim (cases_eq entry.column at) [
       | inl here ↦
-          ap₂ set.union
-          (met entry entries at here ∙ ap (differing entry.slots)
-          (none_before (suc entry.column) to entries at lie.2 (omega arith)) ∙ differing-empty entry.slots)
-          (ap (λ columns. presence (toggles columns)) (columns-passed (suc at) text entry entries (omega arith))
-          ∙ presence-columns (suc at) to text entries (omega arith)
-          (subst (λ n. LieIn (suc n) to entries) here lie.2))
+          let behind = presence (toggles (columns_from (suc at) text entries)) in
+          let own : toggled_at (entry ∷ entries) at ≡ set.union entry.slots (toggled_at entries at) =
+          met entry entries at here
+          ∙ apart_union entry.slots (toggled_at entries at) (λ q has.
+          ap (λ n. set.contains (toggled_at entries n) q) (sym here)
+          ∙ own_slot (WORDS * to) entry entries q rise.2 rise.3 has) in
+          ap₂ set.union own
+          (ap (λ columns. presence (toggles columns)) (columns-passed (suc at) text entry entries (omega arith)))
+          ∙ union-associative entry.slots (toggled_at entries at) behind
+          ∙ ap (set.union entry.slots)
+          (presence-rise at (suc (place_of entry)) to (character ∷ text) entries is rise.3 (omega (arith, rise.0)))
       | inr other ↦
-          let later : suc at ≤ entry.column = omega (arith, lie.0) in
+          let rising : RiseIn (WORDS * suc at) (WORDS * to) (entry ∷ entries) = (
+            omega (arith, rise.0, other, rise.2.within),
+            rise.1,
+            rise.2,
+            rise.3,
+          ) in
           ap₂ set.union
-          (none_before (suc at) to (entry ∷ entries) at (later, lie.1, lie.2) (omega arith))
-          (presence-columns (suc at) to text (entry ∷ entries) (omega arith) (later, lie.1, lie.2))
+          (none_below (WORDS * suc at) (WORDS * to) (entry ∷ entries) at rising (omega arith))
+          (presence-rise (suc at) (WORDS * suc at) to text (entry ∷ entries) (omega arith) rising (omega arith))
           ∙ empty-union (any_of (entry ∷ entries))
     ]
+
+pub presence-columns : (at to : ℕ) (text : List ℕ) (entries : List Toggled) → to ≡ at + length text →
+    LieIn at to entries → presence (toggles (columns_from at text entries)) ≡ any_of entries
+presence-columns at to text entries is lie = presence-rise at (WORDS * at) to text entries is lie (omega arith)
 
 -- the slots toggled an odd number of times in the first columns are those of the entries in them
 pub front-entries : (text : List ℕ) (entries : List Toggled) (count n : ℕ) → LieIn 0 (length text) entries →
@@ -135,7 +182,8 @@ front-entries text entries count n lie front behind =
     ∙ ap (columns_from 0 (take n text)) (sym (take-append-drop count entries))
     ∙ columns-front 0 n (length text) (take n text) (take count entries) (drop count entries) behind within)
     ∙ parity-columns 0 (min n (length text)) (take n text) (take count entries) sum
-    (LieIn-both 0 n (length text) (take count entries) front (LieIn-take 0 (length text) count entries lie)))
+    (LieIn-both 0 n (length text) (take count entries) front
+    (RiseIn-take (WORDS * 0) (WORDS * length text) count entries lie)))
 
 -- and those up to a column
 pub tags-entries : (text : List ℕ) (entries : List Toggled) (count at : ℕ) → LieIn 0 (length text) entries →

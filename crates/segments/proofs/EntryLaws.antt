@@ -1,41 +1,55 @@
 -- The toggles of a line: where they lie, and what they are at a column.
-use Rattle.std.proofs.Common.{◌≡◌, ℕ, zero, suc, ◌+◌, ◌<◌, ◌≤◌, ◌≢◌, min, true, false}
+use Rattle.std.proofs.Common.{◌≡◌, ℕ, zero, suc, ◌+◌, ◌*◌, ◌/◌, ◌<◌, ◌≤◌, ◌≢◌, min, true, false, inl, inr, subst}
 use Rattle.std.proofs.Common.{◌==◌, List, [], ◌∷◌, ◌++◌, length, take, drop, get_or, refl}
-use Rattle.std.proofs.Common.{sym, ap, ◌∙◌, arith, add-one}
+use Rattle.std.proofs.Common.{sym, ap, ap₂, ◌∙◌, arith, add-one}
 use Rattle.std.specs.Prelude.{if◌then◌else◌}
+use Rattle.std.specs.List.{All}
+use Rattle.std.proofs.lemmas.Bool.{cases_eq}
 use Rattle.std.proofs.lemmas.Bool.Decides.{nat_tests}
 use Rattle.std.proofs.lemmas.List.{drop_more}
+use Rattle.std.proofs.lemmas.List.Elements.{All-cons, All-nil}
 use Rattle.std.specs.FinSet as set
+use Rattle.std.specs.Ordering.{nat_cmp}
 use Rattle.text_model.specs.Content.{Slots}
+use Rattle.text_model.specs.OneWord.{word_index}
 use Rattle.text_model.specs.SlotSets.{differing}
-use Rattle.toggle_sums.specs.CountLaws.{differing-associative, differing-empty, union-associative}
+use Rattle.text_model.specs.declared.tag_set.TheConstants.{WORDS}
+use Rattle.toggle_sums.specs.CountLaws.{contains-differing, differing-associative, either, union-associative}
 use Rattle.segments.specs.declared.toggles.Toggled.{Toggled}
-use Rattle.segments.specs.Entries.{LieIn, any_of, odd_of, toggled_at}
+use Rattle.segments.specs.Entries.{HasOneWord, LieIn, RiseIn, any_of, odd_of, place_of, toggled_at}
 
--- one entry more that stands before a column
-more_before : (from to column : ℕ) (entries : List Toggled) (i : ℕ) (d : Toggled) → LieIn from to entries →
-    LieIn from column (take i entries) → i < length entries → (get_or entries i d).column < column →
-    LieIn from column (take (suc i) entries)
-more_before from to column [] i d lie before within small = absurd (omega arith)
-more_before from to column (entry ∷ entries) zero d lie before within small = (lie.0, small, tt)
-more_before from to column (entry ∷ entries) (suc i) d lie before within small =
-    (before.0, before.1, more_before (suc entry.column) to column entries i d lie.2 before.2 (omega arith) small)
+-- one entry more that stands before a place
+more_before : (from to place : ℕ) (entries : List Toggled) (i : ℕ) (d : Toggled) → RiseIn from to entries →
+    RiseIn from place (take i entries) → i < length entries →
+    (HasOneWord (get_or entries i d) → place_of (get_or entries i d) < place) → RiseIn from place (take (suc i) entries)
+more_before from to place [] i d rise before within small = absurd (omega arith)
+more_before from to place (entry ∷ entries) zero d rise before within small = (rise.0, small rise.2, rise.2, tt)
+more_before from to place (entry ∷ entries) (suc i) d rise before within small = (
+  before.0,
+  before.1,
+  before.2,
+  more_before (suc (place_of entry)) to place entries i d rise.3 before.3 (omega arith) small,
+)
 
-pub before_more : (from to column : ℕ) (entries : List Toggled) (i : ℕ) (d : Toggled) → LieIn from to entries →
-    LieIn from column (take i entries) → i < length entries → (get_or entries i d).column < column →
-    LieIn from column (take (i + 1) entries)
-before_more from to column entries i d lie before within small =
-    rw (add-one i) (more_before from to column entries i d lie before within small)
+pub before_more : (from to place : ℕ) (entries : List Toggled) (i : ℕ) (d : Toggled) → RiseIn from to entries →
+    RiseIn from place (take i entries) → i < length entries →
+    (HasOneWord (get_or entries i d) → place_of (get_or entries i d) < place) →
+    RiseIn from place (take (i + 1) entries)
+before_more from to place entries i d rise before within small =
+    rw (add-one i) (more_before from to place entries i d rise before within small)
 
 -- those behind
-pub behind_all : (from to column : ℕ) (entries : List Toggled) (i : ℕ) (d : Toggled) → LieIn from to entries →
-    from ≤ column → LieIn from column (take i entries) → (i < length entries → column ≤ (get_or entries i d).column) →
-    LieIn column to (drop i entries)
-behind_all from to column [] zero d lie above before next = tt
-behind_all from to column [] (suc i) d lie above before next = tt
-behind_all from to column (entry ∷ entries) zero d lie above before next = (next (omega arith), lie.1, lie.2)
-behind_all from to column (entry ∷ entries) (suc i) d lie above before next = behind_all (suc entry.column) to column
-    entries i d lie.2 (omega (arith, before.1)) before.2 (λ within. next (omega arith))
+pub behind_all : (from to place : ℕ) (entries : List Toggled) (i : ℕ) (d : Toggled) → RiseIn from to entries →
+    from ≤ place → RiseIn from place (take i entries) →
+    (i < length entries → HasOneWord (get_or entries i d) → place ≤ place_of (get_or entries i d)) →
+    RiseIn place to (drop i entries)
+behind_all from to place [] zero d rise above before next = tt
+behind_all from to place [] (suc i) d rise above before next = tt
+behind_all from to place (entry ∷ entries) zero d rise above before next =
+    (next (omega arith) rise.2, rise.1, rise.2, rise.3)
+behind_all from to place (entry ∷ entries) (suc i) d rise above before next =
+    behind_all (suc (place_of entry)) to place entries i d rise.3 (omega (arith, before.1)) before.3
+    (λ within. next (omega arith))
 
 -- the parity so far, and that of the rest
 pub odd_more : (entries : List Toggled) (i : ℕ) (d : Toggled) (so_far whole : Slots) → i < length entries →
@@ -68,20 +82,29 @@ met entry entries at same =
     let test : (entry.column == at) ≡ true = grind (arith, nat_tests) in
     ap (λ b. if b then differing entry.slots (toggled_at entries at) else toggled_at entries at) test
 
--- nothing is toggled before the first entry
+-- nothing is toggled before the first entry, and behind the last one
+pub none_below : (from to : ℕ) (entries : List Toggled) (at : ℕ) → RiseIn from to entries → WORDS * suc at ≤ from →
+    toggled_at entries at ≡ set.empty
+none_below from to [] at rise before = refl
+none_below from to (entry ∷ entries) at rise before =
+    passed entry entries at (omega (arith, rise.0, before, rise.2.within))
+    ∙ none_below (suc (place_of entry)) to entries at rise.3 (omega (arith, rise.0, before))
+
 pub none_before : (from to : ℕ) (entries : List Toggled) (at : ℕ) → LieIn from to entries → at < from →
     toggled_at entries at ≡ set.empty
-none_before from to [] at lie before = refl
-none_before from to (entry ∷ entries) at lie before =
-    passed entry entries at (omega (arith, lie.0))
-    ∙ none_before (suc entry.column) to entries at lie.2 (omega (arith, lie.0))
+none_before from to entries at lie before = none_below (WORDS * from) (WORDS * to) entries at lie (omega (arith, before))
 
--- the first entry alone says what is toggled at its column
-pub own_slots : (high at : ℕ) (entry : Toggled) (entries : List Toggled) → LieIn (suc entry.column) high entries →
-    entry.column ≡ at → toggled_at (entry ∷ entries) at ≡ entry.slots
-own_slots high at entry entries lie is =
-    met entry entries at is ∙ ap (differing entry.slots)
-    (none_before (suc entry.column) high entries at lie (omega (arith, is))) ∙ differing-empty entry.slots
+pub none_above : (from to : ℕ) (entries : List Toggled) (at : ℕ) → RiseIn from to entries → to ≤ WORDS * at →
+    toggled_at entries at ≡ set.empty
+none_above from to [] at rise behind = refl
+none_above from to (entry ∷ entries) at rise behind =
+    passed entry entries at (omega (arith, rise.1, behind))
+    ∙ none_above (suc (place_of entry)) to entries at rise.3 behind
+
+pub none_behind : (from to : ℕ) (entries : List Toggled) (at : ℕ) → LieIn from to entries → to ≤ at →
+    toggled_at entries at ≡ set.empty
+none_behind from to entries at lie behind =
+    none_above (WORDS * from) (WORDS * to) entries at lie (omega (arith, behind))
 
 pub front_alone : (front behind : List Toggled) (at : ℕ) → toggled_at behind at ≡ set.empty →
     toggled_at (front ++ behind) at ≡ toggled_at front at
@@ -89,13 +112,94 @@ front_alone [] behind at none = none
 front_alone (entry ∷ front) behind at none =
     ap (λ s. if entry.column == at then differing entry.slots s else s) (front_alone front behind at none)
 
+-- at a column no slot is toggled whose word is below the places of the entries, or at or above the last one's
+pub apart_from : (entry : Toggled) (at q : ℕ) → HasOneWord entry → entry.column ≡ at → word_index entry.slots ≢ q / 64 →
+    set.contains entry.slots q ≡ false
+apart_from entry at q one here other =
+    elim (set.contains entry.slots q) as (λ b. set.contains entry.slots q ≡ b → set.contains entry.slots q ≡ false) [
+      | true ↦ λ has. absurd (other (sym (one.own q has)))
+      | false ↦ λ hasn't. hasn't
+    ] refl
+
+-- a slot that neither an entry nor the others toggle
+neither : (slots rest : Slots) (q : ℕ) → set.contains slots q ≡ false → set.contains rest q ≡ false →
+    set.contains (differing slots rest) q ≡ false
+neither slots rest q one other = contains-differing slots rest q ∙ ap₂ either one other
+
+skipped : (entry : Toggled) (entries : List Toggled) (at q : ℕ) →
+    (entry.column ≡ at → set.contains entry.slots q ≡ false) → set.contains (toggled_at entries at) q ≡ false →
+    set.contains (toggled_at (entry ∷ entries) at) q ≡ false
+skipped entry entries at q own rest =
+    elim (cases_eq entry.column at) [
+      | inl here ↦
+          ap (λ s. set.contains s q) (met entry entries at here)
+          ∙ neither entry.slots (toggled_at entries at) q (own here) rest
+      | inr other ↦ ap (λ s. set.contains s q) (passed entry entries at other) ∙ rest
+    ]
+
+pub slot_below : (from to : ℕ) (entries : List Toggled) (at q : ℕ) → RiseIn from to entries →
+    WORDS * at + q / 64 < from → set.contains (toggled_at entries at) q ≡ false
+slot_below from to [] at q rise before = set.contains-empty nat_cmp q
+slot_below from to (entry ∷ entries) at q rise before =
+    skipped entry entries at q
+    (λ here. apart_from entry at q rise.2 here (omega (arith, rise.0, before, here)))
+    (slot_below (suc (place_of entry)) to entries at q rise.3 (omega (arith, rise.0, before)))
+
+pub slot_above : (from to : ℕ) (entries : List Toggled) (at q : ℕ) → RiseIn from to entries →
+    to ≤ WORDS * at + q / 64 → set.contains (toggled_at entries at) q ≡ false
+slot_above from to [] at q rise behind = set.contains-empty nat_cmp q
+slot_above from to (entry ∷ entries) at q rise behind =
+    skipped entry entries at q
+    (λ here. apart_from entry at q rise.2 here (omega (arith, rise.1, behind, here)))
+    (slot_above (suc (place_of entry)) to entries at q rise.3 behind)
+
+-- what an entry toggles no other entry toggles at its column
+pub own_slot : (to : ℕ) (entry : Toggled) (entries : List Toggled) (q : ℕ) → HasOneWord entry →
+    RiseIn (suc (place_of entry)) to entries → set.contains entry.slots q ≡ true →
+    set.contains (toggled_at entries entry.column) q ≡ false
+own_slot to entry entries q one rise has =
+    slot_below (suc (place_of entry)) to entries entry.column q rise (omega (arith, one.own q has))
+
+pub RiseIn-both : (from first second : ℕ) (entries : List Toggled) → RiseIn from first entries →
+    RiseIn from second entries → RiseIn from (min first second) entries
+RiseIn-both from first second [] rise also = tt
+RiseIn-both from first second (entry ∷ entries) rise also = (
+  rise.0,
+  omega (arith, rise.1, also.1),
+  rise.2,
+  RiseIn-both (suc (place_of entry)) first second entries rise.3 also.3,
+)
+
 pub LieIn-both : (from first second : ℕ) (entries : List Toggled) → LieIn from first entries →
     LieIn from second entries → LieIn from (min first second) entries
-LieIn-both from first second [] lie also = tt
-LieIn-both from first second (entry ∷ entries) lie also =
-    (lie.0, omega (arith, lie.1, also.1), LieIn-both (suc entry.column) first second entries lie.2 also.2)
+LieIn-both from first second entries lie also =
+    let least : min (WORDS * first) (WORDS * second) ≡ WORDS * min first second = omega arith in
+    subst (λ n. RiseIn (WORDS * from) n entries) least
+    (RiseIn-both (WORDS * from) (WORDS * first) (WORDS * second) entries lie also)
 
-pub LieIn-take : (from to n : ℕ) (entries : List Toggled) → LieIn from to entries → LieIn from to (take n entries)
-LieIn-take from to zero entries lie = tt
-LieIn-take from to (suc n) [] lie = tt
-LieIn-take from to (suc n) (entry ∷ entries) lie = (lie.0, lie.1, LieIn-take (suc entry.column) to n entries lie.2)
+pub RiseIn-take : (from to n : ℕ) (entries : List Toggled) → RiseIn from to entries → RiseIn from to (take n entries)
+RiseIn-take from to zero entries rise = tt
+RiseIn-take from to (suc n) [] rise = tt
+RiseIn-take from to (suc n) (entry ∷ entries) rise =
+    (rise.0, rise.1, rise.2, RiseIn-take (suc (place_of entry)) to n entries rise.3)
+
+-- within wider bounds
+pub RiseIn-wide : (from middle to : ℕ) (entries : List Toggled) → RiseIn from middle entries → middle ≤ to →
+    RiseIn from to entries
+RiseIn-wide from middle to [] rise wide = tt
+RiseIn-wide from middle to (entry ∷ entries) rise wide =
+    (rise.0, omega (arith, rise.1), rise.2, RiseIn-wide (suc (place_of entry)) middle to entries rise.3 wide)
+
+pub RiseIn-low : (low from to : ℕ) (entries : List Toggled) → RiseIn low to entries → from ≤ low → RiseIn from to entries
+RiseIn-low low from to [] rise near = tt
+RiseIn-low low from to (entry ∷ entries) rise near = (omega (arith, rise.0), rise.1, rise.2, rise.3)
+
+pub LieIn-wide : (from middle to : ℕ) (entries : List Toggled) → LieIn from middle entries → middle ≤ to →
+    LieIn from to entries
+LieIn-wide from middle to entries lie wide = RiseIn-wide (WORDS * from) (WORDS * middle) (WORDS * to) entries lie
+    (omega (arith, wide))
+
+pub all_words : (from to : ℕ) (entries : List Toggled) → RiseIn from to entries → All HasOneWord entries
+all_words from to [] rise = All-nil HasOneWord
+all_words from to (entry ∷ entries) rise =
+    All-cons HasOneWord entry entries rise.2 (all_words (suc (place_of entry)) to entries rise.3)

@@ -13,9 +13,9 @@ use Rattle.segments.specs.Entries.{LieIn, entries_in, moved_on, odd_of, toggled_
 use Rattle.segments.specs.Kept.{columns_from}
 use Rattle.segments.proofs.ChangeLaws.{columns_same}
 use Rattle.segments.proofs.ColumnLaws.{columns-append, columns-plain, drop-columns, parity-columns, take-columns}
-use Rattle.segments.proofs.EntryLaws.{front_alone, none_before}
+use Rattle.segments.proofs.EntryLaws.{LieIn-wide, front_alone, none_before}
 use Rattle.segments.proofs.MovedLaws.{LieIn-moved_on, rest_alone, toggled-moved_on, toggled_front, toggled_rest}
-use Rattle.segments.proofs.SpanLaws.{LieIn-wide, in_lies, span_behind, span_there, toggled_in}
+use Rattle.segments.proofs.SpanLaws.{in_lies, span_behind, span_there, toggled_in}
 use Rattle.segments.proofs.ToggleLaws.{LieIn-append}
 
 -- the entries from a column on move on by some columns

@@ -1,5 +1,5 @@
 -- The next and the last column with a toggle of a slot, by the entries and by the columns.
-use Rattle.std.proofs.Common.{◌≡◌, ℕ, zero, suc, ◌+◌, ◌-◌, ◌<◌, ◌≤◌, Bool, true, false, cond, not, ◌&&◌, nat_lt, Option}
+use Rattle.std.proofs.Common.{◌≡◌, ℕ, zero, suc, ◌+◌, ◌-◌, ◌*◌, ◌<◌, ◌≤◌, Bool, true, false, cond, not, ◌&&◌, nat_lt, Option}
 use Rattle.std.proofs.Common.{Some, None, List, [], ◌∷◌, length, get_or, take, drop, inl, inr, refl, sym, ap, ap₂}
 use Rattle.std.proofs.Common.{subst, ◌∙◌, arith, length-drop}
 use Rattle.std.specs.Prelude.{IfSome, if◌then◌else◌, nat_le, option_map}
@@ -9,70 +9,133 @@ use Rattle.std.proofs.lemmas.List.Sums.{suffix_len-take_no, suffix_len-take_yes}
 use Rattle.std.specs.FinSet as finset
 use Rattle.std.specs.List.{position, prefix_len}
 use Rattle.std.specs.Ordering.{nat_cmp}
+use Rattle.text_model.specs.declared.tag_set.TheConstants.{WORDS}
+use Rattle.toggle_sums.specs.CountLaws.{contains-differing, either}
 use Rattle.segments.specs.declared.toggles.Toggled.{Toggled}
 use Rattle.segments.specs.Columns.{Column, free_behind, next_toggle, previous_toggle}
-use Rattle.segments.specs.Entries.{LieIn, later_of, next_entry, previous_entry, toggled_at}
+use Rattle.segments.specs.Entries.{LieIn, RiseIn, later_of, next_entry, place_of, previous_entry, toggled_at}
 use Rattle.segments.specs.Kept.{columns_from}
 use Rattle.segments.proofs.ColumnLaws.{drop-columns, length-columns}
-use Rattle.segments.proofs.EntryLaws.{none_before, own_slots, passed}
+use Rattle.segments.proofs.EntryLaws.{met, none_below, own_slot, passed}
 use Rattle.segments.proofs.PreviousLaws.{behind_none, own}
 
-none_has : (slot from to at : ℕ) (entries : List Toggled) → LieIn from to entries → at < from →
+none_has : (slot from to at : ℕ) (entries : List Toggled) → RiseIn from to entries → WORDS * suc at ≤ from →
     finset.contains (toggled_at entries at) slot ≡ false
-none_has slot from to at entries lie before =
-    ap (λ s. finset.contains s slot) (none_before from to entries at lie before) ∙ finset.contains-empty nat_cmp slot
+none_has slot from to at entries rise before =
+    ap (λ s. finset.contains s slot) (none_below from to entries at rise before) ∙ finset.contains-empty nat_cmp slot
+
+-- whether a slot is toggled at the column of an entry, where that has it and where it hasn't
+not_both : (a b : Bool) → either a b ≡ false → a ≡ true → b ≡ true
+not_both true true is one = refl
+not_both true false is one = absurd (false≢true (sym is))
+not_both false b is one = absurd (false≢true one)
+
+the_other : (a b : Bool) → a ≡ false → b ≡ either a b
+the_other true b none = absurd (false≢true (sym none))
+the_other false true none = refl
+the_other false false none = refl
+
+has_at : (slot at : ℕ) (entry : Toggled) (entries : List Toggled) → entry.column ≡ at →
+    finset.contains (toggled_at (entry ∷ entries) at) slot
+    ≡ either (finset.contains entry.slots slot) (finset.contains (toggled_at entries at) slot)
+has_at slot at entry entries here =
+    ap (λ s. finset.contains s slot) (met entry entries at here)
+    ∙ contains-differing entry.slots (toggled_at entries at) slot
+
+-- an entry has no slot that isn't toggled at its column
+hasn't_at : (slot at low high : ℕ) (entry : Toggled) (entries : List Toggled) → RiseIn low high (entry ∷ entries) →
+    entry.column ≡ at → finset.contains (toggled_at (entry ∷ entries) at) slot ≡ false →
+    finset.contains entry.slots slot ≡ false
+hasn't_at slot at low high entry entries rise here hasn't =
+    elim (finset.contains entry.slots slot) as (λ b. finset.contains entry.slots slot ≡ b →
+    finset.contains entry.slots slot ≡ false) [
+      | true ↦ λ has. absurd (false≢true
+          (sym (ap (λ n. finset.contains (toggled_at entries n) slot) (sym here)
+          ∙ own_slot high entry entries slot rise.2 rise.3 has)
+          ∙ not_both (finset.contains entry.slots slot) (finset.contains (toggled_at entries at) slot)
+          (sym (has_at slot at entry entries here) ∙ hasn't) has))
+      | false ↦ λ none. none
+    ] refl
+
+rest_hasn't : (slot at : ℕ) (entry : Toggled) (entries : List Toggled) → entry.column ≡ at →
+    finset.contains entry.slots slot ≡ false →
+    finset.contains (toggled_at entries at) slot ≡ finset.contains (toggled_at (entry ∷ entries) at) slot
+rest_hasn't slot at entry entries here none =
+    the_other (finset.contains entry.slots slot) (finset.contains (toggled_at entries at) slot) none
+    ∙ sym (has_at slot at entry entries here)
 
 -- the next entry's column
-next_low : (slot first second low high : ℕ) (entries : List Toggled) → LieIn low high entries → first ≤ low →
-    second ≤ low → next_entry slot first entries ≡ next_entry slot second entries
-next_low slot first second low high [] lie one two = refl
-next_low slot first second low high (entry ∷ entries) lie one two =
-    let tests : nat_le first entry.column ≡ nat_le second entry.column = grind (arith, nat_tests, lie.0, one, two) in
+next_low : (slot first second low high : ℕ) (entries : List Toggled) → RiseIn low high entries → WORDS * first ≤ low →
+    WORDS * second ≤ low → next_entry slot first entries ≡ next_entry slot second entries
+next_low slot first second low high [] rise one two = refl
+next_low slot first second low high (entry ∷ entries) rise one two =
+    let above : first ≤ entry.column = omega (arith, rise.0, one, rise.2.within) in
+    let above_too : second ≤ entry.column = omega (arith, rise.0, two, rise.2.within) in
+    let tests : nat_le first entry.column ≡ nat_le second entry.column = grind (arith, nat_tests, above, above_too) in
     ap₂ (λ b rest. if b && finset.contains entry.slots slot then Some entry.column
-    else rest) tests (next_low slot first second (suc entry.column) high entries lie.2 (omega (arith, lie.0))
-    (omega (arith, lie.0)))
+    else rest) tests (next_low slot first second (suc (place_of entry)) high entries rise.3 (omega (arith, rise.0, one))
+    (omega (arith, rise.0, two)))
 
-next_none : (slot at low : ℕ) (entries : List Toggled) → LieIn low at entries → next_entry slot at entries ≡ None
-next_none slot at low [] lie = refl
-next_none slot at low (entry ∷ entries) lie =
-    let test : nat_le at entry.column ≡ false = grind (arith, nat_tests, lie.1) in
+next_none : (slot at low : ℕ) (entries : List Toggled) → RiseIn low (WORDS * at) entries →
+    next_entry slot at entries ≡ None
+next_none slot at low [] rise = refl
+next_none slot at low (entry ∷ entries) rise =
+    let below : entry.column < at = omega (arith, rise.1) in
+    let test : nat_le at entry.column ≡ false = grind (arith, nat_tests, below) in
     ap (λ b. if b && finset.contains entry.slots slot then Some entry.column else next_entry slot at entries) test
-    ∙ next_none slot at (suc entry.column) entries lie.2
+    ∙ next_none slot at (suc (place_of entry)) entries rise.3
 
-next_here : (slot at low high : ℕ) (entries : List Toggled) → LieIn low high entries →
+found : (slot at : ℕ) (entry : Toggled) (rest : Option ℕ) → entry.column ≡ at →
+    (finset.contains entry.slots slot ≡ false → rest ≡ Some at) →
+    (if finset.contains entry.slots slot then Some entry.column else rest) ≡ Some at
+found slot at entry rest here other =
+    elim (finset.contains entry.slots slot) as (λ b. finset.contains entry.slots slot ≡ b →
+    (if b then Some entry.column else rest) ≡ Some at) [
+      | true ↦ λ has. ap (λ n. Some n) here
+      | false ↦ λ hasn't. other hasn't
+    ] refl
+
+next_here : (slot at low high : ℕ) (entries : List Toggled) → RiseIn low high entries →
     finset.contains (toggled_at entries at) slot ≡ true → next_entry slot at entries ≡ Some at
-next_here slot at low high [] lie has = absurd (false≢true (sym (finset.contains-empty nat_cmp slot) ∙ has))
-next_here slot at low high (entry ∷ entries) lie has =
+next_here slot at low high [] rise has = absurd (false≢true (sym (finset.contains-empty nat_cmp slot) ∙ has))
+next_here slot at low high (entry ∷ entries) rise has =
     elim (cases_order entry.column at) [
       | inl here ↦
           let test : nat_le at entry.column ≡ true = grind (arith, nat_tests, here) in
-          ap₂ (λ a b. if a && b then Some entry.column else next_entry slot at entries) test
-          (ap (λ s. finset.contains s slot) (sym (own_slots high at entry entries lie.2 here)) ∙ has)
-          ∙ ap (λ n. Some n) here
+          ap (λ a. if a && finset.contains entry.slots slot then Some entry.column else next_entry slot at entries) test
+          ∙ found slot at entry (next_entry slot at entries) here (λ none.
+          next_here slot at (suc (place_of entry)) high entries rise.3
+          (rest_hasn't slot at entry entries here none ∙ has))
       | inr other ↦ elim other [
         | inl before ↦
             let test : nat_le at entry.column ≡ false = grind (arith, nat_tests, before) in
             ap (λ b. if b && finset.contains entry.slots slot then Some entry.column
             else next_entry slot at entries) test
-            ∙ next_here slot at (suc entry.column) high entries lie.2
+            ∙ next_here slot at (suc (place_of entry)) high entries rise.3
             (ap (λ s. finset.contains s slot) (sym (passed entry entries at (omega (arith, before)))) ∙ has)
         | inr behind ↦ absurd
-            (false≢true (sym (none_has slot entry.column high at (entry ∷ entries) (omega arith, lie.1, lie.2) behind)
+            (false≢true (sym (none_has slot (place_of entry) high at (entry ∷ entries) (
+              omega arith,
+              rise.1,
+              rise.2,
+              rise.3,
+            ) (omega (arith, behind)))
             ∙ has))
       ]
     ]
 
-next_skip : (slot at low high : ℕ) (entries : List Toggled) → LieIn low high entries →
+next_skip : (slot at low high : ℕ) (entries : List Toggled) → RiseIn low high entries →
     finset.contains (toggled_at entries at) slot ≡ false → next_entry slot at entries ≡ next_entry slot (suc at) entries
-next_skip slot at low high [] lie hasn't = refl
-next_skip slot at low high (entry ∷ entries) lie hasn't =
+next_skip slot at low high [] rise hasn't = refl
+next_skip slot at low high (entry ∷ entries) rise hasn't =
     elim (cases_order entry.column at) [
       | inl here ↦
           let one : nat_le at entry.column ≡ true = grind (arith, nat_tests, here) in
           let two : nat_le (suc at) entry.column ≡ false = grind (arith, nat_tests, here) in
-          ap₂ (λ a b. if a && b then Some entry.column else next_entry slot at entries) one
-          (ap (λ s. finset.contains s slot) (sym (own_slots high at entry entries lie.2 here)) ∙ hasn't)
-          ∙ next_low slot at (suc at) (suc entry.column) high entries lie.2 (omega (arith, here)) (omega (arith, here))
+          let none = hasn't_at slot at low high entry entries rise here hasn't in
+          ap₂ (λ a b. if a && b then Some entry.column else next_entry slot at entries) one none
+          ∙ next_skip slot at (suc (place_of entry)) high entries rise.3
+          (rest_hasn't slot at entry entries here none ∙ hasn't)
           ∙ ap (λ b. if b && finset.contains entry.slots slot then Some entry.column
           else next_entry slot (suc at) entries) (sym two)
       | inr other ↦ elim other [
@@ -81,15 +144,16 @@ next_skip slot at low high (entry ∷ entries) lie hasn't =
             let two : nat_le (suc at) entry.column ≡ false = grind (arith, nat_tests, before) in
             ap (λ b. if b && finset.contains entry.slots slot then Some entry.column
             else next_entry slot at entries) one
-            ∙ next_skip slot at (suc entry.column) high entries lie.2
+            ∙ next_skip slot at (suc (place_of entry)) high entries rise.3
             (ap (λ s. finset.contains s slot) (sym (passed entry entries at (omega (arith, before)))) ∙ hasn't)
             ∙ ap (λ b. if b && finset.contains entry.slots slot then Some entry.column
             else next_entry slot (suc at) entries) (sym two)
-        | inr behind ↦ next_low slot at (suc at) entry.column high (entry ∷ entries) (
-          omega arith,
-          lie.1,
-          lie.2,
-        ) (omega (arith, behind)) (omega (arith, behind))
+        | inr behind ↦ next_low slot at (suc at) (WORDS * suc at) high (entry ∷ entries) (
+          omega (arith, behind),
+          rise.1,
+          rise.2,
+          rise.3,
+        ) (omega arith) (omega arith)
       ]
     ]
 
@@ -127,7 +191,7 @@ next_place : (slot at low high : ℕ) (text : List ℕ) (entries : List Toggled)
     (columns_from at text entries))
 next_place slot at low high [] entries lie is =
     let end : high ≡ at = omega (arith, is) in
-    next_none slot at low entries (subst (λ n. LieIn low n entries) end lie)
+    next_none slot at (WORDS * low) entries (subst (λ n. LieIn low n entries) end lie)
 next_place slot at low high (character ∷ text) entries lie is =
     let p = λ (column : Column). finset.contains column.toggled slot in
     let x : Column = record { character = character; toggled = toggled_at entries at } in
@@ -136,10 +200,10 @@ next_place slot at low high (character ∷ text) entries lie is =
     next_entry slot at entries ≡ option_map (λ n. at + n) (position p (x ∷ rest))) [
       | true ↦ λ has.
           let here : at ≡ at + 0 = omega arith in
-          next_here slot at low high entries lie has ∙ ap (λ n. Some n) here
+          next_here slot at (WORDS * low) (WORDS * high) entries lie has ∙ ap (λ n. Some n) here
           ∙ ap (option_map (λ n. at + n)) (sym (place_here p x rest has))
       | false ↦ λ hasn't.
-          next_skip slot at low high entries lie hasn't
+          next_skip slot at (WORDS * low) (WORDS * high) entries lie hasn't
           ∙ next_place slot (suc at) low high text entries lie (omega (arith, is))
           ∙ both_on at (position p rest)
           ∙ ap (option_map (λ n. at + n)) (sym (place_skip p x rest hasn't))
@@ -164,69 +228,98 @@ next_above slot at (entry ∷ entries) =
       | false ↦ λ isn't. next_above slot at entries
     ] refl
 
-pub next_below : (slot at low high : ℕ) (entries : List Toggled) → LieIn low high entries →
+rises_below : (slot at low high : ℕ) (entries : List Toggled) → RiseIn low (WORDS * high) entries →
     IfSome (next_entry slot at entries) (λ next. next < high)
-next_below slot at low high [] lie = tt
-next_below slot at low high (entry ∷ entries) lie =
+rises_below slot at low high [] rise = tt
+rises_below slot at low high (entry ∷ entries) rise =
     elim (nat_le at entry.column && finset.contains entry.slots slot) as (λ b.
     IfSome (if b then Some entry.column else next_entry slot at entries) (λ next. next < high)) [
-      | true ↦ lie.1
-      | false ↦ next_below slot at (suc entry.column) high entries lie.2
+      | true ↦ omega (arith, rise.1)
+      | false ↦ rises_below slot at (suc (place_of entry)) high entries rise.3
     ]
+
+pub next_below : (slot at low high : ℕ) (entries : List Toggled) → LieIn low high entries →
+    IfSome (next_entry slot at entries) (λ next. next < high)
+next_below slot at low high entries lie = rises_below slot at (WORDS * low) high entries lie
 
 -- the last entry's column below another
-previous_here : (slot at low high : ℕ) (entries : List Toggled) → LieIn low high entries →
-    finset.contains (toggled_at entries at) slot ≡ true → previous_entry slot (suc at) entries ≡ Some at
-previous_here slot at low high [] lie has = absurd (false≢true (sym (finset.contains-empty nat_cmp slot) ∙ has))
-previous_here slot at low high (entry ∷ entries) lie has =
-    elim (cases_order entry.column at) [
-      | inl here ↦
-          let test : nat_lt entry.column (suc at) ≡ true = grind (arith, nat_tests, here) in
-          ap₂ (λ a b. later_of (if a && b then Some entry.column else None) (previous_entry slot (suc at) entries)) test
-          (ap (λ s. finset.contains s slot) (sym (own_slots high at entry entries lie.2 here)) ∙ has)
-          ∙ ap (later_of (Some entry.column))
-          (behind_none slot (suc at) (suc entry.column) high entries lie.2 (omega (arith, here)))
-          ∙ ap (λ n. Some n) here
-      | inr other ↦ elim other [
-        | inl before ↦
-            ap (later_of (own slot (suc at) entry))
-            (previous_here slot at (suc entry.column) high entries lie.2
-            (ap (λ s. finset.contains s slot) (sym (passed entry entries at (omega (arith, before)))) ∙ has))
-        | inr behind ↦ absurd
-            (false≢true (sym (none_has slot entry.column high at (entry ∷ entries) (omega arith, lie.1, lie.2) behind)
-            ∙ has))
-      ]
-    ]
+own_none : (slot at : ℕ) (entry : Toggled) (test : Bool) → finset.contains entry.slots slot ≡ false →
+    ◌≡◌ {A = Option ℕ} (if test && finset.contains entry.slots slot then Some entry.column else None) None
+own_none slot at entry true none = ap (λ b. if b then Some entry.column else None) none
+own_none slot at entry false none = refl
 
-previous_skip : (slot at low high : ℕ) (entries : List Toggled) → LieIn low high entries →
+previous_skip : (slot at low high : ℕ) (entries : List Toggled) → RiseIn low high entries →
     finset.contains (toggled_at entries at) slot ≡ false →
     previous_entry slot (suc at) entries ≡ previous_entry slot at entries
-previous_skip slot at low high [] lie hasn't = refl
-previous_skip slot at low high (entry ∷ entries) lie hasn't =
+previous_skip slot at low high [] rise hasn't = refl
+previous_skip slot at low high (entry ∷ entries) rise hasn't =
     elim (cases_order entry.column at) [
       | inl here ↦
-          let one : nat_lt entry.column (suc at) ≡ true = grind (arith, nat_tests, here) in
-          let two : nat_lt entry.column at ≡ false = grind (arith, nat_tests, here) in
-          ap₂ (λ a b. later_of (if a && b then Some entry.column else None) (previous_entry slot (suc at) entries)) one
-          (ap (λ s. finset.contains s slot) (sym (own_slots high at entry entries lie.2 here)) ∙ hasn't)
-          ∙ ap (later_of None) (behind_none slot (suc at) (suc entry.column) high entries lie.2 (omega (arith, here))
-          ∙ sym (behind_none slot at (suc entry.column) high entries lie.2 (omega (arith, here))))
-          ∙ ap (λ b. later_of (if b && finset.contains entry.slots slot then Some entry.column
-          else None) (previous_entry slot at entries)) (sym two)
+          let none = hasn't_at slot at low high entry entries rise here hasn't in
+          ap₂ later_of
+          (own_none slot at entry (nat_lt entry.column (suc at)) none
+          ∙ sym (own_none slot at entry (nat_lt entry.column at) none))
+          (previous_skip slot at (suc (place_of entry)) high entries rise.3
+          (rest_hasn't slot at entry entries here none ∙ hasn't))
       | inr other ↦ elim other [
         | inl before ↦
             let tests : nat_lt entry.column (suc at) ≡ nat_lt entry.column at = grind (arith, nat_tests, before) in
             ap₂ (λ b rest. later_of (if b && finset.contains entry.slots slot then Some entry.column else None) rest)
             tests
-            (previous_skip slot at (suc entry.column) high entries lie.2
+            (previous_skip slot at (suc (place_of entry)) high entries rise.3
             (ap (λ s. finset.contains s slot) (sym (passed entry entries at (omega (arith, before)))) ∙ hasn't))
         | inr behind ↦
-            behind_none slot (suc at) entry.column high (entry ∷ entries) (omega arith, lie.1, lie.2) behind
-            ∙ sym (behind_none slot at entry.column high (entry ∷ entries) (
-              omega arith,
-              lie.1,
-              lie.2,
-            ) (omega (arith, behind)))
+            let rising : RiseIn (WORDS * suc at) high (entry ∷ entries) = (
+              omega (arith, behind),
+              rise.1,
+              rise.2,
+              rise.3,
+            ) in
+            behind_none slot (suc at) (WORDS * suc at) high (entry ∷ entries) rising (omega arith)
+            ∙ sym (behind_none slot at (WORDS * suc at) high (entry ∷ entries) rising (omega arith))
+      ]
+    ]
+
+last_here : (slot at : ℕ) (entry : Toggled) (rest : Option ℕ) → entry.column ≡ at →
+    (finset.contains entry.slots slot ≡ false → rest ≡ Some at) →
+    (finset.contains entry.slots slot ≡ true → rest ≡ None) →
+    later_of (if finset.contains entry.slots slot then Some entry.column else None) rest ≡ Some at
+last_here slot at entry rest here other own =
+    elim (finset.contains entry.slots slot) as (λ b. finset.contains entry.slots slot ≡ b →
+    later_of (if b then Some entry.column else None) rest ≡ Some at) [
+      | true ↦ λ has. ap (later_of (Some entry.column)) (own has) ∙ ap (λ n. Some n) here
+      | false ↦ λ hasn't. ap (later_of None) (other hasn't)
+    ] refl
+
+previous_here : (slot at low high : ℕ) (entries : List Toggled) → RiseIn low high entries →
+    finset.contains (toggled_at entries at) slot ≡ true → previous_entry slot (suc at) entries ≡ Some at
+previous_here slot at low high [] rise has = absurd (false≢true (sym (finset.contains-empty nat_cmp slot) ∙ has))
+previous_here slot at low high (entry ∷ entries) rise has =
+    elim (cases_order entry.column at) [
+      | inl here ↦
+          let test : nat_lt entry.column (suc at) ≡ true = grind (arith, nat_tests, here) in
+          let rest = previous_entry slot (suc at) entries in
+          ap (λ a. later_of (if a && finset.contains entry.slots slot then Some entry.column else None) rest) test
+          ∙ last_here slot at entry rest here
+          (λ none. previous_here slot at (suc (place_of entry)) high entries rise.3
+          (rest_hasn't slot at entry entries here none ∙ has))
+          (λ own. previous_skip slot at (suc (place_of entry)) high entries rise.3
+          (ap (λ n. finset.contains (toggled_at entries n) slot) (sym here)
+          ∙ own_slot high entry entries slot rise.2 rise.3 own)
+          ∙ behind_none slot at (suc (place_of entry)) high entries rise.3 (omega (arith, here)))
+      | inr other ↦ elim other [
+        | inl before ↦
+            ap (later_of (own slot (suc at) entry))
+            (previous_here slot at (suc (place_of entry)) high entries rise.3
+            (ap (λ s. finset.contains s slot) (sym (passed entry entries at (omega (arith, before)))) ∙ has))
+        | inr behind ↦ absurd
+            (false≢true (sym (none_has slot (WORDS * suc at) high at (entry ∷ entries) (
+              omega (arith, behind),
+              rise.1,
+              rise.2,
+              rise.3,
+            ) (omega arith))
+            ∙ has))
       ]
     ]
 
@@ -242,7 +335,7 @@ column_at first (suc k) (character ∷ text) entries d within =
 
 pub previous_column : (slot at : ℕ) (text : List ℕ) (entries : List Toggled) → LieIn 0 (length text) entries →
     at ≤ length text → previous_entry slot at entries ≡ previous_toggle slot at (columns_from 0 text entries)
-previous_column slot zero text entries lie within = behind_none slot 0 0 (length text) entries lie (omega arith)
+previous_column slot zero text entries lie within = behind_none slot 0 (WORDS * 0) (WORDS * length text) entries lie (omega arith)
 previous_column slot (suc at) text entries lie within =
     let columns = columns_from 0 text entries in
     let none : Column = record { character = 0; toggled = finset.empty } in
@@ -262,7 +355,7 @@ previous_column slot (suc at) text entries lie within =
           ≡ 0 = suffix_len-take_no p columns (suc at) none (omega arith) long (test ∙ ap not has) in
           let yes : nat_lt 0 (suc at) ≡ true = grind (arith, nat_tests) in
           let there : suc at - 0 - 1 ≡ at = omega arith in
-          previous_here slot at 0 (length text) entries lie has
+          previous_here slot at (WORDS * 0) (WORDS * length text) entries lie has
           ∙ sym (ap (λ n. if nat_lt n (suc at) then Some (suc at - n - 1) else None) nothing
           ∙ ap₂ (λ (b : Bool) n. if b then Some n else None) yes there)
       | false ↦ λ hasn't.
@@ -271,7 +364,7 @@ previous_column slot (suc at) text entries lie within =
           ∙ ap (λ n. 1 + free_behind slot (take n columns)) last in
           let tests : nat_lt free at ≡ nat_lt (1 + free) (suc at) = grind (arith, nat_tests) in
           let same : at - free - 1 ≡ suc at - (1 + free) - 1 = omega arith in
-          previous_skip slot at 0 (length text) entries lie hasn't
+          previous_skip slot at (WORDS * 0) (WORDS * length text) entries lie hasn't
           ∙ previous_column slot at text entries lie (omega arith)
           ∙ ap₂ (λ (b : Bool) n. if b then Some n else None) tests same
           ∙ ap (λ n. if nat_lt n (suc at) then Some (suc at - n - 1) else None) (sym more)

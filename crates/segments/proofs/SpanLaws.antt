@@ -1,157 +1,92 @@
--- The toggles of the columns from one to another, gathered at the second.
-use Rattle.std.proofs.Common.{◌≡◌, ℕ, zero, suc, ◌+◌, ◌-◌, ◌<◌, ◌≤◌, ◌≢◌, ◌⊎◌, Bool, true, false, ◌&&◌, ◌==◌, nat_lt}
-use Rattle.std.proofs.Common.{List, [], ◌∷◌, ◌++◌, length, take, drop, get_or, set, inl, inr, refl, sym, ap, ap₂, subst}
-use Rattle.std.proofs.Common.{◌∙◌, arith, add-one, length-append, length-drop, take-append-drop}
+-- The toggles of the columns from one to another, and what is left without these.
+use Rattle.std.proofs.Common.{◌≡◌, ℕ, zero, suc, ◌+◌, ◌-◌, ◌*◌, ◌<◌, ◌≤◌, ◌≢◌, ◌⊎◌, Bool, true, false, ◌&&◌, ◌==◌}
+use Rattle.std.proofs.Common.{nat_lt, List, [], ◌∷◌, ◌++◌, length, map, take, drop, inl, inr, refl, sym, ap, ap₂, subst}
+use Rattle.std.proofs.Common.{◌∙◌, arith}
 use Rattle.std.specs.Prelude.{if◌then◌else◌, nat_le, slice_range}
-use Rattle.std.proofs.Math.Seq.{drop-cons}
-use Rattle.std.proofs.lemmas.Bool.{cases_eq, cases_lt}
+use Rattle.std.specs.List.{All}
+use Rattle.std.proofs.lemmas.Bool.{cases_eq, cases_lt, false≢true}
 use Rattle.std.proofs.lemmas.Bool.Decides.{nat_tests}
-use Rattle.std.proofs.lemmas.List.{append-nil, length-take-le, nil_from_length}
+use Rattle.std.proofs.lemmas.List.{append-nil}
 use Rattle.std.proofs.lemmas.List.Edits.{split_between}
-use Rattle.std.proofs.lemmas.List.Elements.{filter-append}
+use Rattle.std.proofs.lemmas.List.Elements.{All-head, All-tail, filter-append}
 use Rattle.std.specs.FinSet as finset
+use Rattle.std.specs.Ordering.{nat_cmp}
 use Rattle.text_model.specs.Content.{Slots}
+use Rattle.text_model.specs.OneWord.{AreSlots, words_below}
 use Rattle.text_model.specs.SlotSets.{differing}
-use Rattle.text_model.specs.Splices.{removed}
-use Rattle.toggle_sums.specs.CountLaws.{differing-empty, empty-differing}
+use Rattle.text_model.specs.declared.tag_set.TheConstants.{WORDS}
+use Rattle.text_model.proofs.InWordLaws.{words_below-differing, words_below-none, words_below-one}
+use Rattle.toggle_sums.specs.CountLaws.{contains-differing, differing-associative, differing-empty}
 use Rattle.segments.specs.declared.toggles.Toggled.{Toggled}
-use Rattle.segments.specs.Entries.{LieIn, entries_in, odd_of, toggled_at, without_span}
-use Rattle.segments.proofs.EntryLaws.{LieIn-take, none_before, passed}
-use Rattle.segments.proofs.ToggleLaws.{LieIn-append, LieIn-one, behind_here, behind_none, none_behind, none_other}
-use Rattle.segments.proofs.ToggleLaws.{toggled-append, toggled-one, toggled_parts}
+use Rattle.segments.specs.Entries.{HasOneWord, LieIn, RiseIn, entries_in, flipped, moved_back, odd_of, place_of}
+use Rattle.segments.specs.Entries.{toggled_at, without_span}
+use Rattle.segments.proofs.EntryLaws.{RiseIn-low, RiseIn-take, front_alone, met, none_before, passed}
+use Rattle.segments.proofs.MovedLaws.{LieIn-moved_back, rest_alone, toggled-moved_back, toggled_front, toggled_rest}
+use Rattle.segments.proofs.ToggleLaws.{LieIn-append, differing_first, either_of}
 
--- the toggles of a range of columns, among those before it, behind it and in it
-pub none_in_front : (from to low high : ℕ) (entries : List Toggled) → LieIn low high entries → high ≤ from →
+-- the toggles of a range of columns, among those before it and behind it
+none_in_front : (from to low high : ℕ) (entries : List Toggled) → RiseIn low high entries → high ≤ WORDS * from →
     entries_in from to entries ≡ []
-none_in_front from to low high [] lie far = refl
-none_in_front from to low high (entry ∷ entries) lie far =
-    let test : (nat_le from entry.column && nat_lt entry.column to) ≡ false = grind (arith, nat_tests, lie.1, far) in
+none_in_front from to low high [] rise far = refl
+none_in_front from to low high (entry ∷ entries) rise far =
+    let below : entry.column < from = omega (arith, rise.1, far) in
+    let test : (nat_le from entry.column && nat_lt entry.column to) ≡ false = grind (arith, nat_tests, below) in
     ap (λ (b : Bool). if b then entry ∷ entries_in from to entries else entries_in from to entries) test
-    ∙ none_in_front from to (suc entry.column) high entries lie.2 far
+    ∙ none_in_front from to (suc (place_of entry)) high entries rise.3 far
 
-pub none_in_rest : (from to low high : ℕ) (entries : List Toggled) → LieIn low high entries → to ≤ low →
+none_in_rest : (from to low high : ℕ) (entries : List Toggled) → RiseIn low high entries → WORDS * to ≤ low →
     entries_in from to entries ≡ []
-none_in_rest from to low high [] lie far = refl
-none_in_rest from to low high (entry ∷ entries) lie far =
-    let test : (nat_le from entry.column && nat_lt entry.column to) ≡ false = grind (arith, nat_tests, lie.0, far) in
+none_in_rest from to low high [] rise far = refl
+none_in_rest from to low high (entry ∷ entries) rise far =
+    let above : to ≤ entry.column = omega (arith, rise.0, far, rise.2.within) in
+    let test : (nat_le from entry.column && nat_lt entry.column to) ≡ false = grind (arith, nat_tests, above) in
     ap (λ (b : Bool). if b then entry ∷ entries_in from to entries else entries_in from to entries) test
-    ∙ none_in_rest from to (suc entry.column) high entries lie.2 (omega (arith, lie.0))
-
-pub all_in : (from to low : ℕ) (entries : List Toggled) → LieIn low to entries → from ≤ low →
-    entries_in from to entries ≡ entries
-all_in from to low [] lie near = refl
-all_in from to low (entry ∷ entries) lie near =
-    let test : (nat_le from entry.column && nat_lt entry.column to)
-    ≡ true = grind (arith, nat_tests, lie.0, lie.1, near) in
-    ap (λ (b : Bool). if b then entry ∷ entries_in from to entries else entries_in from to entries) test
-    ∙ ap (λ es. entry ∷ es) (all_in from to (suc entry.column) entries lie.2 (omega (arith, lie.0)))
+    ∙ none_in_rest from to (suc (place_of entry)) high entries rise.3 (omega (arith, rise.0, far))
 
 in-append : (from to : ℕ) (front behind : List Toggled) →
     entries_in from to (front ++ behind) ≡ entries_in from to front ++ entries_in from to behind
 in-append from to front behind =
     filter-append (λ (entry : Toggled). nat_le from entry.column && nat_lt entry.column to) front behind
 
--- how many stand before the first column, and before the second
+-- how many stand before one place, and before another
+rise_counts : (low from to high : ℕ) (entries : List Toggled) (start end : ℕ) →
+    RiseIn low from (take start entries) → RiseIn to high (drop end entries) → from ≤ to → start ≤ length entries →
+    start ≤ end
+rise_counts low from to high entries zero end before behind ordered within = omega arith
+rise_counts low from to high [] (suc start) end before behind ordered within = absurd (omega arith)
+rise_counts low from to high (entry ∷ entries) (suc start) zero before behind ordered within =
+    absurd (omega (arith, before.1, behind.0))
+rise_counts low from to high (entry ∷ entries) (suc start) (suc end) before behind ordered within = omega (
+  arith,
+  rise_counts (suc (place_of entry)) from to high entries start end before.3 behind ordered (omega arith),
+)
+
 pub counts_rise : (low from to high : ℕ) (entries : List Toggled) (start end : ℕ) →
     LieIn low from (take start entries) → LieIn to high (drop end entries) → from ≤ to → start ≤ length entries →
     start ≤ end
-counts_rise low from to high entries zero end before behind ordered within = omega arith
-counts_rise low from to high [] (suc start) end before behind ordered within = absurd (omega arith)
-counts_rise low from to high (entry ∷ entries) (suc start) zero before behind ordered within =
-    absurd (omega (arith, before.1, behind.0))
-counts_rise low from to high (entry ∷ entries) (suc start) (suc end) before behind ordered within =
-    omega (arith, counts_rise (suc entry.column) from to high entries start end before.2 behind ordered (omega arith))
+counts_rise low from to high entries start end before behind ordered within =
+    rise_counts (WORDS * low) (WORDS * from) (WORDS * to) (WORDS * high) entries start end before behind
+    (omega (arith, ordered)) within
 
-raised : (low to from high : ℕ) (entries : List Toggled) → LieIn low to entries → LieIn from high entries →
-    LieIn from to entries
+raised : (low to from high : ℕ) (entries : List Toggled) → RiseIn low to entries → RiseIn from high entries →
+    RiseIn from to entries
 raised low to from high [] below above = tt
-raised low to from high (entry ∷ entries) below above = (above.0, below.1, below.2)
+raised low to from high (entry ∷ entries) below above = (above.0, below.1, below.2, below.3)
 
 -- the entries between two indices
-pub between_lies : (low from to high : ℕ) (entries : List Toggled) (start end : ℕ) → LieIn low to (take end entries) →
-    LieIn from high (drop start entries) → start ≤ end → LieIn from to (slice_range entries start end)
-between_lies low from to high entries zero end before behind ordered =
+between_rises : (low from to high : ℕ) (entries : List Toggled) (start end : ℕ) → RiseIn low to (take end entries) →
+    RiseIn from high (drop start entries) → start ≤ end → RiseIn from to (slice_range entries start end)
+between_rises low from to high entries zero end before behind ordered =
     let all : end ≡ end - 0 = omega arith in
-    subst (λ n. LieIn from to (take n entries)) all
-    (raised low to from high (take end entries) before (LieIn-take from high end entries behind))
-between_lies low from to high entries (suc start) zero before behind ordered = absurd (omega arith)
-between_lies low from to high [] (suc start) (suc end) before behind ordered =
-    LieIn-take from to (suc end - suc start) [] tt
-between_lies low from to high (entry ∷ entries) (suc start) (suc end) before behind ordered =
+    subst (λ n. RiseIn from to (take n entries)) all
+    (raised low to from high (take end entries) before (RiseIn-take from high end entries behind))
+between_rises low from to high entries (suc start) zero before behind ordered = absurd (omega arith)
+between_rises low from to high [] (suc start) (suc end) before behind ordered =
+    RiseIn-take from to (suc end - suc start) [] tt
+between_rises low from to high (entry ∷ entries) (suc start) (suc end) before behind ordered =
     let less : end - start ≡ suc end - suc start = omega arith in
-    subst (λ n. LieIn from to (take n (drop start entries))) less
-    (between_lies (suc entry.column) from to high entries start end before.2 behind (omega arith))
-
--- How the entries are split at the two columns: those before the first, those from there on, that of the second column,
--- if there is one, and those behind it; and what is toggled by those that are gathered.
-pub record Spans (from to len : ℕ) (entries : List Toggled) (start end : ℕ) (slots : Slots) : Type 0 where
-  pub inner : List Toggled
-  pub here : List Toggled
-  pub before : LieIn 0 from (take start entries)
-  pub inside : LieIn from to inner
-  pub there : LieIn to (suc to) here
-  pub behind : LieIn (suc to) len (drop end entries)
-  pub ordered : start ≤ end
-  pub within : end ≤ length entries
-  pub parts : entries ≡ take start entries ++ (inner ++ (here ++ drop end entries))
-  pub gathered : slots ≡ differing (odd_of inner) (toggled_at here to)
-
-pub LieIn-wide : (from middle to : ℕ) (entries : List Toggled) → LieIn from middle entries → middle ≤ to →
-    LieIn from to entries
-LieIn-wide from middle to [] lie wide = tt
-LieIn-wide from middle to (entry ∷ entries) lie wide =
-    (lie.0, omega (arith, lie.1), LieIn-wide (suc entry.column) middle to entries lie.2 wide)
-
-module _ (from to len : ℕ) (entries : List Toggled) (start end : ℕ) (d : Toggled)
-    (before : LieIn 0 from (take start entries)) (front : LieIn 0 to (take end entries))
-    (high : LieIn from len (drop start entries)) (behind : LieIn to len (drop end entries)) (ordered : start
-    ≤ end) where
-  pub Spans-here : end < length entries → (get_or entries end d).column ≡ to → (slots : Slots) →
-      slots ≡ differing (odd_of (slice_range entries start end)) (get_or entries end d).slots →
-      Spans from to len entries start (end + 1) slots
-  Spans-here small is slots are =
-      let entry = get_or entries end d in
-      let inner = slice_range entries start end in
-      subst (λ n. Spans from to len entries start n slots) (sym (add-one end)) (record {
-        inner = inner;
-        here = entry ∷ [];
-        before = before;
-        inside = between_lies 0 from to len entries start end front high ordered;
-        there = LieIn-one to entry is;
-        behind = behind_here to len entries end d behind small is;
-        ordered = omega arith;
-        within = omega arith;
-        parts = split_between entries start end ordered
-            ∙ ap (λ es. take start entries ++ (inner ++ es)) (drop-cons entries end d small);
-        gathered = are ∙ ap (differing (odd_of inner)) (sym (toggled-one to entry is));
-      })
-
-  pub Spans-none : end ≤ length entries → (end < length entries → (get_or entries end d).column ≢ to) →
-      (slots : Slots) → slots ≡ odd_of (slice_range entries start end) → Spans from to len entries start end slots
-  Spans-none small other slots are =
-      let inner = slice_range entries start end in record {
-        inner = inner;
-        here = [];
-        before = before;
-        inside = between_lies 0 from to len entries start end front high ordered;
-        there = tt;
-        behind = behind_none to len entries end d behind other;
-        ordered = ordered;
-        within = small;
-        parts = split_between entries start end ordered;
-        gathered = are ∙ sym (differing-empty (odd_of inner));
-      }
-
--- the slots of parts of which only one or two have some
-only_middle : (front middle behind : Slots) → front ≡ finset.empty → behind ≡ finset.empty →
-    differing front (differing middle behind) ≡ middle
-only_middle front middle behind no_front no_behind = ap₂ (λ f b. differing f (differing middle b)) no_front no_behind
-    ∙ empty-differing (differing middle finset.empty) ∙ differing-empty middle
-
-no_middle : (front middle behind : Slots) → middle ≡ finset.empty →
-    differing front (differing middle behind) ≡ differing front behind
-no_middle front middle behind none =
-    ap (λ m. differing front (differing m behind)) none ∙ ap (differing front) (empty-differing behind)
+    subst (λ n. RiseIn from to (take n (drop start entries))) less
+    (between_rises (suc (place_of entry)) from to high entries start end before.3 behind (omega arith))
 
 abbrev pub IsOutside : ℕ → ℕ → ℕ → Type 0
 IsOutside from to at = ((nat_le from at && nat_lt at to) ≡ false) × ((at < from) ⊎ (to ≤ at))
@@ -166,204 +101,48 @@ cases_in from to at =
       ]
     ]
 
-out_of : (from to : ℕ) (entries : List Toggled) (at : ℕ) → LieIn from to entries → (at < from) ⊎ (to ≤ at) →
-    toggled_at entries at ≡ finset.empty
-out_of from to entries at lie (inl below) = none_before from to entries at lie below
-out_of from to entries at lie (inr behind) = none_behind from to entries at lie behind
-
--- other entries of the second column in the place of those that are gathered
-module _ (from to len : ℕ) (entries : List Toggled) (start end : ℕ) (slots : Slots)
-    (spans : Spans from to len entries start end slots) (ordered : from ≤ to) (within : to
-    < len) (new : List Toggled) (alone : LieIn to (suc to) new) where
-  pub gathered_lie : LieIn 0 len (take start entries ++ (new ++ drop end entries))
-  gathered_lie =
-      LieIn-append 0 to len (take start entries) (new ++ drop end entries)
-      (LieIn-wide 0 from to (take start entries) spans.before ordered)
-      (LieIn-append to (suc to) len new (drop end entries) alone spans.behind (omega arith) within) (omega arith)
-      (omega arith)
-
-  pub gathered_gap : entries_in from to (take start entries ++ (new ++ drop end entries)) ≡ []
-  gathered_gap =
-      in-append from to (take start entries) (new ++ drop end entries)
-      ∙ ap₂ ◌++◌ (none_in_front from to 0 from (take start entries) spans.before (omega arith))
-      (in-append from to new (drop end entries)
-      ∙ ap₂ ◌++◌ (none_in_rest from to to (suc to) new alone (omega arith))
-      (none_in_rest from to (suc to) len (drop end entries) spans.behind (omega arith)))
-
-  gathered_are : entries_in from to entries ≡ spans.inner
-  gathered_are =
-      let rest = spans.here ++ drop end entries in
-      ap (entries_in from to) spans.parts
-      ∙ in-append from to (take start entries) (spans.inner ++ rest)
-      ∙ ap₂ ◌++◌ (none_in_front from to 0 from (take start entries) spans.before (omega arith))
-      (in-append from to spans.inner rest
-      ∙ ap₂ ◌++◌ (all_in from to from spans.inner spans.inside (omega arith))
-      (none_in_rest from to to len rest (LieIn-append to (suc to) len spans.here (drop end entries) spans.there
-      spans.behind (omega arith) within) (omega arith)))
-      ∙ append-nil spans.inner
-
-  toggled_before : (at : ℕ) → toggled_at entries at
-      ≡ differing (toggled_at (take start entries) at)
-      (differing (toggled_at spans.inner at) (differing (toggled_at spans.here at) (toggled_at (drop end entries) at)))
-  toggled_before at =
-      ap (λ es. toggled_at es at) spans.parts
-      ∙ toggled_parts (take start entries) spans.inner (spans.here ++ drop end entries) at
-      ∙ ap (λ s. differing (toggled_at (take start entries) at) (differing (toggled_at spans.inner at) s))
-      (toggled-append spans.here (drop end entries) at)
-
-  pub gathered_slots : toggled_at new to ≡ slots → (at : ℕ) →
-      toggled_at (take start entries ++ (new ++ drop end entries)) at ≡ without_span from to at entries
-  gathered_slots is at =
-      let front = toggled_at (take start entries) at in
-      let rest = toggled_at (drop end entries) at in
-      let outside = toggled_at entries at in
-      let at_end = differing (odd_of (entries_in from to entries)) outside in
-      let parts = toggled_parts (take start entries) new (drop end entries) at in
-      elim (cases_eq at to) [
-        | inl here ↦
-            let test : (at == to) ≡ true = grind (arith, nat_tests) in
-            let no_front = none_behind 0 from (take start entries) at spans.before (omega arith) in
-            let no_rest = none_before (suc to) len (drop end entries) at spans.behind (omega arith) in
-            let there : toggled_at new at ≡ slots = subst (λ n. toggled_at new n ≡ slots) (sym here) is in
-            let old : toggled_at spans.here to ≡ outside =
-            sym (toggled_before at
-            ∙ ap (λ s. differing front (differing s (differing (toggled_at spans.here at) rest)))
-            (none_behind from to spans.inner at spans.inside (omega arith))
-            ∙ ap (differing front) (empty-differing (differing (toggled_at spans.here at) rest))
-            ∙ only_middle front (toggled_at spans.here at) rest no_front no_rest
-            ∙ ap (toggled_at spans.here) here) in
-            parts
-            ∙ only_middle front (toggled_at new at) rest no_front no_rest
-            ∙ there ∙ spans.gathered
-            ∙ ap₂ (λ es s. differing (odd_of es) s) (sym gathered_are) old
-            ∙ ap (λ (b : Bool). if b then at_end
-            else (if nat_le from at && nat_lt at to then finset.empty else outside)) (sym test)
-        | inr other ↦
-            let test : (at == to) ≡ false = grind (arith, nat_tests) in
-            let no_new = none_other to new at alone other in
-            parts
-            ∙ no_middle front (toggled_at new at) rest no_new
-            ∙ elim (cases_in from to at) [
-              | inl inside ↦
-                  let tests : (nat_le from at && nat_lt at to) ≡ true = grind (arith, nat_tests, inside.0, inside.1) in
-                  ap₂ differing (none_behind 0 from (take start entries) at spans.before inside.0)
-                  (none_before (suc to) len (drop end entries) at spans.behind (omega (arith, inside.1)))
-                  ∙ differing-empty finset.empty
-                  ∙ ap (λ (b : Bool). if b then finset.empty else outside) (sym tests)
-              | inr out ↦
-                  let tests : (nat_le from at && nat_lt at to) ≡ false = out.0 in
-                  sym (toggled_before at
-                  ∙ no_middle front (toggled_at spans.inner at) (differing (toggled_at spans.here at) rest)
-                  (out_of from to spans.inner at spans.inside out.1)
-                  ∙ no_middle front (toggled_at spans.here at) rest (none_other to spans.here at spans.there other))
-                  ∙ ap (λ (b : Bool). if b then finset.empty else outside) (sym tests)
-            ]
-            ∙ ap (λ (b : Bool). if b then at_end
-            else (if nat_le from at && nat_lt at to then finset.empty else outside)) (sym test)
-      ]
-
--- where nothing is gathered the entries stay
-pub Spans-nothing : (from to len : ℕ) (entries : List Toggled) (start end : ℕ) (slots : Slots) →
-    Spans from to len entries start end slots → start ≡ end → entries ≡ take start entries ++ ([] ++ drop end entries)
-Spans-nothing from to len entries start end slots spans same =
-    sym (ap (λ n. take n entries ++ drop end entries) same ∙ take-append-drop end entries)
-
-pub Spans-empty : (from to len : ℕ) (entries : List Toggled) (start end : ℕ) (slots : Slots) →
-    Spans from to len entries start end slots → start ≡ end → finset.empty ≡ slots
-Spans-empty from to len entries start end slots spans same =
-    let rest = spans.here ++ drop end entries in
-    let long : length spans.inner + length spans.here ≡ 0 = omega (
-      arith,
-      ap length spans.parts,
-      length-append (take start entries) (spans.inner ++ rest),
-      length-append spans.inner rest,
-      length-append spans.here (drop end entries),
-      length-take-le start entries (omega (arith, spans.ordered, spans.within)),
-      length-drop end entries,
-      spans.within,
-      same,
-    ) in
-    sym (spans.gathered
-    ∙ ap₂ (λ inner here. differing (odd_of inner) (toggled_at here to))
-    (nil_from_length spans.inner (omega (arith, long))) (nil_from_length spans.here (omega (arith, long)))
-    ∙ differing-empty finset.empty)
-
--- an entry written over the first of some, and the others taken out
-pub overwritten : (entries : List Toggled) (start end : ℕ) (new : Toggled) → start < length entries → start < end →
-    removed (suc start) end (set entries start new) ≡ take start entries ++ (new ∷ drop end entries)
-overwritten [] start end new within ordered = absurd (omega arith)
-overwritten (entry ∷ entries) zero zero new within ordered = absurd (omega arith)
-overwritten (entry ∷ entries) zero (suc end) new within ordered = refl
-overwritten (entry ∷ entries) (suc start) zero new within ordered = absurd (omega arith)
-overwritten (entry ∷ entries) (suc start) (suc end) new within ordered =
-    ap (λ es. entry ∷ es) (overwritten entries start end new (omega arith) (omega arith))
-
--- where the columns of a range have none, those from the first on are those from the second on
-nothing_behind : (front behind : List Toggled) → front ++ behind ≡ [] → behind ≡ []
-nothing_behind front behind none = nil_from_length behind (omega (arith, length-append front behind, ap length none))
-
-past : (from to len : ℕ) (entries : List Toggled) → entries_in from to entries ≡ [] → LieIn from len entries →
-    LieIn to len entries
-past from to len [] none lie = tt
-past from to len (entry ∷ entries) none lie =
-    elim (cases_lt entry.column to) [
-      | inl inside ↦
-          let test : (nat_le from entry.column && nat_lt entry.column to)
-          ≡ true = grind (arith, nat_tests, lie.0, inside) in
-          absurd (omega (
-            arith,
-            ap length (sym none
-                ∙ ap (λ (b : Bool). if b then entry ∷ entries_in from to entries else entries_in from to entries) test),
-          ))
-      | inr behind ↦ (behind, lie.1, lie.2)
-    ]
-
-pub behind_gap : (from to len start : ℕ) (entries : List Toggled) → entries_in from to entries ≡ [] →
-    LieIn from len (drop start entries) → LieIn to len (drop start entries)
-behind_gap from to len start entries none lie =
-    past from to len (drop start entries)
-    (nothing_behind (entries_in from to (take start entries)) (entries_in from to (drop start entries))
-    (sym (in-append from to (take start entries) (drop start entries))
-    ∙ ap (entries_in from to) (take-append-drop start entries) ∙ none)) lie
-
 -- the entries of the columns from one to another lie there, and say the same of these
-LieIn-low : (low from to : ℕ) (entries : List Toggled) → LieIn low to entries → from ≤ low → LieIn from to entries
-LieIn-low low from to [] lie near = tt
-LieIn-low low from to (entry ∷ entries) lie near = (omega (arith, lie.0), lie.1, lie.2)
-
-in_above : (from to low high : ℕ) (entries : List Toggled) → LieIn low high entries → from ≤ low →
-    LieIn low to (entries_in from to entries)
-in_above from to low high [] lie near = tt
-in_above from to low high (entry ∷ entries) lie near =
+in_above : (from to low high : ℕ) (entries : List Toggled) → RiseIn low high entries → WORDS * from ≤ low →
+    RiseIn low (WORDS * to) (entries_in from to entries)
+in_above from to low high [] rise near = tt
+in_above from to low high (entry ∷ entries) rise near =
     let rest = entries_in from to entries in
     elim (cases_lt entry.column to) [
       | inl inside ↦
+          let above : from ≤ entry.column = omega (arith, rise.0, near, rise.2.within) in
           let test : (nat_le from entry.column && nat_lt entry.column to)
-          ≡ true = grind (arith, nat_tests, lie.0, near, inside) in
-          subst (λ (b : Bool). LieIn low to (if b then entry ∷ rest else rest)) (sym test) (
-            lie.0,
-            inside,
-            in_above from to (suc entry.column) high entries lie.2 (omega (arith, lie.0)),
+          ≡ true = grind (arith, nat_tests, above, inside) in
+          subst (λ (b : Bool). RiseIn low (WORDS * to) (if b then entry ∷ rest else rest)) (sym test) (
+            rise.0,
+            omega (arith, inside, rise.2.within),
+            rise.2,
+            in_above from to (suc (place_of entry)) high entries rise.3 (omega (arith, rise.0, near)),
           )
       | inr behind ↦
           let test : (nat_le from entry.column && nat_lt entry.column to) ≡ false = grind (arith, nat_tests, behind) in
-          subst (λ (b : Bool). LieIn low to (if b then entry ∷ rest else rest)) (sym test)
-          (subst (LieIn low to) (sym (none_in_rest from to (suc entry.column) high entries lie.2 (omega arith))) tt)
+          subst (λ (b : Bool). RiseIn low (WORDS * to) (if b then entry ∷ rest else rest)) (sym test)
+          (subst (RiseIn low (WORDS * to)) (sym (none_in_rest from to (suc (place_of entry)) high entries rise.3
+          (omega (arith, behind)))) tt)
     ]
 
-pub in_lies : (from to low high : ℕ) (entries : List Toggled) → LieIn low high entries →
+in_rise : (from to low high : ℕ) (entries : List Toggled) → RiseIn low high entries →
     LieIn from to (entries_in from to entries)
-in_lies from to low high [] lie = tt
-in_lies from to low high (entry ∷ entries) lie =
+in_rise from to low high [] rise = tt
+in_rise from to low high (entry ∷ entries) rise =
     let rest = entries_in from to entries in
     elim (cases_lt entry.column from) [
       | inl below ↦
           let test : (nat_le from entry.column && nat_lt entry.column to) ≡ false = grind (arith, nat_tests, below) in
           subst (λ (b : Bool). LieIn from to (if b then entry ∷ rest else rest)) (sym test)
-          (in_lies from to (suc entry.column) high entries lie.2)
-      | inr above ↦ LieIn-low entry.column from to (entries_in from to (entry ∷ entries))
-          (in_above from to entry.column high (entry ∷ entries) (omega arith, lie.1, lie.2) above) above
+          (in_rise from to (suc (place_of entry)) high entries rise.3)
+      | inr above ↦ RiseIn-low (place_of entry) (WORDS * from) (WORDS * to) (entries_in from to (entry ∷ entries))
+          (in_above from to (place_of entry) high (entry ∷ entries) (omega arith, rise.1, rise.2, rise.3)
+          (omega (arith, above))) (omega (arith, above))
     ]
+
+pub in_lies : (from to low high : ℕ) (entries : List Toggled) → LieIn low high entries →
+    LieIn from to (entries_in from to entries)
+in_lies from to low high entries lie = in_rise from to (WORDS * low) (WORDS * high) entries lie
 
 apart : (from to column at : ℕ) → (column < from) ⊎ (to ≤ column) → from ≤ at → at < to → column ≢ at
 apart from to column at (inl below) above small = omega arith
@@ -402,3 +181,150 @@ span_behind from to at entries behind =
     ap (λ (b : Bool). if b then differing (odd_of (entries_in from to entries)) (toggled_at entries at)
     else (if nat_le from at && nat_lt at to then finset.empty else toggled_at entries at)) here
     ∙ ap (λ (b : Bool). if b then finset.empty else toggled_at entries at) inside
+
+-- what is toggled an odd number of times from one column on and up to another
+odd_until : (from to low high : ℕ) (entries : List Toggled) → RiseIn low high entries → WORDS * from ≤ low →
+    high ≤ WORDS * suc to → odd_of entries ≡ differing (odd_of (entries_in from to entries)) (toggled_at entries to)
+odd_until from to low high [] rise near far = sym (differing-empty finset.empty)
+odd_until from to low high (entry ∷ entries) rise near far =
+    let rest = entries_in from to entries in
+    let above : from ≤ entry.column = omega (arith, rise.0, near, rise.2.within) in
+    let same = odd_until from to (suc (place_of entry)) high entries rise.3 (omega (arith, rise.0, near)) far in
+    elim (cases_lt entry.column to) [
+      | inl inside ↦
+          let test : (nat_le from entry.column && nat_lt entry.column to)
+          ≡ true = grind (arith, nat_tests, above, inside) in
+          ap (differing entry.slots) same
+          ∙ sym (differing-associative entry.slots (odd_of rest) (toggled_at entries to))
+          ∙ ap (differing (differing entry.slots (odd_of rest))) (sym (passed entry entries to (omega (arith, inside))))
+          ∙ ap (λ (b : Bool). differing (odd_of (if b then entry ∷ rest else rest)) (toggled_at (entry ∷ entries) to))
+          (sym test)
+      | inr behind ↦
+          let test : (nat_le from entry.column && nat_lt entry.column to) ≡ false = grind (arith, nat_tests, behind) in
+          ap (differing entry.slots) same
+          ∙ differing_first entry.slots (odd_of rest) (toggled_at entries to)
+          ∙ ap (differing (odd_of rest)) (sym (met entry entries to (omega (arith, behind, rise.1, far))))
+          ∙ ap (λ (b : Bool). differing (odd_of (if b then entry ∷ rest else rest)) (toggled_at (entry ∷ entries) to))
+          (sym test)
+    ]
+
+-- The entries before one column and those behind another, drawn to the first: what stood between is gone, and toggled
+-- at the first column, as far as it was toggled an odd number of times.
+module _ (from to len : ℕ) (entries : List Toggled) (start end : ℕ) (ordered : from ≤ to) (within : to
+    < len) (before : LieIn 0 from (take start entries)) (high : LieIn from len (drop start entries))
+    (front : LieIn 0 (to + 1) (take end entries)) (behind : LieIn (to + 1) len (drop end entries)) (rise : start
+    ≤ end) where
+  abbrev pub taken : List Toggled
+  taken = slice_range entries start end
+
+  abbrev pub drawn : List Toggled
+  drawn = take start entries ++ map (moved_back (to - from)) (drop end entries)
+
+  taken_lies : LieIn from (to + 1) taken
+  taken_lies = between_rises (WORDS * 0) (WORDS * from) (WORDS * (to + 1)) (WORDS * len) entries start end front high rise
+
+  moved_lies : LieIn (suc from) (from + (len - to)) (map (moved_back (to - from)) (drop end entries))
+  moved_lies =
+      let first : to + 1 - (to - from) ≡ suc from = omega arith in
+      let last : len - (to - from) ≡ from + (len - to) = omega arith in
+      subst (λ n. LieIn (suc from) n (map (moved_back (to - from)) (drop end entries))) last
+      (subst (λ n. LieIn n (len - (to - from)) (map (moved_back (to - from)) (drop end entries))) first
+      (LieIn-moved_back (to + 1) len (to - from) (drop end entries) behind (omega arith)))
+
+  pub drawn_lies : LieIn 0 (from + (len - to)) drawn
+  drawn_lies =
+      LieIn-append 0 from (from + (len - to)) (take start entries) (map (moved_back (to - from)) (drop end entries))
+      before (RiseIn-low (WORDS * suc from) (WORDS * from) (WORDS * (from + (len - to)))
+      (map (moved_back (to - from)) (drop end entries)) moved_lies (omega arith)) (omega arith) (omega arith)
+
+  drawn_front : (at : ℕ) → at < from → toggled_at drawn at ≡ toggled_at entries at
+  drawn_front at small =
+      front_alone (take start entries) (map (moved_back (to - from)) (drop end entries)) at
+      (none_before (suc from) (from + (len - to)) (map (moved_back (to - from)) (drop end entries)) at moved_lies
+      (omega arith))
+      ∙ toggled_front from len start entries at high small
+
+  drawn_here : toggled_at drawn from ≡ finset.empty
+  drawn_here =
+      rest_alone 0 from (take start entries) (map (moved_back (to - from)) (drop end entries)) from before (omega arith)
+      ∙ none_before (suc from) (from + (len - to)) (map (moved_back (to - from)) (drop end entries)) from moved_lies
+      (omega arith)
+
+  drawn_behind : (at : ℕ) → from < at → toggled_at drawn at ≡ toggled_at entries (at + (to - from))
+  drawn_behind at above =
+      rest_alone 0 from (take start entries) (map (moved_back (to - from)) (drop end entries)) at before (omega arith)
+      ∙ toggled-moved_back (to + 1) len (to - from) (drop end entries) at behind (omega arith)
+      ∙ toggled_rest 0 (to + 1) end entries (at + (to - from)) front (omega arith)
+
+  parts : entries ≡ take start entries ++ (taken ++ drop end entries)
+  parts = split_between entries start end rise
+
+  in_taken : entries_in from to entries ≡ entries_in from to taken
+  in_taken =
+      ap (entries_in from to) parts
+      ∙ in-append from to (take start entries) (taken ++ drop end entries)
+      ∙ ap₂ ◌++◌
+      (none_in_front from to (WORDS * 0) (WORDS * from) (take start entries) before (omega arith))
+      (in-append from to taken (drop end entries)
+      ∙ ap (λ es. entries_in from to taken ++ es)
+      (none_in_rest from to (WORDS * (to + 1)) (WORDS * len) (drop end entries) behind (omega arith))
+      ∙ append-nil (entries_in from to taken))
+
+  at_taken : toggled_at entries to ≡ toggled_at taken to
+  at_taken =
+      ap (λ es. toggled_at es to) parts
+      ∙ rest_alone 0 from (take start entries) (taken ++ drop end entries) to before ordered
+      ∙ front_alone taken (drop end entries) to
+      (none_before (to + 1) len (drop end entries) to behind (omega arith))
+
+  taken_odd : odd_of taken ≡ without_span from to to entries
+  taken_odd =
+      odd_until from to (WORDS * from) (WORDS * (to + 1)) taken taken_lies (omega arith) (omega arith)
+      ∙ ap₂ (λ es s. differing (odd_of es) s) (sym in_taken) (sym at_taken)
+      ∙ sym (span_there from to entries)
+
+  module _ (new : List Toggled) (slots : Slots) (odd : slots ≡ odd_of taken)
+      (is : (at : ℕ) → toggled_at new at ≡ flipped from slots at (toggled_at drawn at)) where
+    pub removed_front : (at : ℕ) → at < from → toggled_at new at ≡ toggled_at entries at
+    removed_front at small =
+        let test : (at == from) ≡ false = grind (arith, nat_tests, small) in
+        is at ∙ ap (λ (b : Bool). if b then differing slots (toggled_at drawn at) else toggled_at drawn at) test
+        ∙ drawn_front at small
+
+    pub removed_behind : (at : ℕ) → from ≤ at → toggled_at new at ≡ without_span from to (at + (to - from)) entries
+    removed_behind at above =
+        elim (cases_eq at from) [
+          | inl here ↦
+              let test : (at == from) ≡ true = grind (arith, nat_tests, here) in
+              let there : to ≡ at + (to - from) = omega (arith, here) in
+              is at ∙ ap (λ (b : Bool). if b then differing slots (toggled_at drawn at) else toggled_at drawn at) test
+              ∙ ap (differing slots) (ap (toggled_at drawn) here ∙ drawn_here)
+              ∙ differing-empty slots ∙ odd ∙ taken_odd
+              ∙ ap (λ n. without_span from to n entries) there
+          | inr other ↦
+              let test : (at == from) ≡ false = grind (arith, nat_tests, other) in
+              is at ∙ ap (λ (b : Bool). if b then differing slots (toggled_at drawn at) else toggled_at drawn at) test
+              ∙ drawn_behind at (omega (arith, above, other))
+              ∙ sym (span_behind from to (at + (to - from)) entries (omega (arith, above, other)))
+        ]
+
+-- in how many words the slots are that entries toggle an odd number of times
+pub words_of_odd : (n : ℕ) (entries : List Toggled) → All HasOneWord entries →
+    words_below n (odd_of entries) ≤ length entries
+words_of_odd n [] all = omega (arith, words_below-none n)
+words_of_odd n (entry ∷ entries) all = omega (
+  arith,
+  words_below-differing n entry.slots (odd_of entries),
+  words_below-one n entry.slots (All-head HasOneWord entry entries all),
+  words_of_odd n entries (All-tail HasOneWord entry entries all),
+)
+
+pub slots_of_odd : (entries : List Toggled) → All HasOneWord entries → AreSlots (odd_of entries)
+slots_of_odd [] all = λ q has. absurd (false≢true (sym (finset.contains-empty nat_cmp q) ∙ has))
+slots_of_odd (entry ∷ entries) all = λ q has.
+    let one = All-head HasOneWord entry entries all in
+    elim (either_of (finset.contains entry.slots q) (finset.contains (odd_of entries) q)
+    (sym (contains-differing entry.slots (odd_of entries) q) ∙ has)) [
+      | inl own ↦ omega (arith, one.own q own, one.within)
+      | inr other ↦ slots_of_odd entries (All-tail HasOneWord entry entries all) q other
+    ]

@@ -1,10 +1,12 @@
--- The toggles of a line by their columns, which rise.
-use Rattle.std.specs.Prelude.{ℕ, suc, ◌+◌, ◌-◌, ◌<◌, ◌≤◌, ◌^◌, ◌==◌, ◌&&◌, nat_lt, nat_le, Option, None, Some, List, []}
-use Rattle.std.specs.Prelude.{◌∷◌, ⊤, if◌then◌else◌}
+-- The toggles of a line by their columns and words, which rise.
+use Rattle.std.specs.Prelude.{ℕ, suc, ◌+◌, ◌-◌, ◌*◌, ◌<◌, ◌≤◌, ◌^◌, ◌==◌, ◌&&◌, nat_lt, nat_le, Option, None, Some}
+use Rattle.std.specs.Prelude.{List, [], ◌∷◌, ⊤, if◌then◌else◌}
 use Rattle.std.specs.List.{filter}
 use Rattle.std.specs.FinSet as set
 use Rattle.text_model.specs.Content.{Slots}
+use Rattle.text_model.specs.OneWord.{IsOneWord, word_index}
 use Rattle.text_model.specs.SlotSets.{differing}
+use Rattle.text_model.specs.declared.tag_set.TheConstants.{WORDS}
 use Rattle.segments.specs.declared.toggles.Toggled.{Toggled}
 
 -- the slots that are toggled at a column
@@ -13,10 +15,22 @@ toggled_at [] at = set.empty
 toggled_at (entry ∷ entries) at =
     if entry.column == at then differing entry.slots (toggled_at entries at) else toggled_at entries at
 
--- the columns rise, from one on, and lie below another
+-- the place of an entry, by its column and the word of its slots
+abbrev pub place_of : Toggled → ℕ
+place_of entry = WORDS * entry.column + word_index entry.slots
+
+abbrev pub HasOneWord : Toggled → Type 0
+HasOneWord entry = IsOneWord entry.slots
+
+-- the places rise, from one on, and lie below another
+abbrev pub RiseIn : ℕ → ℕ → List Toggled → Type 0
+RiseIn from to [] = ⊤
+RiseIn from to (entry ∷ entries) =
+    (from ≤ place_of entry) × (place_of entry < to) × HasOneWord entry × RiseIn (suc (place_of entry)) to entries
+
+-- the columns rise, from one on, and lie below another, and so do the words of each column
 abbrev pub LieIn : ℕ → ℕ → List Toggled → Type 0
-LieIn from to [] = ⊤
-LieIn from to (entry ∷ entries) = (from ≤ entry.column) × (entry.column < to) × LieIn (suc entry.column) to entries
+LieIn from to entries = RiseIn (WORDS * from) (WORDS * to) entries
 
 -- the slots that are toggled an odd number of times, and those that are toggled at all
 abbrev pub odd_of : List Toggled → Slots

@@ -18,8 +18,8 @@ use crate::marks::{
     next_mark, previous_mark, put_mark, take_mark,
 };
 use crate::toggles::{
-    Toggled, clear, count_before, flip, move_on, move_rest_back, move_rest_on, next_toggle,
-    odd_slots, previous_toggle, remove_columns, slots_at, turn_odd,
+    Toggled, clear, count_before, flip, flip_slot, has_toggle, move_rest_back, move_rest_on,
+    next_toggle, odd_slots, previous_toggle, remove_columns, turn_odd,
 };
 use std::alloc::{AllocError, AllocFailed, Global};
 use std::marker::Model;
@@ -210,7 +210,7 @@ impl RichLine {
     {
         let mut sums = Sums::counting(1, self.text.len(), self.marks.len());
         for entry in &self.toggles {
-            sums.add_toggles(&entry.slots);
+            sums.add_word(&entry.slots);
         }
         sums
     }
@@ -334,11 +334,10 @@ impl RichLine {
         ensures marks { self.new.marks ≡ self.old.marks }
         ensures refused { OnErr result (self.new ≡ self.old) }
     {
-        let index = count_before(&self.toggles, column);
-        if slots_at(&self.toggles, index, column).has(slot) == is_toggled {
+        if has_toggle(&self.toggles, column, slot) == is_toggled {
             return Ok(());
         }
-        flip(&mut self.toggles, column, &TagSet::empty().with(slot))
+        flip_slot(&mut self.toggles, column, slot)
     }
 
     /// Toggles each slot of a set before the character at a column.

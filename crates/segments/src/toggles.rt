@@ -1,21 +1,25 @@
 ghost use Rattle.std.specs.Prelude.{◌≡◌, ℕ, ◌+◌, ◌<◌, ◌≤◌, ◌^◌, ◌==◌, ⊤, true, false, length, map, take, drop, vec_len};
-ghost use Rattle.std.specs.Prelude.{Option, Some, None, option_map, IfSome, OnOk, OnErr, ◌-◌, if◌then◌else◌, [], ◌++◌};
-ghost use Rattle.std.specs.List.{All};
+ghost use Rattle.std.specs.Prelude.{Option, Some, None, option_map, IfSome, OnOk, OnErr, ◌-◌, ◌*◌, if◌then◌else◌, ◌++◌};
+ghost use Rattle.std.specs.Prelude.{slice_range, vec_capacity};
+ghost use Rattle.std.specs.List.{All, insert};
 ghost use Rattle.std.specs.FinSet as set;
+ghost use Rattle.text_model.specs.OneWord.{AreSlots, IsOneWord, word_count};
 ghost use Rattle.text_model.specs.SlotSets.{differing};
 ghost use Rattle.text_model.specs.Splices.{removed};
 ghost use Rattle.text_model.specs.TagBits.{slot_count};
-ghost use Rattle.segments.specs.Entries.{CanMoveBack, CanMoveOn, LieIn, entries_in, flipped, moved_back, moved_on};
-ghost use Rattle.segments.specs.Entries.{next_entry, odd_of, previous_entry, slots_cleared, toggled_at, without_span};
+ghost use Rattle.segments.specs.Entries.{CanMoveBack, CanMoveOn, HasOneWord, LieIn, RiseIn, flipped, moved_back};
+ghost use Rattle.segments.specs.Entries.{moved_on, next_entry, odd_of, place_of, previous_entry, slots_cleared};
+ghost use Rattle.segments.specs.Entries.{toggled_at, without_span};
 
 use std::alloc::AllocError;
-use text_model::{TagSet, TagSlot};
+use text_model::{SlotWord, TagSet, TagSlot, WORDS};
 
-/// The slots that are toggled at a column.
+/// Slots of one word that are toggled at a column. Few slots are toggled at most columns, so an entry takes the same
+/// however many words a set has.
 #[derive(Clone, Copy)]
 pub struct Toggled {
     pub column: usize,
-    pub slots: TagSet,
+    pub slots: SlotWord,
 }
 
 /// How many of the toggles stand before a column.
@@ -38,7 +42,7 @@ pub fn turn_odd(toggles: &[Toggled], slots: &mut TagSet)
     ensures { slots.new ≡ differing slots.old (odd_of toggles.now) }
 {
     for entry in toggles {
-        slots.flip(&entry.slots);
+        slots.flip_word(&entry.slots);
     }
 }
 
@@ -85,8 +89,10 @@ pub fn move_rest_on(toggles: &mut Vec<Toggled>, start: usize, count: usize)
 pub fn move_rest_back(toggles: &mut Vec<Toggled>, start: usize, count: usize)
     requires within { start ≤ vec_len toggles.old }
     requires room { All (CanMoveBack count) (drop start toggles.old.items) }
-    ensures { toggles.new.items ≡
+    ensures items { toggles.new.items ≡
         take start toggles.old.items ++ map (moved_back count) (drop start toggles.old.items) }
+    ensures len { vec_len toggles.new ≡ vec_len toggles.old }
+    ensures capacity { vec_capacity toggles.new ≡ vec_capacity toggles.old }
 {
     move_back(&mut toggles[start..], count);
 }
@@ -95,7 +101,8 @@ pub fn move_rest_back(toggles: &mut Vec<Toggled>, start: usize, count: usize)
 fn drop_range(toggles: &mut Vec<Toggled>, from: usize, to: usize)
     requires ordered { from ≤ to }
     requires within { to ≤ vec_len toggles.old }
-    ensures { toggles.new.items ≡ removed from to toggles.old.items }
+    ensures items { toggles.new.items ≡ removed from to toggles.old.items }
+    ensures room { vec_len toggles.new + (to - from) ≤ vec_capacity toggles.new }
 {
     if from == to {
         return;
@@ -105,78 +112,143 @@ fn drop_range(toggles: &mut Vec<Toggled>, from: usize, to: usize)
     toggles.truncate(end - (to - from));
 }
 
-/// Makes room for one entry more. An entry is large and most lines have few, so they get no more room than that at
-/// first, and later half as much again.
-fn make_room(toggles: &mut Vec<Toggled>) -> Result<(), AllocError>
-    ensures { toggles.new.items ≡ toggles.old.items }
+/// Whether an entry stands before one of a word of slots at a column.
+fn is_before(entry: &Toggled, column: usize, word: usize) -> bool
+    requires { word < WORDS }
+    ensures yes { result ≡ true → place_of entry.now < WORDS * column + word }
+    ensures no { result ≡ false → WORDS * column + word ≤ place_of entry.now }
 {
-    if toggles.len() == toggles.capacity() {
-        toggles.reserve_exact(toggles.len() / 2 + 2)?;
+    let index = entry.slots.index();
+    if entry.column == column {
+        return index < word;
     }
-    Ok(())
+    entry.column < column
 }
 
-/// Toggles a set of slots at a column.
-pub fn flip(toggles: &mut Vec<Toggled>, column: usize, slots: &TagSet) -> Result<(), AllocError>
+/// How many of the toggles stand before those of a word of slots at a column.
+fn count_before_word(toggles: &[Toggled], column: usize, word: usize) -> usize
+    requires { word < WORDS }
+    ensures bound { result ≤ length toggles.now }
+    ensures before { (from to : ℕ) → RiseIn from to toggles.now →
+        RiseIn from (WORDS * column + word) (take result toggles.now) }
+    ensures behind { (from to : ℕ) → RiseIn from to toggles.now → from ≤ WORDS * column + word →
+        RiseIn (WORDS * column + word) to (drop result toggles.now) }
+{
+    for (count, entry) in toggles.iter().enumerate() {
+        if !is_before(entry, column, word) {
+            return count;
+        }
+    }
+    toggles.len()
+}
+
+/// Puts an entry in at an index, where there is room for one.
+fn put_entry(toggles: &mut Vec<Toggled>, index: usize, entry: Toggled)
+    requires within { index ≤ vec_len toggles.old }
+    requires room { vec_len toggles.old < vec_capacity toggles.old }
+    ensures items { toggles.new.items ≡ insert toggles.old.items index entry }
+    ensures len { vec_len toggles.new ≡ vec_len toggles.old + 1 }
+    ensures capacity { vec_capacity toggles.new ≡ vec_capacity toggles.old }
+{
+    let _put = toggles.insert(index, entry);
+}
+
+/// Toggles slots of one word at a column, where there is room for one entry more.
+fn flip_word(toggles: &mut Vec<Toggled>, column: usize, slots: &SlotWord)
+    requires room { vec_len toggles.old < vec_capacity toggles.old }
     ensures lie { (from to : ℕ) → LieIn from to toggles.old.items → from ≤ column → column < to →
         LieIn from to toggles.new.items }
-    ensures slots { OnOk result ((from to at : ℕ) → LieIn from to toggles.old.items →
-        toggled_at toggles.new.items at ≡ flipped column slots.now at (toggled_at toggles.old.items at)) }
-    ensures refused { OnErr result (toggles.new.items ≡ toggles.old.items) }
+    ensures slots { (at : ℕ) →
+        toggled_at toggles.new.items at ≡ flipped column slots.now at (toggled_at toggles.old.items at) }
+    ensures len { vec_len toggles.new ≤ vec_len toggles.old + 1 }
+    ensures capacity { vec_capacity toggles.new ≡ vec_capacity toggles.old }
 {
-    let index = count_before(toggles, column);
-    if index < toggles.len() && toggles[index].column == column {
+    let word = slots.index();
+    let index = count_before_word(toggles, column, word);
+    if index < toggles.len()
+        && toggles[index].column == column
+        && toggles[index].slots.index() == word
+    {
         let left = toggles[index].slots.differing(slots);
         if left.is_empty() {
             toggles.remove(index);
         } else {
             toggles[index].slots = left;
         }
-        return Ok(());
+        return;
     }
-    if !slots.is_empty() {
-        make_room(toggles)?;
-        toggles.insert(
-            index,
-            Toggled {
-                column,
-                slots: *slots,
-            },
-        )?;
+    put_entry(
+        toggles,
+        index,
+        Toggled {
+            column,
+            slots: *slots,
+        },
+    );
+}
+
+/// Toggles each slot of a set at a column, where there is room for an entry for each of its words.
+fn flip_words(toggles: &mut Vec<Toggled>, column: usize, slots: &TagSet)
+    requires slots { AreSlots slots.now }
+    requires room { vec_len toggles.old + word_count slots.now ≤ vec_capacity toggles.old }
+    ensures lie { (from to : ℕ) → LieIn from to toggles.old.items → from ≤ column → column < to →
+        LieIn from to toggles.new.items }
+    ensures slots { (at : ℕ) →
+        toggled_at toggles.new.items at ≡ flipped column slots.now at (toggled_at toggles.old.items at) }
+{
+    for index in 0..WORDS {
+        let word = slots.word(index);
+        if !word.is_empty() {
+            flip_word(toggles, column, &word);
+        }
     }
+}
+
+/// Toggles a set of slots at a column.
+pub fn flip(toggles: &mut Vec<Toggled>, column: usize, slots: &TagSet) -> Result<(), AllocError>
+    ensures lie { (from to : ℕ) → LieIn from to toggles.old.items → from ≤ column → column < to →
+        LieIn from to toggles.new.items }
+    ensures slots { OnOk result ((at : ℕ) →
+        toggled_at toggles.new.items at ≡ flipped column slots.now at (toggled_at toggles.old.items at)) }
+    ensures refused { OnErr result (toggles.new.items ≡ toggles.old.items) }
+{
+    toggles.reserve(slots.word_count())?;
+    flip_words(toggles, column, slots);
     Ok(())
 }
 
-/// Takes out the toggles of the columns from one to another; what was toggled an odd number of times in these is
-/// toggled at the second column. There are `len` columns.
-fn gather(toggles: &mut Vec<Toggled>, from: usize, to: usize, len: usize)
-    requires lie { LieIn 0 len toggles.old.items }
-    requires ordered { from ≤ to }
-    requires within { to < len }
-    ensures lie { LieIn 0 len toggles.new.items }
-    ensures slots { (at : ℕ) → toggled_at toggles.new.items at ≡ without_span from to at toggles.old.items }
-    ensures gap { entries_in from to toggles.new.items ≡ [] }
+/// Toggles a slot at a column.
+pub fn flip_slot(toggles: &mut Vec<Toggled>, column: usize, slot: TagSlot) -> Result<(), AllocError>
+    requires { slot.0 < slot_count }
+    ensures lie { (from to : ℕ) → LieIn from to toggles.old.items → from ≤ column → column < to →
+        LieIn from to toggles.new.items }
+    ensures slots { OnOk result ((at : ℕ) → toggled_at toggles.new.items at
+        ≡ flipped column (set.insert set.empty slot.0) at (toggled_at toggles.old.items at)) }
+    ensures refused { OnErr result (toggles.new.items ≡ toggles.old.items) }
 {
-    let start = count_before(toggles, from);
-    let mut end = count_before(toggles, to);
-    let mut slots = odd_slots(&toggles[start..end]);
-    if end < toggles.len() && toggles[end].column == to {
-        slots = slots.differing(&toggles[end].slots);
-        end += 1;
-    }
-    if start == end {
-        return;
-    }
-    if slots.is_empty() {
-        drop_range(toggles, start, end);
-        return;
-    }
-    toggles[start] = Toggled { column: to, slots };
-    drop_range(toggles, start + 1, end);
+    toggles.reserve(1)?;
+    flip_word(toggles, column, &SlotWord::of(slot));
+    Ok(())
+}
+
+/// Takes the toggles from one index to another out, and says which slots are toggled an odd number of times in these.
+/// Then there is room for an entry for each of their words.
+fn take_range(toggles: &mut Vec<Toggled>, from: usize, to: usize) -> TagSet
+    requires ordered { from ≤ to }
+    requires within { to ≤ vec_len toggles.old }
+    requires words { All HasOneWord toggles.old.items }
+    ensures items { toggles.new.items ≡ removed from to toggles.old.items }
+    ensures odd { result ≡ odd_of (slice_range toggles.old.items from to) }
+    ensures slots { AreSlots result }
+    ensures room { vec_len toggles.new + word_count result ≤ vec_capacity toggles.new }
+{
+    let slots = odd_slots(&toggles[from..to]);
+    drop_range(toggles, from, to);
+    slots
 }
 
 /// Takes out the toggles of the columns from one to another, of a line with so many columns, and draws the others to
-/// the first.
+/// the first. What was toggled an odd number of times in these is toggled at the first column then, if there is one.
 pub fn remove_columns(toggles: &mut Vec<Toggled>, from: usize, to: usize, len: usize)
     requires lie { LieIn 0 len toggles.old.items }
     requires ordered { from ≤ to }
@@ -186,14 +258,15 @@ pub fn remove_columns(toggles: &mut Vec<Toggled>, from: usize, to: usize, len: u
     ensures behind { (at : ℕ) → from ≤ at → at < from + (len - to) →
         toggled_at toggles.new.items at ≡ without_span from to (at + (to - from)) toggles.old.items }
 {
+    let start = count_before(toggles, from);
     if to == len {
-        let start = count_before(toggles, from);
         toggles.truncate(start);
         return;
     }
-    gather(toggles, from, to, len);
-    let start = count_before(toggles, from);
+    let end = count_before(toggles, to + 1);
+    let slots = take_range(toggles, start, end);
     move_rest_back(toggles, start, to - from);
+    flip_words(toggles, from, &slots);
 }
 
 /// Takes a slot from the toggles of a column, if that lies from one to another. Says whether a slot is left.
@@ -201,6 +274,7 @@ fn clear_entry(entry: &mut Toggled, slot: TagSlot, from: usize, to: usize) -> bo
     requires { slot.0 < slot_count }
     ensures column { entry.new.column ≡ entry.old.column }
     ensures slots { entry.new.slots ≡ slots_cleared slot.0 from to entry.old.column entry.old.slots }
+    ensures word { IsOneWord entry.old.slots → IsOneWord entry.new.slots }
     ensures some { result ≡ false → entry.new.slots ≡ set.empty }
     ensures none { entry.new.slots ≡ set.empty → result ≡ false }
 {
@@ -220,16 +294,17 @@ pub fn clear(toggles: &mut Vec<Toggled>, slot: TagSlot, from: usize, to: usize)
     toggles.retain_mut(|entry| clear_entry(entry, slot, from, to));
 }
 
-/// The slots that are toggled at the index of a column, if that entry is the column's.
-pub fn slots_at(toggles: &[Toggled], index: usize, column: usize) -> TagSet
-    ensures { (from to : ℕ) → LieIn from to toggles.now → LieIn column to (drop index toggles.now) →
-        LieIn from column (take index toggles.now) →
-        result ≡ toggled_at toggles.now column }
+/// Whether a slot is toggled at a column.
+pub fn has_toggle(toggles: &[Toggled], column: usize, slot: TagSlot) -> bool
+    requires { slot.0 < slot_count }
+    ensures { (from to : ℕ) → LieIn from to toggles.now →
+        result ≡ set.contains (toggled_at toggles.now column) slot.0 }
 {
+    let index = count_before_word(toggles, column, slot.0 as usize / 64);
     if index < toggles.len() && toggles[index].column == column {
-        return toggles[index].slots;
+        return toggles[index].slots.has(slot);
     }
-    TagSet::empty()
+    false
 }
 
 /// The first column from one on before which a slot is toggled.

@@ -1,8 +1,10 @@
 pub mod CellLaws
 pub mod ChangeLaws
 pub mod DocumentLaws
+pub mod InWordLaws
 pub mod LineLaws
 pub mod MarkOrderLaws
+pub mod OneWordSteps
 pub mod PlaceLaws
 pub mod PlainLaws
 pub mod SpliceLaws

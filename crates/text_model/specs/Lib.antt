@@ -4,6 +4,8 @@ pub mod Documents
 pub mod LimitTable
 pub mod Lines
 pub mod MarkOrder
+pub mod OneWord
+pub mod OneWordLaws
 pub mod Plain
 pub mod SlotSets
 pub mod Splices

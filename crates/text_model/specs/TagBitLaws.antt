@@ -38,7 +38,7 @@ as_digit true t small is = grind (arith, nat_tests)
 as_digit false t small is = grind (arith, nat_tests)
 
 -- where bit i of a word says whether slot from + i is in the set, the set gives the word back
-word_of_bits : (n : ℕ) (slots : set.FinSet nat_cmp) (from word : ℕ) →
+pub word_of_bits : (n : ℕ) (slots : set.FinSet nat_cmp) (from word : ℕ) →
     ((i : ℕ) → i < n → set.contains slots (from + i) ≡ (bit_at word i == 1)) → word_below n slots from ≡ word % 2 ^ n
 unfolding word_below
 word_of_bits zero slots from word bits = omega arith
@@ -58,7 +58,7 @@ bit_of_word words i j small below =
     ∙ ap (λ b. b && has_bit words k) (lt-ltb k slot_count (omega arith))
     ∙ ap₂ (λ r c. bit_at (slice_index words r) c == 1) row column
 
-word_of_slots : (words : List ℕ) → AreWords words → (i : ℕ) → i < WORDS →
+pub word_of_slots : (words : List ℕ) → AreWords words → (i : ℕ) → i < WORDS →
     word_below 64 (slots_of words) (64 * i) ≡ slice_index words i
 word_of_slots words are i small = word_of_bits 64 (slots_of words) (64 * i) (slice_index words i) (λ j below.
     bit_of_word words i j small below) ∙ mod-eq_of_lt (are.each i small)

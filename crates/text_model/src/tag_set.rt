@@ -1,9 +1,11 @@
 ghost use Rattle.std.specs.Prelude.{◌≡◌, ◌<◌, bit_xor, slice_index, true};
 ghost use Rattle.std.specs.FinSet as set;
+ghost use Rattle.text_model.specs.OneWord.{AreSlots, IsOneWord, in_word, word_count};
 ghost use Rattle.text_model.specs.SlotSets.{differing};
 ghost use Rattle.text_model.specs.TagBits.{slot_count, slots_of};
 
 use crate::places::TagSlot;
+use crate::slot_word::SlotWord;
 use std::marker::Model;
 
 /// How many words of 64 slots a set has.
@@ -132,6 +134,36 @@ impl TagSet {
         ensures { self.new ≡ differing self.old (slots_of words.now) }
     {
         turn(&mut self.words, words);
+    }
+
+    /// The slots of the set that are in one word.
+    pub fn word(&self, index: usize) -> SlotWord
+        requires { index < WORDS }
+        ensures slots { result ≡ in_word index self.now }
+        ensures word { IsOneWord result }
+    {
+        SlotWord::of_bits(index, self.words[index])
+    }
+
+    /// In how many words the set has slots.
+    pub fn word_count(&self) -> usize
+        ensures count { result ≡ word_count self.now }
+        ensures slots { AreSlots self.now }
+    {
+        let mut count = 0;
+        for index in 0..WORDS {
+            if self.words[index] != 0 {
+                count += 1;
+            }
+        }
+        count
+    }
+
+    /// Turns slots of one word.
+    pub fn flip_word(&mut self, word: &SlotWord)
+        ensures { self.new ≡ differing self.old word.now }
+    {
+        self.words[word.index()] ^= word.bits();
     }
 
     /// Whether no slot is in the set.

@@ -4,7 +4,8 @@ use toggle_sums::{Exchange, Summary, Sums};
 fn joined() -> Sums<WORDS> {
     let slots = TagSet::empty().with(TagSlot(3)).with(TagSlot(64));
     let mut first = Sums::counting(1, 5, 2);
-    first.add_toggles(&slots);
+    first.add_word(&slots.word(0));
+    first.add_word(&slots.word(1));
     let second = Sums::counting(2, 7, 0).toggled(TagSlot(3));
     Sums::zero().plus(&first).plus(&second)
 }

@@ -14,9 +14,13 @@ use Rattle.std.specs.Cmp.{nat_cmp_total}
 use Rattle.std.specs.FinSet as set
 use Rattle.std.specs.Int.{bit_at}
 use Rattle.std.specs.Ordering.{nat_cmp}
+use Rattle.std.specs.Int.Bits.{or_zero_r}
+use Rattle.text_model.specs.OneWord.{alone}
+use Rattle.text_model.specs.OneWordLaws.{alone-other, alone-same}
 use Rattle.text_model.specs.SlotSets.{differing}
 use Rattle.text_model.specs.TagBits.{has_bit}
 use Rattle.text_model.specs.TagBitLaws.{contains_inserted, contains-slots_below}
+use Rattle.text_model.specs.declared.tag_set.TheConstants.{WORDS}
 use Rattle.text_model.proofs.TagSteps.{has_bit-with_word, with_word}
 use Rattle.toggle_sums.specs.CountLaws.{contains-differing, either, same_slots}
 use Rattle.toggle_sums.specs.SlotWords.{AreWords, slots_of, words_of}
@@ -252,3 +256,19 @@ pub same_words : (count : ℕ) (a b : List ℕ) → AreWords count a → AreWord
     slots_of count a ≡ slots_of count b → a ≡ b
 same_words count a b first second same =
     sym (words_of-slots_of count a first) ∙ ap (words_of count) same ∙ words_of-slots_of count b second
+
+-- bits set in one word
+pub joined-word : (words : List ℕ) (word bits : ℕ) → word < length words → word < WORDS → (i : ℕ) →
+    slice_index (slice_set words word (bit_or (slice_index words word) bits)) i
+    ≡ bit_or (slice_index words i) (slice_index (alone word bits) i)
+joined-word words word bits long within i =
+    let new = bit_or (slice_index words word) bits in
+    elim (cases_eq i word) [
+      | inl here ↦
+          ap (slice_index (slice_set words word new)) here ∙ get_or-set_same words word new 0 long
+          ∙ sym (ap₂ bit_or (ap (slice_index words) here)
+          (ap (slice_index (alone word bits)) here ∙ alone-same word bits within))
+      | inr other ↦
+          get_or-set_other words word i new 0 other
+          ∙ sym (ap (bit_or (slice_index words i)) (alone-other word bits i other) ∙ or_zero_r (slice_index words i))
+    ]

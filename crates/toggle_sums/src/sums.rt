@@ -9,7 +9,7 @@ ghost use Rattle.toggle_sums.specs.Counts.{HasCounts, exchanged, with_toggles, w
 use crate::exchange::Exchange;
 use crate::summary::Summary;
 use std::marker::Model;
-use text_model::{TagSet, TagSlot, WORDS};
+use text_model::{SlotWord, TagSet, TagSlot, WORDS};
 
 /// What is counted of some lines of text: the lines, their characters and marks, and for each of 64·K slots whether it
 /// is toggled in them an odd number of times, and whether it is toggled at all. It takes no memory of its own.
@@ -259,13 +259,14 @@ impl Sums<WORDS> {
         }
     }
 
-    /// Counts one toggle more of each slot of a set.
-    pub fn add_toggles(&mut self, slots: &TagSet)
+    /// Counts one toggle more of each slot of a word.
+    pub fn add_word(&mut self, slots: &SlotWord)
         ensures { self.new ≡ with_toggles slots.now self.old }
     {
-        let words = slots.words();
-        turn_words(&mut self.parity, &words);
-        join_words(&mut self.presence, &words);
+        let index = slots.index();
+        let bits = slots.bits();
+        self.parity[index] ^= bits;
+        self.presence[index] |= bits;
     }
 }
 

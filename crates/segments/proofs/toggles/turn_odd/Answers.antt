@@ -12,7 +12,7 @@ loop-entry-preserved c =
     let toggles = c.args.toggles.now in
     let index = c.loop-entry.entry-index in
     let so_far = c.loop-entry.slots in
-    ap (λ s. differing s (odd_of (drop (index + 1) toggles))) c.flip.ensures
+    ap (λ s. differing s (odd_of (drop (index + 1) toggles))) c.flip_word.ensures
     ∙ ap (λ (e : Toggled). differing (differing so_far e.slots) (odd_of (drop (index + 1) toggles))) c.entry-item.is
     ∙ odd_more toggles index c.entry-item.result so_far _ c.loop-entry-test.true c.loop-entry.invariant
 

@@ -69,7 +69,7 @@ invariant_of-result c =
     c.count_before-count.ensures.behind in
     let held = rest_read count entries c.deref-2.result.now c.in_ok-toggles.toggles.items c.deref-2.ensures.value
     c.in_ok-toggles.ensures.items in
-    let moved = c.move_rest_back.ensures ∙ ap (map (moved_back column)) held in
+    let moved = c.move_rest_back.ensures.items ∙ ap (map (moved_back column)) held in
     let marked = c.in_ok-marks.ensures
     ∙ ap (λ marks. map (with_place (earlier column))
     (filter (λ (mark : Mark). nat_le column mark.place.offset) marks)) c.deref-3.ensures.value in
@@ -115,7 +115,7 @@ returns-clause-tail c =
     c.count_before-count.ensures.behind in
     let held = rest_read count entries c.deref-2.result.now c.in_ok-toggles.toggles.items c.deref-2.ensures.value
     c.in_ok-toggles.ensures.items in
-    let moved = c.move_rest_back.ensures ∙ ap (map (moved_back column)) held in
+    let moved = c.move_rest_back.ensures.items ∙ ap (map (moved_back column)) held in
     let marked = c.in_ok-marks.ensures
     ∙ ap (λ marks. map (with_place (earlier column))
     (filter (λ (mark : Mark). nat_le column mark.place.offset) marks)) c.deref-3.ensures.value in

@@ -30,6 +30,6 @@ returns-clause-columns c =
     ) in
     on_ok_weaker c.flip.result (λ flips.
     columns_flipped c.args.column c.args.slots.now text c.flip.new.toggles.items c.self.inside.toggles.items within
-    (λ at. flips 0 (length text) at c.self.invariant.0)
+    flips
     ∙ ap (λ (line : LineContent). changed (toggled_more c.args.slots.now) c.args.column (c.args.column + 1)
     line.columns) c.self.view_is) c.flip.ensures.slots

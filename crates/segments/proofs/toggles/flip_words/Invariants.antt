@@ -1,0 +1,15 @@
+use Rattle.std.proofs.Common.{◌≡◌, ℕ, ◌+◌, ◌<◌, ◌≤◌}
+use Rattle.std.specs.Prelude.{vec_capacity, vec_len}
+use Rattle.text_model.specs.OneWord.{word_count, words_below}
+use Rattle.text_model.proofs.InWordLaws.{before_word}
+use Rattle.segments.specs.Entries.{LieIn, flipped, toggled_at}
+use Rattle.segments.proofs.toggles.flip_words.Given as goal
+
+abbrev pub invariant-loop-index : goal.invariant-loop-index
+invariant-loop-index l = record {
+  room : vec_len l.toggles + word_count l.slots ≤ vec_capacity l.toggles + words_below l.index l.slots;
+  lie : (from to : ℕ) → LieIn from to l.initial.toggles.items → from ≤ l.column → l.column < to →
+      LieIn from to l.toggles.items;
+  slots : (at : ℕ) → toggled_at l.toggles.items at
+      ≡ flipped l.column (before_word l.index l.slots) at (toggled_at l.initial.toggles.items at);
+}

@@ -1,0 +1,53 @@
+use Rattle.std.proofs.Common.{◌≡◌, ◌<◌, ◌∙◌, ap, bit_or, bit_xor, length, length-set, slice_index, slice_set}
+use Rattle.std.specs.FinSet as set
+use Rattle.text_model.specs.OneWord.{alone, slots_in}
+use Rattle.text_model.specs.OneWordLaws.{AreWords-alone}
+use Rattle.text_model.specs.SlotSets.{differing}
+use Rattle.text_model.specs.declared.tag_set.TheConstants.{WORDS}
+use Rattle.text_model.proofs.OneWordSteps.{turned-word}
+use Rattle.toggle_sums.specs.SlotWords.{slots_of}
+use Rattle.toggle_sums.proofs.WordSteps.{AreWords-differing, AreWords-joined, joined-word, slots_of-differing}
+use Rattle.toggle_sums.proofs.WordSteps.{slots_of-joined}
+use Rattle.toggle_sums.proofs.sums.Sums+WORDS.add_word.Goals as goal
+
+pub invariant_of-self : goal.invariant_of-self
+invariant_of-self c =
+    let odd = c.self.inside.parity in
+    let any = c.self.inside.presence in
+    let index = c.index-index.result in
+    let bits = c.bits-bits.result in
+    let within : index < WORDS = rw c.index-index.ensures.index c.index-index.ensures.word.within in
+    let each = (AreWords-alone index bits within c.bits-bits.type_inv).each in
+    let long : index < length odd = rw c.self.invariant.0.long within in
+    let long_too : index < length any = rw c.self.invariant.1.long within in (
+      AreWords-differing WORDS odd (alone index bits)
+          (slice_set odd index (bit_xor (slice_index odd index) bits)) c.self.invariant.0 each
+          (length-set odd index _ ∙ c.self.invariant.0.long) (λ i _. turned-word odd index bits long within i),
+      AreWords-joined WORDS any (alone index bits)
+          (slice_set any index (bit_or (slice_index any index) bits)) c.self.invariant.1 each
+          (length-set any index _ ∙ c.self.invariant.1.long) (λ i _. joined-word any index bits long_too within i),
+    )
+
+pub returns : goal.returns
+returns c =
+    let now = c.self.inside in
+    let index = c.index-index.result in
+    let bits = c.bits-bits.result in
+    let within : index < WORDS = rw c.index-index.ensures.index c.index-index.ensures.word.within in
+    let long : index < length now.parity = rw c.self.invariant.0.long within in
+    let long_too : index < length now.presence = rw c.self.invariant.1.long within in
+    let word : slots_in index bits ≡ c.args.slots.now = ap (λ n. slots_in n bits) c.index-index.ensures.index
+    ∙ c.bits-bits.ensures in
+    rw (← c.self.view_is) (λ i. record {
+      lines = now.lines;
+      characters = now.characters;
+      marks = now.marks;
+      parity = (slots_of-differing WORDS now.parity (alone index bits)
+          (slice_set now.parity index (bit_xor (slice_index now.parity index) bits)) (λ i _.
+          turned-word now.parity index bits long within i)
+          ∙ ap (differing (slots_of WORDS now.parity)) word) i;
+      presence = (slots_of-joined WORDS now.presence (alone index bits)
+          (slice_set now.presence index (bit_or (slice_index now.presence index) bits)) (λ i _.
+          joined-word now.presence index bits long_too within i)
+          ∙ ap (set.union (slots_of WORDS now.presence)) word) i;
+    })
