@@ -7,7 +7,7 @@ use Rattle.std.proofs.Math.Seq.{take-suc}
 use Rattle.command_table.specs.Reading.{go_on, unknown}
 use Rattle.command_table.specs.Words.{Word, texts_of, is_same, is_dashed}
 use Rattle.command_table.specs.declared.shapes.ShapeFault.TheVariants.{BadOption, WrongArguments}
-use Rattle.command_table.specs.Rows.{SwitchRule, begins, ends_switches, dashed_words}
+use Rattle.command_table.specs.Entries.{SwitchRule, begins, ends_switches, dashed_words}
 
 and_false : (b : Bool) → (b && false) ≡ false
 and_false true = refl

@@ -1,4 +1,4 @@
--- What a row of the command table says, and which words it fits.
+-- What an entry of the command table says, and which words it fits.
 use Rattle.std.specs.Prelude.{ℕ, ◌+◌, ◌-◌, ◌%◌, ◌==◌, nat_le, Bool, true, false, ◌&&◌, List, [], ◌∷◌, length, filter}
 use Rattle.std.specs.Prelude.{Option, None, Some, option_map, if◌then◌else◌}
 use Rattle.std.specs.List.{starts_with, find, position_from, enumerate_from}
@@ -18,7 +18,7 @@ pub record OptionRule : Type 0 where
   pub valued : Bool
 
 -- a command, the words of its subcommand, and how many words may stand behind its switches
-pub record RowRule : Type 0 where
+pub record EntryRule : Type 0 where
   pub spelling : List Word
   pub command : Command
   pub switches : Option SwitchRule
@@ -56,8 +56,8 @@ is_switch rule word =
 
 -- the position of the first word that is no switch; the words stand from a position on
 abbrev pub bad_switch : Option SwitchRule → ℕ → List Word → Option ℕ
-bad_switch None at words = None
-bad_switch (Some rule) at words = position_from (λ word. not (is_switch rule word)) at words
+bad_switch None position words = None
+bad_switch (Some rule) position words = position_from (λ word. not (is_switch rule word)) position words
 
 -- ---- options
 
@@ -68,13 +68,13 @@ is_option_place rule place =
 
 -- a word that stands in place of an option, and is none
 abbrev pub is_bad_option : OptionRule → ℕ × Word → Bool
-is_bad_option rule entry = is_option_place rule entry.0 && not (is_among rule.names entry.1)
+is_bad_option rule word = is_option_place rule word.0 && not (is_among rule.names word.1)
 
 -- the position of the first such word; the arguments stand from a position on
 abbrev pub bad_option : Option OptionRule → ℕ → List Word → Option ℕ
-bad_option None at words = None
-bad_option (Some rule) at words =
-    option_map (λ entry. at + entry.0) (find (is_bad_option rule) (enumerate_from 0 words))
+bad_option None position words = None
+bad_option (Some rule) position words =
+    option_map (λ word. position + word.0) (find (is_bad_option rule) (enumerate_from 0 words))
 
 -- ---- how many words
 
@@ -87,8 +87,8 @@ abbrev pub are_paired : Option OptionRule → ℕ → Bool
 are_paired None count = true
 are_paired (Some rule) count = nat_le rule.after count && (if rule.valued then (count - rule.after) % 2 == 0 else true)
 
-abbrev pub fits : RowRule → ℕ → Bool
-fits row count = nat_le row.least count && at_most count row.greatest && are_paired row.options count
+abbrev pub fits : EntryRule → ℕ → Bool
+fits entry count = nat_le entry.least count && at_most count entry.greatest && are_paired entry.options count
 
 -- how many arguments stand before the options
 abbrev pub before_options : Option OptionRule → ℕ → ℕ

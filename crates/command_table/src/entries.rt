@@ -1,9 +1,9 @@
 ghost use Rattle.std.specs.Prelude.{◌≡◌, ◌≤◌, ◌+◌, List, ◌∷◌, chars, length, take, map, true, option_map, IfSome, IfOk};
 ghost use Rattle.command_table.specs.Words.{texts_of, literal, Word};
-ghost use Rattle.command_table.specs.Rows.{switch_words, bad_switch, bad_option, fits, before_options};
+ghost use Rattle.command_table.specs.Entries.{switch_words, bad_switch, bad_option, fits, before_options};
 ghost use Rattle.command_table.specs.Reading.{decided, behind, go_on};
-ghost use Rattle.command_table.specs.Table.{destroy_row, table, text_row, find_in, IsPlaceOf};
-ghost use Rattle.command_table.specs.Spelled.{spelled, row_rule};
+ghost use Rattle.command_table.specs.Table.{destroy_entry, table, text_entry, find_in, IsPlaceOf};
+ghost use Rattle.command_table.specs.Spelled.{spelled, entry_rule};
 
 use crate::commands::Command;
 use crate::options::Options;
@@ -11,9 +11,9 @@ use crate::shapes::{Shape, ShapeFault};
 use crate::spellings::Spelling;
 use crate::switches::Switches;
 
-/// A row of the table: a command, and what may stand behind the words of its subcommand.
+/// An entry of the table: a command, and what may stand behind the words of its subcommand.
 #[derive(Clone, Copy)]
-pub struct Row {
+pub struct Entry {
     pub spelling: Spelling,
     pub command: Command,
     pub switches: Option<Switches>,
@@ -25,7 +25,7 @@ pub struct Row {
 }
 
 /// `text W ?option value ..?`.
-const TEXT: Row = Row {
+const TEXT: Entry = Entry {
     spelling: Spelling::First,
     command: Command::Text,
     switches: None,
@@ -40,7 +40,7 @@ const TEXT: Row = Row {
 // A subcommand of arguments alone: so many words at least, and at most.
 macro_rules! plain {
     ($spelling:expr, $command:ident, $least:literal, $greatest:expr) => {
-        Row {
+        Entry {
             spelling: $spelling,
             command: Command::$command,
             switches: None,
@@ -52,10 +52,10 @@ macro_rules! plain {
 }
 
 /// `destroy ?W ..?`.
-const DESTROY: Row = plain!(Spelling::First, Destroy, 0, None);
+const DESTROY: Entry = plain!(Spelling::First, Destroy, 0, None);
 
 /// The subcommands of a widget.
-static ROWS: [Row; 33] = [
+static ENTRIES: [Entry; 33] = [
     plain!(Spelling::Alone("insert"), Insert, 2, None),
     plain!(Spelling::Alone("delete"), Delete, 1, None),
     plain!(Spelling::Alone("replace"), Replace, 3, None),
@@ -107,7 +107,7 @@ static ROWS: [Row; 33] = [
         0,
         Some(0)
     ),
-    Row {
+    Entry {
         spelling: Spelling::Alone("configure"),
         command: Command::Configure,
         switches: None,
@@ -118,7 +118,7 @@ static ROWS: [Row; 33] = [
         least: 2,
         greatest: None,
     },
-    Row {
+    Entry {
         spelling: Spelling::Alone("cget"),
         command: Command::Cget,
         switches: None,
@@ -129,7 +129,7 @@ static ROWS: [Row; 33] = [
         least: 1,
         greatest: Some(1),
     },
-    Row {
+    Entry {
         spelling: Spelling::Alone("search"),
         command: Command::Search,
         switches: Some(Switches {
@@ -149,7 +149,7 @@ static ROWS: [Row; 33] = [
         least: 2,
         greatest: Some(3),
     },
-    Row {
+    Entry {
         spelling: Spelling::Alone("count"),
         command: Command::Count,
         switches: Some(Switches {
@@ -160,7 +160,7 @@ static ROWS: [Row; 33] = [
         least: 2,
         greatest: Some(2),
     },
-    Row {
+    Entry {
         spelling: Spelling::Alone("dump"),
         command: Command::Dump,
         switches: Some(Switches {
@@ -171,7 +171,7 @@ static ROWS: [Row; 33] = [
         least: 1,
         greatest: Some(2),
     },
-    Row {
+    Entry {
         spelling: Spelling::Member("peer", "create"),
         command: Command::PeerCreate,
         switches: None,
@@ -185,13 +185,13 @@ static ROWS: [Row; 33] = [
     plain!(Spelling::Member("peer", "names"), PeerNames, 0, Some(0)),
 ];
 
-impl Row {
+impl Entry {
     /// How many words stand in place of switches.
     fn count_switches(&self, words: &[String]) -> usize
-        ensures value { result ≡ length (switch_words (row_rule self.now).switches (texts_of words.now)) }
+        ensures value { result ≡ length (switch_words (entry_rule self.now).switches (texts_of words.now)) }
         ensures bound { result ≤ length words.now }
         ensures front { take result (texts_of words.now)
-            ≡ switch_words (row_rule self.now).switches (texts_of words.now) }
+            ≡ switch_words (entry_rule self.now).switches (texts_of words.now) }
     {
         match self.switches {
             None => 0,
@@ -200,32 +200,32 @@ impl Row {
     }
 
     /// The position of the first word that is no switch. The words stand from a position on.
-    fn first_bad_switch(&self, at: usize, words: &[String]) -> Option<usize>
-        requires { at + length words.now ≤ usize.MAX }
-        ensures { result ≡ bad_switch (row_rule self.now).switches at (texts_of words.now) }
+    fn first_bad_switch(&self, position: usize, words: &[String]) -> Option<usize>
+        requires { position + length words.now ≤ usize.MAX }
+        ensures { result ≡ bad_switch (entry_rule self.now).switches position (texts_of words.now) }
     {
         match self.switches {
             None => None,
-            Some(switches) => switches.first_bad(at, words),
+            Some(switches) => switches.first_bad(position, words),
         }
     }
 
     /// The position of the first word that stands in place of an option and is none. The arguments stand from a
     /// position on.
-    fn first_bad_option(&self, at: usize, arguments: &[String]) -> Option<usize>
-        requires { at + length arguments.now ≤ usize.MAX }
-        ensures { result ≡ bad_option (row_rule self.now).options at (texts_of arguments.now) }
+    fn first_bad_option(&self, position: usize, arguments: &[String]) -> Option<usize>
+        requires { position + length arguments.now ≤ usize.MAX }
+        ensures { result ≡ bad_option (entry_rule self.now).options position (texts_of arguments.now) }
     {
         match self.options {
             None => None,
-            Some(options) => options.first_bad(at, arguments),
+            Some(options) => options.first_bad(position, arguments),
         }
     }
 
     /// Whether so many words may stand behind the switches.
     fn fits(&self, count: usize) -> bool
-        ensures value { result ≡ fits (row_rule self.now) count }
-        ensures enough { result ≡ true → before_options (row_rule self.now).options count ≤ count }
+        ensures value { result ≡ fits (entry_rule self.now) count }
+        ensures enough { result ≡ true → before_options (entry_rule self.now).options count ≤ count }
     {
         let is_few = match self.greatest {
             None => true,
@@ -240,7 +240,7 @@ impl Row {
 
     /// How many of so many words behind the switches stand before the options.
     fn before_options(&self, count: usize) -> usize
-        ensures { result ≡ before_options (row_rule self.now).options count }
+        ensures { result ≡ before_options (entry_rule self.now).options count }
     {
         match self.options {
             None => count,
@@ -251,68 +251,69 @@ impl Row {
     /// What switches and arguments are that stand behind the subcommand from a position on.
     fn decide(
         &self,
-        at: usize,
+        position: usize,
         switches: &[String],
         arguments: &[String],
     ) -> Result<Shape, ShapeFault>
-        requires { at + length switches.now + length arguments.now ≤ usize.MAX }
-        ensures value { result ≡ decided (row_rule self.now) at (texts_of switches.now) (texts_of arguments.now) }
+        requires { position + length switches.now + length arguments.now ≤ usize.MAX }
+        ensures value { result
+            ≡ decided (entry_rule self.now) position (texts_of switches.now) (texts_of arguments.now) }
         ensures within { IfOk result (λ shape. shape.arguments + shape.count
-            ≤ at + length switches.now + length arguments.now) }
+            ≤ position + length switches.now + length arguments.now) }
         ensures ordered { IfOk result (λ shape. shape.switches ≤ shape.arguments) }
     {
-        let from = at + switches.len();
-        if let Some(position) = self.first_bad_switch(at, switches) {
-            return Err(ShapeFault::BadOption(position));
+        let from = position + switches.len();
+        if let Some(bad) = self.first_bad_switch(position, switches) {
+            return Err(ShapeFault::BadOption(bad));
         }
-        if let Some(position) = self.first_bad_option(from, arguments) {
-            return Err(ShapeFault::BadOption(position));
+        if let Some(bad) = self.first_bad_option(from, arguments) {
+            return Err(ShapeFault::BadOption(bad));
         }
         if !self.fits(arguments.len()) {
             return Err(ShapeFault::WrongArguments);
         }
         Ok(Shape {
             command: self.command,
-            switches: at,
+            switches: position,
             arguments: from,
             count: self.before_options(arguments.len()),
         })
     }
 
     /// What the words behind the subcommand are. They stand from a position on.
-    pub fn read(&self, at: usize, words: &[String]) -> Result<Shape, ShapeFault>
-        requires { at + length words.now ≤ usize.MAX }
-        ensures value { result ≡ behind (row_rule self.now) at (texts_of words.now) }
-        ensures within { IfOk result (λ shape. shape.arguments + shape.count ≤ at + length words.now) }
+    pub fn read(&self, position: usize, words: &[String]) -> Result<Shape, ShapeFault>
+        requires { position + length words.now ≤ usize.MAX }
+        ensures value { result ≡ behind (entry_rule self.now) position (texts_of words.now) }
+        ensures within { IfOk result (λ shape. shape.arguments + shape.count ≤ position + length words.now) }
         ensures ordered { IfOk result (λ shape. shape.switches ≤ shape.arguments) }
     {
         let count = self.count_switches(words);
-        self.decide(at, &words[..count], &words[count..])
+        self.decide(position, &words[..count], &words[count..])
     }
 }
 
 /// The subcommands of a widget, which are those of the definition.
-fn rows() -> &'static [Row]
-    ensures { map row_rule result.now ≡ table }
+fn entries() -> &'static [Entry]
+    ensures { map entry_rule result.now ≡ table }
 {
-    &ROWS
+    &ENTRIES
 }
 
-/// The row of `text`, which is that of the definition.
-pub fn text_row() -> Row
-    ensures { row_rule result ≡ text_row }
+/// The entry of `text`, which is that of the definition.
+pub fn text_entry() -> Entry
+    ensures { entry_rule result ≡ text_entry }
 {
     TEXT
 }
 
-/// The row of `destroy`, which is that of the definition.
-pub fn destroy_row() -> Row
-    ensures { row_rule result ≡ destroy_row }
+/// The entry of `destroy`, which is that of the definition.
+pub fn destroy_entry() -> Entry
+    ensures { entry_rule result ≡ destroy_entry }
 {
     DESTROY
 }
 
-/// The place of the row of a subcommand of one word, with arguments alone.
+/// The place of the entry of a subcommand of one word, with arguments alone.
 fn place_plain(word: &str) -> Option<usize>
     ensures { IfSome result (λ place. (rest : List Word) → IsPlaceOf place (chars word.now ∷ rest)) }
 {
@@ -327,7 +328,7 @@ fn place_plain(word: &str) -> Option<usize>
     }
 }
 
-/// The place of the row of a subcommand of one word, with switches or options.
+/// The place of the entry of a subcommand of one word, with switches or options.
 fn place_optioned(word: &str) -> Option<usize>
     ensures { IfSome result (λ place. (rest : List Word) → IsPlaceOf place (chars word.now ∷ rest)) }
 {
@@ -341,7 +342,7 @@ fn place_optioned(word: &str) -> Option<usize>
     }
 }
 
-/// The place of the row of a subcommand of one word. Few words stand in each `match`, since of one of more LLVM makes
+/// The place of the entry of a subcommand of one word. Few words stand in each `match`, since of one of more LLVM makes
 /// calls, and no jump by the length.
 fn place_alone(word: &str) -> Option<usize>
     ensures { IfSome result (λ place. (rest : List Word) → IsPlaceOf place (chars word.now ∷ rest)) }
@@ -352,7 +353,7 @@ fn place_alone(word: &str) -> Option<usize>
     }
 }
 
-/// The place of the row of `mark` with a word behind it.
+/// The place of the entry of `mark` with a word behind it.
 fn place_in_mark(word: &str) -> Option<usize>
     ensures { IfSome result (λ place. (rest : List Word) → IsPlaceOf place (literal "mark" ∷ chars word.now ∷ rest)) }
 {
@@ -367,7 +368,7 @@ fn place_in_mark(word: &str) -> Option<usize>
     }
 }
 
-/// The place of the row of `tag` with a word behind it.
+/// The place of the entry of `tag` with a word behind it.
 fn place_in_tag(word: &str) -> Option<usize>
     ensures { IfSome result (λ place. (rest : List Word) → IsPlaceOf place (literal "tag" ∷ chars word.now ∷ rest)) }
 {
@@ -385,7 +386,7 @@ fn place_in_tag(word: &str) -> Option<usize>
     }
 }
 
-/// The place of the row of `edit` with a word behind it.
+/// The place of the entry of `edit` with a word behind it.
 fn place_in_edit(word: &str) -> Option<usize>
     ensures { IfSome result (λ place. (rest : List Word) → IsPlaceOf place (literal "edit" ∷ chars word.now ∷ rest)) }
 {
@@ -399,7 +400,7 @@ fn place_in_edit(word: &str) -> Option<usize>
     }
 }
 
-/// The place of the row of `peer` with a word behind it.
+/// The place of the entry of `peer` with a word behind it.
 fn place_in_peer(word: &str) -> Option<usize>
     ensures { IfSome result (λ place. (rest : List Word) → IsPlaceOf place (literal "peer" ∷ chars word.now ∷ rest)) }
 {
@@ -410,7 +411,7 @@ fn place_in_peer(word: &str) -> Option<usize>
     }
 }
 
-/// The place of the row of a family's word with a word behind it.
+/// The place of the entry of a family's word with a word behind it.
 fn place_in_family(family: &str, word: &str) -> Option<usize>
     ensures { IfSome result (λ place.
         (rest : List Word) → IsPlaceOf place (chars family.now ∷ chars word.now ∷ rest)) }
@@ -424,7 +425,7 @@ fn place_in_family(family: &str, word: &str) -> Option<usize>
     }
 }
 
-/// The place of the first row whose subcommand begins the words.
+/// The place of the first entry whose subcommand begins the words.
 fn place_of(words: &[String]) -> Option<usize>
     ensures { IfSome result (λ place. IsPlaceOf place (texts_of words.now)) }
 {
@@ -438,18 +439,18 @@ fn place_of(words: &[String]) -> Option<usize>
     }
 }
 
-/// The first row whose subcommand begins the words.
-pub fn find_row(words: &[String]) -> Option<&'static Row>
-    ensures first { option_map (λ row. row_rule row.now) result ≡ find_in table (texts_of words.now) }
-    ensures short { IfSome result (λ row. length (spelled row.now.spelling) ≤ length words.now) }
+/// The first entry whose subcommand begins the words.
+pub fn find_entry(words: &[String]) -> Option<&'static Entry>
+    ensures first { option_map (λ entry. entry_rule entry.now) result ≡ find_in table (texts_of words.now) }
+    ensures short { IfSome result (λ entry. length (spelled entry.now.spelling) ≤ length words.now) }
 {
     if let Some(place) = place_of(words) {
-        return Some(&rows()[place]);
+        return Some(&entries()[place]);
     }
-    // that there is none is left to the rows themselves
-    for row in rows() {
-        if row.spelling.begins(words) {
-            return Some(row);
+    // that there is none is left to the entries themselves
+    for entry in entries() {
+        if entry.spelling.begins(words) {
+            return Some(entry);
         }
     }
     None
@@ -459,8 +460,8 @@ pub fn find_row(words: &[String]) -> Option<&'static Row>
 pub fn goes_on(words: &[String]) -> bool
     ensures { result ≡ go_on (texts_of words.now) }
 {
-    for row in rows() {
-        if row.spelling.goes_on(words) {
+    for entry in entries() {
+        if entry.spelling.goes_on(words) {
             return true;
         }
     }

@@ -2,7 +2,7 @@ use Rattle.std.proofs.Common.{[], ◌∷◌, refl, ap, arith}
 use Rattle.std.specs.Str.{chars}
 use Rattle.command_table.specs.Words.{literal}
 use Rattle.command_table.proofs.PlaceLaws.{by_name}
-use Rattle.command_table.proofs.rows.place_in_edit.Goals as goal
+use Rattle.command_table.proofs.entries.place_in_edit.Goals as goal
 
 pub returns-in-modified : goal.returns-in-modified
 unfolding chars

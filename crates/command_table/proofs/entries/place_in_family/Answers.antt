@@ -1,7 +1,7 @@
 use Rattle.std.proofs.Common.{ap}
 use Rattle.std.specs.Str.{chars}
 use Rattle.command_table.proofs.PlaceLaws.{by_family}
-use Rattle.command_table.proofs.rows.place_in_family.Goals as goal
+use Rattle.command_table.proofs.entries.place_in_family.Goals as goal
 
 pub returns-in-mark : goal.returns-in-mark
 returns-in-mark c = by_family _ _ _ _ (ap chars c.in-mark.is) c.place_in_mark.ensures

@@ -1,6 +1,6 @@
 use Rattle.std.proofs.Common.{arith}
 use Rattle.command_table.proofs.PlaceLaws.{by_first, by_second}
-use Rattle.command_table.proofs.rows.place_of.Goals as goal
+use Rattle.command_table.proofs.entries.place_of.Goals as goal
 
 pub returns-in-len1 : goal.returns-in-len1
 returns-in-len1 c =

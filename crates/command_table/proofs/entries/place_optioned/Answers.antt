@@ -1,7 +1,7 @@
 use Rattle.std.proofs.Common.{[], refl, ap, arith}
 use Rattle.std.specs.Str.{chars}
 use Rattle.command_table.proofs.PlaceLaws.{by_name}
-use Rattle.command_table.proofs.rows.place_optioned.Goals as goal
+use Rattle.command_table.proofs.entries.place_optioned.Goals as goal
 
 pub returns-in-configure : goal.returns-in-configure
 unfolding chars

@@ -1,7 +1,7 @@
 use Rattle.std.proofs.Common.{[], refl, ap, arith}
 use Rattle.std.specs.Str.{chars}
 use Rattle.command_table.proofs.PlaceLaws.{by_name}
-use Rattle.command_table.proofs.rows.place_plain.Goals as goal
+use Rattle.command_table.proofs.entries.place_plain.Goals as goal
 
 pub returns-in-insert : goal.returns-in-insert
 unfolding chars
