@@ -48,12 +48,12 @@ total-in-bytes (pair ∷ pairs) =
     )
 
 -- the pieces of some pairs have as many characters as these
-pub total-pieces : (tags : List Tag) (widget : ℕ) (pairs : List Pair) →
-    pieces.total (map (piece_of tags widget) pairs) ≡ total pairs
-total-pieces tags widget [] = refl
-total-pieces tags widget (pair ∷ pairs) =
-    sum_by-cons (λ (piece : Piece). length piece.text) (piece_of tags widget pair) (map (piece_of tags widget) pairs)
-    ∙ ap (λ n. length pair.text + n) (total-pieces tags widget pairs)
+pub total-pieces : (tags : List Tag) (own : ℕ) (pairs : List Pair) →
+    pieces.total (map (piece_of tags own) pairs) ≡ total pairs
+total-pieces tags own [] = refl
+total-pieces tags own (pair ∷ pairs) =
+    sum_by-cons (λ (piece : Piece). length piece.text) (piece_of tags own pair) (map (piece_of tags own) pairs)
+    ∙ ap (λ n. length pair.text + n) (total-pieces tags own pairs)
     ∙ sym (sum_by-cons (λ (p : Pair). length p.text) pair pairs)
 
 -- where there is no fault, there is room for the tags

@@ -20,12 +20,12 @@ spans_of-two start len [] two = absurd (omega arith)
 spans_of-two start len (from ∷ []) two = absurd (omega arith)
 spans_of-two start len (from ∷ to ∷ places) two = refl
 
-pub pairs_at-two : (at : ℕ) (words : List (List ℕ)) → 2 ≤ length words
-    → pairs_at at words ≡ and_pairs (pair_at at (get_or words 0 []) (Some (get_or words 1 [])))
-    (pairs_at (at + 2) (drop 2 words))
-pairs_at-two at [] two = absurd (omega arith)
-pairs_at-two at (text ∷ []) two = absurd (omega arith)
-pairs_at-two at (text ∷ list ∷ words) two = refl
+pub pairs_at-two : (position : ℕ) (words : List (List ℕ)) → 2 ≤ length words
+    → pairs_at position words ≡ and_pairs (pair_at position (get_or words 0 []) (Some (get_or words 1 [])))
+    (pairs_at (position + 2) (drop 2 words))
+pairs_at-two position [] two = absurd (omega arith)
+pairs_at-two position (text ∷ []) two = absurd (omega arith)
+pairs_at-two position (text ∷ list ∷ words) two = refl
 
 -- two more of them are seen
 pub spans_of-more : (start len : ℕ) (places rest : List ℕ) (spans : List Span) → 2 ≤ length rest →
@@ -55,19 +55,19 @@ word_read {Z} words at word bytes within is bytes_are =
     ap chars bytes_are ∙ ap (λ w. chars (string_bytes w)) is
     ∙ sym (get_or-map (λ w. chars (string_bytes w)) words at word [] within)
 
-pub pairs_at-more : {Z : Type 0} (at position : ℕ) (words : List (List ℕ)) (rest : List (String Z)) (front : List Pair)
+pub pairs_at-more : {Z : Type 0} (position here : ℕ) (words : List (List ℕ)) (rest : List (String Z)) (front : List Pair)
     (pair : Pair) → 2 ≤ length rest
-    → pairs_at at words ≡ with_value (pairs_at position (texts_of rest)) (λ ps. Ok (front ++ ps)) →
-    pair_at position (word_or rest 0) (Some (word_or rest 1)) ≡ Ok pair
-    → pairs_at at words ≡ with_value (pairs_at (position + 2) (texts_of (take (length rest - 2) (drop 2 rest)))) (λ ps.
+    → pairs_at position words ≡ with_value (pairs_at here (texts_of rest)) (λ ps. Ok (front ++ ps)) →
+    pair_at here (word_or rest 0) (Some (word_or rest 1)) ≡ Ok pair
+    → pairs_at position words ≡ with_value (pairs_at (here + 2) (texts_of (take (length rest - 2) (drop 2 rest)))) (λ ps.
     Ok ((front ++ pair ∷ []) ++ ps))
-pairs_at-more {Z} at position words rest front pair two is found =
+pairs_at-more {Z} position here words rest front pair two is found =
     let many : 2 ≤ length (texts_of rest) = omega (arith, length-map rest (λ word. chars (string_bytes word))) in
-    is ∙ ap (λ ps. with_value ps (λ qs. Ok (front ++ qs))) (pairs_at-two position (texts_of rest) many)
-    ∙ ap (λ p. with_value (and_pairs p (pairs_at (position + 2) (drop 2 (texts_of rest)))) (λ qs. Ok (front ++ qs)))
+    is ∙ ap (λ ps. with_value ps (λ qs. Ok (front ++ qs))) (pairs_at-two here (texts_of rest) many)
+    ∙ ap (λ p. with_value (and_pairs p (pairs_at (here + 2) (drop 2 (texts_of rest)))) (λ qs. Ok (front ++ qs)))
     found
-    ∙ and_pairs-more front pair (pairs_at (position + 2) (drop 2 (texts_of rest)))
-    ∙ ap (λ ws. with_value (pairs_at (position + 2) ws) (λ ps. Ok ((front ++ pair ∷ []) ++ ps)))
+    ∙ and_pairs-more front pair (pairs_at (here + 2) (drop 2 (texts_of rest)))
+    ∙ ap (λ ws. with_value (pairs_at (here + 2) ws) (λ ps. Ok ((front ++ pair ∷ []) ++ ps)))
     (drop-map (λ word. chars (string_bytes word)) 2 rest ∙ ap texts_of (sym (take_rest rest 2)))
 
 span-fits : (start len from to : ℕ) → from ≤ len → to ≤ len → SpanFits (start + len) (span start from to)

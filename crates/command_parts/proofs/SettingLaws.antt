@@ -14,13 +14,13 @@ use Rattle.command_parts.specs.Faults.{with_value}
 use Rattle.command_parts.specs.Settings.{line_numbered, line_of_word, setting_read, settings_read}
 use Rattle.command_parts.proofs.PairLaws.{word_or}
 
-settings_read-two : (lines at : ℕ) (words : List (List ℕ)) (settings : Settings) → 2 ≤ length words
-    → settings_read lines at words settings
-    ≡ with_value (setting_read lines (at + 1) (get_or words 0 []) (get_or words 1 []) settings)
-    (settings_read lines (at + 2) (drop 2 words))
-settings_read-two lines at [] settings two = absurd (omega arith)
-settings_read-two lines at (option ∷ []) settings two = absurd (omega arith)
-settings_read-two lines at (option ∷ value ∷ words) settings two = refl
+settings_read-two : (lines position : ℕ) (words : List (List ℕ)) (settings : Settings) → 2 ≤ length words
+    → settings_read lines position words settings
+    ≡ with_value (setting_read lines (position + 1) (get_or words 0 []) (get_or words 1 []) settings)
+    (settings_read lines (position + 2) (drop 2 words))
+settings_read-two lines position [] settings two = absurd (omega arith)
+settings_read-two lines position (option ∷ []) settings two = absurd (omega arith)
+settings_read-two lines position (option ∷ value ∷ words) settings two = refl
 
 -- the first two words of the rest are read
 settings_read-first : {Z : Type 0} (lines position : ℕ) (rest : List (String Z)) (settings : Settings)
@@ -68,17 +68,17 @@ line_of_word-some : (word : List ℕ) → 0 < length word → line_of_word word 
 line_of_word-some [] some = absurd (omega arith)
 line_of_word-some (c ∷ cs) some = refl
 
-same_fault : (at : ℕ) (integer : Option ℤ) (found : Result ℤ Fault) (fault : Fault) →
-    found ≡ ok_or integer (BadInteger at) → found ≡ Err fault
-    → Err fault ≡ ok_or (line_of_integer integer) (BadInteger at)
-same_fault at None found fault is err = let same : BadInteger at
-    ≡ fault = (let h : Err (BadInteger at) ≡ Err fault = sym is ∙ err in cc) in ap Err (sym same)
-same_fault at (Some number) found fault is err = absurd (let h : Ok number ≡ Err fault = sym is ∙ err in cc)
+same_fault : (position : ℕ) (integer : Option ℤ) (found : Result ℤ Fault) (fault : Fault) →
+    found ≡ ok_or integer (BadInteger position) → found ≡ Err fault
+    → Err fault ≡ ok_or (line_of_integer integer) (BadInteger position)
+same_fault position None found fault is err = let same : BadInteger position
+    ≡ fault = (let h : Err (BadInteger position) ≡ Err fault = sym is ∙ err in cc) in ap Err (sym same)
+same_fault position (Some number) found fault is err = absurd (let h : Ok number ≡ Err fault = sym is ∙ err in cc)
 
 -- a word that is no integer is no line
-pub line_of_word-fault : (at : ℕ) (word : List ℕ) (found : Result ℤ Fault) (fault : Fault) → 0 < length word →
-    found ≡ ok_or (integer_of word) (BadInteger at) → found ≡ Err fault
-    → Err fault ≡ ok_or (line_of_word word) (BadInteger at)
-line_of_word-fault at word found fault some is err =
-    same_fault at (integer_of word) found fault is err
-    ∙ ap (λ line. ok_or line (BadInteger at)) (sym (line_of_word-some word some))
+pub line_of_word-fault : (position : ℕ) (word : List ℕ) (found : Result ℤ Fault) (fault : Fault) → 0 < length word →
+    found ≡ ok_or (integer_of word) (BadInteger position) → found ≡ Err fault
+    → Err fault ≡ ok_or (line_of_word word) (BadInteger position)
+line_of_word-fault position word found fault some is err =
+    same_fault position (integer_of word) found fault is err
+    ∙ ap (λ line. ok_or line (BadInteger position)) (sym (line_of_word-some word some))

@@ -40,24 +40,24 @@ found_swap None other slots = refl
 found_swap (Some one) None slots = refl
 found_swap (Some one) (Some other) slots = insert_swap slots other one
 
-slots_named-push : (tags : List Tag) (widget : ℕ) (names : List (List ℕ)) (name : List ℕ)
-    → slots_named tags widget (names ++ name ∷ [])
-    ≡ with_found (known_tags tags widget name) (slots_named tags widget names)
-slots_named-push tags widget [] name = refl
-slots_named-push tags widget (first ∷ names) name =
-    ap (with_found (known_tags tags widget first)) (slots_named-push tags widget names name)
-    ∙ found_swap (known_tags tags widget first) (known_tags tags widget name) (slots_named tags widget names)
+slots_named-push : (tags : List Tag) (own : ℕ) (names : List (List ℕ)) (name : List ℕ)
+    → slots_named tags own (names ++ name ∷ [])
+    ≡ with_found (known_tags tags own name) (slots_named tags own names)
+slots_named-push tags own [] name = refl
+slots_named-push tags own (first ∷ names) name =
+    ap (with_found (known_tags tags own first)) (slots_named-push tags own names name)
+    ∙ found_swap (known_tags tags own first) (known_tags tags own name) (slots_named tags own names)
 
 -- the slot of a name more
-pub slots_named-step : {Z : Type 0} (tags : List Tag) (widget : ℕ) (words : List (String Z)) (at : ℕ) (word : String Z)
+pub slots_named-step : {Z : Type 0} (tags : List Tag) (own : ℕ) (words : List (String Z)) (at : ℕ) (word : String Z)
     (bytes : List ℕ) → at < length words → word ≡ get_or words at word → bytes ≡ string_bytes word
-    → with_found (known_tags tags widget (chars bytes)) (slots_named tags widget (texts_of (take at words)))
-    ≡ slots_named tags widget (texts_of (take (at + 1) words))
-slots_named-step {Z} tags widget words at word bytes within is bytes_are =
-    ap (λ bs. with_found (known_tags tags widget (chars bs)) (slots_named tags widget (texts_of (take at words))))
+    → with_found (known_tags tags own (chars bytes)) (slots_named tags own (texts_of (take at words)))
+    ≡ slots_named tags own (texts_of (take (at + 1) words))
+slots_named-step {Z} tags own words at word bytes within is bytes_are =
+    ap (λ bs. with_found (known_tags tags own (chars bs)) (slots_named tags own (texts_of (take at words))))
     bytes_are
-    ∙ sym (slots_named-push tags widget (texts_of (take at words)) (chars (string_bytes word)))
-    ∙ ap (slots_named tags widget) (sym (map-append (λ w. chars (string_bytes w)) (take at words) (word ∷ []))
+    ∙ sym (slots_named-push tags own (texts_of (take at words)) (chars (string_bytes word)))
+    ∙ ap (slots_named tags own) (sym (map-append (λ w. chars (string_bytes w)) (take at words) (word ∷ []))
     ∙ ap texts_of (sym (take-more words at word within is)))
 
 -- a word more

@@ -44,52 +44,52 @@ takes-more numbers at default steps within old =
 -- the steps that take it out
 abbrev pub drops : List TagSlot → List Step
 drops [] = []
-drops (widget ∷ widgets) = ClearSlot widget ∷ TakeMark (record { 0 = 2 * widget.0 })
-    ∷ TakeMark (record { 0 = 2 * widget.0 + 1 }) ∷ drops widgets
+drops (slot ∷ slots) = ClearSlot slot ∷ TakeMark (record { 0 = 2 * slot.0 })
+    ∷ TakeMark (record { 0 = 2 * slot.0 + 1 }) ∷ drops slots
 
-drops-append : (widgets more : List TagSlot) → drops (widgets ++ more) ≡ drops widgets ++ drops more
+drops-append : (slots more : List TagSlot) → drops (slots ++ more) ≡ drops slots ++ drops more
 drops-append [] more = refl
-drops-append (widget ∷ widgets) more =
-    ap (λ ss. ClearSlot widget ∷ TakeMark (record { 0 = 2 * widget.0 }) ∷ TakeMark (record { 0 = 2 * widget.0 + 1 })
-    ∷ ss) (drops-append widgets more)
+drops-append (slot ∷ slots) more =
+    ap (λ ss. ClearSlot slot ∷ TakeMark (record { 0 = 2 * slot.0 }) ∷ TakeMark (record { 0 = 2 * slot.0 + 1 })
+    ∷ ss) (drops-append slots more)
 
-pub drops-fit : (widgets : List TagSlot) (content : Content) →
-    All (λ (widget : TagSlot). widget.0 < MOST_WIDGETS) widgets → Fits (drops widgets) content
+pub drops-fit : (slots : List TagSlot) (content : Content) →
+    All (λ (slot : TagSlot). slot.0 < MOST_WIDGETS) slots → Fits (drops slots) content
 drops-fit [] content known = tt
-drops-fit (widget ∷ widgets) content known =
-    let fits : widget.0 < slot_count = omega (
+drops-fit (slot ∷ slots) content known =
+    let fits : slot.0 < slot_count = omega (
       arith,
-      All-head (λ (widget : TagSlot). widget.0 < MOST_WIDGETS) widget widgets known,
+      All-head (λ (slot : TagSlot). slot.0 < MOST_WIDGETS) slot slots known,
     ) in (
       fits,
       (
         tt,
         (
           tt,
-          drops-fit widgets (without_widget widget.0 content)
-              (All-tail (λ (widget : TagSlot). widget.0 < MOST_WIDGETS) widget widgets known),
+          drops-fit slots (without_widget slot.0 content)
+              (All-tail (λ (slot : TagSlot). slot.0 < MOST_WIDGETS) slot slots known),
         ),
       ),
     )
 
-pub drops-after : (widgets : List TagSlot) (content : Content) →
-    after (drops widgets) content ≡ without_widgets (map (λ (widget : TagSlot). widget.0) widgets) content
+pub drops-after : (slots : List TagSlot) (content : Content) →
+    after (drops slots) content ≡ without_widgets (map (λ (slot : TagSlot). slot.0) slots) content
 drops-after [] content = refl
-drops-after (widget ∷ widgets) content = drops-after widgets (without_widget widget.0 content)
+drops-after (slot ∷ slots) content = drops-after slots (without_widget slot.0 content)
 
-pub drops-more : (widgets : List TagSlot) (at : ℕ) (default : TagSlot) (steps : List Step) → at < length widgets →
-    steps ≡ drops (take at widgets)
-    → ((steps ++ ClearSlot (get_or widgets at default) ∷ [])
-    ++ TakeMark (record { 0 = 2 * (get_or widgets at default).0 }) ∷ [])
-    ++ TakeMark (record { 0 = 2 * (get_or widgets at default).0 + 1 }) ∷ []
-    ≡ drops (take (at + 1) widgets)
-drops-more widgets at default steps within old =
-    let widget = get_or widgets at default in
-    append_assoc (steps ++ ClearSlot widget ∷ []) (TakeMark (record { 0 = 2 * widget.0 }) ∷ [])
-    (TakeMark (record { 0 = 2 * widget.0 + 1 }) ∷ [])
-    ∙ append_assoc steps (ClearSlot widget ∷ []) (TakeMark (record { 0 = 2 * widget.0 })
-    ∷ TakeMark (record { 0 = 2 * widget.0 + 1 }) ∷ [])
-    ∙ ap (λ ss. ss ++ drops (widget ∷ [])) old
-    ∙ sym (drops-append (take at widgets) (widget ∷ []))
-    ∙ ap drops (sym (ap (λ n. take n widgets) (let h : at + 1 ≡ suc at = omega arith in h)
-    ∙ take-suc widgets at default within))
+pub drops-more : (slots : List TagSlot) (at : ℕ) (default : TagSlot) (steps : List Step) → at < length slots →
+    steps ≡ drops (take at slots)
+    → ((steps ++ ClearSlot (get_or slots at default) ∷ [])
+    ++ TakeMark (record { 0 = 2 * (get_or slots at default).0 }) ∷ [])
+    ++ TakeMark (record { 0 = 2 * (get_or slots at default).0 + 1 }) ∷ []
+    ≡ drops (take (at + 1) slots)
+drops-more slots at default steps within old =
+    let slot = get_or slots at default in
+    append_assoc (steps ++ ClearSlot slot ∷ []) (TakeMark (record { 0 = 2 * slot.0 }) ∷ [])
+    (TakeMark (record { 0 = 2 * slot.0 + 1 }) ∷ [])
+    ∙ append_assoc steps (ClearSlot slot ∷ []) (TakeMark (record { 0 = 2 * slot.0 })
+    ∷ TakeMark (record { 0 = 2 * slot.0 + 1 }) ∷ [])
+    ∙ ap (λ ss. ss ++ drops (slot ∷ [])) old
+    ∙ sym (drops-append (take at slots) (slot ∷ []))
+    ∙ ap drops (sym (ap (λ n. take n slots) (let h : at + 1 ≡ suc at = omega arith in h)
+    ∙ take-suc slots at default within))

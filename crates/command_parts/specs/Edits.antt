@@ -21,20 +21,20 @@ first_content = record new_content { marks = finite.insert (finite.insert finite
 
 -- both marks of a widget's own at a place; the widget is known by its slot
 abbrev pub with_own_marks : ℕ → Place → Content → Content
-with_own_marks widget place content = record content {
-  marks = finite.insert (finite.insert content.marks (2 * widget) place) (2 * widget + 1) place;
+with_own_marks slot place content = record content {
+  marks = finite.insert (finite.insert content.marks (2 * slot) place) (2 * slot + 1) place;
 }
 
 -- without what a widget has of its own: the slot of its `sel`, and its two marks
 abbrev pub without_widget : ℕ → Content → Content
-without_widget widget content = record {
-  cells = map (with_slot widget false) content.cells;
-  marks = taken ((2 * widget) ∷ (2 * widget + 1) ∷ []) content.marks;
+without_widget slot content = record {
+  cells = map (with_slot slot false) content.cells;
+  marks = taken ((2 * slot) ∷ (2 * slot + 1) ∷ []) content.marks;
 }
 
 abbrev pub without_widgets : List ℕ → Content → Content
 without_widgets [] content = content
-without_widgets (widget ∷ widgets) content = without_widgets widgets (without_widget widget content)
+without_widgets (slot ∷ slots) content = without_widgets slots (without_widget slot content)
 
 -- how many of so many cells are left where those from one offset to another go, both cut to the last that a widget
 -- shows

@@ -31,9 +31,9 @@ and_pairs pair pairs = with_value pair (λ pair. with_value pairs (λ pairs. Ok 
 
 -- `chars ?tagList chars ..?`, from a position on
 abbrev pub pairs_at : ℕ → List (List ℕ) → Result (List Pair) Fault
-pairs_at at [] = Ok []
-pairs_at at (text ∷ []) = and_pairs (pair_at at text None) (Ok [])
-pairs_at at (text ∷ list ∷ words) = and_pairs (pair_at at text (Some list)) (pairs_at (at + 2) words)
+pairs_at position [] = Ok []
+pairs_at position (text ∷ []) = and_pairs (pair_at position text None) (Ok [])
+pairs_at position (text ∷ list ∷ words) = and_pairs (pair_at position text (Some list)) (pairs_at (position + 2) words)
 
 abbrev pub listed_names : Option (List (List ℕ)) → List (List ℕ)
 listed_names None = []

@@ -68,32 +68,32 @@ end_bound lines (Some line) = if nat_le line lines then Some line else None
 -- the settings with the value of an option, which stands at a position, for a document of so many lines; the name is
 -- one of the options
 abbrev pub setting_read : ℕ → ℕ → List ℕ → List ℕ → Settings → Result Settings Fault
-setting_read lines at option value settings =
+setting_read lines position option value settings =
     if is_same option (literal "-undo")
-    then with_value (ok_or (boolean_of value) (BadBoolean at)) (λ undo.
+    then with_value (ok_or (boolean_of value) (BadBoolean position)) (λ undo.
     Ok (record settings { document = record settings.document { undo = undo } }))
     else (if is_same option (literal "-maxundo")
-    then with_value (ok_or (integer_of value) (BadInteger at)) (λ most.
+    then with_value (ok_or (integer_of value) (BadInteger position)) (λ most.
     Ok (record settings { document = record settings.document { most_undo = most } }))
     else (if is_same option (literal "-autoseparators")
-    then with_value (ok_or (boolean_of value) (BadBoolean at)) (λ separators.
+    then with_value (ok_or (boolean_of value) (BadBoolean position)) (λ separators.
     Ok (record settings { document = record settings.document { separators = separators } }))
     else (if is_same option (literal "-state")
-    then with_value (ok_or (state_of value) (BadOption at)) (λ disabled.
+    then with_value (ok_or (state_of value) (BadOption position)) (λ disabled.
     Ok (record settings { disabled = disabled }))
     else (if is_same option (literal "-startline")
-    then with_value (ok_or (line_of_word value) (BadInteger at)) (λ line.
+    then with_value (ok_or (line_of_word value) (BadInteger position)) (λ line.
     Ok (record settings { start = start_bound lines line }))
-    else with_value (ok_or (line_of_word value) (BadInteger at)) (λ line.
+    else with_value (ok_or (line_of_word value) (BadInteger position)) (λ line.
     Ok (record settings { end = end_bound lines line }))))))
 
 -- the settings with the values of options, of which the first stands at a position, so that the last value of an option
 -- counts
 abbrev pub settings_read : ℕ → ℕ → List (List ℕ) → Settings → Result Settings Fault
-settings_read lines at [] settings = Ok settings
-settings_read lines at (option ∷ []) settings = Err WrongArguments
-settings_read lines at (option ∷ value ∷ words) settings =
-    with_value (setting_read lines (at + 1) option value settings) (settings_read lines (at + 2) words)
+settings_read lines position [] settings = Ok settings
+settings_read lines position (option ∷ []) settings = Err WrongArguments
+settings_read lines position (option ∷ value ∷ words) settings =
+    with_value (setting_read lines (position + 1) option value settings) (settings_read lines (position + 2) words)
 
 -- a line stands behind another one, where both are there
 abbrev pub is_behind : Option ℕ → Option ℕ → Bool

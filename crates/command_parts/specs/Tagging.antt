@@ -22,15 +22,15 @@ with_found (Some slot) slots = set.insert slots slot
 
 -- the slots of the tags of these names, for a widget
 abbrev pub slots_named : List Tag → ℕ → List (List ℕ) → Slots
-slots_named tags widget [] = set.empty
-slots_named tags widget (name ∷ names) = with_found (known_tags tags widget name) (slots_named tags widget names)
+slots_named tags own [] = set.empty
+slots_named tags own (name ∷ names) = with_found (known_tags tags own name) (slots_named tags own names)
 
 abbrev pub piece_of : List Tag → ℕ → Pair → Piece
-piece_of tags widget pair = record { text = pair.text; slots = option_map (slots_named tags widget) pair.names }
+piece_of tags own pair = record { text = pair.text; slots = option_map (slots_named tags own) pair.names }
 
 -- the slot that a tag of the table has for a widget: that of `sel` is the widget's own
 abbrev pub own_slot : ℕ → ℕ → ℕ
-own_slot widget slot = if slot == 0 then widget else slot
+own_slot own slot = if slot == 0 then own else slot
 
 -- the slot of a tag that goes; `sel` stays
 abbrev pub slot_taken : Option ℕ → Option ℕ

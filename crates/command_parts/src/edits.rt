@@ -35,19 +35,19 @@ fn make<S: TextStore>(store: &mut S, edit: Edit) -> Result<(), AllocError>
 }
 
 /// An edit that puts both marks of a widget's own before the character at an offset, with right gravity.
-fn own_marks(alloc: Global, widget: TagSlot, offset: usize) -> Result<Edit, AllocError>
-    requires { widget.0 < MOST_WIDGETS }
+fn own_marks(alloc: Global, slot: TagSlot, offset: usize) -> Result<Edit, AllocError>
+    requires { slot.0 < MOST_WIDGETS }
     ensures { IfOk result (λ edit. let place : Place = record { offset = offset; gravity = Gravity.Right } in
-        edit.steps ≡ Step.PutMark (record { 0 = 2 * widget.0 }) place
-        ∷ Step.PutMark (record { 0 = 2 * widget.0 + 1 }) place ∷ []) }
+        edit.steps ≡ Step.PutMark (record { 0 = 2 * slot.0 }) place
+        ∷ Step.PutMark (record { 0 = 2 * slot.0 + 1 }) place ∷ []) }
 {
     let place = Place {
         offset,
         gravity: Gravity::Right,
     };
     let mut steps = StepList::new(alloc);
-    steps.push(Step::PutMark(MarkNo(2 * widget.0), place))?;
-    steps.push(Step::PutMark(MarkNo(2 * widget.0 + 1), place))?;
+    steps.push(Step::PutMark(MarkNo(2 * slot.0), place))?;
+    steps.push(Step::PutMark(MarkNo(2 * slot.0 + 1), place))?;
     Ok(Edit { steps })
 }
 
@@ -56,16 +56,16 @@ fn own_marks(alloc: Global, widget: TagSlot, offset: usize) -> Result<Edit, Allo
 pub fn put_widget_marks<S: TextStore>(
     alloc: Global,
     store: &mut S,
-    widget: TagSlot,
+    slot: TagSlot,
     offset: usize,
 ) -> Result<(), AllocError>
-    requires known { widget.0 < MOST_WIDGETS }
+    requires known { slot.0 < MOST_WIDGETS }
     requires within { offset ≤ length (S.content store.old).cells }
     ensures ok { OnOk result (S.content store.new
-        ≡ with_own_marks widget.0 (record { offset = offset; gravity = Gravity.Right }) (S.content store.old)) }
+        ≡ with_own_marks slot.0 (record { offset = offset; gravity = Gravity.Right }) (S.content store.old)) }
     ensures err { OnErr result (S.content store.new ≡ S.content store.old) }
 {
-    make(store, own_marks(alloc, widget, offset)?)
+    make(store, own_marks(alloc, slot, offset)?)
 }
 
 /// Puts a mark at a place.
@@ -119,19 +119,19 @@ pub fn new_store<S: TextStore>(alloc: Global) -> Result<S, AllocError>
 pub fn prepare_drop<S: TextStore>(
     alloc: Global,
     store: &mut S,
-    widgets: &[TagSlot],
+    slots: &[TagSlot],
 ) -> Result<S::Prepared, AllocError>
-    requires { All (λ (widget : TagSlot). widget.0 < MOST_WIDGETS) widgets.now }
+    requires { All (λ (slot : TagSlot). slot.0 < MOST_WIDGETS) slots.now }
     ensures same { S.content store.new ≡ S.content store.old }
     ensures ready { IfOk result (λ change. S.ready store.new change) }
     ensures outcome { IfOk result (λ change. S.outcome store.new change
-        ≡ without_widgets (map (λ widget. widget.0) widgets.now) (S.content store.old)) }
+        ≡ without_widgets (map (λ slot. slot.0) slots.now) (S.content store.old)) }
 {
     let mut steps = StepList::new(alloc);
-    for widget in widgets {
-        steps.push(Step::ClearSlot(*widget))?;
-        steps.push(Step::TakeMark(MarkNo(2 * widget.0)))?;
-        steps.push(Step::TakeMark(MarkNo(2 * widget.0 + 1)))?;
+    for slot in slots {
+        steps.push(Step::ClearSlot(*slot))?;
+        steps.push(Step::TakeMark(MarkNo(2 * slot.0)))?;
+        steps.push(Step::TakeMark(MarkNo(2 * slot.0 + 1)))?;
     }
     store.prepare(&Edit { steps })
 }

@@ -190,18 +190,18 @@ fn push_wanted(list: &mut String, name: &str, is_wanted: bool) -> Result<(), All
 pub fn push_names_in(
     list: &mut String,
     tags: &TagTable,
-    widget: TagSlot,
+    own: TagSlot,
     slots: TagSet,
 ) -> Result<(), AllocError>
-    requires { widget.0 < MOST_WIDGETS }
+    requires { own.0 < MOST_WIDGETS }
     ensures { OnOk result (Goes (string_bytes list.old) (string_bytes list.new)
-        (names_of (filter (λ tag. set.contains slots (own_slot widget.0 tag.slot)) tags.now.tags))) }
+        (names_of (filter (λ tag. set.contains slots (own_slot own.0 tag.slot)) tags.now.tags))) }
 {
     for place in 0..tags.len() {
         push_wanted(
             list,
             tags.name(place),
-            slots.has(own_slot(tags.slot(place), widget)),
+            slots.has(own_slot(tags.slot(place), own)),
         )?;
     }
     Ok(())

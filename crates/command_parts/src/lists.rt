@@ -60,26 +60,26 @@ fn pair_at(alloc: Global, position: usize, text: &str, list: Option<&str>) -> Re
 }
 
 /// Texts with their tag lists, of which the first text stands at a position. The last list may be left out.
-pub fn pairs_at(alloc: Global, at: usize, words: &[String]) -> Result<Vec<Pair>, Fault>
-    requires { at + length words.now ≤ usize.MAX }
-    ensures ok { IfOk result (λ pairs. pairs_at at (texts_of words.now) ≡ Ok pairs.items) }
-    ensures err { IfErr result (λ fault. fault ≢ Memory → pairs_at at (texts_of words.now) ≡ Err fault) }
+pub fn pairs_at(alloc: Global, position: usize, words: &[String]) -> Result<Vec<Pair>, Fault>
+    requires { position + length words.now ≤ usize.MAX }
+    ensures ok { IfOk result (λ pairs. pairs_at position (texts_of words.now) ≡ Ok pairs.items) }
+    ensures err { IfErr result (λ fault. fault ≢ Memory → pairs_at position (texts_of words.now) ≡ Err fault) }
 {
     let mut pairs = Vec::with_capacity(alloc, words.len() / 2 + 1)?;
-    let mut position = at;
+    let mut here = position;
     let mut rest = words;
     while rest.len() >= 2 {
-        match pair_at(alloc, position, rest[0].as_str(), Some(rest[1].as_str())) {
+        match pair_at(alloc, here, rest[0].as_str(), Some(rest[1].as_str())) {
             Err(fault) => return Err(fault),
             Ok(pair) => pairs.push(pair)?,
         }
         rest = &rest[2..];
-        position += 2;
+        here += 2;
     }
     if rest.is_empty() {
         return Ok(pairs);
     }
-    match pair_at(alloc, position, rest[0].as_str(), None) {
+    match pair_at(alloc, here, rest[0].as_str(), None) {
         Err(fault) => Err(fault),
         Ok(pair) => {
             pairs.push(pair)?;

@@ -228,20 +228,20 @@ impl Settings {
 
     /// The settings with the values of options, each a name with its value behind it, for a document of so many lines.
     /// The first stands at a position.
-    pub fn read(self, at: usize, words: &[String], lines: usize) -> Result<Settings, Fault>
-        requires { at + length words.now ≤ usize.MAX }
-        ensures { result ≡ settings_read lines at (texts_of words.now) self }
+    pub fn read(self, position: usize, words: &[String], lines: usize) -> Result<Settings, Fault>
+        requires { position + length words.now ≤ usize.MAX }
+        ensures { result ≡ settings_read lines position (texts_of words.now) self }
     {
         let mut settings = self;
-        let mut position = at;
+        let mut here = position;
         let mut rest = words;
         while rest.len() >= 2 {
-            match settings.read_one(position + 1, rest[0].as_str(), rest[1].as_str(), lines) {
+            match settings.read_one(here + 1, rest[0].as_str(), rest[1].as_str(), lines) {
                 Err(fault) => return Err(fault),
                 Ok(next) => settings = next,
             }
             rest = &rest[2..];
-            position += 2;
+            here += 2;
         }
         if rest.is_empty() {
             Ok(settings)

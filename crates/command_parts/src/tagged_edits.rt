@@ -32,16 +32,16 @@ use undo_stack::EditKind;
 fn make_pieces(
     alloc: Global,
     tags: &mut TagTable,
-    widget: TagSlot,
+    own: TagSlot,
     pairs: Vec<Pair>,
 ) -> Result<Vec<Piece>, AllocError>
     requires roomy { tags.old.limit ≡ MOST_TAGS }
     requires few { length (with_names (names_of tags.old.tags) (all_names pairs.items)) ≤ MOST_TAGS + 1 }
-    requires known { widget.0 < MOST_WIDGETS }
+    requires known { own.0 < MOST_WIDGETS }
     ensures front { IsFront tags.old tags.new }
     ensures sound { OnOk result (AreTags tags.new) }
     ensures made { OnOk result (names_of tags.new.tags ≡ with_names (names_of tags.old.tags) (all_names pairs.items)) }
-    ensures pieces { IfOk result (λ pieces. pieces.items ≡ map (piece_of tags.new.tags widget.0) pairs.items) }
+    ensures pieces { IfOk result (λ pieces. pieces.items ≡ map (piece_of tags.new.tags own.0) pairs.items) }
 {
     match make_listed(alloc, tags, pairs.as_slice()) {
         Err(Fault::Memory) => Err(AllocError),
@@ -49,7 +49,7 @@ fn make_pieces(
         Ok(()) => {
             // Where the tags are counted, they are known to be those of a table.
             let _count = tags.len();
-            pieces_of(alloc, tags, widget, pairs)
+            pieces_of(alloc, tags, own, pairs)
         }
     }
 }
@@ -59,7 +59,7 @@ fn make_pieces(
 pub fn put_pairs<S: TextStore>(
     rules: &EditRules<'_>,
     tags: &mut TagTable,
-    widget: TagSlot,
+    own: TagSlot,
     text: &mut EditedText<S>,
     at: usize,
     pairs: Vec<Pair>,
@@ -67,14 +67,14 @@ pub fn put_pairs<S: TextStore>(
     requires within { at < length (S.content text.old.store).cells }
     requires stand { All (AnchorsStand (length (S.content text.old.store).cells)) text.old.anchors.items }
     requires roomy { tags.old.limit ≡ MOST_TAGS }
-    requires known { widget.0 < MOST_WIDGETS }
+    requires known { own.0 < MOST_WIDGETS }
     ensures bounds { AreLimits rules.now.limits.now }
     ensures front { IsFront tags.old tags.new }
     ensures sound { OnOk result (AreTags tags.new) }
     ensures scalars { All (λ pair. All IsScalar pair.text) pairs.items }
     ensures made { OnOk result (names_of tags.new.tags ≡ with_names (names_of tags.old.tags) (all_names pairs.items)) }
     ensures ok { OnOk result (state_in S.content text.new
-        ≡ inserted_texts rules.now.recording EditKind.Insert at (map (piece_of tags.new.tags widget.0) pairs.items)
+        ≡ inserted_texts rules.now.recording EditKind.Insert at (map (piece_of tags.new.tags own.0) pairs.items)
         (state_in S.content text.old)) }
     ensures room { OnOk result (excess rules.now.limits.now
         (length (with_names (names_of tags.old.tags) (all_names pairs.items)))
@@ -87,7 +87,7 @@ pub fn put_pairs<S: TextStore>(
     if let Some(fault) = excess_of(rules.limits, tags, pairs.as_slice(), text.store.len()) {
         return Err(fault);
     }
-    let pieces = make_pieces(rules.alloc, tags, widget, pairs)?;
+    let pieces = make_pieces(rules.alloc, tags, own, pairs)?;
     put_texts(rules, text, at, &pieces)
 }
 
@@ -96,7 +96,7 @@ pub fn put_pairs<S: TextStore>(
 pub fn replace_pairs<S: TextStore>(
     rules: &EditRules<'_>,
     tags: &mut TagTable,
-    widget: TagSlot,
+    own: TagSlot,
     text: &mut EditedText<S>,
     target: Target,
     pairs: Vec<Pair>,
@@ -105,7 +105,7 @@ pub fn replace_pairs<S: TextStore>(
     requires ordered { target.from ≤ target.to }
     requires stand { All (AnchorsStand (length (S.content text.old.store).cells)) text.old.anchors.items }
     requires roomy { tags.old.limit ≡ MOST_TAGS }
-    requires known { widget.0 < MOST_WIDGETS }
+    requires known { own.0 < MOST_WIDGETS }
     ensures bounds { AreLimits rules.now.limits.now }
     ensures front { IsFront tags.old tags.new }
     ensures sound { OnOk result (AreTags tags.new) }
@@ -113,7 +113,7 @@ pub fn replace_pairs<S: TextStore>(
     ensures made { OnOk result (names_of tags.new.tags ≡ with_names (names_of tags.old.tags) (all_names pairs.items)) }
     ensures ok { OnOk result (state_in S.content text.new
         ≡ replaced rules.now.recording target.mark.0 target.last target.from target.to
-        (map (piece_of tags.new.tags widget.0) pairs.items) (state_in S.content text.old)) }
+        (map (piece_of tags.new.tags own.0) pairs.items) (state_in S.content text.old)) }
     ensures room { OnOk result (excess rules.now.limits.now
         (length (with_names (names_of tags.old.tags) (all_names pairs.items)))
         (length_replaced (length (S.content text.old.store).cells) target.last target.from target.to
@@ -129,7 +129,7 @@ pub fn replace_pairs<S: TextStore>(
     if let Some(fault) = excess_of(rules.limits, tags, pairs.as_slice(), left) {
         return Err(fault);
     }
-    let pieces = make_pieces(rules.alloc, tags, widget, pairs)?;
+    let pieces = make_pieces(rules.alloc, tags, own, pairs)?;
     replace_texts(rules, text, target, &pieces)
 }
 
@@ -138,7 +138,7 @@ pub fn replace_pairs<S: TextStore>(
 pub fn tag_spans<S: TextStore>(
     alloc: Global,
     tags: &mut TagTable,
-    widget: TagSlot,
+    own: TagSlot,
     text: &mut EditedText<S>,
     name: &str,
     spans: &[Span],
@@ -146,12 +146,12 @@ pub fn tag_spans<S: TextStore>(
     requires spans { All (SpanFits (length (S.content text.old.store).cells)) spans.now }
     requires roomy { tags.old.limit ≡ MOST_TAGS }
     requires few { length (with_name (names_of tags.old.tags) (chars name.now)) ≤ MOST_TAGS + 1 }
-    requires known { widget.0 < MOST_WIDGETS }
+    requires known { own.0 < MOST_WIDGETS }
     ensures front { IsFront tags.old tags.new }
     ensures sound { OnOk result (AreTags tags.new) }
     ensures made { OnOk result (names_of tags.new.tags ≡ with_name (names_of tags.old.tags) (chars name.now)) }
     ensures ok { OnOk result (option_map (λ slot. tagged slot true spans.now (S.content text.old.store))
-        (known_tags tags.new.tags widget.0 (chars name.now))
+        (known_tags tags.new.tags own.0 (chars name.now))
         ≡ Some (S.content text.new.store)) }
     ensures err { OnErr result (S.content text.new.store ≡ S.content text.old.store) }
     ensures log { log_of text.new.history ≡ log_of text.old.history }
@@ -163,7 +163,7 @@ pub fn tag_spans<S: TextStore>(
         Ok(slot) => {
             // Where the tags are counted, they are known to be those of a table.
             let _count = tags.len();
-            match set_slot(alloc, text, spans, own_slot(slot, widget), true) {
+            match set_slot(alloc, text, spans, own_slot(slot, own), true) {
                 Err(_) => Err(AllocError),
                 Ok(()) => Ok(()),
             }

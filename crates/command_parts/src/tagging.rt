@@ -82,67 +82,67 @@ pub fn make_listed(alloc: Global, tags: &mut TagTable, pairs: &[Pair]) -> Result
 }
 
 /// The slot of a tag of the table, for a widget: that of `sel` is the widget's own.
-pub fn own_slot(slot: TagSlot, widget: TagSlot) -> TagSlot
-    requires { widget.0 < MOST_WIDGETS }
-    ensures value { result.0 ≡ own_slot widget.0 slot.0 }
+pub fn own_slot(slot: TagSlot, own: TagSlot) -> TagSlot
+    requires { own.0 < MOST_WIDGETS }
+    ensures value { result.0 ≡ own_slot own.0 slot.0 }
     ensures bound { slot.0 < slot_count → result.0 < slot_count }
 {
-    if slot.0 == 0 { widget } else { slot }
+    if slot.0 == 0 { own } else { slot }
 }
 
 /// The slot of the tag of a name, for a widget that is known by its own slot: `sel` is the widget's own.
-pub fn find_tag(tags: &TagTable, widget: TagSlot, name: &str) -> Option<TagSlot>
-    requires { widget.0 < MOST_WIDGETS }
-    ensures value { option_map (λ slot. slot.0) result ≡ known_tags tags.now.tags widget.0 (chars name.now) }
+pub fn find_tag(tags: &TagTable, own: TagSlot, name: &str) -> Option<TagSlot>
+    requires { own.0 < MOST_WIDGETS }
+    ensures value { option_map (λ slot. slot.0) result ≡ known_tags tags.now.tags own.0 (chars name.now) }
     ensures bound { IfSome result (λ slot. slot.0 < slot_count) }
 {
     match tags.find(name) {
         None => None,
-        Some(slot) => Some(own_slot(slot, widget)),
+        Some(slot) => Some(own_slot(slot, own)),
     }
 }
 
 /// A set of slots with that of a tag, if there is one.
-fn with_found(slots: TagSet, tags: &TagTable, widget: TagSlot, name: &str) -> TagSet
-    requires { widget.0 < MOST_WIDGETS }
-    ensures { result ≡ with_found (known_tags tags.now.tags widget.0 (chars name.now)) slots }
+fn with_found(slots: TagSet, tags: &TagTable, own: TagSlot, name: &str) -> TagSet
+    requires { own.0 < MOST_WIDGETS }
+    ensures { result ≡ with_found (known_tags tags.now.tags own.0 (chars name.now)) slots }
 {
-    match find_tag(tags, widget, name) {
+    match find_tag(tags, own, name) {
         None => slots,
         Some(slot) => slots.with(slot),
     }
 }
 
 /// The slots of the tags of these names, for a widget.
-fn slots_of(tags: &TagTable, widget: TagSlot, names: &[String]) -> TagSet
-    requires { widget.0 < MOST_WIDGETS }
-    ensures { result ≡ slots_named tags.now.tags widget.0 (texts_of names.now) }
+fn slots_of(tags: &TagTable, own: TagSlot, names: &[String]) -> TagSet
+    requires { own.0 < MOST_WIDGETS }
+    ensures { result ≡ slots_named tags.now.tags own.0 (texts_of names.now) }
 {
     let mut slots = TagSet::empty();
     for name in names {
-        slots = with_found(slots, tags, widget, name.as_str());
+        slots = with_found(slots, tags, own, name.as_str());
     }
     slots
 }
 
 /// The slots of a list, where there is one.
-fn listed_slots(tags: &TagTable, widget: TagSlot, names: &Option<Vec<String>>) -> Option<TagSet>
-    requires { widget.0 < MOST_WIDGETS }
-    ensures { result ≡ option_map (slots_named tags.now.tags widget.0)
+fn listed_slots(tags: &TagTable, own: TagSlot, names: &Option<Vec<String>>) -> Option<TagSet>
+    requires { own.0 < MOST_WIDGETS }
+    ensures { result ≡ option_map (slots_named tags.now.tags own.0)
         (option_map (λ names. texts_of names.items) names.now) }
 {
     match names {
         None => None,
-        Some(names) => Some(slots_of(tags, widget, names.as_slice())),
+        Some(names) => Some(slots_of(tags, own, names.as_slice())),
     }
 }
 
 /// A pair with the slots of its list.
-fn piece_of(tags: &TagTable, widget: TagSlot, pair: Pair) -> Piece
-    requires { widget.0 < MOST_WIDGETS }
-    ensures { result ≡ piece_of tags.now.tags widget.0 pair }
+fn piece_of(tags: &TagTable, own: TagSlot, pair: Pair) -> Piece
+    requires { own.0 < MOST_WIDGETS }
+    ensures { result ≡ piece_of tags.now.tags own.0 pair }
 {
-    let slots = listed_slots(tags, widget, &pair.names);
+    let slots = listed_slots(tags, own, &pair.names);
     Piece {
         text: pair.text,
         slots,
@@ -153,15 +153,15 @@ fn piece_of(tags: &TagTable, widget: TagSlot, pair: Pair) -> Piece
 pub fn pieces_of(
     alloc: Global,
     tags: &TagTable,
-    widget: TagSlot,
+    own: TagSlot,
     pairs: Vec<Pair>,
 ) -> Result<Vec<Piece>, AllocError>
-    requires { widget.0 < MOST_WIDGETS }
-    ensures { IfOk result (λ pieces. pieces.items ≡ map (piece_of tags.now.tags widget.0) pairs.items) }
+    requires { own.0 < MOST_WIDGETS }
+    ensures { IfOk result (λ pieces. pieces.items ≡ map (piece_of tags.now.tags own.0) pairs.items) }
 {
     let mut pieces = Vec::with_capacity(alloc, pairs.len())?;
     for pair in pairs {
-        pieces.push(piece_of(tags, widget, pair))?;
+        pieces.push(piece_of(tags, own, pair))?;
     }
     Ok(pieces)
 }

@@ -54,7 +54,7 @@ named-carried limits windows document widget =
       added = λ name places. kept _ (add-kept limits document widget name places);
       removed = λ name places. kept _ (remove-kept document widget name places);
       untagged = λ names. kept _ refl;
-      ordered = λ at order words. carried-reordered (AreNamed windows document) document at order words
+      ordered = λ position order words. carried-reordered (AreNamed windows document) document position order words
           (kept document refl) (λ tags. kept _ refl);
       modified = λ flag. kept _ refl;
       separated = kept _ (elim document.undo as

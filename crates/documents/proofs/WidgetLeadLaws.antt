@@ -128,7 +128,7 @@ leads-carried limits start document widget leads anchored = record {
   added = λ name places. leads-added limits limits.chars start document widget name places leads;
   removed = λ name places. leads-removed limits.chars start document widget name places leads;
   untagged = λ names. leads-untagged limits.chars start document names leads;
-  ordered = λ at order words. carried-reordered (Leads limits.chars start) document at order words leads
+  ordered = λ position order words. carried-reordered (Leads limits.chars start) document position order words leads
       (λ tags. leads-still limits.chars start document (record document { tags = tags }) leads refl refl refl refl
       refl);
   modified = λ flag. leads-modified limits.chars start document flag leads;

@@ -112,9 +112,9 @@ document_of parts = record {
   separators = parts.journal.settings.separators;
 }
 
--- the widget at a place of the order of creation
 abbrev pub no_widget : Widget
 no_widget = record { name = []; start = None; end = None; disabled = false; insert = new_mark; current = new_mark }
 
+-- the widget of a seat, which is its place in the order of creation
 abbrev pub widget_at : Document → ℕ → Widget
-widget_at document place = get_or document.widgets place no_widget
+widget_at document seat = get_or document.widgets seat no_widget

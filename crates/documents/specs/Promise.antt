@@ -20,9 +20,9 @@ refused document fault = record { reply = Err fault; document = document }
 abbrev pub answered : Document → Answer → Change
 answered document answer = record { reply = Ok answer; document = document }
 
--- a command that only reads
-abbrev pub asked : Document → Result Answer Fault → Change
-asked document reply = record { reply = reply; document = document }
+-- a command that only reads leaves the document unchanged
+abbrev pub unchanged : Document → Result Answer Fault → Change
+unchanged document reply = record { reply = reply; document = document }
 
 -- what follows a value changes the document; a fault refuses the command
 abbrev pub change_with : {A : Type 0} → Document → Result A Fault → (A → Change) → Change

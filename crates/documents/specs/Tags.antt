@@ -83,8 +83,8 @@ known_or document position name change =
 
 abbrev pub reordered : Document → ℕ → (List (List ℕ) → List ℕ → Option (List ℕ) → List (List ℕ)) →
     List ℕ × Option (List ℕ) → Change
-reordered document at order (name, None) =
-    known_or document at name (answered (record document { tags = order document.tags name None }) Empty)
-reordered document at order (name, Some other) =
-    known_or document at name (known_or document (at + 1) other
+reordered document position order (name, None) =
+    known_or document position name (answered (record document { tags = order document.tags name None }) Empty)
+reordered document position order (name, Some other) =
+    known_or document position name (known_or document (position + 1) other
     (answered (record document { tags = order document.tags name (Some other) }) Empty))

@@ -33,12 +33,12 @@ fn line_at<S: TextStore>(store: &S, anchor: Option<usize>) -> Option<usize>
 
 impl<S: TextStore> Document<S> {
     /// The options of the document and a widget.
-    pub fn settings(&self, widget: usize) -> Settings
-        requires { widget < length self.now.widgets }
-        ensures value { result ≡ settings_of self.now (widget_at self.now widget) }
+    pub fn settings(&self, seat: usize) -> Settings
+        requires { seat < length self.now.widgets }
+        ensures value { result ≡ settings_of self.now (widget_at self.now seat) }
         ensures lines { AreLines (lines (characters self.now.cells)) result }
     {
-        let slot = self.seats.number(widget) as usize;
+        let slot = self.seats.number(seat) as usize;
         let anchors = self.text.anchors[slot];
         Settings {
             document: self.settings,
@@ -49,14 +49,14 @@ impl<S: TextStore> Document<S> {
     }
 
     /// Gives the document and a widget options.
-    pub fn put_settings(&mut self, limits: &Limits, widget: usize, settings: Settings) -> Answer
-        requires shown { widget < length self.old.widgets }
+    pub fn put_settings(&mut self, limits: &Limits, seat: usize, settings: Settings) -> Answer
+        requires shown { seat < length self.old.widgets }
         requires lines { AreLines (lines (characters self.old.cells)) settings }
         requires ordered { is_behind settings.start settings.end ≡ false }
         ensures { Does limits.now self.old self.new (Ok result)
-            (answered (with_settings (widget_at self.old widget) settings self.old) Empty) }
+            (answered (with_settings (widget_at self.old seat) settings self.old) Empty) }
     {
-        let slot = self.seats.number(widget) as usize;
+        let slot = self.seats.number(seat) as usize;
         let start = anchor_at(&self.text.store, settings.start);
         let end = anchor_at(&self.text.store, settings.end);
         self.text.anchors[slot] = Anchors { start, end };

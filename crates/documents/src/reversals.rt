@@ -10,10 +10,10 @@ use text_model::{Limits, MarkNo, TextStore};
 
 impl<S: TextStore> Document<S> {
     /// `W edit undo` (text(n), "edit undo").
-    pub fn edit_undo(&mut self, limits: &Limits, widget: usize) -> Result<Answer, Fault>
-        requires shown { widget < length self.old.widgets }
+    pub fn edit_undo(&mut self, limits: &Limits, seat: usize) -> Result<Answer, Fault>
+        requires shown { seat < length self.old.widgets }
         requires formed { IsWellFormedDocument limits.now self.old }
-        ensures { Does limits.now self.old self.new result (edit_undo self.old (widget_at self.old widget)) }
+        ensures { Does limits.now self.old self.new result (edit_undo self.old (widget_at self.old seat)) }
     {
         if !self.settings.undo {
             return Ok(Answer::Empty);
@@ -21,10 +21,10 @@ impl<S: TextStore> Document<S> {
         let Some(_) = self.text.history.last_undo() else {
             return Err(Fault::NothingToUndo);
         };
-        if self.is_idle(widget) {
+        if self.is_idle(seat) {
             return Ok(Answer::Empty);
         }
-        let insert = MarkNo(2 * self.seats.number(widget));
+        let insert = MarkNo(2 * self.seats.number(seat));
         match undo_group(self.alloc, limits, &mut self.text, insert) {
             Ok(()) => Ok(Answer::Empty),
             Err(fault) => Err(fault),
@@ -32,10 +32,10 @@ impl<S: TextStore> Document<S> {
     }
 
     /// `W edit redo` (text(n), "edit redo").
-    pub fn edit_redo(&mut self, limits: &Limits, widget: usize) -> Result<Answer, Fault>
-        requires shown { widget < length self.old.widgets }
+    pub fn edit_redo(&mut self, limits: &Limits, seat: usize) -> Result<Answer, Fault>
+        requires shown { seat < length self.old.widgets }
         requires formed { IsWellFormedDocument limits.now self.old }
-        ensures { Does limits.now self.old self.new result (edit_redo self.old (widget_at self.old widget)) }
+        ensures { Does limits.now self.old self.new result (edit_redo self.old (widget_at self.old seat)) }
     {
         if !self.settings.undo {
             return Ok(Answer::Empty);
@@ -43,10 +43,10 @@ impl<S: TextStore> Document<S> {
         let Some(_) = self.text.history.last_redo() else {
             return Err(Fault::NothingToRedo);
         };
-        if self.is_idle(widget) {
+        if self.is_idle(seat) {
             return Ok(Answer::Empty);
         }
-        let insert = MarkNo(2 * self.seats.number(widget));
+        let insert = MarkNo(2 * self.seats.number(seat));
         match redo_group(self.alloc, limits, &mut self.text, insert) {
             Ok(()) => Ok(Answer::Empty),
             Err(fault) => Err(fault),

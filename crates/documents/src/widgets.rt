@@ -77,14 +77,14 @@ impl<S: TextStore> Document<S> {
     }
 
     /// The names of the other widgets as a list, by their creation.
-    pub fn other_widgets(&self, widget: usize) -> Result<Text, AllocError>
-        requires { widget < length self.now.widgets }
+    pub fn other_widgets(&self, seat: usize) -> Result<Text, AllocError>
+        requires { seat < length self.now.widgets }
         ensures { IfOk result (λ list. list
-            ≡ list_text (filter (λ name. not (is_same name (widget_at self.now widget).name))
+            ≡ list_text (filter (λ name. not (is_same name (widget_at self.now seat).name))
             (window_names self.now))) }
     {
         let mut list = String::new(self.alloc);
-        push_other_seats(&mut list, &self.seats, self.seats.name(widget))?;
+        push_other_seats(&mut list, &self.seats, self.seats.name(seat))?;
         Ok(Text::new(list))
     }
 

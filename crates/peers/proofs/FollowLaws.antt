@@ -60,24 +60,24 @@ pub record Follows (start : List ℕ) (world : World) (place : ℕ) : Type 0 whe
 -- ---- a command of a widget
 
 module _ (limits : LimitTable) (windows : List (List ℕ)) (document : Document) (widget : Widget) where
-  leads-other : (start : List ℕ) (switches : List (List ℕ)) (at : ℕ) (arguments : List (List ℕ)) (given : Command) →
+  leads-other : (start : List ℕ) (switches : List (List ℕ)) (position : ℕ) (arguments : List (List ℕ)) (given : Command) →
       Leads limits.chars start document
-      → (is_ok (done given document (calling limits windows widget switches at arguments)).reply && forgets given arguments)
+      → (is_ok (done given document (calling limits windows widget switches position arguments)).reply && forgets given arguments)
       ≡ false → IsOther given
-      → Leads limits.chars start (done given document (calling limits windows widget switches at arguments)).document
-  leads-other start switches at arguments Configure leads spared other =
-      leads-configured limits.chars start document widget at arguments leads spared
-  leads-other start switches at arguments EditReset leads spared other = absurd (true≢false spared)
-  leads-other start switches at arguments PeerCreate leads spared other =
-      leads-peered limits windows document widget at limits.chars start arguments leads spared
-  leads-other start switches at arguments given leads spared other = absurd other
+      → Leads limits.chars start (done given document (calling limits windows widget switches position arguments)).document
+  leads-other start switches position arguments Configure leads spared other =
+      leads-configured limits.chars start document widget position arguments leads spared
+  leads-other start switches position arguments EditReset leads spared other = absurd (true≢false spared)
+  leads-other start switches position arguments PeerCreate leads spared other =
+      leads-peered limits windows document widget position limits.chars start arguments leads spared
+  leads-other start switches position arguments given leads spared other = absurd other
 
-  named-other : (switches : List (List ℕ)) (at : ℕ) (arguments : List (List ℕ)) (given : Command) → IsOther given
-      → AreNamed windows document (done given document (calling limits windows widget switches at arguments)).document
-  named-other switches at arguments Configure other = named-configured windows document widget at arguments
-  named-other switches at arguments EditReset other = named-same windows document (edit_reset document).document refl
-  named-other switches at arguments PeerCreate other = named-peered limits windows document widget at arguments
-  named-other switches at arguments given other = absurd other
+  named-other : (switches : List (List ℕ)) (position : ℕ) (arguments : List (List ℕ)) (given : Command) → IsOther given
+      → AreNamed windows document (done given document (calling limits windows widget switches position arguments)).document
+  named-other switches position arguments Configure other = named-configured windows document widget position arguments
+  named-other switches position arguments EditReset other = named-same windows document (edit_reset document).document refl
+  named-other switches position arguments PeerCreate other = named-peered limits windows document widget position arguments
+  named-other switches position arguments given other = absurd other
 
   leads-shaped : (start name : List ℕ) (words : List (List ℕ)) (read : Result Shape ShapeFault) →
       Leads limits.chars start document

@@ -306,34 +306,34 @@ named-new world name settings new few =
       world = record world { documents = world.documents ++ new_document name settings ∷ [] };
     }) few
 
-pub peer-taken : (limits : LimitTable) (windows : List (List ℕ)) (document : Document) (at : ℕ) (name : List ℕ)
+pub peer-taken : (limits : LimitTable) (windows : List (List ℕ)) (document : Document) (position : ℕ) (name : List ℕ)
     (settings : Settings) → is_among name windows ≡ true
-    → peer_with limits windows document at name settings ≡ refused document (WindowExists at)
-peer-taken limits windows document at name settings taken =
-    ap (λ b. if b then refused document (WindowExists at)
+    → peer_with limits windows document position name settings ≡ refused document (WindowExists position)
+peer-taken limits windows document position name settings taken =
+    ap (λ b. if b then refused document (WindowExists position)
     else (if nat_le limits.widgets (length windows) then refused document TooManyWidgets
-    else answered (with_peer name settings document) (Word at))) taken
+    else answered (with_peer name settings document) (Word position))) taken
 
-pub peer-many : (limits : LimitTable) (windows : List (List ℕ)) (document : Document) (at : ℕ) (name : List ℕ)
+pub peer-many : (limits : LimitTable) (windows : List (List ℕ)) (document : Document) (position : ℕ) (name : List ℕ)
     (settings : Settings) → is_among name windows ≡ false
-    → nat_le limits.widgets (length windows) ≡ true → peer_with limits windows document at name settings
+    → nat_le limits.widgets (length windows) ≡ true → peer_with limits windows document position name settings
     ≡ refused document TooManyWidgets
-peer-many limits windows document at name settings new many =
-    ap (λ b. if b then refused document (WindowExists at)
+peer-many limits windows document position name settings new many =
+    ap (λ b. if b then refused document (WindowExists position)
     else (if nat_le limits.widgets (length windows) then refused document TooManyWidgets
-    else answered (with_peer name settings document) (Word at))) new
+    else answered (with_peer name settings document) (Word position))) new
     ∙ ap (λ b. if b then refused document TooManyWidgets
-    else answered (with_peer name settings document) (Word at)) many
+    else answered (with_peer name settings document) (Word position)) many
 
-pub peer-new : (limits : LimitTable) (windows : List (List ℕ)) (document : Document) (at : ℕ) (name : List ℕ)
+pub peer-new : (limits : LimitTable) (windows : List (List ℕ)) (document : Document) (position : ℕ) (name : List ℕ)
     (settings : Settings) → is_among name windows ≡ false
-    → nat_le limits.widgets (length windows) ≡ false → peer_with limits windows document at name settings
-    ≡ answered (with_peer name settings document) (Word at)
-peer-new limits windows document at name settings new few =
-    ap (λ b. if b then refused document (WindowExists at)
+    → nat_le limits.widgets (length windows) ≡ false → peer_with limits windows document position name settings
+    ≡ answered (with_peer name settings document) (Word position)
+peer-new limits windows document position name settings new few =
+    ap (λ b. if b then refused document (WindowExists position)
     else (if nat_le limits.widgets (length windows) then refused document TooManyWidgets
-    else answered (with_peer name settings document) (Word at))) new
-    ∙ ap (λ b. if b then refused document TooManyWidgets else answered (with_peer name settings document) (Word at)) few
+    else answered (with_peer name settings document) (Word position))) new
+    ∙ ap (λ b. if b then refused document TooManyWidgets else answered (with_peer name settings document) (Word position)) few
 
 -- ---- a world that stays well formed
 

@@ -22,7 +22,7 @@ use Rattle.peers.specs.Indices.{index, compare}
 use Rattle.documents.specs.Marks.{mark_unset}
 use Rattle.peers.specs.Marks.{mark_set, mark_gravity, mark_names_of, mark_next, mark_previous}
 use Rattle.peers.specs.Options.{cget, configure}
-use Rattle.documents.specs.Promise.{Change, refused, asked}
+use Rattle.documents.specs.Promise.{Change, refused, unchanged}
 use Rattle.peers.specs.Queries.{count, dump, search}
 use Rattle.documents.specs.Reversals.{edit_redo, edit_undo}
 use Rattle.documents.specs.Tags.{tag_delete}
@@ -46,44 +46,45 @@ pub record Call : Type 0 where
   pub windows : List (List ℕ)
   pub widget : Widget
   pub switches : List (List ℕ)
-  pub at : ℕ
+  pub position : ℕ
   pub arguments : List (List ℕ)
 
 -- a command as it is called, where the names of all windows are known
 abbrev pub done : Command → Document → Call → Change
-done Insert document call = insert call.limits document call.widget call.at call.arguments
-done Delete document call = delete document call.widget call.at call.arguments
-done Replace document call = replace call.limits document call.widget call.at call.arguments
-done Get document call = asked document (get document call.widget call.at call.arguments)
-done Index document call = asked document (index document call.widget call.at call.arguments)
-done Compare document call = asked document (compare document call.widget call.at call.arguments)
-done MarkGravity document call = mark_gravity document call.widget call.at call.arguments
-done MarkNames document call = asked document (mark_names_of document)
-done MarkNext document call = asked document (mark_next document call.widget call.at call.arguments)
-done MarkPrevious document call = asked document (mark_previous document call.widget call.at call.arguments)
-done MarkSet document call = mark_set call.limits document call.widget call.at call.arguments
+done Insert document call = insert call.limits document call.widget call.position call.arguments
+done Delete document call = delete document call.widget call.position call.arguments
+done Replace document call = replace call.limits document call.widget call.position call.arguments
+done Get document call = unchanged document (get document call.widget call.position call.arguments)
+done Index document call = unchanged document (index document call.widget call.position call.arguments)
+done Compare document call = unchanged document (compare document call.widget call.position call.arguments)
+done MarkGravity document call = mark_gravity document call.widget call.position call.arguments
+done MarkNames document call = unchanged document (mark_names_of document)
+done MarkNext document call = unchanged document (mark_next document call.widget call.position call.arguments)
+done MarkPrevious document call = unchanged document (mark_previous document call.widget call.position call.arguments)
+done MarkSet document call = mark_set call.limits document call.widget call.position call.arguments
 done MarkUnset document call = mark_unset document call.arguments
-done TagAdd document call = tag_add call.limits document call.widget call.at call.arguments
-done TagRemove document call = tag_remove document call.widget call.at call.arguments
+done TagAdd document call = tag_add call.limits document call.widget call.position call.arguments
+done TagRemove document call = tag_remove document call.widget call.position call.arguments
 done TagDelete document call = tag_delete document call.arguments
-done TagNames document call = asked document (tag_names document call.widget call.at call.arguments)
-done TagRanges document call = asked document (tag_ranges_of document call.widget call.arguments)
-done TagNextRange document call = asked document (tag_nextrange document call.widget call.at call.arguments)
-done TagPreviousRange document call = asked document (tag_prevrange document call.widget call.at call.arguments)
-done TagRaise document call = tag_raise document call.at call.arguments
-done TagLower document call = tag_lower document call.at call.arguments
-done Configure document call = configure document call.widget call.at call.arguments
-done Cget document call = asked document (cget document call.widget call.arguments)
+done TagNames document call = unchanged document (tag_names document call.widget call.position call.arguments)
+done TagRanges document call = unchanged document (tag_ranges_of document call.widget call.arguments)
+done TagNextRange document call = unchanged document (tag_nextrange document call.widget call.position call.arguments)
+done TagPreviousRange document call =
+    unchanged document (tag_prevrange document call.widget call.position call.arguments)
+done TagRaise document call = tag_raise document call.position call.arguments
+done TagLower document call = tag_lower document call.position call.arguments
+done Configure document call = configure document call.widget call.position call.arguments
+done Cget document call = unchanged document (cget document call.widget call.arguments)
 done EditUndo document call = edit_undo document call.widget
 done EditRedo document call = edit_redo document call.widget
-done EditModified document call = edit_modified document call.at call.arguments
+done EditModified document call = edit_modified document call.position call.arguments
 done EditReset document call = edit_reset document
 done EditSeparator document call = edit_separator document
-done Search document call = asked document (search document call.widget call.switches call.at call.arguments)
-done Count document call = asked document (count document call.widget call.switches call.at call.arguments)
-done Dump document call = asked document (dump document call.widget call.switches call.at call.arguments)
-done PeerCreate document call = peer_create call.limits call.windows document call.widget call.at call.arguments
-done PeerNames document call = asked document (peer_names document call.widget)
+done Search document call = unchanged document (search document call.widget call.switches call.position call.arguments)
+done Count document call = unchanged document (count document call.widget call.switches call.position call.arguments)
+done Dump document call = unchanged document (dump document call.widget call.switches call.position call.arguments)
+done PeerCreate document call = peer_create call.limits call.windows document call.widget call.position call.arguments
+done PeerNames document call = unchanged document (peer_names document call.widget)
 done Text document call = refused document (BadOption 1)
 done Destroy document call = refused document (BadOption 1)
 
@@ -106,7 +107,7 @@ call_of limits windows widget shape words = record {
   windows = windows;
   widget = widget;
   switches = switches_of shape words;
-  at = shape.arguments;
+  position = shape.arguments;
   arguments = arguments_of shape words;
 }
 

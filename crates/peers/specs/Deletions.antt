@@ -15,8 +15,8 @@ use Rattle.documents.specs.Deletions.{delete_places, replace_span}
 
 -- `W delete I ?I ..?`
 abbrev pub delete : Document → Widget → ℕ → List (List ℕ) → Change
-delete document widget at words =
-    change_with document (places_at document widget at words) (λ places.
+delete document widget position words =
+    change_with document (places_at document widget position words) (λ places.
     unless_idle widget document (delete_places document widget places))
 
 -- ---- replace
@@ -30,12 +30,13 @@ replace_places limits document widget second from to pairs =
     (insertion_offset document widget to) pairs)
 
 abbrev pub replace_words : LimitTable → Document → Widget → ℕ → List ℕ × List ℕ × List (List ℕ) → Change
-replace_words limits document widget at (first, second, words) =
-    change_with document (place_at document widget at first) (λ from.
-    change_with document (place_at document widget (at + 1) second) (λ to.
-    change_with document (pairs_at (at + 2) words) (replace_places limits document widget (at + 1) from to)))
+replace_words limits document widget position (first, second, words) =
+    change_with document (place_at document widget position first) (λ from.
+    change_with document (place_at document widget (position + 1) second) (λ to.
+    change_with document (pairs_at (position + 2) words)
+    (replace_places limits document widget (position + 1) from to)))
 
 -- `W replace A B chars ?tagList chars ..?`
 abbrev pub replace : LimitTable → Document → Widget → ℕ → List (List ℕ) → Change
-replace limits document widget at words =
-    change_with document (first_two_of words) (replace_words limits document widget at)
+replace limits document widget position words =
+    change_with document (first_two_of words) (replace_words limits document widget position)

@@ -15,13 +15,13 @@ use Rattle.documents.specs.Documents.{Document, Widget, characters}
 -- the settings with the values of options, of which the first stands at a position: each value is decided, and then the
 -- lines
 abbrev pub settings_given : Document → ℕ → List (List ℕ) → Settings → Result Settings Fault
-settings_given document at words settings =
-    with_value (settings_read (lines (characters document.cells)) at words settings) settings_checked
+settings_given document position words settings =
+    with_value (settings_read (lines (characters document.cells)) position words settings) settings_checked
 
 -- `W configure option value ?option value ..?`: all values are decided before anything changes
 abbrev pub configure : Document → Widget → ℕ → List (List ℕ) → Change
-configure document widget at words =
-    change_with document (settings_given document at words (settings_of document widget)) (λ settings.
+configure document widget position words =
+    change_with document (settings_given document position words (settings_of document widget)) (λ settings.
     answered (with_settings widget settings document) Empty)
 
 -- `W cget option`

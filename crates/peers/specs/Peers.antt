@@ -23,22 +23,22 @@ peer_settings document widget = record (settings_of document widget) { disabled 
 
 -- a name that no window has yet, unless there are too many
 abbrev pub peer_with : LimitTable → List (List ℕ) → Document → ℕ → List ℕ → Settings → Change
-peer_with limits windows document at name settings =
-    if is_among name windows then refused document (WindowExists at)
+peer_with limits windows document position name settings =
+    if is_among name windows then refused document (WindowExists position)
     else (if nat_le limits.widgets (length windows) then refused document TooManyWidgets
-    else answered (with_peer name settings document) (Word at))
+    else answered (with_peer name settings document) (Word position))
 
 abbrev pub peer_words : LimitTable → List (List ℕ) → Document → Widget → ℕ → List ℕ × List (List ℕ) → Change
-peer_words limits windows document widget at (name, words) =
+peer_words limits windows document widget position (name, words) =
     if is_window_name name
-    then change_with document (settings_given document (at + 1) words (peer_settings document widget))
-    (peer_with limits windows document at name)
-    else refused document (InvalidCommandName at)
+    then change_with document (settings_given document (position + 1) words (peer_settings document widget))
+    (peer_with limits windows document position name)
+    else refused document (InvalidCommandName position)
 
 -- `W peer create V ?option value ..?`; the names of all windows are known
 abbrev pub peer_create : LimitTable → List (List ℕ) → Document → Widget → ℕ → List (List ℕ) → Change
-peer_create limits windows document widget at words =
-    change_with document (first_of words) (peer_words limits windows document widget at)
+peer_create limits windows document widget position words =
+    change_with document (first_of words) (peer_words limits windows document widget position)
 
 -- `W peer names`: the other widgets of the document, by their creation
 abbrev pub peer_names : Document → Widget → Result Answer Fault

@@ -22,13 +22,14 @@ insert_pairs limits document widget pairs place =
     (insert_at limits document widget (insertion_offset document widget place) pairs))
 
 abbrev pub insert_words : LimitTable → Document → Widget → ℕ → List ℕ × List (List ℕ) → Change
-insert_words limits document widget at (index, words) =
-    change_with document (place_at document widget at index)
-    (insert_pairs limits document widget (pairs_at (at + 1) words))
+insert_words limits document widget position (index, words) =
+    change_with document (place_at document widget position index)
+    (insert_pairs limits document widget (pairs_at (position + 1) words))
 
 -- `W insert I chars ?tagList chars ..?`
 abbrev pub insert : LimitTable → Document → Widget → ℕ → List (List ℕ) → Change
-insert limits document widget at words = change_with document (first_of words) (insert_words limits document widget at)
+insert limits document widget position words =
+    change_with document (first_of words) (insert_words limits document widget position)
 
 -- the characters of the view from one place to another
 abbrev pub text_of : Document → Widget → ℕ → ℕ → List ℕ
@@ -51,5 +52,5 @@ got document widget (from ∷ to ∷ next ∷ places) =
 
 -- `W get I ?I ..?`
 abbrev pub get : Document → Widget → ℕ → List (List ℕ) → Result Answer Fault
-get document widget at words =
-    with_value (places_at document widget at words) (λ places. Ok (got document widget places))
+get document widget position words =
+    with_value (places_at document widget position words) (λ places. Ok (got document widget places))

@@ -37,8 +37,8 @@ fn count_to<S: TextStore>(documents: &[Document<S>], place: usize) -> usize
     ensures { result ≡ length (windows_of (take (place + 1) documents.now)) }
 {
     let mut count = 0;
-    for at in 0..place + 1 {
-        count += documents[at].widget_count();
+    for index in 0..place + 1 {
+        count += documents[index].widget_count();
     }
     count
 }

@@ -17,26 +17,26 @@ use text_model::TextStore;
 /// values of options, of which the first stands at a position.
 pub fn peer_settings<S: TextStore>(
     document: &Document<S>,
-    widget: usize,
-    at: usize,
+    seat: usize,
+    position: usize,
     words: &[String],
 ) -> Result<Settings, Fault>
-    requires shown { widget < length document.now.widgets }
-    requires near { at + length words.now ≤ usize.MAX }
-    ensures value { result ≡ settings_given document.now at (texts_of words.now)
-        (peer_settings document.now (widget_at document.now widget)) }
+    requires shown { seat < length document.now.widgets }
+    requires near { position + length words.now ≤ usize.MAX }
+    ensures value { result ≡ settings_given document.now position (texts_of words.now)
+        (peer_settings document.now (widget_at document.now seat)) }
     ensures lines { IfOk result (AreLines (lines (characters document.now.cells))) }
     ensures ordered { IfOk result (λ settings. is_behind settings.start settings.end ≡ false) }
 {
-    let mut settings = document.settings(widget);
+    let mut settings = document.settings(seat);
     settings.disabled = false;
-    settings_given(settings, at, words, document.lines())
+    settings_given(settings, position, words, document.lines())
 }
 
 /// `W peer names` (text(n), "PEER WIDGETS").
-pub fn peer_names<S: TextStore>(document: &Document<S>, widget: usize) -> Result<Answer, Fault>
-    requires shown { widget < length document.now.widgets }
-    ensures { Gives result (peer_names document.now (widget_at document.now widget)) }
+pub fn peer_names<S: TextStore>(document: &Document<S>, seat: usize) -> Result<Answer, Fault>
+    requires shown { seat < length document.now.widgets }
+    ensures { Gives result (peer_names document.now (widget_at document.now seat)) }
 {
-    Ok(Answer::Text(document.other_widgets(widget)?))
+    Ok(Answer::Text(document.other_widgets(seat)?))
 }

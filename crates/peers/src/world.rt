@@ -158,7 +158,7 @@ impl<S: TextStore> World<S> {
     fn add_peer(
         &mut self,
         place: usize,
-        at: usize,
+        position: usize,
         name: &str,
         settings: Settings,
     ) -> Result<Answer, Fault>
@@ -168,18 +168,18 @@ impl<S: TextStore> World<S> {
         requires ordered { is_behind settings.start settings.end ≡ false }
         ensures { let document = document_at self.old.documents place in
             Makes self.old self.new result (changed self.old place
-            (peer_with self.old.limits (all_windows self.old) document at (chars name.now) settings)) }
+            (peer_with self.old.limits (all_windows self.old) document position (chars name.now) settings)) }
     {
         // Read first, so that every return knows that the world is well formed.
         let _documents = &self.documents;
         if self.has_widget(name) {
-            return Err(Fault::WindowExists(at));
+            return Err(Fault::WindowExists(position));
         }
         if self.is_full() {
             return Err(Fault::TooManyWidgets);
         }
         self.documents.add_peer(place, name, settings)?;
-        Ok(Answer::Word(at))
+        Ok(Answer::Word(position))
     }
 
     /// `W peer create V ?option value ..?` (text(n), "PEER WIDGETS"), of a widget of the document at a place. The
@@ -187,16 +187,16 @@ impl<S: TextStore> World<S> {
     fn create_peer(
         &mut self,
         place: usize,
-        widget: usize,
-        at: usize,
+        seat: usize,
+        position: usize,
         arguments: &[String],
     ) -> Result<Answer, Fault>
         requires place { place < length self.old.documents }
-        requires shown { widget < length (document_at self.old.documents place).widgets }
-        requires near { at + length arguments.now ≤ usize.MAX }
+        requires shown { seat < length (document_at self.old.documents place).widgets }
+        requires near { position + length arguments.now ≤ usize.MAX }
         ensures { let document = document_at self.old.documents place in
             Makes self.old self.new result (changed self.old place
-            (peer_create self.old.limits (all_windows self.old) document (widget_at document widget) at
+            (peer_create self.old.limits (all_windows self.old) document (widget_at document seat) position
             (texts_of arguments.now))) }
     {
         // Read first, so that every return knows that the world is well formed.
@@ -206,11 +206,11 @@ impl<S: TextStore> World<S> {
             Ok(parts) => parts,
         };
         if !is_window_name(name) {
-            return Err(Fault::InvalidCommandName(at));
+            return Err(Fault::InvalidCommandName(position));
         }
-        match peer_settings(document, widget, at + 1, words) {
+        match peer_settings(document, seat, position + 1, words) {
             Err(fault) => Err(fault),
-            Ok(settings) => self.add_peer(place, at, name, settings),
+            Ok(settings) => self.add_peer(place, position, name, settings),
         }
     }
 
@@ -230,20 +230,20 @@ impl<S: TextStore> World<S> {
             (on_home self.old (chars name.now) (texts_of words.now) (Some place)) }
         ensures frugal { is_frugal shape.command ≡ true → result ≢ Err Fault.Memory }
     {
-        let Some(widget) = self.documents.list[place].find_widget(name) else {
+        let Some(seat) = self.documents.list[place].find_widget(name) else {
             unreachable!()
         };
         match shape.command {
             Command::PeerCreate => self.create_peer(
                 place,
-                widget,
+                seat,
                 shape.arguments,
                 &words[shape.arguments..],
             ),
             _ => command(
                 &mut self.documents.list[place],
                 &self.limits,
-                widget,
+                seat,
                 shape,
                 words,
             ),

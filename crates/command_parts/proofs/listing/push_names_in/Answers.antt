@@ -11,7 +11,7 @@ pub loop-place-preserved : goal.loop-place-preserved
 loop-place-preserved c =
     goes_wanted (string_bytes c.args.list.now) (string_bytes c.loop-place.list) (string_bytes c.push_wanted.new.list)
     c.args.tags.now.tags
-    (λ (tag : Tag). set.contains c.args.slots (own_slot c.args.widget.0 tag.slot)) c.loop-place.place c.slot.result.0
+    (λ (tag : Tag). set.contains c.args.slots (own_slot c.args.own.0 tag.slot)) c.loop-place.place c.slot.result.0
     (chars c.name.result.now) c.loop-place.invariant c.name.ensures c.slot.ensures.value
     (subst (λ b. Goes (string_bytes c.loop-place.list) (string_bytes c.push_wanted.new.list) (if b
     then chars c.name.result.now ∷ [] else []))

@@ -14,9 +14,9 @@ loop-rest-preserved c =
     (omega (arith, c.loop-rest-test.true)) c.index-rest-1.is c.as_str-in-loop-rest.ensures.value in
     record {
       value = rw c.in_ok-push-in-Ok.ensures.items
-          (pairs_at-more c.args.at c.loop-rest.position _ rest c.loop-rest.pairs.items c.in-Ok.pair
+          (pairs_at-more c.args.position c.loop-rest.here _ rest c.loop-rest.pairs.items c.in-Ok.pair
           (omega (arith, c.loop-rest-test.true)) c.loop-rest.invariant.value
-          (ap₂ (λ t l. pair_at c.loop-rest.position t (Some l)) (sym first) (sym second) ∙ c.in-Ok.ensures.ok));
+          (ap₂ (λ t l. pair_at c.loop-rest.here t (Some l)) (sym first) (sym second) ∙ c.in-Ok.ensures.ok));
       room =
           rw (take_rest rest 2) (omega (arith, length-drop 2 rest, c.loop-rest.invariant.room, c.loop-rest-test.true));
     }

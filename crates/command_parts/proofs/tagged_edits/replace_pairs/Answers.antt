@@ -32,7 +32,7 @@ returns-clause-room g c =
     (excess-few c.args.rules.now.limits.now _ _ (sym c.excess_of.ensures.value ∙ c.in_default.is)) in
     let same : pieces.total c.deref.result.now ≡ total c.args.pairs.items =
     ap pieces.total (c.deref.ensures.value ∙ c.in_ok-pieces.ensures.pieces)
-    ∙ total-pieces c.make_pieces.new.tags.tags c.args.widget.0 c.args.pairs.items in
+    ∙ total-pieces c.make_pieces.new.tags.tags c.args.own.0 c.args.pairs.items in
     on_ok_weaker c.replace_texts.result (λ fits.
     excess-none c.args.rules.now.limits.now tags (left + total c.args.pairs.items) few
     (subst (λ n. left + n ≤ c.args.rules.now.limits.now.chars) same fits))
@@ -49,7 +49,7 @@ returns-clause-fault g c =
     (excess-few c.args.rules.now.limits.now _ _ (sym c.excess_of.ensures.value ∙ c.in_default.is)) in
     let same : pieces.total c.deref.result.now ≡ total c.args.pairs.items =
     ap pieces.total (c.deref.ensures.value ∙ c.in_ok-pieces.ensures.pieces)
-    ∙ total-pieces c.make_pieces.new.tags.tags c.args.widget.0 c.args.pairs.items in
+    ∙ total-pieces c.make_pieces.new.tags.tags c.args.own.0 c.args.pairs.items in
     IfErr-weaker c.replace_texts.result (λ fault. fault ≢ Memory →
     (fault ≡ TextTooLong) × (c.args.rules.now.limits.now.chars < left + pieces.total c.deref.result.now))
     (λ fault. fault ≢ Memory → excess c.args.rules.now.limits.now tags (left + total c.args.pairs.items) ≡ Some fault)

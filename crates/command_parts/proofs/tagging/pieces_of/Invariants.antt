@@ -4,5 +4,5 @@ use Rattle.command_parts.proofs.tagging.pieces_of.Given as goal
 
 abbrev pub invariant-loop-pair : goal.invariant-loop-pair
 invariant-loop-pair l = record {
-  made : l.pieces.items ≡ map (piece_of l.tags.tags l.widget.0) l.yielded;
+  made : l.pieces.items ≡ map (piece_of l.tags.tags l.own.0) l.yielded;
 }

@@ -4,4 +4,4 @@ use Rattle.command_parts.specs.Tagging.{slots_named}
 use Rattle.command_parts.proofs.tagging.slots_of.Given as goal
 
 abbrev pub invariant-loop-name : goal.invariant-loop-name
-invariant-loop-name l = l.slots ≡ slots_named l.tags.tags l.widget.0 (texts_of (take l.name-index l.names))
+invariant-loop-name l = l.slots ≡ slots_named l.tags.tags l.own.0 (texts_of (take l.name-index l.names))

@@ -13,7 +13,7 @@ use Rattle.peers.proofs.deletions.replace_places.Goals as goal
 pub returns : goal.returns
 returns g c =
     let limits = c.args.limits.now in let document = c.args.document.now in
-    let widget = widget_at document c.args.widget in
+    let widget = widget_at document c.args.seat in
     let ordered = c.if-to-from.false in
     let in_order : nat_lt c.args.places.1 c.args.places.0 ≡ false = grind (arith, nat_tests) in
     let change = unless_idle widget document

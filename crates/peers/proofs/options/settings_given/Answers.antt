@@ -11,4 +11,4 @@ pub returns-in-Ok-clause-lines : goal.returns-in-Ok-clause-lines
 returns-in-Ok-clause-lines c =
     subst (λ result. IfOk result (AreLines c.args.lines))
     (ap (λ found. with_value found settings_checked) (sym c.read.ensures ∙ c.in-Ok.is) ∙ sym c.checked.ensures)
-    (given-lines c.args.lines c.args.at (texts_of c.args.words.now) c.args.settings c.requires.lines)
+    (given-lines c.args.lines c.args.position (texts_of c.args.words.now) c.args.settings c.requires.lines)

@@ -10,5 +10,5 @@ returns-clause-value g c =
     let words = texts_of c.args.words.now in
     c.settings_given.ensures.value
     ∙ ap₂ (λ lines (settings : Settings).
-    with_value (settings_read lines c.args.at words (record settings { disabled = false })) settings_checked)
+    with_value (settings_read lines c.args.position words (record settings { disabled = false })) settings_checked)
     c.lines.ensures c.settings-settings.ensures.value

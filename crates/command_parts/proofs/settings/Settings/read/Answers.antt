@@ -13,10 +13,10 @@ loop-rest-preserved c =
     let second = word_read rest 1 c.index-rest-1.result c.as_str-in-loop-rest.result.now
     (omega (arith, c.loop-rest-test.true)) c.index-rest-1.is c.as_str-in-loop-rest.ensures.value in
     record {
-      value = settings_read-more c.args.lines _ c.loop-rest.position rest c.loop-rest.settings c.in-Ok.next
+      value = settings_read-more c.args.lines _ c.loop-rest.here rest c.loop-rest.settings c.in-Ok.next
           c.read_one.result (omega (arith, c.loop-rest-test.true)) c.loop-rest.invariant.value
           (c.read_one.ensures
-          ∙ ap₂ (λ o v. setting_read c.args.lines (c.loop-rest.position + 1) o v c.loop-rest.settings) first second)
+          ∙ ap₂ (λ o v. setting_read c.args.lines (c.loop-rest.here + 1) o v c.loop-rest.settings) first second)
           c.in-Ok.is;
       room =
           rw (take_rest rest 2) (omega (arith, length-drop 2 rest, c.loop-rest.invariant.room, c.loop-rest-test.true));
@@ -29,7 +29,7 @@ returns-in-Err c =
     c.index-rest-0.is c.as_str.ensures.value in
     let second = word_read rest 1 c.index-rest-1.result c.as_str-in-loop-rest.result.now
     (omega (arith, c.loop-rest-test.true)) c.index-rest-1.is c.as_str-in-loop-rest.ensures.value in
-    sym (settings_read-fault c.args.lines _ c.loop-rest.position rest c.loop-rest.settings c.in-Err.fault
+    sym (settings_read-fault c.args.lines _ c.loop-rest.here rest c.loop-rest.settings c.in-Err.fault
     c.read_one.result (omega (arith, c.loop-rest-test.true)) c.loop-rest.invariant.value
-    (c.read_one.ensures ∙ ap₂ (λ o v. setting_read c.args.lines (c.loop-rest.position + 1) o v c.loop-rest.settings)
+    (c.read_one.ensures ∙ ap₂ (λ o v. setting_read c.args.lines (c.loop-rest.here + 1) o v c.loop-rest.settings)
     first second) c.in-Err.is)

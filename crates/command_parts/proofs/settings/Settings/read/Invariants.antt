@@ -5,9 +5,9 @@ use Rattle.command_parts.proofs.settings.Settings.read.Given as goal
 
 abbrev pub invariant-loop-rest : goal.invariant-loop-rest
 invariant-loop-rest l = record {
-  value : settings_read l.lines l.at (texts_of l.fn.words) l.fn.self
-      ≡ settings_read l.lines l.position (texts_of l.rest) l.settings;
-  room : l.position + length l.rest ≤ l.at + length l.fn.words;
+  value : settings_read l.lines l.position (texts_of l.fn.words) l.fn.self
+      ≡ settings_read l.lines l.here (texts_of l.rest) l.settings;
+  room : l.here + length l.rest ≤ l.position + length l.fn.words;
 }
 
 abbrev pub decreases-loop-rest : goal.decreases-loop-rest

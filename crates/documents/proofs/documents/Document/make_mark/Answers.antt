@@ -19,7 +19,7 @@ make_mark-requires-clause-new g c =
     let parts = parts_of old.seats old.tags old.marks old.settings old.disabled.items old.text.anchors.items old.text.history
     (g.S.TextStore.content old.text.store) in
     let stands : Stands parts document = record { sound = c.self.invariant; is = c.self.view_is } in
-    (new-name parts document (widget_at document c.args.widget) (chars c.args.name.now) stands c.requires.new).1
+    (new-name parts document (widget_at document c.args.seat) (chars c.args.name.now) stands c.requires.new).1
 
 pub invariant_of-self : goal.invariant_of-self
 invariant_of-self g c =
@@ -31,7 +31,7 @@ invariant_of-self g c =
     let word = chars c.args.name.now in
     let changed = g.S.TextStore.content c.make_mark.new.store in
     let new = c.make_mark.new.marks in
-    let widget = widget_at document c.args.widget in
+    let widget = widget_at document c.args.seat in
     let within : c.args.offset ≤ length parts.content.cells = omega (
       arith,
       c.requires.within,
@@ -60,7 +60,7 @@ returns g c =
     let word = chars c.args.name.now in
     let changed = g.S.TextStore.content c.make_mark.new.store in
     let new = c.make_mark.new.marks in
-    let widget = widget_at document c.args.widget in
+    let widget = widget_at document c.args.seat in
     let within : c.args.offset ≤ length parts.content.cells = omega (
       arith,
       c.requires.within,

@@ -23,4 +23,4 @@ returns g c =
     let new = c.push_other_seats.new.list in
     c.new.ensures ∙ written (string_bytes new) names (IsUtf8-string_bytes new)
     (subst (λ bytes. Goes bytes (string_bytes new) names) c.new-list.ensures.bytes c.in_ok-push_other_seats.ensures)
-    ∙ ap list_text (others-kept parts document c.args.widget name stands c.name.ensures)
+    ∙ ap list_text (others-kept parts document c.args.seat name stands c.name.ensures)
