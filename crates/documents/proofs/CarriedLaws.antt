@@ -15,10 +15,10 @@ use Rattle.documents.specs.Documents.{Document, Widget}
 use Rattle.documents.specs.History.{edit_separator, modified_set}
 use Rattle.documents.specs.Marks.{mark_unset, set_found, with_mark}
 use Rattle.documents.specs.Promise.{Change, answered, refused, change_with, unless_idle}
-use Rattle.documents.specs.Reversals.{edit_redo, edit_undo}
+use Rattle.documents.specs.History.{edit_redo, edit_undo}
 use Rattle.documents.specs.Tags.{add_spans, known_or, remove_spans, reordered, tag_delete}
 use Rattle.documents.specs.Texts.{insert_at, insertion_offset, within_limits}
-use Rattle.documents.specs.View.{is_idle, shown, view_end}
+use Rattle.documents.specs.Views.{is_idle, shown, view_end}
 
 -- ---- what may follow, or not
 

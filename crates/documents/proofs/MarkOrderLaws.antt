@@ -25,7 +25,7 @@ use Rattle.command_parts.specs.Edits.{new_mark}
 use Rattle.documents.specs.Documents.{Document, Parts, SharedMark, Widget, mark_of, placed, whole, widget_at}
 use Rattle.documents.specs.Kept.{IsMarked, Stands}
 use Rattle.documents.specs.Marks.{shared_from, shown_at, usable_marks}
-use Rattle.documents.specs.Origins.{origin_in}
+use Rattle.documents.specs.Marks.{origin_in}
 use Rattle.documents.proofs.MeaningLaws.{current-is, insert-is}
 use Rattle.documents.proofs.PartsLaws.{Sits}
 use Rattle.documents.proofs.PlacedLaws.{marked-there}

@@ -19,7 +19,7 @@ use Rattle.documents.specs.Documents.{Document, Parts, SharedMark, Widget, mark_
 use Rattle.documents.specs.Kept.{IsMarked, Stands}
 use Rattle.documents.specs.Marks.{place_named}
 use Rattle.documents.specs.Names.{mark_number, mark_place}
-use Rattle.documents.specs.View.{view_end, view_start}
+use Rattle.documents.specs.Views.{view_end, view_start}
 use Rattle.documents.proofs.MeaningLaws.{current-is, insert-is}
 use Rattle.documents.proofs.PartsLaws.{Sits, cells-kept}
 use Rattle.documents.proofs.PlacedLaws.{StandsMark, found_mark, marked-there}

@@ -31,7 +31,7 @@ use Rattle.documents.specs.Keys.{key_named}
 use Rattle.documents.specs.Kept.{AreMarked, Stands}
 use Rattle.documents.specs.Names.{mark_number, mark_place, meanings, place_of, tag_flags, tag_number}
 use Rattle.documents.specs.Promise.{Gives}
-use Rattle.documents.specs.View.{shown, shown_flags, view_end, view_start}
+use Rattle.documents.specs.Views.{shown, shown_flags, view_end, view_start}
 use Rattle.documents.proofs.PartsLaws.{Sits}
 use Rattle.documents.proofs.PlacedLaws.{found_mark, marked-there}
 use Rattle.documents.proofs.ViewLaws.{IsSeen, end-is, end_in, flags-is, shown-is, start-is, start_in}

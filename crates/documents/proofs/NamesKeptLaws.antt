@@ -28,11 +28,11 @@ use Rattle.documents.specs.Names.{key_of}
 use Rattle.documents.specs.Options.{widget_set, with_settings}
 use Rattle.documents.specs.Promise.{answered, refused}
 use Rattle.documents.specs.Ranges.{spans_shown}
-use Rattle.documents.specs.Reversals.{action_again, action_back, edit_redo, edit_undo, group_again, group_back}
-use Rattle.documents.specs.Reversals.{redo_found, redone, text_back, undo_found, undone, with_end}
+use Rattle.documents.specs.History.{action_again, action_back, edit_redo, edit_undo, group_again, group_back}
+use Rattle.documents.specs.History.{redo_found, redone, text_back, undo_found, undone, with_end}
 use Rattle.documents.specs.Tags.{add_spans, remove_spans}
 use Rattle.documents.specs.Texts.{insert_at, keyed_text, tags_with}
-use Rattle.documents.specs.View.{is_idle, view_end}
+use Rattle.documents.specs.Views.{is_idle, view_end}
 use Rattle.documents.specs.WellFormed.{window_names}
 use Rattle.documents.proofs.CarriedLaws.{carried-limited}
 

@@ -30,7 +30,7 @@ use Rattle.documents.specs.Edits.{with_bare, without_spans}
 use Rattle.documents.specs.Kept.{HasKnownSlots, Stands}
 use Rattle.documents.specs.Promise.{answered}
 use Rattle.documents.specs.Ranges.{spans_shown}
-use Rattle.documents.specs.View.{is_idle}
+use Rattle.documents.specs.Views.{is_idle}
 use Rattle.documents.proofs.ChangeLaws.{Leaves, does-changed}
 use Rattle.documents.proofs.KeyedLaws.{keyed-bare}
 use Rattle.documents.proofs.KnownLaws.{known-empty}

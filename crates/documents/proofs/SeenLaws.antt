@@ -16,7 +16,7 @@ use Rattle.documents.specs.Keys.{key_named}
 use Rattle.documents.specs.Kept.{Stands}
 use Rattle.documents.specs.Marks.{mark_names, usable_marks}
 use Rattle.documents.specs.Queries.{mark_seen, seen, tag_seen}
-use Rattle.documents.specs.View.{shown_flags}
+use Rattle.documents.specs.Views.{shown_flags}
 use Rattle.documents.proofs.MarkOrderLaws.{shifted, usable-is}
 use Rattle.documents.proofs.MeaningLaws.{current_bytes, insert_bytes, name-is}
 use Rattle.documents.proofs.PartsLaws.{Sits}

@@ -17,7 +17,7 @@ use Rattle.documents.specs.Documents.{Document, KeyedCell, Parts, Widget, widget
 use Rattle.documents.specs.Keys.{key_named}
 use Rattle.documents.specs.Kept.{Stands}
 use Rattle.documents.specs.Tags.{flags_of, tags_on}
-use Rattle.documents.specs.View.{shown, shown_flags, view_end, view_start}
+use Rattle.documents.specs.Views.{shown, shown_flags, view_end, view_start}
 use Rattle.documents.proofs.SlotLaws.{known_standing}
 use Rattle.documents.proofs.SpanLaws.{slot_known, slot_unknown}
 use Rattle.documents.proofs.ViewLaws.{IsSeen, flags-is}

@@ -24,7 +24,7 @@ use Rattle.documents.specs.Promise.{answered, refused}
 use Rattle.documents.specs.Ranges.{spans_shown}
 use Rattle.documents.specs.Tags.{add_spans, remove_spans}
 use Rattle.documents.specs.Texts.{insertion_offset}
-use Rattle.documents.specs.View.{shown, view_end, view_start}
+use Rattle.documents.specs.Views.{shown, view_end, view_start}
 use Rattle.documents.proofs.EditLeadLaws.{IsActive, active, leads-deleted, leads-inserted, leads-redo, leads-replaced}
 use Rattle.documents.proofs.EditLeadLaws.{leads-undo, offset-inside}
 use Rattle.documents.proofs.LeadLaws.{Leads, anchors_of}

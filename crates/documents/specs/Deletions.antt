@@ -13,7 +13,7 @@ use Rattle.documents.specs.Marks.{with_insert}
 use Rattle.documents.specs.Promise.{Change, answered}
 use Rattle.documents.specs.Ranges.{spans_shown}
 use Rattle.documents.specs.Texts.{keyed_text, tags_with, within_limits}
-use Rattle.documents.specs.View.{view_end, view_start}
+use Rattle.documents.specs.Views.{view_end, view_start}
 use Rattle.documents.specs.Documents.{Document, Widget, characters}
 
 -- ---- delete

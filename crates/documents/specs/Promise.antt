@@ -5,7 +5,7 @@ use Rattle.command_parts.specs.declared.answers.Answer.{Answer}
 use Rattle.command_parts.specs.declared.answers.Fault.{Fault}
 use Rattle.command_parts.specs.declared.answers.Fault.TheVariants.{Memory}
 use Rattle.documents.specs.Documents.{Document, Widget}
-use Rattle.documents.specs.View.{is_idle}
+use Rattle.documents.specs.Views.{is_idle}
 use Rattle.documents.specs.WellFormed.{IsWellFormedDocument, window_names}
 use Rattle.command_parts.specs.declared.answers.Answer.TheVariants.{Empty}
 

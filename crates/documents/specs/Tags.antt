@@ -13,7 +13,7 @@ use Rattle.command_parts.specs.Lists.{with_name}
 use Rattle.documents.specs.Names.{key_of}
 use Rattle.documents.specs.Promise.{Change, refused, answered}
 use Rattle.documents.specs.Ranges.{spans_shown}
-use Rattle.documents.specs.View.{shown_flags}
+use Rattle.documents.specs.Views.{shown_flags}
 use Rattle.command_parts.specs.Words.{is_same, is_among}
 use Rattle.documents.specs.Documents.{Document, Widget, KeyedCell}
 use Rattle.command_parts.specs.Tagging.{stays}

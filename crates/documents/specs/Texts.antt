@@ -8,7 +8,7 @@ use Rattle.documents.specs.Edits.{KeyedText, with_texts}
 use Rattle.documents.specs.Keys.{keys_named}
 use Rattle.command_parts.specs.Lists.{Pair, all_names, total, with_names}
 use Rattle.documents.specs.Promise.{Change, refused, answered}
-use Rattle.documents.specs.View.{view_start, shown}
+use Rattle.documents.specs.Views.{view_start, shown}
 use Rattle.documents.specs.Documents.{Document, Widget}
 
 -- a text with the keys of its tag list, of which `sel` is the acting widget's

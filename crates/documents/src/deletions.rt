@@ -4,7 +4,7 @@ ghost use Rattle.documents.specs.Deletions.{delete_places, replace_span};
 ghost use Rattle.documents.specs.Documents.{widget_at};
 ghost use Rattle.documents.specs.Promise.{Does};
 ghost use Rattle.documents.specs.Texts.{insertion_offset};
-ghost use Rattle.documents.specs.View.{is_idle, shown};
+ghost use Rattle.documents.specs.Views.{is_idle, shown};
 
 use crate::documents::Document;
 use crate::views::{end_of, start_of};

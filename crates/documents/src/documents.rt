@@ -1,7 +1,7 @@
 ghost use Rattle.std.specs.Prelude.{◌≡◌, true, None, Some, is_some, ◌-◌, ◌<◌, length, chars, Ok, IfOk, IfSome};
 ghost use Rattle.text_model.specs.LimitTable.{LimitTable, AreLimits};
 ghost use Rattle.documents.specs.Documents.{widget_at};
-ghost use Rattle.documents.specs.View.{is_idle};
+ghost use Rattle.documents.specs.Views.{is_idle};
 ghost use Rattle.documents.specs.Widgets.{bare_document, new_document, widget_named};
 ghost use Rattle.documents.specs.Kept.{is_window_name};
 ghost use Rattle.documents.specs.WellFormed.{IsWellFormedDocument, window_names};

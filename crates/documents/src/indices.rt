@@ -1,12 +1,11 @@
-ghost use Rattle.std.specs.Prelude.{◌≡◌, ℕ, ◌+◌, ◌<◌, ◌≤◌, length, chars, Ok, Err};
+ghost use Rattle.std.specs.Prelude.{◌≡◌, ℕ, ◌<◌, ◌≤◌, length, chars, Ok, Err};
 ghost use Rattle.std.specs.Prelude.{IfOk};
 ghost use Rattle.text_index.specs.Positions.{position_text};
 ghost use Rattle.documents.specs.Documents.{widget_at};
-ghost use Rattle.documents.specs.View.{shown};
+ghost use Rattle.documents.specs.Views.{shown};
 ghost use Rattle.command_parts.specs.Faults.{at_position};
 ghost use Rattle.documents.specs.Promise.{Gives};
 ghost use Rattle.documents.specs.Indices.{place_at};
-ghost use Rattle.search_dump.specs.Counts.{counted};
 
 use crate::documents::Document;
 use crate::views::view_of;

@@ -1,6 +1,6 @@
 ghost use Rattle.std.specs.Prelude.{◌≡◌, ◌-◌, ◌<◌, ◌≤◌, length, chars, Ok, IfOk, IfSome};
 ghost use Rattle.documents.specs.Documents.{widget_at};
-ghost use Rattle.documents.specs.View.{shown};
+ghost use Rattle.documents.specs.Views.{shown};
 ghost use Rattle.search_dump.specs.Counts.{counted};
 ghost use Rattle.search_dump.specs.Dump.{dump_elements};
 ghost use Rattle.search_dump.specs.Matches.{search_result};

@@ -2,14 +2,12 @@ ghost use Rattle.std.specs.Prelude.{◌≡◌, Some, ◌+◌, ◌-◌, ◌<◌, 
 ghost use Rattle.std.specs.Prelude.{IfOk};
 ghost use Rattle.std.specs.List.{All};
 ghost use Rattle.documents.specs.Documents.{widget_at};
-ghost use Rattle.documents.specs.View.{shown};
+ghost use Rattle.documents.specs.Views.{shown};
 ghost use Rattle.documents.specs.Promise.{Does};
-ghost use Rattle.search_dump.specs.Counts.{counted};
-ghost use Rattle.edit_ops.specs.Tagging.{SpanFits, tagged};
+ghost use Rattle.edit_ops.specs.Tagging.{tagged};
 ghost use Rattle.tcl_words.specs.ListText.{list_text};
 ghost use Rattle.tcl_words.specs.Unread.{texts_of};
 ghost use Rattle.text_index.specs.Ranges.{tag_ranges, next_range, previous_range};
-ghost use Rattle.documents.specs.Ranges.{spans_shown};
 ghost use Rattle.documents.specs.Tags.{flags_of, tags_on, add_spans, remove_spans, tag_delete, reordered, raised};
 ghost use Rattle.documents.specs.Tags.{lowered};
 ghost use Rattle.command_parts.specs.Listing.{range_words, begun};
@@ -19,9 +17,8 @@ use crate::documents::Document;
 use crate::views::view_of;
 use command_parts::{
     Answer, Fault, clear_slots, delete_names, deleted_slots, find_tag, is_one_too_many, push_names,
-    push_names_in, push_next, push_previous, push_ranges, set_slot, spans_of, tag_spans,
+    push_names_in, push_next, push_previous, push_ranges, set_slot, tag_spans,
 };
-use edit_ops::Span;
 use std::alloc::AllocError;
 use tag_table::NoSuchTag;
 use text_model::{Limits, TagSlot, Text, TextStore};
@@ -126,22 +123,6 @@ impl<S: TextStore> Document<S> {
 }
 
 impl<S: TextStore> Document<S> {
-    /// Pairs of places that a widget shows as ranges of the document.
-    fn spans_at(&self, seat: usize, places: &[usize]) -> Result<Vec<Span>, AllocError>
-        requires shown { seat < length self.now.widgets }
-        requires within { All (λ place. place ≤ length (shown self.now (widget_at self.now seat))) places.now }
-        ensures value { IfOk result (λ spans. spans.items
-            ≡ spans_shown self.now (widget_at self.now seat) places.now) }
-        ensures fit { IfOk result (λ spans. All (SpanFits (length self.now.cells)) spans.items) }
-    {
-        let view = view_of(
-            &self.text.store,
-            &self.text.anchors,
-            self.seats.number(seat),
-        );
-        spans_of(self.alloc, view.s, view.e - view.s, places)
-    }
-
     /// Puts a tag on the ranges between pairs of places, and makes it if it is new.
     pub fn add_spans(
         &mut self,

@@ -2,7 +2,7 @@ ghost use Rattle.std.specs.Prelude.{◌≡◌, ◌<◌, ◌≤◌, ◌-◌, fals
 ghost use Rattle.documents.specs.Documents.{widget_at};
 ghost use Rattle.documents.specs.Promise.{Does};
 ghost use Rattle.documents.specs.Texts.{insert_at, insertion_offset};
-ghost use Rattle.documents.specs.View.{is_idle, shown};
+ghost use Rattle.documents.specs.Views.{is_idle, shown};
 
 use crate::documents::Document;
 use command_parts::{Answer, Fault, Pair, put_pairs};

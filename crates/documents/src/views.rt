@@ -4,7 +4,7 @@ ghost use Rattle.std.specs.Prelude.{◌≡◌, ◌-◌, ◌<◌, ◌≤◌, leng
 ghost use Rattle.text_model.specs.declared.limits.TheConstants.Limits.{MOST_CHARS};
 ghost use Rattle.text_index.specs.Views.{IsView, shown as shown_in};
 ghost use Rattle.documents.specs.Documents.{whole, widget_at};
-ghost use Rattle.documents.specs.View.{shown, view_end, view_start};
+ghost use Rattle.documents.specs.Views.{shown, view_end, view_start};
 
 use crate::documents::Document;
 use edit_ops::Anchors;

@@ -32,10 +32,10 @@ use Rattle.documents.specs.Marks.{mark_offset, place_named}
 use Rattle.documents.specs.Promise.{change_with, refused, unless_idle}
 use Rattle.documents.specs.Tags.{add_spans, lowered, raised, remove_spans, reordered}
 use Rattle.documents.specs.Texts.{insert_at, insertion_offset}
-use Rattle.documents.specs.View.{shown, view_end}
+use Rattle.documents.specs.Views.{shown, view_end}
 use Rattle.documents.proofs.CarriedLaws.{IsCarried, carried-active, carried-with}
 use Rattle.documents.proofs.IndexPlaceLaws.{place-within}
-use Rattle.peers.specs.Command.{Call, done}
+use Rattle.peers.specs.Commands.{Call, done}
 use Rattle.peers.specs.Deletions.{delete, replace, replace_places, replace_words}
 use Rattle.peers.specs.History.{edit_modified, modified_word}
 use Rattle.peers.specs.Marks.{gravity_asked, gravity_given, gravity_words, mark_gravity, mark_set, set_at, set_words}

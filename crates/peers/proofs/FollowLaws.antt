@@ -34,12 +34,12 @@ use Rattle.documents.proofs.LeadLaws.{Leads}
 use Rattle.documents.proofs.NewNameLaws.{AreNamed, named-carried, named-same}
 use Rattle.documents.proofs.OptionLeadLaws.{leads-first, leads-left}
 use Rattle.documents.proofs.WidgetLeadLaws.{leads-carried}
-use Rattle.peers.specs.Command.{arguments_of, command, done, shaped, switches_of}
+use Rattle.peers.specs.Commands.{arguments_of, command, done, shaped, switches_of}
 use Rattle.peers.specs.Options.{settings_given}
 use Rattle.peers.specs.Step.{Outcome, changed, create, create_new, create_shaped, create_with, destroy, destroy_shaped}
 use Rattle.peers.specs.Step.{on_found, on_home, on_widget, refuses, step}
-use Rattle.peers.specs.Undoing.{AreSpared, BeginsToKeep, after_all, forgets, forgets_read, is_forgotten, is_spared}
-use Rattle.peers.specs.Undoing.{names_dropped, names_read, place_after, place_after_all, text_at}
+use Rattle.peers.specs.Laws.{AreSpared, BeginsToKeep, after_all, forgets, forgets_read, is_forgotten, is_spared}
+use Rattle.peers.specs.Laws.{names_dropped, names_read, place_after, place_after_all, text_at}
 use Rattle.peers.specs.WellFormed.{IsWellFormed}
 use Rattle.peers.specs.World.{World, all_windows, document_at, home, windows_of}
 use Rattle.peers.proofs.DoneLaws.{IsOther, calling, carried-done}

@@ -18,8 +18,8 @@ use Rattle.command_table.specs.Reading.{reading}
 use Rattle.command_table.specs.declared.commands.Command.TheVariants.{PeerCreate}
 use Rattle.command_table.specs.declared.shapes.Shape.{Shape}
 use Rattle.command_table.specs.declared.shapes.ShapeFault.{ShapeFault}
-use Rattle.peers.specs.Command.{arguments_of, call_of, command, done, shaped}
-use Rattle.peers.specs.Peers.{peer_create}
+use Rattle.peers.specs.Commands.{arguments_of, call_of, command, done, shaped}
+use Rattle.peers.specs.Widgets.{peer_create}
 use Rattle.documents.specs.WellFormed.{IsWellFormedDocument, window_names}
 use Rattle.peers.specs.Step.{changed, on_found}
 use Rattle.peers.specs.WellFormed.{IsWellFormed}

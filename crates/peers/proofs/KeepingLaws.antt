@@ -26,8 +26,8 @@ use Rattle.documents.proofs.NamesKeptLaws.{settings-kept}
 use Rattle.documents.proofs.NewNameLaws.{AreNamed, named-peer, named-same}
 use Rattle.documents.proofs.OptionLeadLaws.{leads-peer, leads-settings, own-lines}
 use Rattle.peers.specs.Options.{configure, settings_given}
-use Rattle.peers.specs.Peers.{peer_create, peer_settings, peer_with}
-use Rattle.peers.specs.Undoing.{sets_keeping}
+use Rattle.peers.specs.Widgets.{peer_create, peer_settings, peer_with}
+use Rattle.peers.specs.Laws.{sets_keeping}
 use Rattle.peers.proofs.OptionLaws.{given-lines}
 
 -- ---- options

@@ -10,7 +10,7 @@ use Rattle.documents.specs.Documents.{Document, Widget}
 use Rattle.documents.specs.Kept.{is_window_name}
 use Rattle.documents.specs.Promise.{Change, change_with, refused}
 use Rattle.peers.specs.Options.{settings_given}
-use Rattle.peers.specs.Peers.{peer_create, peer_settings, peer_with, peer_words}
+use Rattle.peers.specs.Widgets.{peer_create, peer_settings, peer_with, peer_words}
 
 -- ---- the words of `peer create`
 

@@ -14,7 +14,7 @@ use Rattle.documents.specs.Documents.{Document, Widget}
 use Rattle.documents.specs.WellFormed.{window_names}
 use Rattle.documents.specs.Widgets.{is_kept, keeps_some, new_document, new_widget, thinned, with_peer, without_widgets}
 use Rattle.peers.specs.Step.{Outcome, changed, create_named, create_new, has_widgets, refuses}
-use Rattle.peers.specs.Peers.{peer_with}
+use Rattle.peers.specs.Widgets.{peer_with}
 use Rattle.command_parts.specs.declared.answers.Answer.TheVariants.{Word}
 use Rattle.command_parts.specs.declared.answers.Fault.TheVariants.{TooManyWidgets, WindowExists}
 use Rattle.documents.specs.Promise.{Change, answered, refused}

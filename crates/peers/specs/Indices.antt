@@ -7,7 +7,7 @@ use Rattle.command_parts.specs.declared.answers.Fault.{Fault}
 use Rattle.command_parts.specs.declared.comparisons.Comparison.{Comparison}
 use Rattle.command_parts.specs.Arguments.{one_of, three_of}
 use Rattle.command_parts.specs.Faults.{with_value}
-use Rattle.documents.specs.View.{shown}
+use Rattle.documents.specs.Views.{shown}
 use Rattle.documents.specs.Documents.{Document, Widget}
 use Rattle.command_parts.specs.Comparisons.{comparison_at, comparison_of, holds}
 use Rattle.documents.specs.Indices.{place_at}

@@ -21,9 +21,7 @@ use Rattle.documents.specs.Documents.{Document, Widget}
 use Rattle.command_parts.specs.Marking.{gravity_of, gravity_word}
 use Rattle.documents.specs.Marks.{mark_names, place_named, with_mark, mark_offset, set_found, usable_marks}
 
--- ---- marks by their names
-
--- ---- marks that are set, and unset
+-- ---- marks that are set
 
 abbrev pub set_at : LimitTable → Document → Widget → List ℕ → ℕ → Change
 set_at limits document widget name place =

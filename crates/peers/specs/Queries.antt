@@ -20,7 +20,7 @@ use Rattle.command_parts.specs.Faults.{with_value}
 use Rattle.command_parts.specs.Words.{is_same, literal}
 use Rattle.documents.specs.Indices.{place_at}
 use Rattle.peers.specs.Tags.{listed, place_or}
-use Rattle.documents.specs.View.{shown}
+use Rattle.documents.specs.Views.{shown}
 use Rattle.documents.specs.Documents.{Document, Widget}
 use Rattle.documents.specs.Queries.{seen}
 

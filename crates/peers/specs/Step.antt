@@ -19,7 +19,7 @@ use Rattle.documents.specs.Promise.{Change, Gives}
 use Rattle.documents.specs.Widgets.{bare_document, new_document, widget_named, without_widgets}
 use Rattle.peers.specs.WellFormed.{IsWellFormed}
 use Rattle.peers.specs.World.{World, all_windows, document_at, home}
-use Rattle.peers.specs.Command.{command, arguments_of, is_frugal_reading}
+use Rattle.peers.specs.Commands.{command, arguments_of, is_frugal_reading}
 use Rattle.peers.specs.Options.{settings_given}
 
 -- the answer or the fault, and the world after the command

@@ -10,7 +10,7 @@ use Rattle.command_parts.specs.Faults.{with_value}
 use Rattle.documents.specs.Indices.{place_at}
 use Rattle.documents.specs.Promise.{Change, change_with}
 use Rattle.peers.specs.Ranges.{places_at}
-use Rattle.documents.specs.View.{shown}
+use Rattle.documents.specs.Views.{shown}
 use Rattle.documents.specs.Documents.{Document, Widget}
 use Rattle.command_parts.specs.Listing.{begun, range_words}
 use Rattle.documents.specs.Tags.{add_spans, remove_spans, tags_on, flags_of, raised, lowered, reordered}

@@ -11,7 +11,7 @@ use Rattle.documents.specs.Indices.{place_at}
 use Rattle.command_parts.specs.Lists.{Pair, pairs_at}
 use Rattle.documents.specs.Promise.{Change, change_with, unless_idle}
 use Rattle.peers.specs.Ranges.{places_at}
-use Rattle.documents.specs.View.{shown}
+use Rattle.documents.specs.Views.{shown}
 use Rattle.documents.specs.Documents.{Document, Widget}
 use Rattle.command_parts.specs.Listing.{is_filled}
 use Rattle.documents.specs.Texts.{insert_at, insertion_offset}

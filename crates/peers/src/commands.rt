@@ -2,7 +2,7 @@ ghost use Rattle.std.specs.Prelude.{◌≡◌, ◌≢◌, ◌+◌, ◌<◌, ◌�
 ghost use Rattle.tcl_words.specs.Unread.{texts_of};
 ghost use Rattle.documents.specs.Documents.{widget_at};
 ghost use Rattle.documents.specs.Promise.{Does};
-ghost use Rattle.peers.specs.Command.{done, command, is_frugal};
+ghost use Rattle.peers.specs.Commands.{done, command, is_frugal};
 ghost use Rattle.command_table.specs.Reading.{reading};
 ghost use Rattle.command_table.specs.declared.commands.Command.TheVariants.{PeerCreate};
 ghost use Rattle.command_parts.specs.declared.answers.Fault.TheVariants.{Memory};
@@ -13,12 +13,12 @@ use crate::history::edit_modified;
 use crate::indices::{compare, index};
 use crate::marks::{mark_gravity, mark_names, mark_next, mark_previous, mark_set};
 use crate::options::{cget, configure};
-use crate::peers::peer_names;
 use crate::queries::{count, dump, search};
 use crate::tags::{
     tag_add, tag_lower, tag_names, tag_nextrange, tag_prevrange, tag_raise, tag_ranges, tag_remove,
 };
 use crate::texts::{get, insert};
+use crate::widgets::peer_names;
 use command_parts::{Answer, Fault};
 use command_table::{Command, Shape};
 use documents::Document;

@@ -1,6 +1,6 @@
 ghost use Rattle.std.specs.Prelude.{◌+◌, ◌≤◌, length, chars, ◌<◌, IfOk};
 ghost use Rattle.std.specs.List.{All};
-ghost use Rattle.documents.specs.View.{shown};
+ghost use Rattle.documents.specs.Views.{shown};
 ghost use Rattle.tcl_words.specs.Unread.{texts_of};
 ghost use Rattle.command_parts.specs.Lists.{pairs_at};
 ghost use Rattle.documents.specs.Deletions.{delete_places, replace_span};

@@ -1,7 +1,7 @@
 ghost use Rattle.std.specs.Prelude.{◌≡◌, ◌+◌, ◌≤◌, length, chars, IfOk, ◌<◌};
 ghost use Rattle.tcl_words.specs.Unread.{texts_of};
 ghost use Rattle.documents.specs.Documents.{widget_at};
-ghost use Rattle.documents.specs.View.{shown};
+ghost use Rattle.documents.specs.Views.{shown};
 ghost use Rattle.command_parts.specs.Faults.{with_value};
 ghost use Rattle.documents.specs.Promise.{Gives};
 ghost use Rattle.peers.specs.Indices.{position_answer, index_of, index, compared, compared_at, compare};

@@ -22,7 +22,7 @@ ghost use Rattle.peers.specs.Queries.{
   turned,
 };
 ghost use Rattle.peers.specs.Tags.{place_or};
-ghost use Rattle.documents.specs.View.{shown};
+ghost use Rattle.documents.specs.Views.{shown};
 ghost use Rattle.documents.specs.Documents.{widget_at};
 
 use crate::tags::place_or;

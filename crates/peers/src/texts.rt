@@ -3,7 +3,7 @@ ghost use Rattle.tcl_words.specs.ListText.{list_text};
 ghost use Rattle.std.specs.List.{All};
 ghost use Rattle.tcl_words.specs.Unread.{texts_of};
 ghost use Rattle.documents.specs.Documents.{widget_at};
-ghost use Rattle.documents.specs.View.{shown};
+ghost use Rattle.documents.specs.Views.{shown};
 ghost use Rattle.documents.specs.Promise.{Gives, Does, change_with, unless_idle};
 ghost use Rattle.command_parts.specs.Lists.{pairs_at};
 ghost use Rattle.documents.specs.Texts.{insert_at, insertion_offset};

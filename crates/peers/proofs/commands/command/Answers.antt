@@ -1,6 +1,6 @@
 use Rattle.std.proofs.Common.{sym, ap, ap₂, ◌∙◌}
 use Rattle.tcl_words.specs.Unread.{texts_of}
-use Rattle.peers.specs.Command.{done, shaped}
+use Rattle.peers.specs.Commands.{done, shaped}
 use Rattle.documents.specs.Documents.{widget_at}
 use Rattle.peers.proofs.ArgumentLaws.{arguments-part, switches-part}
 use Rattle.peers.proofs.PromiseLaws.{does-same}

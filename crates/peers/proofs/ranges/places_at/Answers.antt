@@ -2,7 +2,7 @@ use Rattle.std.proofs.Common.{◌≤◌, ◌∷◌, [], ℕ, length, ◌+◌}
 use Rattle.std.specs.Prelude.{chars}
 use Rattle.std.proofs.lemmas.List.Elements.{All-append, All-cons, All-nil}
 use Rattle.documents.specs.Indices.{place_at}
-use Rattle.documents.specs.View.{shown}
+use Rattle.documents.specs.Views.{shown}
 use Rattle.documents.specs.Documents.{widget_at}
 use Rattle.peers.proofs.PlaceLaws.{found-more, found-fault}
 use Rattle.peers.proofs.PromiseLaws.{fault-defined, value-defined}

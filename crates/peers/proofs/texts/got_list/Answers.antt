@@ -5,7 +5,7 @@ use Rattle.std.proofs.lemmas.List.Elements.{All-take, All-drop}
 use Rattle.tcl_words.specs.ListGrowth.{Goes}
 use Rattle.peers.specs.Texts.{texts_of_places}
 use Rattle.command_parts.specs.Listing.{is_filled}
-use Rattle.documents.specs.View.{shown}
+use Rattle.documents.specs.Views.{shown}
 use Rattle.documents.specs.Documents.{widget_at}
 use Rattle.peers.proofs.GotLaws.{got-more, got-end, got-last, one_left}
 use Rattle.documents.proofs.ListedLaws.{written}

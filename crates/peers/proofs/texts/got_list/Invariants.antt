@@ -1,7 +1,7 @@
 use Rattle.std.proofs.Common.{ℕ, ◌≤◌, length}
 use Rattle.std.specs.Prelude.{string_bytes}
 use Rattle.std.specs.List.{All}
-use Rattle.documents.specs.View.{shown}
+use Rattle.documents.specs.Views.{shown}
 use Rattle.documents.specs.Documents.{widget_at}
 use Rattle.peers.proofs.GotLaws.{AreGot}
 use Rattle.peers.proofs.texts.got_list.Given as goal

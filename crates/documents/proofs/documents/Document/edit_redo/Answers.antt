@@ -10,7 +10,7 @@ use Rattle.command_parts.specs.declared.answers.Fault.{Fault}
 use Rattle.documents.specs.Documents.{document_of, parts_of, widget_at}
 use Rattle.documents.specs.Kept.{Stands}
 use Rattle.documents.specs.Promise.{Does}
-use Rattle.documents.specs.Reversals.{edit_redo}
+use Rattle.documents.specs.History.{edit_redo}
 use Rattle.documents.proofs.ChangeLaws.{does-left, stands-same}
 use Rattle.documents.proofs.PartsLaws.{sits}
 use Rattle.documents.proofs.ReversalLaws.{CanRevert, IsReverted, leaves-redone}

@@ -8,7 +8,7 @@ use Rattle.text_index.specs.Ranges.{next_range}
 use Rattle.command_parts.specs.Listing.{begun, range_words}
 use Rattle.documents.specs.Documents.{parts_of, widget_at}
 use Rattle.documents.specs.Kept.{Stands}
-use Rattle.documents.specs.View.{shown}
+use Rattle.documents.specs.Views.{shown}
 use Rattle.documents.proofs.ListedLaws.{written}
 use Rattle.documents.proofs.PartsLaws.{sits}
 use Rattle.documents.proofs.TaggedLaws.{flags-known, flags-unknown}

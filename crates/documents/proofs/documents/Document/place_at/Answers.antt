@@ -3,7 +3,7 @@ use Rattle.std.specs.Prelude.{chars}
 use Rattle.documents.specs.Documents.{parts_of, widget_at}
 use Rattle.documents.specs.Kept.{Stands}
 use Rattle.documents.specs.Names.{place_of}
-use Rattle.documents.specs.View.{shown}
+use Rattle.documents.specs.Views.{shown}
 use Rattle.documents.proofs.MeaningLaws.{found-within, gives-place, place-found}
 use Rattle.documents.proofs.PartsLaws.{sits}
 use Rattle.documents.proofs.ViewLaws.{length-found, see, view-found}

@@ -5,7 +5,7 @@ use Rattle.documents.specs.Documents.{Document, widget_at}
 use Rattle.documents.specs.Kept.{is_window_name}
 use Rattle.documents.specs.Promise.{Change, refused}
 use Rattle.peers.specs.Options.{settings_given}
-use Rattle.peers.specs.Peers.{peer_settings}
+use Rattle.peers.specs.Widgets.{peer_settings}
 use Rattle.peers.specs.Step.{changed}
 use Rattle.peers.specs.World.{World, all_windows, document_at}
 use Rattle.peers.proofs.PeerLaws.{bad-peer, good-peer}

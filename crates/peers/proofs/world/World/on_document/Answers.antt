@@ -7,8 +7,8 @@ use Rattle.documents.specs.Documents.{Document, widget_at}
 use Rattle.documents.specs.Promise.{Change, Does}
 use Rattle.documents.specs.WellFormed.{IsWellFormedDocument, window_names}
 use Rattle.documents.specs.Widgets.{widget_named}
-use Rattle.peers.specs.Command.{command}
-use Rattle.peers.specs.Peers.{peer_create}
+use Rattle.peers.specs.Commands.{command}
+use Rattle.peers.specs.Widgets.{peer_create}
 use Rattle.peers.specs.Step.{Outcome, changed, on_found}
 use Rattle.peers.specs.World.{World, all_windows, document_at, home, windows_of}
 use Rattle.peers.proofs.ArgumentLaws.{arguments-part}

@@ -3,7 +3,7 @@ use Rattle.tcl_words.specs.Unread.{texts_of}
 use Rattle.command_parts.specs.Faults.{with_value}
 use Rattle.command_parts.specs.Settings.{settings_checked, settings_read}
 use Rattle.command_parts.specs.declared.settings.Settings.{Settings}
-use Rattle.peers.proofs.peers.peer_settings.Goals as goal
+use Rattle.peers.proofs.widgets.peer_settings.Goals as goal
 
 pub returns-clause-value : goal.returns-clause-value
 returns-clause-value g c =

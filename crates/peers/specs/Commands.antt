@@ -24,13 +24,13 @@ use Rattle.peers.specs.Marks.{mark_set, mark_gravity, mark_names_of, mark_next, 
 use Rattle.peers.specs.Options.{cget, configure}
 use Rattle.documents.specs.Promise.{Change, refused, unchanged}
 use Rattle.peers.specs.Queries.{count, dump, search}
-use Rattle.documents.specs.Reversals.{edit_redo, edit_undo}
+use Rattle.documents.specs.History.{edit_redo, edit_undo}
 use Rattle.documents.specs.Tags.{tag_delete}
 use Rattle.peers.specs.Tags.{tag_add, tag_remove, tag_names, tag_ranges_of, tag_nextrange, tag_prevrange, tag_raise}
 use Rattle.peers.specs.Tags.{tag_lower}
 use Rattle.peers.specs.Texts.{insert, get}
 use Rattle.documents.specs.Documents.{Document, Widget}
-use Rattle.peers.specs.Peers.{peer_create, peer_names}
+use Rattle.peers.specs.Widgets.{peer_create, peer_names}
 
 -- the switches of a command
 abbrev pub switches_of : Shape → List (List ℕ) → List (List ℕ)

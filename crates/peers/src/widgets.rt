@@ -6,7 +6,7 @@ ghost use Rattle.documents.specs.Documents.{characters, widget_at};
 ghost use Rattle.documents.specs.Options.{AreLines};
 ghost use Rattle.documents.specs.Promise.{Gives};
 ghost use Rattle.peers.specs.Options.{settings_given};
-ghost use Rattle.peers.specs.Peers.{peer_names, peer_settings};
+ghost use Rattle.peers.specs.Widgets.{peer_names, peer_settings};
 
 use crate::options::settings_given;
 use command_parts::{Answer, Fault, Settings};
