@@ -29,7 +29,7 @@ is_window_name (character ∷ other ∷ others) = character == 46
 pub record AreSeats (seats : List Named) : Type 0 where
   pub names_apart : AreApart (names_of seats)
   pub numbers_apart : AreApart (numbers_of seats)
-  pub below : (at number : ℕ) → slice_get (numbers_of seats) at ≡ Some number → number < most_widgets
+  pub below : (seat number : ℕ) → slice_get (numbers_of seats) seat ≡ Some number → number < most_widgets
 
 -- every slot is that of a seat or of a tag
 abbrev pub AreKnown : List Named → List Tag → Slots → Type 0
