@@ -5,11 +5,11 @@ use Rattle.std.specs.List.{All}
 use Rattle.std.proofs.lemmas.Bool.{ltb-false}
 use Rattle.text_model.specs.declared.places.Place.{Place}
 use Rattle.text_model.specs.LimitTable.{LimitTable}
-use Rattle.command_parts.specs.declared.answers.Answer.TheVariants.{Empty}
-use Rattle.command_parts.specs.declared.answers.Fault.{Fault}
-use Rattle.command_parts.specs.declared.answers.Fault.TheVariants.{NoSuchTag, TooManyTags, TextTooLong}
-use Rattle.command_parts.specs.Lists.{Pair}
-use Rattle.command_parts.specs.Words.{is_among}
+use Rattle.command_effects.specs.declared.answers.Answer.TheVariants.{Empty}
+use Rattle.command_effects.specs.declared.answers.Fault.{Fault}
+use Rattle.command_effects.specs.declared.answers.Fault.TheVariants.{NoSuchTag, TooManyTags, TextTooLong}
+use Rattle.command_effects.specs.Lists.{Pair}
+use Rattle.command_effects.specs.Words.{is_among}
 use Rattle.documents.specs.Deletions.{delete_places, replace_span}
 use Rattle.documents.specs.Documents.{Document, Widget}
 use Rattle.documents.specs.History.{edit_separator, modified_set}

@@ -13,11 +13,11 @@ use Rattle.edit_ops.specs.declared.spans.Span.{Span}
 use Rattle.edit_ops.specs.Deletions.{in_spans}
 use Rattle.edit_ops.specs.Removals.{clipped}
 use Rattle.edit_ops.specs.Reversals.{redo_end, undo_end}
-use Rattle.command_parts.specs.declared.answers.Answer.TheVariants.{Empty}
-use Rattle.command_parts.specs.declared.answers.Fault.TheVariants.{TooManyMarks, TooManyTags}
-use Rattle.command_parts.specs.declared.settings.Settings.{Settings}
-use Rattle.command_parts.specs.Lists.{Pair, total, with_name}
-use Rattle.command_parts.specs.Words.{is_among, is_same, literal}
+use Rattle.command_effects.specs.declared.answers.Answer.TheVariants.{Empty}
+use Rattle.command_effects.specs.declared.answers.Fault.TheVariants.{TooManyMarks, TooManyTags}
+use Rattle.command_effects.specs.declared.settings.Settings.{Settings}
+use Rattle.command_effects.specs.Lists.{Pair, total, with_name}
+use Rattle.command_effects.specs.Words.{is_among, is_same, literal}
 use Rattle.documents.specs.Deletions.{delete_spans, deleted_runs, last_bare, replace_span, with_clipped}
 use Rattle.documents.specs.Documents.{Document, Widget, KeyedCell, characters}
 use Rattle.documents.specs.Edits.{KeyedText, keys_between, keys_or, widget_drawn, widget_moved, with_action, with_bare}

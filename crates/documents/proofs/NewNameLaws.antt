@@ -6,9 +6,9 @@ use Rattle.std.proofs.lemmas.List.{length-append, length-map, map-append}
 use Rattle.std.proofs.lemmas.Slice.Eq.{bytes_eq-Decides}
 use Rattle.text_model.specs.LimitTable.{LimitTable}
 use Rattle.undo_stack.specs.History.{separated}
-use Rattle.command_parts.proofs.CountLaws.{among-append}
-use Rattle.command_parts.specs.declared.settings.Settings.{Settings}
-use Rattle.command_parts.specs.Words.{is_among, is_same}
+use Rattle.command_effects.proofs.CountLaws.{among-append}
+use Rattle.command_effects.specs.declared.settings.Settings.{Settings}
+use Rattle.command_effects.specs.Words.{is_among, is_same}
 use Rattle.documents.specs.Documents.{Document, Widget}
 use Rattle.documents.specs.Kept.{is_window_name}
 use Rattle.documents.specs.Ranges.{spans_shown}

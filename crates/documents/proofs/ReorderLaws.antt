@@ -8,12 +8,12 @@ use Rattle.tag_table.specs.declared.faults.NoSuchTag.TheVariants.{Moved, Neighbo
 use Rattle.tag_table.specs.Priority as table
 use Rattle.tag_table.specs.Priority.{next_to}
 use Rattle.tag_table.specs.Tags.{Tag, is_named, names_of}
-use Rattle.command_parts.specs.declared.answers.Answer.TheVariants.{Empty}
-use Rattle.command_parts.specs.declared.answers.Fault.TheVariants.{NoSuchTag}
+use Rattle.command_effects.specs.declared.answers.Answer.TheVariants.{Empty}
+use Rattle.command_effects.specs.declared.answers.Fault.TheVariants.{NoSuchTag}
 use Rattle.documents.specs.Promise.{answered, refused}
 use Rattle.documents.specs.Tags.{known_or, reordered}
 use Rattle.documents.specs.Documents.{Document}
-use Rattle.command_parts.specs.Words.{is_among}
+use Rattle.command_effects.specs.Words.{is_among}
 use Rattle.documents.proofs.OrderLaws.{IsOrdered, Order, found_among, known_found, same_Err}
 
 -- a name that isn't a tag's, by itself or as a neighbour

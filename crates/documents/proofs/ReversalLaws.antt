@@ -30,8 +30,8 @@ use Rattle.edit_ops.specs.States.{Log, State}
 use Rattle.edit_ops.proofs.ReversalLaws.{group-redone-text, group-undone-text, guarded, redone-kept, redone-text}
 use Rattle.edit_ops.proofs.ReversalLaws.{undone-kept}
 use Rattle.text_cursor.specs.Around.{shared_slots}
-use Rattle.command_parts.specs.declared.answers.Answer.TheVariants.{Empty}
-use Rattle.command_parts.specs.Settings.{recording_of}
+use Rattle.command_effects.specs.declared.answers.Answer.TheVariants.{Empty}
+use Rattle.command_effects.specs.Settings.{recording_of}
 use Rattle.documents.specs.Deletions.{with_clipped}
 use Rattle.documents.specs.Documents.{Document, Parts, Widget, document_of, widget_at}
 use Rattle.documents.specs.Edits.{keys_between, without_cells}

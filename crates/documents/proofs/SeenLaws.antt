@@ -10,7 +10,7 @@ use Rattle.text_model.specs.Content.{Content}
 use Rattle.text_model.proofs.SpliceLaws.{map-alike, map-map}
 use Rattle.search_dump.specs.Dump as dump
 use Rattle.search_dump.specs.Dump.{Tagged, name_of_rank, own_slot, seen_by}
-use Rattle.command_parts.specs.Words.{literal}
+use Rattle.command_effects.specs.Words.{literal}
 use Rattle.documents.specs.Documents.{Document, Parts, Widget, widget_at}
 use Rattle.documents.specs.Keys.{key_named}
 use Rattle.documents.specs.Kept.{Stands}

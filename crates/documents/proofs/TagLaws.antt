@@ -10,9 +10,9 @@ use Rattle.text_model.specs.Content.{Content}
 use Rattle.text_model.specs.LimitTable.{LimitTable}
 use Rattle.edit_ops.specs.States.{Log}
 use Rattle.edit_ops.specs.Tagging.{cell_without, cleared}
-use Rattle.command_parts.specs.declared.answers.Answer.TheVariants.{Empty}
-use Rattle.command_parts.specs.declared.answers.Fault.TheVariants.{NoSuchTag}
-use Rattle.command_parts.specs.Tagging.{slots_deleted, tags_left, stays}
+use Rattle.command_effects.specs.declared.answers.Answer.TheVariants.{Empty}
+use Rattle.command_effects.specs.declared.answers.Fault.TheVariants.{NoSuchTag}
+use Rattle.command_effects.specs.Tagging.{slots_deleted, tags_left, stays}
 use Rattle.documents.specs.Documents.{Document, Parts, document_of}
 use Rattle.documents.specs.Kept.{Stands}
 use Rattle.documents.specs.Promise.{answered}

@@ -10,12 +10,12 @@ use Rattle.text_model.specs.declared.places.Place.{Place}
 use Rattle.edit_ops.specs.Anchors.{AreAnchored}
 use Rattle.edit_ops.specs.Tagging.{SpanFits}
 use Rattle.edit_ops.specs.declared.spans.Span.{Span}
-use Rattle.command_parts.specs.declared.answers.Answer.TheVariants.{Empty}
-use Rattle.command_parts.specs.declared.answers.Fault.TheVariants.{TooManyMarks, TooManyTags}
-use Rattle.command_parts.specs.Lists.{with_name}
-use Rattle.command_parts.specs.Ranges.{spans_of}
-use Rattle.command_parts.specs.Words.{is_among}
-use Rattle.command_parts.proofs.PairLaws.{spans_of-fit}
+use Rattle.command_effects.specs.declared.answers.Answer.TheVariants.{Empty}
+use Rattle.command_effects.specs.declared.answers.Fault.TheVariants.{TooManyMarks, TooManyTags}
+use Rattle.command_effects.specs.Lists.{with_name}
+use Rattle.command_effects.specs.Ranges.{spans_of}
+use Rattle.command_effects.specs.Words.{is_among}
+use Rattle.command_effects.proofs.PairLaws.{spans_of-fit}
 use Rattle.documents.specs.Documents.{Document, Widget, KeyedCell, characters}
 use Rattle.documents.specs.Edits.{with_tag}
 use Rattle.documents.specs.Marks.{set_found}

@@ -12,8 +12,8 @@ use Rattle.edit_ops.specs.States.{Log, log_of}
 pub use Rattle.tag_table.specs.Tags.{sel}
 use Rattle.tag_table.specs.Tags.{Tags, names_of}
 use Rattle.mark_table.specs.SharedMarks.{Mark, SharedMarks}
-use Rattle.command_parts.specs.Edits.{new_mark}
-use Rattle.command_parts.specs.declared.settings.DocumentSettings.{DocumentSettings}
+use Rattle.command_effects.specs.Edits.{new_mark}
+use Rattle.command_effects.specs.declared.settings.DocumentSettings.{DocumentSettings}
 use Rattle.documents.specs.Keys.{keyed, key_pairs}
 pub use Rattle.documents.specs.Keys.{KeyedCell}
 

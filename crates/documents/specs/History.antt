@@ -4,8 +4,8 @@ use Rattle.undo_stack.specs.History.{after_redo, after_undo, limit_of, next_redo
 use Rattle.undo_stack.specs.Modified.{counted_down, counted_up, set_to, times}
 use Rattle.undo_stack.specs.declared.actions.Action.{Action}
 use Rattle.edit_ops.specs.Reversals.{redo_end, undo_end}
-use Rattle.command_parts.specs.declared.answers.Answer.TheVariants.{Empty}
-use Rattle.command_parts.specs.declared.answers.Fault.TheVariants.{NothingToRedo, NothingToUndo}
+use Rattle.command_effects.specs.declared.answers.Answer.TheVariants.{Empty}
+use Rattle.command_effects.specs.declared.answers.Fault.TheVariants.{NothingToRedo, NothingToUndo}
 use Rattle.documents.specs.Deletions.{with_clipped}
 use Rattle.documents.specs.Edits.{keys_between, with_cells, without_cells}
 use Rattle.documents.specs.Views.{is_idle}

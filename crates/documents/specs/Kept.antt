@@ -15,7 +15,7 @@ use Rattle.tag_table.specs.Tags.{Tag, Tags, AreTags}
 use Rattle.undo_stack.specs.History.{limit_of}
 use Rattle.edit_ops.specs.Anchors.{AreAnchored}
 use Rattle.edit_ops.specs.declared.anchors.Anchors.{Anchors}
-use Rattle.command_parts.specs.Words.{is_own}
+use Rattle.command_effects.specs.Words.{is_own}
 use Rattle.documents.specs.Keys.{key_pairs, pair_slots}
 use Rattle.documents.specs.Documents.{Document, Journal, Parts, document_of}
 

@@ -8,14 +8,14 @@ use Rattle.text_index.specs.Views.{shared_place}
 use Rattle.text_model.specs.declared.places.Gravity.TheVariants.{Right}
 use Rattle.text_model.specs.declared.places.Place.{Place}
 use Rattle.text_model.specs.LimitTable.{LimitTable}
-use Rattle.command_parts.specs.declared.answers.Answer.TheVariants.{Empty}
-use Rattle.command_parts.specs.declared.answers.Fault.TheVariants.{TooManyMarks}
+use Rattle.command_effects.specs.declared.answers.Answer.TheVariants.{Empty}
+use Rattle.command_effects.specs.declared.answers.Fault.TheVariants.{TooManyMarks}
 use Rattle.documents.specs.Names.{mark_place}
 use Rattle.documents.specs.Promise.{Change, refused, answered}
 use Rattle.documents.specs.Views.{view_start, view_end, shown}
-use Rattle.command_parts.specs.Words.{is_same, is_own, literal}
+use Rattle.command_effects.specs.Words.{is_same, is_own, literal}
 use Rattle.documents.specs.Documents.{Document, Widget, SharedMark}
-use Rattle.command_parts.specs.Marking.{is_left}
+use Rattle.command_effects.specs.Marking.{is_left}
 
 -- ---- marks by their names
 

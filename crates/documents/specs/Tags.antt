@@ -5,18 +5,18 @@ use Rattle.std.specs.FinSet as set
 use Rattle.name_list.specs.Moves.{without, put_behind, put_before}
 use Rattle.text_model.specs.Changes.{flag_at}
 use Rattle.text_model.specs.LimitTable.{LimitTable}
-use Rattle.command_parts.specs.declared.answers.Answer.TheVariants.{Empty}
-use Rattle.command_parts.specs.declared.answers.Fault.TheVariants.{NoSuchTag, TooManyTags}
+use Rattle.command_effects.specs.declared.answers.Answer.TheVariants.{Empty}
+use Rattle.command_effects.specs.declared.answers.Fault.TheVariants.{NoSuchTag, TooManyTags}
 use Rattle.documents.specs.Edits.{with_tag}
 use Rattle.documents.specs.Keys.{Key}
-use Rattle.command_parts.specs.Lists.{with_name}
+use Rattle.command_effects.specs.Lists.{with_name}
 use Rattle.documents.specs.Names.{key_of}
 use Rattle.documents.specs.Promise.{Change, refused, answered}
 use Rattle.documents.specs.Ranges.{spans_shown}
 use Rattle.documents.specs.Views.{shown_flags}
-use Rattle.command_parts.specs.Words.{is_same, is_among}
+use Rattle.command_effects.specs.Words.{is_same, is_among}
 use Rattle.documents.specs.Documents.{Document, Widget, KeyedCell}
-use Rattle.command_parts.specs.Tagging.{stays}
+use Rattle.command_effects.specs.Tagging.{stays}
 
 -- ---- on characters
 

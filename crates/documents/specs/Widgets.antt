@@ -6,8 +6,8 @@ use Rattle.text_model.specs.declared.places.Gravity.TheVariants.{Right}
 use Rattle.text_model.specs.declared.places.Place.{Place}
 use Rattle.undo_stack.specs.History.{no_history}
 use Rattle.undo_stack.specs.Modified.{unmodified}
-use Rattle.command_parts.specs.declared.settings.Settings.{Settings}
-use Rattle.command_parts.specs.Words.{is_among, is_same}
+use Rattle.command_effects.specs.declared.settings.Settings.{Settings}
+use Rattle.command_effects.specs.Words.{is_among, is_same}
 use Rattle.documents.specs.Keys.{KeyedCell, selection_stays}
 use Rattle.documents.specs.Documents.{Document, Widget, sel}
 use Rattle.documents.specs.Options.{anchor_at, with_shared_settings}

@@ -8,7 +8,7 @@ ghost use Rattle.documents.specs.Views.{is_idle, shown};
 
 use crate::documents::Document;
 use crate::views::{end_of, start_of};
-use command_parts::{Answer, Fault, Pair, delete_spans, replace_pairs, spans_of};
+use command_effects::{Answer, Fault, Pair, delete_spans, replace_pairs, spans_of};
 use edit_ops::{EditRules, Target};
 use text_model::{Limits, MarkNo, TagSlot, TextStore};
 

@@ -6,15 +6,15 @@ ghost use Rattle.documents.specs.Widgets.{bare_document, new_document, widget_na
 ghost use Rattle.documents.specs.Kept.{is_window_name};
 ghost use Rattle.documents.specs.WellFormed.{IsWellFormedDocument, window_names};
 ghost use Rattle.text_model.specs.declared.limits.TheConstants.Limits.{MOST_TAGS};
-ghost use Rattle.command_parts.specs.Words.{is_among};
+ghost use Rattle.command_effects.specs.Words.{is_among};
 ghost use Rattle.documents.specs.Options.{AreLines};
-ghost use Rattle.command_parts.specs.Settings.{is_behind};
+ghost use Rattle.command_effects.specs.Settings.{is_behind};
 ghost use Rattle.text_model.specs.Lines.{lines};
 ghost use Rattle.text_model.specs.declared.limits.TheConstants.Limits.{MOST_WIDGETS};
 ghost use Rattle.std.specs.Prelude.{false};
 
 use crate::views::{end_of, start_of};
-use command_parts::{DocumentSettings, Settings};
+use command_effects::{DocumentSettings, Settings};
 use edit_ops::EditedText;
 use mark_table::MarkTable;
 use name_list::NameList;

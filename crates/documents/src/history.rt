@@ -6,7 +6,7 @@ ghost use Rattle.documents.specs.WellFormed.{IsWellFormedDocument};
 ghost use Rattle.undo_stack.specs.Modified.{is_modified};
 
 use crate::documents::Document;
-use command_parts::{Answer, Fault, redo_group, undo_group};
+use command_effects::{Answer, Fault, redo_group, undo_group};
 use text_model::{Limits, MarkNo, TextStore};
 
 impl<S: TextStore> Document<S> {

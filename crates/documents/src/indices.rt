@@ -3,13 +3,13 @@ ghost use Rattle.std.specs.Prelude.{IfOk};
 ghost use Rattle.text_index.specs.Positions.{position_text};
 ghost use Rattle.documents.specs.Documents.{widget_at};
 ghost use Rattle.documents.specs.Views.{shown};
-ghost use Rattle.command_parts.specs.Faults.{at_position};
+ghost use Rattle.command_effects.specs.Faults.{at_position};
 ghost use Rattle.documents.specs.Promise.{Gives};
 ghost use Rattle.documents.specs.Indices.{place_at};
 
 use crate::documents::Document;
 use crate::views::view_of;
-use command_parts::Fault;
+use command_effects::Fault;
 use std::alloc::AllocError;
 use text_index::{IndexFault, Names, locate, push_index};
 use text_model::{TagSlot, Text, TextStore};

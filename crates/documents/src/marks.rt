@@ -3,20 +3,20 @@ ghost use Rattle.std.specs.Prelude.{Ok, Err, IfOk, [], IfSome, slice_index_or};
 ghost use Rattle.documents.specs.Documents.{widget_at};
 ghost use Rattle.documents.specs.Views.{shown};
 ghost use Rattle.documents.specs.Promise.{Does, answered};
-ghost use Rattle.command_parts.specs.declared.answers.Fault.TheVariants.{Memory};
+ghost use Rattle.command_effects.specs.declared.answers.Fault.TheVariants.{Memory};
 ghost use Rattle.tcl_words.specs.ListText.{list_text};
 ghost use Rattle.tcl_words.specs.Unread.{texts_of};
 ghost use Rattle.mark_table.specs.Order.{next_mark, previous_mark, rank_of};
-ghost use Rattle.command_parts.specs.declared.answers.Answer.TheVariants.{Empty};
+ghost use Rattle.command_effects.specs.declared.answers.Answer.TheVariants.{Empty};
 ghost use Rattle.documents.specs.Names.{mark_number, mark_place};
 ghost use Rattle.documents.specs.Marks.{origin_in};
-ghost use Rattle.command_parts.specs.Marking.{gravity_word as spec_gravity_word};
+ghost use Rattle.command_effects.specs.Marking.{gravity_word as spec_gravity_word};
 ghost use Rattle.documents.specs.Marks.{mark_names, mark_offset, mark_unset, place_named, set_found, usable_marks};
 ghost use Rattle.documents.specs.Marks.{with_current, with_insert, with_mark, with_shared};
 
 use crate::documents::Document;
 use crate::views::mark_view_of;
-use command_parts::{
+use command_effects::{
     Answer, Fault, gravity_word, is_word, make_mark, numbers_named, push_mark_names, put_mark,
     take_marks, turn_mark, unset_names,
 };

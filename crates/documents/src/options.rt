@@ -1,6 +1,6 @@
 ghost use Rattle.std.specs.Prelude.{◌≡◌, ◌+◌, ◌-◌, ◌<◌, ◌≤◌, false, length, option_map, Ok, IfSome};
-ghost use Rattle.command_parts.specs.declared.answers.Answer.TheVariants.{Empty};
-ghost use Rattle.command_parts.specs.Settings.{is_behind};
+ghost use Rattle.command_effects.specs.declared.answers.Answer.TheVariants.{Empty};
+ghost use Rattle.command_effects.specs.Settings.{is_behind};
 ghost use Rattle.documents.specs.Documents.{characters, widget_at};
 ghost use Rattle.documents.specs.Options.{AreLines, IsLine, settings_of, with_settings};
 ghost use Rattle.documents.specs.Promise.{Does, answered};
@@ -8,7 +8,7 @@ ghost use Rattle.text_model.specs.Content as model;
 ghost use Rattle.text_model.specs.Lines.{line_of, line_start, lines};
 
 use crate::documents::Document;
-use command_parts::{Answer, Settings};
+use command_effects::{Answer, Settings};
 use edit_ops::Anchors;
 use text_model::{Limits, TextStore};
 

@@ -7,7 +7,7 @@ ghost use Rattle.edit_ops.specs.Tagging.{SpanFits};
 
 use crate::documents::Document;
 use crate::views::view_of;
-use command_parts::spans_of;
+use command_effects::spans_of;
 use edit_ops::Span;
 use std::alloc::AllocError;
 use text_model::TextStore;

@@ -10,12 +10,12 @@ ghost use Rattle.tcl_words.specs.Unread.{texts_of};
 ghost use Rattle.text_index.specs.Ranges.{tag_ranges, next_range, previous_range};
 ghost use Rattle.documents.specs.Tags.{flags_of, tags_on, add_spans, remove_spans, tag_delete, reordered, raised};
 ghost use Rattle.documents.specs.Tags.{lowered};
-ghost use Rattle.command_parts.specs.Listing.{range_words, begun};
-ghost use Rattle.command_parts.specs.declared.answers.Answer.TheVariants.{Empty};
+ghost use Rattle.command_effects.specs.Listing.{range_words, begun};
+ghost use Rattle.command_effects.specs.declared.answers.Answer.TheVariants.{Empty};
 
 use crate::documents::Document;
 use crate::views::view_of;
-use command_parts::{
+use command_effects::{
     Answer, Fault, clear_slots, delete_names, deleted_slots, find_tag, is_one_too_many, push_names,
     push_names_in, push_next, push_previous, push_ranges, set_slot, tag_spans,
 };

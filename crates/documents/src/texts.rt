@@ -5,7 +5,7 @@ ghost use Rattle.documents.specs.Texts.{insert_at, insertion_offset};
 ghost use Rattle.documents.specs.Views.{is_idle, shown};
 
 use crate::documents::Document;
-use command_parts::{Answer, Fault, Pair, put_pairs};
+use command_effects::{Answer, Fault, Pair, put_pairs};
 use edit_ops::EditRules;
 use std::alloc::AllocError;
 use text_model::{Limits, TagSlot, Text, TextStore};

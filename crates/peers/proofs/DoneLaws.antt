@@ -18,12 +18,12 @@ use Rattle.command_table.specs.declared.commands.Command.TheVariants.{TagPreviou
 use Rattle.command_table.specs.declared.commands.Command.TheVariants.{Cget, EditUndo, EditRedo, EditModified, EditReset}
 use Rattle.command_table.specs.declared.commands.Command.TheVariants.{EditSeparator, Search, Count, Dump, PeerCreate}
 use Rattle.command_table.specs.declared.commands.Command.TheVariants.{PeerNames, Text, Destroy}
-use Rattle.command_parts.specs.Arguments.{first_of, first_two_of, none_or_one_of, one_or_two_of, two_of}
-use Rattle.command_parts.specs.Faults.{with_value}
-use Rattle.command_parts.specs.Lists.{Pair, pairs_at}
-use Rattle.command_parts.specs.Marking.{gravity_of}
-use Rattle.command_parts.specs.declared.answers.Fault.{Fault}
-use Rattle.command_parts.specs.declared.answers.Fault.TheVariants.{BadBoolean, IndexOrder}
+use Rattle.command_effects.specs.Arguments.{first_of, first_two_of, none_or_one_of, one_or_two_of, two_of}
+use Rattle.command_effects.specs.Faults.{with_value}
+use Rattle.command_effects.specs.Lists.{Pair, pairs_at}
+use Rattle.command_effects.specs.Marking.{gravity_of}
+use Rattle.command_effects.specs.declared.answers.Fault.{Fault}
+use Rattle.command_effects.specs.declared.answers.Fault.TheVariants.{BadBoolean, IndexOrder}
 use Rattle.documents.specs.Deletions.{delete_places, replace_span}
 use Rattle.documents.specs.Documents.{Document, Widget}
 use Rattle.documents.specs.History.{modified_set}

@@ -16,13 +16,13 @@ use Rattle.command_table.specs.declared.commands.Command.{Command}
 use Rattle.command_table.specs.declared.commands.Command.TheVariants.{Configure, EditReset, PeerCreate}
 use Rattle.command_table.specs.declared.shapes.Shape.{Shape}
 use Rattle.command_table.specs.declared.shapes.ShapeFault.{ShapeFault}
-use Rattle.command_parts.proofs.CountLaws.{among-append}
-use Rattle.command_parts.specs.declared.answers.Answer.TheVariants.{Word}
-use Rattle.command_parts.specs.declared.answers.Fault.{Fault}
-use Rattle.command_parts.specs.declared.answers.Fault.TheVariants.{InvalidCommandName, TooManyWidgets, WindowExists}
-use Rattle.command_parts.specs.declared.settings.Settings.{Settings}
-use Rattle.command_parts.specs.Settings.{first_settings}
-use Rattle.command_parts.specs.Words.{is_among, is_same, literal}
+use Rattle.command_effects.proofs.CountLaws.{among-append}
+use Rattle.command_effects.specs.declared.answers.Answer.TheVariants.{Word}
+use Rattle.command_effects.specs.declared.answers.Fault.{Fault}
+use Rattle.command_effects.specs.declared.answers.Fault.TheVariants.{InvalidCommandName, TooManyWidgets, WindowExists}
+use Rattle.command_effects.specs.declared.settings.Settings.{Settings}
+use Rattle.command_effects.specs.Settings.{first_settings}
+use Rattle.command_effects.specs.Words.{is_among, is_same, literal}
 use Rattle.documents.specs.Documents.{Document, Widget, characters}
 use Rattle.documents.specs.History.{edit_reset}
 use Rattle.documents.specs.Kept.{is_window_name}

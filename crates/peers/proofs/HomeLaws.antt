@@ -9,7 +9,7 @@ use Rattle.std.proofs.lemmas.List.{map-append, length-append, length-map, length
 use Rattle.std.proofs.lemmas.List.{take_all, take_more, drop_all, flat_map_more}
 use lib.Seq.{take-append-add}
 use Rattle.std.proofs.lemmas.List.Edits.{insert_end, insert-append_left, insert-append_right}
-use Rattle.command_parts.specs.Words.{is_among, is_same}
+use Rattle.command_effects.specs.Words.{is_among, is_same}
 use Rattle.peers.specs.Windows.{Homes, homes_from, home_in, names_in, places_in}
 
 -- the widgets of one document at a place

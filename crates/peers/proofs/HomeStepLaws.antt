@@ -5,15 +5,15 @@ use Rattle.std.specs.Prelude.{Ok, Err, Result, IfErr, find, map, ◌||◌, if◌
 use Rattle.std.specs.List.{AllByRecursion, IsDistinct}
 use Rattle.std.proofs.lemmas.List.{length-map}
 use Rattle.text_model.specs.LimitTable.{LimitTable}
-use Rattle.command_parts.specs.Words.{is_among, is_same}
-use Rattle.command_parts.specs.declared.answers.Answer.{Answer}
-use Rattle.command_parts.specs.declared.answers.Fault.{Fault}
-use Rattle.command_parts.specs.declared.answers.Fault.TheVariants.{Memory}
+use Rattle.command_effects.specs.Words.{is_among, is_same}
+use Rattle.command_effects.specs.declared.answers.Answer.{Answer}
+use Rattle.command_effects.specs.declared.answers.Fault.{Fault}
+use Rattle.command_effects.specs.declared.answers.Fault.TheVariants.{Memory}
 use Rattle.documents.specs.Documents.{Document, Widget}
 use Rattle.documents.specs.Promise.{Change, Does, refused}
 use Rattle.documents.specs.Widgets.{widget_named}
 use Rattle.documents.proofs.FindLaws.{bytes_eq-turned}
-use Rattle.command_parts.specs.Faults.{shape_fault}
+use Rattle.command_effects.specs.Faults.{shape_fault}
 use Rattle.command_table.specs.Reading.{reading}
 use Rattle.command_table.specs.declared.commands.Command.TheVariants.{PeerCreate}
 use Rattle.command_table.specs.declared.shapes.Shape.{Shape}

@@ -6,16 +6,16 @@ use Rattle.text_model.specs.Lines.{lines}
 use Rattle.text_model.specs.LimitTable.{LimitTable}
 use Rattle.undo_stack.specs.History.{limit_of}
 use Rattle.command_table.specs.Numbers.{boolean_of, integer_of}
-use Rattle.command_parts.specs.declared.answers.Answer.TheVariants.{Empty, Word}
-use Rattle.command_parts.specs.declared.answers.Fault.{Fault}
-use Rattle.command_parts.specs.declared.answers.Fault.TheVariants.{BadBoolean, BadInteger, BadOption}
-use Rattle.command_parts.specs.declared.answers.Fault.TheVariants.{InvalidCommandName, StartLineAfterEndLine}
-use Rattle.command_parts.specs.declared.answers.Fault.TheVariants.{TooManyWidgets, WindowExists}
-use Rattle.command_parts.specs.declared.settings.Settings.{Settings}
-use Rattle.command_parts.specs.Faults.{with_value}
-use Rattle.command_parts.specs.Settings.{end_bound, is_behind, line_of_word, setting_read, settings_checked}
-use Rattle.command_parts.specs.Settings.{settings_read, start_bound, state_of}
-use Rattle.command_parts.specs.Words.{is_among, is_same, literal}
+use Rattle.command_effects.specs.declared.answers.Answer.TheVariants.{Empty, Word}
+use Rattle.command_effects.specs.declared.answers.Fault.{Fault}
+use Rattle.command_effects.specs.declared.answers.Fault.TheVariants.{BadBoolean, BadInteger, BadOption}
+use Rattle.command_effects.specs.declared.answers.Fault.TheVariants.{InvalidCommandName, StartLineAfterEndLine}
+use Rattle.command_effects.specs.declared.answers.Fault.TheVariants.{TooManyWidgets, WindowExists}
+use Rattle.command_effects.specs.declared.settings.Settings.{Settings}
+use Rattle.command_effects.specs.Faults.{with_value}
+use Rattle.command_effects.specs.Settings.{end_bound, is_behind, line_of_word, setting_read, settings_checked}
+use Rattle.command_effects.specs.Settings.{settings_read, start_bound, state_of}
+use Rattle.command_effects.specs.Words.{is_among, is_same, literal}
 use Rattle.documents.specs.Documents.{Document, Widget, characters}
 use Rattle.documents.specs.Kept.{is_window_name}
 use Rattle.documents.specs.Options.{AreLines, settings_of, with_settings}

@@ -1,7 +1,7 @@
 -- What a command makes of a world, where it is refused.
 use Rattle.std.proofs.Common.{◌≡◌, ℕ, refl, sym, ap, subst}
 use Rattle.std.specs.Prelude.{Err}
-use Rattle.command_parts.specs.declared.answers.Fault.{Fault}
+use Rattle.command_effects.specs.declared.answers.Fault.{Fault}
 use Rattle.documents.specs.Promise.{refused}
 use Rattle.peers.specs.Step.{Makes, Outcome, changed, refuses}
 use Rattle.peers.specs.WellFormed.{IsWellFormed}

@@ -4,14 +4,14 @@ use Rattle.std.specs.Prelude.{ℤ, pos, negsuc, ok_or, option_and_then, option_m
 use Rattle.std.specs.Prelude.{None, Some, Result, Ok, Err, if◌then◌else◌}
 use Rattle.std.proofs.lemmas.Bool.Decides.{nat_tests}
 use Rattle.command_table.specs.Numbers.{boolean_of, integer_of}
-use Rattle.command_parts.specs.declared.answers.Fault.{Fault}
-use Rattle.command_parts.specs.declared.answers.Fault.TheVariants.{BadBoolean, BadInteger, BadOption}
-use Rattle.command_parts.specs.declared.answers.Fault.TheVariants.{StartLineAfterEndLine}
-use Rattle.command_parts.specs.declared.settings.Settings.{Settings}
-use Rattle.command_parts.specs.Faults.{with_value}
-use Rattle.command_parts.specs.Settings.{end_bound, is_behind, line_numbered, line_of_word, setting_read}
-use Rattle.command_parts.specs.Settings.{settings_checked, settings_read, start_bound, state_of}
-use Rattle.command_parts.specs.Words.{is_same, literal}
+use Rattle.command_effects.specs.declared.answers.Fault.{Fault}
+use Rattle.command_effects.specs.declared.answers.Fault.TheVariants.{BadBoolean, BadInteger, BadOption}
+use Rattle.command_effects.specs.declared.answers.Fault.TheVariants.{StartLineAfterEndLine}
+use Rattle.command_effects.specs.declared.settings.Settings.{Settings}
+use Rattle.command_effects.specs.Faults.{with_value}
+use Rattle.command_effects.specs.Settings.{end_bound, is_behind, line_numbered, line_of_word, setting_read}
+use Rattle.command_effects.specs.Settings.{settings_checked, settings_read, start_bound, state_of}
+use Rattle.command_effects.specs.Words.{is_same, literal}
 use Rattle.documents.specs.Options.{AreLines, IsLine}
 
 -- ---- values that are found

@@ -4,8 +4,8 @@ use Rattle.std.proofs.Common.{◌∙◌, arith}
 use Rattle.std.specs.Prelude.{Result, Ok, Err, String, chars, string_bytes}
 use Rattle.std.proofs.lemmas.List.{append_assoc}
 use Rattle.tcl_words.specs.Unread.{texts_of}
-use Rattle.command_parts.specs.declared.answers.Fault.{Fault}
-use Rattle.command_parts.specs.Faults.{with_value}
+use Rattle.command_effects.specs.declared.answers.Fault.{Fault}
+use Rattle.command_effects.specs.Faults.{with_value}
 use Rattle.documents.specs.Indices.{place_at}
 use Rattle.peers.specs.Ranges.{and_place, places_at}
 use Rattle.documents.specs.Documents.{Document, Widget}

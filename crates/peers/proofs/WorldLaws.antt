@@ -7,16 +7,16 @@ use Rattle.std.proofs.lemmas.List.{append_assoc, append-nil, length-append}
 use Rattle.std.specs.Prelude.{◌||◌, remove}
 use Rattle.std.proofs.lemmas.Bool.Decides.{nat_tests}
 use Rattle.std.proofs.lemmas.List.{get_or_read, length-map, map-append}
-use Rattle.command_parts.proofs.CountLaws.{among-append}
-use Rattle.command_parts.specs.Words.{is_among, is_same}
-use Rattle.command_parts.specs.declared.settings.Settings.{Settings}
+use Rattle.command_effects.proofs.CountLaws.{among-append}
+use Rattle.command_effects.specs.Words.{is_among, is_same}
+use Rattle.command_effects.specs.declared.settings.Settings.{Settings}
 use Rattle.documents.specs.Documents.{Document, Widget}
 use Rattle.documents.specs.WellFormed.{window_names}
 use Rattle.documents.specs.Widgets.{is_kept, keeps_some, new_document, new_widget, thinned, with_peer, without_widgets}
 use Rattle.peers.specs.Step.{Outcome, changed, create_named, create_new, has_widgets, refuses}
 use Rattle.peers.specs.Widgets.{peer_with}
-use Rattle.command_parts.specs.declared.answers.Answer.TheVariants.{Word}
-use Rattle.command_parts.specs.declared.answers.Fault.TheVariants.{TooManyWidgets, WindowExists}
+use Rattle.command_effects.specs.declared.answers.Answer.TheVariants.{Word}
+use Rattle.command_effects.specs.declared.answers.Fault.TheVariants.{TooManyWidgets, WindowExists}
 use Rattle.documents.specs.Promise.{Change, answered, refused}
 use Rattle.text_model.specs.LimitTable.{AreLimits, LimitTable}
 use Rattle.std.specs.Prelude.{Ok, Err, OnErr, OnOk, Result, if◌then◌else◌, nat_le}

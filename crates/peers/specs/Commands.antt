@@ -13,8 +13,8 @@ use Rattle.command_table.specs.declared.commands.Command.TheVariants.{EditSepara
 use Rattle.command_table.specs.declared.commands.Command.TheVariants.{PeerNames, Text, Destroy}
 use Rattle.command_table.specs.declared.shapes.Shape.{Shape}
 use Rattle.command_table.specs.declared.shapes.ShapeFault.{ShapeFault}
-use Rattle.command_parts.specs.declared.answers.Fault.TheVariants.{BadOption}
-use Rattle.command_parts.specs.Faults.{shape_fault}
+use Rattle.command_effects.specs.declared.answers.Fault.TheVariants.{BadOption}
+use Rattle.command_effects.specs.Faults.{shape_fault}
 use Rattle.peers.specs.Deletions.{delete, replace}
 use Rattle.documents.specs.History.{edit_reset, edit_separator}
 use Rattle.peers.specs.History.{edit_modified}

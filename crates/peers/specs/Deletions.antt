@@ -1,9 +1,9 @@
 -- Commands that take text out: `delete` and `replace`.
 use Rattle.std.specs.Prelude.{ℕ, ◌+◌, nat_lt, List, if◌then◌else◌}
 use Rattle.text_model.specs.LimitTable.{LimitTable}
-use Rattle.command_parts.specs.declared.answers.Fault.TheVariants.{IndexOrder}
-use Rattle.command_parts.specs.Arguments.{first_two_of}
-use Rattle.command_parts.specs.Lists.{Pair, pairs_at}
+use Rattle.command_effects.specs.declared.answers.Fault.TheVariants.{IndexOrder}
+use Rattle.command_effects.specs.Arguments.{first_two_of}
+use Rattle.command_effects.specs.Lists.{Pair, pairs_at}
 use Rattle.documents.specs.Indices.{place_at}
 use Rattle.documents.specs.Promise.{Change, change_with, refused, unless_idle}
 use Rattle.peers.specs.Ranges.{places_at}

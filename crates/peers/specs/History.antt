@@ -2,9 +2,9 @@
 use Rattle.std.specs.Prelude.{ℕ, List, Option, None, Some, ok_or}
 use Rattle.command_table.specs.Numbers.{boolean_of}
 use Rattle.undo_stack.specs.Modified.{is_modified}
-use Rattle.command_parts.specs.declared.answers.Answer.TheVariants.{Flag}
-use Rattle.command_parts.specs.declared.answers.Fault.TheVariants.{BadBoolean}
-use Rattle.command_parts.specs.Arguments.{none_or_one_of}
+use Rattle.command_effects.specs.declared.answers.Answer.TheVariants.{Flag}
+use Rattle.command_effects.specs.declared.answers.Fault.TheVariants.{BadBoolean}
+use Rattle.command_effects.specs.Arguments.{none_or_one_of}
 use Rattle.documents.specs.Promise.{Change, answered, change_with}
 use Rattle.documents.specs.Documents.{Document}
 use Rattle.documents.specs.History.{modified_set}

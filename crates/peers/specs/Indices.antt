@@ -1,15 +1,15 @@
 -- Commands on indices: `index` and `compare`.
 use Rattle.std.specs.Prelude.{ℕ, ◌+◌, List, Result, Ok}
 use Rattle.text_index.specs.Positions.{position_text}
-use Rattle.command_parts.specs.declared.answers.Answer.{Answer}
-use Rattle.command_parts.specs.declared.answers.Answer.TheVariants.{Text, Flag}
-use Rattle.command_parts.specs.declared.answers.Fault.{Fault}
-use Rattle.command_parts.specs.declared.comparisons.Comparison.{Comparison}
-use Rattle.command_parts.specs.Arguments.{one_of, three_of}
-use Rattle.command_parts.specs.Faults.{with_value}
+use Rattle.command_effects.specs.declared.answers.Answer.{Answer}
+use Rattle.command_effects.specs.declared.answers.Answer.TheVariants.{Text, Flag}
+use Rattle.command_effects.specs.declared.answers.Fault.{Fault}
+use Rattle.command_effects.specs.declared.comparisons.Comparison.{Comparison}
+use Rattle.command_effects.specs.Arguments.{one_of, three_of}
+use Rattle.command_effects.specs.Faults.{with_value}
 use Rattle.documents.specs.Views.{shown}
 use Rattle.documents.specs.Documents.{Document, Widget}
-use Rattle.command_parts.specs.Comparisons.{comparison_at, comparison_of, holds}
+use Rattle.command_effects.specs.Comparisons.{comparison_at, comparison_of, holds}
 use Rattle.documents.specs.Indices.{place_at}
 
 -- a place as `line.char`

@@ -7,18 +7,18 @@ use Rattle.mark_table.specs.Order.{mark_of, next_mark, previous_mark, rank_of}
 use Rattle.text_model.specs.declared.places.Gravity.{Gravity}
 use Rattle.text_model.specs.declared.places.Place.{Place}
 use Rattle.text_model.specs.LimitTable.{LimitTable}
-use Rattle.command_parts.specs.declared.answers.Answer.{Answer}
-use Rattle.command_parts.specs.declared.answers.Answer.TheVariants.{Empty, Text}
-use Rattle.command_parts.specs.declared.answers.Fault.{Fault}
-use Rattle.command_parts.specs.declared.answers.Fault.TheVariants.{BadIndex, NoSuchMark, BadGravity}
-use Rattle.command_parts.specs.Arguments.{one_of, one_or_two_of, two_of}
-use Rattle.command_parts.specs.Faults.{with_value}
+use Rattle.command_effects.specs.declared.answers.Answer.{Answer}
+use Rattle.command_effects.specs.declared.answers.Answer.TheVariants.{Empty, Text}
+use Rattle.command_effects.specs.declared.answers.Fault.{Fault}
+use Rattle.command_effects.specs.declared.answers.Fault.TheVariants.{BadIndex, NoSuchMark, BadGravity}
+use Rattle.command_effects.specs.Arguments.{one_of, one_or_two_of, two_of}
+use Rattle.command_effects.specs.Faults.{with_value}
 use Rattle.documents.specs.Indices.{place_at}
 use Rattle.documents.specs.Names.{mark_number, mark_place}
 use Rattle.documents.specs.Promise.{Change, refused, answered, change_with}
 use Rattle.peers.specs.Tags.{listed}
 use Rattle.documents.specs.Documents.{Document, Widget}
-use Rattle.command_parts.specs.Marking.{gravity_of, gravity_word}
+use Rattle.command_effects.specs.Marking.{gravity_of, gravity_word}
 use Rattle.documents.specs.Marks.{mark_names, place_named, with_mark, mark_offset, set_found, usable_marks}
 
 -- ---- marks that are set

@@ -1,13 +1,13 @@
 -- `configure` and `cget`.
 use Rattle.std.specs.Prelude.{ℕ, List, Result, Ok}
 use Rattle.text_model.specs.Lines.{lines}
-use Rattle.command_parts.specs.declared.answers.Answer.{Answer}
-use Rattle.command_parts.specs.declared.answers.Answer.TheVariants.{Empty}
-use Rattle.command_parts.specs.declared.answers.Fault.{Fault}
-use Rattle.command_parts.specs.declared.settings.Settings.{Settings}
-use Rattle.command_parts.specs.Arguments.{one_of}
-use Rattle.command_parts.specs.Faults.{with_value}
-use Rattle.command_parts.specs.Settings.{setting_answer, settings_checked, settings_read}
+use Rattle.command_effects.specs.declared.answers.Answer.{Answer}
+use Rattle.command_effects.specs.declared.answers.Answer.TheVariants.{Empty}
+use Rattle.command_effects.specs.declared.answers.Fault.{Fault}
+use Rattle.command_effects.specs.declared.settings.Settings.{Settings}
+use Rattle.command_effects.specs.Arguments.{one_of}
+use Rattle.command_effects.specs.Faults.{with_value}
+use Rattle.command_effects.specs.Settings.{setting_answer, settings_checked, settings_read}
 use Rattle.documents.specs.Options.{settings_of, with_settings}
 use Rattle.documents.specs.Promise.{Change, answered, change_with}
 use Rattle.documents.specs.Documents.{Document, Widget, characters}

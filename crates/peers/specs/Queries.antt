@@ -13,11 +13,11 @@ use Rattle.search_dump.specs.declared.counting.Counted.TheVariants.{Characters, 
 use Rattle.search_dump.specs.declared.dumping.Listed.{Listed}
 use Rattle.search_dump.specs.declared.searching.SearchSwitches.{SearchSwitches}
 use Rattle.search_dump.specs.declared.searching.Wanted.TheVariants.{First, Apart, All}
-use Rattle.command_parts.specs.declared.answers.Answer.{Answer}
-use Rattle.command_parts.specs.declared.answers.Fault.{Fault}
-use Rattle.command_parts.specs.Arguments.{one_or_two_of, two_of, two_or_three_of}
-use Rattle.command_parts.specs.Faults.{with_value}
-use Rattle.command_parts.specs.Words.{is_same, literal}
+use Rattle.command_effects.specs.declared.answers.Answer.{Answer}
+use Rattle.command_effects.specs.declared.answers.Fault.{Fault}
+use Rattle.command_effects.specs.Arguments.{one_or_two_of, two_of, two_or_three_of}
+use Rattle.command_effects.specs.Faults.{with_value}
+use Rattle.command_effects.specs.Words.{is_same, literal}
 use Rattle.documents.specs.Indices.{place_at}
 use Rattle.peers.specs.Tags.{listed, place_or}
 use Rattle.documents.specs.Views.{shown}

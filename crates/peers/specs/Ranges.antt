@@ -1,7 +1,7 @@
 -- The ranges that a command's indices make.
 use Rattle.std.specs.Prelude.{ℕ, suc, List, [], ◌∷◌, Result, Ok}
-use Rattle.command_parts.specs.declared.answers.Fault.{Fault}
-use Rattle.command_parts.specs.Faults.{with_value}
+use Rattle.command_effects.specs.declared.answers.Fault.{Fault}
+use Rattle.command_effects.specs.Faults.{with_value}
 use Rattle.documents.specs.Indices.{place_at}
 use Rattle.documents.specs.Documents.{Document, Widget}
 

@@ -1,15 +1,15 @@
 -- One command of a script: the new world and an answer, or the first fault and the same world.
 use Rattle.std.specs.Prelude.{◌≡◌, ◌≢◌, ℕ, Bool, false, nat_le, nat_lt, List, [], ◌∷◌, ◌++◌, filter, length, map}
 use Rattle.std.specs.Prelude.{slice_set, Option, None, Some, Result, Ok, Err, IfErr, if◌then◌else◌}
-use Rattle.command_parts.specs.declared.answers.Answer.{Answer}
-use Rattle.command_parts.specs.declared.answers.Answer.TheVariants.{Empty, Word}
-use Rattle.command_parts.specs.declared.answers.Fault.{Fault}
-use Rattle.command_parts.specs.declared.answers.Fault.TheVariants.{WrongArguments, InvalidCommandName, WindowExists}
-use Rattle.command_parts.specs.declared.answers.Fault.TheVariants.{Memory, TooManyWidgets}
-use Rattle.command_parts.specs.Faults.{shape_fault}
-use Rattle.command_parts.specs.Settings.{first_settings}
-use Rattle.command_parts.specs.declared.settings.Settings.{Settings}
-use Rattle.command_parts.specs.Words.{is_among, is_same, literal}
+use Rattle.command_effects.specs.declared.answers.Answer.{Answer}
+use Rattle.command_effects.specs.declared.answers.Answer.TheVariants.{Empty, Word}
+use Rattle.command_effects.specs.declared.answers.Fault.{Fault}
+use Rattle.command_effects.specs.declared.answers.Fault.TheVariants.{WrongArguments, InvalidCommandName, WindowExists}
+use Rattle.command_effects.specs.declared.answers.Fault.TheVariants.{Memory, TooManyWidgets}
+use Rattle.command_effects.specs.Faults.{shape_fault}
+use Rattle.command_effects.specs.Settings.{first_settings}
+use Rattle.command_effects.specs.declared.settings.Settings.{Settings}
+use Rattle.command_effects.specs.Words.{is_among, is_same, literal}
 use Rattle.command_table.specs.Reading.{reading}
 use Rattle.command_table.specs.declared.shapes.Shape.{Shape}
 use Rattle.command_table.specs.declared.shapes.ShapeFault.{ShapeFault}

@@ -2,17 +2,17 @@
 use Rattle.std.specs.Prelude.{ℕ, ◌+◌, nat_lt, nat_le, List, length, Option, None, Some, Result, Ok}
 use Rattle.text_model.specs.LimitTable.{LimitTable}
 use Rattle.tcl_words.specs.ListText.{list_text}
-use Rattle.command_parts.specs.declared.answers.Answer.{Answer}
-use Rattle.command_parts.specs.declared.answers.Answer.TheVariants.{Text}
-use Rattle.command_parts.specs.declared.answers.Fault.{Fault}
-use Rattle.command_parts.specs.Arguments.{first_of, none_or_one_of, one_of, one_or_two_of, two_or_three_of}
-use Rattle.command_parts.specs.Faults.{with_value}
+use Rattle.command_effects.specs.declared.answers.Answer.{Answer}
+use Rattle.command_effects.specs.declared.answers.Answer.TheVariants.{Text}
+use Rattle.command_effects.specs.declared.answers.Fault.{Fault}
+use Rattle.command_effects.specs.Arguments.{first_of, none_or_one_of, one_of, one_or_two_of, two_or_three_of}
+use Rattle.command_effects.specs.Faults.{with_value}
 use Rattle.documents.specs.Indices.{place_at}
 use Rattle.documents.specs.Promise.{Change, change_with}
 use Rattle.peers.specs.Ranges.{places_at}
 use Rattle.documents.specs.Views.{shown}
 use Rattle.documents.specs.Documents.{Document, Widget}
-use Rattle.command_parts.specs.Listing.{begun, range_words}
+use Rattle.command_effects.specs.Listing.{begun, range_words}
 use Rattle.documents.specs.Tags.{add_spans, remove_spans, tags_on, flags_of, raised, lowered, reordered}
 use Rattle.text_index.specs.Ranges.{tag_ranges, next_range, previous_range}
 use Rattle.text_index.specs.declared.ranges.TagRange.{TagRange}

@@ -1,13 +1,13 @@
 -- Widgets that commands make and drop: `text`, `peer` and `destroy`.
 use Rattle.std.specs.Prelude.{ℕ, ◌+◌, nat_le, false, not, List, length, filter, Result, if◌then◌else◌}
 use Rattle.text_model.specs.LimitTable.{LimitTable}
-use Rattle.command_parts.specs.declared.answers.Answer.{Answer}
-use Rattle.command_parts.specs.declared.answers.Answer.TheVariants.{Word}
-use Rattle.command_parts.specs.declared.answers.Fault.{Fault}
-use Rattle.command_parts.specs.declared.answers.Fault.TheVariants.{InvalidCommandName, TooManyWidgets, WindowExists}
-use Rattle.command_parts.specs.declared.settings.Settings.{Settings}
-use Rattle.command_parts.specs.Arguments.{first_of}
-use Rattle.command_parts.specs.Words.{is_among, is_same}
+use Rattle.command_effects.specs.declared.answers.Answer.{Answer}
+use Rattle.command_effects.specs.declared.answers.Answer.TheVariants.{Word}
+use Rattle.command_effects.specs.declared.answers.Fault.{Fault}
+use Rattle.command_effects.specs.declared.answers.Fault.TheVariants.{InvalidCommandName, TooManyWidgets, WindowExists}
+use Rattle.command_effects.specs.declared.settings.Settings.{Settings}
+use Rattle.command_effects.specs.Arguments.{first_of}
+use Rattle.command_effects.specs.Words.{is_among, is_same}
 use Rattle.documents.specs.Documents.{Document, Widget}
 use Rattle.documents.specs.Kept.{is_window_name}
 use Rattle.documents.specs.Options.{settings_of}

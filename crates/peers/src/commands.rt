@@ -5,7 +5,7 @@ ghost use Rattle.documents.specs.Promise.{Does};
 ghost use Rattle.peers.specs.Commands.{done, command, is_frugal};
 ghost use Rattle.command_table.specs.Reading.{reading};
 ghost use Rattle.command_table.specs.declared.commands.Command.TheVariants.{PeerCreate};
-ghost use Rattle.command_parts.specs.declared.answers.Fault.TheVariants.{Memory};
+ghost use Rattle.command_effects.specs.declared.answers.Fault.TheVariants.{Memory};
 ghost use Rattle.documents.specs.WellFormed.{IsWellFormedDocument};
 
 use crate::deletions::{delete, replace};
@@ -19,7 +19,7 @@ use crate::tags::{
 };
 use crate::texts::{get, insert};
 use crate::widgets::peer_names;
-use command_parts::{Answer, Fault};
+use command_effects::{Answer, Fault};
 use command_table::{Command, Shape};
 use documents::Document;
 use text_model::{Limits, TextStore};

@@ -2,7 +2,7 @@ ghost use Rattle.std.specs.Prelude.{◌+◌, ◌≤◌, length, chars, ◌<◌, 
 ghost use Rattle.std.specs.List.{All};
 ghost use Rattle.documents.specs.Views.{shown};
 ghost use Rattle.tcl_words.specs.Unread.{texts_of};
-ghost use Rattle.command_parts.specs.Lists.{pairs_at};
+ghost use Rattle.command_effects.specs.Lists.{pairs_at};
 ghost use Rattle.documents.specs.Deletions.{delete_places, replace_span};
 ghost use Rattle.peers.specs.Deletions.{delete, replace, replace_places, replace_words};
 ghost use Rattle.documents.specs.Texts.{insertion_offset};
@@ -10,7 +10,7 @@ ghost use Rattle.documents.specs.Promise.{Does, change_with, unless_idle};
 ghost use Rattle.documents.specs.Documents.{widget_at};
 
 use crate::ranges::places_at;
-use command_parts::{Answer, Fault, Pair, first_two, pairs_at};
+use command_effects::{Answer, Fault, Pair, first_two, pairs_at};
 use documents::Document;
 use text_model::{Limits, TextStore};
 

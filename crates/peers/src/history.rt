@@ -1,12 +1,12 @@
 ghost use Rattle.std.specs.Prelude.{◌≢◌, chars, option_map, Err, ok_or, ◌<◌};
 ghost use Rattle.tcl_words.specs.Unread.{texts_of};
 ghost use Rattle.command_table.specs.Numbers.{boolean_of};
-ghost use Rattle.command_parts.specs.declared.answers.Fault.TheVariants.{BadBoolean, Memory};
+ghost use Rattle.command_effects.specs.declared.answers.Fault.TheVariants.{BadBoolean, Memory};
 ghost use Rattle.documents.specs.History.{modified_set};
 ghost use Rattle.peers.specs.History.{edit_modified, modified_word};
 ghost use Rattle.documents.specs.Promise.{Does, change_with};
 
-use command_parts::{Answer, Fault, boolean_at, none_or_one};
+use command_effects::{Answer, Fault, boolean_at, none_or_one};
 use documents::Document;
 use text_model::{Limits, TextStore};
 

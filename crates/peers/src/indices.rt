@@ -2,12 +2,12 @@ ghost use Rattle.std.specs.Prelude.{◌≡◌, ◌+◌, ◌≤◌, length, chars
 ghost use Rattle.tcl_words.specs.Unread.{texts_of};
 ghost use Rattle.documents.specs.Documents.{widget_at};
 ghost use Rattle.documents.specs.Views.{shown};
-ghost use Rattle.command_parts.specs.Faults.{with_value};
+ghost use Rattle.command_effects.specs.Faults.{with_value};
 ghost use Rattle.documents.specs.Promise.{Gives};
 ghost use Rattle.peers.specs.Indices.{position_answer, index_of, index, compared, compared_at, compare};
-ghost use Rattle.command_parts.specs.Comparisons.{comparison_at, comparison_of};
+ghost use Rattle.command_effects.specs.Comparisons.{comparison_at, comparison_of};
 
-use command_parts::{Answer, Comparison, Fault, one, three};
+use command_effects::{Answer, Comparison, Fault, one, three};
 use documents::Document;
 use text_model::TextStore;
 

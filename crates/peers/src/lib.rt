@@ -18,5 +18,5 @@ mod windows;
 mod words;
 mod world;
 
-pub use command_parts::{Answer, Fault};
+pub use command_effects::{Answer, Fault};
 pub use world::World;

@@ -2,7 +2,7 @@ ghost use Rattle.std.specs.Prelude.{◌≡◌, ◌+◌, ◌≤◌, length, chars
 ghost use Rattle.tcl_words.specs.Unread.{texts_of};
 ghost use Rattle.documents.specs.Documents.{widget_at};
 ghost use Rattle.documents.specs.Views.{shown};
-ghost use Rattle.command_parts.specs.Faults.{with_value};
+ghost use Rattle.command_effects.specs.Faults.{with_value};
 ghost use Rattle.documents.specs.Promise.{Gives, Does, change_with};
 ghost use Rattle.documents.specs.Marks.{place_named};
 ghost use Rattle.peers.specs.Marks.{set_at, set_words, mark_set, gravity_asked, gravity_given, gravity_words};
@@ -12,7 +12,7 @@ ghost use Rattle.mark_table.specs.Order.{rank_of};
 ghost use Rattle.documents.specs.Names.{mark_place};
 ghost use Rattle.peers.specs.Marks.{origin_marked};
 
-use command_parts::{Answer, Fault, one, one_or_two, read_gravity, two};
+use command_effects::{Answer, Fault, one, one_or_two, read_gravity, two};
 use documents::Document;
 use mark_table::{Origin, WidgetMark};
 use text_model::{Gravity, Limits, Place, TextStore};

@@ -1,15 +1,15 @@
 ghost use Rattle.std.specs.Prelude.{◌≡◌, ◌+◌, ◌≤◌, length, chars, Ok, ◌<◌, false, IfOk};
 ghost use Rattle.tcl_words.specs.Unread.{texts_of};
-ghost use Rattle.command_parts.specs.Settings.{setting_answer};
+ghost use Rattle.command_effects.specs.Settings.{setting_answer};
 ghost use Rattle.documents.specs.Options.{settings_of};
 ghost use Rattle.peers.specs.Options.{cget, configure};
 ghost use Rattle.documents.specs.Promise.{Does, Gives};
 ghost use Rattle.documents.specs.Documents.{widget_at};
-ghost use Rattle.command_parts.specs.Settings.{is_behind, settings_checked, settings_read};
-ghost use Rattle.command_parts.specs.Faults.{with_value};
+ghost use Rattle.command_effects.specs.Settings.{is_behind, settings_checked, settings_read};
+ghost use Rattle.command_effects.specs.Faults.{with_value};
 ghost use Rattle.documents.specs.Options.{AreLines};
 
-use command_parts::{Answer, Fault, Settings, one};
+use command_effects::{Answer, Fault, Settings, one};
 use documents::Document;
 use text_model::{Limits, TextStore};
 

@@ -1,6 +1,6 @@
 ghost use Rattle.std.specs.Prelude.{◌≡◌, ◌+◌, ◌≤◌, length, map, chars, option_map, Ok, IfOk, IfSome, ◌<◌, false};
 ghost use Rattle.tcl_words.specs.Unread.{texts_of};
-ghost use Rattle.command_parts.specs.Faults.{with_value};
+ghost use Rattle.command_effects.specs.Faults.{with_value};
 ghost use Rattle.documents.specs.Promise.{Gives};
 ghost use Rattle.peers.specs.Queries.{
   count,
@@ -26,7 +26,7 @@ ghost use Rattle.documents.specs.Views.{shown};
 ghost use Rattle.documents.specs.Documents.{widget_at};
 
 use crate::tags::place_or;
-use command_parts::{Answer, Fault, is_word, one_or_two, two, two_or_three};
+use command_effects::{Answer, Fault, is_word, one_or_two, two, two_or_three};
 use command_table::abbreviates;
 use documents::Document;
 use search_dump::{Counted, Listed, SearchSwitches, Wanted};

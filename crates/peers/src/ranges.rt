@@ -1,12 +1,12 @@
 ghost use Rattle.std.specs.Prelude.{◌≡◌, ◌≢◌, ◌+◌, ◌-◌, ◌≤◌, length, Ok, Err, IfOk, IfErr, ◌<◌};
 ghost use Rattle.std.specs.List.{All};
 ghost use Rattle.tcl_words.specs.Unread.{texts_of};
-ghost use Rattle.command_parts.specs.declared.answers.Fault.TheVariants.{Memory};
+ghost use Rattle.command_effects.specs.declared.answers.Fault.TheVariants.{Memory};
 ghost use Rattle.peers.specs.Ranges.{places_at};
 ghost use Rattle.documents.specs.Views.{shown};
 ghost use Rattle.documents.specs.Documents.{widget_at};
 
-use command_parts::Fault;
+use command_effects::Fault;
 use documents::Document;
 use text_model::TextStore;
 

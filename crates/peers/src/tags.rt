@@ -2,14 +2,14 @@ ghost use Rattle.std.specs.Prelude.{◌+◌, ◌≤◌, length, chars, option_ma
 ghost use Rattle.tcl_words.specs.Unread.{texts_of};
 ghost use Rattle.documents.specs.Documents.{widget_at};
 ghost use Rattle.documents.specs.Views.{shown};
-ghost use Rattle.command_parts.specs.Faults.{with_value};
+ghost use Rattle.command_effects.specs.Faults.{with_value};
 ghost use Rattle.documents.specs.Promise.{Gives, Does};
 ghost use Rattle.peers.specs.Tags.{add_words, tag_add, remove_words, tag_remove, names_on, names_at_word, tag_names};
 ghost use Rattle.peers.specs.Tags.{tag_ranges_of, ranges_of, place_or, next_between, next_words, tag_nextrange};
 ghost use Rattle.peers.specs.Tags.{previous_between, previous_words, tag_prevrange, tag_raise, tag_lower};
 
 use crate::ranges::places_at;
-use command_parts::{Answer, Fault, first, none_or_one, one, one_or_two, two_or_three};
+use command_effects::{Answer, Fault, first, none_or_one, one, one_or_two, two_or_three};
 use documents::Document;
 use text_model::{Limits, TextStore};
 

@@ -5,13 +5,13 @@ ghost use Rattle.tcl_words.specs.Unread.{texts_of};
 ghost use Rattle.documents.specs.Documents.{widget_at};
 ghost use Rattle.documents.specs.Views.{shown};
 ghost use Rattle.documents.specs.Promise.{Gives, Does, change_with, unless_idle};
-ghost use Rattle.command_parts.specs.Lists.{pairs_at};
+ghost use Rattle.command_effects.specs.Lists.{pairs_at};
 ghost use Rattle.documents.specs.Texts.{insert_at, insertion_offset};
 ghost use Rattle.peers.specs.Texts.{insert_pairs, insert_words, insert, texts_of_places, got, get};
-ghost use Rattle.command_parts.specs.Listing.{is_filled};
+ghost use Rattle.command_effects.specs.Listing.{is_filled};
 
 use crate::ranges::places_at;
-use command_parts::{Answer, Fault, Pair, first, pairs_at, push_filled};
+use command_effects::{Answer, Fault, Pair, first, pairs_at, push_filled};
 use documents::Document;
 use std::alloc::AllocError;
 use text_model::{Limits, Text, TextStore};

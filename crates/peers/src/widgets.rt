@@ -1,7 +1,7 @@
 ghost use Rattle.std.specs.Prelude.{◌≡◌, ◌<◌, ◌+◌, ◌≤◌, false, length, IfOk};
 ghost use Rattle.text_model.specs.Lines.{lines};
 ghost use Rattle.tcl_words.specs.Unread.{texts_of};
-ghost use Rattle.command_parts.specs.Settings.{is_behind};
+ghost use Rattle.command_effects.specs.Settings.{is_behind};
 ghost use Rattle.documents.specs.Documents.{characters, widget_at};
 ghost use Rattle.documents.specs.Options.{AreLines};
 ghost use Rattle.documents.specs.Promise.{Gives};
@@ -9,7 +9,7 @@ ghost use Rattle.peers.specs.Options.{settings_given};
 ghost use Rattle.peers.specs.Widgets.{peer_names, peer_settings};
 
 use crate::options::settings_given;
-use command_parts::{Answer, Fault, Settings};
+use command_effects::{Answer, Fault, Settings};
 use documents::Document;
 use text_model::TextStore;
 

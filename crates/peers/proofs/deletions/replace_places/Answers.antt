@@ -1,7 +1,7 @@
 use Rattle.std.proofs.Common.{◌≡◌, false, sym, ap, arith}
 use Rattle.std.specs.Prelude.{if◌then◌else◌, nat_lt}
 use Rattle.std.proofs.lemmas.Bool.Decides.{nat_tests}
-use Rattle.command_parts.specs.declared.answers.Fault.TheVariants.{IndexOrder}
+use Rattle.command_effects.specs.declared.answers.Fault.TheVariants.{IndexOrder}
 use Rattle.documents.specs.Deletions.{replace_span}
 use Rattle.peers.specs.Deletions.{replace_places}
 use Rattle.documents.specs.Promise.{refused, unless_idle}

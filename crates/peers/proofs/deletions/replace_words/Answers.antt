@@ -1,6 +1,6 @@
 use Rattle.std.specs.Prelude.{◌+◌, chars}
 use Rattle.tcl_words.specs.Unread.{texts_of}
-use Rattle.command_parts.specs.Lists.{pairs_at}
+use Rattle.command_effects.specs.Lists.{pairs_at}
 use Rattle.peers.specs.Deletions.{replace_places}
 use Rattle.documents.specs.Indices.{place_at}
 use Rattle.documents.specs.Promise.{change_with}

@@ -1,8 +1,8 @@
 use Rattle.std.proofs.Common.{◌≡◌, sym, ap₂, ◌∙◌}
 use Rattle.tcl_words.specs.Unread.{texts_of}
-use Rattle.command_parts.specs.Faults.{with_value}
-use Rattle.command_parts.specs.Settings.{settings_checked, settings_read}
-use Rattle.command_parts.specs.declared.answers.Answer.TheVariants.{Empty}
+use Rattle.command_effects.specs.Faults.{with_value}
+use Rattle.command_effects.specs.Settings.{settings_checked, settings_read}
+use Rattle.command_effects.specs.declared.answers.Answer.TheVariants.{Empty}
 use Rattle.documents.specs.Documents.{widget_at}
 use Rattle.documents.specs.Options.{settings_of, with_settings}
 use Rattle.documents.specs.Promise.{answered}

@@ -1,6 +1,6 @@
 use Rattle.std.proofs.Common.{subst}
 use Rattle.std.specs.Prelude.{◌+◌, chars, option_map}
-use Rattle.command_parts.specs.Faults.{with_value}
+use Rattle.command_effects.specs.Faults.{with_value}
 use Rattle.documents.specs.Indices.{place_at}
 use Rattle.documents.specs.Promise.{Gives}
 use Rattle.peers.specs.Tags.{next_between, place_or}

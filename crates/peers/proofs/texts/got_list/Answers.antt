@@ -4,7 +4,7 @@ use Rattle.std.proofs.lemmas.Str.{IsUtf8-string_bytes}
 use Rattle.std.proofs.lemmas.List.Elements.{All-take, All-drop}
 use Rattle.tcl_words.specs.ListGrowth.{Goes}
 use Rattle.peers.specs.Texts.{texts_of_places}
-use Rattle.command_parts.specs.Listing.{is_filled}
+use Rattle.command_effects.specs.Listing.{is_filled}
 use Rattle.documents.specs.Views.{shown}
 use Rattle.documents.specs.Documents.{widget_at}
 use Rattle.peers.proofs.GotLaws.{got-more, got-end, got-last, one_left}

@@ -1,7 +1,7 @@
 use Rattle.std.proofs.Common.{◌≡◌, ℕ, ◌+◌, ◌<◌, ◌≤◌, true, false, length, refl, sym, subst, ap, ◌∙◌, arith}
 use Rattle.std.proofs.lemmas.Bool.Decides.{nat_tests}
-use Rattle.command_parts.specs.Lists.{with_name}
-use Rattle.command_parts.specs.declared.answers.Fault.TheVariants.{Memory, TooManyTags}
+use Rattle.command_effects.specs.Lists.{with_name}
+use Rattle.command_effects.specs.declared.answers.Fault.TheVariants.{Memory, TooManyTags}
 use Rattle.std.specs.Prelude.{chars, take}
 use Rattle.std.specs.List.{All}
 use Rattle.index_grammar.specs.Names.{known_tags}

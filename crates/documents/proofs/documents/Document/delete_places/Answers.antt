@@ -1,7 +1,7 @@
 use Rattle.std.proofs.Common.{◌-◌, ap, ap₂, arith, length}
 use Rattle.edit_ops.specs.Deletions.{deleted}
 use Rattle.edit_ops.specs.States.{log_of, state_of}
-use Rattle.command_parts.specs.Settings.{recording_of}
+use Rattle.command_effects.specs.Settings.{recording_of}
 use Rattle.documents.specs.Documents.{parts_of}
 use Rattle.documents.specs.Kept.{Stands}
 use Rattle.documents.proofs.PartsLaws.{sits}

@@ -5,8 +5,8 @@ use Rattle.std.specs.List.{All}
 use Rattle.undo_stack.specs.History.{next_undo}
 use Rattle.undo_stack.specs.declared.actions.Action.{Action}
 use Rattle.edit_ops.specs.States.{log_of, state_of}
-use Rattle.command_parts.specs.declared.answers.Answer.{Answer}
-use Rattle.command_parts.specs.declared.answers.Fault.{Fault}
+use Rattle.command_effects.specs.declared.answers.Answer.{Answer}
+use Rattle.command_effects.specs.declared.answers.Fault.{Fault}
 use Rattle.documents.specs.Documents.{document_of, parts_of, widget_at}
 use Rattle.documents.specs.Kept.{Stands}
 use Rattle.documents.specs.Promise.{Does}

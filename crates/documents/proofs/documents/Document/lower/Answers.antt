@@ -1,8 +1,8 @@
 use Rattle.std.proofs.Common.{sym, subst}
 use Rattle.std.specs.Prelude.{chars, option_map, Result}
 use Rattle.tag_table.specs.declared.faults.NoSuchTag.TheVariants.{Moved, Neighbour}
-use Rattle.command_parts.specs.declared.answers.Answer.{Answer}
-use Rattle.command_parts.specs.declared.answers.Fault.{Fault}
+use Rattle.command_effects.specs.declared.answers.Answer.{Answer}
+use Rattle.command_effects.specs.declared.answers.Fault.{Fault}
 use Rattle.documents.specs.Documents.{document_of, parts_of}
 use Rattle.documents.specs.Kept.{Stands}
 use Rattle.documents.specs.Promise.{Does}

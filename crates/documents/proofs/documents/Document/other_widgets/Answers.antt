@@ -4,7 +4,7 @@ use Rattle.std.proofs.lemmas.Str.{IsUtf8-string_bytes}
 use Rattle.name_list.specs.Names.{names_of}
 use Rattle.tcl_words.specs.ListGrowth.{Goes}
 use Rattle.tcl_words.specs.ListText.{list_text}
-use Rattle.command_parts.specs.Words.{is_same}
+use Rattle.command_effects.specs.Words.{is_same}
 use Rattle.documents.specs.Documents.{parts_of}
 use Rattle.documents.specs.Kept.{Stands}
 use Rattle.documents.proofs.ListedLaws.{written}

@@ -5,7 +5,7 @@ use Rattle.tcl_words.specs.ListText.{list_text}
 use Rattle.tcl_words.specs.ListGrowth.{Goes}
 use Rattle.text_index.specs.Views as view
 use Rattle.text_index.specs.Ranges.{previous_range}
-use Rattle.command_parts.specs.Listing.{begun, range_words}
+use Rattle.command_effects.specs.Listing.{begun, range_words}
 use Rattle.documents.specs.Documents.{parts_of, widget_at}
 use Rattle.documents.specs.Kept.{Stands}
 use Rattle.documents.specs.Views.{shown}

@@ -3,7 +3,7 @@ use Rattle.std.specs.Prelude.{chars}
 use Rattle.std.specs.List.{All}
 use Rattle.edit_ops.specs.States.{log_of}
 use Rattle.edit_ops.specs.Tagging.{SpanFits}
-use Rattle.command_parts.proofs.MadeLaws.{front_same}
+use Rattle.command_effects.proofs.MadeLaws.{front_same}
 use Rattle.documents.specs.Documents.{parts_of}
 use Rattle.documents.specs.Kept.{Stands}
 use Rattle.documents.proofs.PartsLaws.{cells-kept, sits}

@@ -2,8 +2,8 @@ use Rattle.std.proofs.Common.{◌+◌, ◌-◌, ◌*◌, ap, ap₂, ◌∙◌, a
 use Rattle.tag_table.specs.Tags.{sel, slot_of}
 use Rattle.edit_ops.specs.Removals.{replaced}
 use Rattle.edit_ops.specs.States.{log_of, state_of}
-use Rattle.command_parts.specs.Settings.{recording_of}
-use Rattle.command_parts.specs.Tagging.{piece_of}
+use Rattle.command_effects.specs.Settings.{recording_of}
+use Rattle.command_effects.specs.Tagging.{piece_of}
 use Rattle.documents.specs.Documents.{document_of, parts_of, widget_at}
 use Rattle.documents.specs.Kept.{Stands}
 use Rattle.documents.proofs.ChangeLaws.{does-left, stands-same, table-back}

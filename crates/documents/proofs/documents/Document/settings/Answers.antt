@@ -3,7 +3,7 @@ use Rattle.std.proofs.lemmas.List.{get_or_default}
 use Rattle.text_model.specs.Content as model
 use Rattle.edit_ops.specs.declared.anchors.Anchors.{Anchors}
 use Rattle.text_model.specs.Lines.{lines}
-use Rattle.command_parts.specs.declared.settings.Settings.{Settings}
+use Rattle.command_effects.specs.declared.settings.Settings.{Settings}
 use Rattle.documents.specs.Documents.{characters, parts_of}
 use Rattle.documents.specs.Options.{AreLines}
 use Rattle.documents.specs.Kept.{Stands}

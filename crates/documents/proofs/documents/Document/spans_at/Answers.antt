@@ -2,7 +2,7 @@ use Rattle.std.proofs.Common.{◌≡◌, ◌<◌, ◌-◌, length, refl, sym, su
 use Rattle.std.specs.Prelude.{IfOk}
 use Rattle.std.specs.List.{All}
 use Rattle.edit_ops.specs.Tagging.{SpanFits}
-use Rattle.command_parts.specs.Ranges.{spans_of}
+use Rattle.command_effects.specs.Ranges.{spans_of}
 use Rattle.documents.specs.Documents.{parts_of, widget_at}
 use Rattle.documents.specs.Kept.{Stands}
 use Rattle.documents.specs.Ranges.{spans_shown}

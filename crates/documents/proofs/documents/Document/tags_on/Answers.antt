@@ -5,7 +5,7 @@ use Rattle.std.proofs.lemmas.Str.{IsUtf8-string_bytes, chars-nil}
 use Rattle.tcl_words.specs.ListText.{list_text}
 use Rattle.tcl_words.specs.ListGrowth.{Goes}
 use Rattle.tag_table.specs.Tags.{Tag, names_of}
-use Rattle.command_parts.specs.Tagging.{own_slot}
+use Rattle.command_effects.specs.Tagging.{own_slot}
 use Rattle.documents.specs.Documents.{parts_of, widget_at}
 use Rattle.documents.specs.Kept.{Stands}
 use Rattle.documents.proofs.ListedLaws.{written}

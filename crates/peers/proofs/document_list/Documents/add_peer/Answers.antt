@@ -2,7 +2,7 @@ use Rattle.std.proofs.Common.{◌≡◌, ◌≤◌, ◌+◌, length, slice_set, 
 use Rattle.std.specs.Prelude.{chars, remove}
 use Rattle.std.specs.List.{AllByRecursion, IsDistinct}
 use Rattle.std.proofs.lemmas.List.Edits.{length-insert}
-use Rattle.command_parts.specs.Words.{is_among, is_same}
+use Rattle.command_effects.specs.Words.{is_among, is_same}
 use Rattle.documents.specs.Documents.{Document}
 use Rattle.documents.specs.WellFormed.{IsWellFormedDocument, window_names}
 use Rattle.documents.specs.Widgets.{with_peer}

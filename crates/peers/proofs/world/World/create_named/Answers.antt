@@ -1,7 +1,7 @@
 use Rattle.std.proofs.Common.{◌≡◌, ℕ, true, false, length, sym, ap, subst, ◌∙◌}
 use Rattle.std.specs.Prelude.{chars, nat_le}
-use Rattle.command_parts.specs.Words.{is_among}
-use Rattle.command_parts.specs.declared.answers.Fault.TheVariants.{TooManyWidgets, WindowExists}
+use Rattle.command_effects.specs.Words.{is_among}
+use Rattle.command_effects.specs.declared.answers.Fault.TheVariants.{TooManyWidgets, WindowExists}
 use Rattle.peers.specs.Step.{Outcome}
 use Rattle.peers.specs.WellFormed.{IsWellFormed}
 use Rattle.peers.specs.World.{World, all_windows, windows_of}

@@ -2,7 +2,7 @@ use Rattle.std.proofs.Common.{◌≡◌, ◌<◌, Some, None, true, false, is_so
 use Rattle.std.proofs.Common.{arith}
 use Rattle.std.specs.Prelude.{IfErr, chars}
 use Rattle.tcl_words.specs.Unread.{texts_of}
-use Rattle.command_parts.specs.Words.{is_among}
+use Rattle.command_effects.specs.Words.{is_among}
 use Rattle.documents.specs.Documents.{Document, widget_at}
 use Rattle.documents.specs.Promise.{Change, Does}
 use Rattle.documents.specs.WellFormed.{IsWellFormedDocument, window_names}

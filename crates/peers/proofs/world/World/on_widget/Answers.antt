@@ -1,8 +1,8 @@
 use Rattle.std.proofs.Common.{◌≡◌, Some, None, sym, ap, subst, ◌∙◌}
 use Rattle.std.specs.Prelude.{chars}
 use Rattle.tcl_words.specs.Unread.{texts_of}
-use Rattle.command_parts.specs.Faults.{shape_fault}
-use Rattle.command_parts.specs.declared.answers.Fault.TheVariants.{InvalidCommandName}
+use Rattle.command_effects.specs.Faults.{shape_fault}
+use Rattle.command_effects.specs.declared.answers.Fault.TheVariants.{InvalidCommandName}
 use Rattle.documents.specs.Widgets.{widget_named}
 use Rattle.peers.specs.Step.{Makes, changed, on_home, refuses}
 use Rattle.peers.specs.WellFormed.{IsWellFormed}
