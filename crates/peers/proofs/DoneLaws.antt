@@ -10,14 +10,12 @@ use Rattle.text_model.specs.declared.places.Gravity.{Gravity}
 use Rattle.text_model.specs.declared.places.Place.{Place}
 use Rattle.command_table.specs.Numbers.{boolean_of}
 use Rattle.command_table.specs.declared.commands.Command.{Command}
-use Rattle.command_table.specs.declared.commands.Command.TheVariants.{Insert, Delete, Replace, Get, Index, Compare}
-use Rattle.command_table.specs.declared.commands.Command.TheVariants.{MarkGravity, MarkNames, MarkNext, MarkPrevious}
+use Rattle.command_table.specs.declared.commands.Command.TheVariants.{Insert, Delete, Replace}
+use Rattle.command_table.specs.declared.commands.Command.TheVariants.{MarkGravity}
 use Rattle.command_table.specs.declared.commands.Command.TheVariants.{MarkSet, MarkUnset, TagAdd, TagRemove, TagDelete}
-use Rattle.command_table.specs.declared.commands.Command.TheVariants.{TagNames, TagRanges, TagNextRange}
-use Rattle.command_table.specs.declared.commands.Command.TheVariants.{TagPreviousRange, TagRaise, TagLower, Configure}
-use Rattle.command_table.specs.declared.commands.Command.TheVariants.{Cget, EditUndo, EditRedo, EditModified, EditReset}
-use Rattle.command_table.specs.declared.commands.Command.TheVariants.{EditSeparator, Search, Count, Dump, PeerCreate}
-use Rattle.command_table.specs.declared.commands.Command.TheVariants.{PeerNames, Text, Destroy}
+use Rattle.command_table.specs.declared.commands.Command.TheVariants.{TagRaise, TagLower, Configure}
+use Rattle.command_table.specs.declared.commands.Command.TheVariants.{EditUndo, EditRedo, EditModified, EditReset}
+use Rattle.command_table.specs.declared.commands.Command.TheVariants.{EditSeparator, PeerCreate}
 use Rattle.command_effects.specs.Arguments.{first_of, first_two_of, none_or_one_of, one_or_two_of, two_of}
 use Rattle.command_effects.specs.Faults.{with_value}
 use Rattle.command_effects.specs.Lists.{Pair, pairs_at}

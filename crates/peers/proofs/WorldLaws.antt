@@ -1,9 +1,9 @@
 -- Documents in a world: where their widgets are found, as they come and go.
 use Rattle.std.proofs.Common.{◌≡◌, ℕ, zero, suc, ◌+◌, ◌<◌, ◌≤◌, Bool, true, false, cond, not, List, [], ◌∷◌, ◌++◌}
-use Rattle.std.proofs.Common.{length, map, get_or, filter, flat_map, slice_set, insert, option_map, Option, Some, None}
+use Rattle.std.proofs.Common.{length, map, get_or, filter, slice_set, insert, option_map, Option, Some, None}
 use Rattle.std.proofs.Common.{is_some, take, refl, sym, ap, subst, ◌∙◌, nat_lt, arith}
-use Rattle.std.specs.List.{AllByRecursion, IsDistinct, list_any}
-use Rattle.std.proofs.lemmas.List.{append_assoc, append-nil, length-append}
+use Rattle.std.specs.List.{AllByRecursion, IsDistinct}
+use Rattle.std.proofs.lemmas.List.{append-nil, length-append}
 use Rattle.std.specs.Prelude.{◌||◌, remove}
 use Rattle.std.proofs.lemmas.Bool.Decides.{nat_tests}
 use Rattle.std.proofs.lemmas.List.{get_or_read, length-map, map-append}
@@ -13,7 +13,7 @@ use Rattle.command_effects.specs.declared.settings.Settings.{Settings}
 use Rattle.documents.specs.Documents.{Document, Widget}
 use Rattle.documents.specs.WellFormed.{window_names}
 use Rattle.documents.specs.Widgets.{is_kept, keeps_some, new_document, new_widget, thinned, with_peer, without_widgets}
-use Rattle.peers.specs.Step.{Outcome, changed, create_named, create_new, has_widgets, refuses}
+use Rattle.peers.specs.Step.{changed, create_named, create_new, has_widgets, refuses}
 use Rattle.peers.specs.Widgets.{peer_with}
 use Rattle.command_effects.specs.declared.answers.Answer.TheVariants.{Word}
 use Rattle.command_effects.specs.declared.answers.Fault.TheVariants.{TooManyWidgets, WindowExists}
@@ -26,7 +26,7 @@ use Rattle.peers.specs.Windows.{Homes, home_in, homes_of, names_in}
 use Rattle.peers.specs.World.{World, all_windows, document_at, home, windows_of}
 use Rattle.peers.proofs.HomeLaws.{names-filtered, filter-changed, filter-twice, first_with, found-some, front-count}
 use Rattle.peers.proofs.HomeLaws.{homes-added, homes-count, homes-found, homes-names, homes-peer, names-left}
-use Rattle.peers.proofs.HomeLaws.{names-same, next-count, placed_at}
+use Rattle.peers.proofs.HomeLaws.{names-same, next-count}
 use Rattle.std.proofs.lemmas.List.Edits.{insert_end, length-insert}
 use Rattle.documents.specs.Widgets as widgets
 

@@ -1,8 +1,4 @@
-use Rattle.std.proofs.Common.{◌≡◌, length, sym, ap, ◌∙◌, ◌+◌, arith}
-use Rattle.std.proofs.lemmas.List.{length-map, get_or_default}
-use Rattle.documents.specs.Documents.{Document, Widget}
-use Rattle.documents.specs.Widgets.{bare_document}
-use Rattle.peers.specs.World.{document_at}
+use Rattle.std.proofs.Common.{◌+◌, arith}
 use Rattle.peers.proofs.WorldLaws.{front-windows, next-windows, read-count}
 use Rattle.peers.proofs.document_list.count_to.Goals as goal
 

@@ -1,4 +1,4 @@
-use Rattle.std.proofs.Common.{◌+◌, false, ap₂, ◌∙◌}
+use Rattle.std.proofs.Common.{false, ap₂, ◌∙◌}
 use Rattle.tcl_words.specs.Unread.{texts_of}
 use Rattle.command_effects.specs.Faults.{with_value}
 use Rattle.command_effects.specs.Settings.{settings_checked, settings_read}

@@ -1,10 +1,10 @@
-use Rattle.std.proofs.Common.{◌≡◌, ◌<◌, Some, None, true, false, is_some, length, slice_set, refl, sym, ap, subst, ◌∙◌}
+use Rattle.std.proofs.Common.{◌≡◌, ◌<◌, Some, true, false, is_some, length, slice_set, sym, ap, subst, ◌∙◌}
 use Rattle.std.proofs.Common.{arith}
 use Rattle.std.specs.Prelude.{IfErr, chars}
 use Rattle.tcl_words.specs.Unread.{texts_of}
 use Rattle.command_effects.specs.Words.{is_among}
 use Rattle.documents.specs.Documents.{Document, widget_at}
-use Rattle.documents.specs.Promise.{Change, Does}
+use Rattle.documents.specs.Promise.{Does}
 use Rattle.documents.specs.WellFormed.{IsWellFormedDocument, window_names}
 use Rattle.documents.specs.Widgets.{widget_named}
 use Rattle.peers.specs.Commands.{command}
