@@ -65,17 +65,17 @@ def switches_of(found, name):
 
 
 def record_of(text):
-    """The words and the command of a row that is written out."""
+    """The words and the command of an entry that is written out."""
     least, greatest = (re.search(rf"{name} = ([^;]*);", text)[1] for name in ("least", "greatest"))
     options = re.search(r"after = (\d+); valued = (\w+)", text)
     spelled = tuple(LITERAL.findall(re.search(r"spelling = ([^;]*);", text)[1]))
     return spelled, Command(int(least), number_of(greatest), (int(options[1]), options[2] == "true"))
 
 
-def row_of(found, row):
-    """The words and the command of a row of the table."""
-    words = tuple(LITERAL.findall(row))
-    kind, *rest = LITERAL.sub("", row).replace("(", " ").replace(")", " ").split()
+def entry_of(found, entry):
+    """The words and the command of an entry of the table."""
+    words = tuple(LITERAL.findall(entry))
+    kind, *rest = LITERAL.sub("", entry).replace("(", " ").replace(")", " ").split()
     if kind not in ("alone", "member", "switched"):
         return record_of(found[kind])
     _, *rule, least = rest[: -1 if rest[-2] != "Some" else -2]
@@ -86,8 +86,8 @@ def row_of(found, row):
 def defined_commands():
     """Each subcommand's words with what may stand behind them."""
     found = definitions(text_of("crates", "command_table", "specs", "Table.antt"))
-    rows = [row.strip() for row in found["table"].split("∷")]
-    return dict(row_of(found, row) for row in rows if row.split("--")[0].strip() != "[]")
+    entries = [entry.strip() for entry in found["table"].split("∷")]
+    return dict(entry_of(found, entry) for entry in entries if entry.split("--")[0].strip() != "[]")
 
 
 # ---- the same elsewhere

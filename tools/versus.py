@@ -44,7 +44,7 @@ PARTS = {
     "words": ("tcl_words", "tktext", "script_cli", "devices"),
     "commands": ("peers", "documents", "command_table", "name_list", "indexmap"),
     "places": ("text_index", "index_grammar", "mark_table", "tag_table", "search_dump"),
-    "edits": ("edit_ops", "command_parts", "undo_stack", "text_cursor"),
+    "edits": ("edit_ops", "command_effects", "undo_stack", "text_cursor"),
     "lines": ("line_lists", "segments"),
     "tree": ("line_tree", "raw_nodes", "toggle_sums"),
 }

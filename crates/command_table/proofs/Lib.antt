@@ -1,4 +1,4 @@
 pub mod NumberLaws
 pub mod PlaceLaws
-pub mod RowLaws
+pub mod EntryLaws
 pub mod WordLaws

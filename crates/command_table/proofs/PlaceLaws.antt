@@ -1,15 +1,15 @@
--- Which row of the table begins with words.
+-- Which entry of the table begins with words.
 use Rattle.std.proofs.Common.{◌≡◌, ℕ, ◌<◌, ◌≤◌, ◌+◌, Bool, true, false, ◌&&◌, List, [], ◌∷◌, ◌++◌, map, length, drop}
 use Rattle.std.proofs.Common.{get_or, refl, sym, ap, ◌∙◌, subst, arith, cond}
 use Rattle.std.specs.Prelude.{Option, Some, None, IfSome, String, string_bytes, chars}
 use Rattle.std.proofs.lemmas.Bool.{false≢true}
 use Rattle.std.proofs.lemmas.List.{length-map, get_or-map}
 use Rattle.command_table.specs.Words.{Word, texts_of}
-use Rattle.command_table.specs.Rows.{RowRule, begins}
-use Rattle.command_table.specs.Spelled.{row_rule, spelled}
-use Rattle.command_table.specs.Table.{IsPlaceOf, table, text_row, find_in}
-use Rattle.command_table.specs.declared.rows.Row.{Row}
-use Rattle.command_table.proofs.RowLaws.{rest_at}
+use Rattle.command_table.specs.Entries.{EntryRule, begins}
+use Rattle.command_table.specs.Spelled.{entry_rule, spelled}
+use Rattle.command_table.specs.Table.{IsPlaceOf, table, text_entry, find_in}
+use Rattle.command_table.specs.declared.entries.Entry.{Entry}
+use Rattle.command_table.proofs.EntryLaws.{rest_at}
 
 -- a word that is one that the table knows
 pub by_name : (front : List Word) (place : ℕ) (word name : Word) → word ≡ name →
@@ -49,13 +49,13 @@ by_second found place words first second one two some is next same other found_i
     ∙ ap (λ b. chars b ∷ texts_of (drop (0 + 1) words)) (sym same)
     ∙ ap (λ ws. chars one ∷ ws) (rest_at words 1 second some next ∙ ap (λ b. chars b ∷ rest) (sym other)))) (known rest)
 
--- the row at the place
-pub row_at : (rows : List Row) (words : List Word) (place : ℕ) (row : Row) → map row_rule rows ≡ table →
-    IsPlaceOf place words → Some (row_rule (get_or rows place row)) ≡ find_in table words
-row_at rows words place row are (within, found) =
-    let inside : place < length rows = rw (sym (length-map rows row_rule), are) within in
-    sym (found ∙ ap (λ l. Some (get_or l place text_row)) (sym are)
-    ∙ ap Some (get_or-map row_rule rows place row text_row inside))
+-- the entry at the place
+pub entry_at : (entries : List Entry) (words : List Word) (place : ℕ) (entry : Entry) → map entry_rule entries ≡ table →
+    IsPlaceOf place words → Some (entry_rule (get_or entries place entry)) ≡ find_in table words
+entry_at entries words place entry are (within, found) =
+    let inside : place < length entries = rw (sym (length-map entries entry_rule), are) within in
+    sym (found ∙ ap (λ l. Some (get_or l place text_entry)) (sym are)
+    ∙ ap Some (get_or-map entry_rule entries place entry text_entry inside))
 
 and_right : (a b : Bool) → (a && b) ≡ true → b ≡ true
 and_right true b is = is
@@ -68,20 +68,20 @@ begins-short (first ∷ front) (word ∷ words) is =
     let rest = begins-short front words (and_right _ _ is) in omega (arith, rest)
 
 -- a subcommand that begins words has no more of them
-found-short : (rows : List RowRule) (words : List Word) →
-    IfSome (find_in rows words) (λ row. length row.spelling ≤ length words)
+found-short : (entries : List EntryRule) (words : List Word) →
+    IfSome (find_in entries words) (λ entry. length entry.spelling ≤ length words)
 found-short [] words = _
-found-short (row ∷ rows) words =
-    elim (begins row.spelling words) as (λ b. begins row.spelling words ≡ b →
-    IfSome (cond b (Some row) (find_in rows words)) (λ row. length row.spelling ≤ length words)) [
-      | true ↦ λ is. begins-short row.spelling words is
-      | false ↦ λ isn't. found-short rows words
+found-short (entry ∷ entries) words =
+    elim (begins entry.spelling words) as (λ b. begins entry.spelling words ≡ b →
+    IfSome (cond b (Some entry) (find_in entries words)) (λ entry. length entry.spelling ≤ length words)) [
+      | true ↦ λ is. begins-short entry.spelling words is
+      | false ↦ λ isn't. found-short entries words
     ] refl
 
-pub row-short : {Z : Type 0} (row : Row) (words : List (String Z)) →
-    Some (row_rule row) ≡ find_in table (texts_of words) → length (spelled row.spelling) ≤ length words
-row-short row words is =
-    let short : length (spelled row.spelling) ≤ length (texts_of words) =
+pub entry-short : {Z : Type 0} (entry : Entry) (words : List (String Z)) →
+    Some (entry_rule entry) ≡ find_in table (texts_of words) → length (spelled entry.spelling) ≤ length words
+entry-short entry words is =
+    let short : length (spelled entry.spelling) ≤ length (texts_of words) =
     subst (λ found. IfSome found (λ r. length r.spelling ≤ length (texts_of words))) (sym is)
     (found-short table (texts_of words)) in
     rw (← length-map words (λ w. chars (string_bytes w))) short

@@ -1,13 +1,13 @@
 -- What the code's table lends, as the definitions see it.
 use Rattle.std.specs.Prelude.{List, [], ◌∷◌, chars, option_map}
 use Rattle.command_table.specs.Words.{Word, lent}
-use Rattle.command_table.specs.Rows.{SwitchRule, OptionRule, RowRule}
+use Rattle.command_table.specs.Entries.{SwitchRule, OptionRule, EntryRule}
 use Rattle.command_table.specs.Table.{option_names}
 use Rattle.command_table.specs.declared.spellings.Spelling.{Spelling}
 use Rattle.command_table.specs.declared.spellings.Spelling.TheVariants.{First, Alone, Member}
 use Rattle.command_table.specs.declared.switches.Switches.{Switches}
 use Rattle.command_table.specs.declared.options.Options.{Options}
-use Rattle.command_table.specs.declared.rows.Row.{Row}
+use Rattle.command_table.specs.declared.entries.Entry.{Entry}
 
 abbrev pub spelled : Spelling → List Word
 spelled First = []
@@ -20,12 +20,12 @@ switch_rule switches = record { names = lent switches.names.now; abbreviated = s
 abbrev pub option_rule : Options → OptionRule
 option_rule options = record { names = option_names; after = options.after; valued = options.valued }
 
-abbrev pub row_rule : Row → RowRule
-row_rule row = record {
-  spelling = spelled row.spelling;
-  command = row.command;
-  switches = option_map switch_rule row.switches;
-  options = option_map option_rule row.options;
-  least = row.least;
-  greatest = row.greatest;
+abbrev pub entry_rule : Entry → EntryRule
+entry_rule entry = record {
+  spelling = spelled entry.spelling;
+  command = entry.command;
+  switches = option_map switch_rule entry.switches;
+  options = option_map option_rule entry.options;
+  least = entry.least;
+  greatest = entry.greatest;
 }

@@ -2,7 +2,7 @@
 use Rattle.std.specs.Prelude.{ℕ, ◌≡◌, ◌<◌, List, [], ◌∷◌, length, get_or, true, false, Option, None, Some}
 use Rattle.std.specs.List.{find}
 use Rattle.command_table.specs.Words.{Word, literal}
-use Rattle.command_table.specs.Rows.{RowRule, SwitchRule, begins}
+use Rattle.command_table.specs.Entries.{EntryRule, SwitchRule, begins}
 use Rattle.command_table.specs.declared.commands.Command.{Command}
 use Rattle.command_table.specs.declared.commands.Command.TheVariants.{Text, Insert, Delete, Replace, Get, Index}
 use Rattle.command_table.specs.declared.commands.Command.TheVariants.{Compare, MarkGravity, MarkNames, MarkNext}
@@ -19,8 +19,8 @@ option_names = literal "-undo" ∷ literal "-maxundo" ∷ literal "-autoseparato
     ∷ literal "-startline" ∷ literal "-endline" ∷ []
 
 -- `text W ?option value ..?`
-abbrev pub text_row : RowRule
-text_row = record {
+abbrev pub text_entry : EntryRule
+text_entry = record {
   spelling = [];
   command = Text;
   switches = None;
@@ -30,8 +30,8 @@ text_row = record {
 }
 
 -- `W configure option value ?option value ..?`
-abbrev pub configure_row : RowRule
-configure_row = record {
+abbrev pub configure_entry : EntryRule
+configure_entry = record {
   spelling = literal "configure" ∷ [];
   command = Configure;
   switches = None;
@@ -41,8 +41,8 @@ configure_row = record {
 }
 
 -- `W cget option`
-abbrev pub cget_row : RowRule
-cget_row = record {
+abbrev pub cget_entry : EntryRule
+cget_entry = record {
   spelling = literal "cget" ∷ [];
   command = Cget;
   switches = None;
@@ -52,8 +52,8 @@ cget_row = record {
 }
 
 -- `W peer create V ?option value ..?`
-abbrev pub peer_create_row : RowRule
-peer_create_row = record {
+abbrev pub peer_create_entry : EntryRule
+peer_create_entry = record {
   spelling = literal "peer" ∷ literal "create" ∷ [];
   command = PeerCreate;
   switches = None;
@@ -63,7 +63,7 @@ peer_create_row = record {
 }
 
 -- a subcommand of arguments alone
-abbrev pub plain : List (List ℕ) → Command → ℕ → Option ℕ → RowRule
+abbrev pub plain : List (List ℕ) → Command → ℕ → Option ℕ → EntryRule
 plain spelling command least greatest = record {
   spelling = spelling;
   command = command;
@@ -74,11 +74,11 @@ plain spelling command least greatest = record {
 }
 
 -- `destroy ?W ..?`
-abbrev pub destroy_row : RowRule
-destroy_row = plain [] Destroy 0 None
+abbrev pub destroy_entry : EntryRule
+destroy_entry = plain [] Destroy 0 None
 
 -- a subcommand with switches before its arguments
-abbrev pub switched : List ℕ → Command → SwitchRule → ℕ → ℕ → RowRule
+abbrev pub switched : List ℕ → Command → SwitchRule → ℕ → ℕ → EntryRule
 switched name command switches least greatest = record {
   spelling = name ∷ [];
   command = command;
@@ -104,13 +104,13 @@ abbrev pub dump_switches : SwitchRule
 dump_switches =
     record { names = literal "-all" ∷ literal "-mark" ∷ literal "-tag" ∷ literal "-text" ∷ []; abbreviated = true }
 
-abbrev pub alone : List ℕ → Command → ℕ → Option ℕ → RowRule
+abbrev pub alone : List ℕ → Command → ℕ → Option ℕ → EntryRule
 alone name command least greatest = plain (name ∷ []) command least greatest
 
-abbrev pub member : List ℕ → List ℕ → Command → ℕ → Option ℕ → RowRule
+abbrev pub member : List ℕ → List ℕ → Command → ℕ → Option ℕ → EntryRule
 member family name command least greatest = plain (family ∷ name ∷ []) command least greatest
 
-abbrev pub table : List RowRule
+abbrev pub table : List EntryRule
 table =
     alone (literal "insert") Insert 2 None
     ∷ alone (literal "delete") Delete 1 None
@@ -138,19 +138,19 @@ table =
     ∷ member (literal "edit") (literal "redo") EditRedo 0 (Some 0)
     ∷ member (literal "edit") (literal "reset") EditReset 0 (Some 0)
     ∷ member (literal "edit") (literal "separator") EditSeparator 0 (Some 0)
-    ∷ configure_row
-    ∷ cget_row
+    ∷ configure_entry
+    ∷ cget_entry
     ∷ switched (literal "search") Search search_switches 2 3
     ∷ switched (literal "count") Count count_switches 2 2
     ∷ switched (literal "dump") Dump dump_switches 1 2
-    ∷ peer_create_row
+    ∷ peer_create_entry
     ∷ member (literal "peer") (literal "names") PeerNames 0 (Some 0)
     ∷ []
 
--- the first of some rows whose subcommand begins the words
-abbrev pub find_in : List RowRule → List Word → Option RowRule
-find_in rows words = find (λ row. begins row.spelling words) rows
+-- the first of some entries whose subcommand begins the words
+abbrev pub find_in : List EntryRule → List Word → Option EntryRule
+find_in entries words = find (λ entry. begins entry.spelling words) entries
 
--- at this place of the table stands the first row whose subcommand begins the words
+-- at this place of the table stands the first entry whose subcommand begins the words
 abbrev pub IsPlaceOf : ℕ → List Word → Type 0
-IsPlaceOf place words = (place < length table) × (find_in table words ≡ Some (get_or table place text_row))
+IsPlaceOf place words = (place < length table) × (find_in table words ≡ Some (get_or table place text_entry))

@@ -2,10 +2,10 @@
 #![tactic(auto)]
 
 mod commands;
+mod entries;
 mod numbers;
 mod options;
 mod readings;
-mod rows;
 mod shapes;
 mod spellings;
 mod switches;

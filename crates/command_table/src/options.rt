@@ -1,6 +1,6 @@
 ghost use Rattle.std.specs.Prelude.{◌≡◌, ◌≤◌, ◌+◌, true, length, chars};
 ghost use Rattle.command_table.specs.Words.{texts_of, is_among};
-ghost use Rattle.command_table.specs.Rows.{is_option_place, bad_option, are_paired};
+ghost use Rattle.command_table.specs.Entries.{is_option_place, bad_option, are_paired};
 ghost use Rattle.command_table.specs.Table.{option_names};
 ghost use Rattle.command_table.specs.Spelled.{option_rule};
 
@@ -49,13 +49,13 @@ impl Options {
 
     /// The position of the first word that stands in place of an option and is none. The arguments stand from a
     /// position on.
-    pub fn first_bad(self, at: usize, arguments: &[String]) -> Option<usize>
-        requires { at + length arguments.now ≤ usize.MAX }
-        ensures { result ≡ bad_option (Some (option_rule self)) at (texts_of arguments.now) }
+    pub fn first_bad(self, position: usize, arguments: &[String]) -> Option<usize>
+        requires { position + length arguments.now ≤ usize.MAX }
+        ensures { result ≡ bad_option (Some (option_rule self)) position (texts_of arguments.now) }
     {
         for (place, word) in arguments.iter().enumerate() {
             if self.stands_at(place) && !is_option(word.as_str()) {
-                return Some(at + place);
+                return Some(position + place);
             }
         }
         None

@@ -1,9 +1,9 @@
 ghost use Rattle.std.specs.Prelude.{◌≡◌, ◌<◌, ◌≤◌, ◌+◌, length, IfOk};
 ghost use Rattle.command_table.specs.Words.{texts_of};
 ghost use Rattle.command_table.specs.Reading.{behind, unknown, subcommand, reading};
-ghost use Rattle.command_table.specs.Table.{destroy_row, text_row};
+ghost use Rattle.command_table.specs.Table.{destroy_entry, text_entry};
 
-use crate::rows::{destroy_row, find_row, goes_on, text_row};
+use crate::entries::{destroy_entry, find_entry, goes_on, text_entry};
 use crate::shapes::{Shape, ShapeFault};
 use crate::words::is_word;
 
@@ -26,11 +26,11 @@ fn subcommand(words: &[String]) -> Result<Shape, ShapeFault>
     ensures within { IfOk result (λ shape. shape.arguments + shape.count ≤ 1 + length words.now) }
     ensures ordered { IfOk result (λ shape. shape.switches ≤ shape.arguments) }
 {
-    match find_row(words) {
+    match find_entry(words) {
         None => Err(unknown(words)),
-        Some(row) => {
-            let count = row.spelling.len();
-            row.read(1 + count, &words[count..])
+        Some(entry) => {
+            let count = entry.spelling.len();
+            entry.read(1 + count, &words[count..])
         }
     }
 }
@@ -38,21 +38,21 @@ fn subcommand(words: &[String]) -> Result<Shape, ShapeFault>
 /// What the words behind `text` are.
 fn creation(words: &[String]) -> Result<Shape, ShapeFault>
     requires { 1 + length words.now ≤ usize.MAX }
-    ensures value { result ≡ behind text_row 1 (texts_of words.now) }
+    ensures value { result ≡ behind text_entry 1 (texts_of words.now) }
     ensures within { IfOk result (λ shape. shape.arguments + shape.count ≤ 1 + length words.now) }
     ensures ordered { IfOk result (λ shape. shape.switches ≤ shape.arguments) }
 {
-    text_row().read(1, words)
+    text_entry().read(1, words)
 }
 
 /// What the words behind `destroy` are.
 fn destruction(words: &[String]) -> Result<Shape, ShapeFault>
     requires { 1 + length words.now ≤ usize.MAX }
-    ensures value { result ≡ behind destroy_row 1 (texts_of words.now) }
+    ensures value { result ≡ behind destroy_entry 1 (texts_of words.now) }
     ensures within { IfOk result (λ shape. shape.arguments + shape.count ≤ 1 + length words.now) }
     ensures ordered { IfOk result (λ shape. shape.switches ≤ shape.arguments) }
 {
-    destroy_row().read(1, words)
+    destroy_entry().read(1, words)
 }
 
 /// What the words of a command are, for `text`, `destroy` or the command of a widget, whatever its name is: first the

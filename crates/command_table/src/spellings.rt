@@ -1,6 +1,6 @@
 ghost use Rattle.std.specs.Prelude.{◌≡◌, ◌≤◌, length, IsTrue};
 ghost use Rattle.command_table.specs.Words.{texts_of};
-ghost use Rattle.command_table.specs.Rows.{begins};
+ghost use Rattle.command_table.specs.Entries.{begins};
 ghost use Rattle.command_table.specs.Spelled.{spelled};
 
 use crate::words::is_word;

@@ -1,7 +1,7 @@
 ghost use Rattle.std.specs.Prelude.{◌≡◌, ◌≤◌, ◌+◌, length, filter, take, chars};
 ghost use Rattle.std.specs.List.{starts_with};
 ghost use Rattle.command_table.specs.Words.{texts_of, lent, is_character};
-ghost use Rattle.command_table.specs.Rows.{ends_switches, switch_words, dashed_words, is_switch, bad_switch};
+ghost use Rattle.command_table.specs.Entries.{ends_switches, switch_words, dashed_words, is_switch, bad_switch};
 ghost use Rattle.command_table.specs.Spelled.{switch_rule};
 
 use crate::words::{abbreviates, is_among, is_dashed, is_word};
@@ -65,13 +65,13 @@ impl Switches {
     }
 
     /// The position of the first word that is none of them. The words stand from a position on.
-    pub fn first_bad(self, at: usize, words: &[String]) -> Option<usize>
-        requires { at + length words.now ≤ usize.MAX }
-        ensures { result ≡ bad_switch (Some (switch_rule self)) at (texts_of words.now) }
+    pub fn first_bad(self, position: usize, words: &[String]) -> Option<usize>
+        requires { position + length words.now ≤ usize.MAX }
+        ensures { result ≡ bad_switch (Some (switch_rule self)) position (texts_of words.now) }
     {
         for (index, word) in words.iter().enumerate() {
             if !self.has(word.as_str()) {
-                return Some(at + index);
+                return Some(position + index);
             }
         }
         None

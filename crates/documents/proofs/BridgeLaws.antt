@@ -15,7 +15,7 @@ use Rattle.text_model.specs.Content.{Slots}
 use Rattle.text_model.specs.Steps.{set_slot}
 use Rattle.text_model.proofs.CellLaws.{contains-set_slot}
 use Rattle.edit_ops.specs.Tagging.{without}
-use Rattle.command_parts.specs.Words.{is_among, is_same}
+use Rattle.command_effects.specs.Words.{is_among, is_same}
 use Rattle.documents.specs.Keys.{Key, Keys, is_shared, key_cmp, key_pairs, keys_of, seat_pair, set_key, tag_pair}
 use Rattle.documents.specs.Kept.{AreKnown, AreSeats}
 use Rattle.documents.proofs.KeyLaws.{key_cmp_total, key_cmp_exact}

@@ -5,20 +5,20 @@ use Rattle.std.specs.List.{All}
 use Rattle.std.proofs.lemmas.Bool.{ltb-false}
 use Rattle.text_model.specs.declared.places.Place.{Place}
 use Rattle.text_model.specs.LimitTable.{LimitTable}
-use Rattle.command_parts.specs.declared.answers.Answer.TheVariants.{Empty}
-use Rattle.command_parts.specs.declared.answers.Fault.{Fault}
-use Rattle.command_parts.specs.declared.answers.Fault.TheVariants.{NoSuchTag, TooManyTags, TextTooLong}
-use Rattle.command_parts.specs.Lists.{Pair}
-use Rattle.command_parts.specs.Words.{is_among}
+use Rattle.command_effects.specs.declared.answers.Answer.TheVariants.{Empty}
+use Rattle.command_effects.specs.declared.answers.Fault.{Fault}
+use Rattle.command_effects.specs.declared.answers.Fault.TheVariants.{NoSuchTag, TooManyTags, TextTooLong}
+use Rattle.command_effects.specs.Lists.{Pair}
+use Rattle.command_effects.specs.Words.{is_among}
 use Rattle.documents.specs.Deletions.{delete_places, replace_span}
 use Rattle.documents.specs.Documents.{Document, Widget}
 use Rattle.documents.specs.History.{edit_separator, modified_set}
 use Rattle.documents.specs.Marks.{mark_unset, set_found, with_mark}
 use Rattle.documents.specs.Promise.{Change, answered, refused, change_with, unless_idle}
-use Rattle.documents.specs.Reversals.{edit_redo, edit_undo}
+use Rattle.documents.specs.History.{edit_redo, edit_undo}
 use Rattle.documents.specs.Tags.{add_spans, known_or, remove_spans, reordered, tag_delete}
 use Rattle.documents.specs.Texts.{insert_at, insertion_offset, within_limits}
-use Rattle.documents.specs.View.{is_idle, shown, view_end}
+use Rattle.documents.specs.Views.{is_idle, shown, view_end}
 
 -- ---- what may follow, or not
 
@@ -52,27 +52,27 @@ carried-limited P limits document tags chars change same next =
           ] refl
     ]
 
-known-carried : (P : Document → Type 0) (document : Document) (at : ℕ) (name : List ℕ) (change : Change) → P document →
+known-carried : (P : Document → Type 0) (document : Document) (position : ℕ) (name : List ℕ) (change : Change) → P document →
     P change.document
-    → P (known_or document at name change).document
-known-carried P document at name change same next =
-    elim (is_among name document.tags) as (λ b. P (if b then change else refused document (NoSuchTag at)).document) [
+    → P (known_or document position name change).document
+known-carried P document position name change same next =
+    elim (is_among name document.tags) as (λ b. P (if b then change else refused document (NoSuchTag position)).document) [
       | true ↦ next
       | false ↦ same
     ]
 
 -- tags in another order
-pub carried-reordered : (P : Document → Type 0) (document : Document) (at : ℕ)
+pub carried-reordered : (P : Document → Type 0) (document : Document) (position : ℕ)
     (order : List (List ℕ) → List ℕ → Option (List ℕ) → List (List ℕ)) (words : List ℕ × Option (List ℕ))
     → P document → ((tags : List (List ℕ)) → P (record document { tags = tags })) →
-    P (reordered document at order words).document
-carried-reordered P document at order (name, None) same next =
-    known-carried P document at name (answered (record document { tags = order document.tags name None }) Empty) same
+    P (reordered document position order words).document
+carried-reordered P document position order (name, None) same next =
+    known-carried P document position name (answered (record document { tags = order document.tags name None }) Empty) same
     (next (order document.tags name None))
-carried-reordered P document at order (name, Some other) same next =
+carried-reordered P document position order (name, Some other) same next =
     let change : Change = answered (record document { tags = order document.tags name (Some other) }) Empty in
-    known-carried P document at name (known_or document (at + 1) other change) same
-    (known-carried P document (at + 1) other change same (next (order document.tags name (Some other))))
+    known-carried P document position name (known_or document (position + 1) other change) same
+    (known-carried P document (position + 1) other change same (next (order document.tags name (Some other))))
 
 -- ---- edits
 
@@ -96,9 +96,9 @@ pub record IsCarried (limits : LimitTable) (document : Document) (widget : Widge
   pub added : (name places : List ℕ) → P (add_spans limits document widget name places).document
   pub removed : (name places : List ℕ) → P (remove_spans document widget name places).document
   pub untagged : (names : List (List ℕ)) → P (tag_delete document names).document
-  pub ordered : (at : ℕ) (order : List (List ℕ) → List ℕ → Option (List ℕ) →
+  pub ordered : (position : ℕ) (order : List (List ℕ) → List ℕ → Option (List ℕ) →
       List (List ℕ)) (words : List ℕ × Option (List ℕ))
-      → P (reordered document at order words).document
+      → P (reordered document position order words).document
   pub modified : (flag : Bool) → P (modified_set document flag).document
   pub separated : P (edit_separator document).document
   pub undone : P (edit_undo document widget).document

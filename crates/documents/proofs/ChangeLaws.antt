@@ -5,11 +5,11 @@ use Rattle.tag_table.specs.Tags.{Tags}
 use Rattle.text_model.specs.Content as model
 use Rattle.text_model.specs.LimitTable.{LimitTable}
 use Rattle.undo_stack.specs.Fits.{FitsText}
-use Rattle.command_parts.specs.declared.answers.Answer.{Answer}
-use Rattle.command_parts.specs.declared.answers.Answer.TheVariants.{Empty}
-use Rattle.command_parts.specs.declared.answers.Fault.{Fault}
-use Rattle.command_parts.specs.declared.answers.Fault.TheVariants.{Memory}
-use Rattle.command_parts.specs.Tagging.{IsFront}
+use Rattle.command_effects.specs.declared.answers.Answer.{Answer}
+use Rattle.command_effects.specs.declared.answers.Answer.TheVariants.{Empty}
+use Rattle.command_effects.specs.declared.answers.Fault.{Fault}
+use Rattle.command_effects.specs.declared.answers.Fault.TheVariants.{Memory}
+use Rattle.command_effects.specs.Tagging.{IsFront}
 use Rattle.documents.specs.Documents.{Document, Parts, document_of}
 use Rattle.documents.specs.Kept.{IsSound, Stands}
 use Rattle.documents.specs.Promise.{Change, Does, answered, refused}

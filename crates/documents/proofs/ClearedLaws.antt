@@ -14,8 +14,8 @@ use Rattle.tag_table.specs.Tags.{AreTags, Tag, Tags, names_of as tag_names, sel,
 use Rattle.text_model.specs.declared.cells.Cell.{Cell}
 use Rattle.text_model.specs.declared.limits.TheConstants.Limits.{MOST_WIDGETS}
 use Rattle.edit_ops.specs.Tagging.{cell_without}
-use Rattle.command_parts.specs.Tagging.{slot_taken, slots_deleted, stays, tags_left}
-use Rattle.command_parts.specs.Words.{is_among, is_same}
+use Rattle.command_effects.specs.Tagging.{slot_taken, slots_deleted, stays, tags_left}
+use Rattle.command_effects.specs.Words.{is_among, is_same}
 use Rattle.documents.specs.Kept.{AreSeats, HasKnownSlots}
 use Rattle.documents.specs.Keys.{Key, key_pairs, keyed, numbers_gone, seats_left, selection_stays}
 use Rattle.documents.specs.Tags.{key_stays, without_tags}

@@ -18,7 +18,7 @@ use Rattle.tag_table.specs.Tags.{AreTags, Tag, first_slot, sel}
 use Rattle.undo_stack.specs.History.{no_history}
 use Rattle.undo_stack.specs.Modified.{unmodified}
 use Rattle.edit_ops.specs.Anchors.{AreAnchored}
-use Rattle.command_parts.specs.Settings.{first_document_settings}
+use Rattle.command_effects.specs.Settings.{first_document_settings}
 use Rattle.documents.specs.Documents.{Parts, document_of}
 use Rattle.documents.specs.Kept.{AreMarked, HasKnownSlots, IsSound}
 use Rattle.documents.specs.WellFormed.{IsWellFormedDocument}

@@ -9,11 +9,11 @@ use Rattle.text_index.specs.Meanings.{AreWithin}
 use Rattle.text_index.specs.Views.{own_place, shared_place}
 use Rattle.text_index.specs.Words.{is_word}
 use Rattle.text_index.proofs.BoundLaws.{own-within, shared-within, value_of-le}
-use Rattle.command_parts.specs.Faults.{at_position, index_fault}
+use Rattle.command_effects.specs.Faults.{at_position, index_fault}
 use Rattle.documents.specs.Documents.{Document, Widget, SharedMark, KeyedCell, characters}
 use Rattle.documents.specs.Indices.{place_at}
 use Rattle.documents.specs.Names.{key_of, mark_place, meanings, place_of}
-use Rattle.documents.specs.View.{shown, view_end, view_start}
+use Rattle.documents.specs.Views.{shown, view_end, view_start}
 use Rattle.documents.proofs.ViewLaws.{part-length}
 
 mark-within : (document : Document) (widget : Widget) (number place : ℕ) →

@@ -13,14 +13,14 @@ use Rattle.edit_ops.specs.Insertions.{inserted_texts}
 use Rattle.edit_ops.specs.States.{State}
 use Rattle.edit_ops.specs.declared.pieces.Piece.{Piece}
 use Rattle.edit_ops.proofs.KeepLaws.{texts-kept}
-use Rattle.command_parts.specs.declared.answers.Answer.TheVariants.{Empty}
-use Rattle.command_parts.specs.declared.answers.Fault.{Fault}
-use Rattle.command_parts.specs.declared.answers.Fault.TheVariants.{TextTooLong, TooManyTags}
-use Rattle.command_parts.specs.Edits.{excess}
-use Rattle.command_parts.specs.Lists.{Pair, all_names, total, with_names}
-use Rattle.command_parts.specs.Settings.{recording_of}
-use Rattle.command_parts.specs.Tagging.{IsFront, piece_of}
-use Rattle.command_parts.specs.Words.{is_among}
+use Rattle.command_effects.specs.declared.answers.Answer.TheVariants.{Empty}
+use Rattle.command_effects.specs.declared.answers.Fault.{Fault}
+use Rattle.command_effects.specs.declared.answers.Fault.TheVariants.{TextTooLong, TooManyTags}
+use Rattle.command_effects.specs.Edits.{excess}
+use Rattle.command_effects.specs.Lists.{Pair, all_names, total, with_names}
+use Rattle.command_effects.specs.Settings.{recording_of}
+use Rattle.command_effects.specs.Tagging.{IsFront, piece_of}
+use Rattle.command_effects.specs.Words.{is_among}
 use Rattle.documents.specs.Documents.{Document, Parts, Widget, document_of, widget_at}
 use Rattle.documents.specs.Edits.{with_texts}
 use Rattle.documents.specs.Kept.{Stands}

@@ -10,9 +10,9 @@ use Rattle.undo_stack.specs.Rings.{Kept}
 use Rattle.undo_stack.specs.declared.actions.Action.{Action}
 use Rattle.undo_stack.proofs.FitsLaws.{limited-fits, nothing-fits}
 use Rattle.edit_ops.specs.States.{log_of}
-use Rattle.command_parts.specs.Settings.{history_under}
-use Rattle.command_parts.specs.declared.answers.Answer.TheVariants.{Empty}
-use Rattle.command_parts.specs.declared.settings.DocumentSettings.{DocumentSettings}
+use Rattle.command_effects.specs.Settings.{history_under}
+use Rattle.command_effects.specs.declared.answers.Answer.TheVariants.{Empty}
+use Rattle.command_effects.specs.declared.settings.DocumentSettings.{DocumentSettings}
 use Rattle.documents.specs.History.{edit_reset, edit_separator, modified_set}
 use Rattle.documents.specs.Documents.{Document, Journal, Parts, document_of}
 use Rattle.documents.specs.Kept.{IsOrderly, Stands}

@@ -18,7 +18,7 @@ use Rattle.text_model.proofs.SpliceLaws.{map-inserted, map-removed, map-changed,
 use Rattle.edit_ops.specs.declared.spans.Span.{Span}
 use Rattle.text_cursor.specs.Around.{shared_slots}
 use Rattle.edit_ops.specs.Tagging.{cell_without, tagged}
-use Rattle.command_parts.specs.Tagging.{IsFront}
+use Rattle.command_effects.specs.Tagging.{IsFront}
 use Rattle.documents.specs.Edits.{bare, with_key, with_tag, keys_between, common_keys}
 use Rattle.documents.specs.Kept.{AreSeats, HasKnownSlots}
 use Rattle.documents.specs.Keys.{Key, Keys, keyed, keys_of, key_named, key_pairs}

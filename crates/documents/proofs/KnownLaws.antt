@@ -22,7 +22,7 @@ use Rattle.edit_ops.specs.declared.pieces.Piece.{Piece}
 use Rattle.edit_ops.specs.Insertions.{slots_or}
 use Rattle.edit_ops.specs.Tagging.{cell_without}
 use Rattle.text_cursor.specs.Around.{shared_slots}
-use Rattle.command_parts.specs.Tagging.{IsFront, slots_named, with_found}
+use Rattle.command_effects.specs.Tagging.{IsFront, slots_named, with_found}
 use Rattle.documents.specs.Kept.{AreKnown, AreSeats, HasKnownSlots}
 use Rattle.documents.specs.Keys.{Key, key_named, key_pairs, pair_slots}
 use Rattle.documents.proofs.BridgeLaws.{known-extended, known-left}

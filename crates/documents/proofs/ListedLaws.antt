@@ -8,7 +8,7 @@ use Rattle.mark_table.specs.SharedMarks.{Mark, names_of}
 use Rattle.tag_table.specs.Tags.{names_of as tag_names}
 use Rattle.tcl_words.specs.ListGrowth.{Goes}
 use Rattle.tcl_words.specs.ListText.{list_text}
-use Rattle.command_parts.specs.Words.{literal}
+use Rattle.command_effects.specs.Words.{literal}
 use Rattle.documents.specs.Documents.{Document, Parts}
 use Rattle.documents.specs.Kept.{Stands}
 use Rattle.documents.specs.Marks.{mark_names}

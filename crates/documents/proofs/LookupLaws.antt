@@ -10,8 +10,8 @@ use Rattle.std.proofs.lemmas.Slice.Eq.{bytes_eq-Decides}
 use Rattle.name_list.specs.Names.{AreApart}
 use Rattle.name_list.proofs.ListLaws.{AreApart-insert, Stands, stands_map, stood_at}
 use Rattle.text_model.specs.Content.{Slots}
-use Rattle.command_parts.specs.Words.{is_among}
-use Rattle.command_parts.proofs.LeftLaws.{AreApart-head, AreApart-tail}
+use Rattle.command_effects.specs.Words.{is_among}
+use Rattle.command_effects.proofs.LeftLaws.{AreApart-head, AreApart-tail}
 
 -- whether a set has the slot, if there is one
 abbrev pub has : Slots → Option ℕ → Bool

@@ -22,11 +22,11 @@ use Rattle.text_model.specs.declared.places.Place.{Place}
 use Rattle.text_model.specs.Content.{Content, Marks}
 use Rattle.text_model.specs.Documents.{MarksStand}
 use Rattle.text_model.specs.LimitTable.{LimitTable}
-use Rattle.command_parts.specs.declared.answers.Answer.TheVariants.{Empty}
-use Rattle.command_parts.specs.declared.answers.Fault.TheVariants.{TooManyMarks}
-use Rattle.command_parts.specs.Edits.{new_mark}
-use Rattle.command_parts.specs.Marking.{is_left, IsMadeMark, marks_left, numbers_named, taken}
-use Rattle.command_parts.specs.Words.{is_among, is_own, is_same, literal}
+use Rattle.command_effects.specs.declared.answers.Answer.TheVariants.{Empty}
+use Rattle.command_effects.specs.declared.answers.Fault.TheVariants.{TooManyMarks}
+use Rattle.command_effects.specs.Edits.{new_mark}
+use Rattle.command_effects.specs.Marking.{is_left, IsMadeMark, marks_left, numbers_named, taken}
+use Rattle.command_effects.specs.Words.{is_among, is_own, is_same, literal}
 use Rattle.documents.specs.Documents.{Document, Journal, Parts, SharedMark, Widget, document_of, mark_of, placed}
 use Rattle.documents.specs.Documents.{widget_at, widget_of}
 use Rattle.documents.specs.Kept.{AreMarked, AreSeats, HasOwnMarks, IsMarked, Stands}

@@ -21,11 +21,11 @@ use Rattle.text_model.specs.declared.places.Place.{Place}
 use Rattle.text_model.specs.Content.{Marks}
 use Rattle.text_index.specs.Views as view
 use Rattle.edit_ops.specs.declared.anchors.Anchors.{Anchors}
-use Rattle.command_parts.specs.Edits.{new_mark}
+use Rattle.command_effects.specs.Edits.{new_mark}
 use Rattle.documents.specs.Documents.{Document, Parts, SharedMark, Widget, mark_of, placed, whole, widget_at}
 use Rattle.documents.specs.Kept.{IsMarked, Stands}
 use Rattle.documents.specs.Marks.{shared_from, shown_at, usable_marks}
-use Rattle.documents.specs.Origins.{origin_in}
+use Rattle.documents.specs.Marks.{origin_in}
 use Rattle.documents.proofs.MeaningLaws.{current-is, insert-is}
 use Rattle.documents.proofs.PartsLaws.{Sits}
 use Rattle.documents.proofs.PlacedLaws.{marked-there}

@@ -13,13 +13,13 @@ use Rattle.mark_table.specs.SharedMarks.{Mark, number_of, numbers_of}
 use Rattle.text_model.specs.declared.places.Place.{Place}
 use Rattle.text_model.specs.Content.{Marks}
 use Rattle.text_index.specs.Views.{shared_place}
-use Rattle.command_parts.specs.Edits.{new_mark}
-use Rattle.command_parts.specs.Words.{is_same, literal}
+use Rattle.command_effects.specs.Edits.{new_mark}
+use Rattle.command_effects.specs.Words.{is_same, literal}
 use Rattle.documents.specs.Documents.{Document, Parts, SharedMark, Widget, mark_of, placed, widget_at}
 use Rattle.documents.specs.Kept.{IsMarked, Stands}
 use Rattle.documents.specs.Marks.{place_named}
 use Rattle.documents.specs.Names.{mark_number, mark_place}
-use Rattle.documents.specs.View.{view_end, view_start}
+use Rattle.documents.specs.Views.{view_end, view_start}
 use Rattle.documents.proofs.MeaningLaws.{current-is, insert-is}
 use Rattle.documents.proofs.PartsLaws.{Sits, cells-kept}
 use Rattle.documents.proofs.PlacedLaws.{StandsMark, found_mark, marked-there}

@@ -22,16 +22,16 @@ use Rattle.text_index.specs.Views.{own_place, shared_place, shown_mark}
 use Rattle.text_index.specs.Words.{is_word}
 use Rattle.text_index.specs.Meanings.{MeanTheSame, shown_meanings, word_value}
 use Rattle.text_index.proofs.MeaningLaws.{word_value-same}
-use Rattle.command_parts.specs.Edits.{new_mark}
-use Rattle.command_parts.specs.Faults.{index_fault, at_position}
-use Rattle.command_parts.specs.Words.{literal, is_same}
-use Rattle.command_parts.proofs.MadeLaws.{found_tag}
+use Rattle.command_effects.specs.Edits.{new_mark}
+use Rattle.command_effects.specs.Faults.{index_fault, at_position}
+use Rattle.command_effects.specs.Words.{literal, is_same}
+use Rattle.command_effects.proofs.MadeLaws.{found_tag}
 use Rattle.documents.specs.Documents.{Document, Parts, SharedMark, Widget, mark_of, placed, widget_at}
 use Rattle.documents.specs.Keys.{key_named}
 use Rattle.documents.specs.Kept.{AreMarked, Stands}
 use Rattle.documents.specs.Names.{mark_number, mark_place, meanings, place_of, tag_flags, tag_number}
 use Rattle.documents.specs.Promise.{Gives}
-use Rattle.documents.specs.View.{shown, shown_flags, view_end, view_start}
+use Rattle.documents.specs.Views.{shown, shown_flags, view_end, view_start}
 use Rattle.documents.proofs.PartsLaws.{Sits}
 use Rattle.documents.proofs.PlacedLaws.{found_mark, marked-there}
 use Rattle.documents.proofs.ViewLaws.{IsSeen, end-is, end_in, flags-is, shown-is, start-is, start_in}

@@ -19,11 +19,11 @@ use Rattle.documents.specs.Keys.{Key, keys_of, key_named, key_pairs, keys_named}
 use Rattle.documents.specs.Kept.{AreKnown, AreSeats}
 use Rattle.edit_ops.specs.declared.pieces.Piece.{Piece}
 use Rattle.edit_ops.specs.Insertions.{total}
-use Rattle.command_parts.specs.Lists.{Pair, all_names, listed_names, with_name, with_names}
-use Rattle.command_parts.specs.Tagging.{piece_of, slots_named, with_found}
-use Rattle.command_parts.specs.Lists as texts
+use Rattle.command_effects.specs.Lists.{Pair, all_names, listed_names, with_name, with_names}
+use Rattle.command_effects.specs.Tagging.{piece_of, slots_named, with_found}
+use Rattle.command_effects.specs.Lists as texts
 use Rattle.documents.specs.Texts.{keyed_text}
-use Rattle.command_parts.specs.Words.{is_among, is_same}
+use Rattle.command_effects.specs.Words.{is_among, is_same}
 use Rattle.documents.specs.Documents.{Widget}
 use Rattle.documents.proofs.BridgeLaws.{keys_of-empty, keys_of-set_slot}
 use Rattle.documents.proofs.KnownLaws.{IsKnownPiece, known-named}

@@ -13,11 +13,11 @@ use Rattle.edit_ops.specs.declared.spans.Span.{Span}
 use Rattle.edit_ops.specs.Deletions.{in_spans}
 use Rattle.edit_ops.specs.Removals.{clipped}
 use Rattle.edit_ops.specs.Reversals.{redo_end, undo_end}
-use Rattle.command_parts.specs.declared.answers.Answer.TheVariants.{Empty}
-use Rattle.command_parts.specs.declared.answers.Fault.TheVariants.{TooManyMarks, TooManyTags}
-use Rattle.command_parts.specs.declared.settings.Settings.{Settings}
-use Rattle.command_parts.specs.Lists.{Pair, total, with_name}
-use Rattle.command_parts.specs.Words.{is_among, is_same, literal}
+use Rattle.command_effects.specs.declared.answers.Answer.TheVariants.{Empty}
+use Rattle.command_effects.specs.declared.answers.Fault.TheVariants.{TooManyMarks, TooManyTags}
+use Rattle.command_effects.specs.declared.settings.Settings.{Settings}
+use Rattle.command_effects.specs.Lists.{Pair, total, with_name}
+use Rattle.command_effects.specs.Words.{is_among, is_same, literal}
 use Rattle.documents.specs.Deletions.{delete_spans, deleted_runs, last_bare, replace_span, with_clipped}
 use Rattle.documents.specs.Documents.{Document, Widget, KeyedCell, characters}
 use Rattle.documents.specs.Edits.{KeyedText, keys_between, keys_or, widget_drawn, widget_moved, with_action, with_bare}
@@ -28,11 +28,11 @@ use Rattle.documents.specs.Names.{key_of}
 use Rattle.documents.specs.Options.{widget_set, with_settings}
 use Rattle.documents.specs.Promise.{answered, refused}
 use Rattle.documents.specs.Ranges.{spans_shown}
-use Rattle.documents.specs.Reversals.{action_again, action_back, edit_redo, edit_undo, group_again, group_back}
-use Rattle.documents.specs.Reversals.{redo_found, redone, text_back, undo_found, undone, with_end}
+use Rattle.documents.specs.History.{action_again, action_back, edit_redo, edit_undo, group_again, group_back}
+use Rattle.documents.specs.History.{redo_found, redone, text_back, undo_found, undone, with_end}
 use Rattle.documents.specs.Tags.{add_spans, remove_spans}
 use Rattle.documents.specs.Texts.{insert_at, keyed_text, tags_with}
-use Rattle.documents.specs.View.{is_idle, view_end}
+use Rattle.documents.specs.Views.{is_idle, view_end}
 use Rattle.documents.specs.WellFormed.{window_names}
 use Rattle.documents.proofs.CarriedLaws.{carried-limited}
 

@@ -6,9 +6,9 @@ use Rattle.std.proofs.lemmas.List.{length-append, length-map, map-append}
 use Rattle.std.proofs.lemmas.Slice.Eq.{bytes_eq-Decides}
 use Rattle.text_model.specs.LimitTable.{LimitTable}
 use Rattle.undo_stack.specs.History.{separated}
-use Rattle.command_parts.proofs.CountLaws.{among-append}
-use Rattle.command_parts.specs.declared.settings.Settings.{Settings}
-use Rattle.command_parts.specs.Words.{is_among, is_same}
+use Rattle.command_effects.proofs.CountLaws.{among-append}
+use Rattle.command_effects.specs.declared.settings.Settings.{Settings}
+use Rattle.command_effects.specs.Words.{is_among, is_same}
 use Rattle.documents.specs.Documents.{Document, Widget}
 use Rattle.documents.specs.Kept.{is_window_name}
 use Rattle.documents.specs.Ranges.{spans_shown}
@@ -54,7 +54,7 @@ named-carried limits windows document widget =
       added = λ name places. kept _ (add-kept limits document widget name places);
       removed = λ name places. kept _ (remove-kept document widget name places);
       untagged = λ names. kept _ refl;
-      ordered = λ at order words. carried-reordered (AreNamed windows document) document at order words
+      ordered = λ position order words. carried-reordered (AreNamed windows document) document position order words
           (kept document refl) (λ tags. kept _ refl);
       modified = λ flag. kept _ refl;
       separated = kept _ (elim document.undo as

@@ -13,10 +13,10 @@ use Rattle.undo_stack.specs.Fits.{FitsText, reverted_groups}
 use Rattle.undo_stack.specs.History.{History, limit_of, limited, no_history}
 use Rattle.edit_ops.specs.Anchors.{AreAnchored}
 use Rattle.edit_ops.proofs.StartLaws.{text-end-begins}
-use Rattle.command_parts.specs.declared.settings.DocumentSettings.{DocumentSettings}
-use Rattle.command_parts.specs.declared.settings.Settings.{Settings}
-use Rattle.command_parts.specs.Settings.{history_under, is_behind}
-use Rattle.command_parts.specs.Words.{is_same}
+use Rattle.command_effects.specs.declared.settings.DocumentSettings.{DocumentSettings}
+use Rattle.command_effects.specs.declared.settings.Settings.{Settings}
+use Rattle.command_effects.specs.Settings.{history_under, is_behind}
+use Rattle.command_effects.specs.Words.{is_same}
 use Rattle.documents.specs.Documents.{Document, Widget, KeyedCell, characters}
 use Rattle.documents.specs.Options.{AreLines, settings_of, widget_set, with_settings}
 use Rattle.documents.specs.WellFormed.{IsPlaced, IsWellFormedDocument}

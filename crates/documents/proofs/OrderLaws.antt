@@ -12,8 +12,8 @@ use Rattle.tag_table.specs.Priority as table
 use Rattle.tag_table.specs.Priority.{next_to}
 use Rattle.tag_table.specs.Tags.{Tag, is_named, names_of, slot_of}
 use Rattle.documents.specs.Tags.{lowered, raised}
-use Rattle.command_parts.specs.Words.{is_among, is_same}
-use Rattle.command_parts.proofs.LeftLaws.{AreApart-head, AreApart-tail}
+use Rattle.command_effects.specs.Words.{is_among, is_same}
+use Rattle.command_effects.proofs.LeftLaws.{AreApart-head, AreApart-tail}
 
 -- ---- names
 

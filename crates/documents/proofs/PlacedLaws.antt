@@ -16,9 +16,9 @@ use Rattle.text_model.specs.Content.{Marks, map_marks}
 use Rattle.text_model.specs.Splices.{goes_behind, moved}
 use Rattle.text_model.proofs.PlaceLaws.{get-map_marks}
 use Rattle.documents.specs.Kept.{AreMarked, IsMarked}
-use Rattle.command_parts.specs.Words.{is_own, is_same}
+use Rattle.command_effects.specs.Words.{is_own, is_same}
 use Rattle.documents.specs.Documents.{SharedMark, mark_of, placed}
-use Rattle.command_parts.specs.Edits.{new_mark}
+use Rattle.command_effects.specs.Edits.{new_mark}
 
 -- a mark that is there moves, and stays there
 pub mark_of-moved : (f : Place → Place) (marks : Marks) (number : ℕ) → is_some (finite.get marks number) ≡ true →

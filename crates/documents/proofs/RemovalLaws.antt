@@ -22,15 +22,15 @@ use Rattle.edit_ops.specs.States.{State}
 use Rattle.edit_ops.specs.Tagging.{SpanFits}
 use Rattle.edit_ops.specs.declared.spans.Span.{Span}
 use Rattle.edit_ops.proofs.KeepLaws.{deleted-kept, deleted-runs}
-use Rattle.command_parts.specs.declared.answers.Answer.TheVariants.{Empty}
-use Rattle.command_parts.specs.Settings.{recording_of}
+use Rattle.command_effects.specs.declared.answers.Answer.TheVariants.{Empty}
+use Rattle.command_effects.specs.Settings.{recording_of}
 use Rattle.documents.specs.Deletions.{delete_places, delete_spans, deleted_runs, last_bare}
 use Rattle.documents.specs.Documents.{Document, Parts, Widget, document_of, widget_at}
 use Rattle.documents.specs.Edits.{with_bare, without_spans}
 use Rattle.documents.specs.Kept.{HasKnownSlots, Stands}
 use Rattle.documents.specs.Promise.{answered}
 use Rattle.documents.specs.Ranges.{spans_shown}
-use Rattle.documents.specs.View.{is_idle}
+use Rattle.documents.specs.Views.{is_idle}
 use Rattle.documents.proofs.ChangeLaws.{Leaves, does-changed}
 use Rattle.documents.proofs.KeyedLaws.{keyed-bare}
 use Rattle.documents.proofs.KnownLaws.{known-empty}

@@ -8,12 +8,12 @@ use Rattle.tag_table.specs.declared.faults.NoSuchTag.TheVariants.{Moved, Neighbo
 use Rattle.tag_table.specs.Priority as table
 use Rattle.tag_table.specs.Priority.{next_to}
 use Rattle.tag_table.specs.Tags.{Tag, is_named, names_of}
-use Rattle.command_parts.specs.declared.answers.Answer.TheVariants.{Empty}
-use Rattle.command_parts.specs.declared.answers.Fault.TheVariants.{NoSuchTag}
+use Rattle.command_effects.specs.declared.answers.Answer.TheVariants.{Empty}
+use Rattle.command_effects.specs.declared.answers.Fault.TheVariants.{NoSuchTag}
 use Rattle.documents.specs.Promise.{answered, refused}
 use Rattle.documents.specs.Tags.{known_or, reordered}
 use Rattle.documents.specs.Documents.{Document}
-use Rattle.command_parts.specs.Words.{is_among}
+use Rattle.command_effects.specs.Words.{is_among}
 use Rattle.documents.proofs.OrderLaws.{IsOrdered, Order, found_among, known_found, same_Err}
 
 -- a name that isn't a tag's, by itself or as a neighbour
@@ -71,43 +71,43 @@ lowered-unknown name below tags fault is =
     by tag found (Some other) done = unknown-neighbour name other tag tags _ fault found done
 
 -- the answer where the tags are ordered
-pub reordered-made : (document : Document) (at : ℕ) (order : Order) (name : List ℕ) (other : Option (List ℕ))
+pub reordered-made : (document : Document) (position : ℕ) (order : Order) (name : List ℕ) (other : Option (List ℕ))
     (tags new : List Tag) → document.tags ≡ names_of tags → IsOrdered order name other tags new
-    → reordered document at order (name, other) ≡ answered (record document { tags = names_of new }) Empty
-reordered-made document at order name None tags new is ordered =
+    → reordered document position order (name, other) ≡ answered (record document { tags = names_of new }) Empty
+reordered-made document position order name None tags new is ordered =
     ap (λ b. if b then answered (record document { tags = order document.tags name None }) Empty
-    else refused document (NoSuchTag at)) (ap (is_among name) is ∙ ordered.known)
+    else refused document (NoSuchTag position)) (ap (is_among name) is ∙ ordered.known)
     ∙ ap (λ ts. answered (record document { tags = ts }) Empty) (ap (λ ts. order ts name None) is ∙ sym ordered.names)
-reordered-made document at order name (Some other) tags new is ordered =
+reordered-made document position order name (Some other) tags new is ordered =
     let made = answered (record document { tags = order document.tags name (Some other) }) Empty in
-    ap₂ (λ b c. if b then (if c then made else refused document (NoSuchTag (at + 1)))
-    else refused document (NoSuchTag at))
+    ap₂ (λ b c. if b then (if c then made else refused document (NoSuchTag (position + 1)))
+    else refused document (NoSuchTag position))
     (ap (is_among name) is ∙ ordered.known) (ap (is_among other) is ∙ ordered.neighbour)
     ∙ ap (λ ts. answered (record document { tags = ts }) Empty) (ap (λ ts. order ts name (Some other)) is
     ∙ sym ordered.names)
 
 -- the answer where one isn't known
 abbrev pub unknown_at : ℕ → table_fault.NoSuchTag → ℕ
-unknown_at at Moved = at
-unknown_at at Neighbour = at + 1
+unknown_at position Moved = position
+unknown_at position Neighbour = position + 1
 
-pub reordered-unknown : (document : Document) (at : ℕ) (order : Order) (name : List ℕ) (other : Option (List ℕ))
+pub reordered-unknown : (document : Document) (position : ℕ) (order : Order) (name : List ℕ) (other : Option (List ℕ))
     (tags : List Tag) (fault : table_fault.NoSuchTag) → document.tags ≡ names_of tags
-    → IsUnknown name other tags fault → reordered document at order (name, other)
-    ≡ refused document (NoSuchTag (unknown_at at fault))
-reordered-unknown document at order name None tags Moved is unknown =
+    → IsUnknown name other tags fault → reordered document position order (name, other)
+    ≡ refused document (NoSuchTag (unknown_at position fault))
+reordered-unknown document position order name None tags Moved is unknown =
     ap (λ b. if b then answered (record document { tags = order document.tags name None }) Empty
-    else refused document (NoSuchTag at)) (ap (is_among name) is ∙ unknown)
-reordered-unknown document at order name (Some other) tags Moved is unknown =
-    ap (λ b. if b then known_or document (at + 1) other
+    else refused document (NoSuchTag position)) (ap (is_among name) is ∙ unknown)
+reordered-unknown document position order name (Some other) tags Moved is unknown =
+    ap (λ b. if b then known_or document (position + 1) other
     (answered (record document { tags = order document.tags name (Some other) }) Empty)
-    else refused document (NoSuchTag at)) (ap (is_among name) is ∙ unknown)
-reordered-unknown document at order name None tags Neighbour is unknown =
+    else refused document (NoSuchTag position)) (ap (is_among name) is ∙ unknown)
+reordered-unknown document position order name None tags Neighbour is unknown =
     absurd (let h : None ≡ Some unknown.1.0 = unknown.1.1 in cc)
-reordered-unknown document at order name (Some other) tags Neighbour is unknown =
+reordered-unknown document position order name (Some other) tags Neighbour is unknown =
     let one : other ≡ unknown.1.0 = same_Some other unknown.1.0 unknown.1.1 in
     let made = answered (record document { tags = order document.tags name (Some other) }) Empty in
-    ap₂ (λ b c. if b then (if c then made else refused document (NoSuchTag (at + 1)))
-    else refused document (NoSuchTag at))
+    ap₂ (λ b c. if b then (if c then made else refused document (NoSuchTag (position + 1)))
+    else refused document (NoSuchTag position))
     (ap (is_among name) is ∙ unknown.0) (ap (is_among other) is ∙ ap (λ o. is_among o (names_of tags)) one
     ∙ unknown.1.2)

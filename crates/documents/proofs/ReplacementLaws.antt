@@ -21,14 +21,14 @@ use Rattle.edit_ops.specs.States.{State}
 use Rattle.edit_ops.specs.declared.pieces.Piece.{Piece}
 use Rattle.edit_ops.proofs.KeepLaws.{replaced-kept}
 use Rattle.edit_ops.proofs.ReplaceLaws.{found-within}
-use Rattle.command_parts.specs.declared.answers.Answer.{Answer}
-use Rattle.command_parts.specs.declared.answers.Answer.TheVariants.{Empty}
-use Rattle.command_parts.specs.declared.answers.Fault.{Fault}
-use Rattle.command_parts.specs.declared.answers.Fault.TheVariants.{Memory}
-use Rattle.command_parts.specs.Edits.{excess, length_replaced, new_mark}
-use Rattle.command_parts.specs.Lists.{Pair, all_names, total, with_names}
-use Rattle.command_parts.specs.Settings.{recording_of}
-use Rattle.command_parts.specs.Tagging.{piece_of}
+use Rattle.command_effects.specs.declared.answers.Answer.{Answer}
+use Rattle.command_effects.specs.declared.answers.Answer.TheVariants.{Empty}
+use Rattle.command_effects.specs.declared.answers.Fault.{Fault}
+use Rattle.command_effects.specs.declared.answers.Fault.TheVariants.{Memory}
+use Rattle.command_effects.specs.Edits.{excess, length_replaced, new_mark}
+use Rattle.command_effects.specs.Lists.{Pair, all_names, total, with_names}
+use Rattle.command_effects.specs.Settings.{recording_of}
+use Rattle.command_effects.specs.Tagging.{piece_of}
 use Rattle.documents.specs.Deletions.{replace_span, replaced, with_clipped}
 use Rattle.documents.specs.Documents.{Document, Parts, Widget, document_of, mark_of, widget_at}
 use Rattle.documents.specs.Edits.{with_texts, without_span}

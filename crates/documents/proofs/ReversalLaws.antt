@@ -30,16 +30,16 @@ use Rattle.edit_ops.specs.States.{Log, State}
 use Rattle.edit_ops.proofs.ReversalLaws.{group-redone-text, group-undone-text, guarded, redone-kept, redone-text}
 use Rattle.edit_ops.proofs.ReversalLaws.{undone-kept}
 use Rattle.text_cursor.specs.Around.{shared_slots}
-use Rattle.command_parts.specs.declared.answers.Answer.TheVariants.{Empty}
-use Rattle.command_parts.specs.Settings.{recording_of}
+use Rattle.command_effects.specs.declared.answers.Answer.TheVariants.{Empty}
+use Rattle.command_effects.specs.Settings.{recording_of}
 use Rattle.documents.specs.Deletions.{with_clipped}
 use Rattle.documents.specs.Documents.{Document, Parts, Widget, document_of, widget_at}
 use Rattle.documents.specs.Edits.{keys_between, without_cells}
 use Rattle.documents.specs.Kept.{Stands}
 use Rattle.documents.specs.Promise.{answered}
-use Rattle.documents.specs.Reversals.{action_again, action_back, edit_redo, edit_undo, group_again, group_back}
-use Rattle.documents.specs.Reversals.{redo_found, redone, text_back, undo_found, undone, with_end}
-use Rattle.documents.specs.View.{is_idle}
+use Rattle.documents.specs.History.{action_again, action_back, edit_redo, edit_undo, group_again, group_back}
+use Rattle.documents.specs.History.{redo_found, redone, text_back, undo_found, undone, with_end}
+use Rattle.documents.specs.Views.{is_idle}
 use Rattle.documents.specs.WellFormed.{IsWellFormedDocument}
 use Rattle.documents.proofs.ChangeLaws.{Leaves, does-changed}
 use Rattle.documents.proofs.KnownLaws.{known-shared}

@@ -5,8 +5,8 @@ use Rattle.std.specs.Prelude.{slice_get, remove, filter, not, Some}
 use Rattle.std.proofs.lemmas.List.{map-append, length-append, append_assoc}
 use Rattle.std.proofs.lemmas.Option.{none-some, same_Some}
 use Rattle.name_list.specs.Names.{Named, names_of, numbers_of}
-use Rattle.command_parts.specs.Words.{is_among}
-use Rattle.command_parts.proofs.WrittenLaws.{filter-append, filter-in, filter-out, take-found}
+use Rattle.command_effects.specs.Words.{is_among}
+use Rattle.command_effects.proofs.WrittenLaws.{filter-append, filter-in, filter-out, take-found}
 use Rattle.tcl_words.specs.ListGrowth.{Goes}
 use Rattle.tcl_words.proofs.ListGrowth.{goes_on}
 use Rattle.documents.specs.Keys.{numbers_gone, seats_left}

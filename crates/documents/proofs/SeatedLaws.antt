@@ -22,10 +22,10 @@ use Rattle.name_list.specs.Names.{AreNames, IsLeastFree, Named, Names, numbers_o
 use Rattle.mark_table.specs.SharedMarks.{first_number}
 use Rattle.edit_ops.specs.Anchors.{AreAnchored}
 use Rattle.edit_ops.specs.declared.anchors.Anchors.{Anchors}
-use Rattle.command_parts.specs.Edits.{new_mark, with_own_marks}
-use Rattle.command_parts.specs.Words.{is_among}
-use Rattle.command_parts.specs.Settings.{history_under, is_behind}
-use Rattle.command_parts.specs.declared.settings.Settings.{Settings}
+use Rattle.command_effects.specs.Edits.{new_mark, with_own_marks}
+use Rattle.command_effects.specs.Words.{is_among}
+use Rattle.command_effects.specs.Settings.{history_under, is_behind}
+use Rattle.command_effects.specs.declared.settings.Settings.{Settings}
 use Rattle.documents.specs.Documents.{Document, Journal, Parts, Widget, characters, document_of, mark_of, placed, whole}
 use Rattle.documents.specs.Documents.{widget_of}
 use Rattle.documents.specs.Kept.{HasOwnMarks, IsSeated, IsSound, Stands, is_window_name}

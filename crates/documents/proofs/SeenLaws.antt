@@ -10,13 +10,13 @@ use Rattle.text_model.specs.Content.{Content}
 use Rattle.text_model.proofs.SpliceLaws.{map-alike, map-map}
 use Rattle.search_dump.specs.Dump as dump
 use Rattle.search_dump.specs.Dump.{Tagged, name_of_rank, own_slot, seen_by}
-use Rattle.command_parts.specs.Words.{literal}
+use Rattle.command_effects.specs.Words.{literal}
 use Rattle.documents.specs.Documents.{Document, Parts, Widget, widget_at}
 use Rattle.documents.specs.Keys.{key_named}
 use Rattle.documents.specs.Kept.{Stands}
 use Rattle.documents.specs.Marks.{mark_names, usable_marks}
 use Rattle.documents.specs.Queries.{mark_seen, seen, tag_seen}
-use Rattle.documents.specs.View.{shown_flags}
+use Rattle.documents.specs.Views.{shown_flags}
 use Rattle.documents.proofs.MarkOrderLaws.{shifted, usable-is}
 use Rattle.documents.proofs.MeaningLaws.{current_bytes, insert_bytes, name-is}
 use Rattle.documents.proofs.PartsLaws.{Sits}

@@ -13,8 +13,8 @@ use Rattle.name_list.proofs.ListLaws.{Contains-from_stands, Stands, stands_from_
 use Rattle.text_model.specs.declared.limits.TheConstants.Limits.{MOST_WIDGETS}
 use Rattle.tag_table.specs.Tags.{AreTags, Tag, Tags, names_of as tag_names, sel, slot_of}
 use Rattle.index_grammar.specs.Names.{known_tags}
-use Rattle.command_parts.specs.Tagging.{IsFront}
-use Rattle.command_parts.specs.Words.{is_same}
+use Rattle.command_effects.specs.Tagging.{IsFront}
+use Rattle.command_effects.specs.Words.{is_same}
 use Rattle.documents.specs.Keys.{Key, is_shared, key_named, key_pairs, pair_slots, seat_pair, tag_pair}
 use Rattle.documents.specs.Kept.{AreSeats}
 use Rattle.documents.proofs.LookupLaws.{filter_stood, looked, looked-filter, looked-front, looked-stands}

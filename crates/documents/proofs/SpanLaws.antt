@@ -13,14 +13,14 @@ use Rattle.text_model.specs.LimitTable.{LimitTable}
 use Rattle.edit_ops.specs.States.{Log}
 use Rattle.edit_ops.specs.Tagging.{SpanFits, tagged}
 use Rattle.edit_ops.specs.declared.spans.Span.{Span}
-use Rattle.command_parts.specs.declared.answers.Answer.TheVariants.{Empty}
-use Rattle.command_parts.specs.declared.answers.Fault.TheVariants.{TooManyTags}
-use Rattle.command_parts.specs.Lists.{with_name}
-use Rattle.command_parts.specs.Ranges.{spans_of}
-use Rattle.command_parts.specs.Tagging.{IsFront}
-use Rattle.command_parts.specs.Words.{is_among}
-use Rattle.command_parts.proofs.MadeLaws.{absent_slot, among_slot}
-use Rattle.command_parts.proofs.PairLaws.{spans_of-fit}
+use Rattle.command_effects.specs.declared.answers.Answer.TheVariants.{Empty}
+use Rattle.command_effects.specs.declared.answers.Fault.TheVariants.{TooManyTags}
+use Rattle.command_effects.specs.Lists.{with_name}
+use Rattle.command_effects.specs.Ranges.{spans_of}
+use Rattle.command_effects.specs.Tagging.{IsFront}
+use Rattle.command_effects.specs.Words.{is_among}
+use Rattle.command_effects.proofs.MadeLaws.{absent_slot, among_slot}
+use Rattle.command_effects.proofs.PairLaws.{spans_of-fit}
 use Rattle.documents.specs.Documents.{Document, Parts, document_of, widget_at}
 use Rattle.documents.specs.Edits.{with_tag}
 use Rattle.documents.specs.Keys.{Key, key_named}
@@ -28,7 +28,7 @@ use Rattle.documents.specs.Kept.{Stands}
 use Rattle.documents.specs.Promise.{Change, Does, answered, refused}
 use Rattle.documents.specs.Ranges.{spans_shown}
 use Rattle.documents.specs.Tags.{add_spans, remove_spans}
-use Rattle.documents.specs.View.{shown}
+use Rattle.documents.specs.Views.{shown}
 use Rattle.documents.proofs.ChangeLaws.{Leaves, does-nothing}
 use Rattle.documents.proofs.KeyedLaws.{keyed-more, keyed-tagged}
 use Rattle.documents.proofs.KnownLaws.{known-front, known-slot}

@@ -35,7 +35,7 @@ use Rattle.edit_ops.specs.declared.plans.Recording.{Recording}
 use Rattle.edit_ops.proofs.AnchoredLaws.{all-moved, all-removed, anchored-stand}
 use Rattle.edit_ops.proofs.InsertLaws.{total-cons}
 use Rattle.edit_ops.proofs.StartLaws.{text-end-begins}
-use Rattle.command_parts.specs.Settings.{recording_of}
+use Rattle.command_effects.specs.Settings.{recording_of}
 use Rattle.documents.specs.Documents.{Document, Journal, KeyedCell, Parts, SharedMark, Widget, characters, document_of}
 use Rattle.documents.specs.Documents.{placed, whole, widget_of}
 use Rattle.documents.specs.Edits.{keys_between, keys_or, with_action, with_cells, with_text, with_texts, without_cells}

@@ -20,7 +20,7 @@ use Rattle.edit_ops.specs.Anchors.{AreAnchored}
 use Rattle.edit_ops.specs.States.{Log}
 use Rattle.edit_ops.specs.Tagging.{SpanFits, tagged}
 use Rattle.edit_ops.specs.declared.spans.Span.{Span}
-use Rattle.command_parts.specs.declared.answers.Answer.TheVariants.{Empty}
+use Rattle.command_effects.specs.declared.answers.Answer.TheVariants.{Empty}
 use Rattle.documents.specs.Documents.{Document, KeyedCell, Parts, document_of, placed, widget_of}
 use Rattle.documents.specs.Keys.{key_pairs, keyed, pair_slots}
 use Rattle.documents.specs.Kept.{AreMarked, HasKnownSlots, HasOwnMarks, Stands}

@@ -10,9 +10,9 @@ use Rattle.text_model.specs.Content.{Content}
 use Rattle.text_model.specs.LimitTable.{LimitTable}
 use Rattle.edit_ops.specs.States.{Log}
 use Rattle.edit_ops.specs.Tagging.{cell_without, cleared}
-use Rattle.command_parts.specs.declared.answers.Answer.TheVariants.{Empty}
-use Rattle.command_parts.specs.declared.answers.Fault.TheVariants.{NoSuchTag}
-use Rattle.command_parts.specs.Tagging.{slots_deleted, tags_left, stays}
+use Rattle.command_effects.specs.declared.answers.Answer.TheVariants.{Empty}
+use Rattle.command_effects.specs.declared.answers.Fault.TheVariants.{NoSuchTag}
+use Rattle.command_effects.specs.Tagging.{slots_deleted, tags_left, stays}
 use Rattle.documents.specs.Documents.{Document, Parts, document_of}
 use Rattle.documents.specs.Kept.{Stands}
 use Rattle.documents.specs.Promise.{answered}
@@ -27,12 +27,12 @@ use Rattle.documents.proofs.TableLaws.{leaves-relogged, leaves-retagged, relogge
 
 -- ---- another order
 
-pub leaves-ordered : (limits : LimitTable) (old : Parts) (new : Tags) (document : Document) (at : ℕ) (order : Order)
+pub leaves-ordered : (limits : LimitTable) (old : Parts) (new : Tags) (document : Document) (position : ℕ) (order : Order)
     (word : List ℕ) (other : Option (List ℕ)) → Stands old document
     → IsOrdered order word other old.tags.tags new.tags → AreTags new → new.limit ≡ old.tags.limit →
     length (order (names_of old.tags.tags) word other) ≡ length (names_of old.tags.tags)
-    → Leaves limits (record old { tags = new }) document (Ok Empty) (reordered document at order (word, other))
-leaves-ordered limits old new document at order word other stands ordered sound limit many =
+    → Leaves limits (record old { tags = new }) document (Ok Empty) (reordered document position order (word, other))
+leaves-ordered limits old new document position order word other stands ordered sound limit many =
     let seats = old.seats.entries in
     let kept = stands.sound.kept in
     let cells = keyed-reordered seats old.tags.tags new.tags old.content.cells kept.seats.names_apart
@@ -42,7 +42,7 @@ leaves-ordered limits old new document at order word other stands ordered sound 
     ∙ ap length ordered.names ∙ many ∙ length-map old.tags.tags (λ (tag : Tag). tag.name) in
     let whole = retagged-is old new old.content (document_of old).cells refl cells
     ∙ ap (λ (d : Document). record d { tags = names_of new.tags }) stands.is in
-    leaves-retagged limits old new old.content document (reordered document at order (word, other)) stands
+    leaves-retagged limits old new old.content document (reordered document position order (word, other)) stands
     (record {
       tags = sound;
       limit = limit;
@@ -50,24 +50,24 @@ leaves-ordered limits old new document at order word other stands ordered sound 
       marks = refl;
       same = refl;
     })
-    (λ few. omega (arith, count, few)) (reordered-made document at order word other old.tags.tags new.tags tags ordered
+    (λ few. omega (arith, count, few)) (reordered-made document position order word other old.tags.tags new.tags tags ordered
     ∙ ap (λ (d : Document). answered d Empty) (sym whole))
 
 -- one that isn't known
-pub does-unordered : (limits : LimitTable) (old : Parts) (new : Tags) (document : Document) (at : ℕ) (order : Order)
+pub does-unordered : (limits : LimitTable) (old : Parts) (new : Tags) (document : Document) (position : ℕ) (order : Order)
     (word : List ℕ) (other : Option (List ℕ)) (fault : table_fault.NoSuchTag) → Stands old document
     → new ≡ old.tags → IsUnknown word other old.tags.tags fault
-    → Leaves limits (record old { tags = new }) document (Err (NoSuchTag (unknown_at at fault)))
-    (reordered document at order (word, other))
-does-unordered limits old new document at order word other fault stands same unknown =
+    → Leaves limits (record old { tags = new }) document (Err (NoSuchTag (unknown_at position fault)))
+    (reordered document position order (word, other))
+does-unordered limits old new document position order word other fault stands same unknown =
     let left = stands-same old (record old { tags = new }) document stands
     (ap (λ (t : Tags). record old { tags = t }) same) in
     let tags : document.tags ≡ names_of old.tags.tags = ap (λ (d : Document). d.tags) (sym stands.is) in
     record {
       sound = left.sound;
-      does = does-left limits document (document_of (record old { tags = new })) (NoSuchTag (unknown_at at fault))
-          (reordered document at order (word, other)) left.is
-          (λ _. reordered-unknown document at order word other old.tags.tags fault tags unknown);
+      does = does-left limits document (document_of (record old { tags = new })) (NoSuchTag (unknown_at position fault))
+          (reordered document position order (word, other)) left.is
+          (λ _. reordered-unknown document position order word other old.tags.tags fault tags unknown);
     }
 
 -- ---- tags that are deleted

@@ -11,13 +11,13 @@ use Rattle.text_index.specs.Views as view
 use Rattle.text_model.specs.declared.cells.Cell.{Cell}
 use Rattle.text_model.specs.Changes.{flag_at}
 use Rattle.text_model.specs.Content.{Content, Slots, flags, slot_sets}
-use Rattle.command_parts.specs.Tagging.{own_slot}
-use Rattle.command_parts.specs.Words.{is_among}
+use Rattle.command_effects.specs.Tagging.{own_slot}
+use Rattle.command_effects.specs.Words.{is_among}
 use Rattle.documents.specs.Documents.{Document, KeyedCell, Parts, Widget, widget_at}
 use Rattle.documents.specs.Keys.{key_named}
 use Rattle.documents.specs.Kept.{Stands}
 use Rattle.documents.specs.Tags.{flags_of, tags_on}
-use Rattle.documents.specs.View.{shown, shown_flags, view_end, view_start}
+use Rattle.documents.specs.Views.{shown, shown_flags, view_end, view_start}
 use Rattle.documents.proofs.SlotLaws.{known_standing}
 use Rattle.documents.proofs.SpanLaws.{slot_known, slot_unknown}
 use Rattle.documents.proofs.ViewLaws.{IsSeen, flags-is}

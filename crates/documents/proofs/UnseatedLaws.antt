@@ -17,8 +17,8 @@ use Rattle.name_list.specs.Names.{Named, Names}
 use Rattle.mark_table.specs.SharedMarks.{AreMarks, SharedMarks}
 use Rattle.edit_ops.specs.Anchors.{AreAnchored}
 use Rattle.edit_ops.specs.Tagging.{cell_without}
-use Rattle.command_parts.specs.Edits.{new_mark, without_widget, without_widgets}
-use Rattle.command_parts.specs.Words.{is_among}
+use Rattle.command_effects.specs.Edits.{new_mark, without_widget, without_widgets}
+use Rattle.command_effects.specs.Words.{is_among}
 use Rattle.documents.specs.Documents.{Document, Journal, Parts, Widget, document_of, mark_of, widget_of}
 use Rattle.documents.specs.Kept.{AreSeats, HasKnownSlots, HasOwnMarks, IsSeated, IsSound, Stands, is_window_name}
 use Rattle.documents.specs.Keys.{key_pairs, keyed, numbers_gone, seats_left}

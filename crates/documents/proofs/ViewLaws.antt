@@ -21,7 +21,7 @@ use Rattle.edit_ops.proofs.StartLaws.{is-start, text-end-begins}
 use Rattle.documents.specs.Documents.{Document, KeyedCell, Parts, Widget, anchors_at, whole, widget_at}
 use Rattle.documents.specs.Keys.{Key, key_named}
 use Rattle.documents.specs.Kept.{Stands}
-use Rattle.documents.specs.View.{is_idle, shown, shown_flags, view_end, view_start}
+use Rattle.documents.specs.Views.{is_idle, shown, shown_flags, view_end, view_start}
 use Rattle.documents.proofs.KeyedLaws.{keyed-flags}
 use Rattle.documents.proofs.PartsLaws.{Sits, cells-kept, characters-kept, sits}
 

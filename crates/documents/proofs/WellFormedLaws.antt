@@ -18,9 +18,9 @@ use Rattle.mark_table.specs.SharedMarks.{names_of as names_of_marks}
 use Rattle.tag_table.specs.Tags.{Tag, Tags, AreTags, names_of}
 use Rattle.undo_stack.specs.Fits.{FitsText}
 use Rattle.edit_ops.specs.Anchors.{AreAnchored}
-use Rattle.command_parts.specs.Words.{is_same, is_among}
-use Rattle.command_parts.proofs.LeftLaws.{AreApart-head, AreApart-tail}
-use Rattle.command_parts.proofs.MadeLaws.{found_tag}
+use Rattle.command_effects.specs.Words.{is_same, is_among}
+use Rattle.command_effects.proofs.LeftLaws.{AreApart-head, AreApart-tail}
+use Rattle.command_effects.proofs.MadeLaws.{found_tag}
 use Rattle.documents.specs.Keys.{Key, keyed}
 use Rattle.documents.specs.Documents.{Document, Parts, Widget, anchors_at, characters, document_of, sel, whole}
 use Rattle.documents.specs.Documents.{widget_of}

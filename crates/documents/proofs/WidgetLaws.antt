@@ -19,10 +19,10 @@ use Rattle.edit_ops.specs.States.{log_of}
 use Rattle.name_list.specs.Names.{Named, names_of}
 use Rattle.edit_ops.specs.Anchors.{AreAnchored}
 use Rattle.edit_ops.specs.declared.anchors.Anchors.{Anchors}
-use Rattle.command_parts.specs.Words.{is_same}
-use Rattle.command_parts.specs.declared.answers.Answer.TheVariants.{Empty}
-use Rattle.command_parts.specs.Settings.{history_under, is_behind}
-use Rattle.command_parts.specs.declared.settings.Settings.{Settings}
+use Rattle.command_effects.specs.Words.{is_same}
+use Rattle.command_effects.specs.declared.answers.Answer.TheVariants.{Empty}
+use Rattle.command_effects.specs.Settings.{history_under, is_behind}
+use Rattle.command_effects.specs.declared.settings.Settings.{Settings}
 use Rattle.documents.specs.Documents.{Document, Journal, Parts, Widget, anchors_at, characters, document_of, whole}
 use Rattle.documents.specs.Documents.{widget_at, widget_of}
 use Rattle.documents.specs.Kept.{IsSeated, Stands}

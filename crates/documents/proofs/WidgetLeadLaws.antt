@@ -10,12 +10,12 @@ use Rattle.text_model.specs.declared.places.Place.{Place}
 use Rattle.edit_ops.specs.Anchors.{AreAnchored}
 use Rattle.edit_ops.specs.Tagging.{SpanFits}
 use Rattle.edit_ops.specs.declared.spans.Span.{Span}
-use Rattle.command_parts.specs.declared.answers.Answer.TheVariants.{Empty}
-use Rattle.command_parts.specs.declared.answers.Fault.TheVariants.{TooManyMarks, TooManyTags}
-use Rattle.command_parts.specs.Lists.{with_name}
-use Rattle.command_parts.specs.Ranges.{spans_of}
-use Rattle.command_parts.specs.Words.{is_among}
-use Rattle.command_parts.proofs.PairLaws.{spans_of-fit}
+use Rattle.command_effects.specs.declared.answers.Answer.TheVariants.{Empty}
+use Rattle.command_effects.specs.declared.answers.Fault.TheVariants.{TooManyMarks, TooManyTags}
+use Rattle.command_effects.specs.Lists.{with_name}
+use Rattle.command_effects.specs.Ranges.{spans_of}
+use Rattle.command_effects.specs.Words.{is_among}
+use Rattle.command_effects.proofs.PairLaws.{spans_of-fit}
 use Rattle.documents.specs.Documents.{Document, Widget, KeyedCell, characters}
 use Rattle.documents.specs.Edits.{with_tag}
 use Rattle.documents.specs.Marks.{set_found}
@@ -24,7 +24,7 @@ use Rattle.documents.specs.Promise.{answered, refused}
 use Rattle.documents.specs.Ranges.{spans_shown}
 use Rattle.documents.specs.Tags.{add_spans, remove_spans}
 use Rattle.documents.specs.Texts.{insertion_offset}
-use Rattle.documents.specs.View.{shown, view_end, view_start}
+use Rattle.documents.specs.Views.{shown, view_end, view_start}
 use Rattle.documents.proofs.EditLeadLaws.{IsActive, active, leads-deleted, leads-inserted, leads-redo, leads-replaced}
 use Rattle.documents.proofs.EditLeadLaws.{leads-undo, offset-inside}
 use Rattle.documents.proofs.LeadLaws.{Leads, anchors_of}
@@ -128,7 +128,7 @@ leads-carried limits start document widget leads anchored = record {
   added = λ name places. leads-added limits limits.chars start document widget name places leads;
   removed = λ name places. leads-removed limits.chars start document widget name places leads;
   untagged = λ names. leads-untagged limits.chars start document names leads;
-  ordered = λ at order words. carried-reordered (Leads limits.chars start) document at order words leads
+  ordered = λ position order words. carried-reordered (Leads limits.chars start) document position order words leads
       (λ tags. leads-still limits.chars start document (record document { tags = tags }) leads refl refl refl refl
       refl);
   modified = λ flag. leads-modified limits.chars start document flag leads;

@@ -6,14 +6,14 @@ use Rattle.undo_stack.specs.declared.actions.EditKind.TheVariants as kind
 use Rattle.edit_ops.specs.declared.spans.Span.{Span}
 use Rattle.edit_ops.specs.Deletions.{delete_set, in_spans, runs_below}
 use Rattle.edit_ops.specs.Removals.{clipped}
-use Rattle.command_parts.specs.declared.answers.Answer.TheVariants.{Empty}
-use Rattle.command_parts.specs.Lists.{Pair, total}
+use Rattle.command_effects.specs.declared.answers.Answer.TheVariants.{Empty}
+use Rattle.command_effects.specs.Lists.{Pair, total}
 use Rattle.documents.specs.Edits.{with_bare, with_texts, without_span, without_spans}
 use Rattle.documents.specs.Marks.{with_insert}
 use Rattle.documents.specs.Promise.{Change, answered}
 use Rattle.documents.specs.Ranges.{spans_shown}
 use Rattle.documents.specs.Texts.{keyed_text, tags_with, within_limits}
-use Rattle.documents.specs.View.{view_end, view_start}
+use Rattle.documents.specs.Views.{view_end, view_start}
 use Rattle.documents.specs.Documents.{Document, Widget, characters}
 
 -- ---- delete

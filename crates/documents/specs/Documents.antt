@@ -12,8 +12,8 @@ use Rattle.edit_ops.specs.States.{Log, log_of}
 pub use Rattle.tag_table.specs.Tags.{sel}
 use Rattle.tag_table.specs.Tags.{Tags, names_of}
 use Rattle.mark_table.specs.SharedMarks.{Mark, SharedMarks}
-use Rattle.command_parts.specs.Edits.{new_mark}
-use Rattle.command_parts.specs.declared.settings.DocumentSettings.{DocumentSettings}
+use Rattle.command_effects.specs.Edits.{new_mark}
+use Rattle.command_effects.specs.declared.settings.DocumentSettings.{DocumentSettings}
 use Rattle.documents.specs.Keys.{keyed, key_pairs}
 pub use Rattle.documents.specs.Keys.{KeyedCell}
 
@@ -112,9 +112,9 @@ document_of parts = record {
   separators = parts.journal.settings.separators;
 }
 
--- the widget at a place of the order of creation
 abbrev pub no_widget : Widget
 no_widget = record { name = []; start = None; end = None; disabled = false; insert = new_mark; current = new_mark }
 
+-- the widget of a seat, which is its place in the order of creation
 abbrev pub widget_at : Document → ℕ → Widget
-widget_at document place = get_or document.widgets place no_widget
+widget_at document seat = get_or document.widgets seat no_widget

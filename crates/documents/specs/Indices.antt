@@ -1,7 +1,7 @@
 -- Commands on indices: `index` and `compare`.
 use Rattle.std.specs.Prelude.{ℕ, List, Result}
-use Rattle.command_parts.specs.declared.answers.Fault.{Fault}
-use Rattle.command_parts.specs.Faults.{at_position}
+use Rattle.command_effects.specs.declared.answers.Fault.{Fault}
+use Rattle.command_effects.specs.Faults.{at_position}
 use Rattle.documents.specs.Names.{place_of}
 use Rattle.documents.specs.Documents.{Document, Widget}
 

@@ -15,7 +15,7 @@ use Rattle.tag_table.specs.Tags.{Tag, Tags, AreTags}
 use Rattle.undo_stack.specs.History.{limit_of}
 use Rattle.edit_ops.specs.Anchors.{AreAnchored}
 use Rattle.edit_ops.specs.declared.anchors.Anchors.{Anchors}
-use Rattle.command_parts.specs.Words.{is_own}
+use Rattle.command_effects.specs.Words.{is_own}
 use Rattle.documents.specs.Keys.{key_pairs, pair_slots}
 use Rattle.documents.specs.Documents.{Document, Journal, Parts, document_of}
 
@@ -29,7 +29,7 @@ is_window_name (character ∷ other ∷ others) = character == 46
 pub record AreSeats (seats : List Named) : Type 0 where
   pub names_apart : AreApart (names_of seats)
   pub numbers_apart : AreApart (numbers_of seats)
-  pub below : (at number : ℕ) → slice_get (numbers_of seats) at ≡ Some number → number < most_widgets
+  pub below : (seat number : ℕ) → slice_get (numbers_of seats) seat ≡ Some number → number < most_widgets
 
 -- every slot is that of a seat or of a tag
 abbrev pub AreKnown : List Named → List Tag → Slots → Type 0

@@ -8,7 +8,7 @@ use Rattle.std.specs.Cmp.Lexicographic.{slice_cmp}
 use Rattle.name_list.specs.Names.{Named, numbers_of}
 use Rattle.text_model.specs.Content.{Slots}
 use Rattle.tag_table.specs.Tags.{Tag, sel}
-use Rattle.command_parts.specs.Words.{is_among, is_same}
+use Rattle.command_effects.specs.Words.{is_among, is_same}
 use Rattle.text_model.specs.declared.cells.Cell.{Cell}
 
 -- the key of a tag, by its name, or of a widget's `sel`, by the widget's name

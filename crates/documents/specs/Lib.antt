@@ -7,16 +7,13 @@ pub mod Kept
 pub mod Keys
 pub mod Marks
 pub mod Names
-pub mod Opened
 pub mod Options
-pub mod Origins
 pub mod Promise
 pub mod Queries
 pub mod Ranges
-pub mod Reversals
 pub mod Seats
 pub mod Tags
 pub mod Texts
-pub mod View
+pub mod Views
 pub mod WellFormed
 pub mod Widgets

@@ -1,19 +1,21 @@
 -- Commands on marks.
 use Rattle.std.specs.Prelude.{ℕ, ◌+◌, ◌-◌, min, nat_le, List, [], ◌∷◌, ◌++◌, length, map, filter, find, Option, None}
 use Rattle.std.specs.Prelude.{Some, option_map, if◌then◌else◌}
+use Rattle.mark_table.specs.declared.order.Origin.{Origin}
+use Rattle.mark_table.specs.declared.order.Origin.TheVariants.{Mark, Place as Offset}
 use Rattle.mark_table.specs.declared.order.Shown.{Shown}
 use Rattle.text_index.specs.Views.{shared_place}
 use Rattle.text_model.specs.declared.places.Gravity.TheVariants.{Right}
 use Rattle.text_model.specs.declared.places.Place.{Place}
 use Rattle.text_model.specs.LimitTable.{LimitTable}
-use Rattle.command_parts.specs.declared.answers.Answer.TheVariants.{Empty}
-use Rattle.command_parts.specs.declared.answers.Fault.TheVariants.{TooManyMarks}
+use Rattle.command_effects.specs.declared.answers.Answer.TheVariants.{Empty}
+use Rattle.command_effects.specs.declared.answers.Fault.TheVariants.{TooManyMarks}
 use Rattle.documents.specs.Names.{mark_place}
 use Rattle.documents.specs.Promise.{Change, refused, answered}
-use Rattle.documents.specs.View.{view_start, view_end, shown}
-use Rattle.command_parts.specs.Words.{is_same, is_own, literal}
+use Rattle.documents.specs.Views.{view_start, view_end, shown}
+use Rattle.command_effects.specs.Words.{is_same, is_own, literal}
 use Rattle.documents.specs.Documents.{Document, Widget, SharedMark}
-use Rattle.command_parts.specs.Marking.{is_left}
+use Rattle.command_effects.specs.Marking.{is_left}
 
 -- ---- marks by their names
 
@@ -79,9 +81,13 @@ abbrev pub mark_unset : Document → List (List ℕ) → Change
 mark_unset document names =
     answered (record document { marks = filter (λ (mark : SharedMark). is_left names mark.name) document.marks }) Empty
 
--- ---- gravity
+-- ---- the order of marks
 
--- ---- names, and the order of marks
+-- From where a mark is asked for: a place of a view, which begins at a start, becomes an offset of the text, up to the
+-- most that a machine counts.
+abbrev pub origin_in : ℕ → ℕ → Origin → Origin
+origin_in most start (Mark mark) = Mark mark
+origin_in most start (Offset place) = Offset (min (place + start) most)
 
 -- a mark that the widget shows, by its number among all marks
 abbrev pub shown_at : ℕ → Option ℕ → List Shown

@@ -7,9 +7,9 @@ use Rattle.text_index.specs.Views.{own_place, shared_place}
 use Rattle.text_index.specs.Words.{is_word}
 use Rattle.text_index.specs.Meanings.{Meanings, word_value}
 use Rattle.documents.specs.Keys.{Key, key_named}
-use Rattle.command_parts.specs.Words.{is_same, literal}
+use Rattle.command_effects.specs.Words.{is_same, literal}
 use Rattle.documents.specs.Documents.{Document, Widget, SharedMark}
-use Rattle.documents.specs.View.{view_start, view_end, shown, shown_flags}
+use Rattle.documents.specs.Views.{view_start, view_end, shown, shown_flags}
 
 -- the marks that a widget can name: its own `insert` and `current`, and the shared ones by creation
 abbrev pub mark_number : Document → List ℕ → Option ℕ

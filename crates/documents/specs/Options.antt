@@ -1,9 +1,9 @@
 -- The options of a document and of its widgets (text(n), "WIDGET-SPECIFIC OPTIONS").
 use Rattle.std.specs.Prelude.{ℕ, ◌+◌, ◌-◌, ◌<◌, ◌≤◌, IfSome, option_map}
 use Rattle.text_model.specs.Lines.{line_of, line_start}
-use Rattle.command_parts.specs.declared.settings.DocumentSettings.{DocumentSettings}
-use Rattle.command_parts.specs.declared.settings.Settings.{Settings}
-use Rattle.command_parts.specs.Settings.{history_under}
+use Rattle.command_effects.specs.declared.settings.DocumentSettings.{DocumentSettings}
+use Rattle.command_effects.specs.declared.settings.Settings.{Settings}
+use Rattle.command_effects.specs.Settings.{history_under}
 use Rattle.documents.specs.Marks.{with_widget}
 use Rattle.documents.specs.Documents.{Document, Widget, characters}
 

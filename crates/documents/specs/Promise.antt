@@ -1,13 +1,13 @@
 -- What every command promises.
 use Rattle.std.specs.Prelude.{◌≡◌, ◌≢◌, Result, Ok, Err, IfErr, if◌then◌else◌}
 use Rattle.text_model.specs.LimitTable.{LimitTable}
-use Rattle.command_parts.specs.declared.answers.Answer.{Answer}
-use Rattle.command_parts.specs.declared.answers.Fault.{Fault}
-use Rattle.command_parts.specs.declared.answers.Fault.TheVariants.{Memory}
+use Rattle.command_effects.specs.declared.answers.Answer.{Answer}
+use Rattle.command_effects.specs.declared.answers.Fault.{Fault}
+use Rattle.command_effects.specs.declared.answers.Fault.TheVariants.{Memory}
 use Rattle.documents.specs.Documents.{Document, Widget}
-use Rattle.documents.specs.View.{is_idle}
+use Rattle.documents.specs.Views.{is_idle}
 use Rattle.documents.specs.WellFormed.{IsWellFormedDocument, window_names}
-use Rattle.command_parts.specs.declared.answers.Answer.TheVariants.{Empty}
+use Rattle.command_effects.specs.declared.answers.Answer.TheVariants.{Empty}
 
 -- the answer or the fault, and the document after the command
 pub record Change : Type 0 where
@@ -20,9 +20,9 @@ refused document fault = record { reply = Err fault; document = document }
 abbrev pub answered : Document → Answer → Change
 answered document answer = record { reply = Ok answer; document = document }
 
--- a command that only reads
-abbrev pub asked : Document → Result Answer Fault → Change
-asked document reply = record { reply = reply; document = document }
+-- a command that only reads leaves the document unchanged
+abbrev pub unchanged : Document → Result Answer Fault → Change
+unchanged document reply = record { reply = reply; document = document }
 
 -- what follows a value changes the document; a fault refuses the command
 abbrev pub change_with : {A : Type 0} → Document → Result A Fault → (A → Change) → Change

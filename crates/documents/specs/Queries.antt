@@ -5,16 +5,8 @@ use Rattle.text_index.specs.Ranges.{tag_ranges}
 use Rattle.search_dump.specs.Dump.{Marked, Seen, Tagged}
 use Rattle.documents.specs.Marks.{mark_names, usable_marks}
 use Rattle.documents.specs.Names.{key_of}
-use Rattle.documents.specs.View.{shown, shown_flags}
+use Rattle.documents.specs.Views.{shown, shown_flags}
 use Rattle.documents.specs.Documents.{Document, Widget}
-
--- ---- switches, each the front of its name
-
--- ---- search
-
--- ---- count
-
--- ---- dump
 
 -- a tag with its ranges in the view, and a mark with its place there
 abbrev pub tag_seen : Document → Widget → List ℕ → Tagged

@@ -1,9 +1,9 @@
 -- The ranges that a command's indices make.
 use Rattle.std.specs.Prelude.{ℕ, List, length}
 use Rattle.edit_ops.specs.declared.spans.Span.{Span}
-use Rattle.documents.specs.View.{view_start, shown}
+use Rattle.documents.specs.Views.{view_start, shown}
 use Rattle.documents.specs.Documents.{Document, Widget}
-use Rattle.command_parts.specs.Ranges.{spans_of}
+use Rattle.command_effects.specs.Ranges.{spans_of}
 
 abbrev pub spans_shown : Document → Widget → List ℕ → List Span
 spans_shown document widget places = spans_of (view_start widget) (length (shown document widget)) places

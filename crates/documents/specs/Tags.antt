@@ -5,18 +5,18 @@ use Rattle.std.specs.FinSet as set
 use Rattle.name_list.specs.Moves.{without, put_behind, put_before}
 use Rattle.text_model.specs.Changes.{flag_at}
 use Rattle.text_model.specs.LimitTable.{LimitTable}
-use Rattle.command_parts.specs.declared.answers.Answer.TheVariants.{Empty}
-use Rattle.command_parts.specs.declared.answers.Fault.TheVariants.{NoSuchTag, TooManyTags}
+use Rattle.command_effects.specs.declared.answers.Answer.TheVariants.{Empty}
+use Rattle.command_effects.specs.declared.answers.Fault.TheVariants.{NoSuchTag, TooManyTags}
 use Rattle.documents.specs.Edits.{with_tag}
 use Rattle.documents.specs.Keys.{Key}
-use Rattle.command_parts.specs.Lists.{with_name}
+use Rattle.command_effects.specs.Lists.{with_name}
 use Rattle.documents.specs.Names.{key_of}
 use Rattle.documents.specs.Promise.{Change, refused, answered}
 use Rattle.documents.specs.Ranges.{spans_shown}
-use Rattle.documents.specs.View.{shown_flags}
-use Rattle.command_parts.specs.Words.{is_same, is_among}
+use Rattle.documents.specs.Views.{shown_flags}
+use Rattle.command_effects.specs.Words.{is_same, is_among}
 use Rattle.documents.specs.Documents.{Document, Widget, KeyedCell}
-use Rattle.command_parts.specs.Tagging.{stays}
+use Rattle.command_effects.specs.Tagging.{stays}
 
 -- ---- on characters
 
@@ -83,8 +83,8 @@ known_or document position name change =
 
 abbrev pub reordered : Document → ℕ → (List (List ℕ) → List ℕ → Option (List ℕ) → List (List ℕ)) →
     List ℕ × Option (List ℕ) → Change
-reordered document at order (name, None) =
-    known_or document at name (answered (record document { tags = order document.tags name None }) Empty)
-reordered document at order (name, Some other) =
-    known_or document at name (known_or document (at + 1) other
+reordered document position order (name, None) =
+    known_or document position name (answered (record document { tags = order document.tags name None }) Empty)
+reordered document position order (name, Some other) =
+    known_or document position name (known_or document (position + 1) other
     (answered (record document { tags = order document.tags name (Some other) }) Empty))

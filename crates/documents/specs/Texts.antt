@@ -2,13 +2,13 @@
 use Rattle.std.specs.Prelude.{ℕ, ◌+◌, ◌-◌, min, nat_lt, List, length, map, option_map, if◌then◌else◌}
 use Rattle.text_model.specs.LimitTable.{LimitTable}
 use Rattle.undo_stack.specs.declared.actions.EditKind.TheVariants as kind
-use Rattle.command_parts.specs.declared.answers.Answer.TheVariants.{Empty}
-use Rattle.command_parts.specs.declared.answers.Fault.TheVariants.{TooManyTags, TextTooLong}
+use Rattle.command_effects.specs.declared.answers.Answer.TheVariants.{Empty}
+use Rattle.command_effects.specs.declared.answers.Fault.TheVariants.{TooManyTags, TextTooLong}
 use Rattle.documents.specs.Edits.{KeyedText, with_texts}
 use Rattle.documents.specs.Keys.{keys_named}
-use Rattle.command_parts.specs.Lists.{Pair, all_names, total, with_names}
+use Rattle.command_effects.specs.Lists.{Pair, all_names, total, with_names}
 use Rattle.documents.specs.Promise.{Change, refused, answered}
-use Rattle.documents.specs.View.{view_start, shown}
+use Rattle.documents.specs.Views.{view_start, shown}
 use Rattle.documents.specs.Documents.{Document, Widget}
 
 -- a text with the keys of its tag list, of which `sel` is the acting widget's

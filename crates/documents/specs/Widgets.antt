@@ -1,19 +1,35 @@
--- Widgets that a document gets, and loses.
-use Rattle.std.specs.Prelude.{ℕ, Bool, true, false, not, nat_lt, length, if◌then◌else◌, List, [], ◌∷◌, ◌++◌, filter}
-use Rattle.std.specs.Prelude.{find, map, option_map, pos, unwrap_or, Option}
+-- Widgets of a document, as it gets and loses them.
+use Rattle.std.specs.Prelude.{◌≡◌, ℕ, Bool, true, false, not, nat_lt, length, if◌then◌else◌, List, [], ◌∷◌, ◌++◌}
+use Rattle.std.specs.Prelude.{filter, find, map, option_map, pos, unwrap_or, Option, None, Some}
 use Rattle.std.specs.FinSet as set
 use Rattle.text_model.specs.declared.places.Gravity.TheVariants.{Right}
 use Rattle.text_model.specs.declared.places.Place.{Place}
 use Rattle.undo_stack.specs.History.{no_history}
 use Rattle.undo_stack.specs.Modified.{unmodified}
-use Rattle.command_parts.specs.declared.settings.Settings.{Settings}
-use Rattle.command_parts.specs.Words.{is_among, is_same}
+use Rattle.command_effects.specs.declared.settings.Settings.{Settings}
+use Rattle.command_effects.specs.Words.{is_among, is_same}
 use Rattle.documents.specs.Keys.{KeyedCell, selection_stays}
 use Rattle.documents.specs.Documents.{Document, Widget, sel}
 use Rattle.documents.specs.Options.{anchor_at, with_shared_settings}
 
 abbrev pub widget_named : List ℕ → Document → Option Widget
 widget_named name document = find (λ (widget : Widget). is_same widget.name name) document.widgets
+
+-- ---- widgets that show a whole document, and can change it
+
+-- an enabled widget without anchors
+pub record IsOpen (widget : Widget) : Type 0 where
+  pub enabled : widget.disabled ≡ false
+  pub start : widget.start ≡ None
+  pub end : widget.end ≡ None
+
+-- a document has such a widget of a name
+pub record ShowsOpenly (document : Document) (name : List ℕ) : Type 0 where
+  pub widget : Widget
+  pub found : widget_named name document ≡ Some widget
+  pub is_open : IsOpen widget
+
+-- ---- widgets that come
 
 -- a widget of a name with options, whose own marks stand where its view starts
 abbrev pub new_widget : Document → List ℕ → Settings → Widget

@@ -4,11 +4,11 @@ ghost use Rattle.documents.specs.Deletions.{delete_places, replace_span};
 ghost use Rattle.documents.specs.Documents.{widget_at};
 ghost use Rattle.documents.specs.Promise.{Does};
 ghost use Rattle.documents.specs.Texts.{insertion_offset};
-ghost use Rattle.documents.specs.View.{is_idle, shown};
+ghost use Rattle.documents.specs.Views.{is_idle, shown};
 
 use crate::documents::Document;
 use crate::views::{end_of, start_of};
-use command_parts::{Answer, Fault, Pair, delete_spans, replace_pairs, spans_of};
+use command_effects::{Answer, Fault, Pair, delete_spans, replace_pairs, spans_of};
 use edit_ops::{EditRules, Target};
 use text_model::{Limits, MarkNo, TagSlot, TextStore};
 
@@ -17,16 +17,16 @@ impl<S: TextStore> Document<S> {
     pub fn delete_places(
         &mut self,
         limits: &Limits,
-        widget: usize,
+        seat: usize,
         places: &[usize],
     ) -> Result<Answer, Fault>
-        requires shown { widget < length self.old.widgets }
-        requires active { is_idle self.old (widget_at self.old widget) ≡ false }
-        requires within { All (λ place. place ≤ length (shown self.old (widget_at self.old widget))) places.now }
+        requires shown { seat < length self.old.widgets }
+        requires active { is_idle self.old (widget_at self.old seat) ≡ false }
+        requires within { All (λ place. place ≤ length (shown self.old (widget_at self.old seat))) places.now }
         ensures { Does limits.now self.old self.new result
-            (delete_places self.old (widget_at self.old widget) places.now) }
+            (delete_places self.old (widget_at self.old seat) places.now) }
     {
-        let slot = self.seats.number(widget);
+        let slot = self.seats.number(seat);
         let start = start_of(&self.text.anchors, slot);
         let end = end_of(&self.text.anchors, slot, self.text.store.len());
         let spans = spans_of(self.alloc, start, end - start, places)?;
@@ -49,20 +49,20 @@ impl<S: TextStore> Document<S> {
     pub fn replace_between(
         &mut self,
         limits: &Limits,
-        widget: usize,
+        seat: usize,
         from: usize,
         to: usize,
         pairs: Vec<Pair>,
     ) -> Result<Answer, Fault>
-        requires shown { widget < length self.old.widgets }
-        requires active { is_idle self.old (widget_at self.old widget) ≡ false }
+        requires shown { seat < length self.old.widgets }
+        requires active { is_idle self.old (widget_at self.old seat) ≡ false }
         requires ordered { from ≤ to }
-        requires within { to ≤ length (shown self.old (widget_at self.old widget)) }
-        ensures { Does limits.now self.old self.new result (replace_span limits.now self.old (widget_at self.old widget)
-            (insertion_offset self.old (widget_at self.old widget) from)
-            (insertion_offset self.old (widget_at self.old widget) to) pairs.items) }
+        requires within { to ≤ length (shown self.old (widget_at self.old seat)) }
+        ensures { Does limits.now self.old self.new result (replace_span limits.now self.old (widget_at self.old seat)
+            (insertion_offset self.old (widget_at self.old seat) from)
+            (insertion_offset self.old (widget_at self.old seat) to) pairs.items) }
     {
-        let slot = self.seats.number(widget);
+        let slot = self.seats.number(seat);
         let start = start_of(&self.text.anchors, slot);
         let last = end_of(&self.text.anchors, slot, self.text.store.len()) - 1;
         let front = self.tags.len();

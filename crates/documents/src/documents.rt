@@ -1,20 +1,20 @@
 ghost use Rattle.std.specs.Prelude.{◌≡◌, true, None, Some, is_some, ◌-◌, ◌<◌, length, chars, Ok, IfOk, IfSome};
 ghost use Rattle.text_model.specs.LimitTable.{LimitTable, AreLimits};
 ghost use Rattle.documents.specs.Documents.{widget_at};
-ghost use Rattle.documents.specs.View.{is_idle};
+ghost use Rattle.documents.specs.Views.{is_idle};
 ghost use Rattle.documents.specs.Widgets.{bare_document, new_document, widget_named};
 ghost use Rattle.documents.specs.Kept.{is_window_name};
 ghost use Rattle.documents.specs.WellFormed.{IsWellFormedDocument, window_names};
 ghost use Rattle.text_model.specs.declared.limits.TheConstants.Limits.{MOST_TAGS};
-ghost use Rattle.command_parts.specs.Words.{is_among};
+ghost use Rattle.command_effects.specs.Words.{is_among};
 ghost use Rattle.documents.specs.Options.{AreLines};
-ghost use Rattle.command_parts.specs.Settings.{is_behind};
+ghost use Rattle.command_effects.specs.Settings.{is_behind};
 ghost use Rattle.text_model.specs.Lines.{lines};
 ghost use Rattle.text_model.specs.declared.limits.TheConstants.Limits.{MOST_WIDGETS};
 ghost use Rattle.std.specs.Prelude.{false};
 
 use crate::views::{end_of, start_of};
-use command_parts::{DocumentSettings, Settings};
+use command_effects::{DocumentSettings, Settings};
 use edit_ops::EditedText;
 use mark_table::MarkTable;
 use name_list::NameList;
@@ -25,8 +25,8 @@ use text_model::{Limits, TextStore};
 use undo_stack::UndoStack;
 
 /// A document: the text with its history and the anchors of its widgets, its tags and its shared marks, its options,
-/// and its widgets in the order of their creation. Each widget has a slot, by which its `sel`, its anchors and its own
-/// two marks are found.
+/// and its widgets in the order of their creation. A call knows a widget by its seat, which is its place in that order.
+/// Each widget has a slot, by which its `sel`, its anchors and its own two marks are found.
 #[derive(Drop)]
 pub struct Document<S: TextStore> {
     pub(crate) alloc: Global,
@@ -124,23 +124,23 @@ impl<S: TextStore> Document<S> {
         self.seats.len()
     }
 
-    /// The widget of a name, by its place in the order of their creation.
+    /// The seat of the widget of a name: its place in the order of their creation.
     pub fn find_widget(&self, name: &str) -> Option<usize>
         ensures none { result ≡ None → widget_named (chars name.now) self.now ≡ None }
-        ensures some { IfSome result (λ widget. widget_named (chars name.now) self.now
-            ≡ Some (widget_at self.now widget)) }
-        ensures within { IfSome result (λ widget. widget < length self.now.widgets) }
+        ensures some { IfSome result (λ seat. widget_named (chars name.now) self.now
+            ≡ Some (widget_at self.now seat)) }
+        ensures within { IfSome result (λ seat. seat < length self.now.widgets) }
         ensures named { is_some result ≡ is_among (chars name.now) (window_names self.now) }
     {
         self.seats.place(name)
     }
 
     /// Whether a widget leaves the text as it is: it is disabled, or its view is empty.
-    pub fn is_idle(&self, widget: usize) -> bool
-        requires { widget < length self.now.widgets }
-        ensures { result ≡ is_idle self.now (widget_at self.now widget) }
+    pub fn is_idle(&self, seat: usize) -> bool
+        requires { seat < length self.now.widgets }
+        ensures { result ≡ is_idle self.now (widget_at self.now seat) }
     {
-        let slot = self.seats.number(widget);
+        let slot = self.seats.number(seat);
         if self.disabled[slot as usize] {
             return true;
         }

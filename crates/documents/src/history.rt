@@ -1,11 +1,13 @@
-ghost use Rattle.std.specs.Prelude.{◌≡◌, Ok};
+ghost use Rattle.std.specs.Prelude.{◌≡◌, ◌<◌, length, Ok};
+ghost use Rattle.documents.specs.Documents.{widget_at};
+ghost use Rattle.documents.specs.History.{edit_redo, edit_reset, edit_separator, edit_undo, modified_set};
 ghost use Rattle.documents.specs.Promise.{Does};
-ghost use Rattle.documents.specs.History.{edit_reset, edit_separator, modified_set};
+ghost use Rattle.documents.specs.WellFormed.{IsWellFormedDocument};
 ghost use Rattle.undo_stack.specs.Modified.{is_modified};
 
 use crate::documents::Document;
-use command_parts::Answer;
-use text_model::{Limits, TextStore};
+use command_effects::{Answer, Fault, redo_group, undo_group};
+use text_model::{Limits, MarkNo, TextStore};
 
 impl<S: TextStore> Document<S> {
     /// Whether the text is modified.
@@ -40,5 +42,51 @@ impl<S: TextStore> Document<S> {
     {
         self.text.history.reset();
         Answer::Empty
+    }
+}
+
+impl<S: TextStore> Document<S> {
+    /// `W edit undo` (text(n), "edit undo").
+    pub fn edit_undo(&mut self, limits: &Limits, seat: usize) -> Result<Answer, Fault>
+        requires shown { seat < length self.old.widgets }
+        requires formed { IsWellFormedDocument limits.now self.old }
+        ensures { Does limits.now self.old self.new result (edit_undo self.old (widget_at self.old seat)) }
+    {
+        if !self.settings.undo {
+            return Ok(Answer::Empty);
+        }
+        let Some(_) = self.text.history.last_undo() else {
+            return Err(Fault::NothingToUndo);
+        };
+        if self.is_idle(seat) {
+            return Ok(Answer::Empty);
+        }
+        let insert = MarkNo(2 * self.seats.number(seat));
+        match undo_group(self.alloc, limits, &mut self.text, insert) {
+            Ok(()) => Ok(Answer::Empty),
+            Err(fault) => Err(fault),
+        }
+    }
+
+    /// `W edit redo` (text(n), "edit redo").
+    pub fn edit_redo(&mut self, limits: &Limits, seat: usize) -> Result<Answer, Fault>
+        requires shown { seat < length self.old.widgets }
+        requires formed { IsWellFormedDocument limits.now self.old }
+        ensures { Does limits.now self.old self.new result (edit_redo self.old (widget_at self.old seat)) }
+    {
+        if !self.settings.undo {
+            return Ok(Answer::Empty);
+        }
+        let Some(_) = self.text.history.last_redo() else {
+            return Err(Fault::NothingToRedo);
+        };
+        if self.is_idle(seat) {
+            return Ok(Answer::Empty);
+        }
+        let insert = MarkNo(2 * self.seats.number(seat));
+        match redo_group(self.alloc, limits, &mut self.text, insert) {
+            Ok(()) => Ok(Answer::Empty),
+            Err(fault) => Err(fault),
+        }
     }
 }

@@ -1,16 +1,15 @@
-ghost use Rattle.std.specs.Prelude.{◌≡◌, ℕ, ◌+◌, ◌<◌, ◌≤◌, length, chars, Ok, Err};
+ghost use Rattle.std.specs.Prelude.{◌≡◌, ℕ, ◌<◌, ◌≤◌, length, chars, Ok, Err};
 ghost use Rattle.std.specs.Prelude.{IfOk};
 ghost use Rattle.text_index.specs.Positions.{position_text};
 ghost use Rattle.documents.specs.Documents.{widget_at};
-ghost use Rattle.documents.specs.View.{shown};
-ghost use Rattle.command_parts.specs.Faults.{at_position};
+ghost use Rattle.documents.specs.Views.{shown};
+ghost use Rattle.command_effects.specs.Faults.{at_position};
 ghost use Rattle.documents.specs.Promise.{Gives};
 ghost use Rattle.documents.specs.Indices.{place_at};
-ghost use Rattle.search_dump.specs.Counts.{counted};
 
 use crate::documents::Document;
 use crate::views::view_of;
-use command_parts::Fault;
+use command_effects::Fault;
 use std::alloc::AllocError;
 use text_index::{IndexFault, Names, locate, push_index};
 use text_model::{TagSlot, Text, TextStore};
@@ -28,12 +27,12 @@ fn at_position(position: usize, found: Result<usize, IndexFault>) -> Result<usiz
 
 impl<S: TextStore> Document<S> {
     /// The place of the index at a position of a command, counted from the start of the view.
-    pub fn place_at(&self, widget: usize, position: usize, word: &str) -> Result<usize, Fault>
-        requires shown { widget < length self.now.widgets }
-        ensures value { Gives result (place_at self.now (widget_at self.now widget) position (chars word.now)) }
-        ensures within { IfOk result (λ place. place ≤ length (shown self.now (widget_at self.now widget))) }
+    pub fn place_at(&self, seat: usize, position: usize, word: &str) -> Result<usize, Fault>
+        requires shown { seat < length self.now.widgets }
+        ensures value { Gives result (place_at self.now (widget_at self.now seat) position (chars word.now)) }
+        ensures within { IfOk result (λ place. place ≤ length (shown self.now (widget_at self.now seat))) }
     {
-        let slot = self.seats.number(widget);
+        let slot = self.seats.number(seat);
         let names = Names {
             tags: &self.tags,
             marks: &self.marks,
@@ -44,21 +43,21 @@ impl<S: TextStore> Document<S> {
     }
 
     /// How many characters the view has.
-    pub fn shown_len(&self, widget: usize) -> usize
-        requires shown { widget < length self.now.widgets }
-        ensures { result ≡ length (shown self.now (widget_at self.now widget)) }
+    pub fn shown_len(&self, seat: usize) -> usize
+        requires shown { seat < length self.now.widgets }
+        ensures { result ≡ length (shown self.now (widget_at self.now seat)) }
     {
-        let view = self.view_at(widget);
+        let view = self.view_at(seat);
         view.e - view.s
     }
 
     /// A place as `line.char`.
-    pub fn position_of(&self, widget: usize, place: usize) -> Result<Text, AllocError>
-        requires shown { widget < length self.now.widgets }
-        requires within { place ≤ length (shown self.now (widget_at self.now widget)) }
-        ensures { IfOk result (λ text. text ≡ position_text (shown self.now (widget_at self.now widget)) place) }
+    pub fn position_of(&self, seat: usize, place: usize) -> Result<Text, AllocError>
+        requires shown { seat < length self.now.widgets }
+        requires within { place ≤ length (shown self.now (widget_at self.now seat)) }
+        ensures { IfOk result (λ text. text ≡ position_text (shown self.now (widget_at self.now seat)) place) }
     {
-        let view = self.view_at(widget);
+        let view = self.view_at(seat);
         let mut text = String::new(self.alloc);
         push_index(&mut text, &view, place)?;
         Ok(Text::new(text))

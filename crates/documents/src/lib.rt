@@ -8,7 +8,7 @@ mod indices;
 mod marks;
 mod options;
 mod queries;
-mod reversals;
+mod ranges;
 mod seats;
 mod tags;
 mod texts;

@@ -1,23 +1,22 @@
 ghost use Rattle.std.specs.Prelude.{◌≡◌, true, None, Some, is_some, ◌+◌, ◌-◌, ◌<◌, ◌≤◌, min, length, chars, option_map};
 ghost use Rattle.std.specs.Prelude.{Ok, Err, IfOk, [], IfSome, slice_index_or};
 ghost use Rattle.documents.specs.Documents.{widget_at};
-ghost use Rattle.documents.specs.View.{shown};
+ghost use Rattle.documents.specs.Views.{shown};
 ghost use Rattle.documents.specs.Promise.{Does, answered};
-ghost use Rattle.search_dump.specs.Counts.{counted};
-ghost use Rattle.command_parts.specs.declared.answers.Fault.TheVariants.{Memory};
+ghost use Rattle.command_effects.specs.declared.answers.Fault.TheVariants.{Memory};
 ghost use Rattle.tcl_words.specs.ListText.{list_text};
 ghost use Rattle.tcl_words.specs.Unread.{texts_of};
 ghost use Rattle.mark_table.specs.Order.{next_mark, previous_mark, rank_of};
-ghost use Rattle.command_parts.specs.declared.answers.Answer.TheVariants.{Empty};
+ghost use Rattle.command_effects.specs.declared.answers.Answer.TheVariants.{Empty};
 ghost use Rattle.documents.specs.Names.{mark_number, mark_place};
-ghost use Rattle.documents.specs.Origins.{origin_in};
-ghost use Rattle.command_parts.specs.Marking.{gravity_word as spec_gravity_word};
+ghost use Rattle.documents.specs.Marks.{origin_in};
+ghost use Rattle.command_effects.specs.Marking.{gravity_word as spec_gravity_word};
 ghost use Rattle.documents.specs.Marks.{mark_names, mark_offset, mark_unset, place_named, set_found, usable_marks};
 ghost use Rattle.documents.specs.Marks.{with_current, with_insert, with_mark, with_shared};
 
 use crate::documents::Document;
 use crate::views::mark_view_of;
-use command_parts::{
+use command_effects::{
     Answer, Fault, gravity_word, is_word, make_mark, numbers_named, push_mark_names, put_mark,
     take_marks, turn_mark, unset_names,
 };
@@ -51,9 +50,9 @@ impl<S: TextStore> Document<S> {
     }
 
     /// Whether a widget can use a mark: its own, and a shared one that stands in its view or at the end of that.
-    pub fn shows_mark(&self, widget: usize, mark: WidgetMark) -> bool
-        requires { widget < length self.now.widgets }
-        ensures { result ≡ is_some (mark_place self.now (widget_at self.now widget) (rank_of mark)) }
+    pub fn shows_mark(&self, seat: usize, mark: WidgetMark) -> bool
+        requires { seat < length self.now.widgets }
+        ensures { result ≡ is_some (mark_place self.now (widget_at self.now seat) (rank_of mark)) }
     {
         let WidgetMark::Shared(place) = mark else {
             return true;
@@ -61,7 +60,7 @@ impl<S: TextStore> Document<S> {
         if place >= self.marks.len() {
             return false;
         }
-        let view = self.view_at(widget);
+        let view = self.view_at(seat);
         match self.text.store.mark_place(self.marks.number(place)) {
             None => false,
             Some(found) => view.s <= found.offset && found.offset <= view.e,
@@ -69,34 +68,34 @@ impl<S: TextStore> Document<S> {
     }
 
     /// Where the mark of a name stands in the document, if there is one.
-    pub fn place_named(&self, widget: usize, name: &str) -> Option<Place>
-        requires shown { widget < length self.now.widgets }
-        ensures value { result ≡ place_named self.now (widget_at self.now widget) (chars name.now) }
+    pub fn place_named(&self, seat: usize, name: &str) -> Option<Place>
+        requires shown { seat < length self.now.widgets }
+        ensures value { result ≡ place_named self.now (widget_at self.now seat) (chars name.now) }
         ensures within { IfSome result (λ place. place.offset ≤ length self.now.cells) }
     {
         if is_word(name, "insert") {
             return self
                 .text
                 .store
-                .mark_place(MarkNo(2 * self.seats.number(widget)));
+                .mark_place(MarkNo(2 * self.seats.number(seat)));
         }
         if is_word(name, "current") {
             return self
                 .text
                 .store
-                .mark_place(MarkNo(2 * self.seats.number(widget) + 1));
+                .mark_place(MarkNo(2 * self.seats.number(seat) + 1));
         }
         self.text.store.mark_place(self.marks.find(name)?)
     }
 
     /// The offset for a mark of a name at a place: of the widget's own, the end is the last character.
-    pub fn mark_offset(&self, widget: usize, name: &str, place: usize) -> usize
-        requires shown { widget < length self.now.widgets }
-        requires within { place ≤ length (shown self.now (widget_at self.now widget)) }
-        ensures value { result ≡ mark_offset self.now (widget_at self.now widget) (chars name.now) place }
+    pub fn mark_offset(&self, seat: usize, name: &str, place: usize) -> usize
+        requires shown { seat < length self.now.widgets }
+        requires within { place ≤ length (shown self.now (widget_at self.now seat)) }
+        ensures value { result ≡ mark_offset self.now (widget_at self.now seat) (chars name.now) place }
         ensures within { result ≤ length self.now.cells }
     {
-        let view = self.view_at(widget);
+        let view = self.view_at(seat);
         if is_word(name, "insert") || is_word(name, "current") {
             view.s + place.min((view.e - view.s).saturating_sub(1))
         } else {
@@ -134,13 +133,13 @@ impl<S: TextStore> Document<S> {
     }
 
     /// The mark behind another one in the order of marks, or the first at or behind a place of the view.
-    pub fn next_mark(&self, widget: usize, origin: Origin) -> Option<WidgetMark>
-        requires shown { widget < length self.now.widgets }
-        ensures { result ≡ next_mark origin (usable_marks self.now (widget_at self.now widget)) }
+    pub fn next_mark(&self, seat: usize, origin: Origin) -> Option<WidgetMark>
+        requires shown { seat < length self.now.widgets }
+        ensures { result ≡ next_mark origin (usable_marks self.now (widget_at self.now seat)) }
     {
         let view = mark_view_of(
             &self.text.anchors,
-            self.seats.number(widget),
+            self.seats.number(seat),
             self.text.store.len(),
         );
         self.marks
@@ -148,13 +147,13 @@ impl<S: TextStore> Document<S> {
     }
 
     /// The mark before another one in the order of marks, or the last before a place of the view.
-    pub fn previous_mark(&self, widget: usize, origin: Origin) -> Option<WidgetMark>
-        requires shown { widget < length self.now.widgets }
-        ensures { result ≡ previous_mark origin (usable_marks self.now (widget_at self.now widget)) }
+    pub fn previous_mark(&self, seat: usize, origin: Origin) -> Option<WidgetMark>
+        requires shown { seat < length self.now.widgets }
+        ensures { result ≡ previous_mark origin (usable_marks self.now (widget_at self.now seat)) }
     {
         let view = mark_view_of(
             &self.text.anchors,
-            self.seats.number(widget),
+            self.seats.number(seat),
             self.text.store.len(),
         );
         self.marks
@@ -164,16 +163,16 @@ impl<S: TextStore> Document<S> {
 
 impl<S: TextStore> Document<S> {
     /// Puts the widget's `insert` at a place.
-    fn put_insert(&mut self, limits: &Limits, widget: usize, place: Place) -> Result<Answer, Fault>
-        requires shown { widget < length self.old.widgets }
+    fn put_insert(&mut self, limits: &Limits, seat: usize, place: Place) -> Result<Answer, Fault>
+        requires shown { seat < length self.old.widgets }
         requires stands { place.offset ≤ length self.old.cells }
         ensures { Does limits.now self.old self.new result
-            (answered (with_insert self.old (widget_at self.old widget) place) Empty) }
+            (answered (with_insert self.old (widget_at self.old seat) place) Empty) }
     {
         match put_mark(
             self.alloc,
             &mut self.text.store,
-            MarkNo(2 * self.seats.number(widget)),
+            MarkNo(2 * self.seats.number(seat)),
             place,
         ) {
             Err(_) => Err(Fault::Memory),
@@ -182,16 +181,16 @@ impl<S: TextStore> Document<S> {
     }
 
     /// Puts the widget's `current` at a place.
-    fn put_current(&mut self, limits: &Limits, widget: usize, place: Place) -> Result<Answer, Fault>
-        requires shown { widget < length self.old.widgets }
+    fn put_current(&mut self, limits: &Limits, seat: usize, place: Place) -> Result<Answer, Fault>
+        requires shown { seat < length self.old.widgets }
         requires stands { place.offset ≤ length self.old.cells }
         ensures { Does limits.now self.old self.new result
-            (answered (with_current self.old (widget_at self.old widget) place) Empty) }
+            (answered (with_current self.old (widget_at self.old seat) place) Empty) }
     {
         match put_mark(
             self.alloc,
             &mut self.text.store,
-            MarkNo(2 * self.seats.number(widget) + 1),
+            MarkNo(2 * self.seats.number(seat) + 1),
             place,
         ) {
             Err(_) => Err(Fault::Memory),
@@ -225,19 +224,19 @@ impl<S: TextStore> Document<S> {
     pub fn put_mark(
         &mut self,
         limits: &Limits,
-        widget: usize,
+        seat: usize,
         name: &str,
         place: Place,
     ) -> Result<Answer, Fault>
-        requires shown { widget < length self.old.widgets }
+        requires shown { seat < length self.old.widgets }
         requires stands { place.offset ≤ length self.old.cells }
         ensures { Does limits.now self.old self.new result
-            (answered (with_mark self.old (widget_at self.old widget) (chars name.now) place) Empty) }
+            (answered (with_mark self.old (widget_at self.old seat) (chars name.now) place) Empty) }
     {
         if is_word(name, "insert") {
-            self.put_insert(limits, widget, place)
+            self.put_insert(limits, seat, place)
         } else if is_word(name, "current") {
-            self.put_current(limits, widget, place)
+            self.put_current(limits, seat, place)
         } else {
             self.put_shared(limits, name, place)
         }
@@ -247,15 +246,15 @@ impl<S: TextStore> Document<S> {
     pub fn make_mark(
         &mut self,
         limits: &Limits,
-        widget: usize,
+        seat: usize,
         name: &str,
         offset: usize,
     ) -> Result<Answer, Fault>
-        requires shown { widget < length self.old.widgets }
+        requires shown { seat < length self.old.widgets }
         requires within { offset ≤ length self.old.cells }
-        requires new { place_named self.old (widget_at self.old widget) (chars name.now) ≡ None }
+        requires new { place_named self.old (widget_at self.old seat) (chars name.now) ≡ None }
         ensures { Does limits.now self.old self.new result
-            (set_found limits.now self.old (widget_at self.old widget) (chars name.now) offset None) }
+            (set_found limits.now self.old (widget_at self.old seat) (chars name.now) offset None) }
     {
         // Where one of the limits is read, all are known to be in their bounds.
         let _chars = limits.chars();

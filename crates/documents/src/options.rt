@@ -1,6 +1,6 @@
 ghost use Rattle.std.specs.Prelude.{◌≡◌, ◌+◌, ◌-◌, ◌<◌, ◌≤◌, false, length, option_map, Ok, IfSome};
-ghost use Rattle.command_parts.specs.declared.answers.Answer.TheVariants.{Empty};
-ghost use Rattle.command_parts.specs.Settings.{is_behind};
+ghost use Rattle.command_effects.specs.declared.answers.Answer.TheVariants.{Empty};
+ghost use Rattle.command_effects.specs.Settings.{is_behind};
 ghost use Rattle.documents.specs.Documents.{characters, widget_at};
 ghost use Rattle.documents.specs.Options.{AreLines, IsLine, settings_of, with_settings};
 ghost use Rattle.documents.specs.Promise.{Does, answered};
@@ -8,7 +8,7 @@ ghost use Rattle.text_model.specs.Content as model;
 ghost use Rattle.text_model.specs.Lines.{line_of, line_start, lines};
 
 use crate::documents::Document;
-use command_parts::{Answer, Settings};
+use command_effects::{Answer, Settings};
 use edit_ops::Anchors;
 use text_model::{Limits, TextStore};
 
@@ -33,12 +33,12 @@ fn line_at<S: TextStore>(store: &S, anchor: Option<usize>) -> Option<usize>
 
 impl<S: TextStore> Document<S> {
     /// The options of the document and a widget.
-    pub fn settings(&self, widget: usize) -> Settings
-        requires { widget < length self.now.widgets }
-        ensures value { result ≡ settings_of self.now (widget_at self.now widget) }
+    pub fn settings(&self, seat: usize) -> Settings
+        requires { seat < length self.now.widgets }
+        ensures value { result ≡ settings_of self.now (widget_at self.now seat) }
         ensures lines { AreLines (lines (characters self.now.cells)) result }
     {
-        let slot = self.seats.number(widget) as usize;
+        let slot = self.seats.number(seat) as usize;
         let anchors = self.text.anchors[slot];
         Settings {
             document: self.settings,
@@ -49,14 +49,14 @@ impl<S: TextStore> Document<S> {
     }
 
     /// Gives the document and a widget options.
-    pub fn put_settings(&mut self, limits: &Limits, widget: usize, settings: Settings) -> Answer
-        requires shown { widget < length self.old.widgets }
+    pub fn put_settings(&mut self, limits: &Limits, seat: usize, settings: Settings) -> Answer
+        requires shown { seat < length self.old.widgets }
         requires lines { AreLines (lines (characters self.old.cells)) settings }
         requires ordered { is_behind settings.start settings.end ≡ false }
         ensures { Does limits.now self.old self.new (Ok result)
-            (answered (with_settings (widget_at self.old widget) settings self.old) Empty) }
+            (answered (with_settings (widget_at self.old seat) settings self.old) Empty) }
     {
-        let slot = self.seats.number(widget) as usize;
+        let slot = self.seats.number(seat) as usize;
         let start = anchor_at(&self.text.store, settings.start);
         let end = anchor_at(&self.text.store, settings.end);
         self.text.anchors[slot] = Anchors { start, end };

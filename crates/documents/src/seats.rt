@@ -6,14 +6,14 @@ ghost use Rattle.std.specs.List.{All};
 ghost use Rattle.text_model.specs.declared.limits.TheConstants.Limits.{MOST_WIDGETS};
 ghost use Rattle.name_list.specs.Names.{AreNames, IsLeastFree, names_of, numbers_of, place_of};
 ghost use Rattle.tcl_words.specs.Unread.{texts_of};
-ghost use Rattle.command_parts.specs.Edits.{new_mark, with_own_marks};
-ghost use Rattle.command_parts.specs.Words.{is_same};
+ghost use Rattle.command_effects.specs.Edits.{new_mark, with_own_marks};
+ghost use Rattle.command_effects.specs.Words.{is_same};
 ghost use Rattle.tcl_words.specs.ListGrowth.{Goes};
 ghost use Rattle.documents.specs.Documents.{whole};
 ghost use Rattle.documents.specs.Keys.{numbers_gone, seats_left};
 ghost use Rattle.documents.specs.Seats.{IsLonger};
 
-use command_parts::{is_among, is_word, put_widget_marks};
+use command_effects::{is_among, is_word, put_widget_marks};
 use edit_ops::{Anchors, EditedText};
 use name_list::NameList;
 use std::alloc::{AllocError, Global};

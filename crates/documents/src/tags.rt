@@ -2,26 +2,23 @@ ghost use Rattle.std.specs.Prelude.{◌≡◌, Some, ◌+◌, ◌-◌, ◌<◌, 
 ghost use Rattle.std.specs.Prelude.{IfOk};
 ghost use Rattle.std.specs.List.{All};
 ghost use Rattle.documents.specs.Documents.{widget_at};
-ghost use Rattle.documents.specs.View.{shown};
+ghost use Rattle.documents.specs.Views.{shown};
 ghost use Rattle.documents.specs.Promise.{Does};
-ghost use Rattle.search_dump.specs.Counts.{counted};
-ghost use Rattle.edit_ops.specs.Tagging.{SpanFits, tagged};
+ghost use Rattle.edit_ops.specs.Tagging.{tagged};
 ghost use Rattle.tcl_words.specs.ListText.{list_text};
 ghost use Rattle.tcl_words.specs.Unread.{texts_of};
 ghost use Rattle.text_index.specs.Ranges.{tag_ranges, next_range, previous_range};
-ghost use Rattle.documents.specs.Ranges.{spans_shown};
 ghost use Rattle.documents.specs.Tags.{flags_of, tags_on, add_spans, remove_spans, tag_delete, reordered, raised};
 ghost use Rattle.documents.specs.Tags.{lowered};
-ghost use Rattle.command_parts.specs.Listing.{range_words, begun};
-ghost use Rattle.command_parts.specs.declared.answers.Answer.TheVariants.{Empty};
+ghost use Rattle.command_effects.specs.Listing.{range_words, begun};
+ghost use Rattle.command_effects.specs.declared.answers.Answer.TheVariants.{Empty};
 
 use crate::documents::Document;
 use crate::views::view_of;
-use command_parts::{
+use command_effects::{
     Answer, Fault, clear_slots, delete_names, deleted_slots, find_tag, is_one_too_many, push_names,
-    push_names_in, push_next, push_previous, push_ranges, set_slot, spans_of, tag_spans,
+    push_names_in, push_next, push_previous, push_ranges, set_slot, tag_spans,
 };
-use edit_ops::Span;
 use std::alloc::AllocError;
 use tag_table::NoSuchTag;
 use text_model::{Limits, TagSlot, Text, TextStore};
@@ -37,13 +34,13 @@ impl<S: TextStore> Document<S> {
     }
 
     /// The names of the tags of the character at a place as a list, from the lowest; none at the end.
-    pub fn tags_on(&self, widget: usize, place: usize) -> Result<Text, AllocError>
-        requires shown { widget < length self.now.widgets }
-        requires within { place ≤ length (shown self.now (widget_at self.now widget)) }
-        ensures { IfOk result (λ list. list ≡ list_text (tags_on self.now (widget_at self.now widget) place)) }
+    pub fn tags_on(&self, seat: usize, place: usize) -> Result<Text, AllocError>
+        requires shown { seat < length self.now.widgets }
+        requires within { place ≤ length (shown self.now (widget_at self.now seat)) }
+        ensures { IfOk result (λ list. list ≡ list_text (tags_on self.now (widget_at self.now seat) place)) }
     {
         let mut list = String::new(self.alloc);
-        let number = self.seats.number(widget);
+        let number = self.seats.number(seat);
         let view = view_of(&self.text.store, &self.text.anchors, number);
         let offset = view.s + place;
         if offset == view.e {
@@ -59,13 +56,13 @@ impl<S: TextStore> Document<S> {
     }
 
     /// Where the ranges of a tag begin and end, as a list; none of an unknown tag.
-    pub fn ranges_of(&self, widget: usize, name: &str) -> Result<Text, AllocError>
-        requires shown { widget < length self.now.widgets }
-        ensures { IfOk result (λ list. list ≡ list_text (range_words (shown self.now (widget_at self.now widget))
-            (tag_ranges (flags_of self.now (widget_at self.now widget) (chars name.now))))) }
+    pub fn ranges_of(&self, seat: usize, name: &str) -> Result<Text, AllocError>
+        requires shown { seat < length self.now.widgets }
+        ensures { IfOk result (λ list. list ≡ list_text (range_words (shown self.now (widget_at self.now seat))
+            (tag_ranges (flags_of self.now (widget_at self.now seat) (chars name.now))))) }
     {
         let mut list = String::new(self.alloc);
-        let number = self.seats.number(widget);
+        let number = self.seats.number(seat);
         let Some(slot) = find_tag(&self.tags, TagSlot(number), name) else {
             return Ok(Text::new(list));
         };
@@ -78,19 +75,19 @@ impl<S: TextStore> Document<S> {
     /// before another.
     pub fn next_listed(
         &self,
-        widget: usize,
+        seat: usize,
         name: &str,
         from: usize,
         to: usize,
     ) -> Result<Text, AllocError>
-        requires shown { widget < length self.now.widgets }
-        requires within { from ≤ length (shown self.now (widget_at self.now widget)) }
-        ensures { IfOk result (λ list. list ≡ list_text (range_words (shown self.now (widget_at self.now widget))
+        requires shown { seat < length self.now.widgets }
+        requires within { from ≤ length (shown self.now (widget_at self.now seat)) }
+        ensures { IfOk result (λ list. list ≡ list_text (range_words (shown self.now (widget_at self.now seat))
             (begun (λ start. nat_lt start to)
-            (next_range (flags_of self.now (widget_at self.now widget) (chars name.now)) from)))) }
+            (next_range (flags_of self.now (widget_at self.now seat) (chars name.now)) from)))) }
     {
         let mut list = String::new(self.alloc);
-        let number = self.seats.number(widget);
+        let number = self.seats.number(seat);
         let Some(slot) = find_tag(&self.tags, TagSlot(number), name) else {
             return Ok(Text::new(list));
         };
@@ -103,19 +100,19 @@ impl<S: TextStore> Document<S> {
     /// another.
     pub fn previous_listed(
         &self,
-        widget: usize,
+        seat: usize,
         name: &str,
         from: usize,
         to: usize,
     ) -> Result<Text, AllocError>
-        requires shown { widget < length self.now.widgets }
-        requires within { from ≤ length (shown self.now (widget_at self.now widget)) }
-        ensures { IfOk result (λ list. list ≡ list_text (range_words (shown self.now (widget_at self.now widget))
+        requires shown { seat < length self.now.widgets }
+        requires within { from ≤ length (shown self.now (widget_at self.now seat)) }
+        ensures { IfOk result (λ list. list ≡ list_text (range_words (shown self.now (widget_at self.now seat))
             (begun (λ start. nat_le to start)
-            (previous_range (flags_of self.now (widget_at self.now widget) (chars name.now)) from)))) }
+            (previous_range (flags_of self.now (widget_at self.now seat) (chars name.now)) from)))) }
     {
         let mut list = String::new(self.alloc);
-        let number = self.seats.number(widget);
+        let number = self.seats.number(seat);
         let Some(slot) = find_tag(&self.tags, TagSlot(number), name) else {
             return Ok(Text::new(list));
         };
@@ -126,40 +123,24 @@ impl<S: TextStore> Document<S> {
 }
 
 impl<S: TextStore> Document<S> {
-    /// Pairs of places that a widget shows as ranges of the document.
-    fn spans_at(&self, widget: usize, places: &[usize]) -> Result<Vec<Span>, AllocError>
-        requires shown { widget < length self.now.widgets }
-        requires within { All (λ place. place ≤ length (shown self.now (widget_at self.now widget))) places.now }
-        ensures value { IfOk result (λ spans. spans.items
-            ≡ spans_shown self.now (widget_at self.now widget) places.now) }
-        ensures fit { IfOk result (λ spans. All (SpanFits (length self.now.cells)) spans.items) }
-    {
-        let view = view_of(
-            &self.text.store,
-            &self.text.anchors,
-            self.seats.number(widget),
-        );
-        spans_of(self.alloc, view.s, view.e - view.s, places)
-    }
-
     /// Puts a tag on the ranges between pairs of places, and makes it if it is new.
     pub fn add_spans(
         &mut self,
         limits: &Limits,
-        widget: usize,
+        seat: usize,
         name: &str,
         places: &[usize],
     ) -> Result<Answer, Fault>
-        requires shown { widget < length self.old.widgets }
-        requires within { All (λ place. place ≤ length (shown self.old (widget_at self.old widget))) places.now }
+        requires shown { seat < length self.old.widgets }
+        requires within { All (λ place. place ≤ length (shown self.old (widget_at self.old seat))) places.now }
         ensures { Does limits.now self.old self.new result
-            (add_spans limits.now self.old (widget_at self.old widget) (chars name.now) places.now) }
+            (add_spans limits.now self.old (widget_at self.old seat) (chars name.now) places.now) }
     {
         if is_one_too_many(limits, &self.tags, name) {
             return Err(Fault::TooManyTags);
         }
-        let number = self.seats.number(widget);
-        let spans = self.spans_at(widget, places)?;
+        let number = self.seats.number(seat);
+        let spans = self.spans_at(seat, places)?;
         let front = self.tags.len();
         let tagged = tag_spans(
             self.alloc,
@@ -182,20 +163,20 @@ impl<S: TextStore> Document<S> {
     pub fn remove_spans(
         &mut self,
         limits: &Limits,
-        widget: usize,
+        seat: usize,
         name: &str,
         places: &[usize],
     ) -> Result<Answer, Fault>
-        requires shown { widget < length self.old.widgets }
-        requires within { All (λ place. place ≤ length (shown self.old (widget_at self.old widget))) places.now }
+        requires shown { seat < length self.old.widgets }
+        requires within { All (λ place. place ≤ length (shown self.old (widget_at self.old seat))) places.now }
         ensures { Does limits.now self.old self.new result
-            (remove_spans self.old (widget_at self.old widget) (chars name.now) places.now) }
+            (remove_spans self.old (widget_at self.old seat) (chars name.now) places.now) }
     {
-        let number = self.seats.number(widget);
+        let number = self.seats.number(seat);
         let Some(slot) = find_tag(&self.tags, TagSlot(number), name) else {
             return Ok(Answer::Empty);
         };
-        let spans = self.spans_at(widget, places)?;
+        let spans = self.spans_at(seat, places)?;
         match set_slot(self.alloc, &mut self.text, &spans, slot, false) {
             Ok(()) => Ok(Answer::Empty),
             Err(fault) => Err(fault),
@@ -222,13 +203,13 @@ impl<S: TextStore> Document<S> {
     pub fn raise(
         &mut self,
         limits: &Limits,
-        at: usize,
+        position: usize,
         name: &str,
         above: Option<&str>,
     ) -> Result<Answer, Fault>
-        requires { at + 1 ≤ usize.MAX }
+        requires { position + 1 ≤ usize.MAX }
         ensures { Does limits.now self.old self.new result
-            (reordered self.old at raised (chars name.now, option_map (λ word. chars word.now) above.entry)) }
+            (reordered self.old position raised (chars name.now, option_map (λ word. chars word.now) above.entry)) }
     {
         match self.tags.raise(name, above) {
             Ok(()) => {
@@ -236,8 +217,8 @@ impl<S: TextStore> Document<S> {
                 let _count = self.tags.len();
                 Ok(Answer::Empty)
             }
-            Err(NoSuchTag::Moved) => Err(Fault::NoSuchTag(at)),
-            Err(NoSuchTag::Neighbour) => Err(Fault::NoSuchTag(at + 1)),
+            Err(NoSuchTag::Moved) => Err(Fault::NoSuchTag(position)),
+            Err(NoSuchTag::Neighbour) => Err(Fault::NoSuchTag(position + 1)),
         }
     }
 
@@ -245,13 +226,13 @@ impl<S: TextStore> Document<S> {
     pub fn lower(
         &mut self,
         limits: &Limits,
-        at: usize,
+        position: usize,
         name: &str,
         below: Option<&str>,
     ) -> Result<Answer, Fault>
-        requires { at + 1 ≤ usize.MAX }
+        requires { position + 1 ≤ usize.MAX }
         ensures { Does limits.now self.old self.new result
-            (reordered self.old at lowered (chars name.now, option_map (λ word. chars word.now) below.entry)) }
+            (reordered self.old position lowered (chars name.now, option_map (λ word. chars word.now) below.entry)) }
     {
         match self.tags.lower(name, below) {
             Ok(()) => {
@@ -259,8 +240,8 @@ impl<S: TextStore> Document<S> {
                 let _count = self.tags.len();
                 Ok(Answer::Empty)
             }
-            Err(NoSuchTag::Moved) => Err(Fault::NoSuchTag(at)),
-            Err(NoSuchTag::Neighbour) => Err(Fault::NoSuchTag(at + 1)),
+            Err(NoSuchTag::Moved) => Err(Fault::NoSuchTag(position)),
+            Err(NoSuchTag::Neighbour) => Err(Fault::NoSuchTag(position + 1)),
         }
     }
 }

@@ -2,47 +2,47 @@ ghost use Rattle.std.specs.Prelude.{◌≡◌, ◌<◌, ◌≤◌, ◌-◌, fals
 ghost use Rattle.documents.specs.Documents.{widget_at};
 ghost use Rattle.documents.specs.Promise.{Does};
 ghost use Rattle.documents.specs.Texts.{insert_at, insertion_offset};
-ghost use Rattle.documents.specs.View.{is_idle, shown};
+ghost use Rattle.documents.specs.Views.{is_idle, shown};
 
 use crate::documents::Document;
-use command_parts::{Answer, Fault, Pair, put_pairs};
+use command_effects::{Answer, Fault, Pair, put_pairs};
 use edit_ops::EditRules;
 use std::alloc::AllocError;
 use text_model::{Limits, TagSlot, Text, TextStore};
 
 impl<S: TextStore> Document<S> {
     /// The characters from one place to another; none where the second isn't behind the first.
-    pub fn text_between(&self, widget: usize, from: usize, to: usize) -> Result<Text, AllocError>
-        requires shown { widget < length self.now.widgets }
-        requires from { from ≤ length (shown self.now (widget_at self.now widget)) }
-        requires to { to ≤ length (shown self.now (widget_at self.now widget)) }
-        ensures { IfOk result (λ text. text ≡ slice_range (shown self.now (widget_at self.now widget)) from to) }
+    pub fn text_between(&self, seat: usize, from: usize, to: usize) -> Result<Text, AllocError>
+        requires shown { seat < length self.now.widgets }
+        requires from { from ≤ length (shown self.now (widget_at self.now seat)) }
+        requires to { to ≤ length (shown self.now (widget_at self.now seat)) }
+        ensures { IfOk result (λ text. text ≡ slice_range (shown self.now (widget_at self.now seat)) from to) }
     {
-        let view = self.view_at(widget);
+        let view = self.view_at(seat);
         Ok(Text::new(view.store.copy_text(view.s + from, view.s + to.max(from))?))
     }
 
     /// The character at a place, or nothing at the end.
-    pub fn character_at(&self, widget: usize, place: usize) -> Result<Text, AllocError>
-        requires shown { widget < length self.now.widgets }
-        requires within { place ≤ length (shown self.now (widget_at self.now widget)) }
+    pub fn character_at(&self, seat: usize, place: usize) -> Result<Text, AllocError>
+        requires shown { seat < length self.now.widgets }
+        requires within { place ≤ length (shown self.now (widget_at self.now seat)) }
         ensures { IfOk result (λ text. text
-            ≡ slice_range (shown self.now (widget_at self.now widget)) place (suc place)) }
+            ≡ slice_range (shown self.now (widget_at self.now seat)) place (suc place)) }
     {
-        let view = self.view_at(widget);
+        let view = self.view_at(seat);
         let start = view.s + place;
         Ok(Text::new(view.store.copy_text(start, (start + 1).min(view.e))?))
     }
 
     /// The offset before which a text goes that is put in at a place: before the last newline where that is the end.
-    pub fn insertion_offset(&self, widget: usize, place: usize) -> usize
-        requires shown { widget < length self.now.widgets }
-        requires active { is_idle self.now (widget_at self.now widget) ≡ false }
-        requires near { place ≤ length (shown self.now (widget_at self.now widget)) }
-        ensures value { result ≡ insertion_offset self.now (widget_at self.now widget) place }
+    pub fn insertion_offset(&self, seat: usize, place: usize) -> usize
+        requires shown { seat < length self.now.widgets }
+        requires active { is_idle self.now (widget_at self.now seat) ≡ false }
+        requires near { place ≤ length (shown self.now (widget_at self.now seat)) }
+        ensures value { result ≡ insertion_offset self.now (widget_at self.now seat) place }
         ensures within { result < length self.now.cells }
     {
-        let view = self.view_at(widget);
+        let view = self.view_at(seat);
         (view.s + place).min(view.e - 1)
     }
 
@@ -50,16 +50,16 @@ impl<S: TextStore> Document<S> {
     pub fn insert_at(
         &mut self,
         limits: &Limits,
-        widget: usize,
+        seat: usize,
         at: usize,
         pairs: Vec<Pair>,
     ) -> Result<Answer, Fault>
-        requires shown { widget < length self.old.widgets }
+        requires shown { seat < length self.old.widgets }
         requires within { at < length self.old.cells }
         ensures { Does limits.now self.old self.new result
-            (insert_at limits.now self.old (widget_at self.old widget) at pairs.items) }
+            (insert_at limits.now self.old (widget_at self.old seat) at pairs.items) }
     {
-        let slot = TagSlot(self.seats.number(widget));
+        let slot = TagSlot(self.seats.number(seat));
         let front = self.tags.len();
         let rules = EditRules {
             alloc: self.alloc,

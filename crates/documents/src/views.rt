@@ -4,7 +4,7 @@ ghost use Rattle.std.specs.Prelude.{◌≡◌, ◌-◌, ◌<◌, ◌≤◌, leng
 ghost use Rattle.text_model.specs.declared.limits.TheConstants.Limits.{MOST_CHARS};
 ghost use Rattle.text_index.specs.Views.{IsView, shown as shown_in};
 ghost use Rattle.documents.specs.Documents.{whole, widget_at};
-ghost use Rattle.documents.specs.View.{shown, view_end, view_start};
+ghost use Rattle.documents.specs.Views.{shown, view_end, view_start};
 
 use crate::documents::Document;
 use edit_ops::Anchors;
@@ -60,14 +60,14 @@ pub fn mark_view_of(anchors: &[Anchors], slot: u16, len: usize) -> MarkView
 
 impl<S: TextStore> Document<S> {
     /// The view of a widget.
-    pub(crate) fn view_at(&self, widget: usize) -> View<'_, S>
-        requires { widget < length self.now.widgets }
+    pub(crate) fn view_at(&self, seat: usize) -> View<'_, S>
+        requires { seat < length self.now.widgets }
         ensures lines { IsView (S.content result.store.now) result.s result.e }
         ensures text { shown_in (S.content result.store.now) result.s result.e
-            ≡ shown self.now (widget_at self.now widget) }
-        ensures start { result.s ≡ view_start (widget_at self.now widget) }
-        ensures end { result.e ≡ view_end self.now (widget_at self.now widget) }
-        ensures count { length (shown self.now (widget_at self.now widget)) ≡ result.e - result.s }
+            ≡ shown self.now (widget_at self.now seat) }
+        ensures start { result.s ≡ view_start (widget_at self.now seat) }
+        ensures end { result.e ≡ view_end self.now (widget_at self.now seat) }
+        ensures count { length (shown self.now (widget_at self.now seat)) ≡ result.e - result.s }
         ensures ordered { result.s ≤ result.e }
         ensures within { result.e ≤ length self.now.cells }
         ensures cells { length (S.content result.store.now).cells ≡ length self.now.cells }
@@ -76,7 +76,7 @@ impl<S: TextStore> Document<S> {
         view_of(
             &self.text.store,
             &self.text.anchors,
-            self.seats.number(widget),
+            self.seats.number(seat),
         )
     }
 }

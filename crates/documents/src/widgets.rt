@@ -1,31 +1,27 @@
-ghost use Rattle.std.specs.Prelude.{◌≡◌, true, Some, ◌+◌, ◌-◌, ◌<◌, ◌≤◌, length, chars, map, option_map, Ok, Err, IfOk};
-ghost use Rattle.std.specs.Prelude.{OnOk, OnErr, IfSome};
+ghost use Rattle.std.specs.Prelude.{◌≡◌, true, Some, ◌-◌, ◌<◌, length, chars, map, Ok, Err, IfOk};
+ghost use Rattle.std.specs.Prelude.{OnOk, OnErr};
 ghost use Rattle.std.specs.List.{AllByRecursion};
 ghost use Rattle.text_model.specs.LimitTable.{LimitTable};
 ghost use Rattle.documents.specs.Documents.{widget_at};
-ghost use Rattle.documents.specs.View.{shown};
 ghost use Rattle.documents.specs.Widgets.{keeps_some, thinned, with_peer};
 ghost use Rattle.documents.specs.Kept.{is_window_name};
 ghost use Rattle.documents.specs.WellFormed.{IsWellFormedDocument, window_names};
-ghost use Rattle.documents.specs.Promise.{Gives, Does, answered};
-ghost use Rattle.search_dump.specs.Counts.{counted};
 ghost use Rattle.tcl_words.specs.ListText.{list_text};
 ghost use Rattle.tcl_words.specs.Unread.{texts_of};
-ghost use Rattle.command_parts.specs.Words.{is_among};
-ghost use Rattle.command_parts.specs.declared.answers.Answer.TheVariants.{Empty};
-ghost use Rattle.documents.specs.Options.{AreLines, IsLine, settings_of, with_settings};
-ghost use Rattle.command_parts.specs.Settings.{is_behind};
-ghost use Rattle.text_model.specs.Lines.{line_of, line_start, lines};
+ghost use Rattle.command_effects.specs.Words.{is_among};
+ghost use Rattle.documents.specs.Options.{AreLines};
+ghost use Rattle.command_effects.specs.Settings.{is_behind};
+ghost use Rattle.text_model.specs.Lines.{lines};
 ghost use Rattle.text_model.specs.Content as model;
 ghost use Rattle.text_model.specs.declared.limits.TheConstants.Limits.{MOST_WIDGETS};
 ghost use Rattle.documents.specs.Documents.{characters};
-ghost use Rattle.command_parts.specs.Words.{is_same};
+ghost use Rattle.command_effects.specs.Words.{is_same};
 ghost use Rattle.std.specs.Prelude.{false, filter, not};
 
 use crate::documents::Document;
 use crate::options::anchor_at;
 use crate::seats::{make_seat, push_other_seats, remove_seats, slots_named, some_left};
-use command_parts::{Settings, prepare_drop};
+use command_effects::{Settings, prepare_drop};
 use edit_ops::Anchors;
 use std::alloc::AllocError;
 use text_model::{Limits, Text, TextStore};
@@ -77,14 +73,14 @@ impl<S: TextStore> Document<S> {
     }
 
     /// The names of the other widgets as a list, by their creation.
-    pub fn other_widgets(&self, widget: usize) -> Result<Text, AllocError>
-        requires { widget < length self.now.widgets }
+    pub fn other_widgets(&self, seat: usize) -> Result<Text, AllocError>
+        requires { seat < length self.now.widgets }
         ensures { IfOk result (λ list. list
-            ≡ list_text (filter (λ name. not (is_same name (widget_at self.now widget).name))
+            ≡ list_text (filter (λ name. not (is_same name (widget_at self.now seat).name))
             (window_names self.now))) }
     {
         let mut list = String::new(self.alloc);
-        push_other_seats(&mut list, &self.seats, self.seats.name(widget))?;
+        push_other_seats(&mut list, &self.seats, self.seats.name(seat))?;
         Ok(Text::new(list))
     }
 

@@ -5,7 +5,7 @@ use Rattle.std.specs.List.{take-map}
 use Rattle.std.specs.Prelude.{String, chars, string_bytes}
 use Rattle.command_table.specs.declared.shapes.Shape.{Shape}
 use Rattle.tcl_words.specs.Unread.{texts_of}
-use Rattle.peers.specs.Command.{arguments_of, switches_of}
+use Rattle.peers.specs.Commands.{arguments_of, switches_of}
 
 pub arguments-part : {Z : Type 0} (words : List (String Z)) (shape : Shape)
     → texts_of (take (length words - shape.arguments) (drop shape.arguments words))

@@ -10,20 +10,18 @@ use Rattle.text_model.specs.declared.places.Gravity.{Gravity}
 use Rattle.text_model.specs.declared.places.Place.{Place}
 use Rattle.command_table.specs.Numbers.{boolean_of}
 use Rattle.command_table.specs.declared.commands.Command.{Command}
-use Rattle.command_table.specs.declared.commands.Command.TheVariants.{Insert, Delete, Replace, Get, Index, Compare}
-use Rattle.command_table.specs.declared.commands.Command.TheVariants.{MarkGravity, MarkNames, MarkNext, MarkPrevious}
+use Rattle.command_table.specs.declared.commands.Command.TheVariants.{Insert, Delete, Replace}
+use Rattle.command_table.specs.declared.commands.Command.TheVariants.{MarkGravity}
 use Rattle.command_table.specs.declared.commands.Command.TheVariants.{MarkSet, MarkUnset, TagAdd, TagRemove, TagDelete}
-use Rattle.command_table.specs.declared.commands.Command.TheVariants.{TagNames, TagRanges, TagNextRange}
-use Rattle.command_table.specs.declared.commands.Command.TheVariants.{TagPreviousRange, TagRaise, TagLower, Configure}
-use Rattle.command_table.specs.declared.commands.Command.TheVariants.{Cget, EditUndo, EditRedo, EditModified, EditReset}
-use Rattle.command_table.specs.declared.commands.Command.TheVariants.{EditSeparator, Search, Count, Dump, PeerCreate}
-use Rattle.command_table.specs.declared.commands.Command.TheVariants.{PeerNames, Text, Destroy}
-use Rattle.command_parts.specs.Arguments.{first_of, first_two_of, none_or_one_of, one_or_two_of, two_of}
-use Rattle.command_parts.specs.Faults.{with_value}
-use Rattle.command_parts.specs.Lists.{Pair, pairs_at}
-use Rattle.command_parts.specs.Marking.{gravity_of}
-use Rattle.command_parts.specs.declared.answers.Fault.{Fault}
-use Rattle.command_parts.specs.declared.answers.Fault.TheVariants.{BadBoolean, IndexOrder}
+use Rattle.command_table.specs.declared.commands.Command.TheVariants.{TagRaise, TagLower, Configure}
+use Rattle.command_table.specs.declared.commands.Command.TheVariants.{EditUndo, EditRedo, EditModified, EditReset}
+use Rattle.command_table.specs.declared.commands.Command.TheVariants.{EditSeparator, PeerCreate}
+use Rattle.command_effects.specs.Arguments.{first_of, first_two_of, none_or_one_of, one_or_two_of, two_of}
+use Rattle.command_effects.specs.Faults.{with_value}
+use Rattle.command_effects.specs.Lists.{Pair, pairs_at}
+use Rattle.command_effects.specs.Marking.{gravity_of}
+use Rattle.command_effects.specs.declared.answers.Fault.{Fault}
+use Rattle.command_effects.specs.declared.answers.Fault.TheVariants.{BadBoolean, IndexOrder}
 use Rattle.documents.specs.Deletions.{delete_places, replace_span}
 use Rattle.documents.specs.Documents.{Document, Widget}
 use Rattle.documents.specs.History.{modified_set}
@@ -32,10 +30,10 @@ use Rattle.documents.specs.Marks.{mark_offset, place_named}
 use Rattle.documents.specs.Promise.{change_with, refused, unless_idle}
 use Rattle.documents.specs.Tags.{add_spans, lowered, raised, remove_spans, reordered}
 use Rattle.documents.specs.Texts.{insert_at, insertion_offset}
-use Rattle.documents.specs.View.{shown, view_end}
+use Rattle.documents.specs.Views.{shown, view_end}
 use Rattle.documents.proofs.CarriedLaws.{IsCarried, carried-active, carried-with}
 use Rattle.documents.proofs.IndexPlaceLaws.{place-within}
-use Rattle.peers.specs.Command.{Call, done}
+use Rattle.peers.specs.Commands.{Call, done}
 use Rattle.peers.specs.Deletions.{delete, replace, replace_places, replace_words}
 use Rattle.peers.specs.History.{edit_modified, modified_word}
 use Rattle.peers.specs.Marks.{gravity_asked, gravity_given, gravity_words, mark_gravity, mark_set, set_at, set_words}
@@ -51,25 +49,25 @@ value-there : {A B : Type 0} (found : Result A Fault) (next : A → Result B Fau
 value-there (Ok value) next made is = (value, refl, is)
 value-there (Err fault) next made is = absurd (let h : Err fault ≡ Ok made = is in cc)
 
-places-within : (document : Document) (widget : Widget) (at : ℕ) (words : List (List ℕ)) (places : List ℕ) →
+places-within : (document : Document) (widget : Widget) (position : ℕ) (words : List (List ℕ)) (places : List ℕ) →
     view_end document widget ≤ length document.cells
-    → places_at document widget at words ≡ Ok places → All (λ place. place ≤ length (shown document widget)) places
-places-within document widget at [] [] within is = All-nil (λ place. place ≤ length (shown document widget))
-places-within document widget at [] (place ∷ places) within is =
+    → places_at document widget position words ≡ Ok places → All (λ place. place ≤ length (shown document widget)) places
+places-within document widget position [] [] within is = All-nil (λ place. place ≤ length (shown document widget))
+places-within document widget position [] (place ∷ places) within is =
     absurd (let h : Ok [] ≡ Ok (place ∷ places) = is in let e : [] ≡ place ∷ places = cc in cc)
-places-within document widget at (word ∷ words) [] within is =
-    let one = value-there (place_at document widget at word)
-    (λ place. with_value (places_at document widget (suc at) words) (λ places. Ok (place ∷ places))) [] is in
+places-within document widget position (word ∷ words) [] within is =
+    let one = value-there (place_at document widget position word)
+    (λ place. with_value (places_at document widget (suc position) words) (λ places. Ok (place ∷ places))) [] is in
     let place = one.0 in
-    let rest = value-there (places_at document widget (suc at) words) (λ places. Ok (place ∷ places)) [] one.2 in
+    let rest = value-there (places_at document widget (suc position) words) (λ places. Ok (place ∷ places)) [] one.2 in
     let others = rest.0 in
     absurd (let h : Ok (place ∷ others) ≡ Ok [] = rest.2 in let e : place ∷ others ≡ [] = cc in cc)
-places-within document widget at (word ∷ words) (first ∷ places) within is =
-    let one = value-there (place_at document widget at word) (λ place.
-    with_value (places_at document widget (suc at) words) (λ places. Ok (place ∷ places)))
+places-within document widget position (word ∷ words) (first ∷ places) within is =
+    let one = value-there (place_at document widget position word) (λ place.
+    with_value (places_at document widget (suc position) words) (λ places. Ok (place ∷ places)))
     (first ∷ places) is in
     let place = one.0 in
-    let rest = value-there (places_at document widget (suc at) words) (λ places. Ok (place ∷ places)) (first ∷ places)
+    let rest = value-there (places_at document widget (suc position) words) (λ places. Ok (place ∷ places)) (first ∷ places)
     one.2 in
     let others = rest.0 in
     let whole : Ok (place ∷ others) ≡ Ok (first ∷ places) = rest.2 in
@@ -77,8 +75,8 @@ places-within document widget at (word ∷ words) (first ∷ places) within is =
     let head : place ≡ first = cc in
     let tail : others ≡ places = cc in
     All-cons (λ place. place ≤ length (shown document widget)) first places
-    (place-within document widget at word first within (one.1 ∙ ap Ok head))
-    (places-within document widget (suc at) words places within (rest.1 ∙ ap Ok tail))
+    (place-within document widget position word first within (one.1 ∙ ap Ok head))
+    (places-within document widget (suc position) words places within (rest.1 ∙ ap Ok tail))
 
 -- ---- by their words
 
@@ -91,23 +89,23 @@ IsOther command = ⊥
 
 -- the call of a widget's command with these words
 abbrev pub calling : LimitTable → List (List ℕ) → Widget → List (List ℕ) → ℕ → List (List ℕ) → Call
-calling limits windows widget switches at arguments = record {
+calling limits windows widget switches position arguments = record {
   limits = limits;
   windows = windows;
   widget = widget;
   switches = switches;
-  at = at;
+  position = position;
   arguments = arguments;
 }
 
 module _ (limits : LimitTable) (document : Document) (widget : Widget) (P : Document →
     Type 0) (carried : IsCarried limits document widget P) where
-  inserts : (at : ℕ) (words : List (List ℕ)) → P (insert limits document widget at words).document
-  inserts at words =
-      carried-with P document (first_of words) (insert_words limits document widget at) carried.same (λ given _.
-      carried-with P document (place_at document widget at given.0)
-      (insert_pairs limits document widget (pairs_at (at + 1) given.1)) carried.same (λ place _.
-      carried-with P document (pairs_at (at + 1) given.1)
+  inserts : (position : ℕ) (words : List (List ℕ)) → P (insert limits document widget position words).document
+  inserts position words =
+      carried-with P document (first_of words) (insert_words limits document widget position) carried.same (λ given _.
+      carried-with P document (place_at document widget position given.0)
+      (insert_pairs limits document widget (pairs_at (position + 1) given.1)) carried.same (λ place _.
+      carried-with P document (pairs_at (position + 1) given.1)
       (λ pairs. unless_idle widget document (insert_at limits document widget (insertion_offset document widget place)
       pairs)) carried.same (λ pairs _.
       carried-active P document widget (insert_at limits document widget (insertion_offset document widget place) pairs)
@@ -126,106 +124,106 @@ module _ (limits : LimitTable) (document : Document) (widget : Widget) (P : Docu
             carried.replaced from to pairs busy (ltb-false to from ordered))
       ] refl
 
-  replaces : (at : ℕ) (words : List (List ℕ)) → P (replace limits document widget at words).document
-  replaces at words =
-      carried-with P document (first_two_of words) (replace_words limits document widget at) carried.same (λ given _.
-      carried-with P document (place_at document widget at given.0) (λ from.
-      change_with document (place_at document widget (at + 1) given.1) (λ to.
-      change_with document (pairs_at (at + 2) given.2) (replace_places limits document widget (at + 1) from to)))
+  replaces : (position : ℕ) (words : List (List ℕ)) → P (replace limits document widget position words).document
+  replaces position words =
+      carried-with P document (first_two_of words) (replace_words limits document widget position) carried.same (λ given _.
+      carried-with P document (place_at document widget position given.0) (λ from.
+      change_with document (place_at document widget (position + 1) given.1) (λ to.
+      change_with document (pairs_at (position + 2) given.2) (replace_places limits document widget (position + 1) from to)))
       carried.same (λ from _.
-      carried-with P document (place_at document widget (at + 1) given.1) (λ to.
-      change_with document (pairs_at (at + 2) given.2) (replace_places limits document widget (at + 1) from to))
+      carried-with P document (place_at document widget (position + 1) given.1) (λ to.
+      change_with document (pairs_at (position + 2) given.2) (replace_places limits document widget (position + 1) from to))
       carried.same (λ to _.
-      carried-with P document (pairs_at (at + 2) given.2) (replace_places limits document widget (at + 1) from to)
+      carried-with P document (pairs_at (position + 2) given.2) (replace_places limits document widget (position + 1) from to)
       carried.same (λ pairs _.
-      replaces-places (at + 1) from to pairs))))
+      replaces-places (position + 1) from to pairs))))
 
-  deletes : (at : ℕ) (words : List (List ℕ)) → P (delete document widget at words).document
-  deletes at words =
-      carried-with P document (places_at document widget at words) (λ places.
+  deletes : (position : ℕ) (words : List (List ℕ)) → P (delete document widget position words).document
+  deletes position words =
+      carried-with P document (places_at document widget position words) (λ places.
       unless_idle widget document (delete_places document widget places)) carried.same
       (λ places is.
       carried-active P document widget (delete_places document widget places) carried.same (λ busy.
-      carried.deleted places busy (λ within. places-within document widget at words places within is)))
+      carried.deleted places busy (λ within. places-within document widget position words places within is)))
 
-  sets : (at : ℕ) (words : List (List ℕ)) → P (mark_set limits document widget at words).document
-  sets at words =
-      carried-with P document (two_of words) (set_words limits document widget at) carried.same (λ given _.
-      carried-with P document (place_at document widget (at + 1) given.1) (set_at limits document widget given.0)
+  sets : (position : ℕ) (words : List (List ℕ)) → P (mark_set limits document widget position words).document
+  sets position words =
+      carried-with P document (two_of words) (set_words limits document widget position) carried.same (λ given _.
+      carried-with P document (place_at document widget (position + 1) given.1) (set_at limits document widget given.0)
       carried.same (λ place _.
       carried.set given.0 (mark_offset document widget given.0 place) (place_named document widget given.0)))
 
-  asks-gravity : (at : ℕ) (found : Option Place) → P (gravity_asked document at found).document
-  asks-gravity at None = carried.same
-  asks-gravity at (Some place) = carried.same
+  asks-gravity : (position : ℕ) (found : Option Place) → P (gravity_asked document position found).document
+  asks-gravity position None = carried.same
+  asks-gravity position (Some place) = carried.same
 
-  gives-gravity : (at : ℕ) (name : List ℕ) (found : Option Place) (gravity : Option Gravity) →
-      P (gravity_given document widget at name found gravity).document
-  gives-gravity at name None gravity = carried.same
-  gives-gravity at name (Some place) None = carried.same
-  gives-gravity at name (Some place) (Some gravity) = carried.turned name (record place { gravity = gravity })
+  gives-gravity : (position : ℕ) (name : List ℕ) (found : Option Place) (gravity : Option Gravity) →
+      P (gravity_given document widget position name found gravity).document
+  gives-gravity position name None gravity = carried.same
+  gives-gravity position name (Some place) None = carried.same
+  gives-gravity position name (Some place) (Some gravity) = carried.turned name (record place { gravity = gravity })
 
-  turns-words : (at : ℕ) (words : List ℕ × Option (List ℕ)) → P (gravity_words document widget at words).document
-  turns-words at (name, None) = asks-gravity at (place_named document widget name)
-  turns-words at (name, Some word) = gives-gravity at name (place_named document widget name) (gravity_of word)
+  turns-words : (position : ℕ) (words : List ℕ × Option (List ℕ)) → P (gravity_words document widget position words).document
+  turns-words position (name, None) = asks-gravity position (place_named document widget name)
+  turns-words position (name, Some word) = gives-gravity position name (place_named document widget name) (gravity_of word)
 
-  turns : (at : ℕ) (words : List (List ℕ)) → P (mark_gravity document widget at words).document
-  turns at words = carried-with P document (one_or_two_of words) (gravity_words document widget at) carried.same
-      (λ given _. turns-words at given)
+  turns : (position : ℕ) (words : List (List ℕ)) → P (mark_gravity document widget position words).document
+  turns position words = carried-with P document (one_or_two_of words) (gravity_words document widget position) carried.same
+      (λ given _. turns-words position given)
 
-  adds : (at : ℕ) (words : List (List ℕ)) → P (tag_add limits document widget at words).document
-  adds at words =
-      carried-with P document (first_of words) (add_words limits document widget at) carried.same (λ given _.
-      carried-with P document (places_at document widget (at + 1) given.1) (add_spans limits document widget given.0)
+  adds : (position : ℕ) (words : List (List ℕ)) → P (tag_add limits document widget position words).document
+  adds position words =
+      carried-with P document (first_of words) (add_words limits document widget position) carried.same (λ given _.
+      carried-with P document (places_at document widget (position + 1) given.1) (add_spans limits document widget given.0)
       carried.same (λ places _.
       carried.added given.0 places))
 
-  removes : (at : ℕ) (words : List (List ℕ)) → P (tag_remove document widget at words).document
-  removes at words =
-      carried-with P document (first_of words) (remove_words document widget at) carried.same (λ given _.
-      carried-with P document (places_at document widget (at + 1) given.1) (remove_spans document widget given.0)
+  removes : (position : ℕ) (words : List (List ℕ)) → P (tag_remove document widget position words).document
+  removes position words =
+      carried-with P document (first_of words) (remove_words document widget position) carried.same (λ given _.
+      carried-with P document (places_at document widget (position + 1) given.1) (remove_spans document widget given.0)
       carried.same (λ places _.
       carried.removed given.0 places))
 
-  raises : (at : ℕ) (words : List (List ℕ)) → P (tag_raise document at words).document
-  raises at words = carried-with P document (one_or_two_of words) (reordered document at raised) carried.same
-      (λ given _. carried.ordered at raised given)
+  raises : (position : ℕ) (words : List (List ℕ)) → P (tag_raise document position words).document
+  raises position words = carried-with P document (one_or_two_of words) (reordered document position raised) carried.same
+      (λ given _. carried.ordered position raised given)
 
-  lowers : (at : ℕ) (words : List (List ℕ)) → P (tag_lower document at words).document
-  lowers at words = carried-with P document (one_or_two_of words) (reordered document at lowered) carried.same
-      (λ given _. carried.ordered at lowered given)
+  lowers : (position : ℕ) (words : List (List ℕ)) → P (tag_lower document position words).document
+  lowers position words = carried-with P document (one_or_two_of words) (reordered document position lowered) carried.same
+      (λ given _. carried.ordered position lowered given)
 
-  modifies-word : (at : ℕ) (word : Option (List ℕ)) → P (modified_word document at word).document
-  modifies-word at None = carried.same
-  modifies-word at (Some word) =
-      carried-with P document (ok_or (boolean_of word) (BadBoolean at)) (modified_set document) carried.same (λ flag _.
+  modifies-word : (position : ℕ) (word : Option (List ℕ)) → P (modified_word document position word).document
+  modifies-word position None = carried.same
+  modifies-word position (Some word) =
+      carried-with P document (ok_or (boolean_of word) (BadBoolean position)) (modified_set document) carried.same (λ flag _.
       carried.modified flag)
 
-  modifies : (at : ℕ) (words : List (List ℕ)) → P (edit_modified document at words).document
-  modifies at words = carried-with P document (none_or_one_of words) (modified_word document at) carried.same (λ word _.
-      modifies-word at word)
+  modifies : (position : ℕ) (words : List (List ℕ)) → P (edit_modified document position words).document
+  modifies position words = carried-with P document (none_or_one_of words) (modified_word document position) carried.same (λ word _.
+      modifies-word position word)
 
   -- ---- any command but three
 
-  pub carried-done : (command : Command) (windows switches : List (List ℕ)) (at : ℕ) (arguments : List (List ℕ))
-      → (IsOther command → P (done command document (calling limits windows widget switches at arguments)).document)
-      → P (done command document (calling limits windows widget switches at arguments)).document
-  carried-done Insert windows switches at arguments other = inserts at arguments
-  carried-done Delete windows switches at arguments other = deletes at arguments
-  carried-done Replace windows switches at arguments other = replaces at arguments
-  carried-done MarkGravity windows switches at arguments other = turns at arguments
-  carried-done MarkSet windows switches at arguments other = sets at arguments
-  carried-done MarkUnset windows switches at arguments other = carried.unset arguments
-  carried-done TagAdd windows switches at arguments other = adds at arguments
-  carried-done TagRemove windows switches at arguments other = removes at arguments
-  carried-done TagDelete windows switches at arguments other = carried.untagged arguments
-  carried-done TagRaise windows switches at arguments other = raises at arguments
-  carried-done TagLower windows switches at arguments other = lowers at arguments
-  carried-done Configure windows switches at arguments other = other tt
-  carried-done EditUndo windows switches at arguments other = carried.undone
-  carried-done EditRedo windows switches at arguments other = carried.redone
-  carried-done EditModified windows switches at arguments other = modifies at arguments
-  carried-done EditReset windows switches at arguments other = other tt
-  carried-done EditSeparator windows switches at arguments other = carried.separated
-  carried-done PeerCreate windows switches at arguments other = other tt
-  carried-done command windows switches at arguments other = carried.same
+  pub carried-done : (command : Command) (windows switches : List (List ℕ)) (position : ℕ) (arguments : List (List ℕ))
+      → (IsOther command → P (done command document (calling limits windows widget switches position arguments)).document)
+      → P (done command document (calling limits windows widget switches position arguments)).document
+  carried-done Insert windows switches position arguments other = inserts position arguments
+  carried-done Delete windows switches position arguments other = deletes position arguments
+  carried-done Replace windows switches position arguments other = replaces position arguments
+  carried-done MarkGravity windows switches position arguments other = turns position arguments
+  carried-done MarkSet windows switches position arguments other = sets position arguments
+  carried-done MarkUnset windows switches position arguments other = carried.unset arguments
+  carried-done TagAdd windows switches position arguments other = adds position arguments
+  carried-done TagRemove windows switches position arguments other = removes position arguments
+  carried-done TagDelete windows switches position arguments other = carried.untagged arguments
+  carried-done TagRaise windows switches position arguments other = raises position arguments
+  carried-done TagLower windows switches position arguments other = lowers position arguments
+  carried-done Configure windows switches position arguments other = other tt
+  carried-done EditUndo windows switches position arguments other = carried.undone
+  carried-done EditRedo windows switches position arguments other = carried.redone
+  carried-done EditModified windows switches position arguments other = modifies position arguments
+  carried-done EditReset windows switches position arguments other = other tt
+  carried-done EditSeparator windows switches position arguments other = carried.separated
+  carried-done PeerCreate windows switches position arguments other = other tt
+  carried-done command windows switches position arguments other = carried.same

@@ -16,13 +16,13 @@ use Rattle.command_table.specs.declared.commands.Command.{Command}
 use Rattle.command_table.specs.declared.commands.Command.TheVariants.{Configure, EditReset, PeerCreate}
 use Rattle.command_table.specs.declared.shapes.Shape.{Shape}
 use Rattle.command_table.specs.declared.shapes.ShapeFault.{ShapeFault}
-use Rattle.command_parts.proofs.CountLaws.{among-append}
-use Rattle.command_parts.specs.declared.answers.Answer.TheVariants.{Word}
-use Rattle.command_parts.specs.declared.answers.Fault.{Fault}
-use Rattle.command_parts.specs.declared.answers.Fault.TheVariants.{InvalidCommandName, TooManyWidgets, WindowExists}
-use Rattle.command_parts.specs.declared.settings.Settings.{Settings}
-use Rattle.command_parts.specs.Settings.{first_settings}
-use Rattle.command_parts.specs.Words.{is_among, is_same, literal}
+use Rattle.command_effects.proofs.CountLaws.{among-append}
+use Rattle.command_effects.specs.declared.answers.Answer.TheVariants.{Word}
+use Rattle.command_effects.specs.declared.answers.Fault.{Fault}
+use Rattle.command_effects.specs.declared.answers.Fault.TheVariants.{InvalidCommandName, TooManyWidgets, WindowExists}
+use Rattle.command_effects.specs.declared.settings.Settings.{Settings}
+use Rattle.command_effects.specs.Settings.{first_settings}
+use Rattle.command_effects.specs.Words.{is_among, is_same, literal}
 use Rattle.documents.specs.Documents.{Document, Widget, characters}
 use Rattle.documents.specs.History.{edit_reset}
 use Rattle.documents.specs.Kept.{is_window_name}
@@ -34,12 +34,12 @@ use Rattle.documents.proofs.LeadLaws.{Leads}
 use Rattle.documents.proofs.NewNameLaws.{AreNamed, named-carried, named-same}
 use Rattle.documents.proofs.OptionLeadLaws.{leads-first, leads-left}
 use Rattle.documents.proofs.WidgetLeadLaws.{leads-carried}
-use Rattle.peers.specs.Command.{arguments_of, command, done, shaped, switches_of}
+use Rattle.peers.specs.Commands.{arguments_of, command, done, shaped, switches_of}
 use Rattle.peers.specs.Options.{settings_given}
 use Rattle.peers.specs.Step.{Outcome, changed, create, create_new, create_shaped, create_with, destroy, destroy_shaped}
 use Rattle.peers.specs.Step.{on_found, on_home, on_widget, refuses, step}
-use Rattle.peers.specs.Undoing.{AreSpared, BeginsToKeep, after_all, forgets, forgets_read, is_forgotten, is_spared}
-use Rattle.peers.specs.Undoing.{names_dropped, names_read, place_after, place_after_all, text_at}
+use Rattle.peers.specs.Laws.{AreSpared, BeginsToKeep, after_all, forgets, forgets_read, is_forgotten, is_spared}
+use Rattle.peers.specs.Laws.{names_dropped, names_read, place_after, place_after_all, text_at}
 use Rattle.peers.specs.WellFormed.{IsWellFormed}
 use Rattle.peers.specs.World.{World, all_windows, document_at, home, windows_of}
 use Rattle.peers.proofs.DoneLaws.{IsOther, calling, carried-done}
@@ -60,24 +60,24 @@ pub record Follows (start : List ℕ) (world : World) (place : ℕ) : Type 0 whe
 -- ---- a command of a widget
 
 module _ (limits : LimitTable) (windows : List (List ℕ)) (document : Document) (widget : Widget) where
-  leads-other : (start : List ℕ) (switches : List (List ℕ)) (at : ℕ) (arguments : List (List ℕ)) (given : Command) →
+  leads-other : (start : List ℕ) (switches : List (List ℕ)) (position : ℕ) (arguments : List (List ℕ)) (given : Command) →
       Leads limits.chars start document
-      → (is_ok (done given document (calling limits windows widget switches at arguments)).reply && forgets given arguments)
+      → (is_ok (done given document (calling limits windows widget switches position arguments)).reply && forgets given arguments)
       ≡ false → IsOther given
-      → Leads limits.chars start (done given document (calling limits windows widget switches at arguments)).document
-  leads-other start switches at arguments Configure leads spared other =
-      leads-configured limits.chars start document widget at arguments leads spared
-  leads-other start switches at arguments EditReset leads spared other = absurd (true≢false spared)
-  leads-other start switches at arguments PeerCreate leads spared other =
-      leads-peered limits windows document widget at limits.chars start arguments leads spared
-  leads-other start switches at arguments given leads spared other = absurd other
+      → Leads limits.chars start (done given document (calling limits windows widget switches position arguments)).document
+  leads-other start switches position arguments Configure leads spared other =
+      leads-configured limits.chars start document widget position arguments leads spared
+  leads-other start switches position arguments EditReset leads spared other = absurd (true≢false spared)
+  leads-other start switches position arguments PeerCreate leads spared other =
+      leads-peered limits windows document widget position limits.chars start arguments leads spared
+  leads-other start switches position arguments given leads spared other = absurd other
 
-  named-other : (switches : List (List ℕ)) (at : ℕ) (arguments : List (List ℕ)) (given : Command) → IsOther given
-      → AreNamed windows document (done given document (calling limits windows widget switches at arguments)).document
-  named-other switches at arguments Configure other = named-configured windows document widget at arguments
-  named-other switches at arguments EditReset other = named-same windows document (edit_reset document).document refl
-  named-other switches at arguments PeerCreate other = named-peered limits windows document widget at arguments
-  named-other switches at arguments given other = absurd other
+  named-other : (switches : List (List ℕ)) (position : ℕ) (arguments : List (List ℕ)) (given : Command) → IsOther given
+      → AreNamed windows document (done given document (calling limits windows widget switches position arguments)).document
+  named-other switches position arguments Configure other = named-configured windows document widget position arguments
+  named-other switches position arguments EditReset other = named-same windows document (edit_reset document).document refl
+  named-other switches position arguments PeerCreate other = named-peered limits windows document widget position arguments
+  named-other switches position arguments given other = absurd other
 
   leads-shaped : (start name : List ℕ) (words : List (List ℕ)) (read : Result Shape ShapeFault) →
       Leads limits.chars start document

@@ -6,11 +6,11 @@ use Rattle.std.specs.Prelude.{find, nat_lt, slice_set, if◌then◌else◌}
 use Rattle.std.specs.List.{AllByRecursion}
 use Rattle.std.proofs.lemmas.Bool.{lt-ltb, ltb-true}
 use Rattle.std.proofs.lemmas.Slice.Eq.{bytes_eq-Decides}
-use Rattle.command_parts.specs.Words.{is_among, is_same}
+use Rattle.command_effects.specs.Words.{is_among, is_same}
 use Rattle.documents.specs.Documents.{Document, Widget}
 use Rattle.documents.specs.WellFormed.{window_names}
 use Rattle.documents.specs.Widgets.{is_kept, keeps_some, widget_named, without_widgets}
-use Rattle.command_parts.proofs.CountLaws.{among-append}
+use Rattle.command_effects.proofs.CountLaws.{among-append}
 use Rattle.peers.specs.Step.{has_widgets}
 use Rattle.peers.specs.World.{document_at, home, windows_of}
 use Rattle.peers.proofs.WorldLaws.{left-names}

@@ -5,11 +5,11 @@ use Rattle.std.specs.Prelude.{filter, if◌then◌else◌}
 use Rattle.std.proofs.lemmas.List.{take_rest, append_assoc, append-nil}
 use Rattle.tcl_words.specs.ListGrowth.{Goes}
 use Rattle.peers.specs.Texts.{text_of, texts_of_places, got}
-use Rattle.command_parts.specs.Listing.{is_filled}
-use Rattle.command_parts.specs.declared.answers.Answer.TheVariants.{Text}
+use Rattle.command_effects.specs.Listing.{is_filled}
+use Rattle.command_effects.specs.declared.answers.Answer.TheVariants.{Text}
 use Rattle.documents.specs.Documents.{Document, Widget}
 use Rattle.tcl_words.proofs.ListGrowth.{goes_on}
-use Rattle.command_parts.proofs.WrittenLaws.{filter-append}
+use Rattle.command_effects.proofs.WrittenLaws.{filter-append}
 
 -- the texts before some places are listed
 pub record AreGot (document : Document) (widget : Widget) (places rest : List ℕ) (old new : List ℕ) : Type 0 where

@@ -1,15 +1,14 @@
 -- Where widgets are found, as documents and widgets come and go. A document is known by the names of its widgets here.
-use Rattle.std.proofs.Common.{◌≡◌, ℕ, zero, suc, ◌+◌, ◌-◌, ◌<◌, ◌≤◌, Bool, true, false, cond, not, List, [], ◌∷◌, ◌++◌}
+use Rattle.std.proofs.Common.{◌≡◌, ℕ, zero, suc, ◌+◌, ◌-◌, ◌<◌, ◌≤◌, Bool, true, false, cond, List, [], ◌∷◌, ◌++◌}
 use Rattle.std.proofs.Common.{length, map, take, drop, get_or, replicate, insert, slice_set, filter, flat_map}
-use Rattle.std.proofs.Common.{option_map, is_some, Option, Some, None, if◌then◌else◌, refl, sym, ap, ap₂, subst, ◌∙◌}
+use Rattle.std.proofs.Common.{option_map, is_some, Option, Some, None, if◌then◌else◌, refl, sym, ap, ap₂, ◌∙◌}
 use Rattle.std.proofs.Common.{append_assoc, append-nil, arith}
 use Rattle.std.specs.Prelude.{◌||◌}
-use Rattle.std.specs.List.{list_any}
 use Rattle.std.proofs.lemmas.List.{map-append, length-append, length-map, length-replicate, length-take, take-append-le}
-use Rattle.std.proofs.lemmas.List.{take_all, take_more, drop_all, flat_map_more}
+use Rattle.std.proofs.lemmas.List.{take_all, take_more}
 use lib.Seq.{take-append-add}
 use Rattle.std.proofs.lemmas.List.Edits.{insert_end, insert-append_left, insert-append_right}
-use Rattle.command_parts.specs.Words.{is_among, is_same}
+use Rattle.command_effects.specs.Words.{is_among, is_same}
 use Rattle.peers.specs.Windows.{Homes, homes_from, home_in, names_in, places_in}
 
 -- the widgets of one document at a place

@@ -6,16 +6,16 @@ use Rattle.text_model.specs.Lines.{lines}
 use Rattle.text_model.specs.LimitTable.{LimitTable}
 use Rattle.undo_stack.specs.History.{limit_of}
 use Rattle.command_table.specs.Numbers.{boolean_of, integer_of}
-use Rattle.command_parts.specs.declared.answers.Answer.TheVariants.{Empty, Word}
-use Rattle.command_parts.specs.declared.answers.Fault.{Fault}
-use Rattle.command_parts.specs.declared.answers.Fault.TheVariants.{BadBoolean, BadInteger, BadOption}
-use Rattle.command_parts.specs.declared.answers.Fault.TheVariants.{InvalidCommandName, StartLineAfterEndLine}
-use Rattle.command_parts.specs.declared.answers.Fault.TheVariants.{TooManyWidgets, WindowExists}
-use Rattle.command_parts.specs.declared.settings.Settings.{Settings}
-use Rattle.command_parts.specs.Faults.{with_value}
-use Rattle.command_parts.specs.Settings.{end_bound, is_behind, line_of_word, setting_read, settings_checked}
-use Rattle.command_parts.specs.Settings.{settings_read, start_bound, state_of}
-use Rattle.command_parts.specs.Words.{is_among, is_same, literal}
+use Rattle.command_effects.specs.declared.answers.Answer.TheVariants.{Empty, Word}
+use Rattle.command_effects.specs.declared.answers.Fault.{Fault}
+use Rattle.command_effects.specs.declared.answers.Fault.TheVariants.{BadBoolean, BadInteger, BadOption}
+use Rattle.command_effects.specs.declared.answers.Fault.TheVariants.{InvalidCommandName, StartLineAfterEndLine}
+use Rattle.command_effects.specs.declared.answers.Fault.TheVariants.{TooManyWidgets, WindowExists}
+use Rattle.command_effects.specs.declared.settings.Settings.{Settings}
+use Rattle.command_effects.specs.Faults.{with_value}
+use Rattle.command_effects.specs.Settings.{end_bound, is_behind, line_of_word, setting_read, settings_checked}
+use Rattle.command_effects.specs.Settings.{settings_read, start_bound, state_of}
+use Rattle.command_effects.specs.Words.{is_among, is_same, literal}
 use Rattle.documents.specs.Documents.{Document, Widget, characters}
 use Rattle.documents.specs.Kept.{is_window_name}
 use Rattle.documents.specs.Options.{AreLines, settings_of, with_settings}
@@ -26,8 +26,8 @@ use Rattle.documents.proofs.NamesKeptLaws.{settings-kept}
 use Rattle.documents.proofs.NewNameLaws.{AreNamed, named-peer, named-same}
 use Rattle.documents.proofs.OptionLeadLaws.{leads-peer, leads-settings, own-lines}
 use Rattle.peers.specs.Options.{configure, settings_given}
-use Rattle.peers.specs.Peers.{peer_create, peer_settings, peer_with}
-use Rattle.peers.specs.Undoing.{sets_keeping}
+use Rattle.peers.specs.Widgets.{peer_create, peer_settings, peer_with}
+use Rattle.peers.specs.Laws.{sets_keeping}
 use Rattle.peers.proofs.OptionLaws.{given-lines}
 
 -- ---- options
@@ -47,14 +47,14 @@ through old (Err fault) next keeps = tt
 
 -- an option other than the first two
 abbrev third : ℕ → ℕ → List ℕ → List ℕ → Settings → Result Settings Fault
-third lines at option value settings =
-    if is_same option (literal "-autoseparators") then with_value (ok_or (boolean_of value) (BadBoolean at))
+third lines position option value settings =
+    if is_same option (literal "-autoseparators") then with_value (ok_or (boolean_of value) (BadBoolean position))
     (λ separators. Ok (record settings { document = record settings.document { separators = separators } }))
-    else (if is_same option (literal "-state") then with_value (ok_or (state_of value) (BadOption at))
+    else (if is_same option (literal "-state") then with_value (ok_or (state_of value) (BadOption position))
     (λ disabled. Ok (record settings { disabled = disabled }))
-    else (if is_same option (literal "-startline") then with_value (ok_or (line_of_word value) (BadInteger at))
+    else (if is_same option (literal "-startline") then with_value (ok_or (line_of_word value) (BadInteger position))
     (λ line. Ok (record settings { start = start_bound lines line }))
-    else with_value (ok_or (line_of_word value) (BadInteger at)) (λ line.
+    else with_value (ok_or (line_of_word value) (BadInteger position)) (λ line.
     Ok (record settings { end = end_bound lines line }))))
 
 if-keeps : (old : Settings) (test : Bool) (one other : Result Settings Fault) → IfOk one (Keeps old) →
@@ -63,50 +63,50 @@ if-keeps : (old : Settings) (test : Bool) (one other : Result Settings Fault) �
 if-keeps old true one other first second = first
 if-keeps old false one other first second = second
 
-third-keeps : (lines at : ℕ) (option value : List ℕ) (settings : Settings) →
-    IfOk (third lines at option value settings) (Keeps settings)
-third-keeps lines at option value settings =
-    let separators = with_value (ok_or (boolean_of value) (BadBoolean at))
+third-keeps : (lines position : ℕ) (option value : List ℕ) (settings : Settings) →
+    IfOk (third lines position option value settings) (Keeps settings)
+third-keeps lines position option value settings =
+    let separators = with_value (ok_or (boolean_of value) (BadBoolean position))
     (λ separators. Ok (record settings { document = record settings.document { separators = separators } })) in
-    let state = with_value (ok_or (state_of value) (BadOption at)) (λ disabled.
+    let state = with_value (ok_or (state_of value) (BadOption position)) (λ disabled.
     Ok (record settings { disabled = disabled })) in
-    let start = with_value (ok_or (line_of_word value) (BadInteger at)) (λ line.
+    let start = with_value (ok_or (line_of_word value) (BadInteger position)) (λ line.
     Ok (record settings { start = start_bound lines line })) in
-    let end = with_value (ok_or (line_of_word value) (BadInteger at)) (λ line.
+    let end = with_value (ok_or (line_of_word value) (BadInteger position)) (λ line.
     Ok (record settings { end = end_bound lines line })) in
     if-keeps settings (is_same option (literal "-autoseparators")) separators
     (if is_same option (literal "-state") then state
     else (if is_same option (literal "-startline") then start else end))
-    (through settings (ok_or (boolean_of value) (BadBoolean at))
+    (through settings (ok_or (boolean_of value) (BadBoolean position))
     (λ separators. record settings { document = record settings.document { separators = separators } }) (λ _.
     record { undo = refl; most = refl }))
     (if-keeps settings (is_same option (literal "-state")) state (if is_same option (literal "-startline") then start
     else end)
-    (through settings (ok_or (state_of value) (BadOption at)) (λ disabled. record settings { disabled = disabled })
+    (through settings (ok_or (state_of value) (BadOption position)) (λ disabled. record settings { disabled = disabled })
     (λ _. record { undo = refl; most = refl }))
     (if-keeps settings (is_same option (literal "-startline")) start end
-    (through settings (ok_or (line_of_word value) (BadInteger at)) (λ line.
+    (through settings (ok_or (line_of_word value) (BadInteger position)) (λ line.
     record settings { start = start_bound lines line })
     (λ _. record { undo = refl; most = refl }))
-    (through settings (ok_or (line_of_word value) (BadInteger at)) (λ line.
+    (through settings (ok_or (line_of_word value) (BadInteger position)) (λ line.
     record settings { end = end_bound lines line })
     (λ _. record { undo = refl; most = refl }))))
 
-one-keeps : (lines at : ℕ) (option value : List ℕ) (settings : Settings) → is_same option (literal "-undo") ≡ false
+one-keeps : (lines position : ℕ) (option value : List ℕ) (settings : Settings) → is_same option (literal "-undo") ≡ false
     → is_same option (literal "-maxundo") ≡ false
-    → IfOk (setting_read lines at option value settings) (Keeps settings)
-one-keeps lines at option value settings no_undo no_most =
+    → IfOk (setting_read lines position option value settings) (Keeps settings)
+one-keeps lines position option value settings no_undo no_most =
     let undo : Result Settings Fault =
-    with_value (ok_or (boolean_of value) (BadBoolean at)) (λ undo.
+    with_value (ok_or (boolean_of value) (BadBoolean position)) (λ undo.
     Ok (record settings { document = record settings.document { undo = undo } })) in
     let most : Result Settings Fault =
-    with_value (ok_or (integer_of value) (BadInteger at)) (λ most.
+    with_value (ok_or (integer_of value) (BadInteger position)) (λ most.
     Ok (record settings { document = record settings.document { most_undo = most } })) in
-    let rest : Result Settings Fault = third lines at option value settings in
-    let is : setting_read lines at option value settings ≡ rest =
+    let rest : Result Settings Fault = third lines position option value settings in
+    let is : setting_read lines position option value settings ≡ rest =
     ap (λ b. if b then undo else (if is_same option (literal "-maxundo") then most else rest)) no_undo
     ∙ ap (λ b. if b then most else rest) no_most in
-    subst (λ r. IfOk r (Keeps settings)) (sym is) (third-keeps lines at option value settings)
+    subst (λ r. IfOk r (Keeps settings)) (sym is) (third-keeps lines position option value settings)
 
 neither : (a b c : Bool) → (a || b || c) ≡ false → (a ≡ false) × (b ≡ false) × (c ≡ false)
 neither true b c is = absurd (true≢false is)
@@ -123,16 +123,16 @@ onward old (Ok between) next keeps later = last (next between) (later between)
     last (Err fault) kept = tt
     last (Ok new) kept = record { undo = kept.undo ∙ keeps.undo; most = kept.most ∙ keeps.most }
 
-all-keep : (lines at : ℕ) (words : List (List ℕ)) (settings : Settings) → sets_keeping words ≡ false
-    → IfOk (settings_read lines at words settings) (Keeps settings)
-all-keep lines at [] settings none = keeps-all settings
-all-keep lines at (option ∷ []) settings none = tt
-all-keep lines at (option ∷ value ∷ words) settings none =
+all-keep : (lines position : ℕ) (words : List (List ℕ)) (settings : Settings) → sets_keeping words ≡ false
+    → IfOk (settings_read lines position words settings) (Keeps settings)
+all-keep lines position [] settings none = keeps-all settings
+all-keep lines position (option ∷ []) settings none = tt
+all-keep lines position (option ∷ value ∷ words) settings none =
     let parts = neither (is_same option (literal "-undo")) (is_same option (literal "-maxundo")) (sets_keeping words)
     none in
-    onward settings (setting_read lines (at + 1) option value settings) (settings_read lines (at + 2) words)
-    (one-keeps lines (at + 1) option value settings parts.0 parts.1)
-    (λ next. all-keep lines (at + 2) words next parts.2)
+    onward settings (setting_read lines (position + 1) option value settings) (settings_read lines (position + 2) words)
+    (one-keeps lines (position + 1) option value settings parts.0 parts.1)
+    (λ next. all-keep lines (position + 2) words next parts.2)
 
 -- what is given of options: lines of the text, the start not behind the end, and what is kept
 record AreGiven (document : Document) (words : List (List ℕ)) (old new : Settings) : Type 0 where
@@ -163,25 +163,25 @@ given-of document words old made (Ok settings) are keeps is =
       keeps = λ none. subst (Keeps old) parts.0 (keeps none);
     }
 
-given : (document : Document) (at : ℕ) (words : List (List ℕ)) (settings made : Settings) →
+given : (document : Document) (position : ℕ) (words : List (List ℕ)) (settings made : Settings) →
     AreLines (lines (characters document.cells)) settings
-    → settings_given document at words settings ≡ Ok made → AreGiven document words settings made
-given document at words settings made are is =
+    → settings_given document position words settings ≡ Ok made → AreGiven document words settings made
+given document position words settings made are is =
     let count = lines (characters document.cells) in
-    given-of document words settings made (settings_read count at words settings)
-    (given-lines count at words settings are)
-    (λ none. all-keep count at words settings none) is
+    given-of document words settings made (settings_read count position words settings)
+    (given-lines count position words settings are)
+    (λ none. all-keep count position words settings none) is
 
 -- ---- `configure`
 
-pub leads-configured : (limit : ℕ) (start : List ℕ) (document : Document) (widget : Widget) (at : ℕ)
+pub leads-configured : (limit : ℕ) (start : List ℕ) (document : Document) (widget : Widget) (position : ℕ)
     (words : List (List ℕ)) → Leads limit start document
-    → (is_ok (configure document widget at words).reply && sets_keeping words) ≡ false →
-    Leads limit start (configure document widget at words).document
-leads-configured limit start document widget at words leads spared =
-    by (settings_given document at words (settings_of document widget)) refl spared
+    → (is_ok (configure document widget position words).reply && sets_keeping words) ≡ false →
+    Leads limit start (configure document widget position words).document
+leads-configured limit start document widget position words leads spared =
+    by (settings_given document position words (settings_of document widget)) refl spared
   where
-    by : (found : Result Settings Fault) → settings_given document at words (settings_of document widget) ≡ found
+    by : (found : Result Settings Fault) → settings_given document position words (settings_of document widget) ≡ found
         →
         (is_ok (change_with document found (λ settings.
         answered (with_settings widget settings document) Empty)).reply && sets_keeping words) ≡ false
@@ -189,15 +189,15 @@ leads-configured limit start document widget at words leads spared =
         answered (with_settings widget settings document) Empty)).document
     by (Err fault) is none = leads
     by (Ok settings) is none =
-        let are = given document at words (settings_of document widget) settings (own-lines document widget) is in
+        let are = given document position words (settings_of document widget) settings (own-lines document widget) is in
         let keeps = are.keeps none in
         leads-settings limit start document widget settings leads are.lines are.before (keeps.undo
         ∙ leads.undo) (ap limit_of keeps.most ∙ leads.most)
 
-pub named-configured : (windows : List (List ℕ)) (document : Document) (widget : Widget) (at : ℕ)
+pub named-configured : (windows : List (List ℕ)) (document : Document) (widget : Widget) (position : ℕ)
     (words : List (List ℕ))
-    → AreNamed windows document (configure document widget at words).document
-named-configured windows document widget at words = by (settings_given document at words (settings_of document widget))
+    → AreNamed windows document (configure document widget position words).document
+named-configured windows document widget position words = by (settings_given document position words (settings_of document widget))
   where
     by : (found : Result Settings Fault)
         → AreNamed windows document (change_with document found (λ settings.
@@ -208,18 +208,18 @@ named-configured windows document widget at words = by (settings_given document 
 
 -- ---- `peer create`
 
-module _ (limits : LimitTable) (windows : List (List ℕ)) (document : Document) (widget : Widget) (at : ℕ) where
+module _ (limits : LimitTable) (windows : List (List ℕ)) (document : Document) (widget : Widget) (position : ℕ) where
   leads-with : (limit : ℕ) (start name : List ℕ) (settings : Settings) (sets : Bool)
-      → ((is_ok (peer_with limits windows document at name settings).reply && sets) ≡ false) →
+      → ((is_ok (peer_with limits windows document position name settings).reply && sets) ≡ false) →
       Leads limit start document
       → (sets ≡ false → Leads limit start (with_peer name settings document))
-      → Leads limit start (peer_with limits windows document at name settings).document
+      → Leads limit start (peer_with limits windows document position name settings).document
   leads-with limit start name settings sets spared leads next =
-      let made : Change = answered (with_peer name settings document) (Word at) in
+      let made : Change = answered (with_peer name settings document) (Word position) in
       let few : Change = if nat_le limits.widgets (length windows) then refused document TooManyWidgets else made in
-      elim (is_among name windows) as (λ b. (is_ok (if b then refused document (WindowExists at) else few).reply
+      elim (is_among name windows) as (λ b. (is_ok (if b then refused document (WindowExists position) else few).reply
       && sets) ≡ false
-      → Leads limit start (if b then refused document (WindowExists at) else few).document) [
+      → Leads limit start (if b then refused document (WindowExists position) else few).document) [
         | true ↦ λ _. leads
         | false ↦ elim (nat_le limits.widgets (length windows)) as (λ b.
             (is_ok (if b then refused document TooManyWidgets else made).reply && sets) ≡ false
@@ -231,14 +231,14 @@ module _ (limits : LimitTable) (windows : List (List ℕ)) (document : Document)
 
   leads-given : (limit : ℕ) (start name : List ℕ) (words : List (List ℕ)) → Leads limit start document →
       (found : Result Settings Fault)
-      → settings_given document (at + 1) words (peer_settings document widget) ≡ found
-      → (is_ok (change_with document found (peer_with limits windows document at name)).reply && sets_keeping words)
+      → settings_given document (position + 1) words (peer_settings document widget) ≡ found
+      → (is_ok (change_with document found (peer_with limits windows document position name)).reply && sets_keeping words)
       ≡ false
-      → Leads limit start (change_with document found (peer_with limits windows document at name)).document
+      → Leads limit start (change_with document found (peer_with limits windows document position name)).document
   leads-given limit start name words leads (Err fault) is spared = leads
   leads-given limit start name words leads (Ok settings) is spared =
       let own = own-lines document widget in
-      let are = given document (at + 1) words (peer_settings document widget) settings
+      let are = given document (position + 1) words (peer_settings document widget) settings
       (record { start = own.start; end = own.end }) is in
       leads-with limit start name settings (sets_keeping words) spared leads
       (λ none. let keeps = are.keeps none in
@@ -246,27 +246,27 @@ module _ (limits : LimitTable) (windows : List (List ℕ)) (document : Document)
       ∙ leads.undo) (ap limit_of keeps.most ∙ leads.most))
 
   pub leads-peered : (limit : ℕ) (start : List ℕ) (words : List (List ℕ)) → Leads limit start document
-      → (is_ok (peer_create limits windows document widget at words).reply && sets_keeping (drop 1 words)) ≡ false
-      → Leads limit start (peer_create limits windows document widget at words).document
+      → (is_ok (peer_create limits windows document widget position words).reply && sets_keeping (drop 1 words)) ≡ false
+      → Leads limit start (peer_create limits windows document widget position words).document
   leads-peered limit start [] leads spared = leads
   leads-peered limit start (name ∷ words) leads spared =
-      let found = settings_given document (at + 1) words (peer_settings document widget) in
-      let made : Change = change_with document found (peer_with limits windows document at name) in
-      elim (is_window_name name) as (λ b. (is_ok (if b then made else refused document (InvalidCommandName at)).reply
+      let found = settings_given document (position + 1) words (peer_settings document widget) in
+      let made : Change = change_with document found (peer_with limits windows document position name) in
+      elim (is_window_name name) as (λ b. (is_ok (if b then made else refused document (InvalidCommandName position)).reply
       && sets_keeping words) ≡ false
-      → Leads limit start (if b then made else refused document (InvalidCommandName at)).document) [
+      → Leads limit start (if b then made else refused document (InvalidCommandName position)).document) [
         | true ↦ λ none. leads-given limit start name words leads found refl none
         | false ↦ λ _. leads
       ] spared
 
   named-with : (name : List ℕ) (settings : Settings) → is_window_name name ≡ true
-      → AreNamed windows document (peer_with limits windows document at name settings).document
+      → AreNamed windows document (peer_with limits windows document position name settings).document
   named-with name settings is =
-      let made : Change = answered (with_peer name settings document) (Word at) in
+      let made : Change = answered (with_peer name settings document) (Word position) in
       let few : Change = if nat_le limits.widgets (length windows) then refused document TooManyWidgets else made in
       let same = named-same windows document document refl in
       elim (is_among name windows) as
-      (λ b. is_among name windows ≡ b → AreNamed windows document (if b then refused document (WindowExists at)
+      (λ b. is_among name windows ≡ b → AreNamed windows document (if b then refused document (WindowExists position)
       else few).document) [
         | true ↦ λ _. same
         | false ↦ λ new. elim (nat_le limits.widgets (length windows)) as
@@ -277,19 +277,19 @@ module _ (limits : LimitTable) (windows : List (List ℕ)) (document : Document)
       ] refl
 
   named-given : (name : List ℕ) → is_window_name name ≡ true → (found : Result Settings Fault)
-      → AreNamed windows document (change_with document found (peer_with limits windows document at name)).document
+      → AreNamed windows document (change_with document found (peer_with limits windows document position name)).document
   named-given name is (Err fault) = named-same windows document document refl
   named-given name is (Ok settings) = named-with name settings is
 
   pub named-peered : (words : List (List ℕ)) →
-      AreNamed windows document (peer_create limits windows document widget at words).document
+      AreNamed windows document (peer_create limits windows document widget position words).document
   named-peered [] = named-same windows document document refl
   named-peered (name ∷ words) =
-      let found = settings_given document (at + 1) words (peer_settings document widget) in
+      let found = settings_given document (position + 1) words (peer_settings document widget) in
       elim (is_window_name name) as (λ b. is_window_name name ≡ b
       → AreNamed windows document
-      (if b then change_with document found (peer_with limits windows document at name)
-      else refused document (InvalidCommandName at)).document) [
+      (if b then change_with document found (peer_with limits windows document position name)
+      else refused document (InvalidCommandName position)).document) [
         | true ↦ λ is. named-given name is found
         | false ↦ λ _. named-same windows document document refl
       ] refl

@@ -6,6 +6,7 @@ pub mod GotLaws
 pub mod HomeLaws
 pub mod HomeStepLaws
 pub mod KeepingLaws
+pub mod MakesLaws
 pub mod NameLaws
 pub mod OptionLaws
 pub mod PeerLaws

@@ -4,14 +4,14 @@ use Rattle.std.specs.Prelude.{ℤ, pos, negsuc, ok_or, option_and_then, option_m
 use Rattle.std.specs.Prelude.{None, Some, Result, Ok, Err, if◌then◌else◌}
 use Rattle.std.proofs.lemmas.Bool.Decides.{nat_tests}
 use Rattle.command_table.specs.Numbers.{boolean_of, integer_of}
-use Rattle.command_parts.specs.declared.answers.Fault.{Fault}
-use Rattle.command_parts.specs.declared.answers.Fault.TheVariants.{BadBoolean, BadInteger, BadOption}
-use Rattle.command_parts.specs.declared.answers.Fault.TheVariants.{StartLineAfterEndLine}
-use Rattle.command_parts.specs.declared.settings.Settings.{Settings}
-use Rattle.command_parts.specs.Faults.{with_value}
-use Rattle.command_parts.specs.Settings.{end_bound, is_behind, line_numbered, line_of_word, setting_read}
-use Rattle.command_parts.specs.Settings.{settings_checked, settings_read, start_bound, state_of}
-use Rattle.command_parts.specs.Words.{is_same, literal}
+use Rattle.command_effects.specs.declared.answers.Fault.{Fault}
+use Rattle.command_effects.specs.declared.answers.Fault.TheVariants.{BadBoolean, BadInteger, BadOption}
+use Rattle.command_effects.specs.declared.answers.Fault.TheVariants.{StartLineAfterEndLine}
+use Rattle.command_effects.specs.declared.settings.Settings.{Settings}
+use Rattle.command_effects.specs.Faults.{with_value}
+use Rattle.command_effects.specs.Settings.{end_bound, is_behind, line_numbered, line_of_word, setting_read}
+use Rattle.command_effects.specs.Settings.{settings_checked, settings_read, start_bound, state_of}
+use Rattle.command_effects.specs.Words.{is_same, literal}
 use Rattle.documents.specs.Options.{AreLines, IsLine}
 
 -- ---- values that are found
@@ -76,85 +76,85 @@ ends lines (Some line) positive =
 -- ---- options
 
 -- an option more
-one-lines : (lines at : ℕ) (option value : List ℕ) (settings : Settings) → AreLines lines settings →
-    IfOk (setting_read lines at option value settings) (AreLines lines)
-one-lines lines at option value settings are =
+one-lines : (lines position : ℕ) (option value : List ℕ) (settings : Settings) → AreLines lines settings →
+    IfOk (setting_read lines position option value settings) (AreLines lines)
+one-lines lines position option value settings are =
     let P : Settings → Type 0 = AreLines lines in
     elim (is_same option (literal "-undo")) as (λ b.
-    IfOk (if b then with_value (ok_or (boolean_of value) (BadBoolean at)) (λ undo.
+    IfOk (if b then with_value (ok_or (boolean_of value) (BadBoolean position)) (λ undo.
     Ok (record settings { document = record settings.document { undo = undo } }))
     else (if is_same option (literal "-maxundo")
-    then with_value (ok_or (integer_of value) (BadInteger at)) (λ most.
+    then with_value (ok_or (integer_of value) (BadInteger position)) (λ most.
     Ok (record settings { document = record settings.document { most_undo = most } }))
     else (if is_same option (literal "-autoseparators")
-    then with_value (ok_or (boolean_of value) (BadBoolean at)) (λ separators.
+    then with_value (ok_or (boolean_of value) (BadBoolean position)) (λ separators.
     Ok (record settings { document = record settings.document { separators = separators } }))
     else (if is_same option (literal "-state")
-    then with_value (ok_or (state_of value) (BadOption at)) (λ disabled.
+    then with_value (ok_or (state_of value) (BadOption position)) (λ disabled.
     Ok (record settings { disabled = disabled }))
     else (if is_same option (literal "-startline")
-    then with_value (ok_or (line_of_word value) (BadInteger at)) (λ line.
+    then with_value (ok_or (line_of_word value) (BadInteger position)) (λ line.
     Ok (record settings { start = start_bound lines line }))
-    else with_value (ok_or (line_of_word value) (BadInteger at)) (λ line.
+    else with_value (ok_or (line_of_word value) (BadInteger position)) (λ line.
     Ok (record settings { end = end_bound lines line }))))))) P) [
-      | true ↦ through (ok_or (boolean_of value) (BadBoolean at)) _ P (λ _ _.
+      | true ↦ through (ok_or (boolean_of value) (BadBoolean position)) _ P (λ _ _.
           record { start = are.start; end = are.end })
       | false ↦ elim (is_same option (literal "-maxundo")) as (λ b.
-          IfOk (if b then with_value (ok_or (integer_of value) (BadInteger at)) (λ most.
+          IfOk (if b then with_value (ok_or (integer_of value) (BadInteger position)) (λ most.
           Ok (record settings { document = record settings.document { most_undo = most } }))
           else (if is_same option (literal "-autoseparators")
-          then with_value (ok_or (boolean_of value) (BadBoolean at)) (λ separators.
+          then with_value (ok_or (boolean_of value) (BadBoolean position)) (λ separators.
           Ok (record settings { document = record settings.document { separators = separators } }))
           else (if is_same option (literal "-state")
-          then with_value (ok_or (state_of value) (BadOption at)) (λ disabled.
+          then with_value (ok_or (state_of value) (BadOption position)) (λ disabled.
           Ok (record settings { disabled = disabled }))
           else (if is_same option (literal "-startline")
-          then with_value (ok_or (line_of_word value) (BadInteger at)) (λ line.
+          then with_value (ok_or (line_of_word value) (BadInteger position)) (λ line.
           Ok (record settings { start = start_bound lines line }))
-          else with_value (ok_or (line_of_word value) (BadInteger at)) (λ line.
+          else with_value (ok_or (line_of_word value) (BadInteger position)) (λ line.
           Ok (record settings { end = end_bound lines line })))))) P) [
-            | true ↦ through (ok_or (integer_of value) (BadInteger at)) _ P (λ _ _.
+            | true ↦ through (ok_or (integer_of value) (BadInteger position)) _ P (λ _ _.
                 record { start = are.start; end = are.end })
             | false ↦ elim (is_same option (literal "-autoseparators")) as (λ b.
-                IfOk (if b then with_value (ok_or (boolean_of value) (BadBoolean at)) (λ separators.
+                IfOk (if b then with_value (ok_or (boolean_of value) (BadBoolean position)) (λ separators.
                 Ok (record settings { document = record settings.document { separators = separators } }))
                 else (if is_same option (literal "-state")
-                then with_value (ok_or (state_of value) (BadOption at)) (λ disabled.
+                then with_value (ok_or (state_of value) (BadOption position)) (λ disabled.
                 Ok (record settings { disabled = disabled }))
                 else (if is_same option (literal "-startline")
-                then with_value (ok_or (line_of_word value) (BadInteger at)) (λ line.
+                then with_value (ok_or (line_of_word value) (BadInteger position)) (λ line.
                 Ok (record settings { start = start_bound lines line }))
-                else with_value (ok_or (line_of_word value) (BadInteger at)) (λ line.
+                else with_value (ok_or (line_of_word value) (BadInteger position)) (λ line.
                 Ok (record settings { end = end_bound lines line }))))) P) [
-                  | true ↦ through (ok_or (boolean_of value) (BadBoolean at)) _ P (λ _ _.
+                  | true ↦ through (ok_or (boolean_of value) (BadBoolean position)) _ P (λ _ _.
                       record { start = are.start; end = are.end })
                   | false ↦ elim (is_same option (literal "-state")) as (λ b.
-                      IfOk (if b then with_value (ok_or (state_of value) (BadOption at)) (λ disabled.
+                      IfOk (if b then with_value (ok_or (state_of value) (BadOption position)) (λ disabled.
                       Ok (record settings { disabled = disabled }))
                       else (if is_same option (literal "-startline")
-                      then with_value (ok_or (line_of_word value) (BadInteger at)) (λ line.
+                      then with_value (ok_or (line_of_word value) (BadInteger position)) (λ line.
                       Ok (record settings { start = start_bound lines line }))
-                      else with_value (ok_or (line_of_word value) (BadInteger at)) (λ line.
+                      else with_value (ok_or (line_of_word value) (BadInteger position)) (λ line.
                       Ok (record settings { end = end_bound lines line })))) P) [
-                        | true ↦ through (ok_or (state_of value) (BadOption at)) _ P (λ _ _.
+                        | true ↦ through (ok_or (state_of value) (BadOption position)) _ P (λ _ _.
                             record { start = are.start; end = are.end })
                         | false ↦ elim (is_same option (literal "-startline")) as (λ b.
-                            IfOk (if b then with_value (ok_or (line_of_word value) (BadInteger at)) (λ line.
+                            IfOk (if b then with_value (ok_or (line_of_word value) (BadInteger position)) (λ line.
                             Ok (record settings { start = start_bound lines line }))
-                            else with_value (ok_or (line_of_word value) (BadInteger at)) (λ line.
+                            else with_value (ok_or (line_of_word value) (BadInteger position)) (λ line.
                             Ok (record settings { end = end_bound lines line }))) P) [
-                              | true ↦ through (ok_or (line_of_word value) (BadInteger at)) _ P
+                              | true ↦ through (ok_or (line_of_word value) (BadInteger position)) _ P
                                   (λ line is.
                                   record {
                                     start = starts lines line
-                                        (at-word (line_of_word value) (BadInteger at) line (of-word value) is);
+                                        (at-word (line_of_word value) (BadInteger position) line (of-word value) is);
                                     end = are.end;
                                   })
-                              | false ↦ through (ok_or (line_of_word value) (BadInteger at)) _ P
+                              | false ↦ through (ok_or (line_of_word value) (BadInteger position)) _ P
                                   (λ line is. record {
                                     start = are.start;
                                     end = ends lines line
-                                        (at-word (line_of_word value) (BadInteger at) line (of-word value) is);
+                                        (at-word (line_of_word value) (BadInteger position) line (of-word value) is);
                                   })
                             ]
                       ]
@@ -163,15 +163,15 @@ one-lines lines at option value settings are =
     ]
 
 -- all of them
-read-lines : (lines at : ℕ) (words : List (List ℕ)) (settings : Settings) → AreLines lines settings →
-    IfOk (settings_read lines at words settings) (AreLines lines)
-read-lines lines at [] settings are = are
-read-lines lines at (option ∷ []) settings are = tt
-read-lines lines at (option ∷ value ∷ words) settings are =
-    through (setting_read lines (at + 1) option value settings) (settings_read lines (at + 2) words) (AreLines lines)
-    (λ next is. read-lines lines (at + 2) words next
-    (value-found (setting_read lines (at + 1) option value settings) (AreLines lines) next
-    (one-lines lines (at + 1) option value settings are) is))
+read-lines : (lines position : ℕ) (words : List (List ℕ)) (settings : Settings) → AreLines lines settings →
+    IfOk (settings_read lines position words settings) (AreLines lines)
+read-lines lines position [] settings are = are
+read-lines lines position (option ∷ []) settings are = tt
+read-lines lines position (option ∷ value ∷ words) settings are =
+    through (setting_read lines (position + 1) option value settings) (settings_read lines (position + 2) words) (AreLines lines)
+    (λ next is. read-lines lines (position + 2) words next
+    (value-found (setting_read lines (position + 1) option value settings) (AreLines lines) next
+    (one-lines lines (position + 1) option value settings are) is))
 
 checked-so : (P : Settings → Type 0) (settings : Settings) → P settings → IfOk (settings_checked settings) P
 checked-so P settings holds = elim (is_behind settings.start settings.end) as (λ b.
@@ -180,10 +180,10 @@ checked-so P settings holds = elim (is_behind settings.start settings.end) as (�
       | false ↦ holds
     ]
 
-pub given-lines : (lines at : ℕ) (words : List (List ℕ)) (settings : Settings) → AreLines lines settings →
-    IfOk (with_value (settings_read lines at words settings) settings_checked) (AreLines lines)
-given-lines lines at words settings are =
-    through (settings_read lines at words settings) settings_checked (AreLines lines)
+pub given-lines : (lines position : ℕ) (words : List (List ℕ)) (settings : Settings) → AreLines lines settings →
+    IfOk (with_value (settings_read lines position words settings) settings_checked) (AreLines lines)
+given-lines lines position words settings are =
+    through (settings_read lines position words settings) settings_checked (AreLines lines)
     (λ made is. checked-so (AreLines lines) made
-    (value-found (settings_read lines at words settings) (AreLines lines) made
-    (read-lines lines at words settings are) is))
+    (value-found (settings_read lines position words settings) (AreLines lines) made
+    (read-lines lines position words settings are) is))

@@ -2,49 +2,49 @@
 use Rattle.std.proofs.Common.{◌≡◌, ℕ, ◌+◌, Bool, true, false, List, ap, ◌∙◌}
 use Rattle.std.specs.Prelude.{Ok, Err, Result, if◌then◌else◌}
 use Rattle.text_model.specs.LimitTable.{LimitTable}
-use Rattle.command_parts.specs.Arguments.{first_of}
-use Rattle.command_parts.specs.declared.answers.Fault.{Fault}
-use Rattle.command_parts.specs.declared.answers.Fault.TheVariants.{InvalidCommandName}
-use Rattle.command_parts.specs.declared.settings.Settings.{Settings}
+use Rattle.command_effects.specs.Arguments.{first_of}
+use Rattle.command_effects.specs.declared.answers.Fault.{Fault}
+use Rattle.command_effects.specs.declared.answers.Fault.TheVariants.{InvalidCommandName}
+use Rattle.command_effects.specs.declared.settings.Settings.{Settings}
 use Rattle.documents.specs.Documents.{Document, Widget}
 use Rattle.documents.specs.Kept.{is_window_name}
 use Rattle.documents.specs.Promise.{Change, change_with, refused}
 use Rattle.peers.specs.Options.{settings_given}
-use Rattle.peers.specs.Peers.{peer_create, peer_settings, peer_with, peer_words}
+use Rattle.peers.specs.Widgets.{peer_create, peer_settings, peer_with, peer_words}
 
 -- ---- the words of `peer create`
 
-pub no-peer : (limits : LimitTable) (windows : List (List ℕ)) (document : Document) (widget : Widget) (at : ℕ)
+pub no-peer : (limits : LimitTable) (windows : List (List ℕ)) (document : Document) (widget : Widget) (position : ℕ)
     (words : List (List ℕ)) (fault : Fault)
-    → first_of words ≡ Err fault → peer_create limits windows document widget at words ≡ refused document fault
-no-peer limits windows document widget at words fault none =
-    ap (λ parts. change_with document parts (peer_words limits windows document widget at)) none
+    → first_of words ≡ Err fault → peer_create limits windows document widget position words ≡ refused document fault
+no-peer limits windows document widget position words fault none =
+    ap (λ parts. change_with document parts (peer_words limits windows document widget position)) none
 
-module _ (limits : LimitTable) (windows : List (List ℕ)) (document : Document) (widget : Widget) (at : ℕ)
+module _ (limits : LimitTable) (windows : List (List ℕ)) (document : Document) (widget : Widget) (position : ℕ)
     (words : List (List ℕ)) (name : List ℕ) (options : List (List ℕ)) (first : first_of words
     ≡ Ok (name, options)) where
   abbrev with_options : Result Settings Fault → Change
-  with_options found = change_with document found (peer_with limits windows document at name)
+  with_options found = change_with document found (peer_with limits windows document position name)
 
   abbrev given : Result Settings Fault
-  given = settings_given document (at + 1) options (peer_settings document widget)
+  given = settings_given document (position + 1) options (peer_settings document widget)
 
   abbrev worded : Bool → Change
-  worded named = if named then with_options given else refused document (InvalidCommandName at)
+  worded named = if named then with_options given else refused document (InvalidCommandName position)
 
-  read : peer_create limits windows document widget at words ≡ worded (is_window_name name)
-  read = ap (λ parts. change_with document parts (peer_words limits windows document widget at)) first
+  read : peer_create limits windows document widget position words ≡ worded (is_window_name name)
+  read = ap (λ parts. change_with document parts (peer_words limits windows document widget position)) first
 
-  pub unnamed-peer : is_window_name name ≡ false → peer_create limits windows document widget at words
-      ≡ refused document (InvalidCommandName at)
+  pub unnamed-peer : is_window_name name ≡ false → peer_create limits windows document widget position words
+      ≡ refused document (InvalidCommandName position)
   unnamed-peer unnamed = read ∙ ap worded unnamed
 
   pub bad-peer : (fault : Fault) → is_window_name name ≡ true →
-      settings_given document (at + 1) options (peer_settings document widget) ≡ Err fault
-      → peer_create limits windows document widget at words ≡ refused document fault
+      settings_given document (position + 1) options (peer_settings document widget) ≡ Err fault
+      → peer_create limits windows document widget position words ≡ refused document fault
   bad-peer fault named bad = read ∙ ap worded named ∙ ap with_options bad
 
   pub good-peer : (settings : Settings) → is_window_name name ≡ true →
-      settings_given document (at + 1) options (peer_settings document widget) ≡ Ok settings
-      → peer_create limits windows document widget at words ≡ peer_with limits windows document at name settings
+      settings_given document (position + 1) options (peer_settings document widget) ≡ Ok settings
+      → peer_create limits windows document widget position words ≡ peer_with limits windows document position name settings
   good-peer settings named good = read ∙ ap worded named ∙ ap with_options good

@@ -4,11 +4,11 @@ use Rattle.std.proofs.Common.{◌∙◌}
 use Rattle.std.specs.Prelude.{Some, String, ◌||◌, chars, get_or, if◌then◌else◌, reverse, string_bytes}
 use Rattle.std.specs.List.{find}
 use Rattle.std.proofs.lemmas.List.{reverse-append}
-use Rattle.command_parts.proofs.SlotLaws.{texts-more}
+use Rattle.command_effects.proofs.SlotLaws.{texts-more}
 use Rattle.index_grammar.specs.declared.indices.Direction.{Direction}
 use Rattle.index_grammar.specs.declared.indices.Direction.TheVariants.{Back, Forward}
 use Rattle.tcl_words.specs.Unread.{texts_of}
-use Rattle.command_parts.specs.Words.{literal}
+use Rattle.command_effects.specs.Words.{literal}
 use Rattle.peers.specs.Queries.{direction_by, direction_of, is_direction, stands_for, turned}
 
 -- a word is for one direction, for the other, or for none

@@ -18,7 +18,7 @@ use Rattle.std.specs.List.{position_or_len}
 use Rattle.std.proofs.lemmas.List.{length-append, length-take, take_all, drop_all, drop_more, length-replicate}
 use Rattle.indexmap.proofs.CallerLemmas.{insert_entry-new}
 use Rattle.indexmap.proofs.MapLemmas.{absent_from_lookup, or_len-absent}
-use Rattle.command_parts.specs.Words.{is_same}
+use Rattle.command_effects.specs.Words.{is_same}
 use Rattle.peers.specs.Windows.{Homes, home_in, home_kept, names_in, places_in}
 
 -- two texts are the same exactly where their characters are

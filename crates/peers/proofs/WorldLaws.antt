@@ -1,22 +1,22 @@
 -- Documents in a world: where their widgets are found, as they come and go.
 use Rattle.std.proofs.Common.{◌≡◌, ℕ, zero, suc, ◌+◌, ◌<◌, ◌≤◌, Bool, true, false, cond, not, List, [], ◌∷◌, ◌++◌}
-use Rattle.std.proofs.Common.{length, map, get_or, filter, flat_map, slice_set, insert, option_map, Option, Some, None}
+use Rattle.std.proofs.Common.{length, map, get_or, filter, slice_set, insert, option_map, Option, Some, None}
 use Rattle.std.proofs.Common.{is_some, take, refl, sym, ap, subst, ◌∙◌, nat_lt, arith}
-use Rattle.std.specs.List.{AllByRecursion, IsDistinct, list_any}
-use Rattle.std.proofs.lemmas.List.{append_assoc, append-nil, length-append}
+use Rattle.std.specs.List.{AllByRecursion, IsDistinct}
+use Rattle.std.proofs.lemmas.List.{append-nil, length-append}
 use Rattle.std.specs.Prelude.{◌||◌, remove}
 use Rattle.std.proofs.lemmas.Bool.Decides.{nat_tests}
 use Rattle.std.proofs.lemmas.List.{get_or_read, length-map, map-append}
-use Rattle.command_parts.proofs.CountLaws.{among-append}
-use Rattle.command_parts.specs.Words.{is_among, is_same}
-use Rattle.command_parts.specs.declared.settings.Settings.{Settings}
+use Rattle.command_effects.proofs.CountLaws.{among-append}
+use Rattle.command_effects.specs.Words.{is_among, is_same}
+use Rattle.command_effects.specs.declared.settings.Settings.{Settings}
 use Rattle.documents.specs.Documents.{Document, Widget}
 use Rattle.documents.specs.WellFormed.{window_names}
 use Rattle.documents.specs.Widgets.{is_kept, keeps_some, new_document, new_widget, thinned, with_peer, without_widgets}
-use Rattle.peers.specs.Step.{Outcome, changed, create_named, create_new, has_widgets, refuses}
-use Rattle.peers.specs.Peers.{peer_with}
-use Rattle.command_parts.specs.declared.answers.Answer.TheVariants.{Word}
-use Rattle.command_parts.specs.declared.answers.Fault.TheVariants.{TooManyWidgets, WindowExists}
+use Rattle.peers.specs.Step.{changed, create_named, create_new, has_widgets, refuses}
+use Rattle.peers.specs.Widgets.{peer_with}
+use Rattle.command_effects.specs.declared.answers.Answer.TheVariants.{Word}
+use Rattle.command_effects.specs.declared.answers.Fault.TheVariants.{TooManyWidgets, WindowExists}
 use Rattle.documents.specs.Promise.{Change, answered, refused}
 use Rattle.text_model.specs.LimitTable.{AreLimits, LimitTable}
 use Rattle.std.specs.Prelude.{Ok, Err, OnErr, OnOk, Result, if◌then◌else◌, nat_le}
@@ -26,7 +26,7 @@ use Rattle.peers.specs.Windows.{Homes, home_in, homes_of, names_in}
 use Rattle.peers.specs.World.{World, all_windows, document_at, home, windows_of}
 use Rattle.peers.proofs.HomeLaws.{names-filtered, filter-changed, filter-twice, first_with, found-some, front-count}
 use Rattle.peers.proofs.HomeLaws.{homes-added, homes-count, homes-found, homes-names, homes-peer, names-left}
-use Rattle.peers.proofs.HomeLaws.{names-same, next-count, placed_at}
+use Rattle.peers.proofs.HomeLaws.{names-same, next-count}
 use Rattle.std.proofs.lemmas.List.Edits.{insert_end, length-insert}
 use Rattle.documents.specs.Widgets as widgets
 
@@ -306,34 +306,34 @@ named-new world name settings new few =
       world = record world { documents = world.documents ++ new_document name settings ∷ [] };
     }) few
 
-pub peer-taken : (limits : LimitTable) (windows : List (List ℕ)) (document : Document) (at : ℕ) (name : List ℕ)
+pub peer-taken : (limits : LimitTable) (windows : List (List ℕ)) (document : Document) (position : ℕ) (name : List ℕ)
     (settings : Settings) → is_among name windows ≡ true
-    → peer_with limits windows document at name settings ≡ refused document (WindowExists at)
-peer-taken limits windows document at name settings taken =
-    ap (λ b. if b then refused document (WindowExists at)
+    → peer_with limits windows document position name settings ≡ refused document (WindowExists position)
+peer-taken limits windows document position name settings taken =
+    ap (λ b. if b then refused document (WindowExists position)
     else (if nat_le limits.widgets (length windows) then refused document TooManyWidgets
-    else answered (with_peer name settings document) (Word at))) taken
+    else answered (with_peer name settings document) (Word position))) taken
 
-pub peer-many : (limits : LimitTable) (windows : List (List ℕ)) (document : Document) (at : ℕ) (name : List ℕ)
+pub peer-many : (limits : LimitTable) (windows : List (List ℕ)) (document : Document) (position : ℕ) (name : List ℕ)
     (settings : Settings) → is_among name windows ≡ false
-    → nat_le limits.widgets (length windows) ≡ true → peer_with limits windows document at name settings
+    → nat_le limits.widgets (length windows) ≡ true → peer_with limits windows document position name settings
     ≡ refused document TooManyWidgets
-peer-many limits windows document at name settings new many =
-    ap (λ b. if b then refused document (WindowExists at)
+peer-many limits windows document position name settings new many =
+    ap (λ b. if b then refused document (WindowExists position)
     else (if nat_le limits.widgets (length windows) then refused document TooManyWidgets
-    else answered (with_peer name settings document) (Word at))) new
+    else answered (with_peer name settings document) (Word position))) new
     ∙ ap (λ b. if b then refused document TooManyWidgets
-    else answered (with_peer name settings document) (Word at)) many
+    else answered (with_peer name settings document) (Word position)) many
 
-pub peer-new : (limits : LimitTable) (windows : List (List ℕ)) (document : Document) (at : ℕ) (name : List ℕ)
+pub peer-new : (limits : LimitTable) (windows : List (List ℕ)) (document : Document) (position : ℕ) (name : List ℕ)
     (settings : Settings) → is_among name windows ≡ false
-    → nat_le limits.widgets (length windows) ≡ false → peer_with limits windows document at name settings
-    ≡ answered (with_peer name settings document) (Word at)
-peer-new limits windows document at name settings new few =
-    ap (λ b. if b then refused document (WindowExists at)
+    → nat_le limits.widgets (length windows) ≡ false → peer_with limits windows document position name settings
+    ≡ answered (with_peer name settings document) (Word position)
+peer-new limits windows document position name settings new few =
+    ap (λ b. if b then refused document (WindowExists position)
     else (if nat_le limits.widgets (length windows) then refused document TooManyWidgets
-    else answered (with_peer name settings document) (Word at))) new
-    ∙ ap (λ b. if b then refused document TooManyWidgets else answered (with_peer name settings document) (Word at)) few
+    else answered (with_peer name settings document) (Word position))) new
+    ∙ ap (λ b. if b then refused document TooManyWidgets else answered (with_peer name settings document) (Word position)) few
 
 -- ---- a world that stays well formed
 

@@ -1,9 +1,9 @@
 -- Commands that take text out: `delete` and `replace`.
 use Rattle.std.specs.Prelude.{ℕ, ◌+◌, nat_lt, List, if◌then◌else◌}
 use Rattle.text_model.specs.LimitTable.{LimitTable}
-use Rattle.command_parts.specs.declared.answers.Fault.TheVariants.{IndexOrder}
-use Rattle.command_parts.specs.Arguments.{first_two_of}
-use Rattle.command_parts.specs.Lists.{Pair, pairs_at}
+use Rattle.command_effects.specs.declared.answers.Fault.TheVariants.{IndexOrder}
+use Rattle.command_effects.specs.Arguments.{first_two_of}
+use Rattle.command_effects.specs.Lists.{Pair, pairs_at}
 use Rattle.documents.specs.Indices.{place_at}
 use Rattle.documents.specs.Promise.{Change, change_with, refused, unless_idle}
 use Rattle.peers.specs.Ranges.{places_at}
@@ -15,8 +15,8 @@ use Rattle.documents.specs.Deletions.{delete_places, replace_span}
 
 -- `W delete I ?I ..?`
 abbrev pub delete : Document → Widget → ℕ → List (List ℕ) → Change
-delete document widget at words =
-    change_with document (places_at document widget at words) (λ places.
+delete document widget position words =
+    change_with document (places_at document widget position words) (λ places.
     unless_idle widget document (delete_places document widget places))
 
 -- ---- replace
@@ -30,12 +30,13 @@ replace_places limits document widget second from to pairs =
     (insertion_offset document widget to) pairs)
 
 abbrev pub replace_words : LimitTable → Document → Widget → ℕ → List ℕ × List ℕ × List (List ℕ) → Change
-replace_words limits document widget at (first, second, words) =
-    change_with document (place_at document widget at first) (λ from.
-    change_with document (place_at document widget (at + 1) second) (λ to.
-    change_with document (pairs_at (at + 2) words) (replace_places limits document widget (at + 1) from to)))
+replace_words limits document widget position (first, second, words) =
+    change_with document (place_at document widget position first) (λ from.
+    change_with document (place_at document widget (position + 1) second) (λ to.
+    change_with document (pairs_at (position + 2) words)
+    (replace_places limits document widget (position + 1) from to)))
 
 -- `W replace A B chars ?tagList chars ..?`
 abbrev pub replace : LimitTable → Document → Widget → ℕ → List (List ℕ) → Change
-replace limits document widget at words =
-    change_with document (first_two_of words) (replace_words limits document widget at)
+replace limits document widget position words =
+    change_with document (first_two_of words) (replace_words limits document widget position)

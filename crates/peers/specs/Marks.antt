@@ -7,58 +7,58 @@ use Rattle.mark_table.specs.Order.{mark_of, next_mark, previous_mark, rank_of}
 use Rattle.text_model.specs.declared.places.Gravity.{Gravity}
 use Rattle.text_model.specs.declared.places.Place.{Place}
 use Rattle.text_model.specs.LimitTable.{LimitTable}
-use Rattle.command_parts.specs.declared.answers.Answer.{Answer}
-use Rattle.command_parts.specs.declared.answers.Answer.TheVariants.{Empty, Text}
-use Rattle.command_parts.specs.declared.answers.Fault.{Fault}
-use Rattle.command_parts.specs.declared.answers.Fault.TheVariants.{BadIndex, NoSuchMark, BadGravity}
-use Rattle.command_parts.specs.Arguments.{one_of, one_or_two_of, two_of}
-use Rattle.command_parts.specs.Faults.{with_value}
+use Rattle.command_effects.specs.declared.answers.Answer.{Answer}
+use Rattle.command_effects.specs.declared.answers.Answer.TheVariants.{Empty, Text}
+use Rattle.command_effects.specs.declared.answers.Fault.{Fault}
+use Rattle.command_effects.specs.declared.answers.Fault.TheVariants.{BadIndex, NoSuchMark, BadGravity}
+use Rattle.command_effects.specs.Arguments.{one_of, one_or_two_of, two_of}
+use Rattle.command_effects.specs.Faults.{with_value}
 use Rattle.documents.specs.Indices.{place_at}
 use Rattle.documents.specs.Names.{mark_number, mark_place}
 use Rattle.documents.specs.Promise.{Change, refused, answered, change_with}
 use Rattle.peers.specs.Tags.{listed}
 use Rattle.documents.specs.Documents.{Document, Widget}
-use Rattle.command_parts.specs.Marking.{gravity_of, gravity_word}
+use Rattle.command_effects.specs.Marking.{gravity_of, gravity_word}
 use Rattle.documents.specs.Marks.{mark_names, place_named, with_mark, mark_offset, set_found, usable_marks}
 
--- ---- marks by their names
-
--- ---- marks that are set, and unset
+-- ---- marks that are set
 
 abbrev pub set_at : LimitTable → Document → Widget → List ℕ → ℕ → Change
 set_at limits document widget name place =
     set_found limits document widget name (mark_offset document widget name place) (place_named document widget name)
 
 abbrev pub set_words : LimitTable → Document → Widget → ℕ → List ℕ × List ℕ → Change
-set_words limits document widget at (name, word) =
-    change_with document (place_at document widget (at + 1) word) (set_at limits document widget name)
+set_words limits document widget position (name, word) =
+    change_with document (place_at document widget (position + 1) word) (set_at limits document widget name)
 
 -- `W mark set M I`
 abbrev pub mark_set : LimitTable → Document → Widget → ℕ → List (List ℕ) → Change
-mark_set limits document widget at words = change_with document (two_of words) (set_words limits document widget at)
+mark_set limits document widget position words =
+    change_with document (two_of words) (set_words limits document widget position)
 
 -- ---- gravity
 
 -- of the mark that stands at a place
 abbrev pub gravity_asked : Document → ℕ → Option Place → Change
-gravity_asked document at None = refused document (NoSuchMark at)
-gravity_asked document at (Some place) = answered document (Text (gravity_word place.gravity))
+gravity_asked document position None = refused document (NoSuchMark position)
+gravity_asked document position (Some place) = answered document (Text (gravity_word place.gravity))
 
 -- the mark has to be there, and then the word has to be a gravity
 abbrev pub gravity_given : Document → Widget → ℕ → List ℕ → Option Place → Option Gravity → Change
-gravity_given document widget at name None gravity = refused document (NoSuchMark at)
-gravity_given document widget at name (Some place) None = refused document (BadGravity (at + 1))
-gravity_given document widget at name (Some place) (Some gravity) =
+gravity_given document widget position name None gravity = refused document (NoSuchMark position)
+gravity_given document widget position name (Some place) None = refused document (BadGravity (position + 1))
+gravity_given document widget position name (Some place) (Some gravity) =
     answered (with_mark document widget name (record place { gravity = gravity })) Empty
 
 abbrev pub gravity_words : Document → Widget → ℕ → List ℕ × Option (List ℕ) → Change
-gravity_words document widget at (name, None) = gravity_asked document at (place_named document widget name)
-gravity_words document widget at (name, Some word) =
-    gravity_given document widget at name (place_named document widget name) (gravity_of word)
+gravity_words document widget position (name, None) = gravity_asked document position (place_named document widget name)
+gravity_words document widget position (name, Some word) =
+    gravity_given document widget position name (place_named document widget name) (gravity_of word)
 
 -- `W mark gravity M ?left or right?`
 abbrev pub mark_gravity : Document → Widget → ℕ → List (List ℕ) → Change
-mark_gravity document widget at words = change_with document (one_or_two_of words) (gravity_words document widget at)
+mark_gravity document widget position words =
+    change_with document (one_or_two_of words) (gravity_words document widget position)
 
 -- ---- names, and the order of marks
 
@@ -68,16 +68,18 @@ mark_names_of document = listed (mark_names document)
 
 -- from a mark that the widget can use
 abbrev pub origin_marked : ℕ → ℕ → Option ℕ → Result Origin Fault
-origin_marked at number None = Err (BadIndex at)
-origin_marked at number (Some place) = Ok (Mark (mark_of number))
+origin_marked position number None = Err (BadIndex position)
+origin_marked position number (Some place) = Ok (Mark (mark_of number))
 
 -- a word that is whole the name of a mark means that mark, and else the place of an index
 abbrev pub origin_of : Document → Widget → ℕ → List ℕ → Option ℕ → Result Origin Fault
-origin_of document widget at word (Some number) = origin_marked at number (mark_place document widget number)
-origin_of document widget at word None = with_value (place_at document widget at word) (λ place. Ok (Offset place))
+origin_of document widget position word (Some number) =
+    origin_marked position number (mark_place document widget number)
+origin_of document widget position word None =
+    with_value (place_at document widget position word) (λ place. Ok (Offset place))
 
 abbrev pub origin_at : Document → Widget → ℕ → List ℕ → Result Origin Fault
-origin_at document widget at word = origin_of document widget at word (mark_number document word)
+origin_at document widget position word = origin_of document widget position word (mark_number document word)
 
 -- the name of a mark, if there is one
 abbrev pub mark_answer : Document → Option WidgetMark → Result Answer Fault
@@ -91,15 +93,16 @@ abbrev pub previous_from : Document → Widget → Origin → Result Answer Faul
 previous_from document widget origin = mark_answer document (previous_mark origin (usable_marks document widget))
 
 abbrev pub next_at : Document → Widget → ℕ → List ℕ → Result Answer Fault
-next_at document widget at word = with_value (origin_at document widget at word) (next_from document widget)
+next_at document widget position word = with_value (origin_at document widget position word) (next_from document widget)
 
 abbrev pub previous_at : Document → Widget → ℕ → List ℕ → Result Answer Fault
-previous_at document widget at word = with_value (origin_at document widget at word) (previous_from document widget)
+previous_at document widget position word =
+    with_value (origin_at document widget position word) (previous_from document widget)
 
 -- `W mark next I`
 abbrev pub mark_next : Document → Widget → ℕ → List (List ℕ) → Result Answer Fault
-mark_next document widget at words = with_value (one_of words) (next_at document widget at)
+mark_next document widget position words = with_value (one_of words) (next_at document widget position)
 
 -- `W mark previous I`
 abbrev pub mark_previous : Document → Widget → ℕ → List (List ℕ) → Result Answer Fault
-mark_previous document widget at words = with_value (one_of words) (previous_at document widget at)
+mark_previous document widget position words = with_value (one_of words) (previous_at document widget position)

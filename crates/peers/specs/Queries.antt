@@ -13,14 +13,14 @@ use Rattle.search_dump.specs.declared.counting.Counted.TheVariants.{Characters, 
 use Rattle.search_dump.specs.declared.dumping.Listed.{Listed}
 use Rattle.search_dump.specs.declared.searching.SearchSwitches.{SearchSwitches}
 use Rattle.search_dump.specs.declared.searching.Wanted.TheVariants.{First, Apart, All}
-use Rattle.command_parts.specs.declared.answers.Answer.{Answer}
-use Rattle.command_parts.specs.declared.answers.Fault.{Fault}
-use Rattle.command_parts.specs.Arguments.{one_or_two_of, two_of, two_or_three_of}
-use Rattle.command_parts.specs.Faults.{with_value}
-use Rattle.command_parts.specs.Words.{is_same, literal}
+use Rattle.command_effects.specs.declared.answers.Answer.{Answer}
+use Rattle.command_effects.specs.declared.answers.Fault.{Fault}
+use Rattle.command_effects.specs.Arguments.{one_or_two_of, two_of, two_or_three_of}
+use Rattle.command_effects.specs.Faults.{with_value}
+use Rattle.command_effects.specs.Words.{is_same, literal}
 use Rattle.documents.specs.Indices.{place_at}
 use Rattle.peers.specs.Tags.{listed, place_or}
-use Rattle.documents.specs.View.{shown}
+use Rattle.documents.specs.Views.{shown}
 use Rattle.documents.specs.Documents.{Document, Widget}
 use Rattle.documents.specs.Queries.{seen}
 
@@ -62,8 +62,9 @@ search_switches words = record {
 
 -- the place of an index that may be left out
 abbrev pub stop_at : Document → Widget → ℕ → Option (List ℕ) → Result (Option ℕ) Fault
-stop_at document widget at None = Ok None
-stop_at document widget at (Some word) = with_value (place_at document widget at word) (λ place. Ok (Some place))
+stop_at document widget position None = Ok None
+stop_at document widget position (Some word) =
+    with_value (place_at document widget position word) (λ place. Ok (Some place))
 
 abbrev pub searched : Document → Widget → SearchSwitches → List ℕ → ℕ → Option ℕ → Result Answer Fault
 searched document widget switches pattern from stop =
@@ -71,14 +72,14 @@ searched document widget switches pattern from stop =
 
 abbrev pub search_words : Document → Widget → SearchSwitches → ℕ → List ℕ × List ℕ × Option (List ℕ) →
     Result Answer Fault
-search_words document widget switches at (pattern, first, last) =
-    with_value (place_at document widget (at + 1) first) (λ from.
-    with_value (stop_at document widget (at + 2) last) (searched document widget switches pattern from))
+search_words document widget switches position (pattern, first, last) =
+    with_value (place_at document widget (position + 1) first) (λ from.
+    with_value (stop_at document widget (position + 2) last) (searched document widget switches pattern from))
 
 -- `W search ?switch ..? pattern I ?J?`
 abbrev pub search : Document → Widget → List (List ℕ) → ℕ → List (List ℕ) → Result Answer Fault
-search document widget switches at words =
-    with_value (two_or_three_of words) (search_words document widget (search_switches switches) at)
+search document widget switches position words =
+    with_value (two_or_three_of words) (search_words document widget (search_switches switches) position)
 
 -- ---- count
 
@@ -89,14 +90,14 @@ abbrev pub count_between : Document → Widget → List Counted → ℕ → ℕ 
 count_between document widget options from to = listed (counted options (shown document widget) from to)
 
 abbrev pub count_words : Document → Widget → List Counted → ℕ → List ℕ × List ℕ → Result Answer Fault
-count_words document widget options at (first, second) =
-    with_value (place_at document widget at first) (λ from.
-    with_value (place_at document widget (at + 1) second) (count_between document widget options from))
+count_words document widget options position (first, second) =
+    with_value (place_at document widget position first) (λ from.
+    with_value (place_at document widget (position + 1) second) (count_between document widget options from))
 
 -- `W count ?option ..? A B`
 abbrev pub count : Document → Widget → List (List ℕ) → ℕ → List (List ℕ) → Result Answer Fault
-count document widget options at words =
-    with_value (two_of words) (count_words document widget (map counted_as options) at)
+count document widget options position words =
+    with_value (two_of words) (count_words document widget (map counted_as options) position)
 
 -- ---- dump
 
@@ -120,12 +121,12 @@ abbrev pub place_behind : Document → Widget → ℕ → ℕ
 place_behind document widget place = min (suc place) (length (shown document widget))
 
 abbrev pub dump_words : Document → Widget → Listed → ℕ → List ℕ × Option (List ℕ) → Result Answer Fault
-dump_words document widget elements at (first, last) =
-    with_value (place_at document widget at first) (λ from.
-    with_value (place_or document widget (place_behind document widget from) (at + 1) last)
+dump_words document widget elements position (first, last) =
+    with_value (place_at document widget position first) (λ from.
+    with_value (place_or document widget (place_behind document widget from) (position + 1) last)
     (dumped document widget elements from))
 
 -- `W dump ?switch ..? A ?B?`
 abbrev pub dump : Document → Widget → List (List ℕ) → ℕ → List (List ℕ) → Result Answer Fault
-dump document widget switches at words =
-    with_value (one_or_two_of words) (dump_words document widget (listed_by switches) at)
+dump document widget switches position words =
+    with_value (one_or_two_of words) (dump_words document widget (listed_by switches) position)

@@ -1,24 +1,25 @@
 -- One command of a script: the new world and an answer, or the first fault and the same world.
-use Rattle.std.specs.Prelude.{ℕ, Bool, false, nat_le, nat_lt, List, [], ◌∷◌, ◌++◌, filter, length, map, slice_set}
-use Rattle.std.specs.Prelude.{Option, None, Some, Result, Ok, Err, if◌then◌else◌}
-use Rattle.command_parts.specs.declared.answers.Answer.{Answer}
-use Rattle.command_parts.specs.declared.answers.Answer.TheVariants.{Empty, Word}
-use Rattle.command_parts.specs.declared.answers.Fault.{Fault}
-use Rattle.command_parts.specs.declared.answers.Fault.TheVariants.{WrongArguments, InvalidCommandName, WindowExists}
-use Rattle.command_parts.specs.declared.answers.Fault.TheVariants.{TooManyWidgets}
-use Rattle.command_parts.specs.Faults.{shape_fault}
-use Rattle.command_parts.specs.Settings.{first_settings}
-use Rattle.command_parts.specs.declared.settings.Settings.{Settings}
-use Rattle.command_parts.specs.Words.{is_among, is_same, literal}
+use Rattle.std.specs.Prelude.{◌≡◌, ◌≢◌, ℕ, Bool, false, nat_le, nat_lt, List, [], ◌∷◌, ◌++◌, filter, length, map}
+use Rattle.std.specs.Prelude.{slice_set, Option, None, Some, Result, Ok, Err, IfErr, if◌then◌else◌}
+use Rattle.command_effects.specs.declared.answers.Answer.{Answer}
+use Rattle.command_effects.specs.declared.answers.Answer.TheVariants.{Empty, Word}
+use Rattle.command_effects.specs.declared.answers.Fault.{Fault}
+use Rattle.command_effects.specs.declared.answers.Fault.TheVariants.{WrongArguments, InvalidCommandName, WindowExists}
+use Rattle.command_effects.specs.declared.answers.Fault.TheVariants.{Memory, TooManyWidgets}
+use Rattle.command_effects.specs.Faults.{shape_fault}
+use Rattle.command_effects.specs.Settings.{first_settings}
+use Rattle.command_effects.specs.declared.settings.Settings.{Settings}
+use Rattle.command_effects.specs.Words.{is_among, is_same, literal}
 use Rattle.command_table.specs.Reading.{reading}
 use Rattle.command_table.specs.declared.shapes.Shape.{Shape}
 use Rattle.command_table.specs.declared.shapes.ShapeFault.{ShapeFault}
 use Rattle.documents.specs.Documents.{Document, Widget}
 use Rattle.documents.specs.Kept.{is_window_name}
-use Rattle.documents.specs.Promise.{Change}
+use Rattle.documents.specs.Promise.{Change, Gives}
 use Rattle.documents.specs.Widgets.{bare_document, new_document, widget_named, without_widgets}
+use Rattle.peers.specs.WellFormed.{IsWellFormed}
 use Rattle.peers.specs.World.{World, all_windows, document_at, home}
-use Rattle.peers.specs.Command.{command, arguments_of, is_frugal_reading}
+use Rattle.peers.specs.Commands.{command, arguments_of, is_frugal_reading}
 use Rattle.peers.specs.Options.{settings_given}
 
 -- the answer or the fault, and the world after the command
@@ -28,6 +29,14 @@ pub record Outcome : Type 0 where
 
 abbrev pub refuses : World → Fault → Outcome
 refuses world fault = record { reply = Err fault; world = world }
+
+-- A command makes what its definition says, unless memory is wanted. Where it is refused, it leaves the world as it
+-- was, and in any case well formed.
+pub record Makes (old new : World) (result : Result Answer Fault) (outcome : Outcome) : Type 0 where
+  pub reply : Gives result outcome.reply
+  pub world : result ≢ Err Memory → new ≡ outcome.world
+  pub refused : IfErr result (λ _. new ≡ old)
+  pub well_formed : IsWellFormed new
 
 -- ---- text
 

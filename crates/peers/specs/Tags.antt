@@ -2,17 +2,17 @@
 use Rattle.std.specs.Prelude.{ℕ, ◌+◌, nat_lt, nat_le, List, length, Option, None, Some, Result, Ok}
 use Rattle.text_model.specs.LimitTable.{LimitTable}
 use Rattle.tcl_words.specs.ListText.{list_text}
-use Rattle.command_parts.specs.declared.answers.Answer.{Answer}
-use Rattle.command_parts.specs.declared.answers.Answer.TheVariants.{Text}
-use Rattle.command_parts.specs.declared.answers.Fault.{Fault}
-use Rattle.command_parts.specs.Arguments.{first_of, none_or_one_of, one_of, one_or_two_of, two_or_three_of}
-use Rattle.command_parts.specs.Faults.{with_value}
+use Rattle.command_effects.specs.declared.answers.Answer.{Answer}
+use Rattle.command_effects.specs.declared.answers.Answer.TheVariants.{Text}
+use Rattle.command_effects.specs.declared.answers.Fault.{Fault}
+use Rattle.command_effects.specs.Arguments.{first_of, none_or_one_of, one_of, one_or_two_of, two_or_three_of}
+use Rattle.command_effects.specs.Faults.{with_value}
 use Rattle.documents.specs.Indices.{place_at}
 use Rattle.documents.specs.Promise.{Change, change_with}
 use Rattle.peers.specs.Ranges.{places_at}
-use Rattle.documents.specs.View.{shown}
+use Rattle.documents.specs.Views.{shown}
 use Rattle.documents.specs.Documents.{Document, Widget}
-use Rattle.command_parts.specs.Listing.{begun, range_words}
+use Rattle.command_effects.specs.Listing.{begun, range_words}
 use Rattle.documents.specs.Tags.{add_spans, remove_spans, tags_on, flags_of, raised, lowered, reordered}
 use Rattle.text_index.specs.Ranges.{tag_ranges, next_range, previous_range}
 use Rattle.text_index.specs.declared.ranges.TagRange.{TagRange}
@@ -20,20 +20,22 @@ use Rattle.text_index.specs.declared.ranges.TagRange.{TagRange}
 -- ---- on characters
 
 abbrev pub add_words : LimitTable → Document → Widget → ℕ → List ℕ × List (List ℕ) → Change
-add_words limits document widget at (name, words) =
-    change_with document (places_at document widget (at + 1) words) (add_spans limits document widget name)
+add_words limits document widget position (name, words) =
+    change_with document (places_at document widget (position + 1) words) (add_spans limits document widget name)
 
 -- `W tag add T I ?I ..?`
 abbrev pub tag_add : LimitTable → Document → Widget → ℕ → List (List ℕ) → Change
-tag_add limits document widget at words = change_with document (first_of words) (add_words limits document widget at)
+tag_add limits document widget position words =
+    change_with document (first_of words) (add_words limits document widget position)
 
 abbrev pub remove_words : Document → Widget → ℕ → List ℕ × List (List ℕ) → Change
-remove_words document widget at (name, words) =
-    change_with document (places_at document widget (at + 1) words) (remove_spans document widget name)
+remove_words document widget position (name, words) =
+    change_with document (places_at document widget (position + 1) words) (remove_spans document widget name)
 
 -- `W tag remove T I ?I ..?`
 abbrev pub tag_remove : Document → Widget → ℕ → List (List ℕ) → Change
-tag_remove document widget at words = change_with document (first_of words) (remove_words document widget at)
+tag_remove document widget position words =
+    change_with document (first_of words) (remove_words document widget position)
 
 -- ---- names and ranges
 
@@ -44,12 +46,13 @@ abbrev pub names_on : Document → Widget → ℕ → Result Answer Fault
 names_on document widget place = listed (tags_on document widget place)
 
 abbrev pub names_at_word : Document → Widget → ℕ → Option (List ℕ) → Result Answer Fault
-names_at_word document widget at None = listed document.tags
-names_at_word document widget at (Some word) = with_value (place_at document widget at word) (names_on document widget)
+names_at_word document widget position None = listed document.tags
+names_at_word document widget position (Some word) =
+    with_value (place_at document widget position word) (names_on document widget)
 
 -- `W tag names ?I?`
 abbrev pub tag_names : Document → Widget → ℕ → List (List ℕ) → Result Answer Fault
-tag_names document widget at words = with_value (none_or_one_of words) (names_at_word document widget at)
+tag_names document widget position words = with_value (none_or_one_of words) (names_at_word document widget position)
 
 abbrev pub listed_ranges : Document → Widget → List TagRange → Result Answer Fault
 listed_ranges document widget ranges = listed (range_words (shown document widget) ranges)
@@ -63,8 +66,8 @@ tag_ranges_of document widget words = with_value (one_of words) (ranges_of docum
 
 -- the place of a last index, if it is there
 abbrev pub place_or : Document → Widget → ℕ → ℕ → Option (List ℕ) → Result ℕ Fault
-place_or document widget place at None = Ok place
-place_or document widget place at (Some word) = place_at document widget at word
+place_or document widget place position None = Ok place
+place_or document widget place position (Some word) = place_at document widget position word
 
 -- the first range from one place on, if it begins before another
 abbrev pub next_between : Document → Widget → List ℕ → ℕ → ℕ → Result Answer Fault
@@ -72,14 +75,14 @@ next_between document widget name from to =
     listed_ranges document widget (begun (λ start. nat_lt start to) (next_range (flags_of document widget name) from))
 
 abbrev pub next_words : Document → Widget → ℕ → List ℕ × List ℕ × Option (List ℕ) → Result Answer Fault
-next_words document widget at (name, first, last) =
-    with_value (place_at document widget (at + 1) first) (λ from.
-    with_value (place_or document widget (length (shown document widget)) (at + 2) last)
+next_words document widget position (name, first, last) =
+    with_value (place_at document widget (position + 1) first) (λ from.
+    with_value (place_or document widget (length (shown document widget)) (position + 2) last)
     (next_between document widget name from))
 
 -- `W tag nextrange T A ?B?`
 abbrev pub tag_nextrange : Document → Widget → ℕ → List (List ℕ) → Result Answer Fault
-tag_nextrange document widget at words = with_value (two_or_three_of words) (next_words document widget at)
+tag_nextrange document widget position words = with_value (two_or_three_of words) (next_words document widget position)
 
 -- the last range that begins before one place, if it doesn't begin before another
 abbrev pub previous_between : Document → Widget → List ℕ → ℕ → ℕ → Result Answer Fault
@@ -88,20 +91,21 @@ previous_between document widget name from to =
     (previous_range (flags_of document widget name) from))
 
 abbrev pub previous_words : Document → Widget → ℕ → List ℕ × List ℕ × Option (List ℕ) → Result Answer Fault
-previous_words document widget at (name, first, last) =
-    with_value (place_at document widget (at + 1) first) (λ from.
-    with_value (place_or document widget 0 (at + 2) last) (previous_between document widget name from))
+previous_words document widget position (name, first, last) =
+    with_value (place_at document widget (position + 1) first) (λ from.
+    with_value (place_or document widget 0 (position + 2) last) (previous_between document widget name from))
 
 -- `W tag prevrange T A ?B?`
 abbrev pub tag_prevrange : Document → Widget → ℕ → List (List ℕ) → Result Answer Fault
-tag_prevrange document widget at words = with_value (two_or_three_of words) (previous_words document widget at)
+tag_prevrange document widget position words =
+    with_value (two_or_three_of words) (previous_words document widget position)
 
 -- ---- priority
 
 -- `W tag raise T ?U?`
 abbrev pub tag_raise : Document → ℕ → List (List ℕ) → Change
-tag_raise document at words = change_with document (one_or_two_of words) (reordered document at raised)
+tag_raise document position words = change_with document (one_or_two_of words) (reordered document position raised)
 
 -- `W tag lower T ?U?`
 abbrev pub tag_lower : Document → ℕ → List (List ℕ) → Change
-tag_lower document at words = change_with document (one_or_two_of words) (reordered document at lowered)
+tag_lower document position words = change_with document (one_or_two_of words) (reordered document position lowered)

@@ -2,18 +2,18 @@
 use Rattle.std.specs.Prelude.{ℕ, suc, ◌+◌, List, [], ◌∷◌, filter, slice_range, Result, Ok}
 use Rattle.text_model.specs.LimitTable.{LimitTable}
 use Rattle.tcl_words.specs.ListText.{list_text}
-use Rattle.command_parts.specs.declared.answers.Answer.{Answer}
-use Rattle.command_parts.specs.declared.answers.Answer.TheVariants.{Text}
-use Rattle.command_parts.specs.declared.answers.Fault.{Fault}
-use Rattle.command_parts.specs.Arguments.{first_of}
-use Rattle.command_parts.specs.Faults.{with_value}
+use Rattle.command_effects.specs.declared.answers.Answer.{Answer}
+use Rattle.command_effects.specs.declared.answers.Answer.TheVariants.{Text}
+use Rattle.command_effects.specs.declared.answers.Fault.{Fault}
+use Rattle.command_effects.specs.Arguments.{first_of}
+use Rattle.command_effects.specs.Faults.{with_value}
 use Rattle.documents.specs.Indices.{place_at}
-use Rattle.command_parts.specs.Lists.{Pair, pairs_at}
+use Rattle.command_effects.specs.Lists.{Pair, pairs_at}
 use Rattle.documents.specs.Promise.{Change, change_with, unless_idle}
 use Rattle.peers.specs.Ranges.{places_at}
-use Rattle.documents.specs.View.{shown}
+use Rattle.documents.specs.Views.{shown}
 use Rattle.documents.specs.Documents.{Document, Widget}
-use Rattle.command_parts.specs.Listing.{is_filled}
+use Rattle.command_effects.specs.Listing.{is_filled}
 use Rattle.documents.specs.Texts.{insert_at, insertion_offset}
 
 abbrev pub insert_pairs : LimitTable → Document → Widget → Result (List Pair) Fault → ℕ → Change
@@ -22,13 +22,14 @@ insert_pairs limits document widget pairs place =
     (insert_at limits document widget (insertion_offset document widget place) pairs))
 
 abbrev pub insert_words : LimitTable → Document → Widget → ℕ → List ℕ × List (List ℕ) → Change
-insert_words limits document widget at (index, words) =
-    change_with document (place_at document widget at index)
-    (insert_pairs limits document widget (pairs_at (at + 1) words))
+insert_words limits document widget position (index, words) =
+    change_with document (place_at document widget position index)
+    (insert_pairs limits document widget (pairs_at (position + 1) words))
 
 -- `W insert I chars ?tagList chars ..?`
 abbrev pub insert : LimitTable → Document → Widget → ℕ → List (List ℕ) → Change
-insert limits document widget at words = change_with document (first_of words) (insert_words limits document widget at)
+insert limits document widget position words =
+    change_with document (first_of words) (insert_words limits document widget position)
 
 -- the characters of the view from one place to another
 abbrev pub text_of : Document → Widget → ℕ → ℕ → List ℕ
@@ -51,5 +52,5 @@ got document widget (from ∷ to ∷ next ∷ places) =
 
 -- `W get I ?I ..?`
 abbrev pub get : Document → Widget → ℕ → List (List ℕ) → Result Answer Fault
-get document widget at words =
-    with_value (places_at document widget at words) (λ places. Ok (got document widget places))
+get document widget position words =
+    with_value (places_at document widget position words) (λ places. Ok (got document widget places))

@@ -2,7 +2,7 @@
 use Rattle.std.specs.Prelude.{◌<◌, ◌≤◌, length}
 use Rattle.std.specs.List.{AllByRecursion, IsDistinct}
 use Rattle.text_model.specs.LimitTable.{AreLimits}
-use Rattle.command_parts.specs.Words.{is_same}
+use Rattle.command_effects.specs.Words.{is_same}
 use Rattle.documents.specs.WellFormed.{IsWellFormedDocument}
 use Rattle.documents.specs.Documents.{Document}
 use Rattle.peers.specs.World.{World, all_windows}

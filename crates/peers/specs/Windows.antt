@@ -1,7 +1,7 @@
 -- Where widgets are found: for the name of each the place of its document.
 use Rattle.std.specs.Prelude.{ℕ, suc, List, [], ◌∷◌, ◌++◌, map, Option, None, Some, String, chars, string_bytes}
 use Rattle.std.specs.Prelude.{if◌then◌else◌}
-use Rattle.command_parts.specs.Words.{is_same}
+use Rattle.command_effects.specs.Words.{is_same}
 use Rattle.documents.specs.Documents.{Document}
 use Rattle.documents.specs.WellFormed.{window_names}
 

@@ -1,7 +1,7 @@
 -- All that a session of commands can see later.
 use Rattle.std.specs.Prelude.{ℕ, suc, List, [], ◌∷◌, flat_map, get_or, option_map, Option, None, Some, if◌then◌else◌}
 use Rattle.text_model.specs.LimitTable.{LimitTable}
-use Rattle.command_parts.specs.Words.{is_among}
+use Rattle.command_effects.specs.Words.{is_among}
 use Rattle.documents.specs.Documents.{Document}
 use Rattle.documents.specs.WellFormed.{window_names}
 use Rattle.documents.specs.Widgets.{bare_document}

@@ -5,8 +5,8 @@ ghost use Rattle.text_model.specs.LimitTable.{LimitTable, AreLimits};
 ghost use Rattle.text_model.specs.Lines.{lines};
 ghost use Rattle.text_model.specs.declared.limits.TheConstants.Limits.{MOST_WIDGETS};
 ghost use Rattle.tcl_words.specs.Unread.{texts_of};
-ghost use Rattle.command_parts.specs.Settings.{is_behind};
-ghost use Rattle.command_parts.specs.Words.{is_among, is_same};
+ghost use Rattle.command_effects.specs.Settings.{is_behind};
+ghost use Rattle.command_effects.specs.Words.{is_among, is_same};
 ghost use Rattle.documents.specs.Documents.{characters};
 ghost use Rattle.documents.specs.Kept.{is_window_name};
 ghost use Rattle.documents.specs.Options.{AreLines};
@@ -17,7 +17,7 @@ ghost use Rattle.peers.specs.Windows.{homes_of, names_in};
 ghost use Rattle.peers.specs.World.{document_at, windows_of};
 
 use crate::windows::Windows;
-use command_parts::Settings;
+use command_effects::Settings;
 use documents::{Document, drop_widgets};
 use std::alloc::{AllocError, Global};
 use text_model::TextStore;
@@ -37,8 +37,8 @@ fn count_to<S: TextStore>(documents: &[Document<S>], place: usize) -> usize
     ensures { result ≡ length (windows_of (take (place + 1) documents.now)) }
 {
     let mut count = 0;
-    for at in 0..place + 1 {
-        count += documents[at].widget_count();
+    for index in 0..place + 1 {
+        count += documents[index].widget_count();
     }
     count
 }

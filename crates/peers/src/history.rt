@@ -1,12 +1,12 @@
 ghost use Rattle.std.specs.Prelude.{◌≢◌, chars, option_map, Err, ok_or, ◌<◌};
 ghost use Rattle.tcl_words.specs.Unread.{texts_of};
 ghost use Rattle.command_table.specs.Numbers.{boolean_of};
-ghost use Rattle.command_parts.specs.declared.answers.Fault.TheVariants.{BadBoolean, Memory};
+ghost use Rattle.command_effects.specs.declared.answers.Fault.TheVariants.{BadBoolean, Memory};
 ghost use Rattle.documents.specs.History.{modified_set};
 ghost use Rattle.peers.specs.History.{edit_modified, modified_word};
 ghost use Rattle.documents.specs.Promise.{Does, change_with};
 
-use command_parts::{Answer, Fault, boolean_at, none_or_one};
+use command_effects::{Answer, Fault, boolean_at, none_or_one};
 use documents::Document;
 use text_model::{Limits, TextStore};
 
@@ -14,14 +14,15 @@ use text_model::{Limits, TextStore};
 fn set_modified_by<S: TextStore>(
     document: &mut Document<S>,
     limits: &Limits,
-    at: usize,
+    position: usize,
     word: &str,
 ) -> Result<Answer, Fault>
     ensures does { Does limits.now document.old document.new result
-        (change_with document.old (ok_or (boolean_of (chars word.now)) (BadBoolean at)) (modified_set document.old)) }
+        (change_with document.old (ok_or (boolean_of (chars word.now)) (BadBoolean position))
+        (modified_set document.old)) }
     ensures frugal { result ≢ Err Memory }
 {
-    match boolean_at(at, word) {
+    match boolean_at(position, word) {
         Err(fault) => Err(fault),
         Ok(modified) => Ok(document.set_modified(limits, modified)),
     }
@@ -30,16 +31,16 @@ fn set_modified_by<S: TextStore>(
 fn modified_word<S: TextStore>(
     document: &mut Document<S>,
     limits: &Limits,
-    at: usize,
+    position: usize,
     word: Option<&str>,
 ) -> Result<Answer, Fault>
     ensures does { Does limits.now document.old document.new result
-        (modified_word document.old at (option_map (λ word. chars word.now) word.entry)) }
+        (modified_word document.old position (option_map (λ word. chars word.now) word.entry)) }
     ensures frugal { result ≢ Err Memory }
 {
     match word {
         None => Ok(Answer::Flag(document.is_modified())),
-        Some(word) => set_modified_by(document, limits, at, word),
+        Some(word) => set_modified_by(document, limits, position, word),
     }
 }
 
@@ -47,15 +48,15 @@ fn modified_word<S: TextStore>(
 pub fn edit_modified<S: TextStore>(
     document: &mut Document<S>,
     limits: &Limits,
-    at: usize,
+    position: usize,
     arguments: &[String],
 ) -> Result<Answer, Fault>
     ensures does { Does limits.now document.old document.new result
-        (edit_modified document.old at (texts_of arguments.now)) }
+        (edit_modified document.old position (texts_of arguments.now)) }
     ensures frugal { result ≢ Err Memory }
 {
     match none_or_one(arguments) {
         Err(fault) => Err(fault),
-        Ok(word) => modified_word(document, limits, at, word),
+        Ok(word) => modified_word(document, limits, position, word),
     }
 }

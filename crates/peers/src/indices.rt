@@ -1,13 +1,13 @@
 ghost use Rattle.std.specs.Prelude.{◌≡◌, ◌+◌, ◌≤◌, length, chars, IfOk, ◌<◌};
 ghost use Rattle.tcl_words.specs.Unread.{texts_of};
 ghost use Rattle.documents.specs.Documents.{widget_at};
-ghost use Rattle.documents.specs.View.{shown};
-ghost use Rattle.command_parts.specs.Faults.{with_value};
+ghost use Rattle.documents.specs.Views.{shown};
+ghost use Rattle.command_effects.specs.Faults.{with_value};
 ghost use Rattle.documents.specs.Promise.{Gives};
 ghost use Rattle.peers.specs.Indices.{position_answer, index_of, index, compared, compared_at, compare};
-ghost use Rattle.command_parts.specs.Comparisons.{comparison_at, comparison_of};
+ghost use Rattle.command_effects.specs.Comparisons.{comparison_at, comparison_of};
 
-use command_parts::{Answer, Comparison, Fault, one, three};
+use command_effects::{Answer, Comparison, Fault, one, three};
 use documents::Document;
 use text_model::TextStore;
 
@@ -40,83 +40,83 @@ fn compared(
 /// A place as `line.char`.
 fn show_place<S: TextStore>(
     document: &Document<S>,
-    widget: usize,
+    seat: usize,
     place: Result<usize, Fault>,
 ) -> Result<Answer, Fault>
-    requires shown { widget < length document.now.widgets }
-    requires within { IfOk place (λ place. place ≤ length (shown document.now (widget_at document.now widget))) }
-    ensures { Gives result (with_value place (position_answer document.now (widget_at document.now widget))) }
+    requires shown { seat < length document.now.widgets }
+    requires within { IfOk place (λ place. place ≤ length (shown document.now (widget_at document.now seat))) }
+    ensures { Gives result (with_value place (position_answer document.now (widget_at document.now seat))) }
 {
     match place {
         Err(fault) => Err(fault),
-        Ok(place) => Ok(Answer::Text(document.position_of(widget, place)?)),
+        Ok(place) => Ok(Answer::Text(document.position_of(seat, place)?)),
     }
 }
 
 fn index_of<S: TextStore>(
     document: &Document<S>,
-    widget: usize,
-    at: usize,
+    seat: usize,
+    position: usize,
     word: &str,
 ) -> Result<Answer, Fault>
-    requires shown { widget < length document.now.widgets }
-    ensures { Gives result (index_of document.now (widget_at document.now widget) at (chars word.now)) }
+    requires shown { seat < length document.now.widgets }
+    ensures { Gives result (index_of document.now (widget_at document.now seat) position (chars word.now)) }
 {
-    show_place(document, widget, document.place_at(widget, at, word))
+    show_place(document, seat, document.place_at(seat, position, word))
 }
 
 /// `W index I` (text(n), "index"). The argument stands at a position.
 pub fn index<S: TextStore>(
     document: &Document<S>,
-    widget: usize,
-    at: usize,
+    seat: usize,
+    position: usize,
     arguments: &[String],
 ) -> Result<Answer, Fault>
-    requires shown { widget < length document.now.widgets }
-    ensures { Gives result (index document.now (widget_at document.now widget) at (texts_of arguments.now)) }
+    requires shown { seat < length document.now.widgets }
+    ensures { Gives result (index document.now (widget_at document.now seat) position (texts_of arguments.now)) }
 {
     match one(arguments) {
         Err(fault) => Err(fault),
-        Ok(word) => index_of(document, widget, at, word),
+        Ok(word) => index_of(document, seat, position, word),
     }
 }
 
 fn compared_at<S: TextStore>(
     document: &Document<S>,
-    widget: usize,
-    at: usize,
+    seat: usize,
+    position: usize,
     left: &str,
     operator: &str,
     right: &str,
 ) -> Result<Answer, Fault>
-    requires shown { widget < length document.now.widgets }
-    requires near { at + 2 ≤ usize.MAX }
+    requires shown { seat < length document.now.widgets }
+    requires near { position + 2 ≤ usize.MAX }
     ensures { Gives result
-        (compared_at document.now (widget_at document.now widget) at (
+        (compared_at document.now (widget_at document.now seat) position (
           chars left.now,
           chars operator.now,
           chars right.now,
         )) }
 {
-    let from = document.place_at(widget, at, left);
-    let comparison = read_comparison(at + 1, operator);
-    let to = document.place_at(widget, at + 2, right);
+    let from = document.place_at(seat, position, left);
+    let comparison = read_comparison(position + 1, operator);
+    let to = document.place_at(seat, position + 2, right);
     compared(from, comparison, to)
 }
 
 /// `W compare A op B` (text(n), "compare"). The arguments stand from a position on.
 pub fn compare<S: TextStore>(
     document: &Document<S>,
-    widget: usize,
-    at: usize,
+    seat: usize,
+    position: usize,
     arguments: &[String],
 ) -> Result<Answer, Fault>
-    requires shown { widget < length document.now.widgets }
-    requires near { at + 2 ≤ usize.MAX }
-    ensures { Gives result (compare document.now (widget_at document.now widget) at (texts_of arguments.now)) }
+    requires shown { seat < length document.now.widgets }
+    requires near { position + 2 ≤ usize.MAX }
+    ensures { Gives result (compare document.now (widget_at document.now seat) position (texts_of arguments.now)) }
 {
     match three(arguments) {
         Err(fault) => Err(fault),
-        Ok((left, operator, right)) => compared_at(document, widget, at, left, operator, right),
+        Ok((left, operator, right)) => compared_at(document, seat, position, left, operator, right),
     }
 }

@@ -1,6 +1,6 @@
 //! Laws of a session's commands, each the contract of a function that does nothing.
 
-ghost use Rattle.peers.specs.Undoing.{UndoRuns};
+ghost use Rattle.peers.specs.Laws.{UndoRuns};
 
 /// Any commands of any widgets are undone, and redone. Take a document that keeps all actions and begins with none, and
 /// commands of which none resets its history, sets its `-undo` or `-maxundo`, or ends it. Then `edit undo` of an

@@ -9,14 +9,14 @@ mod indices;
 pub mod laws;
 mod marks;
 mod options;
-mod peers;
 mod queries;
 mod ranges;
 mod tags;
 mod texts;
+mod widgets;
 mod windows;
 mod words;
 mod world;
 
-pub use command_parts::{Answer, Fault};
+pub use command_effects::{Answer, Fault};
 pub use world::World;

@@ -1,8 +1,8 @@
 ghost use Rattle.std.specs.Prelude.{◌≡◌, ◌+◌, ◌≤◌, length, chars, option_map, IfOk, ◌<◌};
 ghost use Rattle.tcl_words.specs.Unread.{texts_of};
 ghost use Rattle.documents.specs.Documents.{widget_at};
-ghost use Rattle.documents.specs.View.{shown};
-ghost use Rattle.command_parts.specs.Faults.{with_value};
+ghost use Rattle.documents.specs.Views.{shown};
+ghost use Rattle.command_effects.specs.Faults.{with_value};
 ghost use Rattle.documents.specs.Promise.{Gives, Does, change_with};
 ghost use Rattle.documents.specs.Marks.{place_named};
 ghost use Rattle.peers.specs.Marks.{set_at, set_words, mark_set, gravity_asked, gravity_given, gravity_words};
@@ -12,7 +12,7 @@ ghost use Rattle.mark_table.specs.Order.{rank_of};
 ghost use Rattle.documents.specs.Names.{mark_place};
 ghost use Rattle.peers.specs.Marks.{origin_marked};
 
-use command_parts::{Answer, Fault, one, one_or_two, read_gravity, two};
+use command_effects::{Answer, Fault, one, one_or_two, read_gravity, two};
 use documents::Document;
 use mark_table::{Origin, WidgetMark};
 use text_model::{Gravity, Limits, Place, TextStore};
@@ -21,24 +21,24 @@ use text_model::{Gravity, Limits, Place, TextStore};
 fn set_at<S: TextStore>(
     document: &mut Document<S>,
     limits: &Limits,
-    widget: usize,
+    seat: usize,
     name: &str,
     place: usize,
 ) -> Result<Answer, Fault>
-    requires shown { widget < length document.old.widgets }
-    requires within { place ≤ length (shown document.old (widget_at document.old widget)) }
+    requires shown { seat < length document.old.widgets }
+    requires within { place ≤ length (shown document.old (widget_at document.old seat)) }
     ensures { Does limits.now document.old document.new result
-        (set_at limits.now document.old (widget_at document.old widget) (chars name.now) place) }
+        (set_at limits.now document.old (widget_at document.old seat) (chars name.now) place) }
 {
-    let offset = document.mark_offset(widget, name, place);
-    match document.place_named(widget, name) {
-        None => document.make_mark(limits, widget, name, offset),
+    let offset = document.mark_offset(seat, name, place);
+    match document.place_named(seat, name) {
+        None => document.make_mark(limits, seat, name, offset),
         Some(old) => {
             let place = Place {
                 offset,
                 gravity: old.gravity,
             };
-            document.put_mark(limits, widget, name, place)
+            document.put_mark(limits, seat, name, place)
         }
     }
 }
@@ -46,68 +46,68 @@ fn set_at<S: TextStore>(
 fn set_place<S: TextStore>(
     document: &mut Document<S>,
     limits: &Limits,
-    widget: usize,
+    seat: usize,
     name: &str,
     place: Result<usize, Fault>,
 ) -> Result<Answer, Fault>
-    requires shown { widget < length document.old.widgets }
-    requires within { IfOk place (λ place. place ≤ length (shown document.old (widget_at document.old widget))) }
+    requires shown { seat < length document.old.widgets }
+    requires within { IfOk place (λ place. place ≤ length (shown document.old (widget_at document.old seat))) }
     ensures { Does limits.now document.old document.new result
-        (change_with document.old place (set_at limits.now document.old (widget_at document.old widget)
+        (change_with document.old place (set_at limits.now document.old (widget_at document.old seat)
         (chars name.now))) }
 {
     match place {
         Err(fault) => Err(fault),
-        Ok(place) => set_at(document, limits, widget, name, place),
+        Ok(place) => set_at(document, limits, seat, name, place),
     }
 }
 
 fn set_words<S: TextStore>(
     document: &mut Document<S>,
     limits: &Limits,
-    widget: usize,
-    at: usize,
+    seat: usize,
+    position: usize,
     name: &str,
     word: &str,
 ) -> Result<Answer, Fault>
-    requires shown { widget < length document.old.widgets }
-    requires near { at + 1 ≤ usize.MAX }
+    requires shown { seat < length document.old.widgets }
+    requires near { position + 1 ≤ usize.MAX }
     ensures { Does limits.now document.old document.new result
-        (set_words limits.now document.old (widget_at document.old widget) at (chars name.now, chars word.now)) }
+        (set_words limits.now document.old (widget_at document.old seat) position (chars name.now, chars word.now)) }
 {
-    let place = document.place_at(widget, at + 1, word);
-    set_place(document, limits, widget, name, place)
+    let place = document.place_at(seat, position + 1, word);
+    set_place(document, limits, seat, name, place)
 }
 
 /// `W mark set M I` (text(n), "mark set"). The arguments stand from a position on.
 pub fn mark_set<S: TextStore>(
     document: &mut Document<S>,
     limits: &Limits,
-    widget: usize,
-    at: usize,
+    seat: usize,
+    position: usize,
     arguments: &[String],
 ) -> Result<Answer, Fault>
-    requires shown { widget < length document.old.widgets }
-    requires near { at + 1 ≤ usize.MAX }
+    requires shown { seat < length document.old.widgets }
+    requires near { position + 1 ≤ usize.MAX }
     ensures { Does limits.now document.old document.new result
-        (mark_set limits.now document.old (widget_at document.old widget) at (texts_of arguments.now)) }
+        (mark_set limits.now document.old (widget_at document.old seat) position (texts_of arguments.now)) }
 {
     match two(arguments) {
         Err(fault) => Err(fault),
-        Ok((name, word)) => set_words(document, limits, widget, at, name, word),
+        Ok((name, word)) => set_words(document, limits, seat, position, name, word),
     }
 }
 
 /// The gravity of the mark that stands at a place, if there is one.
 fn gravity_asked<S: TextStore>(
     document: &Document<S>,
-    at: usize,
+    position: usize,
     place: Option<Place>,
 ) -> Result<Answer, Fault>
-    ensures { Gives result (gravity_asked document.now at place).reply }
+    ensures { Gives result (gravity_asked document.now position place).reply }
 {
     match place {
-        None => Err(Fault::NoSuchMark(at)),
+        None => Err(Fault::NoSuchMark(position)),
         Some(place) => Ok(Answer::Text(document.gravity_text(place.gravity)?)),
     }
 }
@@ -116,26 +116,26 @@ fn gravity_asked<S: TextStore>(
 fn gravity_given<S: TextStore>(
     document: &mut Document<S>,
     limits: &Limits,
-    widget: usize,
-    at: usize,
+    seat: usize,
+    position: usize,
     name: &str,
     gravity: Option<Gravity>,
 ) -> Result<Answer, Fault>
-    requires shown { widget < length document.old.widgets }
-    requires near { at + 1 ≤ usize.MAX }
+    requires shown { seat < length document.old.widgets }
+    requires near { position + 1 ≤ usize.MAX }
     ensures { Does limits.now document.old document.new result
-        (gravity_given document.old (widget_at document.old widget) at (chars name.now)
-        (place_named document.old (widget_at document.old widget) (chars name.now)) gravity) }
+        (gravity_given document.old (widget_at document.old seat) position (chars name.now)
+        (place_named document.old (widget_at document.old seat) (chars name.now)) gravity) }
 {
-    match (document.place_named(widget, name), gravity) {
-        (None, _) => Err(Fault::NoSuchMark(at)),
-        (Some(_), None) => Err(Fault::BadGravity(at + 1)),
+    match (document.place_named(seat, name), gravity) {
+        (None, _) => Err(Fault::NoSuchMark(position)),
+        (Some(_), None) => Err(Fault::BadGravity(position + 1)),
         (Some(old), Some(gravity)) => {
             let place = Place {
                 offset: old.offset,
                 gravity,
             };
-            document.put_mark(limits, widget, name, place)
+            document.put_mark(limits, seat, name, place)
         }
     }
 }
@@ -143,22 +143,22 @@ fn gravity_given<S: TextStore>(
 fn gravity_words<S: TextStore>(
     document: &mut Document<S>,
     limits: &Limits,
-    widget: usize,
-    at: usize,
+    seat: usize,
+    position: usize,
     name: &str,
     word: Option<&str>,
 ) -> Result<Answer, Fault>
-    requires shown { widget < length document.old.widgets }
-    requires near { at + 1 ≤ usize.MAX }
+    requires shown { seat < length document.old.widgets }
+    requires near { position + 1 ≤ usize.MAX }
     ensures { Does limits.now document.old document.new result
-        (gravity_words document.old (widget_at document.old widget) at (
+        (gravity_words document.old (widget_at document.old seat) position (
           chars name.now,
           option_map (λ word. chars word.now) word.entry,
         )) }
 {
     match word {
-        None => gravity_asked(document, at, document.place_named(widget, name)),
-        Some(word) => gravity_given(document, limits, widget, at, name, read_gravity(word)),
+        None => gravity_asked(document, position, document.place_named(seat, name)),
+        Some(word) => gravity_given(document, limits, seat, position, name, read_gravity(word)),
     }
 }
 
@@ -166,18 +166,18 @@ fn gravity_words<S: TextStore>(
 pub fn mark_gravity<S: TextStore>(
     document: &mut Document<S>,
     limits: &Limits,
-    widget: usize,
-    at: usize,
+    seat: usize,
+    position: usize,
     arguments: &[String],
 ) -> Result<Answer, Fault>
-    requires shown { widget < length document.old.widgets }
-    requires near { at + 1 ≤ usize.MAX }
+    requires shown { seat < length document.old.widgets }
+    requires near { position + 1 ≤ usize.MAX }
     ensures { Does limits.now document.old document.new result
-        (mark_gravity document.old (widget_at document.old widget) at (texts_of arguments.now)) }
+        (mark_gravity document.old (widget_at document.old seat) position (texts_of arguments.now)) }
 {
     match one_or_two(arguments) {
         Err(fault) => Err(fault),
-        Ok((name, word)) => gravity_words(document, limits, widget, at, name, word),
+        Ok((name, word)) => gravity_words(document, limits, seat, position, name, word),
     }
 }
 
@@ -204,34 +204,34 @@ fn mark_answer<S: TextStore>(
 /// A mark where a walk begins, if the widget can use it.
 fn origin_marked<S: TextStore>(
     document: &Document<S>,
-    widget: usize,
-    at: usize,
+    seat: usize,
+    position: usize,
     mark: WidgetMark,
 ) -> Result<Origin, Fault>
-    requires shown { widget < length document.now.widgets }
-    ensures { result ≡ origin_marked at (rank_of mark)
-        (mark_place document.now (widget_at document.now widget) (rank_of mark)) }
+    requires shown { seat < length document.now.widgets }
+    ensures { result ≡ origin_marked position (rank_of mark)
+        (mark_place document.now (widget_at document.now seat) (rank_of mark)) }
 {
-    if document.shows_mark(widget, mark) {
+    if document.shows_mark(seat, mark) {
         Ok(Origin::Mark(mark))
     } else {
-        Err(Fault::BadIndex(at))
+        Err(Fault::BadIndex(position))
     }
 }
 
 /// Where a walk begins: at the mark whose name the whole word is, else at the place of the index.
 fn origin_at<S: TextStore>(
     document: &Document<S>,
-    widget: usize,
-    at: usize,
+    seat: usize,
+    position: usize,
     word: &str,
 ) -> Result<Origin, Fault>
-    requires shown { widget < length document.now.widgets }
-    ensures { Gives result (origin_at document.now (widget_at document.now widget) at (chars word.now)) }
+    requires shown { seat < length document.now.widgets }
+    ensures { Gives result (origin_at document.now (widget_at document.now seat) position (chars word.now)) }
 {
     match document.find_mark(word) {
-        Some(mark) => origin_marked(document, widget, at, mark),
-        None => match document.place_at(widget, at, word) {
+        Some(mark) => origin_marked(document, seat, position, mark),
+        None => match document.place_at(seat, position, word) {
             Err(fault) => Err(fault),
             Ok(place) => Ok(Origin::Place(place)),
         },
@@ -240,84 +240,85 @@ fn origin_at<S: TextStore>(
 
 fn next_from<S: TextStore>(
     document: &Document<S>,
-    widget: usize,
+    seat: usize,
     origin: Result<Origin, Fault>,
 ) -> Result<Answer, Fault>
-    requires shown { widget < length document.now.widgets }
-    ensures { Gives result (with_value origin (next_from document.now (widget_at document.now widget))) }
+    requires shown { seat < length document.now.widgets }
+    ensures { Gives result (with_value origin (next_from document.now (widget_at document.now seat))) }
 {
     match origin {
         Err(fault) => Err(fault),
-        Ok(origin) => mark_answer(document, document.next_mark(widget, origin)),
+        Ok(origin) => mark_answer(document, document.next_mark(seat, origin)),
     }
 }
 
 fn previous_from<S: TextStore>(
     document: &Document<S>,
-    widget: usize,
+    seat: usize,
     origin: Result<Origin, Fault>,
 ) -> Result<Answer, Fault>
-    requires shown { widget < length document.now.widgets }
-    ensures { Gives result (with_value origin (previous_from document.now (widget_at document.now widget))) }
+    requires shown { seat < length document.now.widgets }
+    ensures { Gives result (with_value origin (previous_from document.now (widget_at document.now seat))) }
 {
     match origin {
         Err(fault) => Err(fault),
-        Ok(origin) => mark_answer(document, document.previous_mark(widget, origin)),
+        Ok(origin) => mark_answer(document, document.previous_mark(seat, origin)),
     }
 }
 
 fn next_at<S: TextStore>(
     document: &Document<S>,
-    widget: usize,
-    at: usize,
+    seat: usize,
+    position: usize,
     word: &str,
 ) -> Result<Answer, Fault>
-    requires shown { widget < length document.now.widgets }
-    ensures { Gives result (next_at document.now (widget_at document.now widget) at (chars word.now)) }
+    requires shown { seat < length document.now.widgets }
+    ensures { Gives result (next_at document.now (widget_at document.now seat) position (chars word.now)) }
 {
-    next_from(document, widget, origin_at(document, widget, at, word))
+    next_from(document, seat, origin_at(document, seat, position, word))
 }
 
 fn previous_at<S: TextStore>(
     document: &Document<S>,
-    widget: usize,
-    at: usize,
+    seat: usize,
+    position: usize,
     word: &str,
 ) -> Result<Answer, Fault>
-    requires shown { widget < length document.now.widgets }
-    ensures { Gives result (previous_at document.now (widget_at document.now widget) at (chars word.now)) }
+    requires shown { seat < length document.now.widgets }
+    ensures { Gives result (previous_at document.now (widget_at document.now seat) position (chars word.now)) }
 {
-    previous_from(document, widget, origin_at(document, widget, at, word))
+    previous_from(document, seat, origin_at(document, seat, position, word))
 }
 
 /// `W mark next I` (text(n), "mark next"). The argument stands at a position.
 pub fn mark_next<S: TextStore>(
     document: &Document<S>,
-    widget: usize,
-    at: usize,
+    seat: usize,
+    position: usize,
     arguments: &[String],
 ) -> Result<Answer, Fault>
-    requires shown { widget < length document.now.widgets }
-    ensures { Gives result (mark_next document.now (widget_at document.now widget) at (texts_of arguments.now)) }
+    requires shown { seat < length document.now.widgets }
+    ensures { Gives result (mark_next document.now (widget_at document.now seat) position (texts_of arguments.now)) }
 {
     match one(arguments) {
         Err(fault) => Err(fault),
-        Ok(word) => next_at(document, widget, at, word),
+        Ok(word) => next_at(document, seat, position, word),
     }
 }
 
 /// `W mark previous I` (text(n), "mark previous"). The argument stands at a position.
 pub fn mark_previous<S: TextStore>(
     document: &Document<S>,
-    widget: usize,
-    at: usize,
+    seat: usize,
+    position: usize,
     arguments: &[String],
 ) -> Result<Answer, Fault>
-    requires shown { widget < length document.now.widgets }
-    ensures { Gives result (mark_previous document.now (widget_at document.now widget) at (texts_of arguments.now)) }
+    requires shown { seat < length document.now.widgets }
+    ensures { Gives result
+        (mark_previous document.now (widget_at document.now seat) position (texts_of arguments.now)) }
 {
     match one(arguments) {
         Err(fault) => Err(fault),
-        Ok(word) => previous_at(document, widget, at, word),
+        Ok(word) => previous_at(document, seat, position, word),
     }
 }

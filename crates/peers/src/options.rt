@@ -1,15 +1,15 @@
 ghost use Rattle.std.specs.Prelude.{◌≡◌, ◌+◌, ◌≤◌, length, chars, Ok, ◌<◌, false, IfOk};
 ghost use Rattle.tcl_words.specs.Unread.{texts_of};
-ghost use Rattle.command_parts.specs.Settings.{setting_answer};
+ghost use Rattle.command_effects.specs.Settings.{setting_answer};
 ghost use Rattle.documents.specs.Options.{settings_of};
 ghost use Rattle.peers.specs.Options.{cget, configure};
 ghost use Rattle.documents.specs.Promise.{Does, Gives};
 ghost use Rattle.documents.specs.Documents.{widget_at};
-ghost use Rattle.command_parts.specs.Settings.{is_behind, settings_checked, settings_read};
-ghost use Rattle.command_parts.specs.Faults.{with_value};
+ghost use Rattle.command_effects.specs.Settings.{is_behind, settings_checked, settings_read};
+ghost use Rattle.command_effects.specs.Faults.{with_value};
 ghost use Rattle.documents.specs.Options.{AreLines};
 
-use command_parts::{Answer, Fault, Settings, one};
+use command_effects::{Answer, Fault, Settings, one};
 use documents::Document;
 use text_model::{Limits, TextStore};
 
@@ -17,17 +17,17 @@ use text_model::{Limits, TextStore};
 /// each value is decided, and then whether the view begins behind its end.
 pub fn settings_given(
     settings: Settings,
-    at: usize,
+    position: usize,
     words: &[String],
     lines: usize,
 ) -> Result<Settings, Fault>
-    requires near { at + length words.now ≤ usize.MAX }
+    requires near { position + length words.now ≤ usize.MAX }
     requires lines { AreLines lines settings }
-    ensures value { result ≡ with_value (settings_read lines at (texts_of words.now) settings) settings_checked }
+    ensures value { result ≡ with_value (settings_read lines position (texts_of words.now) settings) settings_checked }
     ensures lines { IfOk result (AreLines lines) }
     ensures ordered { IfOk result (λ settings. is_behind settings.start settings.end ≡ false) }
 {
-    match settings.read(at, words, lines) {
+    match settings.read(position, words, lines) {
         Err(fault) => Err(fault),
         Ok(settings) => settings.checked(),
     }
@@ -37,34 +37,30 @@ pub fn settings_given(
 pub fn configure<S: TextStore>(
     document: &mut Document<S>,
     limits: &Limits,
-    widget: usize,
-    at: usize,
+    seat: usize,
+    position: usize,
     words: &[String],
 ) -> Result<Answer, Fault>
-    requires shown { widget < length document.old.widgets }
-    requires near { at + length words.now ≤ usize.MAX }
+    requires shown { seat < length document.old.widgets }
+    requires near { position + length words.now ≤ usize.MAX }
     ensures { Does limits.now document.old document.new result
-        (configure document.old (widget_at document.old widget) at (texts_of words.now)) }
+        (configure document.old (widget_at document.old seat) position (texts_of words.now)) }
 {
-    match settings_given(document.settings(widget), at, words, document.lines()) {
+    match settings_given(document.settings(seat), position, words, document.lines()) {
         Err(fault) => Err(fault),
-        Ok(settings) => Ok(document.put_settings(limits, widget, settings)),
+        Ok(settings) => Ok(document.put_settings(limits, seat, settings)),
     }
 }
 
 /// The value of an option. The name is one of the options.
-fn setting<S: TextStore>(
-    document: &Document<S>,
-    widget: usize,
-    option: &str,
-) -> Result<Answer, Fault>
-    requires shown { widget < length document.now.widgets }
+fn setting<S: TextStore>(document: &Document<S>, seat: usize, option: &str) -> Result<Answer, Fault>
+    requires shown { seat < length document.now.widgets }
     ensures { Gives result (Ok (setting_answer (chars option.now)
-        (settings_of document.now (widget_at document.now widget)))) }
+        (settings_of document.now (widget_at document.now seat)))) }
 {
     Ok(
         document
-            .settings(widget)
+            .settings(seat)
             .answer(document.allocator(), option)?,
     )
 }
@@ -72,14 +68,14 @@ fn setting<S: TextStore>(
 /// `W cget option` (text(n), "cget").
 pub fn cget<S: TextStore>(
     document: &Document<S>,
-    widget: usize,
+    seat: usize,
     words: &[String],
 ) -> Result<Answer, Fault>
-    requires shown { widget < length document.now.widgets }
-    ensures { Gives result (cget document.now (widget_at document.now widget) (texts_of words.now)) }
+    requires shown { seat < length document.now.widgets }
+    ensures { Gives result (cget document.now (widget_at document.now seat) (texts_of words.now)) }
 {
     match one(words) {
         Err(fault) => Err(fault),
-        Ok(option) => setting(document, widget, option),
+        Ok(option) => setting(document, seat, option),
     }
 }

@@ -1,6 +1,6 @@
 ghost use Rattle.std.specs.Prelude.{◌≡◌, ◌+◌, ◌≤◌, length, map, chars, option_map, Ok, IfOk, IfSome, ◌<◌, false};
 ghost use Rattle.tcl_words.specs.Unread.{texts_of};
-ghost use Rattle.command_parts.specs.Faults.{with_value};
+ghost use Rattle.command_effects.specs.Faults.{with_value};
 ghost use Rattle.documents.specs.Promise.{Gives};
 ghost use Rattle.peers.specs.Queries.{
   count,
@@ -22,11 +22,11 @@ ghost use Rattle.peers.specs.Queries.{
   turned,
 };
 ghost use Rattle.peers.specs.Tags.{place_or};
-ghost use Rattle.documents.specs.View.{shown};
+ghost use Rattle.documents.specs.Views.{shown};
 ghost use Rattle.documents.specs.Documents.{widget_at};
 
 use crate::tags::place_or;
-use command_parts::{Answer, Fault, is_word, one_or_two, two, two_or_three};
+use command_effects::{Answer, Fault, is_word, one_or_two, two, two_or_three};
 use command_table::abbreviates;
 use documents::Document;
 use search_dump::{Counted, Listed, SearchSwitches, Wanted};
@@ -130,19 +130,19 @@ fn listed_by(words: &[String]) -> Listed
 /// The place of a stop, if there is one.
 fn stop_at<S: TextStore>(
     document: &Document<S>,
-    widget: usize,
-    at: usize,
+    seat: usize,
+    position: usize,
     word: Option<&str>,
 ) -> Result<Option<usize>, Fault>
-    requires shown { widget < length document.now.widgets }
-    ensures value { Gives result (stop_at document.now (widget_at document.now widget) at
+    requires shown { seat < length document.now.widgets }
+    ensures value { Gives result (stop_at document.now (widget_at document.now seat) position
         (option_map (λ word. chars word.now) word.entry)) }
     ensures within { IfOk result (λ stop. IfSome stop (λ place. place
-        ≤ length (shown document.now (widget_at document.now widget)))) }
+        ≤ length (shown document.now (widget_at document.now seat)))) }
 {
     match word {
         None => Ok(None),
-        Some(word) => match document.place_at(widget, at, word) {
+        Some(word) => match document.place_at(seat, position, word) {
             Err(fault) => Err(fault),
             Ok(place) => Ok(Some(place)),
         },
@@ -152,24 +152,24 @@ fn stop_at<S: TextStore>(
 /// The matches of a pattern from a place on, up to a stop.
 fn searched<S: TextStore>(
     document: &Document<S>,
-    widget: usize,
+    seat: usize,
     switches: SearchSwitches,
     pattern: &str,
     from: Result<usize, Fault>,
     stop: Result<Option<usize>, Fault>,
 ) -> Result<Answer, Fault>
-    requires shown { widget < length document.now.widgets }
-    requires from { IfOk from (λ from. from ≤ length (shown document.now (widget_at document.now widget))) }
+    requires shown { seat < length document.now.widgets }
+    requires from { IfOk from (λ from. from ≤ length (shown document.now (widget_at document.now seat))) }
     requires stop { IfOk stop (λ stop. IfSome stop (λ place. place
-        ≤ length (shown document.now (widget_at document.now widget)))) }
+        ≤ length (shown document.now (widget_at document.now seat)))) }
     ensures { Gives result (with_value from (λ from.
-        with_value stop (searched document.now (widget_at document.now widget) switches (chars pattern.now) from))) }
+        with_value stop (searched document.now (widget_at document.now seat) switches (chars pattern.now) from))) }
 {
     match (from, stop) {
         (Err(fault), _) => Err(fault),
         (Ok(_), Err(fault)) => Err(fault),
         (Ok(from), Ok(stop)) => Ok(Answer::Text(document.matches_of(
-            widget, switches, pattern, from, stop,
+            seat, switches, pattern, from, stop,
         )?)),
     }
 }
@@ -177,202 +177,202 @@ fn searched<S: TextStore>(
 /// The matches of a pattern from an index on, up to another one, if it is there; the pattern stands at a position.
 fn search_words<S: TextStore>(
     document: &Document<S>,
-    widget: usize,
+    seat: usize,
     switches: SearchSwitches,
-    at: usize,
+    position: usize,
     words: (&str, &str, Option<&str>),
 ) -> Result<Answer, Fault>
-    requires shown { widget < length document.now.widgets }
-    requires near { at + 2 ≤ usize.MAX }
-    ensures { Gives result (search_words document.now (widget_at document.now widget) switches at (
+    requires shown { seat < length document.now.widgets }
+    requires near { position + 2 ≤ usize.MAX }
+    ensures { Gives result (search_words document.now (widget_at document.now seat) switches position (
       chars words.entry.0.now,
       chars words.entry.1.now,
       option_map (λ word. chars word.now) words.entry.2,
     )) }
 {
     let (pattern, first, last) = words;
-    let from = document.place_at(widget, at + 1, first);
-    let stop = stop_at(document, widget, at + 2, last);
-    searched(document, widget, switches, pattern, from, stop)
+    let from = document.place_at(seat, position + 1, first);
+    let stop = stop_at(document, seat, position + 2, last);
+    searched(document, seat, switches, pattern, from, stop)
 }
 
 /// `W search ?switch ..? pattern I ?J?` (text(n), "search"). The arguments stand from a position on.
 pub fn search<S: TextStore>(
     document: &Document<S>,
-    widget: usize,
+    seat: usize,
     switches: &[String],
-    at: usize,
+    position: usize,
     arguments: &[String],
 ) -> Result<Answer, Fault>
-    requires shown { widget < length document.now.widgets }
-    requires near { at + 2 ≤ usize.MAX }
-    ensures { Gives result (search document.now (widget_at document.now widget) (texts_of switches.now) at
+    requires shown { seat < length document.now.widgets }
+    requires near { position + 2 ≤ usize.MAX }
+    ensures { Gives result (search document.now (widget_at document.now seat) (texts_of switches.now) position
         (texts_of arguments.now)) }
 {
     match two_or_three(arguments) {
         Err(fault) => Err(fault),
-        Ok(words) => search_words(document, widget, search_switches(switches), at, words),
+        Ok(words) => search_words(document, seat, search_switches(switches), position, words),
     }
 }
 
 /// How much further one place is than another.
 fn count_between<S: TextStore>(
     document: &Document<S>,
-    widget: usize,
+    seat: usize,
     options: &[Counted],
     from: Result<usize, Fault>,
     to: Result<usize, Fault>,
 ) -> Result<Answer, Fault>
-    requires shown { widget < length document.now.widgets }
-    requires from { IfOk from (λ from. from ≤ length (shown document.now (widget_at document.now widget))) }
-    requires to { IfOk to (λ to. to ≤ length (shown document.now (widget_at document.now widget))) }
+    requires shown { seat < length document.now.widgets }
+    requires from { IfOk from (λ from. from ≤ length (shown document.now (widget_at document.now seat))) }
+    requires to { IfOk to (λ to. to ≤ length (shown document.now (widget_at document.now seat))) }
     ensures { Gives result (with_value from (λ from.
-        with_value to (count_between document.now (widget_at document.now widget) options.now from))) }
+        with_value to (count_between document.now (widget_at document.now seat) options.now from))) }
 {
     match (from, to) {
         (Err(fault), _) => Err(fault),
         (Ok(_), Err(fault)) => Err(fault),
-        (Ok(from), Ok(to)) => Ok(Answer::Text(document.counts_of(widget, options, from, to)?)),
+        (Ok(from), Ok(to)) => Ok(Answer::Text(document.counts_of(seat, options, from, to)?)),
     }
 }
 
 fn count_words<S: TextStore>(
     document: &Document<S>,
-    widget: usize,
+    seat: usize,
     options: &[Counted],
-    at: usize,
+    position: usize,
     first: &str,
     second: &str,
 ) -> Result<Answer, Fault>
-    requires shown { widget < length document.now.widgets }
-    requires near { at + 1 ≤ usize.MAX }
-    ensures { Gives result (count_words document.now (widget_at document.now widget) options.now at (
+    requires shown { seat < length document.now.widgets }
+    requires near { position + 1 ≤ usize.MAX }
+    ensures { Gives result (count_words document.now (widget_at document.now seat) options.now position (
       chars first.now,
       chars second.now,
     )) }
 {
-    let from = document.place_at(widget, at, first);
-    let to = document.place_at(widget, at + 1, second);
-    count_between(document, widget, options, from, to)
+    let from = document.place_at(seat, position, first);
+    let to = document.place_at(seat, position + 1, second);
+    count_between(document, seat, options, from, to)
 }
 
 /// `W count ?option ..? A B` (text(n), "count"). The arguments stand from a position on.
 pub fn count<S: TextStore>(
     document: &Document<S>,
-    widget: usize,
+    seat: usize,
     options: &[String],
-    at: usize,
+    position: usize,
     arguments: &[String],
 ) -> Result<Answer, Fault>
-    requires shown { widget < length document.now.widgets }
-    requires near { at + 1 ≤ usize.MAX }
-    ensures { Gives result (count document.now (widget_at document.now widget) (texts_of options.now) at
+    requires shown { seat < length document.now.widgets }
+    requires near { position + 1 ≤ usize.MAX }
+    ensures { Gives result (count document.now (widget_at document.now seat) (texts_of options.now) position
         (texts_of arguments.now)) }
 {
     match two(arguments) {
         Err(fault) => Err(fault),
         Ok((first, second)) => {
             let options = counted_options(document.allocator(), options)?;
-            count_words(document, widget, &options, at, first, second)
+            count_words(document, seat, &options, position, first, second)
         }
     }
 }
 
 /// The place behind that of a character, or the end.
-fn place_behind<S: TextStore>(document: &Document<S>, widget: usize, place: usize) -> usize
-    requires shown { widget < length document.now.widgets }
-    requires within { place ≤ length (shown document.now (widget_at document.now widget)) }
-    ensures value { result ≡ place_behind document.now (widget_at document.now widget) place }
-    ensures within { result ≤ length (shown document.now (widget_at document.now widget)) }
+fn place_behind<S: TextStore>(document: &Document<S>, seat: usize, place: usize) -> usize
+    requires shown { seat < length document.now.widgets }
+    requires within { place ≤ length (shown document.now (widget_at document.now seat)) }
+    ensures value { result ≡ place_behind document.now (widget_at document.now seat) place }
+    ensures within { result ≤ length (shown document.now (widget_at document.now seat)) }
 {
-    let len = document.shown_len(widget);
+    let len = document.shown_len(seat);
     if place < len { place + 1 } else { len }
 }
 
 /// What stands from one place to another, the last of which is the word at a position, if there is one.
 fn dump_from<S: TextStore>(
     document: &Document<S>,
-    widget: usize,
+    seat: usize,
     listed: Listed,
     from: Result<usize, Fault>,
-    at: usize,
+    position: usize,
     last: Option<&str>,
 ) -> Result<Answer, Fault>
-    requires shown { widget < length document.now.widgets }
-    requires within { IfOk from (λ from. from ≤ length (shown document.now (widget_at document.now widget))) }
+    requires shown { seat < length document.now.widgets }
+    requires within { IfOk from (λ from. from ≤ length (shown document.now (widget_at document.now seat))) }
     ensures { Gives result (with_value from (λ from.
-        with_value (place_or document.now (widget_at document.now widget)
-        (place_behind document.now (widget_at document.now widget) from) at
+        with_value (place_or document.now (widget_at document.now seat)
+        (place_behind document.now (widget_at document.now seat) from) position
         (option_map (λ word. chars word.now) last.entry))
-        (dumped document.now (widget_at document.now widget) listed from))) }
+        (dumped document.now (widget_at document.now seat) listed from))) }
 {
     match from {
         Err(fault) => Err(fault),
         Ok(from) => {
             let to = place_or(
                 document,
-                widget,
-                place_behind(document, widget, from),
-                at,
+                seat,
+                place_behind(document, seat, from),
+                position,
                 last,
             );
-            dumped(document, widget, listed, from, to)
+            dumped(document, seat, listed, from, to)
         }
     }
 }
 
 fn dumped<S: TextStore>(
     document: &Document<S>,
-    widget: usize,
+    seat: usize,
     listed: Listed,
     from: usize,
     to: Result<usize, Fault>,
 ) -> Result<Answer, Fault>
-    requires shown { widget < length document.now.widgets }
-    requires from { from ≤ length (shown document.now (widget_at document.now widget)) }
-    requires to { IfOk to (λ to. to ≤ length (shown document.now (widget_at document.now widget))) }
-    ensures { Gives result (with_value to (dumped document.now (widget_at document.now widget) listed from)) }
+    requires shown { seat < length document.now.widgets }
+    requires from { from ≤ length (shown document.now (widget_at document.now seat)) }
+    requires to { IfOk to (λ to. to ≤ length (shown document.now (widget_at document.now seat))) }
+    ensures { Gives result (with_value to (dumped document.now (widget_at document.now seat) listed from)) }
 {
     match to {
         Err(fault) => Err(fault),
-        Ok(to) => Ok(Answer::Text(document.elements_of(widget, listed, from, to)?)),
+        Ok(to) => Ok(Answer::Text(document.elements_of(seat, listed, from, to)?)),
     }
 }
 
 fn dump_words<S: TextStore>(
     document: &Document<S>,
-    widget: usize,
+    seat: usize,
     listed: Listed,
-    at: usize,
+    position: usize,
     first: &str,
     last: Option<&str>,
 ) -> Result<Answer, Fault>
-    requires shown { widget < length document.now.widgets }
-    requires near { at + 1 ≤ usize.MAX }
-    ensures { Gives result (dump_words document.now (widget_at document.now widget) listed at (
+    requires shown { seat < length document.now.widgets }
+    requires near { position + 1 ≤ usize.MAX }
+    ensures { Gives result (dump_words document.now (widget_at document.now seat) listed position (
       chars first.now,
       option_map (λ word. chars word.now) last.entry,
     )) }
 {
-    let from = document.place_at(widget, at, first);
-    dump_from(document, widget, listed, from, at + 1, last)
+    let from = document.place_at(seat, position, first);
+    dump_from(document, seat, listed, from, position + 1, last)
 }
 
 /// `W dump ?switch ..? A ?B?` (text(n), "dump"). The arguments stand from a position on.
 pub fn dump<S: TextStore>(
     document: &Document<S>,
-    widget: usize,
+    seat: usize,
     switches: &[String],
-    at: usize,
+    position: usize,
     arguments: &[String],
 ) -> Result<Answer, Fault>
-    requires shown { widget < length document.now.widgets }
-    requires near { at + 1 ≤ usize.MAX }
-    ensures { Gives result (dump document.now (widget_at document.now widget) (texts_of switches.now) at
+    requires shown { seat < length document.now.widgets }
+    requires near { position + 1 ≤ usize.MAX }
+    ensures { Gives result (dump document.now (widget_at document.now seat) (texts_of switches.now) position
         (texts_of arguments.now)) }
 {
     match one_or_two(arguments) {
         Err(fault) => Err(fault),
-        Ok((first, last)) => dump_words(document, widget, listed_by(switches), at, first, last),
+        Ok((first, last)) => dump_words(document, seat, listed_by(switches), position, first, last),
     }
 }

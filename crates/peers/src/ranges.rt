@@ -1,34 +1,34 @@
 ghost use Rattle.std.specs.Prelude.{◌≡◌, ◌≢◌, ◌+◌, ◌-◌, ◌≤◌, length, Ok, Err, IfOk, IfErr, ◌<◌};
 ghost use Rattle.std.specs.List.{All};
 ghost use Rattle.tcl_words.specs.Unread.{texts_of};
-ghost use Rattle.command_parts.specs.declared.answers.Fault.TheVariants.{Memory};
+ghost use Rattle.command_effects.specs.declared.answers.Fault.TheVariants.{Memory};
 ghost use Rattle.peers.specs.Ranges.{places_at};
-ghost use Rattle.documents.specs.View.{shown};
+ghost use Rattle.documents.specs.Views.{shown};
 ghost use Rattle.documents.specs.Documents.{widget_at};
 
-use command_parts::Fault;
+use command_effects::Fault;
 use documents::Document;
 use text_model::TextStore;
 
 /// The places of indices, the first of which stands at a position.
 pub fn places_at<S: TextStore>(
     document: &Document<S>,
-    widget: usize,
-    at: usize,
+    seat: usize,
+    position: usize,
     words: &[String],
 ) -> Result<Vec<usize>, Fault>
-    requires shown { widget < length document.now.widgets }
-    requires near { at + length words.now ≤ usize.MAX }
-    ensures ok { IfOk result (λ places. places_at document.now (widget_at document.now widget) at (texts_of words.now)
-        ≡ Ok places.items) }
+    requires shown { seat < length document.now.widgets }
+    requires near { position + length words.now ≤ usize.MAX }
+    ensures ok { IfOk result (λ places.
+        places_at document.now (widget_at document.now seat) position (texts_of words.now) ≡ Ok places.items) }
     ensures err { IfErr result (λ fault. fault ≢ Memory →
-        places_at document.now (widget_at document.now widget) at (texts_of words.now) ≡ Err fault) }
+        places_at document.now (widget_at document.now seat) position (texts_of words.now) ≡ Err fault) }
     ensures within { IfOk result (λ places. All (λ place. place
-        ≤ length (shown document.now (widget_at document.now widget))) places.items) }
+        ≤ length (shown document.now (widget_at document.now seat))) places.items) }
 {
     let mut places = Vec::with_capacity(document.allocator(), words.len())?;
     for (index, word) in words.iter().enumerate() {
-        match document.place_at(widget, at + index, word.as_str()) {
+        match document.place_at(seat, position + index, word.as_str()) {
             Err(fault) => return Err(fault),
             Ok(place) => places.push(place)?,
         }

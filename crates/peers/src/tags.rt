@@ -1,34 +1,35 @@
 ghost use Rattle.std.specs.Prelude.{◌+◌, ◌≤◌, length, chars, option_map, IfOk, ◌<◌};
 ghost use Rattle.tcl_words.specs.Unread.{texts_of};
 ghost use Rattle.documents.specs.Documents.{widget_at};
-ghost use Rattle.documents.specs.View.{shown};
-ghost use Rattle.command_parts.specs.Faults.{with_value};
+ghost use Rattle.documents.specs.Views.{shown};
+ghost use Rattle.command_effects.specs.Faults.{with_value};
 ghost use Rattle.documents.specs.Promise.{Gives, Does};
 ghost use Rattle.peers.specs.Tags.{add_words, tag_add, remove_words, tag_remove, names_on, names_at_word, tag_names};
 ghost use Rattle.peers.specs.Tags.{tag_ranges_of, ranges_of, place_or, next_between, next_words, tag_nextrange};
 ghost use Rattle.peers.specs.Tags.{previous_between, previous_words, tag_prevrange, tag_raise, tag_lower};
 
 use crate::ranges::places_at;
-use command_parts::{Answer, Fault, first, none_or_one, one, one_or_two, two_or_three};
+use command_effects::{Answer, Fault, first, none_or_one, one, one_or_two, two_or_three};
 use documents::Document;
 use text_model::{Limits, TextStore};
 
 fn add_words<S: TextStore>(
     document: &mut Document<S>,
     limits: &Limits,
-    widget: usize,
-    at: usize,
+    seat: usize,
+    position: usize,
     name: &str,
     words: &[String],
 ) -> Result<Answer, Fault>
-    requires shown { widget < length document.old.widgets }
-    requires near { at + 1 + length words.now ≤ usize.MAX }
+    requires shown { seat < length document.old.widgets }
+    requires near { position + 1 + length words.now ≤ usize.MAX }
     ensures { Does limits.now document.old document.new result
-        (add_words limits.now document.old (widget_at document.old widget) at (chars name.now, texts_of words.now)) }
+        (add_words limits.now document.old (widget_at document.old seat) position
+        (chars name.now, texts_of words.now)) }
 {
-    match places_at(document, widget, at + 1, words) {
+    match places_at(document, seat, position + 1, words) {
         Err(fault) => Err(fault),
-        Ok(places) => document.add_spans(limits, widget, name, &places),
+        Ok(places) => document.add_spans(limits, seat, name, &places),
     }
 }
 
@@ -36,37 +37,37 @@ fn add_words<S: TextStore>(
 pub fn tag_add<S: TextStore>(
     document: &mut Document<S>,
     limits: &Limits,
-    widget: usize,
-    at: usize,
+    seat: usize,
+    position: usize,
     arguments: &[String],
 ) -> Result<Answer, Fault>
-    requires shown { widget < length document.old.widgets }
-    requires near { at + length arguments.now ≤ usize.MAX }
+    requires shown { seat < length document.old.widgets }
+    requires near { position + length arguments.now ≤ usize.MAX }
     ensures { Does limits.now document.old document.new result
-        (tag_add limits.now document.old (widget_at document.old widget) at (texts_of arguments.now)) }
+        (tag_add limits.now document.old (widget_at document.old seat) position (texts_of arguments.now)) }
 {
     match first(arguments) {
         Err(fault) => Err(fault),
-        Ok((name, words)) => add_words(document, limits, widget, at, name, words),
+        Ok((name, words)) => add_words(document, limits, seat, position, name, words),
     }
 }
 
 fn remove_words<S: TextStore>(
     document: &mut Document<S>,
     limits: &Limits,
-    widget: usize,
-    at: usize,
+    seat: usize,
+    position: usize,
     name: &str,
     words: &[String],
 ) -> Result<Answer, Fault>
-    requires shown { widget < length document.old.widgets }
-    requires near { at + 1 + length words.now ≤ usize.MAX }
+    requires shown { seat < length document.old.widgets }
+    requires near { position + 1 + length words.now ≤ usize.MAX }
     ensures { Does limits.now document.old document.new result
-        (remove_words document.old (widget_at document.old widget) at (chars name.now, texts_of words.now)) }
+        (remove_words document.old (widget_at document.old seat) position (chars name.now, texts_of words.now)) }
 {
-    match places_at(document, widget, at + 1, words) {
+    match places_at(document, seat, position + 1, words) {
         Err(fault) => Err(fault),
-        Ok(places) => document.remove_spans(limits, widget, name, &places),
+        Ok(places) => document.remove_spans(limits, seat, name, &places),
     }
 }
 
@@ -74,222 +75,224 @@ fn remove_words<S: TextStore>(
 pub fn tag_remove<S: TextStore>(
     document: &mut Document<S>,
     limits: &Limits,
-    widget: usize,
-    at: usize,
+    seat: usize,
+    position: usize,
     arguments: &[String],
 ) -> Result<Answer, Fault>
-    requires shown { widget < length document.old.widgets }
-    requires near { at + length arguments.now ≤ usize.MAX }
+    requires shown { seat < length document.old.widgets }
+    requires near { position + length arguments.now ≤ usize.MAX }
     ensures { Does limits.now document.old document.new result
-        (tag_remove document.old (widget_at document.old widget) at (texts_of arguments.now)) }
+        (tag_remove document.old (widget_at document.old seat) position (texts_of arguments.now)) }
 {
     match first(arguments) {
         Err(fault) => Err(fault),
-        Ok((name, words)) => remove_words(document, limits, widget, at, name, words),
+        Ok((name, words)) => remove_words(document, limits, seat, position, name, words),
     }
 }
 
 /// The tags of the character at a place.
 fn names_on<S: TextStore>(
     document: &Document<S>,
-    widget: usize,
+    seat: usize,
     place: Result<usize, Fault>,
 ) -> Result<Answer, Fault>
-    requires shown { widget < length document.now.widgets }
-    requires within { IfOk place (λ place. place ≤ length (shown document.now (widget_at document.now widget))) }
-    ensures { Gives result (with_value place (names_on document.now (widget_at document.now widget))) }
+    requires shown { seat < length document.now.widgets }
+    requires within { IfOk place (λ place. place ≤ length (shown document.now (widget_at document.now seat))) }
+    ensures { Gives result (with_value place (names_on document.now (widget_at document.now seat))) }
 {
     match place {
         Err(fault) => Err(fault),
-        Ok(place) => Ok(Answer::Text(document.tags_on(widget, place)?)),
+        Ok(place) => Ok(Answer::Text(document.tags_on(seat, place)?)),
     }
 }
 
 fn names_at_word<S: TextStore>(
     document: &Document<S>,
-    widget: usize,
-    at: usize,
+    seat: usize,
+    position: usize,
     word: Option<&str>,
 ) -> Result<Answer, Fault>
-    requires shown { widget < length document.now.widgets }
-    ensures { Gives result (names_at_word document.now (widget_at document.now widget) at
+    requires shown { seat < length document.now.widgets }
+    ensures { Gives result (names_at_word document.now (widget_at document.now seat) position
         (option_map (λ word. chars word.now) word.entry)) }
 {
     match word {
         None => Ok(Answer::Text(document.all_tags()?)),
-        Some(word) => names_on(document, widget, document.place_at(widget, at, word)),
+        Some(word) => names_on(document, seat, document.place_at(seat, position, word)),
     }
 }
 
 /// `W tag names ?I?` (text(n), "tag names"). The arguments stand from a position on.
 pub fn tag_names<S: TextStore>(
     document: &Document<S>,
-    widget: usize,
-    at: usize,
+    seat: usize,
+    position: usize,
     arguments: &[String],
 ) -> Result<Answer, Fault>
-    requires shown { widget < length document.now.widgets }
-    ensures { Gives result (tag_names document.now (widget_at document.now widget) at (texts_of arguments.now)) }
+    requires shown { seat < length document.now.widgets }
+    ensures { Gives result (tag_names document.now (widget_at document.now seat) position (texts_of arguments.now)) }
 {
     match none_or_one(arguments) {
         Err(fault) => Err(fault),
-        Ok(word) => names_at_word(document, widget, at, word),
+        Ok(word) => names_at_word(document, seat, position, word),
     }
 }
 
 fn listed_ranges<S: TextStore>(
     document: &Document<S>,
-    widget: usize,
+    seat: usize,
     name: &str,
 ) -> Result<Answer, Fault>
-    requires shown { widget < length document.now.widgets }
-    ensures { Gives result (ranges_of document.now (widget_at document.now widget) (chars name.now)) }
+    requires shown { seat < length document.now.widgets }
+    ensures { Gives result (ranges_of document.now (widget_at document.now seat) (chars name.now)) }
 {
-    Ok(Answer::Text(document.ranges_of(widget, name)?))
+    Ok(Answer::Text(document.ranges_of(seat, name)?))
 }
 
 /// `W tag ranges T` (text(n), "tag ranges").
 pub fn tag_ranges<S: TextStore>(
     document: &Document<S>,
-    widget: usize,
+    seat: usize,
     arguments: &[String],
 ) -> Result<Answer, Fault>
-    requires shown { widget < length document.now.widgets }
-    ensures { Gives result (tag_ranges_of document.now (widget_at document.now widget) (texts_of arguments.now)) }
+    requires shown { seat < length document.now.widgets }
+    ensures { Gives result (tag_ranges_of document.now (widget_at document.now seat) (texts_of arguments.now)) }
 {
     match one(arguments) {
         Err(fault) => Err(fault),
-        Ok(name) => listed_ranges(document, widget, name),
+        Ok(name) => listed_ranges(document, seat, name),
     }
 }
 
 /// The place of a last index, or another one where it is left out.
 pub fn place_or<S: TextStore>(
     document: &Document<S>,
-    widget: usize,
+    seat: usize,
     place: usize,
-    at: usize,
+    position: usize,
     word: Option<&str>,
 ) -> Result<usize, Fault>
-    requires shown { widget < length document.now.widgets }
-    requires within { place ≤ length (shown document.now (widget_at document.now widget)) }
-    ensures value { Gives result (place_or document.now (widget_at document.now widget) place at
+    requires shown { seat < length document.now.widgets }
+    requires within { place ≤ length (shown document.now (widget_at document.now seat)) }
+    ensures value { Gives result (place_or document.now (widget_at document.now seat) place position
         (option_map (λ word. chars word.now) word.entry)) }
-    ensures within { IfOk result (λ place. place ≤ length (shown document.now (widget_at document.now widget))) }
+    ensures within { IfOk result (λ place. place ≤ length (shown document.now (widget_at document.now seat))) }
 {
     match word {
         None => Ok(place),
-        Some(word) => document.place_at(widget, at, word),
+        Some(word) => document.place_at(seat, position, word),
     }
 }
 
 /// The first range of a tag from one place on, if it begins before another.
 fn next_between<S: TextStore>(
     document: &Document<S>,
-    widget: usize,
+    seat: usize,
     name: &str,
     from: Result<usize, Fault>,
     to: Result<usize, Fault>,
 ) -> Result<Answer, Fault>
-    requires shown { widget < length document.now.widgets }
-    requires within { IfOk from (λ from. from ≤ length (shown document.now (widget_at document.now widget))) }
+    requires shown { seat < length document.now.widgets }
+    requires within { IfOk from (λ from. from ≤ length (shown document.now (widget_at document.now seat))) }
     ensures { Gives result (with_value from (λ first.
-        with_value to (next_between document.now (widget_at document.now widget) (chars name.now) first))) }
+        with_value to (next_between document.now (widget_at document.now seat) (chars name.now) first))) }
 {
     match (from, to) {
         (Err(fault), _) => Err(fault),
         (Ok(_), Err(fault)) => Err(fault),
-        (Ok(from), Ok(to)) => Ok(Answer::Text(document.next_listed(widget, name, from, to)?)),
+        (Ok(from), Ok(to)) => Ok(Answer::Text(document.next_listed(seat, name, from, to)?)),
     }
 }
 
 fn next_words<S: TextStore>(
     document: &Document<S>,
-    widget: usize,
-    at: usize,
+    seat: usize,
+    position: usize,
     name: &str,
     first: &str,
     last: Option<&str>,
 ) -> Result<Answer, Fault>
-    requires shown { widget < length document.now.widgets }
-    requires near { at + 2 ≤ usize.MAX }
-    ensures { Gives result (next_words document.now (widget_at document.now widget) at
+    requires shown { seat < length document.now.widgets }
+    requires near { position + 2 ≤ usize.MAX }
+    ensures { Gives result (next_words document.now (widget_at document.now seat) position
         (chars name.now, chars first.now, option_map (λ word. chars word.now) last.entry)) }
 {
-    let from = document.place_at(widget, at + 1, first);
-    let to = place_or(document, widget, document.shown_len(widget), at + 2, last);
-    next_between(document, widget, name, from, to)
+    let from = document.place_at(seat, position + 1, first);
+    let to = place_or(document, seat, document.shown_len(seat), position + 2, last);
+    next_between(document, seat, name, from, to)
 }
 
 /// `W tag nextrange T A ?B?` (text(n), "tag nextrange"). The arguments stand from a position on.
 pub fn tag_nextrange<S: TextStore>(
     document: &Document<S>,
-    widget: usize,
-    at: usize,
+    seat: usize,
+    position: usize,
     arguments: &[String],
 ) -> Result<Answer, Fault>
-    requires shown { widget < length document.now.widgets }
-    requires near { at + 2 ≤ usize.MAX }
-    ensures { Gives result (tag_nextrange document.now (widget_at document.now widget) at (texts_of arguments.now)) }
+    requires shown { seat < length document.now.widgets }
+    requires near { position + 2 ≤ usize.MAX }
+    ensures { Gives result
+        (tag_nextrange document.now (widget_at document.now seat) position (texts_of arguments.now)) }
 {
     match two_or_three(arguments) {
         Err(fault) => Err(fault),
-        Ok((name, first, last)) => next_words(document, widget, at, name, first, last),
+        Ok((name, first, last)) => next_words(document, seat, position, name, first, last),
     }
 }
 
 /// The last range of a tag that begins before one place, if it doesn't begin before another.
 fn previous_between<S: TextStore>(
     document: &Document<S>,
-    widget: usize,
+    seat: usize,
     name: &str,
     from: Result<usize, Fault>,
     to: Result<usize, Fault>,
 ) -> Result<Answer, Fault>
-    requires shown { widget < length document.now.widgets }
-    requires within { IfOk from (λ from. from ≤ length (shown document.now (widget_at document.now widget))) }
+    requires shown { seat < length document.now.widgets }
+    requires within { IfOk from (λ from. from ≤ length (shown document.now (widget_at document.now seat))) }
     ensures { Gives result (with_value from (λ first.
-        with_value to (previous_between document.now (widget_at document.now widget) (chars name.now) first))) }
+        with_value to (previous_between document.now (widget_at document.now seat) (chars name.now) first))) }
 {
     match (from, to) {
         (Err(fault), _) => Err(fault),
         (Ok(_), Err(fault)) => Err(fault),
-        (Ok(from), Ok(to)) => Ok(Answer::Text(document.previous_listed(widget, name, from, to)?)),
+        (Ok(from), Ok(to)) => Ok(Answer::Text(document.previous_listed(seat, name, from, to)?)),
     }
 }
 
 fn previous_words<S: TextStore>(
     document: &Document<S>,
-    widget: usize,
-    at: usize,
+    seat: usize,
+    position: usize,
     name: &str,
     first: &str,
     last: Option<&str>,
 ) -> Result<Answer, Fault>
-    requires shown { widget < length document.now.widgets }
-    requires near { at + 2 ≤ usize.MAX }
-    ensures { Gives result (previous_words document.now (widget_at document.now widget) at
+    requires shown { seat < length document.now.widgets }
+    requires near { position + 2 ≤ usize.MAX }
+    ensures { Gives result (previous_words document.now (widget_at document.now seat) position
         (chars name.now, chars first.now, option_map (λ word. chars word.now) last.entry)) }
 {
-    let from = document.place_at(widget, at + 1, first);
-    let to = place_or(document, widget, 0, at + 2, last);
-    previous_between(document, widget, name, from, to)
+    let from = document.place_at(seat, position + 1, first);
+    let to = place_or(document, seat, 0, position + 2, last);
+    previous_between(document, seat, name, from, to)
 }
 
 /// `W tag prevrange T A ?B?` (text(n), "tag prevrange"). The arguments stand from a position on.
 pub fn tag_prevrange<S: TextStore>(
     document: &Document<S>,
-    widget: usize,
-    at: usize,
+    seat: usize,
+    position: usize,
     arguments: &[String],
 ) -> Result<Answer, Fault>
-    requires shown { widget < length document.now.widgets }
-    requires near { at + 2 ≤ usize.MAX }
-    ensures { Gives result (tag_prevrange document.now (widget_at document.now widget) at (texts_of arguments.now)) }
+    requires shown { seat < length document.now.widgets }
+    requires near { position + 2 ≤ usize.MAX }
+    ensures { Gives result
+        (tag_prevrange document.now (widget_at document.now seat) position (texts_of arguments.now)) }
 {
     match two_or_three(arguments) {
         Err(fault) => Err(fault),
-        Ok((name, first, last)) => previous_words(document, widget, at, name, first, last),
+        Ok((name, first, last)) => previous_words(document, seat, position, name, first, last),
     }
 }
 
@@ -297,15 +300,16 @@ pub fn tag_prevrange<S: TextStore>(
 pub fn tag_raise<S: TextStore>(
     document: &mut Document<S>,
     limits: &Limits,
-    at: usize,
+    position: usize,
     arguments: &[String],
 ) -> Result<Answer, Fault>
-    requires { at + 1 ≤ usize.MAX }
-    ensures { Does limits.now document.old document.new result (tag_raise document.old at (texts_of arguments.now)) }
+    requires { position + 1 ≤ usize.MAX }
+    ensures { Does limits.now document.old document.new result
+        (tag_raise document.old position (texts_of arguments.now)) }
 {
     match one_or_two(arguments) {
         Err(fault) => Err(fault),
-        Ok((name, above)) => document.raise(limits, at, name, above),
+        Ok((name, above)) => document.raise(limits, position, name, above),
     }
 }
 
@@ -313,14 +317,15 @@ pub fn tag_raise<S: TextStore>(
 pub fn tag_lower<S: TextStore>(
     document: &mut Document<S>,
     limits: &Limits,
-    at: usize,
+    position: usize,
     arguments: &[String],
 ) -> Result<Answer, Fault>
-    requires { at + 1 ≤ usize.MAX }
-    ensures { Does limits.now document.old document.new result (tag_lower document.old at (texts_of arguments.now)) }
+    requires { position + 1 ≤ usize.MAX }
+    ensures { Does limits.now document.old document.new result
+        (tag_lower document.old position (texts_of arguments.now)) }
 {
     match one_or_two(arguments) {
         Err(fault) => Err(fault),
-        Ok((name, below)) => document.lower(limits, at, name, below),
+        Ok((name, below)) => document.lower(limits, position, name, below),
     }
 }

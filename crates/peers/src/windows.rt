@@ -2,10 +2,10 @@ ghost use Rattle.std.specs.Prelude.{◌≡◌, ◌<◌, ◌≤◌, ◌++◌, ◌
 ghost use Rattle.std.specs.Prelude.{replicate, OnOk, OnErr};
 ghost use Rattle.std.specs.List.{IsDistinct, insert};
 ghost use Rattle.tcl_words.specs.Unread.{texts_of};
-ghost use Rattle.command_parts.specs.Words.{is_among, is_same};
+ghost use Rattle.command_effects.specs.Words.{is_among, is_same};
 ghost use Rattle.peers.specs.Windows.{home_in, names_in, places_in};
 
-use command_parts::is_among;
+use command_effects::is_among;
 use indexmap::IndexMap;
 use std::alloc::{AllocError, Global};
 use std::marker::Model;

@@ -1,15 +1,15 @@
-ghost use Rattle.std.specs.Prelude.{◌≡◌, ◌≢◌, ◌<◌, Some, Ok, [], false, true, nat_le, length, chars, IfErr, ◌+◌, ◌≤◌};
+ghost use Rattle.std.specs.Prelude.{◌≡◌, ◌≢◌, ◌<◌, Some, Ok, [], false, true, nat_le, length, chars, ◌+◌, ◌≤◌};
 ghost use Rattle.text_model.specs.Lines.{lines};
 ghost use Rattle.tcl_words.specs.Unread.{texts_of};
 ghost use Rattle.command_table.specs.Reading.{reading};
-ghost use Rattle.command_parts.specs.Settings.{is_behind};
-ghost use Rattle.command_parts.specs.Words.{is_among};
+ghost use Rattle.command_effects.specs.Settings.{is_behind};
+ghost use Rattle.command_effects.specs.Words.{is_among};
 ghost use Rattle.documents.specs.Documents.{characters, widget_at};
 ghost use Rattle.documents.specs.Kept.{is_window_name};
-ghost use Rattle.peers.specs.Step.{changed, create_named, create, create_shaped, destroy, destroy_shaped, on_home};
-ghost use Rattle.peers.specs.Step.{on_widget, step, are_frugal};
-ghost use Rattle.peers.specs.Command.{is_frugal, is_frugal_reading};
-ghost use Rattle.peers.specs.Peers.{peer_create, peer_with, peer_words};
+ghost use Rattle.peers.specs.Step.{Makes, changed, create_named, create, create_shaped, destroy, destroy_shaped};
+ghost use Rattle.peers.specs.Step.{on_home, on_widget, step, are_frugal};
+ghost use Rattle.peers.specs.Commands.{is_frugal, is_frugal_reading};
+ghost use Rattle.peers.specs.Widgets.{peer_create, peer_with};
 ghost use Rattle.peers.specs.WellFormed.{IsWellFormed};
 ghost use Rattle.peers.specs.World.{all_windows, document_at, home};
 ghost use Rattle.documents.specs.Options.{AreLines};
@@ -17,9 +17,9 @@ ghost use Rattle.documents.specs.Options.{AreLines};
 use crate::commands::command;
 use crate::document_list::Documents;
 use crate::options::settings_given;
-use crate::peers::peer_settings;
+use crate::widgets::peer_settings;
 use crate::words::is_window_name;
-use command_parts::{Answer, Fault, Settings, first, is_word};
+use command_effects::{Answer, Fault, Settings, first, is_word};
 use command_table::{Command, Shape, shape};
 use std::alloc::Global;
 use std::marker::Model;
@@ -85,10 +85,7 @@ impl<S: TextStore> World<S> {
         requires named { is_window_name (chars name.now) ≡ true }
         requires lines { AreLines 1 settings }
         requires ordered { is_behind settings.start settings.end ≡ false }
-        ensures reply { result ≢ Err Fault.Memory → result ≡ (create_named self.old (chars name.now) settings).reply }
-        ensures world { result ≢ Err Fault.Memory → self.new ≡ (create_named self.old (chars name.now) settings).world }
-        ensures refused { IfErr result (λ _. self.new ≡ self.old) }
-        ensures well_formed { IsWellFormed self.new }
+        ensures { Makes self.old self.new result (create_named self.old (chars name.now) settings) }
     {
         // Read first, so that every return knows that the world is well formed.
         let _documents = &self.documents;
@@ -105,10 +102,7 @@ impl<S: TextStore> World<S> {
     /// `text W ?option value ..?` (text(n), "text").
     fn create(&mut self, arguments: &[String]) -> Result<Answer, Fault>
         requires { 2 + length arguments.now ≤ usize.MAX }
-        ensures reply { result ≢ Err Fault.Memory → result ≡ (create self.old (texts_of arguments.now)).reply }
-        ensures world { result ≢ Err Fault.Memory → self.new ≡ (create self.old (texts_of arguments.now)).world }
-        ensures refused { IfErr result (λ _. self.new ≡ self.old) }
-        ensures well_formed { IsWellFormed self.new }
+        ensures { Makes self.old self.new result (create self.old (texts_of arguments.now)) }
     {
         // Read first, so that every return knows that the world is well formed.
         let _documents = &self.documents;
@@ -127,12 +121,8 @@ impl<S: TextStore> World<S> {
     /// `text W ?option value ..?`, of all its words.
     fn create_shaped(&mut self, words: &[String]) -> Result<Answer, Fault>
         requires { 0 < length words.now }
-        ensures reply { result ≢ Err Fault.Memory → result
-            ≡ (create_shaped self.old (texts_of words.now) (reading (texts_of words.now))).reply }
-        ensures world { result ≢ Err Fault.Memory → self.new
-            ≡ (create_shaped self.old (texts_of words.now) (reading (texts_of words.now))).world }
-        ensures refused { IfErr result (λ _. self.new ≡ self.old) }
-        ensures well_formed { IsWellFormed self.new }
+        ensures { Makes self.old self.new result
+            (create_shaped self.old (texts_of words.now) (reading (texts_of words.now))) }
     {
         // Read first, so that every return knows that the world is well formed.
         let _documents = &self.documents;
@@ -144,10 +134,7 @@ impl<S: TextStore> World<S> {
 
     /// `destroy ?W ..?` (Tk's destroy(n)).
     fn destroy(&mut self, names: &[String]) -> Result<Answer, Fault>
-        ensures reply { result ≢ Err Fault.Memory → result ≡ (destroy self.old (texts_of names.now)).reply }
-        ensures world { result ≢ Err Fault.Memory → self.new ≡ (destroy self.old (texts_of names.now)).world }
-        ensures refused { IfErr result (λ _. self.new ≡ self.old) }
-        ensures well_formed { IsWellFormed self.new }
+        ensures { Makes self.old self.new result (destroy self.old (texts_of names.now)) }
     {
         self.documents.drop_widgets(names)?;
         Ok(Answer::Empty)
@@ -156,12 +143,8 @@ impl<S: TextStore> World<S> {
     /// `destroy ?W ..?`, of all its words.
     fn destroy_shaped(&mut self, words: &[String]) -> Result<Answer, Fault>
         requires { 0 < length words.now }
-        ensures reply { result ≢ Err Fault.Memory → result
-            ≡ (destroy_shaped self.old (texts_of words.now) (reading (texts_of words.now))).reply }
-        ensures world { result ≢ Err Fault.Memory → self.new
-            ≡ (destroy_shaped self.old (texts_of words.now) (reading (texts_of words.now))).world }
-        ensures refused { IfErr result (λ _. self.new ≡ self.old) }
-        ensures well_formed { IsWellFormed self.new }
+        ensures { Makes self.old self.new result
+            (destroy_shaped self.old (texts_of words.now) (reading (texts_of words.now))) }
     {
         // Read first, so that every return knows that the world is well formed.
         let _documents = &self.documents;
@@ -175,7 +158,7 @@ impl<S: TextStore> World<S> {
     fn add_peer(
         &mut self,
         place: usize,
-        at: usize,
+        position: usize,
         name: &str,
         settings: Settings,
     ) -> Result<Answer, Fault>
@@ -183,46 +166,38 @@ impl<S: TextStore> World<S> {
         requires named { is_window_name (chars name.now) ≡ true }
         requires lines { AreLines (lines (characters (document_at self.old.documents place).cells)) settings }
         requires ordered { is_behind settings.start settings.end ≡ false }
-        ensures reply { result ≢ Err Fault.Memory → result ≡ (changed self.old place (peer_with self.old.limits
-            (all_windows self.old) (document_at self.old.documents place) at (chars name.now) settings)).reply }
-        ensures world { result ≢ Err Fault.Memory → self.new ≡ (changed self.old place (peer_with self.old.limits
-            (all_windows self.old) (document_at self.old.documents place) at (chars name.now) settings)).world }
-        ensures refused { IfErr result (λ _. self.new ≡ self.old) }
-        ensures well_formed { IsWellFormed self.new }
+        ensures { let document = document_at self.old.documents place in
+            Makes self.old self.new result (changed self.old place
+            (peer_with self.old.limits (all_windows self.old) document position (chars name.now) settings)) }
     {
         // Read first, so that every return knows that the world is well formed.
         let _documents = &self.documents;
         if self.has_widget(name) {
-            return Err(Fault::WindowExists(at));
+            return Err(Fault::WindowExists(position));
         }
         if self.is_full() {
             return Err(Fault::TooManyWidgets);
         }
         self.documents.add_peer(place, name, settings)?;
-        Ok(Answer::Word(at))
+        Ok(Answer::Word(position))
     }
 
     /// `W peer create V ?option value ..?` (text(n), "PEER WIDGETS"), of a widget of the document at a place. The
-    /// arguments
-    /// stand from a position on.
+    /// arguments stand from a position on.
     fn create_peer(
         &mut self,
         place: usize,
-        widget: usize,
-        at: usize,
+        seat: usize,
+        position: usize,
         arguments: &[String],
     ) -> Result<Answer, Fault>
         requires place { place < length self.old.documents }
-        requires shown { widget < length (document_at self.old.documents place).widgets }
-        requires near { at + length arguments.now ≤ usize.MAX }
-        ensures reply { result ≢ Err Fault.Memory → result ≡ (changed self.old place (peer_create self.old.limits
-            (all_windows self.old) (document_at self.old.documents place)
-            (widget_at (document_at self.old.documents place) widget) at (texts_of arguments.now))).reply }
-        ensures world { result ≢ Err Fault.Memory → self.new ≡ (changed self.old place (peer_create self.old.limits
-            (all_windows self.old) (document_at self.old.documents place)
-            (widget_at (document_at self.old.documents place) widget) at (texts_of arguments.now))).world }
-        ensures refused { IfErr result (λ _. self.new ≡ self.old) }
-        ensures well_formed { IsWellFormed self.new }
+        requires shown { seat < length (document_at self.old.documents place).widgets }
+        requires near { position + length arguments.now ≤ usize.MAX }
+        ensures { let document = document_at self.old.documents place in
+            Makes self.old self.new result (changed self.old place
+            (peer_create self.old.limits (all_windows self.old) document (widget_at document seat) position
+            (texts_of arguments.now))) }
     {
         // Read first, so that every return knows that the world is well formed.
         let document = &self.documents.list[place];
@@ -231,11 +206,11 @@ impl<S: TextStore> World<S> {
             Ok(parts) => parts,
         };
         if !is_window_name(name) {
-            return Err(Fault::InvalidCommandName(at));
+            return Err(Fault::InvalidCommandName(position));
         }
-        match peer_settings(document, widget, at + 1, words) {
+        match peer_settings(document, seat, position + 1, words) {
             Err(fault) => Err(fault),
-            Ok(settings) => self.add_peer(place, at, name, settings),
+            Ok(settings) => self.add_peer(place, position, name, settings),
         }
     }
 
@@ -251,28 +226,24 @@ impl<S: TextStore> World<S> {
         requires shape { reading (texts_of words.now) ≡ Ok shape }
         requires within { shape.arguments + shape.count ≤ length words.now }
         requires ordered { shape.switches ≤ shape.arguments }
-        ensures reply { result ≢ Err Fault.Memory →
-            result ≡ (on_home self.old (chars name.now) (texts_of words.now) (Some place)).reply }
-        ensures world { result ≢ Err Fault.Memory →
-            self.new ≡ (on_home self.old (chars name.now) (texts_of words.now) (Some place)).world }
-        ensures refused { IfErr result (λ _. self.new ≡ self.old) }
+        ensures makes { Makes self.old self.new result
+            (on_home self.old (chars name.now) (texts_of words.now) (Some place)) }
         ensures frugal { is_frugal shape.command ≡ true → result ≢ Err Fault.Memory }
-        ensures well_formed { IsWellFormed self.new }
     {
-        let Some(widget) = self.documents.list[place].find_widget(name) else {
+        let Some(seat) = self.documents.list[place].find_widget(name) else {
             unreachable!()
         };
         match shape.command {
             Command::PeerCreate => self.create_peer(
                 place,
-                widget,
+                seat,
                 shape.arguments,
                 &words[shape.arguments..],
             ),
             _ => command(
                 &mut self.documents.list[place],
                 &self.limits,
-                widget,
+                seat,
                 shape,
                 words,
             ),
@@ -282,13 +253,8 @@ impl<S: TextStore> World<S> {
     /// A command of the widget of a name, of all its words.
     fn on_widget(&mut self, name: &str, words: &[String]) -> Result<Answer, Fault>
         requires { 0 < length words.now }
-        ensures reply { result ≢ Err Fault.Memory →
-            result ≡ (on_widget self.old (chars name.now) (texts_of words.now)).reply }
-        ensures world { result ≢ Err Fault.Memory →
-            self.new ≡ (on_widget self.old (chars name.now) (texts_of words.now)).world }
-        ensures refused { IfErr result (λ _. self.new ≡ self.old) }
+        ensures makes { Makes self.old self.new result (on_widget self.old (chars name.now) (texts_of words.now)) }
         ensures frugal { is_frugal_reading (reading (texts_of words.now)) ≡ true → result ≢ Err Fault.Memory }
-        ensures well_formed { IsWellFormed self.new }
     {
         let Some(place) = self.documents.windows.home(name) else {
             return Err(Fault::InvalidCommandName(0));
@@ -302,11 +268,8 @@ impl<S: TextStore> World<S> {
     /// Carries out a command of one word or more. A fault leaves the world as it was.
     pub fn call(&mut self, words: &[String]) -> Result<Answer, Fault>
         requires { 0 < length words.now }
-        ensures reply { result ≢ Err Fault.Memory → result ≡ (step self.old (texts_of words.now)).reply }
-        ensures world { result ≢ Err Fault.Memory → self.new ≡ (step self.old (texts_of words.now)).world }
-        ensures refused { IfErr result (λ _. self.new ≡ self.old) }
+        ensures makes { Makes self.old self.new result (step self.old (texts_of words.now)) }
         ensures frugal { are_frugal (texts_of words.now) ≡ true → result ≢ Err Fault.Memory }
-        ensures well_formed { IsWellFormed self.new }
     {
         let [name, ..] = words else { unreachable!() };
         if is_word(name.as_str(), "text") {

@@ -9,7 +9,7 @@ use Rattle.std.proofs.lemmas.Grind.{common_steps}
 use Rattle.std.proofs.lemmas.List.{append-nil, get_or-map}
 use Rattle.std.proofs.lemmas.Str.{encodes-append, encodes-chars}
 use Rattle.tcl_words.specs.Unread.{texts_of}
-use Rattle.command_parts.specs.Words.{literal}
+use Rattle.command_effects.specs.Words.{literal}
 use Rattle.script_cli.specs.Pieces.{error_line, word_at, is_boundary, front_of}
 
 -- the bytes of three texts

@@ -11,7 +11,7 @@ use Rattle.tcl_words.specs.declared.fault.ScriptFault.{ScriptFault}
 use Rattle.tcl_words.proofs.Readings.{a_reading}
 use Rattle.peers.specs.World.{World}
 use Rattle.peers.specs.Step.{step}
-use Rattle.command_parts.specs.declared.answers.Fault.TheVariants.{Memory}
+use Rattle.command_effects.specs.declared.answers.Fault.TheVariants.{Memory}
 use Rattle.script_cli.specs.declared.summary.RunSummary.{RunSummary}
 use Rattle.devices.specs.Devices.{ReadLog, WriteLog, Consumes, LeavesNone, Appends}
 use Rattle.script_cli.specs.Pieces.{piece}

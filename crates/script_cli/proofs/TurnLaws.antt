@@ -3,9 +3,9 @@ use Rattle.std.proofs.Common.{◌≡◌, ◌≢◌, ◌<◌, length, ℕ, Bool, 
 use Rattle.std.specs.Prelude.{Result, Ok, Err, IfErr, is_err}
 use Rattle.tcl_words.specs.Unread.{Unread, TakesCommand, HasFault, StopsAt}
 use Rattle.tcl_words.specs.declared.fault.ScriptFault.{ScriptFault}
-use Rattle.command_parts.specs.declared.answers.Answer.{Answer}
-use Rattle.command_parts.specs.declared.answers.Fault.{Fault}
-use Rattle.command_parts.specs.declared.answers.Fault.TheVariants as fault
+use Rattle.command_effects.specs.declared.answers.Answer.{Answer}
+use Rattle.command_effects.specs.declared.answers.Fault.{Fault}
+use Rattle.command_effects.specs.declared.answers.Fault.TheVariants as fault
 use Rattle.peers.specs.World.{World}
 use Rattle.peers.specs.Step.{step}
 use Rattle.script_cli.specs.Pieces.{piece}

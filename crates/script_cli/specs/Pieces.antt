@@ -1,20 +1,22 @@
 -- What is printed for a command, as characters.
 use Rattle.std.specs.Prelude.{ℕ, ◌-◌, Bool, true, false, ◌&&◌, ◌||◌, nat_le, nat_lt, List, [], ◌∷◌, ◌++◌, length, take}
 use Rattle.std.specs.Prelude.{chars, encode_utf8_all, slice_index, slice_index_or, Result, Ok, Err, if◌then◌else◌}
-use Rattle.command_parts.specs.declared.answers.Answer.{Answer}
-use Rattle.command_parts.specs.declared.answers.Answer.TheVariants.{Empty, Word, Flag, Text}
-use Rattle.command_parts.specs.declared.answers.Fault.{Fault}
-use Rattle.command_parts.specs.declared.answers.Fault.TheVariants.{BadIndex, NoTaggedCharacters, NoSuchMark, NoSuchTag}
-use Rattle.command_parts.specs.declared.answers.Fault.TheVariants.{BadOption, WrongArguments, InvalidCommandName}
-use Rattle.command_parts.specs.declared.answers.Fault.TheVariants.{WindowExists, BadComparison, BadGravity, BadList}
-use Rattle.command_parts.specs.declared.answers.Fault.TheVariants.{IndexOrder, BadBoolean, BadInteger}
-use Rattle.command_parts.specs.declared.answers.Fault.TheVariants.{StartLineAfterEndLine, NothingToUndo, NothingToRedo}
-use Rattle.command_parts.specs.declared.answers.Fault.TheVariants.{TooManyWidgets, TooManyTags, TooManyMarks}
-use Rattle.command_parts.specs.declared.answers.Fault.TheVariants.{TextTooLong, Memory}
+use Rattle.command_effects.specs.declared.answers.Answer.{Answer}
+use Rattle.command_effects.specs.declared.answers.Answer.TheVariants.{Empty, Word, Flag, Text}
+use Rattle.command_effects.specs.declared.answers.Fault.{Fault}
+use Rattle.command_effects.specs.declared.answers.Fault.TheVariants.{BadIndex, NoTaggedCharacters, NoSuchMark}
+use Rattle.command_effects.specs.declared.answers.Fault.TheVariants.{NoSuchTag}
+use Rattle.command_effects.specs.declared.answers.Fault.TheVariants.{BadOption, WrongArguments, InvalidCommandName}
+use Rattle.command_effects.specs.declared.answers.Fault.TheVariants.{WindowExists, BadComparison, BadGravity, BadList}
+use Rattle.command_effects.specs.declared.answers.Fault.TheVariants.{IndexOrder, BadBoolean, BadInteger}
+use Rattle.command_effects.specs.declared.answers.Fault.TheVariants.{StartLineAfterEndLine, NothingToUndo}
+use Rattle.command_effects.specs.declared.answers.Fault.TheVariants.{NothingToRedo}
+use Rattle.command_effects.specs.declared.answers.Fault.TheVariants.{TooManyWidgets, TooManyTags, TooManyMarks}
+use Rattle.command_effects.specs.declared.answers.Fault.TheVariants.{TextTooLong, Memory}
 use Rattle.tcl_words.specs.declared.fault.ScriptFault.{ScriptFault}
 use Rattle.tcl_words.specs.declared.fault.ScriptFault.TheVariants as script
 use Prim.Native.String.{String}
-use Rattle.command_parts.specs.Words.{literal}
+use Rattle.command_effects.specs.Words.{literal}
 
 -- the word of a command at a position
 abbrev pub word_at : List (List ℕ) → ℕ → List ℕ

@@ -4,7 +4,7 @@ use Rattle.std.specs.Prelude.{Some, is_some, is_err, encode_utf8_all, Err, if◌
 use Rattle.text_model.specs.LimitTable.{LimitTable}
 use Rattle.tcl_words.specs.ScriptGrammar.{ReadsScript, ReadsFront}
 use Rattle.tcl_words.specs.declared.fault.ScriptFault.{ScriptFault}
-use Rattle.command_parts.specs.declared.answers.Fault.TheVariants.{Memory}
+use Rattle.command_effects.specs.declared.answers.Fault.TheVariants.{Memory}
 use Rattle.peers.specs.World.{World}
 use Rattle.peers.specs.Step.{step}
 use Rattle.script_cli.specs.declared.summary.RunSummary.{RunSummary}

@@ -4,7 +4,7 @@ ghost use Rattle.script_cli.specs.Pieces.{piece, fault_line, error_line, script_
 ghost use Rattle.script_cli.specs.Pieces.{answer_text as spec_answer_text, word_at as spec_word_at};
 ghost use Rattle.script_cli.specs.Pieces.{front_of as spec_front_of};
 ghost use Rattle.script_cli.specs.Sending.{Gathers};
-ghost use Rattle.command_parts.specs.Words.{literal};
+ghost use Rattle.command_effects.specs.Words.{literal};
 
 use crate::output::Output;
 use devices::ByteSink;

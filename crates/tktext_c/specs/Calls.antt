@@ -4,9 +4,9 @@ use Rattle.std.specs.Prelude.{Result, Ok, Err, is_ok, is_err, encode_utf8_all}
 use Rattle.text_model.specs.LimitTable.{LimitTable, AreLimits}
 use Rattle.tcl_words.specs.Unread.{fed, TakesCommand, StopsAt, HasNoCommand}
 use Rattle.tcl_words.specs.declared.fault.ScriptFault.{ScriptFault}
-use Rattle.command_parts.specs.declared.answers.Answer.{Answer}
-use Rattle.command_parts.specs.declared.answers.Fault.{Fault}
-use Rattle.command_parts.specs.declared.answers.Fault.TheVariants as fault
+use Rattle.command_effects.specs.declared.answers.Answer.{Answer}
+use Rattle.command_effects.specs.declared.answers.Fault.{Fault}
+use Rattle.command_effects.specs.declared.answers.Fault.TheVariants as fault
 use Rattle.peers.specs.Step.{step}
 use Rattle.script_cli.specs.Pieces.{piece}
 use Rattle.script_cli.specs.Run.{last_piece}

@@ -2,7 +2,7 @@
 use Rattle.std.specs.Prelude.{ℕ, List, [], Some, Err, encode_utf8_all}
 use Rattle.text_model.specs.LimitTable.{LimitTable}
 use Rattle.tcl_words.specs.Unread.{Unread, nothing_fed, texts_of}
-use Rattle.command_parts.specs.declared.answers.Fault.TheVariants.{Memory}
+use Rattle.command_effects.specs.declared.answers.Fault.TheVariants.{Memory}
 use Rattle.peers.specs.World.{World}
 use Rattle.script_cli.specs.Pieces.{piece}
 use Rattle.script_cli.specs.Run.{last_piece, no_documents}

@@ -4,7 +4,7 @@ use Rattle.std.specs.List.{AllByRecursion}
 use Rattle.text_model.specs.Content.{Content}
 use Rattle.text_model.specs.declared.places.TagSlot.{TagSlot}
 use Rattle.tcl_words.specs.Unread.{texts_of}
-use Rattle.command_parts.specs.Edits.{without_widgets}
+use Rattle.command_effects.specs.Edits.{without_widgets}
 use Rattle.documents.specs.Documents.{Document, document_of, parts_of}
 use Rattle.documents.specs.Kept.{Stands}
 use Rattle.documents.specs.WellFormed.{IsWellFormedDocument}

@@ -2,7 +2,7 @@ use Rattle.std.proofs.Common.{sym, ◌∙◌, arith}
 use Rattle.std.proofs.lemmas.List.{length-map}
 use Rattle.std.specs.Prelude.{chars, string_bytes}
 use Rattle.command_table.specs.Words.{texts_of}
-use Rattle.command_table.proofs.RowLaws.{unknown-short}
+use Rattle.command_table.proofs.EntryLaws.{unknown-short}
 use Rattle.command_table.proofs.readings.unknown.Goals as goal
 
 pub returns-in_default : goal.returns-in_default

@@ -2,7 +2,7 @@ use Rattle.std.proofs.Common.{◌+◌, List, Bool, ℕ, [], ◌∷◌, sym, subs
 use Rattle.std.specs.Prelude.{chars, filter, not, string_bytes, take}
 use Rattle.std.proofs.lemmas.Option.{same_Some}
 use Rattle.name_list.specs.Names.{names_of}
-use Rattle.command_parts.specs.Words.{is_same}
+use Rattle.command_effects.specs.Words.{is_same}
 use Rattle.tcl_words.specs.ListGrowth.{Goes}
 use Rattle.documents.proofs.SeatLaws.{goes_failing, goes_passing}
 use Rattle.documents.proofs.seats.push_other_seats.Goals as goal

@@ -1,6 +1,6 @@
 use Rattle.std.proofs.Common.{sym, ap, ap₂, ◌∙◌}
 use Rattle.tcl_words.specs.Unread.{texts_of}
-use Rattle.peers.specs.Command.{done, shaped}
+use Rattle.peers.specs.Commands.{done, shaped}
 use Rattle.documents.specs.Documents.{widget_at}
 use Rattle.peers.proofs.ArgumentLaws.{arguments-part, switches-part}
 use Rattle.peers.proofs.PromiseLaws.{does-same}
@@ -9,14 +9,14 @@ use Rattle.peers.proofs.commands.command.Goals as goal
 pub returns-clause-does : goal.returns-clause-does
 returns-clause-does g c = λ windows.
     let document = c.args.document.now in let limits = c.args.limits.now in
-    let widget = widget_at document c.args.widget in let shape = c.args.shape in
+    let widget = widget_at document c.args.seat in let shape = c.args.shape in
     does-same limits document c.carry_out.new.document c.carry_out.result _ _
     (λ _. ap₂ (λ switches arguments. done shape.command document (record {
       limits = limits;
       windows = windows;
       widget = widget;
       switches = switches;
-      at = shape.arguments;
+      position = shape.arguments;
       arguments = arguments;
     })) (switches-part c.args.words.now shape) (arguments-part c.args.words.now shape)
     ∙ ap (shaped limits windows document widget (texts_of c.args.words.now)) (sym c.requires.shape))

@@ -1,7 +1,7 @@
 use Rattle.std.proofs.Common.{◌≡◌, false, sym, ap, arith}
 use Rattle.std.specs.Prelude.{if◌then◌else◌, nat_lt}
 use Rattle.std.proofs.lemmas.Bool.Decides.{nat_tests}
-use Rattle.command_parts.specs.declared.answers.Fault.TheVariants.{IndexOrder}
+use Rattle.command_effects.specs.declared.answers.Fault.TheVariants.{IndexOrder}
 use Rattle.documents.specs.Deletions.{replace_span}
 use Rattle.peers.specs.Deletions.{replace_places}
 use Rattle.documents.specs.Promise.{refused, unless_idle}
@@ -13,7 +13,7 @@ use Rattle.peers.proofs.deletions.replace_places.Goals as goal
 pub returns : goal.returns
 returns g c =
     let limits = c.args.limits.now in let document = c.args.document.now in
-    let widget = widget_at document c.args.widget in
+    let widget = widget_at document c.args.seat in
     let ordered = c.if-to-from.false in
     let in_order : nat_lt c.args.places.1 c.args.places.0 ≡ false = grind (arith, nat_tests) in
     let change = unless_idle widget document

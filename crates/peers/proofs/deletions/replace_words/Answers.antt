@@ -1,6 +1,6 @@
 use Rattle.std.specs.Prelude.{◌+◌, chars}
 use Rattle.tcl_words.specs.Unread.{texts_of}
-use Rattle.command_parts.specs.Lists.{pairs_at}
+use Rattle.command_effects.specs.Lists.{pairs_at}
 use Rattle.peers.specs.Deletions.{replace_places}
 use Rattle.documents.specs.Indices.{place_at}
 use Rattle.documents.specs.Promise.{change_with}
@@ -11,10 +11,10 @@ use Rattle.peers.proofs.deletions.replace_words.Goals as goal
 pub returns : goal.returns
 returns g c =
     let limits = c.args.limits.now in let document = c.args.document.now in
-    let widget = widget_at document c.args.widget in
+    let widget = widget_at document c.args.seat in
     does-both limits document c.replace_found.new.document c.replace_found.result c.place_at-from.result
-    (place_at document widget c.args.at (chars c.args.words.0.now))
-    c.place_at-to.result (place_at document widget (c.args.at + 1) (chars c.args.words.1.now))
-    (λ from to. change_with document (pairs_at (c.args.at + 2) (texts_of c.args.words.2.now))
-    (replace_places limits document widget (c.args.at + 1) from to))
+    (place_at document widget c.args.position (chars c.args.words.0.now))
+    c.place_at-to.result (place_at document widget (c.args.position + 1) (chars c.args.words.1.now))
+    (λ from to. change_with document (pairs_at (c.args.position + 2) (texts_of c.args.words.2.now))
+    (replace_places limits document widget (c.args.position + 1) from to))
     c.place_at-from.ensures.value c.place_at-to.ensures.value c.replace_found.ensures

@@ -2,5 +2,5 @@ use Rattle.std.proofs.Common.{◌≡◌, length, take}
 use Rattle.peers.specs.World.{windows_of}
 use Rattle.peers.proofs.document_list.count_to.Given as goal
 
-abbrev pub invariant-loop-at : goal.invariant-loop-at
-invariant-loop-at g l = l.count ≡ length (windows_of (take l.at l.documents))
+abbrev pub invariant-loop-index : goal.invariant-loop-index
+invariant-loop-index g l = l.count ≡ length (windows_of (take l.index l.documents))

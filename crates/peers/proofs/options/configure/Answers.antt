@@ -1,8 +1,8 @@
 use Rattle.std.proofs.Common.{◌≡◌, sym, ap₂, ◌∙◌}
 use Rattle.tcl_words.specs.Unread.{texts_of}
-use Rattle.command_parts.specs.Faults.{with_value}
-use Rattle.command_parts.specs.Settings.{settings_checked, settings_read}
-use Rattle.command_parts.specs.declared.answers.Answer.TheVariants.{Empty}
+use Rattle.command_effects.specs.Faults.{with_value}
+use Rattle.command_effects.specs.Settings.{settings_checked, settings_read}
+use Rattle.command_effects.specs.declared.answers.Answer.TheVariants.{Empty}
 use Rattle.documents.specs.Documents.{widget_at}
 use Rattle.documents.specs.Options.{settings_of, with_settings}
 use Rattle.documents.specs.Promise.{answered}
@@ -12,22 +12,22 @@ use Rattle.peers.proofs.options.configure.Goals as goal
 
 pub returns-in-Err : goal.returns-in-Err
 returns-in-Err g c =
-    let document = c.args.document.now in let widget = widget_at document c.args.widget in
-    let defined = settings_given document c.args.at (texts_of c.args.words.now) (settings_of document widget) in
+    let document = c.args.document.now in let widget = widget_at document c.args.seat in
+    let defined = settings_given document c.args.position (texts_of c.args.words.now) (settings_of document widget) in
     let same : c.settings_given.result ≡ defined =
     c.settings_given.ensures.value ∙ ap₂ (λ lines settings.
-    with_value (settings_read lines c.args.at (texts_of c.args.words.now) settings) settings_checked)
+    with_value (settings_read lines c.args.position (texts_of c.args.words.now) settings) settings_checked)
     c.lines.ensures c.settings.ensures.value in
     does-refused c.args.limits.now document defined c.in-Err.fault (λ settings.
     answered (with_settings widget settings document) Empty) (λ _. sym same ∙ c.in-Err.is)
 
 pub returns-in-Ok : goal.returns-in-Ok
 returns-in-Ok g c =
-    let document = c.args.document.now in let widget = widget_at document c.args.widget in
-    let defined = settings_given document c.args.at (texts_of c.args.words.now) (settings_of document widget) in
+    let document = c.args.document.now in let widget = widget_at document c.args.seat in
+    let defined = settings_given document c.args.position (texts_of c.args.words.now) (settings_of document widget) in
     let same : c.settings_given.result ≡ defined =
     c.settings_given.ensures.value ∙ ap₂ (λ lines settings.
-    with_value (settings_read lines c.args.at (texts_of c.args.words.now) settings) settings_checked)
+    with_value (settings_read lines c.args.position (texts_of c.args.words.now) settings) settings_checked)
     c.lines.ensures c.settings.ensures.value in
     does-found c.args.limits.now document c.put_settings.new.self _ defined c.in-Ok.settings (λ settings.
     answered (with_settings widget settings document) Empty) (sym same ∙ c.in-Ok.is) c.put_settings.ensures

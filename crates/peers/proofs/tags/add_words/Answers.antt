@@ -9,14 +9,14 @@ use Rattle.peers.proofs.tags.add_words.Goals as goal
 
 pub returns-in-Err : goal.returns-in-Err
 returns-in-Err g c =
-    let document = c.args.document.now in let widget = widget_at document c.args.widget in
-    does-refused c.args.limits.now document (places_at document widget (c.args.at + 1) (texts_of c.args.words.now))
+    let document = c.args.document.now in let widget = widget_at document c.args.seat in
+    does-refused c.args.limits.now document (places_at document widget (c.args.position + 1) (texts_of c.args.words.now))
     c.in-Err.fault (add_spans c.args.limits.now document widget (chars c.args.name.now)) c.in-Err.ensures.err
 
 pub returns-in-Ok : goal.returns-in-Ok
 returns-in-Ok g c =
-    let document = c.args.document.now in let widget = widget_at document c.args.widget in
+    let document = c.args.document.now in let widget = widget_at document c.args.seat in
     does-found c.args.limits.now document c.add_spans.new.self c.add_spans.result
-    (places_at document widget (c.args.at + 1) (texts_of c.args.words.now)) c.deref.result.now
+    (places_at document widget (c.args.position + 1) (texts_of c.args.words.now)) c.deref.result.now
     (add_spans c.args.limits.now document widget (chars c.args.name.now))
     (c.in-Ok.ensures.ok ∙ ap Ok (sym c.deref.ensures.value)) c.add_spans.ensures

@@ -1,6 +1,6 @@
 use Rattle.std.proofs.Common.{subst}
 use Rattle.std.specs.Prelude.{◌+◌, chars, option_map}
-use Rattle.command_parts.specs.Faults.{with_value}
+use Rattle.command_effects.specs.Faults.{with_value}
 use Rattle.documents.specs.Indices.{place_at}
 use Rattle.documents.specs.Promise.{Gives}
 use Rattle.peers.specs.Tags.{next_between, place_or}
@@ -10,13 +10,13 @@ use Rattle.peers.proofs.tags.next_words.Goals as goal
 
 pub returns : goal.returns
 returns g c =
-    let document = c.args.document.now in let widget = widget_at document c.args.widget in
+    let document = c.args.document.now in let widget = widget_at document c.args.seat in
     let last = option_map (λ word. chars word.now) c.args.last in
-    let from = place_at document widget (c.args.at + 1) (chars c.args.first.now) in
+    let from = place_at document widget (c.args.position + 1) (chars c.args.first.now) in
     let next = next_between document widget (chars c.args.name.now) in
     subst (λ end. Gives c.next_between.result
-    (with_value from (λ first. with_value (place_or document widget end (c.args.at + 2) last) (next first))))
+    (with_value from (λ first. with_value (place_or document widget end (c.args.position + 2) last) (next first))))
     c.shown_len.ensures
     (gives-both c.place_at-from.result from c.place_or-to.result
-    (place_or document widget c.shown_len.result (c.args.at + 2) last) c.next_between.result next
+    (place_or document widget c.shown_len.result (c.args.position + 2) last) c.next_between.result next
     c.place_at-from.ensures.value c.place_or-to.ensures.value c.next_between.ensures)

@@ -1,6 +1,6 @@
 use Rattle.std.proofs.Common.{length, ap, sym, ◌∙◌, arith}
 use Rattle.std.specs.Prelude.{Ok, chars}
-use Rattle.command_parts.specs.declared.answers.Answer.TheVariants.{Text}
+use Rattle.command_effects.specs.declared.answers.Answer.TheVariants.{Text}
 use Rattle.documents.specs.Documents.{widget_at}
 use Rattle.std.proofs.lemmas.Str.{chars-nil}
 use Rattle.peers.proofs.GotLaws.{got-empty, none_left}
@@ -10,6 +10,6 @@ pub returns : goal.returns
 returns g c = λ _.
     let document = c.args.document.now in
     ap (λ t. Ok (Text t)) (c.new-2.ensures ∙ ap chars c.new.ensures.bytes ∙ chars-nil)
-    ∙ ap Ok (sym (got-empty document (widget_at document c.args.widget) c.args.places.now
+    ∙ ap Ok (sym (got-empty document (widget_at document c.args.seat) c.args.places.now
     (none_left (length c.args.places.now) (omega (arith, c.if-places-gt2.false)) c.if-places-eq2.false
     c.if-places-eq1.false)))

@@ -4,8 +4,8 @@ use Rattle.std.proofs.lemmas.Str.{IsUtf8-string_bytes}
 use Rattle.std.proofs.lemmas.List.Elements.{All-take, All-drop}
 use Rattle.tcl_words.specs.ListGrowth.{Goes}
 use Rattle.peers.specs.Texts.{texts_of_places}
-use Rattle.command_parts.specs.Listing.{is_filled}
-use Rattle.documents.specs.View.{shown}
+use Rattle.command_effects.specs.Listing.{is_filled}
+use Rattle.documents.specs.Views.{shown}
 use Rattle.documents.specs.Documents.{widget_at}
 use Rattle.peers.proofs.GotLaws.{got-more, got-end, got-last, one_left}
 use Rattle.documents.proofs.ListedLaws.{written}
@@ -13,7 +13,7 @@ use Rattle.peers.proofs.texts.got_list.Goals as goal
 
 pub loop-rest-preserved : goal.loop-rest-preserved
 loop-rest-preserved g c =
-    let document = c.args.document.now in let widget = widget_at document c.args.widget in
+    let document = c.args.document.now in let widget = widget_at document c.args.seat in
     let rest = c.loop-rest.rest.now in
     let holds = λ (place : ℕ). place ≤ length (shown document widget) in
     record {
@@ -26,7 +26,7 @@ loop-rest-preserved g c =
 
 pub returns-then-is_empty : goal.returns-then-is_empty
 returns-then-is_empty g c =
-    let document = c.args.document.now in let widget = widget_at document c.args.widget in
+    let document = c.args.document.now in let widget = widget_at document c.args.seat in
     let list = c.loop-rest.list in
     let texts = filter is_filled (texts_of_places document widget c.args.places.now) in
     c.new.ensures ∙ written (string_bytes list) texts (IsUtf8-string_bytes list)
@@ -36,7 +36,7 @@ returns-then-is_empty g c =
 
 pub returns : goal.returns
 returns g c =
-    let document = c.args.document.now in let widget = widget_at document c.args.widget in
+    let document = c.args.document.now in let widget = widget_at document c.args.seat in
     let list = c.push_filled-2.new.list in
     let texts = filter is_filled (texts_of_places document widget c.args.places.now) in
     c.new-2.ensures ∙ written (string_bytes list) texts (IsUtf8-string_bytes list)

@@ -1,16 +1,16 @@
 use Rattle.std.proofs.Common.{ℕ, ◌≤◌, length}
 use Rattle.std.specs.Prelude.{string_bytes}
 use Rattle.std.specs.List.{All}
-use Rattle.documents.specs.View.{shown}
+use Rattle.documents.specs.Views.{shown}
 use Rattle.documents.specs.Documents.{widget_at}
 use Rattle.peers.proofs.GotLaws.{AreGot}
 use Rattle.peers.proofs.texts.got_list.Given as goal
 
 abbrev pub invariant-loop-rest : goal.invariant-loop-rest
 invariant-loop-rest g l = record {
-  got : AreGot l.document (widget_at l.document l.widget) l.fn.places l.rest (string_bytes l.initial.list)
+  got : AreGot l.document (widget_at l.document l.seat) l.fn.places l.rest (string_bytes l.initial.list)
       (string_bytes l.list);
-  within : All (λ (place : ℕ). place ≤ length (shown l.document (widget_at l.document l.widget))) l.rest;
+  within : All (λ (place : ℕ). place ≤ length (shown l.document (widget_at l.document l.seat))) l.rest;
 }
 
 abbrev pub decreases-loop-rest : goal.decreases-loop-rest

@@ -1,7 +1,7 @@
 use Rattle.std.specs.Prelude.{◌+◌, chars}
 use Rattle.tcl_words.specs.Unread.{texts_of}
 use Rattle.documents.specs.Indices.{place_at}
-use Rattle.command_parts.specs.Lists.{pairs_at}
+use Rattle.command_effects.specs.Lists.{pairs_at}
 use Rattle.peers.specs.Texts.{insert_pairs}
 use Rattle.documents.specs.Documents.{widget_at}
 use Rattle.peers.proofs.PromiseLaws.{does-through}
@@ -9,8 +9,8 @@ use Rattle.peers.proofs.texts.insert_words.Goals as goal
 
 pub returns : goal.returns
 returns g c =
-    let document = c.args.document.now in let widget = widget_at document c.args.widget in
+    let document = c.args.document.now in let widget = widget_at document c.args.seat in
     does-through c.args.limits.now document c.insert_place.new.document c.insert_place.result c.place_at-place.result
-    (place_at document widget c.args.at (chars c.args.index.now))
-    (insert_pairs c.args.limits.now document widget (pairs_at (c.args.at + 1) (texts_of c.args.words.now)))
+    (place_at document widget c.args.position (chars c.args.index.now))
+    (insert_pairs c.args.limits.now document widget (pairs_at (c.args.position + 1) (texts_of c.args.words.now)))
     c.place_at-place.ensures.value c.insert_place.ensures

@@ -1,6 +1,6 @@
 use Rattle.std.proofs.Common.{true, refl, ap, [], Some, inr}
 use Rattle.std.specs.Prelude.{Err, Ok}
-use Rattle.command_parts.specs.declared.answers.Fault.TheVariants.{Memory}
+use Rattle.command_effects.specs.declared.answers.Fault.TheVariants.{Memory}
 use Rattle.script_cli.specs.declared.turns.Met.TheVariants as met
 use Rattle.script_cli.specs.Pieces.{piece}
 use Rattle.script_cli.specs.Run.{last_piece}

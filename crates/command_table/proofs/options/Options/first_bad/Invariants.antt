@@ -1,7 +1,7 @@
 use Rattle.std.proofs.Common.{◌≡◌, drop}
 use Rattle.std.specs.List.{find, enumerate_from}
 use Rattle.command_table.specs.Words.{texts_of}
-use Rattle.command_table.specs.Rows.{is_bad_option}
+use Rattle.command_table.specs.Entries.{is_bad_option}
 use Rattle.command_table.specs.Spelled.{option_rule}
 use Rattle.command_table.proofs.options.Options.first_bad.Given as goal
 

@@ -1,6 +1,6 @@
 use Rattle.std.proofs.Common.{length, ap, arith}
 use Rattle.command_table.specs.Spelled.{spelled}
-use Rattle.command_table.proofs.RowLaws.{begins-too_many}
+use Rattle.command_table.proofs.EntryLaws.{begins-too_many}
 use Rattle.command_table.proofs.spellings.Spelling.goes_on.Goals as goal
 
 pub returns-in-len1-up : goal.returns-in-len1-up

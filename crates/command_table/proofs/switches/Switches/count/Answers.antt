@@ -1,8 +1,8 @@
 use Rattle.std.proofs.Common.{sym, ap, ◌∙◌, chars}
 use Rattle.command_table.specs.Words.{is_dashed}
-use Rattle.command_table.specs.Rows.{ends_switches}
+use Rattle.command_table.specs.Entries.{ends_switches}
 use Rattle.command_table.specs.Spelled.{switch_rule}
-use Rattle.command_table.proofs.RowLaws.{run_goes_on, run_ends}
+use Rattle.command_table.proofs.EntryLaws.{run_goes_on, run_ends}
 use Rattle.command_table.proofs.switches.Switches.count.Goals as goal
 
 pub returns-then-ends_at-clause-front : goal.returns-then-ends_at-clause-front

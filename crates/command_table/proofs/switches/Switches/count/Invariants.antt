@@ -1,6 +1,6 @@
 use Rattle.std.proofs.Common.{◌≡◌, ◌++◌, drop, take}
 use Rattle.command_table.specs.Words.{texts_of}
-use Rattle.command_table.specs.Rows.{dashed_words}
+use Rattle.command_table.specs.Entries.{dashed_words}
 use Rattle.command_table.specs.Spelled.{switch_rule}
 use Rattle.command_table.proofs.switches.Switches.count.Given as goal
 

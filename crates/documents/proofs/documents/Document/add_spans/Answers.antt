@@ -1,7 +1,7 @@
 use Rattle.std.proofs.Common.{◌≡◌, ℕ, ◌+◌, ◌<◌, ◌≤◌, true, false, length, refl, sym, subst, ap, ◌∙◌, arith}
 use Rattle.std.proofs.lemmas.Bool.Decides.{nat_tests}
-use Rattle.command_parts.specs.Lists.{with_name}
-use Rattle.command_parts.specs.declared.answers.Fault.TheVariants.{Memory, TooManyTags}
+use Rattle.command_effects.specs.Lists.{with_name}
+use Rattle.command_effects.specs.declared.answers.Fault.TheVariants.{Memory, TooManyTags}
 use Rattle.std.specs.Prelude.{chars, take}
 use Rattle.std.specs.List.{All}
 use Rattle.index_grammar.specs.Names.{known_tags}
@@ -44,7 +44,7 @@ invariant_of-self g c =
     let given = c.deref.result.now in
     let spans : given ≡ c.in_ok-spans.spans.items = c.deref.ensures.value in
     let widget = c.number-number.result in
-    let seat = sits parts document c.args.widget widget stands c.number-number.ensures.value in
+    let seat = sits parts document c.args.seat widget stands c.number-number.ensures.value in
     let content = g.S.TextStore.content new.text.store in
     let fit = subst (λ (n : ℕ). All (SpanFits n) given) (cells-kept parts document stands.is)
     (subst (All (SpanFits (length document.cells))) (sym spans) c.in_ok-spans.ensures.fit) in
@@ -61,7 +61,7 @@ invariant_of-self g c =
     let few = sym c.is_one_too_many.ensures.value ∙ c.if-is_one_too_many.false in
     let room : length (with_name (names_of parts.tags.tags) word)
     ≤ c.args.limits.now.tags + 1 = grind (arith, nat_tests, few) in
-    let leaves = leaves-added c.args.limits.now parts new.tags content (log_of new.text.history) document c.args.widget
+    let leaves = leaves-added c.args.limits.now parts new.tags content (log_of new.text.history) document c.args.seat
     widget word c.args.places.now given c.in_ok-spans.spans.items stands seat made c.in-Ok.ensures.log
     spans c.in_ok-spans.ensures.value c.in-Ok.ensures.made room in
     rw c.in-Ok.ensures.anchors leaves.sound
@@ -78,7 +78,7 @@ returns-in-Ok g c =
     let given = c.deref.result.now in
     let spans : given ≡ c.in_ok-spans.spans.items = c.deref.ensures.value in
     let widget = c.number-number.result in
-    let seat = sits parts document c.args.widget widget stands c.number-number.ensures.value in
+    let seat = sits parts document c.args.seat widget stands c.number-number.ensures.value in
     let content = g.S.TextStore.content new.text.store in
     let fit = subst (λ (n : ℕ). All (SpanFits n) given) (cells-kept parts document stands.is)
     (subst (All (SpanFits (length document.cells))) (sym spans) c.in_ok-spans.ensures.fit) in
@@ -95,7 +95,7 @@ returns-in-Ok g c =
     let few = sym c.is_one_too_many.ensures.value ∙ c.if-is_one_too_many.false in
     let room : length (with_name (names_of parts.tags.tags) word)
     ≤ c.args.limits.now.tags + 1 = grind (arith, nat_tests, few) in
-    let leaves = leaves-added c.args.limits.now parts new.tags content (log_of new.text.history) document c.args.widget
+    let leaves = leaves-added c.args.limits.now parts new.tags content (log_of new.text.history) document c.args.seat
     widget word c.args.places.now given c.in_ok-spans.spans.items stands seat made c.in-Ok.ensures.log
     spans c.in_ok-spans.ensures.value c.in-Ok.ensures.made room in
     rw c.in-Ok.ensures.anchors leaves.does
@@ -134,7 +134,7 @@ returns g c =
     stands same in
     rw c.in-Err.ensures.anchors (does-left c.args.limits.now document
     (document_of (relogged (retagged parts c.truncate.new.self content) (log_of new.text.history))) Memory
-    (add_spans c.args.limits.now document (widget_at document c.args.widget) (chars c.args.name.now) c.args.places.now)
+    (add_spans c.args.limits.now document (widget_at document c.args.seat) (chars c.args.name.now) c.args.places.now)
     left.is (λ other. absurd (other refl)))
 
 pub returns-then-is_one_too_many : goal.returns-then-is_one_too_many
@@ -148,9 +148,9 @@ returns-then-is_one_too_many g c =
     let many : c.args.limits.now.tags + 1 < length (with_name (names_of parts.tags.tags) (chars c.args.name.now))
     = grind (arith, nat_tests, full) in
     does-left c.args.limits.now document document TooManyTags
-    (add_spans c.args.limits.now document (widget_at document c.args.widget) (chars c.args.name.now) c.args.places.now)
+    (add_spans c.args.limits.now document (widget_at document c.args.seat) (chars c.args.name.now) c.args.places.now)
     refl
-    (λ _. added-left c.args.limits.now parts document c.args.widget (chars c.args.name.now) c.args.places.now stands
+    (λ _. added-left c.args.limits.now parts document c.args.seat (chars c.args.name.now) c.args.places.now stands
     many)
 
 pub tag_spans-tagged-requires-clause-few : goal.tag_spans-tagged-requires-clause-few

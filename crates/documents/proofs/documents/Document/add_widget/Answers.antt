@@ -3,8 +3,8 @@ use Rattle.std.specs.Prelude.{chars}
 use Rattle.text_model.specs.Content as model
 use Rattle.edit_ops.specs.declared.anchors.Anchors.{Anchors}
 use Rattle.undo_stack.specs.Rings.{Kept}
-use Rattle.command_parts.specs.Edits.{new_mark, with_own_marks}
-use Rattle.command_parts.specs.Settings.{history_under}
+use Rattle.command_effects.specs.Edits.{new_mark, with_own_marks}
+use Rattle.command_effects.specs.Settings.{history_under}
 use Rattle.documents.specs.Documents.{parts_of}
 use Rattle.documents.specs.Kept.{Stands}
 use Rattle.documents.specs.WellFormed.{IsWellFormedDocument}

@@ -4,7 +4,7 @@ use Rattle.std.proofs.lemmas.Str.{IsUtf8-string_bytes}
 use Rattle.mark_table.specs.SharedMarks.{names_of}
 use Rattle.tcl_words.specs.ListGrowth.{Goes}
 use Rattle.tcl_words.specs.ListText.{list_text}
-use Rattle.command_parts.specs.Words.{literal}
+use Rattle.command_effects.specs.Words.{literal}
 use Rattle.documents.specs.Documents.{parts_of}
 use Rattle.documents.specs.Kept.{Stands}
 use Rattle.documents.proofs.ListedLaws.{marks-listed, written}

@@ -1,7 +1,7 @@
 use Rattle.std.proofs.Common.{◌-◌, ap, ap₂, arith, length}
 use Rattle.edit_ops.specs.Deletions.{deleted}
 use Rattle.edit_ops.specs.States.{log_of, state_of}
-use Rattle.command_parts.specs.Settings.{recording_of}
+use Rattle.command_effects.specs.Settings.{recording_of}
 use Rattle.documents.specs.Documents.{parts_of}
 use Rattle.documents.specs.Kept.{Stands}
 use Rattle.documents.proofs.PartsLaws.{sits}
@@ -19,7 +19,7 @@ start_of-start-requires g c =
     (g.S.TextStore.content old.text.store) in
     let stands : Stands parts document = record { sound = c.self.invariant; is = c.self.view_is } in
     let slot = c.number-slot.result in
-    let seated = sits parts document c.args.widget slot stands c.number-slot.ensures.value in
+    let seated = sits parts document c.args.seat slot stands c.number-slot.ensures.value in
     omega (arith, seated.anchors, ap length c.deref.ensures.value)
 
 pub end_of-end-requires : goal.end_of-end-requires
@@ -30,7 +30,7 @@ end_of-end-requires g c =
     (g.S.TextStore.content old.text.store) in
     let stands : Stands parts document = record { sound = c.self.invariant; is = c.self.view_is } in
     let slot = c.number-slot.result in
-    let seated = sits parts document c.args.widget slot stands c.number-slot.ensures.value in
+    let seated = sits parts document c.args.seat slot stands c.number-slot.ensures.value in
     omega (arith, seated.anchors, ap length c.deref-2.ensures.value)
 
 pub spans_of-requires-clause-within : goal.spans_of-requires-clause-within
@@ -41,14 +41,14 @@ spans_of-requires-clause-within g c =
     (g.S.TextStore.content old.text.store) in
     let stands : Stands parts document = record { sound = c.self.invariant; is = c.self.view_is } in
     let slot = c.number-slot.result in
-    let seated = sits parts document c.args.widget slot stands c.number-slot.ensures.value in
+    let seated = sits parts document c.args.seat slot stands c.number-slot.ensures.value in
     let start = start-found parts slot c.deref.result.now c.start_of-start.result c.deref.ensures.value
     c.start_of-start.ensures in
     let end = end-found parts slot c.deref-2.result.now c.len.result c.end_of-end.result c.deref-2.ensures.value
     c.len.ensures c.end_of-end.ensures in
-    let shows = active-is parts document c.args.widget slot stands seated c.requires.active in
+    let shows = active-is parts document c.args.seat slot stands seated c.requires.active in
     λ k d inside. (let h = c.requires.within k d inside in
-    omega (arith, h, start, end, shown-length parts document c.args.widget slot stands seated))
+    omega (arith, h, start, end, shown-length parts document c.args.seat slot stands seated))
 
 pub delete_spans-deleted-requires-clause-shows : goal.delete_spans-deleted-requires-clause-shows
 delete_spans-deleted-requires-clause-shows g c =
@@ -58,12 +58,12 @@ delete_spans-deleted-requires-clause-shows g c =
     (g.S.TextStore.content old.text.store) in
     let stands : Stands parts document = record { sound = c.self.invariant; is = c.self.view_is } in
     let slot = c.number-slot.result in
-    let seated = sits parts document c.args.widget slot stands c.number-slot.ensures.value in
+    let seated = sits parts document c.args.seat slot stands c.number-slot.ensures.value in
     let start = start-found parts slot c.deref.result.now c.start_of-start.result c.deref.ensures.value
     c.start_of-start.ensures in
     let end = end-found parts slot c.deref-2.result.now c.len.result c.end_of-end.result c.deref-2.ensures.value
     c.len.ensures c.end_of-end.ensures in
-    let shows = active-is parts document c.args.widget slot stands seated c.requires.active in
+    let shows = active-is parts document c.args.seat slot stands seated c.requires.active in
     omega (arith, start, end, shows.1)
 
 pub delete_spans-deleted-requires-clause-spans : goal.delete_spans-deleted-requires-clause-spans
@@ -74,14 +74,14 @@ delete_spans-deleted-requires-clause-spans g c =
     (g.S.TextStore.content old.text.store) in
     let stands : Stands parts document = record { sound = c.self.invariant; is = c.self.view_is } in
     let slot = c.number-slot.result in
-    let seated = sits parts document c.args.widget slot stands c.number-slot.ensures.value in
+    let seated = sits parts document c.args.seat slot stands c.number-slot.ensures.value in
     let start = start-found parts slot c.deref.result.now c.start_of-start.result c.deref.ensures.value
     c.start_of-start.ensures in
     let end = end-found parts slot c.deref-2.result.now c.len.result c.end_of-end.result c.deref-2.ensures.value
     c.len.ensures c.end_of-end.ensures in
-    let shows = active-is parts document c.args.widget slot stands seated c.requires.active in
+    let shows = active-is parts document c.args.seat slot stands seated c.requires.active in
     let spans = c.deref-3.result.now in
-    let within = spans-in parts document c.args.widget slot c.start_of-start.result
+    let within = spans-in parts document c.args.seat slot c.start_of-start.result
     (c.end_of-end.result - c.start_of-start.result) c.args.places.now c.in_ok-spans.spans.items spans stands seated
     start
     (ap₂ (λ e s. e - s) end start) c.requires.within (omega (arith, shows.1)) c.in_ok-spans.ensures
@@ -96,14 +96,14 @@ invariant_of-self g c =
     (g.S.TextStore.content old.text.store) in
     let stands : Stands parts document = record { sound = c.self.invariant; is = c.self.view_is } in
     let slot = c.number-slot.result in
-    let seated = sits parts document c.args.widget slot stands c.number-slot.ensures.value in
+    let seated = sits parts document c.args.seat slot stands c.number-slot.ensures.value in
     let start = start-found parts slot c.deref.result.now c.start_of-start.result c.deref.ensures.value
     c.start_of-start.ensures in
     let end = end-found parts slot c.deref-2.result.now c.len.result c.end_of-end.result c.deref-2.ensures.value
     c.len.ensures c.end_of-end.ensures in
-    let shows = active-is parts document c.args.widget slot stands seated c.requires.active in
+    let shows = active-is parts document c.args.seat slot stands seated c.requires.active in
     let spans = c.deref-3.result.now in
-    let within = spans-in parts document c.args.widget slot c.start_of-start.result
+    let within = spans-in parts document c.args.seat slot c.start_of-start.result
     (c.end_of-end.result - c.start_of-start.result) c.args.places.now c.in_ok-spans.spans.items spans stands seated
     start
     (ap₂ (λ e s. e - s) end start) c.requires.within (omega (arith, shows.1)) c.in_ok-spans.ensures
@@ -115,7 +115,7 @@ invariant_of-self g c =
     let edited = edited-is (λ recording state.
     deleted recording c.start_of-start.result c.end_of-end.result spans state) (state_of content old.text.anchors.items (log_of old.text.history))
     (state_of changed kept (log_of new.text.history)) (recording_of old.settings) c.recording.result c.recording.ensures c.in-Ok.ensures.ok in
-    (leaves-places c.args.limits.now parts (state_of changed kept (log_of new.text.history)) document c.args.widget slot
+    (leaves-places c.args.limits.now parts (state_of changed kept (log_of new.text.history)) document c.args.seat slot
     c.start_of-start.result c.end_of-end.result c.args.places.now spans stands seated
     c.requires.active start end within edited).sound
 
@@ -127,14 +127,14 @@ returns-in-Ok g c =
     (g.S.TextStore.content old.text.store) in
     let stands : Stands parts document = record { sound = c.self.invariant; is = c.self.view_is } in
     let slot = c.number-slot.result in
-    let seated = sits parts document c.args.widget slot stands c.number-slot.ensures.value in
+    let seated = sits parts document c.args.seat slot stands c.number-slot.ensures.value in
     let start = start-found parts slot c.deref.result.now c.start_of-start.result c.deref.ensures.value
     c.start_of-start.ensures in
     let end = end-found parts slot c.deref-2.result.now c.len.result c.end_of-end.result c.deref-2.ensures.value
     c.len.ensures c.end_of-end.ensures in
-    let shows = active-is parts document c.args.widget slot stands seated c.requires.active in
+    let shows = active-is parts document c.args.seat slot stands seated c.requires.active in
     let spans = c.deref-3.result.now in
-    let within = spans-in parts document c.args.widget slot c.start_of-start.result
+    let within = spans-in parts document c.args.seat slot c.start_of-start.result
     (c.end_of-end.result - c.start_of-start.result) c.args.places.now c.in_ok-spans.spans.items spans stands seated
     start
     (ap₂ (λ e s. e - s) end start) c.requires.within (omega (arith, shows.1)) c.in_ok-spans.ensures
@@ -146,6 +146,6 @@ returns-in-Ok g c =
     let edited = edited-is (λ recording state.
     deleted recording c.start_of-start.result c.end_of-end.result spans state) (state_of content old.text.anchors.items (log_of old.text.history))
     (state_of changed kept (log_of new.text.history)) (recording_of old.settings) c.recording.result c.recording.ensures c.in-Ok.ensures.ok in
-    (leaves-places c.args.limits.now parts (state_of changed kept (log_of new.text.history)) document c.args.widget slot
+    (leaves-places c.args.limits.now parts (state_of changed kept (log_of new.text.history)) document c.args.seat slot
     c.start_of-start.result c.end_of-end.result c.args.places.now spans stands seated
     c.requires.active start end within edited).does

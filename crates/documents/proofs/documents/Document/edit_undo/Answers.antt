@@ -5,12 +5,12 @@ use Rattle.std.specs.List.{All}
 use Rattle.undo_stack.specs.History.{next_undo}
 use Rattle.undo_stack.specs.declared.actions.Action.{Action}
 use Rattle.edit_ops.specs.States.{log_of, state_of}
-use Rattle.command_parts.specs.declared.answers.Answer.{Answer}
-use Rattle.command_parts.specs.declared.answers.Fault.{Fault}
+use Rattle.command_effects.specs.declared.answers.Answer.{Answer}
+use Rattle.command_effects.specs.declared.answers.Fault.{Fault}
 use Rattle.documents.specs.Documents.{document_of, parts_of, widget_at}
 use Rattle.documents.specs.Kept.{Stands}
 use Rattle.documents.specs.Promise.{Does}
-use Rattle.documents.specs.Reversals.{edit_undo}
+use Rattle.documents.specs.History.{edit_undo}
 use Rattle.documents.proofs.ChangeLaws.{does-left, stands-same}
 use Rattle.documents.proofs.PartsLaws.{sits}
 use Rattle.documents.proofs.ReversalLaws.{CanRevert, IsReverted, leaves-undone}
@@ -57,17 +57,17 @@ invariant_of-self g c =
       scalars = subst (λ found. IfSome found (All (λ (action : Action). All IsScalar action.text))) is
           c.undo_group.ensures.scalars;
     } in
-    let able : CanRevert parts document c.args.widget slot =
+    let able : CanRevert parts document c.args.seat slot =
     record {
       stands = stands;
-      sits = sits parts document c.args.widget slot stands c.number.ensures.value;
+      sits = sits parts document c.args.seat slot stands c.number.ensures.value;
       on = c.if-not-self.false;
       active = sym c.is_idle.ensures ∙ c.if-is_idle.false;
     } in
     let state = state_of changed kept (log_of new.text.history) in
     elim c.match-undo_group.branch [
       | in-Ok w ↦
-          (leaves-undone c.args.limits.now parts state document c.args.widget slot group able is reverted
+          (leaves-undone c.args.limits.now parts state document c.args.seat slot group able is reverted
           c.requires.formed
           w.in-Ok.ensures.ok).sound
       | in-Err w ↦
@@ -96,20 +96,20 @@ returns g c =
       scalars = subst (λ found. IfSome found (All (λ (action : Action). All IsScalar action.text))) is
           c.undo_group.ensures.scalars;
     } in
-    let able : CanRevert parts document c.args.widget slot =
+    let able : CanRevert parts document c.args.seat slot =
     record {
       stands = stands;
-      sits = sits parts document c.args.widget slot stands c.number.ensures.value;
+      sits = sits parts document c.args.seat slot stands c.number.ensures.value;
       on = c.if-not-self.false;
       active = sym c.is_idle.ensures ∙ c.if-is_idle.false;
     } in
     let state = state_of changed kept (log_of new.text.history) in
     let P : Result Answer Fault → Type 0 = λ result.
     Does c.args.limits.now document (document_of (with_state parts state)) result
-    (edit_undo document (widget_at document c.args.widget)) in
+    (edit_undo document (widget_at document c.args.seat)) in
     elim c.match-undo_group.branch [
       | in-Ok w ↦ subst P (sym w.result-is)
-          (leaves-undone c.args.limits.now parts state document c.args.widget slot group able is reverted
+          (leaves-undone c.args.limits.now parts state document c.args.seat slot group able is reverted
           c.requires.formed
           w.in-Ok.ensures.ok).does
       | in-Err w ↦
@@ -117,6 +117,6 @@ returns g c =
           (log_of new.text.history) w.in-Err.ensures.err.0 w.in-Err.ensures.err.1 w.in-Err.ensures.err.2 in
           let left = stands-same parts (with_state parts state) document stands (ap (with_state parts) same) in
           subst P (sym w.result-is) (does-left c.args.limits.now document (document_of (with_state parts state))
-          w.in-Err.fault (edit_undo document (widget_at document c.args.widget)) left.is
+          w.in-Err.fault (edit_undo document (widget_at document c.args.seat)) left.is
           (λ other. absurd (other w.in-Err.ensures.fault)))
     ]

@@ -16,7 +16,7 @@ view_of-requires g c =
     let parts = parts_of old.seats old.tags old.marks old.settings old.disabled.items old.text.anchors.items old.text.history
     (g.S.TextStore.content old.text.store) in
     let stands : Stands parts document = record { sound = c.self.invariant; is = c.self.view_is } in
-    let seated = sits parts document c.args.widget c.number-slot.result stands c.number-slot.ensures.value in
+    let seated = sits parts document c.args.seat c.number-slot.result stands c.number-slot.ensures.value in
     omega (arith, seated.anchors, ap length c.deref.ensures.value)
 
 pub dump-requires-clause-view : goal.dump-requires-clause-view
@@ -31,11 +31,11 @@ dump-requires-clause-view g c =
     let first = found.result.s in
     let behind = found.result.e in
     let slot = c.number-slot.result in
-    let sight = see parts document c.args.widget slot content first behind c.deref.result.now stands
+    let sight = see parts document c.args.seat slot content first behind c.deref.result.now stands
     c.number-slot.ensures.value
     c.deref.ensures.value (found.ensures.start ∙ c.view_of.ensures.start) (found.ensures.end ∙ c.view_of.ensures.end)
     (found.ensures.store ∙ c.view_of.ensures.store) in
-    view-found parts document c.args.widget slot content first behind sight
+    view-found parts document c.args.seat slot content first behind sight
 
 pub dump-requires-clause-from : goal.dump-requires-clause-from
 dump-requires-clause-from g c =
@@ -49,15 +49,15 @@ dump-requires-clause-from g c =
     let first = found.result.s in
     let behind = found.result.e in
     let slot = c.number-slot.result in
-    let sight = see parts document c.args.widget slot content first behind c.deref.result.now stands
+    let sight = see parts document c.args.seat slot content first behind c.deref.result.now stands
     c.number-slot.ensures.value
     c.deref.ensures.value (found.ensures.start ∙ c.view_of.ensures.start) (found.ensures.end ∙ c.view_of.ensures.end)
     (found.ensures.store ∙ c.view_of.ensures.store) in
     omega (
       arith,
       c.requires.from,
-      length-found parts document c.args.widget slot content first behind sight,
-      ordered-found parts document c.args.widget slot content first behind sight,
+      length-found parts document c.args.seat slot content first behind sight,
+      ordered-found parts document c.args.seat slot content first behind sight,
     )
 
 pub dump-requires-clause-to : goal.dump-requires-clause-to
@@ -72,15 +72,15 @@ dump-requires-clause-to g c =
     let first = found.result.s in
     let behind = found.result.e in
     let slot = c.number-slot.result in
-    let sight = see parts document c.args.widget slot content first behind c.deref.result.now stands
+    let sight = see parts document c.args.seat slot content first behind c.deref.result.now stands
     c.number-slot.ensures.value
     c.deref.ensures.value (found.ensures.start ∙ c.view_of.ensures.start) (found.ensures.end ∙ c.view_of.ensures.end)
     (found.ensures.store ∙ c.view_of.ensures.store) in
     omega (
       arith,
       c.requires.to,
-      length-found parts document c.args.widget slot content first behind sight,
-      ordered-found parts document c.args.widget slot content first behind sight,
+      length-found parts document c.args.seat slot content first behind sight,
+      ordered-found parts document c.args.seat slot content first behind sight,
     )
 
 pub returns : goal.returns
@@ -95,7 +95,7 @@ returns g c =
     let first = found.result.s in
     let behind = found.result.e in
     let slot = c.number-slot.result in
-    let sight = see parts document c.args.widget slot content first behind c.deref.result.now stands
+    let sight = see parts document c.args.seat slot content first behind c.deref.result.now stands
     c.number-slot.ensures.value
     c.deref.ensures.value (found.ensures.start ∙ c.view_of.ensures.start) (found.ensures.end ∙ c.view_of.ensures.end)
     (found.ensures.store ∙ c.view_of.ensures.store) in
@@ -103,4 +103,4 @@ returns g c =
     ∙ spelled c.in_ok-dump.field-0 (dump_elements c.args.listed
     (seen_by content first behind old.tags.tags old.marks.marks slot) c.args.from c.args.to) c.in_ok-dump.ensures
     ∙ ap (λ seen. list_text (dump_elements c.args.listed seen c.args.from c.args.to))
-    (seen-found parts document c.args.widget slot content first behind sight)
+    (seen-found parts document c.args.seat slot content first behind sight)

@@ -3,8 +3,8 @@ use Rattle.tag_table.specs.Tags.{sel, slot_of}
 use Rattle.undo_stack.specs.declared.actions.EditKind.TheVariants.{Insert}
 use Rattle.edit_ops.specs.Insertions.{inserted_texts}
 use Rattle.edit_ops.specs.States.{log_of, state_of}
-use Rattle.command_parts.specs.Settings.{recording_of}
-use Rattle.command_parts.specs.Tagging.{piece_of}
+use Rattle.command_effects.specs.Settings.{recording_of}
+use Rattle.command_effects.specs.Tagging.{piece_of}
 use Rattle.documents.specs.Documents.{document_of, parts_of, widget_at}
 use Rattle.documents.specs.Kept.{Stands}
 use Rattle.documents.specs.Texts.{insert_at}
@@ -45,8 +45,8 @@ invariant_of-self g c =
     let kept = new.text.anchors.items in
     let told = c.in-Ok.ensures in
     (leaves-put c.args.limits.now parts new.tags (state_of changed kept (log_of new.text.history)) c.args.self.now
-    c.args.widget c.number.result c.args.at c.args.pairs.items stands
-    (sits parts c.args.self.now c.args.widget c.number.result stands c.number.ensures.value)
+    c.args.seat c.number.result c.args.at c.args.pairs.items stands
+    (sits parts c.args.self.now c.args.seat c.number.result stands c.number.ensures.value)
     (record {
       bounds = told.bounds;
       front = told.front;
@@ -72,8 +72,8 @@ returns-in-Ok g c =
     let kept = new.text.anchors.items in
     let told = c.in-Ok.ensures in
     (leaves-put c.args.limits.now parts new.tags (state_of changed kept (log_of new.text.history)) c.args.self.now
-    c.args.widget c.number.result c.args.at c.args.pairs.items stands
-    (sits parts c.args.self.now c.args.widget c.number.result stands c.number.ensures.value)
+    c.args.seat c.number.result c.args.at c.args.pairs.items stands
+    (sits parts c.args.self.now c.args.seat c.number.result stands c.number.ensures.value)
     (record {
       bounds = told.bounds;
       front = told.front;
@@ -124,6 +124,6 @@ returns-in-Err g c =
     let after = with_state (with_tags c.truncate.new.self parts) (state_of changed kept (log_of new.text.history)) in
     let same = stands-same parts after document stands (ap₂ (λ t s. with_state (with_tags t parts) s) back state) in
     does-left c.args.limits.now document (document_of after) c.in-Err.fault
-    (insert_at c.args.limits.now document (widget_at document c.args.widget) c.args.at c.args.pairs.items) same.is
-    (λ other. put-left c.args.limits.now parts document (widget_at document c.args.widget) c.args.at c.args.pairs.items
+    (insert_at c.args.limits.now document (widget_at document c.args.seat) c.args.at c.args.pairs.items) same.is
+    (λ other. put-left c.args.limits.now parts document (widget_at document c.args.seat) c.args.at c.args.pairs.items
     c.in-Err.fault stands (c.in-Err.ensures.fault other))

@@ -12,7 +12,7 @@ index-requires g c =
     let parts = parts_of old.seats old.tags old.marks old.settings old.disabled.items old.text.anchors.items old.text.history
     (g.S.TextStore.content old.text.store) in
     let stands : Stands parts c.args.self.now = record { sound = c.self.invariant; is = c.self.view_is } in
-    let seated = sits parts c.args.self.now c.args.widget c.number-slot.result stands c.number-slot.ensures.value in
+    let seated = sits parts c.args.self.now c.args.seat c.number-slot.result stands c.number-slot.ensures.value in
     omega (arith, seated.disabled, old.disabled.ok.0)
 
 pub returns-then-index : goal.returns-then-index
@@ -21,11 +21,11 @@ returns-then-index g c =
     let parts = parts_of old.seats old.tags old.marks old.settings old.disabled.items old.text.anchors.items old.text.history
     (g.S.TextStore.content old.text.store) in
     let stands : Stands parts c.args.self.now = record { sound = c.self.invariant; is = c.self.view_is } in
-    let seated = sits parts c.args.self.now c.args.widget c.number-slot.result stands c.number-slot.ensures.value in
+    let seated = sits parts c.args.self.now c.args.seat c.number-slot.result stands c.number-slot.ensures.value in
     let off : get_or old.disabled.items c.number-slot.result false
     ≡ true = flag-at old.disabled.items c.number-slot.result c.index.result.now true seated.disabled c.index.ensures
     c.if-index.true in
-    sym (idle-is parts c.args.self.now c.args.widget c.number-slot.result stands seated
+    sym (idle-is parts c.args.self.now c.args.seat c.number-slot.result stands seated
     ∙ ap (λ b. b || start_in parts c.number-slot.result == end_in parts c.number-slot.result) off)
 
 pub start_of-requires : goal.start_of-requires
@@ -34,7 +34,7 @@ start_of-requires g c =
     let parts = parts_of old.seats old.tags old.marks old.settings old.disabled.items old.text.anchors.items old.text.history
     (g.S.TextStore.content old.text.store) in
     let stands : Stands parts c.args.self.now = record { sound = c.self.invariant; is = c.self.view_is } in
-    let seated = sits parts c.args.self.now c.args.widget c.number-slot.result stands c.number-slot.ensures.value in
+    let seated = sits parts c.args.self.now c.args.seat c.number-slot.result stands c.number-slot.ensures.value in
     omega (arith, seated.anchors, ap length c.deref.ensures.value)
 
 pub end_of-requires : goal.end_of-requires
@@ -43,7 +43,7 @@ end_of-requires g c =
     let parts = parts_of old.seats old.tags old.marks old.settings old.disabled.items old.text.anchors.items old.text.history
     (g.S.TextStore.content old.text.store) in
     let stands : Stands parts c.args.self.now = record { sound = c.self.invariant; is = c.self.view_is } in
-    let seated = sits parts c.args.self.now c.args.widget c.number-slot.result stands c.number-slot.ensures.value in
+    let seated = sits parts c.args.self.now c.args.seat c.number-slot.result stands c.number-slot.ensures.value in
     omega (arith, seated.anchors, ap length c.deref-2.ensures.value)
 
 pub returns : goal.returns
@@ -52,7 +52,7 @@ returns g c =
     let parts = parts_of old.seats old.tags old.marks old.settings old.disabled.items old.text.anchors.items old.text.history
     (g.S.TextStore.content old.text.store) in
     let stands : Stands parts c.args.self.now = record { sound = c.self.invariant; is = c.self.view_is } in
-    let seated = sits parts c.args.self.now c.args.widget c.number-slot.result stands c.number-slot.ensures.value in
+    let seated = sits parts c.args.self.now c.args.seat c.number-slot.result stands c.number-slot.ensures.value in
     let on : get_or old.disabled.items c.number-slot.result false
     ≡ false = flag-at old.disabled.items c.number-slot.result c.index.result.now false seated.disabled
     c.index.ensures c.if-index.false in
@@ -60,5 +60,5 @@ returns g c =
     c.start_of.ensures in
     let end = end-found parts c.number-slot.result c.deref-2.result.now c.len.result c.end_of.result
     c.deref-2.ensures.value c.len.ensures c.end_of.ensures in
-    sym (idle-is parts c.args.self.now c.args.widget c.number-slot.result stands seated
+    sym (idle-is parts c.args.self.now c.args.seat c.number-slot.result stands seated
     ∙ ap₂ (λ b e. b || e) on (ap₂ (λ s e. s == e) (sym start) (sym end)))

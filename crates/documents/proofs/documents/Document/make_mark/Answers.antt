@@ -1,7 +1,7 @@
 use Rattle.std.proofs.Common.{◌<◌, ◌≤◌, None, length, sym, subst, arith}
 use Rattle.std.specs.Prelude.{Result, chars}
-use Rattle.command_parts.specs.declared.answers.Answer.{Answer}
-use Rattle.command_parts.specs.declared.answers.Fault.{Fault}
+use Rattle.command_effects.specs.declared.answers.Answer.{Answer}
+use Rattle.command_effects.specs.declared.answers.Fault.{Fault}
 use Rattle.documents.specs.Documents.{Parts, document_of, parts_of, widget_at}
 use Rattle.documents.specs.Kept.{Stands}
 use Rattle.documents.specs.Marks.{set_found}
@@ -19,7 +19,7 @@ make_mark-requires-clause-new g c =
     let parts = parts_of old.seats old.tags old.marks old.settings old.disabled.items old.text.anchors.items old.text.history
     (g.S.TextStore.content old.text.store) in
     let stands : Stands parts document = record { sound = c.self.invariant; is = c.self.view_is } in
-    (new-name parts document (widget_at document c.args.widget) (chars c.args.name.now) stands c.requires.new).1
+    (new-name parts document (widget_at document c.args.seat) (chars c.args.name.now) stands c.requires.new).1
 
 pub invariant_of-self : goal.invariant_of-self
 invariant_of-self g c =
@@ -31,7 +31,7 @@ invariant_of-self g c =
     let word = chars c.args.name.now in
     let changed = g.S.TextStore.content c.make_mark.new.store in
     let new = c.make_mark.new.marks in
-    let widget = widget_at document c.args.widget in
+    let widget = widget_at document c.args.seat in
     let within : c.args.offset ≤ length parts.content.cells = omega (
       arith,
       c.requires.within,
@@ -60,7 +60,7 @@ returns g c =
     let word = chars c.args.name.now in
     let changed = g.S.TextStore.content c.make_mark.new.store in
     let new = c.make_mark.new.marks in
-    let widget = widget_at document c.args.widget in
+    let widget = widget_at document c.args.seat in
     let within : c.args.offset ≤ length parts.content.cells = omega (
       arith,
       c.requires.within,

@@ -5,10 +5,10 @@ use Rattle.tcl_words.specs.ListText.{list_text}
 use Rattle.tcl_words.specs.ListGrowth.{Goes}
 use Rattle.text_index.specs.Views as view
 use Rattle.text_index.specs.Ranges.{next_range}
-use Rattle.command_parts.specs.Listing.{begun, range_words}
+use Rattle.command_effects.specs.Listing.{begun, range_words}
 use Rattle.documents.specs.Documents.{parts_of, widget_at}
 use Rattle.documents.specs.Kept.{Stands}
-use Rattle.documents.specs.View.{shown}
+use Rattle.documents.specs.Views.{shown}
 use Rattle.documents.proofs.ListedLaws.{written}
 use Rattle.documents.proofs.PartsLaws.{sits}
 use Rattle.documents.proofs.TaggedLaws.{flags-known, flags-unknown}
@@ -23,9 +23,9 @@ returns-in_default g c =
     (g.S.TextStore.content old.text.store) in
     let stands : Stands parts document = record { sound = c.self.invariant; is = c.self.view_is } in
     c.new.ensures ∙ ap chars c.new-list.ensures.bytes ∙ chars-nil
-    ∙ ap (λ flags. list_text (range_words (shown document (widget_at document c.args.widget))
+    ∙ ap (λ flags. list_text (range_words (shown document (widget_at document c.args.seat))
     (begun (λ start. nat_lt start c.args.to) (next_range flags c.args.from))))
-    (flags-unknown parts document c.args.widget c.number-number.result stands (chars c.args.name.now)
+    (flags-unknown parts document c.args.seat c.number-number.result stands (chars c.args.name.now)
     c.in_default.ensures.value)
 
 pub view_of-view-requires : goal.view_of-view-requires
@@ -35,7 +35,7 @@ view_of-view-requires g c =
     let parts = parts_of old.seats old.tags old.marks old.settings old.disabled.items old.text.anchors.items old.text.history
     (g.S.TextStore.content old.text.store) in
     let stands : Stands parts document = record { sound = c.self.invariant; is = c.self.view_is } in
-    let seated = sits parts document c.args.widget c.number-number.result stands c.number-number.ensures.value in
+    let seated = sits parts document c.args.seat c.number-number.result stands c.number-number.ensures.value in
     omega (arith, seated.anchors, ap length c.deref.ensures.value)
 
 pub push_next-requires-clause-view : goal.push_next-requires-clause-view
@@ -47,11 +47,11 @@ push_next-requires-clause-view g c =
     let stands : Stands parts document = record { sound = c.self.invariant; is = c.self.view_is } in
     let found = c.view_of-view in
     let content = g.S.TextStore.content found.result.store.now in
-    let seen = see parts document c.args.widget c.number-number.result content found.result.s found.result.e
+    let seen = see parts document c.args.seat c.number-number.result content found.result.s found.result.e
     c.deref.result.now stands c.number-number.ensures.value c.deref.ensures.value found.ensures.start
     found.ensures.end
     found.ensures.store in
-    view-found parts document c.args.widget c.number-number.result content found.result.s found.result.e seen
+    view-found parts document c.args.seat c.number-number.result content found.result.s found.result.e seen
 
 pub push_next-requires-clause-within : goal.push_next-requires-clause-within
 push_next-requires-clause-within g c =
@@ -62,14 +62,14 @@ push_next-requires-clause-within g c =
     let stands : Stands parts document = record { sound = c.self.invariant; is = c.self.view_is } in
     let found = c.view_of-view in
     let content = g.S.TextStore.content found.result.store.now in
-    let seen = see parts document c.args.widget c.number-number.result content found.result.s found.result.e
+    let seen = see parts document c.args.seat c.number-number.result content found.result.s found.result.e
     c.deref.result.now stands c.number-number.ensures.value c.deref.ensures.value found.ensures.start
     found.ensures.end
     found.ensures.store in
     omega (
       arith,
-      length-found parts document c.args.widget c.number-number.result content found.result.s found.result.e seen,
-      ordered-found parts document c.args.widget c.number-number.result content found.result.s found.result.e seen,
+      length-found parts document c.args.seat c.number-number.result content found.result.s found.result.e seen,
+      ordered-found parts document c.args.seat c.number-number.result content found.result.s found.result.e seen,
       c.requires.within,
     )
 
@@ -82,13 +82,13 @@ returns g c =
     let stands : Stands parts document = record { sound = c.self.invariant; is = c.self.view_is } in
     let found = c.view_of-view in
     let content = g.S.TextStore.content found.result.store.now in
-    let seen = see parts document c.args.widget c.number-number.result content found.result.s found.result.e
+    let seen = see parts document c.args.seat c.number-number.result content found.result.s found.result.e
     c.deref.result.now stands c.number-number.ensures.value c.deref.ensures.value found.ensures.start
     found.ensures.end
     found.ensures.store in
-    let text = shown-found parts document c.args.widget c.number-number.result content found.result.s found.result.e
+    let text = shown-found parts document c.args.seat c.number-number.result content found.result.s found.result.e
     seen in
-    let flags = flags-known parts document c.args.widget c.number-number.result content found.result.s found.result.e
+    let flags = flags-known parts document c.args.seat c.number-number.result content found.result.s found.result.e
     seen (chars c.args.name.now) c.in-Some.slot.0 c.in-Some.ensures.value in
     let new = c.push_next.new.list in
     let words = range_words (view.shown content found.result.s found.result.e)
@@ -99,5 +99,5 @@ returns g c =
     ∙ ap (λ t.
     list_text (range_words t (begun (λ start. nat_lt start c.args.to)
     (next_range (view.shown_flags c.in-Some.slot.0 content found.result.s found.result.e) c.args.from)))) text
-    ∙ ap (λ flags. list_text (range_words (shown document (widget_at document c.args.widget))
+    ∙ ap (λ flags. list_text (range_words (shown document (widget_at document c.args.seat))
     (begun (λ start. nat_lt start c.args.to) (next_range flags c.args.from)))) flags

@@ -4,7 +4,7 @@ use Rattle.std.proofs.lemmas.Str.{IsUtf8-string_bytes}
 use Rattle.name_list.specs.Names.{names_of}
 use Rattle.tcl_words.specs.ListGrowth.{Goes}
 use Rattle.tcl_words.specs.ListText.{list_text}
-use Rattle.command_parts.specs.Words.{is_same}
+use Rattle.command_effects.specs.Words.{is_same}
 use Rattle.documents.specs.Documents.{parts_of}
 use Rattle.documents.specs.Kept.{Stands}
 use Rattle.documents.proofs.ListedLaws.{written}
@@ -23,4 +23,4 @@ returns g c =
     let new = c.push_other_seats.new.list in
     c.new.ensures ∙ written (string_bytes new) names (IsUtf8-string_bytes new)
     (subst (λ bytes. Goes bytes (string_bytes new) names) c.new-list.ensures.bytes c.in_ok-push_other_seats.ensures)
-    ∙ ap list_text (others-kept parts document c.args.widget name stands c.name.ensures)
+    ∙ ap list_text (others-kept parts document c.args.seat name stands c.name.ensures)

@@ -3,7 +3,7 @@ use Rattle.std.specs.Prelude.{chars}
 use Rattle.documents.specs.Documents.{parts_of, widget_at}
 use Rattle.documents.specs.Kept.{Stands}
 use Rattle.documents.specs.Names.{place_of}
-use Rattle.documents.specs.View.{shown}
+use Rattle.documents.specs.Views.{shown}
 use Rattle.documents.proofs.MeaningLaws.{found-within, gives-place, place-found}
 use Rattle.documents.proofs.PartsLaws.{sits}
 use Rattle.documents.proofs.ViewLaws.{length-found, see, view-found}
@@ -15,7 +15,7 @@ view_of-view-requires g c =
     let parts = parts_of old.seats old.tags old.marks old.settings old.disabled.items old.text.anchors.items old.text.history
     (g.S.TextStore.content old.text.store) in
     let stands : Stands parts c.args.self.now = record { sound = c.self.invariant; is = c.self.view_is } in
-    let seated = sits parts c.args.self.now c.args.widget c.number-slot.result stands c.number-slot.ensures.value in
+    let seated = sits parts c.args.self.now c.args.seat c.number-slot.result stands c.number-slot.ensures.value in
     omega (arith, seated.anchors, ap length c.deref.ensures.value)
 
 pub locate-requires-clause-view : goal.locate-requires-clause-view
@@ -26,10 +26,10 @@ locate-requires-clause-view g c =
     let parts = parts_of old.seats old.tags old.marks old.settings old.disabled.items old.text.anchors.items old.text.history
     (g.S.TextStore.content old.text.store) in
     let stands : Stands parts c.args.self.now = record { sound = c.self.invariant; is = c.self.view_is } in
-    let seen = see parts c.args.self.now c.args.widget c.number-slot.result content found.result.s found.result.e
+    let seen = see parts c.args.self.now c.args.seat c.number-slot.result content found.result.s found.result.e
     c.deref.result.now stands c.number-slot.ensures.value
     c.deref.ensures.value found.ensures.start found.ensures.end found.ensures.store in
-    view-found parts c.args.self.now c.args.widget c.number-slot.result content found.result.s found.result.e seen
+    view-found parts c.args.self.now c.args.seat c.number-slot.result content found.result.s found.result.e seen
 
 pub returns-clause-value : goal.returns-clause-value
 returns-clause-value g c =
@@ -40,13 +40,13 @@ returns-clause-value g c =
     let parts = parts_of old.seats old.tags old.marks old.settings old.disabled.items old.text.anchors.items old.text.history
     (g.S.TextStore.content old.text.store) in
     let stands : Stands parts c.args.self.now = record { sound = c.self.invariant; is = c.self.view_is } in
-    let seen = see parts c.args.self.now c.args.widget c.number-slot.result content found.result.s found.result.e
+    let seen = see parts c.args.self.now c.args.seat c.number-slot.result content found.result.s found.result.e
     c.deref.result.now stands c.number-slot.ensures.value
     c.deref.ensures.value found.ensures.start found.ensures.end found.ensures.store in
-    let defined = place-found parts c.args.self.now c.args.widget c.number-slot.result content found.result.s
+    let defined = place-found parts c.args.self.now c.args.seat c.number-slot.result content found.result.s
     found.result.e word seen in
     let gives = gives-place c.args.position c.locate.result
-    (place_of c.args.self.now (widget_at c.args.self.now c.args.widget) word) (λ other. c.locate.ensures.value other
+    (place_of c.args.self.now (widget_at c.args.self.now c.args.seat) word) (λ other. c.locate.ensures.value other
     ∙ defined) in
     λ other. c.at_position.ensures.value ∙ gives (λ memory. other (c.at_position.ensures.value ∙ memory))
 
@@ -58,11 +58,11 @@ returns-clause-within g c =
     let parts = parts_of old.seats old.tags old.marks old.settings old.disabled.items old.text.anchors.items old.text.history
     (g.S.TextStore.content old.text.store) in
     let stands : Stands parts c.args.self.now = record { sound = c.self.invariant; is = c.self.view_is } in
-    let seen = see parts c.args.self.now c.args.widget c.number-slot.result content found.result.s found.result.e
+    let seen = see parts c.args.self.now c.args.seat c.number-slot.result content found.result.s found.result.e
     c.deref.result.now stands c.number-slot.ensures.value
     c.deref.ensures.value found.ensures.start found.ensures.end found.ensures.store in
-    let long = length-found parts c.args.self.now c.args.widget c.number-slot.result content found.result.s
+    let long = length-found parts c.args.self.now c.args.seat c.number-slot.result content found.result.s
     found.result.e seen in
-    let most = length (shown c.args.self.now (widget_at c.args.self.now c.args.widget)) in
+    let most = length (shown c.args.self.now (widget_at c.args.self.now c.args.seat)) in
     c.at_position.ensures.within most (found-within c.locate.result found.result.s found.result.e most long
     c.locate.ensures.within)

@@ -17,8 +17,8 @@ returns-then-is_word-clause-value g c =
     (g.S.TextStore.content old.text.store) in
     let stands : Stands parts document = record { sound = c.self.invariant; is = c.self.view_is } in
     let word = chars c.args.name.now in
-    let seated = sits parts document c.args.widget c.number.result stands c.number.ensures.value in
-    c.mark_place.ensures.value ∙ place-insert parts document stands c.args.widget c.number.result seated word
+    let seated = sits parts document c.args.seat c.number.result stands c.number.ensures.value in
+    c.mark_place.ensures.value ∙ place-insert parts document stands c.args.seat c.number.result seated word
     (sym c.if-is_word.ensures)
 
 pub returns-then-is_word-2-clause-value : goal.returns-then-is_word-2-clause-value
@@ -30,9 +30,9 @@ returns-then-is_word-2-clause-value g c =
     let stands : Stands parts document = record { sound = c.self.invariant; is = c.self.view_is } in
     let word = chars c.args.name.now in
     let slot = c.number-then-is_word-2.result in
-    let seated = sits parts document c.args.widget slot stands c.number-then-is_word-2.ensures.value in
+    let seated = sits parts document c.args.seat slot stands c.number-then-is_word-2.ensures.value in
     c.mark_place-then-is_word-2.ensures.value
-    ∙ place-current parts document stands c.args.widget slot seated word (sym c.if-is_word.ensures)
+    ∙ place-current parts document stands c.args.seat slot seated word (sym c.if-is_word.ensures)
     (sym c.if-is_word-2.ensures)
 
 pub returns-in_err-find-clause-value : goal.returns-in_err-find-clause-value
@@ -46,7 +46,7 @@ returns-in_err-find-clause-value g c =
     let shared : IsShared word = record { insert = sym c.if-is_word.ensures; current = sym c.if-is_word-2.ensures } in
     let none : number_of word old.marks.marks ≡ None = sym c.find.ensures
     ∙ ap (option_map (λ (n : MarkNo). n.0)) c.in_err-find.was in
-    c.from_residual.ensures ∙ place-none parts document stands c.args.widget word shared none
+    c.from_residual.ensures ∙ place-none parts document stands c.args.seat word shared none
 
 pub returns-clause-value : goal.returns-clause-value
 returns-clause-value g c =
@@ -59,5 +59,5 @@ returns-clause-value g c =
     let shared : IsShared word = record { insert = sym c.if-is_word.ensures; current = sym c.if-is_word-2.ensures } in
     let known : number_of word old.marks.marks ≡ Some c.in_ok-find.field-0.0 = sym c.find.ensures
     ∙ ap (option_map (λ (n : MarkNo). n.0)) c.in_ok-find.was in
-    c.mark_place-2.ensures.value ∙ place-known parts document stands c.args.widget word c.in_ok-find.field-0.0 shared
+    c.mark_place-2.ensures.value ∙ place-known parts document stands c.args.seat word c.in_ok-find.field-0.0 shared
     known

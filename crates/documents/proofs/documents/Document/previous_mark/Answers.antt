@@ -14,7 +14,7 @@ mark_view_of-view-requires g c =
     content in
     let stands : Stands parts document = record { sound = c.self.invariant; is = c.self.view_is } in
     let slot = c.number.result in
-    let seated = sits parts document c.args.widget slot stands c.number.ensures.value in
+    let seated = sits parts document c.args.seat slot stands c.number.ensures.value in
     omega (arith, seated.anchors, ap length c.deref.ensures.value)
 
 pub returns : goal.returns
@@ -26,8 +26,8 @@ returns g c =
     content in
     let stands : Stands parts document = record { sound = c.self.invariant; is = c.self.view_is } in
     let slot = c.number.result in
-    let seated = sits parts document c.args.widget slot stands c.number.ensures.value in
-    previous-found parts document c.args.widget slot stands seated c.args.origin c.deref.result.now
+    let seated = sits parts document c.args.seat slot stands c.number.ensures.value in
+    previous-found parts document c.args.seat slot stands seated c.args.origin c.deref.result.now
     c.mark_view_of-view.result c.origin_in.result c.len.result 18446744073709551615 c.deref.ensures.value
     c.len.ensures
     c.mark_view_of-view.ensures c.origin_in.ensures (omega arith) c.previous.result c.previous.ensures

@@ -1,10 +1,10 @@
 use Rattle.std.proofs.Common.{◌≤◌, length, refl, sym, ap, subst, arith}
 use Rattle.std.specs.Prelude.{Result}
 use Rattle.text_model.specs.Content.{Content}
-use Rattle.command_parts.specs.declared.answers.Answer.{Answer}
-use Rattle.command_parts.specs.declared.answers.Answer.TheVariants.{Empty}
-use Rattle.command_parts.specs.declared.answers.Fault.{Fault}
-use Rattle.command_parts.specs.declared.answers.Fault.TheVariants.{Memory}
+use Rattle.command_effects.specs.declared.answers.Answer.{Answer}
+use Rattle.command_effects.specs.declared.answers.Answer.TheVariants.{Empty}
+use Rattle.command_effects.specs.declared.answers.Fault.{Fault}
+use Rattle.command_effects.specs.declared.answers.Fault.TheVariants.{Memory}
 use Rattle.documents.specs.Documents.{Parts, document_of, parts_of, widget_at}
 use Rattle.documents.specs.Kept.{Stands}
 use Rattle.documents.specs.Marks.{with_current}
@@ -31,8 +31,8 @@ invariant_of-self g c =
     elim c.match-put_mark.branch [
       | in-Err w ↦ (stands-same parts (record parts { content = changed }) document stands
           (ap (λ (content : Content). record parts { content = content }) w.in-Err.ensures.err)).sound
-      | in-Ok w ↦ (leaves-current c.args.limits.now parts document c.args.widget c.number.result c.args.place changed
-          stands (sits parts document c.args.widget c.number.result stands c.number.ensures.value) within
+      | in-Ok w ↦ (leaves-current c.args.limits.now parts document c.args.seat c.number.result c.args.place changed
+          stands (sits parts document c.args.seat c.number.result stands c.number.ensures.value) within
           w.in-Ok.ensures.ok).sound
     ]
 
@@ -50,7 +50,7 @@ returns g c =
       cells-kept parts document stands.is,
     ) in
     let new : Parts = record parts { content = changed } in
-    let change : Change = answered (with_current document (widget_at document c.args.widget) c.args.place) Empty in
+    let change : Change = answered (with_current document (widget_at document c.args.seat) c.args.place) Empty in
     let P : Result Answer Fault → Type 0 = λ result. Does c.args.limits.now document (document_of new) result change in
     elim c.match-put_mark.branch [
       | in-Err w ↦
@@ -58,8 +58,8 @@ returns g c =
           (ap (λ (content : Content). record parts { content = content }) w.in-Err.ensures.err) in
           subst P (sym w.result-is) (does-left c.args.limits.now document (document_of new) Memory change left.is
           (λ other. absurd (other refl)))
-      | in-Ok w ↦ subst P (sym w.result-is) (leaves-current c.args.limits.now parts document c.args.widget
+      | in-Ok w ↦ subst P (sym w.result-is) (leaves-current c.args.limits.now parts document c.args.seat
           c.number.result c.args.place changed stands
-          (sits parts document c.args.widget c.number.result stands c.number.ensures.value) within
+          (sits parts document c.args.seat c.number.result stands c.number.ensures.value) within
           w.in-Ok.ensures.ok).does
     ]

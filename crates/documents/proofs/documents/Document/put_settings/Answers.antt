@@ -13,7 +13,7 @@ index_mut-requires g c =
     let parts = parts_of old.seats old.tags old.marks old.settings old.disabled.items old.text.anchors.items old.text.history
     (g.S.TextStore.content old.text.store) in
     let stands : Stands parts document = record { sound = c.self.invariant; is = c.self.view_is } in
-    let seated = sits parts document c.args.widget c.number-slot.result stands c.number-slot.ensures.value in
+    let seated = sits parts document c.args.seat c.number-slot.result stands c.number-slot.ensures.value in
     omega (arith, seated.anchors, old.text.anchors.ok.0)
 
 pub index_mut-requires-2 : goal.index_mut-requires-2
@@ -23,7 +23,7 @@ index_mut-requires-2 g c =
     let parts = parts_of old.seats old.tags old.marks old.settings old.disabled.items old.text.anchors.items old.text.history
     (g.S.TextStore.content old.text.store) in
     let stands : Stands parts document = record { sound = c.self.invariant; is = c.self.view_is } in
-    let seated = sits parts document c.args.widget c.number-slot.result stands c.number-slot.ensures.value in
+    let seated = sits parts document c.args.seat c.number-slot.result stands c.number-slot.ensures.value in
     omega (arith, seated.disabled, old.disabled.ok.0)
 
 pub invariant_of-self : goal.invariant_of-self
@@ -33,9 +33,9 @@ invariant_of-self g c =
     let parts = parts_of old.seats old.tags old.marks old.settings old.disabled.items old.text.anchors.items old.text.history
     (g.S.TextStore.content old.text.store) in
     let stands : Stands parts document = record { sound = c.self.invariant; is = c.self.view_is } in
-    let seated = sits parts document c.args.widget c.number-slot.result stands c.number-slot.ensures.value in
+    let seated = sits parts document c.args.seat c.number-slot.result stands c.number-slot.ensures.value in
     let anchors : Anchors = record { start = c.anchor_at-start.result; end = c.anchor_at-end.result } in
-    (leaves-settings c.args.limits.now parts old.text.history c.bound.new.history document c.args.widget c.number-slot.result
+    (leaves-settings c.args.limits.now parts old.text.history c.bound.new.history document c.args.seat c.number-slot.result
     c.args.settings anchors stands seated c.requires.lines c.requires.ordered
     (λ i. record { start = c.anchor_at-start.ensures i; end = c.anchor_at-end.ensures i }) c.bound.ensures.history
     c.bound.ensures.modified c.bound.ensures.most).sound
@@ -47,9 +47,9 @@ returns g c =
     let parts = parts_of old.seats old.tags old.marks old.settings old.disabled.items old.text.anchors.items old.text.history
     (g.S.TextStore.content old.text.store) in
     let stands : Stands parts document = record { sound = c.self.invariant; is = c.self.view_is } in
-    let seated = sits parts document c.args.widget c.number-slot.result stands c.number-slot.ensures.value in
+    let seated = sits parts document c.args.seat c.number-slot.result stands c.number-slot.ensures.value in
     let anchors : Anchors = record { start = c.anchor_at-start.result; end = c.anchor_at-end.result } in
-    (leaves-settings c.args.limits.now parts old.text.history c.bound.new.history document c.args.widget c.number-slot.result
+    (leaves-settings c.args.limits.now parts old.text.history c.bound.new.history document c.args.seat c.number-slot.result
     c.args.settings anchors stands seated c.requires.lines c.requires.ordered
     (λ i. record { start = c.anchor_at-start.ensures i; end = c.anchor_at-end.ensures i }) c.bound.ensures.history
     c.bound.ensures.modified c.bound.ensures.most).does

@@ -2,10 +2,10 @@ use Rattle.std.proofs.Common.{◌≡◌, ◌≤◌, None, Some, length, sym, ap,
 use Rattle.std.specs.Prelude.{Result, chars, option_map}
 use Rattle.mark_table.specs.SharedMarks.{number_of}
 use Rattle.text_model.specs.declared.places.MarkNo.{MarkNo}
-use Rattle.command_parts.specs.declared.answers.Answer.{Answer}
-use Rattle.command_parts.specs.declared.answers.Answer.TheVariants.{Empty}
-use Rattle.command_parts.specs.declared.answers.Fault.{Fault}
-use Rattle.command_parts.specs.declared.answers.Fault.TheVariants.{Memory}
+use Rattle.command_effects.specs.declared.answers.Answer.{Answer}
+use Rattle.command_effects.specs.declared.answers.Answer.TheVariants.{Empty}
+use Rattle.command_effects.specs.declared.answers.Fault.{Fault}
+use Rattle.command_effects.specs.declared.answers.Fault.TheVariants.{Memory}
 use Rattle.documents.specs.Documents.{Parts, document_of, parts_of}
 use Rattle.documents.specs.Kept.{Stands}
 use Rattle.documents.specs.Marks.{with_shared}

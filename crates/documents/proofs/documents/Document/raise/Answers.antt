@@ -1,8 +1,8 @@
 use Rattle.std.proofs.Common.{sym, subst}
 use Rattle.std.specs.Prelude.{chars, option_map, Result}
 use Rattle.tag_table.specs.declared.faults.NoSuchTag.TheVariants.{Moved, Neighbour}
-use Rattle.command_parts.specs.declared.answers.Answer.{Answer}
-use Rattle.command_parts.specs.declared.answers.Fault.{Fault}
+use Rattle.command_effects.specs.declared.answers.Answer.{Answer}
+use Rattle.command_effects.specs.declared.answers.Fault.{Fault}
 use Rattle.documents.specs.Documents.{document_of, parts_of}
 use Rattle.documents.specs.Kept.{Stands}
 use Rattle.documents.specs.Promise.{Does}
@@ -27,13 +27,13 @@ invariant_of-self g c =
       | in-Ok w ↦
           let ordered = raised-ordered word other old.tags.tags new.tags stands.sound.kept.tags.names_apart
           w.in-Ok.ensures.ok in
-          (leaves-ordered c.args.limits.now parts new document c.args.at raised word other stands ordered
+          (leaves-ordered c.args.limits.now parts new document c.args.position raised word other stands ordered
           w.len-count.ensures.sound w.in-Ok.ensures.limit (length-raised _ word other ordered.known)).sound
-      | in-Err-Moved w ↦ (does-unordered c.args.limits.now parts new document c.args.at raised word other Moved stands
+      | in-Err-Moved w ↦ (does-unordered c.args.limits.now parts new document c.args.position raised word other Moved stands
           w.in-Err-Moved.ensures.err
           (subst (IsUnknown word other old.tags.tags) w.in-Err-Moved.field-0-is
           (raised-unknown word other old.tags.tags w.in-Err-Moved.field-0 w.in-Err-Moved.ensures.fault))).sound
-      | in-Err-Neighbour w ↦ (does-unordered c.args.limits.now parts new document c.args.at raised word other Neighbour
+      | in-Err-Neighbour w ↦ (does-unordered c.args.limits.now parts new document c.args.position raised word other Neighbour
           stands w.in-Err-Neighbour.ensures.err
           (subst (IsUnknown word other old.tags.tags) w.in-Err-Neighbour.field-0-is
           (raised-unknown word other old.tags.tags w.in-Err-Neighbour.field-0
@@ -52,21 +52,21 @@ returns g c =
     let other = option_map (λ w. chars w.now) c.args.above in
     let P : Result Answer Fault → Type 0 = λ result.
     Does c.args.limits.now document (document_of (record parts { tags = new })) result
-    (reordered document c.args.at raised (word, other)) in
+    (reordered document c.args.position raised (word, other)) in
     elim c.match-raise.branch [
       | in-Ok w ↦
           let ordered = raised-ordered word other old.tags.tags new.tags stands.sound.kept.tags.names_apart
           w.in-Ok.ensures.ok in
-          subst P (sym w.result-is) (leaves-ordered c.args.limits.now parts new document c.args.at raised word other
+          subst P (sym w.result-is) (leaves-ordered c.args.limits.now parts new document c.args.position raised word other
           stands ordered w.len-count.ensures.sound w.in-Ok.ensures.limit
           (length-raised _ word other ordered.known)).does
       | in-Err-Moved w ↦ subst P (sym w.result-is)
-          (does-unordered c.args.limits.now parts new document c.args.at raised word other Moved stands
+          (does-unordered c.args.limits.now parts new document c.args.position raised word other Moved stands
           w.in-Err-Moved.ensures.err
           (subst (IsUnknown word other old.tags.tags) w.in-Err-Moved.field-0-is
           (raised-unknown word other old.tags.tags w.in-Err-Moved.field-0 w.in-Err-Moved.ensures.fault))).does
       | in-Err-Neighbour w ↦ subst P (sym w.result-is)
-          (does-unordered c.args.limits.now parts new document c.args.at raised word other Neighbour stands
+          (does-unordered c.args.limits.now parts new document c.args.position raised word other Neighbour stands
           w.in-Err-Neighbour.ensures.err
           (subst (IsUnknown word other old.tags.tags) w.in-Err-Neighbour.field-0-is
           (raised-unknown word other old.tags.tags w.in-Err-Neighbour.field-0

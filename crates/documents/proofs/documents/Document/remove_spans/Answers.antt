@@ -3,7 +3,7 @@ use Rattle.std.specs.Prelude.{chars}
 use Rattle.std.specs.List.{All}
 use Rattle.edit_ops.specs.States.{log_of}
 use Rattle.edit_ops.specs.Tagging.{SpanFits}
-use Rattle.command_parts.proofs.MadeLaws.{front_same}
+use Rattle.command_effects.proofs.MadeLaws.{front_same}
 use Rattle.documents.specs.Documents.{parts_of}
 use Rattle.documents.specs.Kept.{Stands}
 use Rattle.documents.proofs.PartsLaws.{cells-kept, sits}
@@ -17,7 +17,7 @@ returns-in_default g c =
     let parts = parts_of old.seats old.tags old.marks old.settings old.disabled.items old.text.anchors.items old.text.history
     (g.S.TextStore.content old.text.store) in
     let stands : Stands parts document = record { sound = c.self.invariant; is = c.self.view_is } in
-    does-remove_none c.args.limits.now parts document c.args.widget c.number-number.result (chars c.args.name.now)
+    does-remove_none c.args.limits.now parts document c.args.seat c.number-number.result (chars c.args.name.now)
     c.args.places.now stands c.in_default.ensures.value
 
 pub set_slot-requires-clause-spans : goal.set_slot-requires-clause-spans
@@ -42,7 +42,7 @@ invariant_of-self g c =
     let given = c.deref.result.now in
     let spans : given ≡ c.in_ok-spans.spans.items = c.deref.ensures.value in
     let widget = c.number-number.result in
-    let seat = sits parts document c.args.widget widget stands c.number-number.ensures.value in
+    let seat = sits parts document c.args.seat widget stands c.number-number.ensures.value in
     let content = g.S.TextStore.content new.text.store in
     let fit = subst (λ (n : ℕ). All (SpanFits n) given) (cells-kept parts document stands.is)
     (subst (All (SpanFits (length document.cells))) (sym spans) c.in_ok-spans.ensures.fit) in
@@ -55,7 +55,7 @@ invariant_of-self g c =
       fit = fit;
       content_is = c.in-Ok.ensures.ok;
     } in
-    let leaves = leaves-removed c.args.limits.now parts content (log_of new.text.history) document c.args.widget widget word
+    let leaves = leaves-removed c.args.limits.now parts content (log_of new.text.history) document c.args.seat widget word
     c.args.places.now given c.in_ok-spans.spans.items stands seat made c.in-Ok.ensures.log
     spans c.in_ok-spans.ensures.value in
     rw c.in-Ok.ensures.anchors leaves.sound
@@ -72,7 +72,7 @@ returns-in-Ok g c =
     let given = c.deref.result.now in
     let spans : given ≡ c.in_ok-spans.spans.items = c.deref.ensures.value in
     let widget = c.number-number.result in
-    let seat = sits parts document c.args.widget widget stands c.number-number.ensures.value in
+    let seat = sits parts document c.args.seat widget stands c.number-number.ensures.value in
     let content = g.S.TextStore.content new.text.store in
     let fit = subst (λ (n : ℕ). All (SpanFits n) given) (cells-kept parts document stands.is)
     (subst (All (SpanFits (length document.cells))) (sym spans) c.in_ok-spans.ensures.fit) in
@@ -85,7 +85,7 @@ returns-in-Ok g c =
       fit = fit;
       content_is = c.in-Ok.ensures.ok;
     } in
-    let leaves = leaves-removed c.args.limits.now parts content (log_of new.text.history) document c.args.widget widget word
+    let leaves = leaves-removed c.args.limits.now parts content (log_of new.text.history) document c.args.seat widget word
     c.args.places.now given c.in_ok-spans.spans.items stands seat made c.in-Ok.ensures.log
     spans c.in_ok-spans.ensures.value in
     rw c.in-Ok.ensures.anchors leaves.does

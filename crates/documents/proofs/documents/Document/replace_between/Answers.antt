@@ -2,8 +2,8 @@ use Rattle.std.proofs.Common.{◌+◌, ◌-◌, ◌*◌, ap, ap₂, ◌∙◌, a
 use Rattle.tag_table.specs.Tags.{sel, slot_of}
 use Rattle.edit_ops.specs.Removals.{replaced}
 use Rattle.edit_ops.specs.States.{log_of, state_of}
-use Rattle.command_parts.specs.Settings.{recording_of}
-use Rattle.command_parts.specs.Tagging.{piece_of}
+use Rattle.command_effects.specs.Settings.{recording_of}
+use Rattle.command_effects.specs.Tagging.{piece_of}
 use Rattle.documents.specs.Documents.{document_of, parts_of, widget_at}
 use Rattle.documents.specs.Kept.{Stands}
 use Rattle.documents.proofs.ChangeLaws.{does-left, stands-same, table-back}
@@ -22,7 +22,7 @@ start_of-start-requires g c =
     (g.S.TextStore.content old.text.store) in
     let stands : Stands parts document = record { sound = c.self.invariant; is = c.self.view_is } in
     let slot = c.number-slot.result in
-    let seated = sits parts document c.args.widget slot stands c.number-slot.ensures.value in
+    let seated = sits parts document c.args.seat slot stands c.number-slot.ensures.value in
     omega (arith, seated.anchors, ap length c.deref.ensures.value)
 
 pub end_of-last-requires : goal.end_of-last-requires
@@ -33,7 +33,7 @@ end_of-last-requires g c =
     (g.S.TextStore.content old.text.store) in
     let stands : Stands parts document = record { sound = c.self.invariant; is = c.self.view_is } in
     let slot = c.number-slot.result in
-    let seated = sits parts document c.args.widget slot stands c.number-slot.ensures.value in
+    let seated = sits parts document c.args.seat slot stands c.number-slot.ensures.value in
     omega (arith, seated.anchors, ap length c.deref-2.ensures.value)
 
 pub overflow_sub-last : goal.overflow_sub-last
@@ -44,12 +44,12 @@ overflow_sub-last g c =
     (g.S.TextStore.content old.text.store) in
     let stands : Stands parts document = record { sound = c.self.invariant; is = c.self.view_is } in
     let slot = c.number-slot.result in
-    let seated = sits parts document c.args.widget slot stands c.number-slot.ensures.value in
+    let seated = sits parts document c.args.seat slot stands c.number-slot.ensures.value in
     let start = start-found parts slot c.deref.result.now c.start_of-start.result c.deref.ensures.value
     c.start_of-start.ensures in
     let end = end-found parts slot c.deref-2.result.now c.len.result c.end_of-last.result c.deref-2.ensures.value
     c.len.ensures c.end_of-last.ensures in
-    let shows = active-is parts document c.args.widget slot stands seated c.requires.active in
+    let shows = active-is parts document c.args.seat slot stands seated c.requires.active in
     omega (arith, end, shows.1)
 
 pub replace_pairs-replaced-requires-clause-within : goal.replace_pairs-replaced-requires-clause-within
@@ -60,13 +60,13 @@ replace_pairs-replaced-requires-clause-within g c =
     (g.S.TextStore.content old.text.store) in
     let stands : Stands parts document = record { sound = c.self.invariant; is = c.self.view_is } in
     let slot = c.number-slot.result in
-    let seated = sits parts document c.args.widget slot stands c.number-slot.ensures.value in
+    let seated = sits parts document c.args.seat slot stands c.number-slot.ensures.value in
     let start = start-found parts slot c.deref.result.now c.start_of-start.result c.deref.ensures.value
     c.start_of-start.ensures in
     let end = end-found parts slot c.deref-2.result.now c.len.result c.end_of-last.result c.deref-2.ensures.value
     c.len.ensures c.end_of-last.ensures in
-    let shows = active-is parts document c.args.widget slot stands seated c.requires.active in
-    omega (arith, end, shows.1, within-is parts document c.args.widget slot stands seated)
+    let shows = active-is parts document c.args.seat slot stands seated c.requires.active in
+    omega (arith, end, shows.1, within-is parts document c.args.seat slot stands seated)
 
 pub replace_pairs-replaced-requires-clause-stand : goal.replace_pairs-replaced-requires-clause-stand
 replace_pairs-replaced-requires-clause-stand g c =
@@ -76,7 +76,7 @@ replace_pairs-replaced-requires-clause-stand g c =
     (g.S.TextStore.content old.text.store) in
     let stands : Stands parts document = record { sound = c.self.invariant; is = c.self.view_is } in
     let slot = c.number-slot.result in
-    let seated = sits parts document c.args.widget slot stands c.number-slot.ensures.value in
+    let seated = sits parts document c.args.seat slot stands c.number-slot.ensures.value in
     anchors-stand parts document stands
 
 pub truncate-requires : goal.truncate-requires
@@ -92,12 +92,12 @@ invariant_of-self g c =
     (g.S.TextStore.content old.text.store) in
     let stands : Stands parts document = record { sound = c.self.invariant; is = c.self.view_is } in
     let slot = c.number-slot.result in
-    let seated = sits parts document c.args.widget slot stands c.number-slot.ensures.value in
+    let seated = sits parts document c.args.seat slot stands c.number-slot.ensures.value in
     let start = start-found parts slot c.deref.result.now c.start_of-start.result c.deref.ensures.value
     c.start_of-start.ensures in
     let end = end-found parts slot c.deref-2.result.now c.len.result c.end_of-last.result c.deref-2.ensures.value
     c.len.ensures c.end_of-last.ensures in
-    let shows = active-is parts document c.args.widget slot stands seated c.requires.active in
+    let shows = active-is parts document c.args.seat slot stands seated c.requires.active in
     let first = c.start_of-start.result + c.args.from in
     let second = c.start_of-start.result + c.args.to in
     let last = c.end_of-last.result - 1 in
@@ -119,7 +119,7 @@ invariant_of-self g c =
     (state_of content old.text.anchors.items (log_of old.text.history))
     (state_of changed kept (log_of new.text.history)) (recording_of old.settings) c.recording.result c.recording.ensures told.ok in
     (leaves-replaced c.args.limits.now parts new.tags (state_of changed kept (log_of new.text.history)) document
-    c.args.widget slot c.args.from c.args.to last first second c.args.pairs.items stands seated cut
+    c.args.seat slot c.args.from c.args.to last first second c.args.pairs.items stands seated cut
     (record {
       bounds = told.bounds;
       front = told.front;
@@ -137,12 +137,12 @@ returns-in-Ok g c =
     (g.S.TextStore.content old.text.store) in
     let stands : Stands parts document = record { sound = c.self.invariant; is = c.self.view_is } in
     let slot = c.number-slot.result in
-    let seated = sits parts document c.args.widget slot stands c.number-slot.ensures.value in
+    let seated = sits parts document c.args.seat slot stands c.number-slot.ensures.value in
     let start = start-found parts slot c.deref.result.now c.start_of-start.result c.deref.ensures.value
     c.start_of-start.ensures in
     let end = end-found parts slot c.deref-2.result.now c.len.result c.end_of-last.result c.deref-2.ensures.value
     c.len.ensures c.end_of-last.ensures in
-    let shows = active-is parts document c.args.widget slot stands seated c.requires.active in
+    let shows = active-is parts document c.args.seat slot stands seated c.requires.active in
     let first = c.start_of-start.result + c.args.from in
     let second = c.start_of-start.result + c.args.to in
     let last = c.end_of-last.result - 1 in
@@ -164,7 +164,7 @@ returns-in-Ok g c =
     (state_of content old.text.anchors.items (log_of old.text.history))
     (state_of changed kept (log_of new.text.history)) (recording_of old.settings) c.recording.result c.recording.ensures told.ok in
     (leaves-replaced c.args.limits.now parts new.tags (state_of changed kept (log_of new.text.history)) document
-    c.args.widget slot c.args.from c.args.to last first second c.args.pairs.items stands seated cut
+    c.args.seat slot c.args.from c.args.to last first second c.args.pairs.items stands seated cut
     (record {
       bounds = told.bounds;
       front = told.front;
@@ -182,7 +182,7 @@ invariant_of-self-in-Err g c =
     (g.S.TextStore.content old.text.store) in
     let stands : Stands parts document = record { sound = c.self.invariant; is = c.self.view_is } in
     let slot = c.number-slot.result in
-    let seated = sits parts document c.args.widget slot stands c.number-slot.ensures.value in
+    let seated = sits parts document c.args.seat slot stands c.number-slot.ensures.value in
     let new = c.replace_pairs-replaced.new in
     let content = g.S.TextStore.content old.text.store in
     let changed = g.S.TextStore.content new.text.store in
@@ -204,12 +204,12 @@ returns-in-Err g c =
     (g.S.TextStore.content old.text.store) in
     let stands : Stands parts document = record { sound = c.self.invariant; is = c.self.view_is } in
     let slot = c.number-slot.result in
-    let seated = sits parts document c.args.widget slot stands c.number-slot.ensures.value in
+    let seated = sits parts document c.args.seat slot stands c.number-slot.ensures.value in
     let start = start-found parts slot c.deref.result.now c.start_of-start.result c.deref.ensures.value
     c.start_of-start.ensures in
     let end = end-found parts slot c.deref-2.result.now c.len.result c.end_of-last.result c.deref-2.ensures.value
     c.len.ensures c.end_of-last.ensures in
-    let shows = active-is parts document c.args.widget slot stands seated c.requires.active in
+    let shows = active-is parts document c.args.seat slot stands seated c.requires.active in
     let first = c.start_of-start.result + c.args.from in
     let second = c.start_of-start.result + c.args.to in
     let last = c.end_of-last.result - 1 in
@@ -233,7 +233,7 @@ returns-in-Err g c =
     let after = with_state (with_tags c.truncate.new.self parts) (state_of changed kept (log_of new.text.history)) in
     let same = stands-same parts after document stands (ap₂ (λ t s. with_state (with_tags t parts) s) back state) in
     does-left c.args.limits.now document (document_of after) c.in-Err.fault
-    (replaced_at c.args.limits.now document (widget_at document c.args.widget) c.args.from c.args.to
+    (replaced_at c.args.limits.now document (widget_at document c.args.seat) c.args.from c.args.to
     c.args.pairs.items) same.is
-    (λ other. replace-left c.args.limits.now parts document c.args.widget slot c.args.from c.args.to last first second
+    (λ other. replace-left c.args.limits.now parts document c.args.seat slot c.args.from c.args.to last first second
     c.args.pairs.items c.in-Err.fault stands seated cut (c.in-Err.ensures.fault other))

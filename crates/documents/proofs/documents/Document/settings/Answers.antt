@@ -3,7 +3,7 @@ use Rattle.std.proofs.lemmas.List.{get_or_default}
 use Rattle.text_model.specs.Content as model
 use Rattle.edit_ops.specs.declared.anchors.Anchors.{Anchors}
 use Rattle.text_model.specs.Lines.{lines}
-use Rattle.command_parts.specs.declared.settings.Settings.{Settings}
+use Rattle.command_effects.specs.declared.settings.Settings.{Settings}
 use Rattle.documents.specs.Documents.{characters, parts_of}
 use Rattle.documents.specs.Options.{AreLines}
 use Rattle.documents.specs.Kept.{Stands}
@@ -18,7 +18,7 @@ index-anchors-requires g c =
     let parts = parts_of old.seats old.tags old.marks old.settings old.disabled.items old.text.anchors.items old.text.history
     (g.S.TextStore.content old.text.store) in
     let stands : Stands parts document = record { sound = c.self.invariant; is = c.self.view_is } in
-    let seated = sits parts document c.args.widget c.number-slot.result stands c.number-slot.ensures.value in
+    let seated = sits parts document c.args.seat c.number-slot.result stands c.number-slot.ensures.value in
     omega (arith, seated.anchors, old.text.anchors.ok.0)
 
 pub index-requires : goal.index-requires
@@ -28,7 +28,7 @@ index-requires g c =
     let parts = parts_of old.seats old.tags old.marks old.settings old.disabled.items old.text.anchors.items old.text.history
     (g.S.TextStore.content old.text.store) in
     let stands : Stands parts document = record { sound = c.self.invariant; is = c.self.view_is } in
-    let seated = sits parts document c.args.widget c.number-slot.result stands c.number-slot.ensures.value in
+    let seated = sits parts document c.args.seat c.number-slot.result stands c.number-slot.ensures.value in
     omega (arith, seated.disabled, old.disabled.ok.0)
 
 pub line_at-requires-clause-within : goal.line_at-requires-clause-within
@@ -38,8 +38,8 @@ line_at-requires-clause-within g c =
     let parts = parts_of old.seats old.tags old.marks old.settings old.disabled.items old.text.anchors.items old.text.history
     (g.S.TextStore.content old.text.store) in
     let stands : Stands parts document = record { sound = c.self.invariant; is = c.self.view_is } in
-    let seated = sits parts document c.args.widget c.number-slot.result stands c.number-slot.ensures.value in
-    (anchors-within parts document c.args.widget c.number-slot.result c.index-anchors.result.now seated
+    let seated = sits parts document c.args.seat c.number-slot.result stands c.number-slot.ensures.value in
+    (anchors-within parts document c.args.seat c.number-slot.result c.index-anchors.result.now seated
     c.index-anchors.ensures).1
 
 pub line_at-requires-2-clause-within : goal.line_at-requires-2-clause-within
@@ -49,8 +49,8 @@ line_at-requires-2-clause-within g c =
     let parts = parts_of old.seats old.tags old.marks old.settings old.disabled.items old.text.anchors.items old.text.history
     (g.S.TextStore.content old.text.store) in
     let stands : Stands parts document = record { sound = c.self.invariant; is = c.self.view_is } in
-    let seated = sits parts document c.args.widget c.number-slot.result stands c.number-slot.ensures.value in
-    (anchors-within parts document c.args.widget c.number-slot.result c.index-anchors.result.now seated
+    let seated = sits parts document c.args.seat c.number-slot.result stands c.number-slot.ensures.value in
+    (anchors-within parts document c.args.seat c.number-slot.result c.index-anchors.result.now seated
     c.index-anchors.ensures).2
 
 pub returns-clause-value : goal.returns-clause-value
@@ -60,8 +60,8 @@ returns-clause-value g c =
     let parts = parts_of old.seats old.tags old.marks old.settings old.disabled.items old.text.anchors.items old.text.history
     (g.S.TextStore.content old.text.store) in
     let stands : Stands parts document = record { sound = c.self.invariant; is = c.self.view_is } in
-    let seated = sits parts document c.args.widget c.number-slot.result stands c.number-slot.ensures.value in
-    let anchors = (anchors-within parts document c.args.widget c.number-slot.result c.index-anchors.result.now seated
+    let seated = sits parts document c.args.seat c.number-slot.result stands c.number-slot.ensures.value in
+    let anchors = (anchors-within parts document c.args.seat c.number-slot.result c.index-anchors.result.now seated
     c.index-anchors.ensures).0 in
     let flag = c.index.ensures ∙ get_or_default old.disabled.items c.number-slot.result c.index.result.now false
     seated.disabled in
@@ -71,7 +71,7 @@ returns-clause-value g c =
       disabled = flag i;
       start = (c.line_at.ensures ∙ ap (λ (a : Anchors). line_numbered text a.start) anchors) i;
       end = (c.line_at-2.ensures ∙ ap (λ (a : Anchors). line_numbered text a.end) anchors) i;
-    }) ∙ settings-kept parts document c.args.widget c.number-slot.result stands seated
+    }) ∙ settings-kept parts document c.args.seat c.number-slot.result stands seated
 
 pub returns-clause-lines : goal.returns-clause-lines
 returns-clause-lines g c =
@@ -80,8 +80,8 @@ returns-clause-lines g c =
     let parts = parts_of old.seats old.tags old.marks old.settings old.disabled.items old.text.anchors.items old.text.history
     (g.S.TextStore.content old.text.store) in
     let stands : Stands parts document = record { sound = c.self.invariant; is = c.self.view_is } in
-    let seated = sits parts document c.args.widget c.number-slot.result stands c.number-slot.ensures.value in
-    let anchors = (anchors-within parts document c.args.widget c.number-slot.result c.index-anchors.result.now seated
+    let seated = sits parts document c.args.seat c.number-slot.result stands c.number-slot.ensures.value in
+    let anchors = (anchors-within parts document c.args.seat c.number-slot.result c.index-anchors.result.now seated
     c.index-anchors.ensures).0 in
     let flag = c.index.ensures ∙ get_or_default old.disabled.items c.number-slot.result c.index.result.now false
     seated.disabled in

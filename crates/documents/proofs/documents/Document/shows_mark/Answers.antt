@@ -14,7 +14,7 @@ returns-in-None g c =
     let parts = parts_of old.seats old.tags old.marks old.settings old.disabled.items old.text.anchors.items old.text.history
     (g.S.TextStore.content old.text.store) in
     let stands : Stands parts document = record { sound = c.self.invariant; is = c.self.view_is } in
-    absurd (mark-unknown parts document stands c.args.widget c.in-Shared.place c.number.result.0 c.number.ensures
+    absurd (mark-unknown parts document stands c.args.seat c.in-Shared.place c.number.result.0 c.number.ensures
     (sym c.mark_place.ensures.value ∙ c.in-None.is))
 
 pub returns-then-view-found : goal.returns-then-view-found
@@ -25,10 +25,10 @@ returns-then-view-found g c =
     (g.S.TextStore.content old.text.store) in
     let stands : Stands parts document = record { sound = c.self.invariant; is = c.self.view_is } in
     let seen = c.view_at-view in
-    mark-behind parts document stands c.args.widget c.in-Shared.place c.number.result.0 seen.result.s seen.result.e
+    mark-behind parts document stands c.args.seat c.in-Shared.place c.number.result.0 seen.result.s seen.result.e
     c.in-Some.found seen.ensures.start seen.ensures.end c.number.ensures
     (sym c.mark_place.ensures.value ∙ c.in-Some.is) c.if-view-found.true
-    ∙ ap (λ mark. is_some (mark_place document (widget_at document c.args.widget) (rank_of mark))) (sym c.in-Shared.is)
+    ∙ ap (λ mark. is_some (mark_place document (widget_at document c.args.seat) (rank_of mark))) (sym c.in-Shared.is)
 
 pub returns-else-view-found : goal.returns-else-view-found
 returns-else-view-found g c =
@@ -38,7 +38,7 @@ returns-else-view-found g c =
     (g.S.TextStore.content old.text.store) in
     let stands : Stands parts document = record { sound = c.self.invariant; is = c.self.view_is } in
     let seen = c.view_at-view in
-    mark-before parts document stands c.args.widget c.in-Shared.place c.number.result.0 seen.result.s c.in-Some.found
+    mark-before parts document stands c.args.seat c.in-Shared.place c.number.result.0 seen.result.s c.in-Some.found
     seen.ensures.start c.number.ensures
     (sym c.mark_place.ensures.value ∙ c.in-Some.is) (omega (arith, c.if-view-found.false))
-    ∙ ap (λ mark. is_some (mark_place document (widget_at document c.args.widget) (rank_of mark))) (sym c.in-Shared.is)
+    ∙ ap (λ mark. is_some (mark_place document (widget_at document c.args.seat) (rank_of mark))) (sym c.in-Shared.is)

@@ -2,7 +2,7 @@ use Rattle.std.proofs.Common.{◌≡◌, ◌<◌, ◌-◌, length, refl, sym, su
 use Rattle.std.specs.Prelude.{IfOk}
 use Rattle.std.specs.List.{All}
 use Rattle.edit_ops.specs.Tagging.{SpanFits}
-use Rattle.command_parts.specs.Ranges.{spans_of}
+use Rattle.command_effects.specs.Ranges.{spans_of}
 use Rattle.documents.specs.Documents.{parts_of, widget_at}
 use Rattle.documents.specs.Kept.{Stands}
 use Rattle.documents.specs.Ranges.{spans_shown}
@@ -18,7 +18,7 @@ view_of-view-requires g c =
     let parts = parts_of old.seats old.tags old.marks old.settings old.disabled.items old.text.anchors.items old.text.history
     (g.S.TextStore.content old.text.store) in
     let stands : Stands parts document = record { sound = c.self.invariant; is = c.self.view_is } in
-    let seat = sits parts document c.args.widget c.number.result stands c.number.ensures.value in
+    let seat = sits parts document c.args.seat c.number.result stands c.number.ensures.value in
     subst (λ anchors. c.number.result < length anchors) (sym c.deref.ensures.value) seat.anchors
 
 pub spans_of-requires-clause-within : goal.spans_of-requires-clause-within
@@ -28,13 +28,13 @@ spans_of-requires-clause-within g c =
     let parts = parts_of old.seats old.tags old.marks old.settings old.disabled.items old.text.anchors.items old.text.history
     (g.S.TextStore.content old.text.store) in
     let stands : Stands parts document = record { sound = c.self.invariant; is = c.self.view_is } in
-    let seat = sits parts document c.args.widget c.number.result stands c.number.ensures.value in
+    let seat = sits parts document c.args.seat c.number.result stands c.number.ensures.value in
     let view = c.view_of-view.result in
     let starts = start-found parts c.number.result c.deref.result.now view.s c.deref.ensures.value
     c.view_of-view.ensures.start in
     let ends = end-found parts c.number.result c.deref.result.now (length parts.content.cells) view.e
     c.deref.ensures.value refl c.view_of-view.ensures.end in
-    places-within parts document c.args.widget c.number.result view.s view.e c.args.places.now stands seat starts ends
+    places-within parts document c.args.seat c.number.result view.s view.e c.args.places.now stands seat starts ends
     c.requires.within
 
 pub returns-clause-value : goal.returns-clause-value
@@ -44,7 +44,7 @@ returns-clause-value g c =
     let parts = parts_of old.seats old.tags old.marks old.settings old.disabled.items old.text.anchors.items old.text.history
     (g.S.TextStore.content old.text.store) in
     let stands : Stands parts document = record { sound = c.self.invariant; is = c.self.view_is } in
-    let seat = sits parts document c.args.widget c.number.result stands c.number.ensures.value in
+    let seat = sits parts document c.args.seat c.number.result stands c.number.ensures.value in
     let view = c.view_of-view.result in
     let starts = start-found parts c.number.result c.deref.result.now view.s c.deref.ensures.value
     c.view_of-view.ensures.start in
@@ -52,8 +52,8 @@ returns-clause-value g c =
     c.deref.ensures.value refl c.view_of-view.ensures.end in
     elim c.spans_of.result as (λ result. IfOk result (λ spans. spans.items
     ≡ spans_of view.s (view.e - view.s) c.args.places.now)
-    → IfOk result (λ spans. spans.items ≡ spans_shown document (widget_at document c.args.widget) c.args.places.now)) [
-      | Ok spans ↦ λ is. (spans-found parts document c.args.widget c.number.result view.s view.e c.args.places.now
+    → IfOk result (λ spans. spans.items ≡ spans_shown document (widget_at document c.args.seat) c.args.places.now)) [
+      | Ok spans ↦ λ is. (spans-found parts document c.args.seat c.number.result view.s view.e c.args.places.now
           spans.items stands seat starts ends c.requires.within is).same
       | Err fault ↦ λ _. tt
     ] c.spans_of.ensures
@@ -65,7 +65,7 @@ returns-clause-fit g c =
     let parts = parts_of old.seats old.tags old.marks old.settings old.disabled.items old.text.anchors.items old.text.history
     (g.S.TextStore.content old.text.store) in
     let stands : Stands parts document = record { sound = c.self.invariant; is = c.self.view_is } in
-    let seat = sits parts document c.args.widget c.number.result stands c.number.ensures.value in
+    let seat = sits parts document c.args.seat c.number.result stands c.number.ensures.value in
     let view = c.view_of-view.result in
     let starts = start-found parts c.number.result c.deref.result.now view.s c.deref.ensures.value
     c.view_of-view.ensures.start in
@@ -74,7 +74,7 @@ returns-clause-fit g c =
     elim c.spans_of.result as (λ result. IfOk result (λ spans. spans.items
     ≡ spans_of view.s (view.e - view.s) c.args.places.now)
     → IfOk result (λ spans. All (SpanFits (length document.cells)) spans.items)) [
-      | Ok spans ↦ λ is. (spans-found parts document c.args.widget c.number.result view.s view.e c.args.places.now
+      | Ok spans ↦ λ is. (spans-found parts document c.args.seat c.number.result view.s view.e c.args.places.now
           spans.items stands seat starts ends c.requires.within is).fit
       | Err fault ↦ λ _. tt
     ] c.spans_of.ensures

@@ -5,7 +5,7 @@ use Rattle.std.proofs.lemmas.Str.{IsUtf8-string_bytes, chars-nil}
 use Rattle.tcl_words.specs.ListText.{list_text}
 use Rattle.tcl_words.specs.ListGrowth.{Goes}
 use Rattle.tag_table.specs.Tags.{Tag, names_of}
-use Rattle.command_parts.specs.Tagging.{own_slot}
+use Rattle.command_effects.specs.Tagging.{own_slot}
 use Rattle.documents.specs.Documents.{parts_of, widget_at}
 use Rattle.documents.specs.Kept.{Stands}
 use Rattle.documents.proofs.ListedLaws.{written}
@@ -21,7 +21,7 @@ view_of-view-requires g c =
     let parts = parts_of old.seats old.tags old.marks old.settings old.disabled.items old.text.anchors.items old.text.history
     (g.S.TextStore.content old.text.store) in
     let stands : Stands parts document = record { sound = c.self.invariant; is = c.self.view_is } in
-    let seated = sits parts document c.args.widget c.number-number.result stands c.number-number.ensures.value in
+    let seated = sits parts document c.args.seat c.number-number.result stands c.number-number.ensures.value in
     omega (arith, seated.anchors, ap length c.deref.ensures.value)
 
 pub tags_at-requires : goal.tags_at-requires
@@ -33,17 +33,17 @@ tags_at-requires g c =
     let stands : Stands parts document = record { sound = c.self.invariant; is = c.self.view_is } in
     let found = c.view_of-view in
     let content = g.S.TextStore.content found.result.store.now in
-    let seen = see parts document c.args.widget c.number-number.result content found.result.s found.result.e
+    let seen = see parts document c.args.seat c.number-number.result content found.result.s found.result.e
     c.deref.result.now stands c.number-number.ensures.value c.deref.ensures.value found.ensures.start
     found.ensures.end
     found.ensures.store in
-    let long = length-found parts document c.args.widget c.number-number.result content found.result.s found.result.e
+    let long = length-found parts document c.args.seat c.number-number.result content found.result.s found.result.e
     seen in
     omega (
       arith,
       long,
-      ends-found parts document c.args.widget c.number-number.result content found.result.s found.result.e seen,
-      ordered-found parts document c.args.widget c.number-number.result content found.result.s found.result.e seen,
+      ends-found parts document c.args.seat c.number-number.result content found.result.s found.result.e seen,
+      ordered-found parts document c.args.seat c.number-number.result content found.result.s found.result.e seen,
       c.requires.within,
       c.if-offset-view.false,
     )
@@ -57,14 +57,14 @@ returns-then-offset-view g c =
     let stands : Stands parts document = record { sound = c.self.invariant; is = c.self.view_is } in
     let found = c.view_of-view in
     let content = g.S.TextStore.content found.result.store.now in
-    let seen = see parts document c.args.widget c.number-number.result content found.result.s found.result.e
+    let seen = see parts document c.args.seat c.number-number.result content found.result.s found.result.e
     c.deref.result.now stands c.number-number.ensures.value c.deref.ensures.value found.ensures.start
     found.ensures.end
     found.ensures.store in
-    let long = length-found parts document c.args.widget c.number-number.result content found.result.s found.result.e
+    let long = length-found parts document c.args.seat c.number-number.result content found.result.s found.result.e
     seen in
     c.new.ensures ∙ ap chars c.new-list.ensures.bytes ∙ chars-nil
-    ∙ ap list_text (tags_on-end document (widget_at document c.args.widget) c.args.place
+    ∙ ap list_text (tags_on-end document (widget_at document c.args.seat) c.args.place
     (omega (arith, long, c.if-offset-view.true)))
 
 pub returns : goal.returns
@@ -76,17 +76,17 @@ returns g c =
     let stands : Stands parts document = record { sound = c.self.invariant; is = c.self.view_is } in
     let found = c.view_of-view in
     let content = g.S.TextStore.content found.result.store.now in
-    let seen = see parts document c.args.widget c.number-number.result content found.result.s found.result.e
+    let seen = see parts document c.args.seat c.number-number.result content found.result.s found.result.e
     c.deref.result.now stands c.number-number.ensures.value c.deref.ensures.value found.ensures.start
     found.ensures.end
     found.ensures.store in
-    let long = length-found parts document c.args.widget c.number-number.result content found.result.s found.result.e
+    let long = length-found parts document c.args.seat c.number-number.result content found.result.s found.result.e
     seen in
     let within : found.result.s + c.args.place < found.result.e =
     omega (
       arith,
       long,
-      ordered-found parts document c.args.widget c.number-number.result content found.result.s
+      ordered-found parts document c.args.seat c.number-number.result content found.result.s
           found.result.e seen,
       c.requires.within,
       c.if-offset-view.false,
@@ -96,5 +96,5 @@ returns g c =
     let new = c.push_names_in.new.list in
     c.new-2.ensures ∙ written (string_bytes new) names (IsUtf8-string_bytes new)
     (subst (λ bytes. Goes bytes (string_bytes new) names) c.new-list.ensures.bytes c.in_ok-push_names_in.ensures)
-    ∙ ap list_text (tags_on-known parts document c.args.widget c.number-number.result content found.result.s
+    ∙ ap list_text (tags_on-known parts document c.args.seat c.number-number.result content found.result.s
     found.result.e seen c.tags_at.result c.args.place within c.tags_at.ensures)

@@ -11,7 +11,7 @@ view_of-requires g c =
     let parts = parts_of old.seats old.tags old.marks old.settings old.disabled.items old.text.anchors.items old.text.history
     (g.S.TextStore.content old.text.store) in
     let stands : Stands parts c.args.self.now = record { sound = c.self.invariant; is = c.self.view_is } in
-    let seated = sits parts c.args.self.now c.args.widget c.number.result stands c.number.ensures.value in
+    let seated = sits parts c.args.self.now c.args.seat c.number.result stands c.number.ensures.value in
     omega (arith, seated.anchors, ap length c.deref.ensures.value)
 
 pub returns-clause-lines : goal.returns-clause-lines
@@ -22,10 +22,10 @@ returns-clause-lines g c =
     let parts = parts_of old.seats old.tags old.marks old.settings old.disabled.items old.text.anchors.items old.text.history
     (g.S.TextStore.content old.text.store) in
     let stands : Stands parts c.args.self.now = record { sound = c.self.invariant; is = c.self.view_is } in
-    let seen = see parts c.args.self.now c.args.widget c.number.result content found.result.s found.result.e
+    let seen = see parts c.args.self.now c.args.seat c.number.result content found.result.s found.result.e
     c.deref.result.now stands c.number.ensures.value
     c.deref.ensures.value found.ensures.start found.ensures.end found.ensures.store in
-    view-found parts c.args.self.now c.args.widget c.number.result content found.result.s found.result.e seen
+    view-found parts c.args.self.now c.args.seat c.number.result content found.result.s found.result.e seen
 
 pub returns-clause-text : goal.returns-clause-text
 returns-clause-text g c =
@@ -35,10 +35,10 @@ returns-clause-text g c =
     let parts = parts_of old.seats old.tags old.marks old.settings old.disabled.items old.text.anchors.items old.text.history
     (g.S.TextStore.content old.text.store) in
     let stands : Stands parts c.args.self.now = record { sound = c.self.invariant; is = c.self.view_is } in
-    let seen = see parts c.args.self.now c.args.widget c.number.result content found.result.s found.result.e
+    let seen = see parts c.args.self.now c.args.seat c.number.result content found.result.s found.result.e
     c.deref.result.now stands c.number.ensures.value
     c.deref.ensures.value found.ensures.start found.ensures.end found.ensures.store in
-    shown-found parts c.args.self.now c.args.widget c.number.result content found.result.s found.result.e seen
+    shown-found parts c.args.self.now c.args.seat c.number.result content found.result.s found.result.e seen
 
 pub returns-clause-start : goal.returns-clause-start
 returns-clause-start g c =
@@ -48,10 +48,10 @@ returns-clause-start g c =
     let parts = parts_of old.seats old.tags old.marks old.settings old.disabled.items old.text.anchors.items old.text.history
     (g.S.TextStore.content old.text.store) in
     let stands : Stands parts c.args.self.now = record { sound = c.self.invariant; is = c.self.view_is } in
-    let seen = see parts c.args.self.now c.args.widget c.number.result content found.result.s found.result.e
+    let seen = see parts c.args.self.now c.args.seat c.number.result content found.result.s found.result.e
     c.deref.result.now stands c.number.ensures.value
     c.deref.ensures.value found.ensures.start found.ensures.end found.ensures.store in
-    start-found-is parts c.args.self.now c.args.widget c.number.result content found.result.s found.result.e seen
+    start-found-is parts c.args.self.now c.args.seat c.number.result content found.result.s found.result.e seen
 
 pub returns-clause-end : goal.returns-clause-end
 returns-clause-end g c =
@@ -61,10 +61,10 @@ returns-clause-end g c =
     let parts = parts_of old.seats old.tags old.marks old.settings old.disabled.items old.text.anchors.items old.text.history
     (g.S.TextStore.content old.text.store) in
     let stands : Stands parts c.args.self.now = record { sound = c.self.invariant; is = c.self.view_is } in
-    let seen = see parts c.args.self.now c.args.widget c.number.result content found.result.s found.result.e
+    let seen = see parts c.args.self.now c.args.seat c.number.result content found.result.s found.result.e
     c.deref.result.now stands c.number.ensures.value
     c.deref.ensures.value found.ensures.start found.ensures.end found.ensures.store in
-    end-found-is parts c.args.self.now c.args.widget c.number.result content found.result.s found.result.e seen
+    end-found-is parts c.args.self.now c.args.seat c.number.result content found.result.s found.result.e seen
 
 pub returns-clause-count : goal.returns-clause-count
 returns-clause-count g c =
@@ -74,7 +74,7 @@ returns-clause-count g c =
     let parts = parts_of old.seats old.tags old.marks old.settings old.disabled.items old.text.anchors.items old.text.history
     (g.S.TextStore.content old.text.store) in
     let stands : Stands parts c.args.self.now = record { sound = c.self.invariant; is = c.self.view_is } in
-    let seen = see parts c.args.self.now c.args.widget c.number.result content found.result.s found.result.e
+    let seen = see parts c.args.self.now c.args.seat c.number.result content found.result.s found.result.e
     c.deref.result.now stands c.number.ensures.value
     c.deref.ensures.value found.ensures.start found.ensures.end found.ensures.store in
-    length-found parts c.args.self.now c.args.widget c.number.result content found.result.s found.result.e seen
+    length-found parts c.args.self.now c.args.seat c.number.result content found.result.s found.result.e seen

@@ -1,9 +1,8 @@
-use Rattle.std.proofs.Common.{◌≡◌, List, drop, filter, length, map, sym, ap, subst, ◌∙◌, arith}
+use Rattle.std.proofs.Common.{drop, filter, length, map, sym, ap, subst, ◌∙◌, arith}
 use Rattle.std.specs.List.{AllByRecursion, IsDistinct}
 use Rattle.std.proofs.lemmas.List.{take_at}
 use Rattle.tcl_words.specs.Unread.{texts_of}
-use Rattle.command_parts.specs.Words.{is_same}
-use Rattle.documents.specs.Documents.{Document}
+use Rattle.command_effects.specs.Words.{is_same}
 use Rattle.documents.specs.WellFormed.{IsWellFormedDocument}
 use Rattle.documents.specs.Widgets.{keeps_some, thinned}
 use Rattle.peers.specs.Windows.{names_in}

@@ -1,6 +1,6 @@
 use Rattle.std.proofs.Common.{subst}
 use Rattle.std.specs.List.{IsDistinct}
-use Rattle.command_parts.specs.Words.{is_same}
+use Rattle.command_effects.specs.Words.{is_same}
 use Rattle.peers.specs.Windows.{Homes, names_in}
 use Rattle.peers.proofs.WindowLaws.{names-distinct}
 use Rattle.peers.proofs.windows.Windows.len.Goals as goal

@@ -3,7 +3,7 @@ use Rattle.std.specs.Option.{option_map}
 use Rattle.std.specs.Prelude.{chars}
 use Rattle.std.proofs.lemmas.Option.{slice_get-map}
 use Rattle.tcl_words.specs.Unread.{texts_of}
-use Rattle.command_parts.specs.Words.{is_among}
+use Rattle.command_effects.specs.Words.{is_among}
 use Rattle.peers.specs.Windows.{home_kept}
 use Rattle.peers.proofs.WindowLaws.{homes-removed, kept_from, kept-more, kept-removed}
 use Rattle.peers.proofs.windows.Windows.take_names.Goals as goal

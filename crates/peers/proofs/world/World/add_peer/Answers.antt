@@ -1,43 +1,32 @@
-use Rattle.std.proofs.Common.{◌≡◌, ℕ, ◌<◌, true, false, length, refl, sym, ap, subst, ◌∙◌, arith}
+use Rattle.std.proofs.Common.{◌≡◌, ◌<◌, false, length, sym, ap, subst, ◌∙◌, arith}
 use Rattle.std.specs.Prelude.{chars, nat_le}
 use Rattle.std.proofs.lemmas.Bool.Decides.{nat_tests}
-use Rattle.command_parts.specs.Words.{is_among}
-use Rattle.command_parts.specs.declared.answers.Fault.TheVariants.{TooManyWidgets, WindowExists}
-use Rattle.documents.specs.Promise.{Change, refused}
+use Rattle.command_effects.specs.Words.{is_among}
+use Rattle.command_effects.specs.declared.answers.Fault.TheVariants.{TooManyWidgets, WindowExists}
+use Rattle.documents.specs.Promise.{Change}
 use Rattle.peers.specs.Step.{changed}
+use Rattle.peers.specs.WellFormed.{IsWellFormed}
 use Rattle.peers.specs.World.{World, all_windows, document_at, windows_of}
-use Rattle.peers.proofs.WorldLaws.{changed-refused, formed-peer, peer-many, peer-new, peer-taken, with_all}
+use Rattle.peers.proofs.MakesLaws.{changed-refuses, makes-refused}
+use Rattle.peers.proofs.WorldLaws.{formed-peer, peer-many, peer-new, peer-taken, with_all}
 use Rattle.peers.proofs.world.World.add_peer.Goals as goal
 
-pub returns-then-has_widget-clause-reply : goal.returns-then-has_widget-clause-reply
-returns-then-has_widget-clause-reply g c = λ _.
-    let world = c.args.self.now in
-    sym (ap (λ (x : Change). x.reply) (peer-taken world.limits (all_windows world)
-    (document_at world.documents c.args.place) c.args.at (chars c.args.name.now) c.args.settings
-    (sym c.has_widget.ensures ∙ c.if-has_widget.true)))
+pub returns-then-has_widget : goal.returns-then-has_widget
+returns-then-has_widget g c =
+    let world = c.args.self.now in let place = c.args.place in
+    let change = peer-taken world.limits (all_windows world) (document_at world.documents place) c.args.position
+    (chars c.args.name.now) c.args.settings (sym c.has_widget.ensures ∙ c.if-has_widget.true) in
+    makes-refused world (WindowExists c.args.position) _ (subst IsWellFormed c.self.view_is c.self.invariant.0)
+    (ap (changed world place) change ∙ changed-refuses world place (WindowExists c.args.position))
 
-pub returns-then-has_widget-clause-world : goal.returns-then-has_widget-clause-world
-returns-then-has_widget-clause-world g c = λ _.
-    let world = c.args.self.now in let document = document_at world.documents c.args.place in
-    let change = peer-taken world.limits (all_windows world) document c.args.at (chars c.args.name.now) c.args.settings
-    (sym c.has_widget.ensures ∙ c.if-has_widget.true) in
-    sym (ap (λ (x : Change). (changed world c.args.place x).world) change
-    ∙ changed-refused world.limits world.documents c.args.place (refused document (WindowExists c.args.at)) refl)
-
-pub returns-then-is_full-clause-reply : goal.returns-then-is_full-clause-reply
-returns-then-is_full-clause-reply g c = λ _.
-    let world = c.args.self.now in
-    sym (ap (λ (x : Change). x.reply) (peer-many world.limits (all_windows world)
-    (document_at world.documents c.args.place) c.args.at (chars c.args.name.now) c.args.settings
-    (sym c.has_widget.ensures ∙ c.if-has_widget.false) (sym c.is_full.ensures ∙ c.if-is_full.true)))
-
-pub returns-then-is_full-clause-world : goal.returns-then-is_full-clause-world
-returns-then-is_full-clause-world g c = λ _.
-    let world = c.args.self.now in let document = document_at world.documents c.args.place in
-    let change = peer-many world.limits (all_windows world) document c.args.at (chars c.args.name.now) c.args.settings
-    (sym c.has_widget.ensures ∙ c.if-has_widget.false) (sym c.is_full.ensures ∙ c.if-is_full.true) in
-    sym (ap (λ (x : Change). (changed world c.args.place x).world) change
-    ∙ changed-refused world.limits world.documents c.args.place (refused document TooManyWidgets) refl)
+pub returns-then-is_full : goal.returns-then-is_full
+returns-then-is_full g c =
+    let world = c.args.self.now in let place = c.args.place in
+    let change = peer-many world.limits (all_windows world) (document_at world.documents place) c.args.position
+    (chars c.args.name.now) c.args.settings (sym c.has_widget.ensures ∙ c.if-has_widget.false)
+    (sym c.is_full.ensures ∙ c.if-is_full.true) in
+    makes-refused world TooManyWidgets _ (subst IsWellFormed c.self.view_is c.self.invariant.0)
+    (ap (changed world place) change ∙ changed-refuses world place TooManyWidgets)
 
 pub add_peer-requires-clause-new : goal.add_peer-requires-clause-new
 add_peer-requires-clause-new g c =
@@ -66,37 +55,29 @@ invariant_of-self-2 g c =
       c.add_peer.ensures.found,
     )
 
-pub returns-clause-reply : goal.returns-clause-reply
-returns-clause-reply g c = λ _.
-    let world = c.args.self.now in
-    sym (ap (λ (x : Change). x.reply) (peer-new world.limits (all_windows world)
-    (document_at world.documents c.args.place) c.args.at (chars c.args.name.now) c.args.settings
-    (sym c.has_widget.ensures ∙ c.if-has_widget.false) (sym c.is_full.ensures ∙ c.if-is_full.false)))
-
-pub returns-clause-world : goal.returns-clause-world
-returns-clause-world g c = λ _.
-    let documents = c.self.inside.documents.list.items in let name = chars c.args.name.now in
-    let limits = c.self.inside.limits in
+pub returns : goal.returns
+returns g c =
+    let world = c.args.self.now in let place = c.args.place in let name = chars c.args.name.now in
+    let documents = c.self.inside.documents.list.items in let limits = c.self.inside.limits in
     let new : is_among name (windows_of documents) ≡ false =
     subst (λ (w : World). is_among name (all_windows w) ≡ false) (sym c.self.view_is) (sym c.has_widget.ensures
     ∙ c.if-has_widget.false) in
     let few : nat_le limits.widgets (length (windows_of documents)) ≡ false =
     subst (λ (w : World). nat_le w.limits.widgets (length (all_windows w))
     ≡ false) (sym c.self.view_is) (sym c.is_full.ensures ∙ c.if-is_full.false) in
-    let change = peer-new limits (windows_of documents) (document_at documents c.args.place) c.args.at name
-    c.args.settings new few in
-    rw (← c.self.view_is) (ap (with_all limits) c.in_ok-add_peer.ensures.ok
-    ∙ sym (ap (λ (x : Change). (changed (with_all limits documents) c.args.place x).world) change))
-
-pub returns-clause-well_formed : goal.returns-clause-well_formed
-returns-clause-well_formed g c =
-    let documents = c.self.inside.documents.list.items in let limits = c.self.inside.limits in
-    let few : nat_le limits.widgets (length (windows_of documents)) ≡ false =
-    subst (λ (w : World). nat_le w.limits.widgets (length (all_windows w))
-    ≡ false) (sym c.self.view_is) (sym c.is_full.ensures ∙ c.if-is_full.false) in
-    let within : c.args.place < length documents = subst (λ (w : World). c.args.place
+    let within : place < length documents = subst (λ (w : World). place
     < length w.documents) (sym c.self.view_is) c.requires.place in
-    formed-peer limits (chars c.args.name.now) c.args.settings documents c.add_peer.new.self.list.items c.args.place
-    c.add_peer.result c.self.invariant.0 within few c.add_peer.ensures.ok
-    c.add_peer.ensures.err c.add_peer.ensures.distinct
-    (c.add_peer.ensures.well_formed limits c.self.invariant.0.documents)
+    let change = peer-new limits (windows_of documents) (document_at documents place) c.args.position name
+    c.args.settings new few in
+    record {
+      reply = λ _. sym (ap (λ (x : Change). x.reply) (peer-new world.limits (all_windows world)
+          (document_at world.documents place) c.args.position name c.args.settings
+          (sym c.has_widget.ensures ∙ c.if-has_widget.false) (sym c.is_full.ensures ∙ c.if-is_full.false)));
+      world = λ _. rw (← c.self.view_is) (ap (with_all limits) c.in_ok-add_peer.ensures.ok
+          ∙ sym (ap (λ (x : Change). (changed (with_all limits documents) place x).world) change));
+      refused = tt;
+      well_formed = formed-peer limits name c.args.settings documents c.add_peer.new.self.list.items place
+          c.add_peer.result c.self.invariant.0 within few c.add_peer.ensures.ok
+          c.add_peer.ensures.err c.add_peer.ensures.distinct
+          (c.add_peer.ensures.well_formed limits c.self.invariant.0.documents);
+    }

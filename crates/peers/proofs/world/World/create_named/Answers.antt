@@ -1,32 +1,25 @@
-use Rattle.std.proofs.Common.{◌≡◌, ℕ, true, false, length, sym, ap, subst, ◌∙◌}
+use Rattle.std.proofs.Common.{◌≡◌, false, length, sym, ap, subst, ◌∙◌}
 use Rattle.std.specs.Prelude.{chars, nat_le}
-use Rattle.command_parts.specs.Words.{is_among}
+use Rattle.command_effects.specs.Words.{is_among}
+use Rattle.command_effects.specs.declared.answers.Fault.TheVariants.{TooManyWidgets, WindowExists}
 use Rattle.peers.specs.Step.{Outcome}
+use Rattle.peers.specs.WellFormed.{IsWellFormed}
 use Rattle.peers.specs.World.{World, all_windows, windows_of}
+use Rattle.peers.proofs.MakesLaws.{makes-refused}
 use Rattle.peers.proofs.WorldLaws.{formed-added, named-many, named-new, named-taken, with_all}
 use Rattle.peers.proofs.world.World.create_named.Goals as goal
 
-pub returns-then-has_widget-clause-reply : goal.returns-then-has_widget-clause-reply
-returns-then-has_widget-clause-reply g c = λ _.
-    sym (ap (λ (o : Outcome). o.reply) (named-taken c.args.self.now (chars c.args.name.now) c.args.settings
-    (sym c.has_widget.ensures ∙ c.if-has_widget.true)))
+pub returns-then-has_widget : goal.returns-then-has_widget
+returns-then-has_widget g c =
+    makes-refused c.args.self.now (WindowExists 1) _ (subst IsWellFormed c.self.view_is c.self.invariant.0)
+    (named-taken c.args.self.now (chars c.args.name.now) c.args.settings
+    (sym c.has_widget.ensures ∙ c.if-has_widget.true))
 
-pub returns-then-has_widget-clause-world : goal.returns-then-has_widget-clause-world
-returns-then-has_widget-clause-world g c = λ _.
-    sym (ap (λ (o : Outcome). o.world) (named-taken c.args.self.now (chars c.args.name.now) c.args.settings
-    (sym c.has_widget.ensures ∙ c.if-has_widget.true)))
-
-pub returns-then-is_full-clause-reply : goal.returns-then-is_full-clause-reply
-returns-then-is_full-clause-reply g c = λ _.
-    sym (ap (λ (o : Outcome). o.reply) (named-many c.args.self.now (chars c.args.name.now) c.args.settings
-    (sym c.has_widget.ensures ∙ c.if-has_widget.false)
-    (sym c.is_full.ensures ∙ c.if-is_full.true)))
-
-pub returns-then-is_full-clause-world : goal.returns-then-is_full-clause-world
-returns-then-is_full-clause-world g c = λ _.
-    sym (ap (λ (o : Outcome). o.world) (named-many c.args.self.now (chars c.args.name.now) c.args.settings
-    (sym c.has_widget.ensures ∙ c.if-has_widget.false)
-    (sym c.is_full.ensures ∙ c.if-is_full.true)))
+pub returns-then-is_full : goal.returns-then-is_full
+returns-then-is_full g c =
+    makes-refused c.args.self.now TooManyWidgets _ (subst IsWellFormed c.self.view_is c.self.invariant.0)
+    (named-many c.args.self.now (chars c.args.name.now) c.args.settings
+    (sym c.has_widget.ensures ∙ c.if-has_widget.false) (sym c.is_full.ensures ∙ c.if-is_full.true))
 
 pub add-requires-clause-new : goal.add-requires-clause-new
 add-requires-clause-new g c =
@@ -46,14 +39,8 @@ invariant_of-self-2 g c =
       c.add.ensures.found,
     )
 
-pub returns-clause-reply : goal.returns-clause-reply
-returns-clause-reply g c = λ _.
-    sym (ap (λ (o : Outcome). o.reply) (named-new c.args.self.now (chars c.args.name.now) c.args.settings
-    (sym c.has_widget.ensures ∙ c.if-has_widget.false)
-    (sym c.is_full.ensures ∙ c.if-is_full.false)))
-
-pub returns-clause-world : goal.returns-clause-world
-returns-clause-world g c = λ _.
+pub returns : goal.returns
+returns g c =
     let name = chars c.args.name.now in
     let documents = c.self.inside.documents.list.items in
     let new : is_among name (windows_of documents) ≡ false =
@@ -62,17 +49,15 @@ returns-clause-world g c = λ _.
     let few : nat_le c.self.inside.limits.widgets (length (windows_of documents)) ≡ false =
     subst (λ (w : World). nat_le w.limits.widgets (length (all_windows w))
     ≡ false) (sym c.self.view_is) (sym c.is_full.ensures ∙ c.if-is_full.false) in
-    rw (← c.self.view_is) (ap (with_all c.self.inside.limits) c.in_ok-add.ensures.ok
-    ∙ sym (ap (λ (o : Outcome). o.world)
-    (named-new (with_all c.self.inside.limits documents) name c.args.settings new few)))
-
-pub returns-clause-well_formed : goal.returns-clause-well_formed
-returns-clause-well_formed g c =
-    let documents = c.self.inside.documents.list.items in
-    let few : nat_le c.self.inside.limits.widgets (length (windows_of documents)) ≡ false =
-    subst (λ (w : World). nat_le w.limits.widgets (length (all_windows w))
-    ≡ false) (sym c.self.view_is) (sym c.is_full.ensures ∙ c.if-is_full.false) in
-    formed-added c.self.inside.limits (chars c.args.name.now) c.args.settings documents c.add.new.self.list.items
-    c.add.result c.self.invariant.0 few c.add.ensures.ok c.add.ensures.err
-    c.add.ensures.distinct (c.add.ensures.well_formed c.self.inside.limits c.self.invariant.0.limits
-    c.self.invariant.0.documents)
+    let made = named-new (with_all c.self.inside.limits documents) name c.args.settings new few in
+    record {
+      reply = λ _. sym (ap (λ (o : Outcome). o.reply) (named-new c.args.self.now name c.args.settings
+          (sym c.has_widget.ensures ∙ c.if-has_widget.false) (sym c.is_full.ensures ∙ c.if-is_full.false)));
+      world = λ _. rw (← c.self.view_is) (ap (with_all c.self.inside.limits) c.in_ok-add.ensures.ok
+          ∙ sym (ap (λ (o : Outcome). o.world) made));
+      refused = tt;
+      well_formed = formed-added c.self.inside.limits name c.args.settings documents c.add.new.self.list.items
+          c.add.result c.self.invariant.0 few c.add.ensures.ok c.add.ensures.err
+          c.add.ensures.distinct (c.add.ensures.well_formed c.self.inside.limits c.self.invariant.0.limits
+          c.self.invariant.0.documents);
+    }

@@ -1,79 +1,48 @@
-use Rattle.std.proofs.Common.{◌≡◌, ◌+◌, ◌<◌, Err, Ok, length, true, refl, sym, ap, subst, ◌∙◌}
+use Rattle.std.proofs.Common.{◌≡◌, ◌+◌, ◌<◌, length, true, sym, ap, subst, ◌∙◌}
 use Rattle.std.specs.Prelude.{chars}
 use Rattle.tcl_words.specs.Unread.{texts_of}
 use Rattle.documents.specs.Documents.{Document, widget_at}
 use Rattle.documents.specs.Kept.{is_window_name}
-use Rattle.documents.specs.Promise.{Change, refused}
 use Rattle.peers.specs.Options.{settings_given}
-use Rattle.peers.specs.Peers.{peer_settings}
-use Rattle.peers.specs.Step.{changed}
+use Rattle.peers.specs.Step.{Makes, changed}
+use Rattle.peers.specs.WellFormed.{IsWellFormed}
+use Rattle.peers.specs.Widgets.{peer_settings}
 use Rattle.peers.specs.World.{World, all_windows, document_at}
+use Rattle.peers.proofs.MakesLaws.{changed-refuses, makes-refused}
 use Rattle.peers.proofs.PeerLaws.{bad-peer, good-peer}
-use Rattle.peers.proofs.WorldLaws.{changed-refused, read-is}
+use Rattle.peers.proofs.WorldLaws.{read-is}
 use Rattle.peers.proofs.world.World.create_peer.Goals as goal
 
-pub returns-in-Err-peer_settings-clause-reply : goal.returns-in-Err-peer_settings-clause-reply
-returns-in-Err-peer_settings-clause-reply g c = λ _.
+pub returns-in-Err-peer_settings : goal.returns-in-Err-peer_settings
+returns-in-Err-peer_settings g c =
     let world = c.args.self.now in let document = document_at world.documents c.args.place in
     let options = texts_of c.in-Ok.parts.1.now in
     let within = subst (λ (w : World). c.args.place < length w.documents) (sym c.self.view_is) c.requires.place in
     let read = read-is c.self.inside.documents.list.items c.args.place c.index-document.result.now within
     c.index-document.ensures ∙ ap (λ (w : World). document_at w.documents c.args.place) c.self.view_is in
-    let given = ap (λ (d : Document). settings_given d (c.args.at + 1) options
-    (peer_settings d (widget_at d c.args.widget))) (sym read) ∙ sym c.peer_settings.ensures.value in
+    let given = ap (λ (d : Document). settings_given d (c.args.position + 1) options
+    (peer_settings d (widget_at d c.args.seat))) (sym read) ∙ sym c.peer_settings.ensures.value in
     let named : is_window_name (chars c.in-Ok.parts.0.now) ≡ true = sym c.is_window_name.ensures
     ∙ c.if-not-is_window_name.false in
-    let change = bad-peer world.limits (all_windows world) document (widget_at document c.args.widget) c.args.at
+    let change = bad-peer world.limits (all_windows world) document (widget_at document c.args.seat) c.args.position
     (texts_of c.args.arguments.now) (chars c.in-Ok.parts.0.now) options c.in-Ok.ensures.ok
     c.in-Err-peer_settings.fault named (given ∙ c.in-Err-peer_settings.is) in
-    sym (ap (λ (x : Change). x.reply) change)
+    makes-refused world c.in-Err-peer_settings.fault _ (subst IsWellFormed c.self.view_is c.self.invariant.0)
+    (ap (changed world c.args.place) change ∙ changed-refuses world c.args.place c.in-Err-peer_settings.fault)
 
-pub returns-in-Err-peer_settings-clause-world : goal.returns-in-Err-peer_settings-clause-world
-returns-in-Err-peer_settings-clause-world g c = λ _.
+pub returns-in-Ok-peer_settings : goal.returns-in-Ok-peer_settings
+returns-in-Ok-peer_settings g c =
     let world = c.args.self.now in let document = document_at world.documents c.args.place in
     let options = texts_of c.in-Ok.parts.1.now in
     let within = subst (λ (w : World). c.args.place < length w.documents) (sym c.self.view_is) c.requires.place in
     let read = read-is c.self.inside.documents.list.items c.args.place c.index-document.result.now within
     c.index-document.ensures ∙ ap (λ (w : World). document_at w.documents c.args.place) c.self.view_is in
-    let given = ap (λ (d : Document). settings_given d (c.args.at + 1) options
-    (peer_settings d (widget_at d c.args.widget))) (sym read) ∙ sym c.peer_settings.ensures.value in
+    let given = ap (λ (d : Document). settings_given d (c.args.position + 1) options
+    (peer_settings d (widget_at d c.args.seat))) (sym read) ∙ sym c.peer_settings.ensures.value in
     let named : is_window_name (chars c.in-Ok.parts.0.now) ≡ true = sym c.is_window_name.ensures
     ∙ c.if-not-is_window_name.false in
-    let change = bad-peer world.limits (all_windows world) document (widget_at document c.args.widget) c.args.at
-    (texts_of c.args.arguments.now) (chars c.in-Ok.parts.0.now) options c.in-Ok.ensures.ok
-    c.in-Err-peer_settings.fault named (given ∙ c.in-Err-peer_settings.is) in
-    sym (ap (λ (x : Change). (changed world c.args.place x).world) change
-    ∙ changed-refused world.limits world.documents c.args.place (refused document c.in-Err-peer_settings.fault)
-    refl)
-
-pub returns-in-Ok-peer_settings-clause-reply : goal.returns-in-Ok-peer_settings-clause-reply
-returns-in-Ok-peer_settings-clause-reply g c = λ other.
-    let world = c.args.self.now in let document = document_at world.documents c.args.place in
-    let options = texts_of c.in-Ok.parts.1.now in
-    let within = subst (λ (w : World). c.args.place < length w.documents) (sym c.self.view_is) c.requires.place in
-    let read = read-is c.self.inside.documents.list.items c.args.place c.index-document.result.now within
-    c.index-document.ensures ∙ ap (λ (w : World). document_at w.documents c.args.place) c.self.view_is in
-    let given = ap (λ (d : Document). settings_given d (c.args.at + 1) options
-    (peer_settings d (widget_at d c.args.widget))) (sym read) ∙ sym c.peer_settings.ensures.value in
-    let named : is_window_name (chars c.in-Ok.parts.0.now) ≡ true = sym c.is_window_name.ensures
-    ∙ c.if-not-is_window_name.false in
-    let change = good-peer world.limits (all_windows world) document (widget_at document c.args.widget) c.args.at
+    let change = good-peer world.limits (all_windows world) document (widget_at document c.args.seat) c.args.position
     (texts_of c.args.arguments.now) (chars c.in-Ok.parts.0.now) options c.in-Ok.ensures.ok
     c.in-Ok-peer_settings.settings named (given ∙ c.in-Ok-peer_settings.is) in
-    c.add_peer.ensures.reply other ∙ sym (ap (λ (x : Change). (changed world c.args.place x).reply) change)
-
-pub returns-in-Ok-peer_settings-clause-world : goal.returns-in-Ok-peer_settings-clause-world
-returns-in-Ok-peer_settings-clause-world g c = λ other.
-    let world = c.args.self.now in let document = document_at world.documents c.args.place in
-    let options = texts_of c.in-Ok.parts.1.now in
-    let within = subst (λ (w : World). c.args.place < length w.documents) (sym c.self.view_is) c.requires.place in
-    let read = read-is c.self.inside.documents.list.items c.args.place c.index-document.result.now within
-    c.index-document.ensures ∙ ap (λ (w : World). document_at w.documents c.args.place) c.self.view_is in
-    let given = ap (λ (d : Document). settings_given d (c.args.at + 1) options
-    (peer_settings d (widget_at d c.args.widget))) (sym read) ∙ sym c.peer_settings.ensures.value in
-    let named : is_window_name (chars c.in-Ok.parts.0.now) ≡ true = sym c.is_window_name.ensures
-    ∙ c.if-not-is_window_name.false in
-    let change = good-peer world.limits (all_windows world) document (widget_at document c.args.widget) c.args.at
-    (texts_of c.args.arguments.now) (chars c.in-Ok.parts.0.now) options c.in-Ok.ensures.ok
-    c.in-Ok-peer_settings.settings named (given ∙ c.in-Ok-peer_settings.is) in
-    c.add_peer.ensures.world other ∙ sym (ap (λ (x : Change). (changed world c.args.place x).world) change)
+    subst (Makes world c.add_peer.new.self c.add_peer.result) (sym (ap (changed world c.args.place) change))
+    c.add_peer.ensures

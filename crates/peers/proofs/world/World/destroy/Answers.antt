@@ -1,5 +1,6 @@
+use Rattle.std.proofs.Common.{refl, ap}
 use Rattle.tcl_words.specs.Unread.{texts_of}
-use Rattle.peers.proofs.WorldLaws.{formed-left}
+use Rattle.peers.proofs.WorldLaws.{formed-left, with_all}
 use Rattle.peers.proofs.world.World.destroy.Goals as goal
 
 pub invariant_of-self-2 : goal.invariant_of-self-2
@@ -11,9 +12,13 @@ invariant_of-self-2 g c = (
   c.drop_widgets.ensures.found,
 )
 
-pub returns-clause-well_formed : goal.returns-clause-well_formed
-returns-clause-well_formed g c =
-    formed-left c.self.inside.limits (texts_of c.args.names.now) c.self.inside.documents.list.items
-    c.drop_widgets.new.self.list.items c.drop_widgets.result c.self.invariant.0 c.drop_widgets.ensures.ok
-    c.drop_widgets.ensures.err c.drop_widgets.ensures.distinct
-    (c.drop_widgets.ensures.well_formed c.self.inside.limits c.self.invariant.0.documents)
+pub returns : goal.returns
+returns g c = record {
+  reply = λ _. refl;
+  world = λ _. rw (← c.self.view_is) (ap (with_all c.self.inside.limits) c.in_ok-drop_widgets.ensures.ok);
+  refused = tt;
+  well_formed = formed-left c.self.inside.limits (texts_of c.args.names.now) c.self.inside.documents.list.items
+      c.drop_widgets.new.self.list.items c.drop_widgets.result c.self.invariant.0 c.drop_widgets.ensures.ok
+      c.drop_widgets.ensures.err c.drop_widgets.ensures.distinct
+      (c.drop_widgets.ensures.well_formed c.self.inside.limits c.self.invariant.0.documents);
+}

@@ -1,6 +1,4 @@
-use Rattle.std.proofs.Common.{◌≡◌, [], sym, ap, subst, ◌∙◌, arith}
-use Rattle.peers.specs.WellFormed.{IsWellFormed}
-use Rattle.peers.proofs.WorldLaws.{formed-none, with_all}
+use Rattle.peers.proofs.WorldLaws.{formed-none}
 use Rattle.peers.proofs.world.World.new.Goals as goal
 
 pub invariant_of-result : goal.invariant_of-result

@@ -1,0 +1,67 @@
+-- Whether there are more tags or characters than there may be.
+use Rattle.std.proofs.Common.{◌≡◌, ℕ, ◌+◌, ◌<◌, ◌≤◌, true, false, List, [], ◌∷◌, None, Some, length, map, refl, sym, ap}
+use Rattle.std.proofs.Common.{ap₂, ◌∙◌, arith}
+use Rattle.std.proofs.lemmas.Bool.Decides.{nat_tests}
+use Rattle.std.specs.Prelude.{nat_lt, if◌then◌else◌, encode_utf8_all}
+use Rattle.std.proofs.lemmas.Bool.{le-ltb, lt-ltb}
+use Rattle.std.proofs.lemmas.List.Sums.{sum_by-cons}
+use Rattle.std.proofs.lemmas.Str.{length-le-encodes}
+use Rattle.edit_ops.specs.Insertions as pieces
+use Rattle.edit_ops.specs.declared.pieces.Piece.{Piece}
+use Rattle.tag_table.specs.Tags.{Tag}
+use Rattle.text_model.specs.LimitTable.{LimitTable}
+use Rattle.command_effects.specs.declared.answers.Fault.{Fault}
+use Rattle.command_effects.specs.declared.answers.Fault.TheVariants.{TooManyTags, TextTooLong}
+use Rattle.command_effects.specs.declared.lists.Pair.{Pair}
+use Rattle.command_effects.specs.Edits.{excess}
+use Rattle.command_effects.specs.Lists.{total, total_bytes}
+use Rattle.command_effects.specs.Tagging.{piece_of}
+
+pub excess-none : (limits : LimitTable) (tags chars : ℕ) → tags ≤ limits.tags + 1 → chars ≤ limits.chars →
+    excess limits tags chars ≡ None
+excess-none limits tags chars few short =
+    ap₂ (λ a b. if a then Some TooManyTags else (if b then Some TextTooLong else None))
+    (le-ltb (limits.tags + 1) tags few) (le-ltb limits.chars chars short)
+
+pub excess-tags : (limits : LimitTable) (tags chars : ℕ) (fault : Fault) →
+    (fault ≡ TooManyTags) × (limits.tags + 1 < tags) → excess limits tags chars ≡ Some fault
+excess-tags limits tags chars fault why =
+    ap (λ a. if a then Some TooManyTags else (if nat_lt limits.chars chars then Some TextTooLong else None))
+    (lt-ltb (limits.tags + 1) tags why.1) ∙ ap Some (sym why.0)
+
+pub excess-chars : (limits : LimitTable) (tags chars : ℕ) (fault : Fault) → tags ≤ limits.tags + 1 →
+    (fault ≡ TextTooLong) × (limits.chars < chars) → excess limits tags chars ≡ Some fault
+excess-chars limits tags chars fault few why =
+    ap₂ (λ a b. if a then Some TooManyTags else (if b then Some TextTooLong else None))
+    (le-ltb (limits.tags + 1) tags few) (lt-ltb limits.chars chars why.1) ∙ ap Some (sym why.0)
+
+-- texts have no more characters than bytes
+pub total-in-bytes : (pairs : List Pair) → total pairs ≤ total_bytes pairs
+total-in-bytes [] = omega arith
+total-in-bytes (pair ∷ pairs) =
+    omega (
+      arith,
+      sum_by-cons (λ (p : Pair). length p.text) pair pairs,
+      sum_by-cons (λ (p : Pair). length (encode_utf8_all p.text)) pair pairs,
+      length-le-encodes pair.text,
+      total-in-bytes pairs,
+    )
+
+-- the pieces of some pairs have as many characters as these
+pub total-pieces : (tags : List Tag) (own : ℕ) (pairs : List Pair) →
+    pieces.total (map (piece_of tags own) pairs) ≡ total pairs
+total-pieces tags own [] = refl
+total-pieces tags own (pair ∷ pairs) =
+    sum_by-cons (λ (piece : Piece). length piece.text) (piece_of tags own pair) (map (piece_of tags own) pairs)
+    ∙ ap (λ n. length pair.text + n) (total-pieces tags own pairs)
+    ∙ sym (sum_by-cons (λ (p : Pair). length p.text) pair pairs)
+
+-- where there is no fault, there is room for the tags
+pub excess-few : (limits : LimitTable) (tags chars : ℕ) → excess limits tags chars ≡ None → tags ≤ limits.tags + 1
+excess-few limits tags chars none =
+    elim (nat_lt (limits.tags + 1) tags) as (λ b. nat_lt (limits.tags + 1) tags ≡ b →
+    (if b then Some TooManyTags else (if nat_lt limits.chars chars then Some TextTooLong else None)) ≡ None →
+    tags ≤ limits.tags + 1) [
+      | true ↦ λ _ is. absurd (let h : Some TooManyTags ≡ None = is in cc)
+      | false ↦ λ few _. grind (arith, nat_tests, few)
+    ] refl none

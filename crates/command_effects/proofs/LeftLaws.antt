@@ -1,0 +1,155 @@
+-- Tables from which names are taken out, one after the other.
+use Rattle.std.proofs.Common.{map, ◌≡◌, ℕ, zero, suc, Bool, true, false, cond, not, ◌&&◌, ◌||◌, List, [], ◌∷◌, ◌++◌}
+use Rattle.std.proofs.Common.{Some, filter, slice_get, refl, sym, ap, ap₂, ◌∙◌, true≢false}
+use Rattle.std.specs.Prelude.{bytes_eq, if◌then◌else◌}
+use Rattle.std.specs.Cmp.{both_ways}
+use Rattle.std.proofs.lemmas.Bool.{false_from_ne_true, or_right}
+use Rattle.std.proofs.lemmas.List.Folds.{list_any-append}
+use Rattle.std.proofs.lemmas.Slice.Eq.{bytes_eq-Decides}
+use Rattle.name_list.specs.Moves.{without}
+use Rattle.name_list.specs.Names.{AreApart}
+use Rattle.tag_table.specs.Priority.{deleted}
+use Rattle.tag_table.specs.Tags.{Tag, is_named, names_of, sel}
+use Rattle.mark_table.specs.SharedMarks.{Mark, is_named as mark_is_named, names_of as mark_names_of}
+use Rattle.command_effects.specs.Marking.{is_left, marks_left}
+use Rattle.command_effects.specs.Tagging.{stays, tags_left}
+use Rattle.command_effects.specs.Words.{is_among, is_same}
+
+-- ---- lists of distinct elements
+
+same_suc : (i j : ℕ) → suc i ≡ suc j → i ≡ j
+same_suc i j e = cc
+
+pub AreApart-tail : {A : Type 0} (x : A) (xs : List A) → AreApart (x ∷ xs) → AreApart xs
+AreApart-tail x xs apart = λ i j y is also. same_suc i j (apart (suc i) (suc j) y is also)
+
+pub AreApart-head : {A : Type 0} (x : A) (xs : List A) (at : ℕ) → AreApart (x ∷ xs) → slice_get xs at ≡ Some x → ⊥
+AreApart-head x xs at apart is = let none : zero ≡ suc at = apart zero (suc at) x refl is in absurd (cc)
+
+-- ---- one name more
+
+is_among-push : (name other : List ℕ) (names : List (List ℕ)) →
+    is_among name (names ++ other ∷ []) ≡ (is_among name names || bytes_eq name other)
+is_among-push name other names = list_any-append (is_same name) names (other ∷ [])
+    ∙ ap (λ b. is_among name names || b) (or_false (bytes_eq name other))
+  where
+    or_false : (b : Bool) → (b || false) ≡ b
+    or_false true = refl
+    or_false false = refl
+
+neither : (a b : Bool) → not (a || b) ≡ (not a && not b)
+neither true b = refl
+neither false b = refl
+
+and_true : (a : Bool) → a ≡ (a && true)
+and_true true = refl
+and_true false = refl
+
+or_none : (a : Bool) → (a || false) ≡ a
+or_none true = refl
+or_none false = refl
+
+-- `sel` stays in any case
+stays-sel : (names : List (List ℕ)) (name other : List ℕ) → bytes_eq name sel ≡ true →
+    stays (names ++ name ∷ []) other ≡ stays names other
+stays-sel names name other is_sel =
+    ap (λ b. bytes_eq other sel || not b) (is_among-push other name names)
+    ∙ elim (bytes_eq other sel) as (λ b. bytes_eq other sel ≡ b →
+    (b || not (is_among other names || bytes_eq other name)) ≡ (b || not (is_among other names))) [
+      | true ↦ λ _. refl
+      | false ↦ λ apart.
+          let other_name : bytes_eq other name ≡ false = false_from_ne_true (bytes_eq other name) (λ same.
+          true≢false (sym ((bytes_eq-Decides other sel).1 ((bytes_eq-Decides other name).0 same
+          ∙ (bytes_eq-Decides name sel).0 is_sel)) ∙ apart)) in
+          ap (λ b. not (is_among other names || b)) other_name ∙ ap not (or_none (is_among other names))
+    ] refl
+
+-- a name isn't among some and one more
+pub not_pushed : (names : List (List ℕ)) (name other : List ℕ) →
+    not (is_among other (names ++ name ∷ [])) ≡ (not (is_among other names) && not (bytes_eq name other))
+not_pushed names name other =
+    ap not (is_among-push other name names) ∙ neither (is_among other names) (bytes_eq other name)
+    ∙ ap (λ b. not (is_among other names) && not b)
+    (both_ways (bytes_eq other name) (bytes_eq name other) (λ same.
+    (bytes_eq-Decides name other).1 (sym ((bytes_eq-Decides other name).0 same)))
+    (λ same. (bytes_eq-Decides other name).1 (sym ((bytes_eq-Decides name other).0 same))))
+
+stays-other : (names : List (List ℕ)) (name other : List ℕ) → bytes_eq name sel ≡ false →
+    stays (names ++ name ∷ []) other ≡ (stays names other && not (bytes_eq name other))
+stays-other names name other no_sel =
+    elim (bytes_eq other sel) as (λ b. bytes_eq other sel ≡ b →
+    (b || not (is_among other (names ++ name ∷ [])))
+    ≡ ((b || not (is_among other names)) && not (bytes_eq name other))) [
+      | true ↦ λ is_sel.
+          let apart : bytes_eq name other ≡ false = false_from_ne_true (bytes_eq name other) (λ same.
+          true≢false (sym ((bytes_eq-Decides name sel).1 ((bytes_eq-Decides name other).0 same
+          ∙ (bytes_eq-Decides other sel).0 is_sel)) ∙ no_sel)) in
+          ap not (sym apart)
+      | false ↦ λ _.
+          not_pushed names name other
+    ] refl
+
+pub filter-alike : {A : Type 0} (p q : A → Bool) → ((x : A) → p x ≡ q x) → (xs : List A) → filter p xs ≡ filter q xs
+filter-alike p q same [] = refl
+filter-alike p q same (x ∷ xs) = ap₂ (λ b rest. cond b (x ∷ rest) rest) (same x) (filter-alike p q same xs)
+
+no_more : {A : Type 0} (name_of : A → List ℕ) (p : A → Bool) (name : List ℕ) (xs : List A) →
+    ((at : ℕ) → slice_get (map name_of xs) at ≡ Some name → ⊥)
+    → filter p xs ≡ filter (λ x. p x && not (bytes_eq name (name_of x))) xs
+no_more name_of p name [] none = refl
+no_more name_of p name (x ∷ xs) none =
+    let other : bytes_eq name (name_of x) ≡ false = false_from_ne_true (bytes_eq name (name_of x)) (λ same.
+    none 0 (ap Some (sym ((bytes_eq-Decides name (name_of x)).0 same)))) in
+    ap₂ (λ b rest. cond b (x ∷ rest) rest) (and_true (p x)
+    ∙ ap (λ b. p x && not b) (sym other)) (no_more name_of p name xs (λ at is. none (suc at) is))
+
+-- of elements with distinct names those that pass, without the one of a name
+pub without-filter : {A : Type 0} (name_of : A → List ℕ) (p : A → Bool) (name : List ℕ) (xs : List A) →
+    AreApart (map name_of xs)
+    → without (λ x. bytes_eq name (name_of x)) (filter p xs) ≡ filter (λ x. p x && not (bytes_eq name (name_of x))) xs
+without-filter name_of p name [] apart = refl
+without-filter name_of p name (x ∷ xs) apart =
+    let rest = filter p xs in
+    let left = filter (λ y. p y && not (bytes_eq name (name_of y))) xs in
+    let more = without-filter name_of p name xs (AreApart-tail (name_of x) (map name_of xs) apart) in
+    elim (p x) as (λ b. without (λ y. bytes_eq name (name_of y)) (cond b (x ∷ rest) rest)
+    ≡ cond (b && not (bytes_eq name (name_of x))) (x ∷ left) left) [
+      | true ↦ elim (bytes_eq name (name_of x)) as (λ b. bytes_eq name (name_of x) ≡ b →
+          (if b then rest else x ∷ without (λ y. bytes_eq name (name_of y)) rest) ≡ cond (not b) (x ∷ left) left) [
+            | true ↦ λ same. no_more name_of p name xs (λ at is.
+                AreApart-head (name_of x) (map name_of xs) at apart (is
+                ∙ ap Some ((bytes_eq-Decides name (name_of x)).0 same)))
+            | false ↦ λ _. ap (λ ys. x ∷ ys) more
+          ] refl
+      | false ↦ more
+    ]
+
+-- a table without some tags, from which one more is deleted
+pub tags_left-more : (names : List (List ℕ)) (name : List ℕ) (tags : List Tag) → AreApart (names_of tags) →
+    deleted name (tags_left names tags) ≡ tags_left (names ++ name ∷ []) tags
+tags_left-more names name tags apart =
+    elim (bytes_eq name sel) as (λ b. bytes_eq name sel ≡ b →
+    (if b then tags_left names tags else without (is_named name) (tags_left names tags))
+    ≡ tags_left (names ++ name ∷ []) tags) [
+      | true ↦ λ is_sel. filter-alike _ _ (λ (tag : Tag). sym (stays-sel names name tag.name is_sel)) tags
+      | false ↦ λ no_sel.
+          without-filter (λ (tag : Tag). tag.name) (λ (tag : Tag). stays names tag.name) name tags apart
+          ∙ filter-alike _ _ (λ (tag : Tag). sym (stays-other names name tag.name no_sel)) tags
+    ] refl
+
+-- a table without the tags of no names
+pub tags_left-none : (tags : List Tag) → tags_left [] tags ≡ tags
+tags_left-none [] = refl
+tags_left-none (tag ∷ tags) =
+    ap₂ (λ b rest. cond b (tag ∷ rest) rest) (or_right (bytes_eq tag.name sel) true refl) (tags_left-none tags)
+
+-- a table without some marks, from which one more is taken out
+pub marks_left-more : (names : List (List ℕ)) (name : List ℕ) (marks : List Mark) → AreApart (mark_names_of marks) →
+    without (mark_is_named name) (marks_left names marks) ≡ marks_left (names ++ name ∷ []) marks
+marks_left-more names name marks apart =
+    without-filter (λ (mark : Mark). mark.name) (λ (mark : Mark). is_left names mark.name) name marks apart
+    ∙ filter-alike _ _ (λ (mark : Mark). sym (not_pushed names name mark.name)) marks
+
+pub marks_left-none : (marks : List Mark) → marks_left [] marks ≡ marks
+marks_left-none [] = refl
+marks_left-none (mark ∷ marks) = ap (λ rest. mark ∷ rest) (marks_left-none marks)

@@ -1,0 +1,85 @@
+-- Lists of elements as they are written.
+use Rattle.std.proofs.Common.{◌≡◌, ℕ, zero, suc, ◌+◌, Bool, true, false, List, [], ◌∷◌, ◌++◌, chars, length, refl, sym}
+use Rattle.std.proofs.Common.{ap, subst, ◌∙◌, arith}
+use Rattle.std.specs.Prelude.{Some, slice_get, take, filter, if◌then◌else◌}
+use Rattle.std.proofs.lemmas.Option.{none-some, same_Some}
+use Rattle.std.proofs.lemmas.Str.{chars-nil}
+use Rattle.tag_table.specs.Tags.{Tag, names_of, slots_of}
+use Rattle.std.proofs.lemmas.List.{append_assoc, append-nil, map-append}
+use Rattle.text_index.specs.Positions.{position_text}
+use Rattle.text_index.specs.Ranges.{tag_ranges, ranges_from, and_later}
+use Rattle.text_index.specs.declared.ranges.TagRange.{TagRange}
+use Rattle.text_index.proofs.RangeLaws.{ranges_from-first}
+use Rattle.command_effects.proofs.WrittenLaws.{take-found, filter-in, filter-out}
+use Rattle.tcl_words.proofs.ListGrowth.{goes_nowhere, goes_on}
+use Rattle.tcl_words.specs.ListGrowth.{Goes}
+use Rattle.command_effects.specs.Listing.{is_filled, range_words}
+
+range_words-append : (text : List ℕ) (ranges more : List TagRange) →
+    range_words text (ranges ++ more) ≡ range_words text ranges ++ range_words text more
+range_words-append text [] more = refl
+range_words-append text (range ∷ ranges) more =
+    ap (λ ws. position_text text range.start ∷ position_text text range.end ∷ ws) (range_words-append text ranges more)
+
+-- The ranges before a place are listed.
+pub record IsListed (text : List ℕ) (flags : List Bool) (old new : List ℕ) (place : ℕ) : Type 0 where
+  pub done : List TagRange
+  pub ranges : tag_ranges flags ≡ done ++ ranges_from flags place
+  pub goes : Goes old new (range_words text done)
+
+pub listed-none : (text : List ℕ) (flags : List Bool) (bytes : List ℕ) → IsListed text flags bytes bytes 0
+listed-none text flags bytes = record { done = []; ranges = sym (ranges_from-first flags); goes = goes_nowhere bytes }
+
+pub listed-more : (text : List ℕ) (flags : List Bool) (old between new : List ℕ) (place : ℕ) (range : TagRange) →
+    IsListed text flags old between place
+    → ranges_from flags place ≡ and_later flags (Some range) → Goes between new (range_words text (range ∷ [])) →
+    IsListed text flags old new range.end
+listed-more text flags old between new place range listed later goes = record {
+  done = listed.done ++ range ∷ [];
+  ranges = listed.ranges ∙ ap (λ rs. listed.done ++ rs) later
+      ∙ sym (append_assoc listed.done (range ∷ []) (ranges_from flags range.end));
+  goes = subst (Goes old new) (sym (range_words-append text listed.done (range ∷ [])))
+      (goes_on old between new (range_words text listed.done) _ listed.goes goes);
+}
+
+-- a name more
+pub goes_name : (old between new : List ℕ) (names : List (List ℕ)) (at : ℕ) (name : List ℕ) →
+    Goes old between (take at names) → Goes between new (name ∷ []) → slice_get names at ≡ Some name
+    → Goes old new (take (at + 1) names)
+goes_name old between new names at name first second is =
+    subst (Goes old new) (sym (take-found names at name is))
+    (goes_on old between new (take at names) (name ∷ []) first second)
+
+-- a tag more, whose name is taken in if that is wanted
+pub goes_wanted : (old between new : List ℕ) (tags : List Tag) (wanted : Tag → Bool) (at slot : ℕ) (name : List ℕ) →
+    Goes old between (names_of (filter wanted (take at tags)))
+    → slice_get (names_of tags) at ≡ Some name → slice_get (slots_of tags) at ≡ Some slot
+    → Goes between new (if wanted (record { name = name; slot = slot }) then name ∷ [] else []) →
+    Goes old new (names_of (filter wanted (take (at + 1) tags)))
+goes_wanted old between new tags wanted at slot name first named is second =
+    let tag : slice_get tags at ≡ Some (record { name = name; slot = slot }) = tag_at tags at name slot named is in
+    elim (wanted (record { name = name; slot = slot })) as (λ b. wanted (record { name = name; slot = slot }) ≡ b →
+    Goes between new (if b then name ∷ [] else []) → Goes old new (names_of (filter wanted (take (at + 1) tags)))) [
+      | true ↦ λ passes goes.
+          subst (Goes old new) (sym (ap names_of (filter-in wanted tags at _ tag passes)
+          ∙ map-append (λ (t : Tag). t.name) (filter wanted (take at tags))
+          (record { name = name; slot = slot } ∷ [])))
+          (goes_on old between new (names_of (filter wanted (take at tags))) (name ∷ []) first goes)
+      | false ↦ λ fails goes.
+          subst (Goes old new) (append-nil (names_of (filter wanted (take at tags)))
+          ∙ sym (ap names_of (filter-out wanted tags at _ tag fails)))
+          (goes_on old between new (names_of (filter wanted (take at tags))) [] first goes)
+    ] refl second
+  where
+    tag_at : (tags : List Tag) (at : ℕ) (name : List ℕ) (slot : ℕ) → slice_get (names_of tags) at ≡ Some name →
+        slice_get (slots_of tags) at ≡ Some slot
+        → slice_get tags at ≡ Some (record { name = name; slot = slot })
+    tag_at [] at name slot named is = absurd (none-some name named)
+    tag_at (tag ∷ tags) zero name slot named is =
+        λ i. Some (record { name = same_Some tag.name name named i; slot = same_Some tag.slot slot is i })
+    tag_at (tag ∷ tags) (suc at) name slot named is = tag_at tags at name slot named is
+
+-- a text of no bytes isn't listed
+pub unfilled : (bytes text : List ℕ) → chars bytes ≡ text → length bytes ≡ 0 → is_filled text ≡ false
+unfilled [] text is none = ap is_filled (sym is ∙ chars-nil)
+unfilled (b ∷ bytes) text is none = absurd (omega (arith, none))

@@ -1,0 +1,228 @@
+-- Tables of tags as tags are made.
+use Rattle.std.proofs.Common.{◌≡◌, ℕ, zero, suc, ◌+◌, ◌<◌, ◌≤◌, true, false, cond, List, [], ◌∷◌, ◌++◌, length, take}
+use Rattle.std.proofs.Common.{refl, sym, ap, subst, ◌∙◌, arith, inl, inr, ◌⊎◌}
+use Rattle.std.specs.Prelude.{String, chars, string_bytes, get_or, drop, IfSome, Option, None, Some, find, option_map}
+use Rattle.std.specs.Prelude.{bytes_eq, slice_get, ◌||◌, if◌then◌else◌}
+use Rattle.std.specs.List.{position_from}
+use Rattle.std.proofs.lemmas.List.{length-map, map-append, append_assoc, append-nil, take_all, take-append-le}
+use Rattle.std.proofs.lemmas.List.{take-append-drop, length-append}
+use Rattle.std.proofs.Math.Seq.{take-suc}
+use Rattle.tcl_words.specs.Unread.{texts_of}
+use Rattle.std.proofs.lemmas.Option.{none-some}
+use Rattle.std.proofs.lemmas.Slice.Eq.{bytes_eq-Decides}
+use Rattle.tag_table.specs.Tags.{Tag, Tags, names_of, slot_of, is_named}
+use Rattle.command_effects.specs.Lists.{Pair, with_name, with_names, listed_names, all_names}
+use Rattle.command_effects.specs.Tagging.{IsFront}
+use Rattle.command_effects.specs.Words.{is_among, is_same}
+
+-- an unknown name, and one that stands in a table, at a place
+abbrev pub IsUnknown : List ℕ → List Tag → ℕ → Type 0
+IsUnknown word tags at = (slot_of word tags ≡ None) × (position_from (is_same word) at (names_of tags) ≡ None)
+    × (is_among word (names_of tags) ≡ false)
+
+pub record Stands (word : List ℕ) (tags : List Tag) (at : ℕ) : Type 0 where
+  pub tag_slot : ℕ
+  pub place : ℕ
+  pub slot : slot_of word tags ≡ Some tag_slot
+  pub found : position_from (is_same word) at (names_of tags) ≡ Some (at + place)
+  pub named : slice_get (names_of tags) place ≡ Some word
+  pub among : is_among word (names_of tags) ≡ true
+
+pub found_tag : (word : List ℕ) (tags : List Tag) (at : ℕ) → IsUnknown word tags at ⊎ Stands word tags at
+found_tag word [] at = inl (refl, refl, refl)
+found_tag word (tag ∷ tags) at =
+    elim (bytes_eq word tag.name) as (λ b. bytes_eq word tag.name ≡ b →
+    IsUnknown word (tag ∷ tags) at ⊎ Stands word (tag ∷ tags) at) [
+      | true ↦ λ same.
+          let named : word ≡ tag.name = (bytes_eq-Decides word tag.name).0 same in
+          inr (record {
+            tag_slot = tag.slot;
+            place = 0;
+            slot = ap (λ b. option_map (λ (t : Tag). t.slot) (cond b (Some tag) (find (is_named word) tags))) same;
+            found = ap (λ b. cond b (Some at) (position_from (is_same word) (at + 1) (names_of tags))) same
+                ∙ ap Some (let h : at ≡ at + 0 = omega arith in h);
+            named = ap Some (sym named);
+            among = ap (λ b. b || is_among word (names_of tags)) same;
+          })
+      | false ↦ λ other.
+          let slot = ap (λ b. option_map (λ (t : Tag). t.slot) (cond b (Some tag) (find (is_named word) tags))) other in
+          let found = ap (λ b. cond b (Some at) (position_from (is_same word) (at + 1) (names_of tags))) other in
+          let among = ap (λ b. b || is_among word (names_of tags)) other in
+          elim (found_tag word tags (at + 1)) [
+            | inl none ↦ inl (slot ∙ none.0, found ∙ none.1, among ∙ none.2)
+            | inr there ↦ inr (record {
+              tag_slot = there.tag_slot;
+              place = suc there.place;
+              slot = slot ∙ there.slot;
+              found = found ∙ there.found
+                  ∙ ap Some (let h : at + 1 + there.place ≡ at + suc there.place = omega arith in h);
+              named = there.named;
+              among = among ∙ there.among;
+            })
+          ]
+    ] refl
+
+pub among_slot : (name : List ℕ) (tags : List Tag) (slot : ℕ) → slot_of name tags ≡ Some slot →
+    is_among name (names_of tags) ≡ true
+among_slot name tags slot is = elim (found_tag name tags 0) [
+  | inl none ↦ absurd (none-some slot (sym none.0 ∙ is))
+  | inr there ↦ there.among
+]
+
+pub absent_slot : (name : List ℕ) (tags : List Tag) → slot_of name tags ≡ None → is_among name (names_of tags) ≡ false
+absent_slot name tags is = elim (found_tag name tags 0) [
+  | inl none ↦ none.2
+  | inr there ↦ absurd (none-some there.tag_slot (sym is ∙ there.slot))
+]
+
+pub with_name-known : (name : List ℕ) (tags : List Tag) (slot : ℕ) → slot_of name tags ≡ Some slot →
+    names_of tags ≡ with_name (names_of tags) name
+with_name-known name tags slot is =
+    ap (λ b. if b then names_of tags else names_of tags ++ name ∷ []) (sym (among_slot name tags slot is))
+
+pub with_name-new : (name : List ℕ) (tags : List Tag) → slot_of name tags ≡ None →
+    with_name (names_of tags) name ≡ names_of tags ++ name ∷ []
+with_name-new name tags is =
+    ap (λ b. if b then names_of tags else names_of tags ++ name ∷ []) (absent_slot name tags is)
+
+pub with_name-made : (name : List ℕ) (tags : List Tag) (slot : ℕ) → slot_of name tags ≡ None →
+    names_of (tags ++ record { name = name; slot = slot } ∷ []) ≡ with_name (names_of tags) name
+with_name-made name tags slot is = map-append (λ (tag : Tag). tag.name) tags (record { name = name; slot = slot } ∷ [])
+    ∙ sym (with_name-new name tags is)
+
+pub with_name-full : (name : List ℕ) (tags : List Tag) (limit : ℕ) → slot_of name tags ≡ None → limit < length tags →
+    limit + 1 < length (with_name (names_of tags) name)
+with_name-full name tags limit is full =
+    rw (with_name-new name tags is) (omega (
+      arith,
+      length-append (names_of tags) (name ∷ []),
+      length-map tags (λ (tag : Tag). tag.name),
+      full,
+    ))
+
+pub slot_made : (name : List ℕ) (tags : List Tag) (slot : ℕ) → slot_of name tags ≡ None →
+    slot_of name (tags ++ record { name = name; slot = slot } ∷ []) ≡ Some slot
+slot_made name [] slot is = ap (λ b. option_map (λ (tag : Tag). tag.slot)
+    (cond b (Some (record { name = name; slot = slot })) None)) ((bytes_eq-Decides name name).1 refl)
+slot_made name (tag ∷ tags) slot is =
+    elim (is_named name tag) as (λ b. option_map (λ (t : Tag). t.slot) (cond b (Some tag) (find (is_named name) tags))
+    ≡ None
+    → option_map (λ (t : Tag). t.slot) (cond b (Some tag)
+    (find (is_named name) (tags ++ record { name = name; slot = slot } ∷ []))) ≡ Some slot) [
+      | true ↦ λ some. absurd (none-some tag.slot (sym some))
+      | false ↦ λ none. slot_made name tags slot none
+    ] is
+
+-- the names of a longer list are more
+with_name-longer : (names : List (List ℕ)) (name : List ℕ) → length names ≤ length (with_name names name)
+with_name-longer names name =
+    elim (is_among name names) as (λ b. length names ≤ length (if b then names else names ++ name ∷ [])) [
+      | true ↦ omega arith
+      | false ↦ omega (arith, length-append names (name ∷ []))
+    ]
+
+pub with_names-longer : (names more : List (List ℕ)) → length names ≤ length (with_names names more)
+with_names-longer names [] = omega arith
+with_names-longer names (name ∷ more) =
+    omega (arith, with_name-longer names name, with_names-longer (with_name names name) more)
+
+pub with_names-append : (names some more : List (List ℕ)) →
+    with_names names (some ++ more) ≡ with_names (with_names names some) more
+with_names-append names [] more = refl
+with_names-append names (name ∷ some) more = with_names-append (with_name names name) some more
+
+take-less : {A : Type 0} (few many : ℕ) (xs : List A) → few ≤ many → take few xs ≡ take few (take many xs)
+take-less zero many xs less = refl
+take-less (suc few) zero xs less = absurd (omega (arith, less))
+take-less (suc few) (suc many) [] less = refl
+take-less (suc few) (suc many) (x ∷ xs) less = ap (λ ys. x ∷ ys) (take-less few many xs (omega (arith, less)))
+
+-- a table stands at the front of itself, and at the front of what stands behind it
+pub front_same : (tags : Tags) → IsFront tags tags
+front_same tags =
+    record { tags = take_all (length tags.tags) tags.tags (omega arith); longer = omega arith; limit = refl }
+
+pub front_more : (old : Tags) (tag : Tag) → IsFront old (record old { tags = old.tags ++ tag ∷ [] })
+front_more old tag = record {
+  tags = take-append-le (length old.tags) old.tags (tag ∷ []) (omega arith)
+      ∙ take_all (length old.tags) old.tags (omega arith);
+  longer = omega (arith, length-append old.tags (tag ∷ []));
+  limit = refl;
+}
+
+pub front_on : (old between new : Tags) → IsFront old between → IsFront between new → IsFront old new
+front_on old between new first second = record {
+  tags = take-less (length old.tags) (length between.tags) new.tags first.longer
+      ∙ ap (take (length old.tags)) second.tags ∙ first.tags;
+  longer = omega (arith, first.longer, second.longer);
+  limit = second.limit ∙ first.limit;
+}
+
+-- what is said of a value holds of it
+pub of_some : {A : Type 0} (P : A → Type 0) (found : Option A) (value : A) → found ≡ Some value → IfSome found P →
+    P value
+of_some P found value is holds = subst (λ o. IfSome o P) is holds
+
+pub take-more : {A : Type 0} (xs : List A) (at : ℕ) (x : A) → at < length xs → x ≡ get_or xs at x →
+    take (at + 1) xs ≡ take at xs ++ x ∷ []
+take-more xs at x within is = ap (λ n. take n xs) (let h : at + 1 ≡ suc at = omega arith in h) ∙ take-suc xs at x within
+    ∙ ap (λ y. take at xs ++ y ∷ []) (sym is)
+
+-- a name more is made
+pub with_names-step : {Z : Type 0} (names : List (List ℕ)) (words : List (String Z)) (at : ℕ) (word : String Z)
+    (bytes : List ℕ) → at < length words → word ≡ get_or words at word → bytes ≡ string_bytes word
+    → with_name (with_names names (texts_of (take at words))) (chars bytes)
+    ≡ with_names names (texts_of (take (at + 1) words))
+with_names-step {Z} names words at word bytes within is bytes_are =
+    ap (λ bs. with_name (with_names names (texts_of (take at words))) (chars bs)) bytes_are
+    ∙ sym (with_names-append names (texts_of (take at words)) (chars (string_bytes word) ∷ []))
+    ∙ ap (with_names names) (sym (map-append (λ w. chars (string_bytes w)) (take at words) (word ∷ []))
+    ∙ ap texts_of (sym (take-more words at word within is)))
+
+-- what was too many stays so
+pub too_many : {Z : Type 0} (names : List (List ℕ)) (words : List (String Z)) (at limit : ℕ) →
+    limit < length (with_names names (texts_of (take at words))) → limit < length (with_names names (texts_of words))
+too_many {Z} names words at limit many =
+    let split : with_names names (texts_of words)
+    ≡ with_names (with_names names (texts_of (take at words))) (texts_of (drop at words)) =
+    ap (λ ws. with_names names (texts_of ws)) (sym (take-append-drop at words))
+    ∙ ap (with_names names) (map-append (λ w. chars (string_bytes w)) (take at words) (drop at words))
+    ∙ with_names-append names (texts_of (take at words)) (texts_of (drop at words)) in
+    omega (
+      arith,
+      ap length split,
+      with_names-longer (with_names names (texts_of (take at words)))
+          (texts_of (drop at words)),
+      many,
+    )
+
+pub all_names-append : (pairs more : List Pair) → all_names (pairs ++ more) ≡ all_names pairs ++ all_names more
+all_names-append [] more = refl
+all_names-append (pair ∷ pairs) more = ap (λ ns. listed_names pair.names ++ ns) (all_names-append pairs more)
+    ∙ sym (append_assoc (listed_names pair.names) (all_names pairs) (all_names more))
+
+-- the names of a list more are made
+pub listed-step : (names : List (List ℕ)) (pairs : List Pair) (at : ℕ) (pair : Pair) → at < length pairs →
+    pair ≡ get_or pairs at pair
+    → with_names (with_names names (all_names (take at pairs))) (listed_names pair.names)
+    ≡ with_names names (all_names (take (at + 1) pairs))
+listed-step names pairs at pair within is =
+    sym (with_names-append names (all_names (take at pairs)) (listed_names pair.names))
+    ∙ ap (with_names names) (ap (λ ns. all_names (take at pairs) ++ ns) (sym (append-nil (listed_names pair.names)))
+    ∙ sym (all_names-append (take at pairs) (pair ∷ [])) ∙ ap all_names (sym (take-more pairs at pair within is)))
+
+pub too_many_listed : (names : List (List ℕ)) (pairs : List Pair) (at limit : ℕ) →
+    limit < length (with_names names (all_names (take at pairs))) → limit < length (with_names names (all_names pairs))
+too_many_listed names pairs at limit many =
+    let split : with_names names (all_names pairs)
+    ≡ with_names (with_names names (all_names (take at pairs))) (all_names (drop at pairs)) =
+    ap (λ ps. with_names names (all_names ps)) (sym (take-append-drop at pairs))
+    ∙ ap (with_names names) (all_names-append (take at pairs) (drop at pairs))
+    ∙ with_names-append names (all_names (take at pairs)) (all_names (drop at pairs)) in
+    omega (
+      arith,
+      ap length split,
+      with_names-longer (with_names names (all_names (take at pairs)))
+          (all_names (drop at pairs)),
+      many,
+    )

@@ -1,0 +1,95 @@
+-- Edits that take marks out of a store, and what widgets have of their own.
+use Rattle.std.proofs.Common.{◌≡◌, ℕ, suc, ◌+◌, ◌<◌, List, [], ◌∷◌, ◌++◌, length, map, take, get_or, refl, sym, ap, ◌∙◌}
+use Rattle.std.proofs.Common.{arith}
+use Rattle.std.proofs.lemmas.List.{append_assoc, map-append}
+use Rattle.text_model.specs.declared.edits.Step.{Step}
+use Rattle.text_model.specs.declared.edits.Step.TheVariants.{ClearSlot, TakeMark}
+use Rattle.text_model.specs.declared.places.MarkNo.{MarkNo}
+use Rattle.text_model.specs.Content.{Content}
+use Rattle.text_model.specs.Steps.{Fits, after, after_step}
+use Rattle.command_effects.specs.Marking.{taken}
+use Rattle.std.proofs.Math.Seq.{take-suc}
+use Rattle.std.specs.Prelude.{◌*◌}
+use Rattle.std.specs.List.{All}
+use Rattle.std.proofs.lemmas.List.Elements.{All-head, All-tail}
+use Rattle.text_model.specs.TagBits.{slot_count}
+use Rattle.text_model.specs.declared.limits.TheConstants.Limits.{MOST_WIDGETS}
+use Rattle.text_model.specs.declared.places.TagSlot.{TagSlot}
+use Rattle.command_effects.specs.Edits.{without_widgets, without_widget}
+
+abbrev pub takes : List MarkNo → List Step
+takes numbers = map (λ (number : MarkNo). TakeMark number) numbers
+
+pub takes-fit : (numbers : List MarkNo) (content : Content) → Fits (takes numbers) content
+takes-fit [] content = tt
+takes-fit (number ∷ numbers) content = (tt, takes-fit numbers (after_step (TakeMark number) content))
+
+pub takes-after : (numbers : List MarkNo) (content : Content) →
+    after (takes numbers) content
+    ≡ record content { marks = taken (map (λ (number : MarkNo). number.0) numbers) content.marks }
+takes-after [] content = refl
+takes-after (number ∷ numbers) content = takes-after numbers (after_step (TakeMark number) content)
+
+pub takes-more : (numbers : List MarkNo) (at : ℕ) (default : MarkNo) (steps : List Step) → at < length numbers →
+    steps ≡ takes (take at numbers)
+    → steps ++ TakeMark (get_or numbers at default) ∷ [] ≡ takes (take (at + 1) numbers)
+takes-more numbers at default steps within old =
+    ap (λ ss. ss ++ TakeMark (get_or numbers at default) ∷ []) old
+    ∙ sym (map-append (λ (n : MarkNo). TakeMark n) (take at numbers) (get_or numbers at default ∷ []))
+    ∙ ap takes (sym (ap (λ n. take n numbers) (let h : at + 1 ≡ suc at = omega arith in h)
+    ∙ take-suc numbers at default within))
+
+-- ---- what widgets have of their own
+
+-- the steps that take it out
+abbrev pub drops : List TagSlot → List Step
+drops [] = []
+drops (slot ∷ slots) = ClearSlot slot ∷ TakeMark (record { 0 = 2 * slot.0 })
+    ∷ TakeMark (record { 0 = 2 * slot.0 + 1 }) ∷ drops slots
+
+drops-append : (slots more : List TagSlot) → drops (slots ++ more) ≡ drops slots ++ drops more
+drops-append [] more = refl
+drops-append (slot ∷ slots) more =
+    ap (λ ss. ClearSlot slot ∷ TakeMark (record { 0 = 2 * slot.0 }) ∷ TakeMark (record { 0 = 2 * slot.0 + 1 })
+    ∷ ss) (drops-append slots more)
+
+pub drops-fit : (slots : List TagSlot) (content : Content) →
+    All (λ (slot : TagSlot). slot.0 < MOST_WIDGETS) slots → Fits (drops slots) content
+drops-fit [] content known = tt
+drops-fit (slot ∷ slots) content known =
+    let fits : slot.0 < slot_count = omega (
+      arith,
+      All-head (λ (slot : TagSlot). slot.0 < MOST_WIDGETS) slot slots known,
+    ) in (
+      fits,
+      (
+        tt,
+        (
+          tt,
+          drops-fit slots (without_widget slot.0 content)
+              (All-tail (λ (slot : TagSlot). slot.0 < MOST_WIDGETS) slot slots known),
+        ),
+      ),
+    )
+
+pub drops-after : (slots : List TagSlot) (content : Content) →
+    after (drops slots) content ≡ without_widgets (map (λ (slot : TagSlot). slot.0) slots) content
+drops-after [] content = refl
+drops-after (slot ∷ slots) content = drops-after slots (without_widget slot.0 content)
+
+pub drops-more : (slots : List TagSlot) (at : ℕ) (default : TagSlot) (steps : List Step) → at < length slots →
+    steps ≡ drops (take at slots)
+    → ((steps ++ ClearSlot (get_or slots at default) ∷ [])
+    ++ TakeMark (record { 0 = 2 * (get_or slots at default).0 }) ∷ [])
+    ++ TakeMark (record { 0 = 2 * (get_or slots at default).0 + 1 }) ∷ []
+    ≡ drops (take (at + 1) slots)
+drops-more slots at default steps within old =
+    let slot = get_or slots at default in
+    append_assoc (steps ++ ClearSlot slot ∷ []) (TakeMark (record { 0 = 2 * slot.0 }) ∷ [])
+    (TakeMark (record { 0 = 2 * slot.0 + 1 }) ∷ [])
+    ∙ append_assoc steps (ClearSlot slot ∷ []) (TakeMark (record { 0 = 2 * slot.0 })
+    ∷ TakeMark (record { 0 = 2 * slot.0 + 1 }) ∷ [])
+    ∙ ap (λ ss. ss ++ drops (slot ∷ [])) old
+    ∙ sym (drops-append (take at slots) (slot ∷ []))
+    ∙ ap drops (sym (ap (λ n. take n slots) (let h : at + 1 ≡ suc at = omega arith in h)
+    ∙ take-suc slots at default within))

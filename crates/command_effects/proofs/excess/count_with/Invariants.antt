@@ -1,0 +1,11 @@
+use Rattle.std.proofs.Common.{◌≡◌, ◌≤◌, length, take}
+use Rattle.tag_table.specs.Tags.{names_of}
+use Rattle.tcl_words.specs.Unread.{texts_of}
+use Rattle.command_effects.specs.Lists.{all_names, with_names}
+use Rattle.command_effects.proofs.excess.count_with.Given as goal
+
+abbrev pub invariant-loop-place : goal.invariant-loop-place
+invariant-loop-place l =
+    (l.count ≤ l.most)
+    × (l.count ≡ length (with_names (with_names (names_of l.tags.tags) (all_names l.before))
+    (texts_of (take l.place l.names))))

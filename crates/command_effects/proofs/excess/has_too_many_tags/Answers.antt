@@ -1,0 +1,45 @@
+use Rattle.std.proofs.Common.{◌≡◌, ◌+◌, ◌<◌, length, take, refl, sym, ap, ◌∙◌, arith}
+use Rattle.std.proofs.lemmas.Bool.Decides.{nat_tests}
+use Rattle.std.proofs.lemmas.List.{length-map}
+use Rattle.tag_table.specs.Tags.{Tag, names_of}
+use Rattle.command_effects.specs.Lists.{all_names, with_names}
+use Rattle.command_effects.proofs.MadeLaws.{listed-step, too_many_listed, with_names-longer}
+use Rattle.command_effects.proofs.excess.has_too_many_tags.Goals as goal
+
+pub returns-then-count-most : goal.returns-then-count-most
+returns-then-count-most c =
+    let tags = names_of c.args.tags.now.tags in
+    let many : c.args.limits.now.tags + 1 < length (with_names tags (all_names c.args.pairs.now)) = omega (
+      arith,
+      c.if-count-most.true,
+      c.tags.ensures,
+      c.len-count.ensures.value,
+      length-map c.args.tags.now.tags (λ (tag : Tag). tag.name),
+      with_names-longer tags (all_names c.args.pairs.now),
+    ) in
+    grind (arith, nat_tests, many)
+
+pub returns-in-None : goal.returns-in-None
+returns-in-None c =
+    let tags = names_of c.args.tags.now.tags in
+    let step = listed-step tags c.args.pairs.now c.loop-place.place c.index-pairs-place.result c.loop-place-test.true
+    c.index-pairs-place.is in
+    let listed = ap (λ names.
+    length (with_names (with_names tags (all_names (take c.loop-place.place c.args.pairs.now))) names))
+    c.listed_names.ensures in
+    let many : c.args.limits.now.tags + 1 < length (with_names tags (all_names c.args.pairs.now)) =
+    too_many_listed tags c.args.pairs.now (c.loop-place.place + 1) (c.args.limits.now.tags + 1)
+    (omega (arith, c.in-None.ensures.many refl, c.tags.ensures, listed, ap length step)) in
+    grind (arith, nat_tests, many)
+
+pub loop-place-preserved : goal.loop-place-preserved
+loop-place-preserved c =
+    let tags = names_of c.args.tags.now.tags in
+    let step = listed-step tags c.args.pairs.now c.loop-place.place c.index-pairs-place.result c.loop-place-test.true
+    c.index-pairs-place.is in (
+      c.in-Some.ensures.few,
+      c.in-Some.ensures.count
+          ∙ ap (λ names. length (with_names (with_names tags (all_names (take c.loop-place.place c.args.pairs.now)))
+          names)) c.listed_names.ensures
+          ∙ ap length step,
+    )

@@ -1,0 +1,7 @@
+use Rattle.std.proofs.Common.{◌≡◌, ◌-◌, ◌^◌, take}
+use Rattle.std.specs.Prelude.{min}
+use Rattle.command_effects.specs.Lists.{total}
+use Rattle.command_effects.proofs.excess.total_of.Given as goal
+
+abbrev pub invariant-loop-pair : goal.invariant-loop-pair
+invariant-loop-pair l = l.most ≡ min (total (take l.pair-index l.pairs)) (2 ^ 64 - 1)

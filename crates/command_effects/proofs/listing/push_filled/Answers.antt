@@ -1,0 +1,13 @@
+use Rattle.std.proofs.Common.{sym, subst, eqb-true, length, ◌∷◌, []}
+use Rattle.std.specs.Prelude.{string_bytes, if◌then◌else◌}
+use Rattle.tcl_words.specs.ListGrowth.{Goes}
+use Rattle.tcl_words.proofs.ListGrowth.{goes_nowhere}
+use Rattle.command_effects.proofs.ListingLaws.{unfilled}
+use Rattle.command_effects.proofs.listing.push_filled.Goals as goal
+
+pub returns-then-is_empty : goal.returns-then-is_empty
+returns-then-is_empty c =
+    subst (λ b. Goes (string_bytes c.args.list.now) (string_bytes c.args.list.now) (if b then c.args.text ∷ [] else []))
+    (sym (unfilled c.as_str.result.now c.args.text c.as_str.ensures.characters
+    (eqb-true (length c.as_str.result.now) 0 (sym c.if-is_empty.ensures))))
+    (goes_nowhere (string_bytes c.args.list.now))

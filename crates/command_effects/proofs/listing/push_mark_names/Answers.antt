@@ -1,0 +1,16 @@
+use Rattle.std.proofs.Common.{◌∷◌, []}
+use Rattle.std.specs.Prelude.{string_bytes}
+use Rattle.mark_table.specs.SharedMarks.{names_of}
+use Rattle.command_effects.specs.Words.{literal}
+use Rattle.tcl_words.proofs.ListGrowth.{goes_on}
+use Rattle.command_effects.proofs.listing.push_mark_names.Goals as goal
+
+pub returns : goal.returns
+returns c =
+    let old = string_bytes c.args.list.now in
+    let first = string_bytes c.push_element.new.list in
+    let second = string_bytes c.push_element-2.new.list in
+    let new = string_bytes c.push_shared_names.new.list in
+    goes_on old second new (literal "insert" ∷ literal "current" ∷ []) (names_of c.args.marks.now.marks)
+    (goes_on old first second (literal "insert" ∷ []) (literal "current" ∷ []) c.in_ok-push_element.ensures.list
+    c.in_ok-push_element-2.ensures.list) c.in_ok-push_shared_names.ensures

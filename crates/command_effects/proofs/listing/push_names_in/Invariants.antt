@@ -1,0 +1,10 @@
+use Rattle.std.specs.FinSet as set
+use Rattle.std.specs.Prelude.{string_bytes, take, filter}
+use Rattle.tag_table.specs.Tags.{Tag, names_of}
+use Rattle.tcl_words.specs.ListGrowth.{Goes}
+use Rattle.command_effects.specs.Tagging.{own_slot}
+use Rattle.command_effects.proofs.listing.push_names_in.Given as goal
+
+abbrev pub invariant-loop-place : goal.invariant-loop-place
+invariant-loop-place l = Goes (string_bytes l.fn.list) (string_bytes l.list)
+    (names_of (filter (λ (tag : Tag). set.contains l.slots (own_slot l.own.0 tag.slot)) (take l.place l.tags.tags)))

@@ -1,0 +1,17 @@
+use Rattle.std.proofs.Common.{◌++◌, ◌∷◌, [], ap, subst, ◌∙◌}
+use Rattle.std.specs.Prelude.{chars, string_bytes, OnOk}
+use Rattle.text_index.specs.Positions.{position_text}
+use Rattle.text_index.specs.Views.{shown}
+use Rattle.tcl_words.specs.ListGrowth.{Goes}
+use Rattle.std.proofs.lemmas.Str.{chars-nil}
+use Rattle.command_effects.proofs.listing.push_place.Goals as goal
+
+pub returns : goal.returns
+returns g c =
+    let text = position_text (shown (g.S.TextStore.content c.args.view.now.store.now) c.args.view.now.s
+    c.args.view.now.e) c.args.place in
+    subst (λ word. OnOk c.push_element.result
+    (Goes (string_bytes c.args.list.now) (string_bytes c.push_element.new.list) (word ∷ [])))
+    (ap chars c.as_str.ensures.value ∙ c.in_ok-push_index.ensures.ok
+    ∙ ap (λ bytes. chars bytes ++ text) c.clear.ensures.bytes ∙ ap (λ front. front ++ text) chars-nil)
+    c.push_element.ensures.list

@@ -1,0 +1,13 @@
+use Rattle.std.proofs.Common.{◌≡◌, ◌++◌, ◌≤◌, length}
+use Rattle.std.specs.List.{All}
+use Rattle.command_effects.specs.Ranges.{spans_of}
+use Rattle.command_effects.proofs.ranges.spans_of.Given as goal
+
+abbrev pub invariant-loop-rest : goal.invariant-loop-rest
+invariant-loop-rest l = record {
+  value : spans_of l.start l.len l.fn.places ≡ l.spans.items ++ spans_of l.start l.len l.rest;
+  within : All (λ place. place ≤ l.len) l.rest;
+}
+
+abbrev pub decreases-loop-rest : goal.decreases-loop-rest
+decreases-loop-rest l = length l.rest

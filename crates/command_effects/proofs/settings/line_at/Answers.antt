@@ -1,0 +1,21 @@
+use Rattle.std.proofs.Common.{sym, ap, ◌∙◌}
+use Rattle.std.specs.Prelude.{chars, ok_or}
+use Rattle.std.proofs.lemmas.Str.{encodes-chars}
+use Rattle.tcl_words.proofs.ListForms.{some_chars}
+use Rattle.tcl_words.proofs.Plain.{none_left}
+use Rattle.command_effects.specs.declared.answers.Fault.TheVariants.{BadInteger}
+use Rattle.command_effects.proofs.SettingLaws.{line_of_word-none, line_of_word-fault}
+use Rattle.command_effects.proofs.settings.line_at.Goals as goal
+
+pub returns-then-is_empty : goal.returns-then-is_empty
+returns-then-is_empty c =
+    sym (ap (λ line. ok_or line (BadInteger c.args.position))
+    (line_of_word-none c.args.word.now (none_left c.args.word.now c.is_empty.result c.is_empty.ensures
+    c.if-is_empty.true)))
+
+pub returns-in-Err : goal.returns-in-Err
+returns-in-Err c =
+    line_of_word-fault c.args.position (chars c.args.word.now) c.integer_at.result c.in-Err.fault
+    (some_chars (chars c.args.word.now) c.args.word.now (encodes-chars c.args.word.now c.utf8.word)
+    (sym c.is_empty.ensures ∙ c.if-is_empty.false))
+    c.integer_at.ensures c.in-Err.is

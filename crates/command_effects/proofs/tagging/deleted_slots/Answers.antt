@@ -1,0 +1,38 @@
+use Rattle.std.proofs.Common.{Vec, Global, ◌≡◌, ◌<◌, ◌∷◌, ◌++◌, [], map, sym, subst, ap, ◌∙◌}
+use Rattle.std.specs.List.{All}
+use Rattle.std.proofs.lemmas.List.Elements.{All-push}
+use Rattle.text_model.specs.TagBits.{slot_count}
+use Rattle.text_model.specs.declared.places.TagSlot.{TagSlot}
+use Rattle.command_effects.proofs.SlotLaws.{slots_deleted-kept, slots_deleted-pushed}
+use Rattle.command_effects.proofs.tagging.deleted_slots.Goals as goal
+use Rattle.command_effects.proofs.tagging.deleted_slots.Goals.{in-Some+in_ok-push, in_default}
+
+pub loop-name-preserved : goal.loop-name-preserved
+loop-name-preserved c =
+    let tags = c.args.tags.now.tags in
+    let names = c.args.names.now in
+    let at = c.loop-name.name-index in
+    elim c.match-taken_slot.branch [
+      | in-Some+in_ok-push w ↦
+          let items : c.match-taken_slot.slots.items ≡ c.loop-name.slots.items ++ w.in-Some.slot
+          ∷ [] = ap (λ (slots : Vec TagSlot Global). slots.items) w.slots-is ∙ w.in_ok-push.ensures.items in
+          record {
+            value = ap (map (λ (slot : TagSlot). slot.0)) items
+                ∙ slots_deleted-pushed tags names at c.name-item.result c.as_str.result.now c.loop-name.slots.items
+                w.in-Some.slot c.loop-name-test.true c.name-item.is c.as_str.ensures.value
+                c.loop-name.invariant.value w.in-Some.ensures.value;
+            bound = subst (All (λ (slot : TagSlot). slot.0 < slot_count)) (sym items)
+                (All-push (λ (slot : TagSlot). slot.0 < slot_count) c.loop-name.slots.items w.in-Some.slot
+                c.loop-name.invariant.bound w.in-Some.ensures.bound);
+          }
+      | in_default w ↦
+          let items : c.match-taken_slot.slots.items
+          ≡ c.loop-name.slots.items = ap (λ (slots : Vec TagSlot Global). slots.items) w.slots-is in
+          record {
+            value = ap (map (λ (slot : TagSlot). slot.0)) items
+                ∙ slots_deleted-kept tags names at c.name-item.result c.as_str.result.now
+                (map (λ (slot : TagSlot). slot.0) c.loop-name.slots.items) c.loop-name-test.true c.name-item.is
+                c.as_str.ensures.value c.loop-name.invariant.value w.in_default.ensures.value;
+            bound = subst (All (λ (slot : TagSlot). slot.0 < slot_count)) (sym items) c.loop-name.invariant.bound;
+          }
+    ]

@@ -1,0 +1,14 @@
+use Rattle.std.proofs.Common.{◌≡◌, ◌<◌, map, take}
+use Rattle.std.specs.List.{All}
+use Rattle.tcl_words.specs.Unread.{texts_of}
+use Rattle.text_model.specs.TagBits.{slot_count}
+use Rattle.text_model.specs.declared.places.TagSlot.{TagSlot}
+use Rattle.command_effects.specs.Tagging.{slots_deleted}
+use Rattle.command_effects.proofs.tagging.deleted_slots.Given as goal
+
+abbrev pub invariant-loop-name : goal.invariant-loop-name
+invariant-loop-name l = record {
+  value : map (λ (slot : TagSlot). slot.0) l.slots.items
+      ≡ slots_deleted l.tags.tags (texts_of (take l.name-index l.names));
+  bound : All (λ (slot : TagSlot). slot.0 < slot_count) l.slots.items;
+}

@@ -1,0 +1,125 @@
+ghost use Rattle.std.specs.Prelude.{◌≡◌, ◌≢◌, ◌≤◌, ◌<◌, None, Some, length, map, chars, IfOk, IfErr, OnOk, OnErr};
+ghost use Rattle.std.specs.FinMap as finite;
+ghost use Rattle.mark_table.specs.SharedMarks.{number_of, turned, AreMarks, IsFull};
+ghost use Rattle.tcl_words.specs.Unread.{texts_of};
+ghost use Rattle.command_effects.specs.declared.answers.Fault.TheVariants.{Memory, TooManyMarks};
+ghost use Rattle.command_effects.specs.Marking.{gravity_of, gravity_word, IsMadeMark, marks_left, numbers_named};
+
+use crate::answers::Fault;
+use crate::edits::put_mark;
+use crate::words::is_word;
+use mark_table::MarkTable;
+use std::alloc::{AllocError, Global};
+use text_model::{Gravity, MarkNo, Place, TextStore};
+
+/// The gravity that a word is, if it is one.
+pub fn read_gravity(word: &str) -> Option<Gravity>
+    ensures { result ≡ gravity_of (chars word.now) }
+{
+    if is_word(word, "left") {
+        Some(Gravity::Left)
+    } else if is_word(word, "right") {
+        Some(Gravity::Right)
+    } else {
+        None
+    }
+}
+
+/// The word for a gravity.
+pub fn gravity_word(gravity: Gravity) -> &'static str
+    ensures { chars result.now ≡ gravity_word gravity }
+{
+    match gravity {
+        Gravity::Left => "left",
+        Gravity::Right => "right",
+    }
+}
+
+/// Puts a mark of the table, which has a number, at a place. Where memory is refused nothing changes.
+pub fn turn_mark<S: TextStore>(
+    alloc: Global,
+    marks: &mut MarkTable,
+    store: &mut S,
+    name: &str,
+    number: MarkNo,
+    place: Place,
+) -> Result<(), AllocError>
+    requires known { number_of (chars name.now) marks.old.marks ≡ Some number.0 }
+    requires within { place.offset ≤ length (S.content store.old).cells }
+    ensures table { OnOk result (marks.new
+        ≡ record marks.old { marks = turned (chars name.now) place.gravity marks.old.marks }) }
+    ensures ok { OnOk result (S.content store.new
+        ≡ record (S.content store.old) { marks = finite.insert (S.content store.old).marks number.0 place }) }
+    ensures sound { OnOk result (AreMarks marks.new) }
+    ensures err { OnErr result ((S.content store.new ≡ S.content store.old) × (marks.new ≡ marks.old)) }
+{
+    put_mark(alloc, store, number, place)?;
+    let _known = marks.set_gravity(name, place.gravity);
+    // Where the marks are counted, they are known to be those of a table.
+    let _count = marks.len();
+    Ok(())
+}
+
+/// Makes a mark of a new name with right gravity, and puts it at an offset. Where that is refused nothing changes.
+pub fn make_mark<S: TextStore>(
+    alloc: Global,
+    marks: &mut MarkTable,
+    store: &mut S,
+    name: &str,
+    offset: usize,
+) -> Result<(), Fault>
+    requires new { number_of (chars name.now) marks.old.marks ≡ None }
+    requires within { offset ≤ length (S.content store.old).cells }
+    ensures made { OnOk result (IsMadeMark (chars name.now) offset marks.old marks.new (S.content store.old)
+        (S.content store.new)) }
+    ensures err { OnErr result ((S.content store.new ≡ S.content store.old) × (marks.new ≡ marks.old)) }
+    ensures fault { IfErr result (λ fault. fault ≢ Memory → IsFull marks.old) }
+{
+    let place = Place {
+        offset,
+        gravity: Gravity::Right,
+    };
+    match marks.create(String::from_str(alloc, name)?)? {
+        None => Err(Fault::TooManyMarks),
+        Some(number) => match put_mark(alloc, store, number, place) {
+            Ok(()) => {
+                // Where the marks are counted, they are known to be those of a table.
+                let _count = marks.len();
+                Ok(())
+            }
+            Err(_) => {
+                marks.unset(name);
+                Err(Fault::Memory)
+            }
+        },
+    }
+}
+
+/// The numbers of the marks of these names; unknown ones are skipped.
+pub fn numbers_named(
+    alloc: Global,
+    marks: &MarkTable,
+    names: &[String],
+) -> Result<Vec<MarkNo>, AllocError>
+    ensures { IfOk result (λ numbers. map (λ number. number.0) numbers.items
+        ≡ numbers_named marks.now.marks (texts_of names.now)) }
+{
+    let mut numbers = Vec::with_capacity(alloc, names.len())?;
+    for name in names {
+        if let Some(number) = marks.find(name.as_str()) {
+            numbers.push(number)?;
+        }
+    }
+    Ok(numbers)
+}
+
+/// Takes the marks of these names out of a table. Unknown ones are skipped.
+pub fn unset_names(marks: &mut MarkTable, names: &[String])
+    ensures { marks.new ≡ record marks.old { marks = marks_left (texts_of names.now) marks.old.marks } }
+{
+    // Where the marks are counted, they are known to be those of a table.
+    let _count = marks.len();
+    for name in names {
+        marks.unset(name.as_str());
+    }
+}

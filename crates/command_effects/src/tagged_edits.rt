@@ -1,0 +1,172 @@
+ghost use Rattle.std.specs.Prelude.{◌≡◌, ◌≢◌, true, None, Some, ◌+◌, ◌<◌, ◌≤◌, length, chars, map, option_map, IfOk};
+ghost use Rattle.std.specs.Prelude.{IfErr, OnOk, OnErr};
+ghost use Rattle.std.specs.Char.{IsScalar};
+ghost use Rattle.std.specs.List.{All};
+ghost use Rattle.edit_ops.specs.Anchors.{AnchorsStand};
+ghost use Rattle.edit_ops.specs.Insertions.{inserted_texts};
+ghost use Rattle.edit_ops.specs.Removals.{replaced};
+ghost use Rattle.edit_ops.specs.States.{log_of, state_in, IsUnchanged};
+ghost use Rattle.edit_ops.specs.Tagging.{SpanFits, tagged};
+ghost use Rattle.index_grammar.specs.Names.{known_tags};
+ghost use Rattle.tag_table.specs.Tags.{AreTags, names_of};
+ghost use Rattle.text_model.specs.LimitTable.{AreLimits};
+ghost use Rattle.text_model.specs.declared.limits.TheConstants.Limits.{MOST_TAGS, MOST_WIDGETS};
+ghost use Rattle.command_effects.specs.declared.answers.Fault.TheVariants.{Memory, TooManyTags};
+ghost use Rattle.command_effects.specs.Edits.{excess, length_replaced};
+ghost use Rattle.command_effects.specs.Lists.{with_name, with_names, all_names, total};
+ghost use Rattle.command_effects.specs.Tagging.{IsFront, piece_of};
+
+use crate::answers::Fault;
+use crate::edits::{put_texts, replace_texts, set_slot};
+use crate::excess::excess_of;
+use crate::lists::Pair;
+use crate::tagging::{make_listed, make_tag, own_slot, pieces_of};
+use edit_ops::{EditRules, EditedText, Piece, Span, Target};
+use std::alloc::{AllocError, Global};
+use tag_table::TagTable;
+use text_model::{TagSlot, TextStore};
+use undo_stack::EditKind;
+
+/// Makes the tags of pairs that are new, of which there is room, and gives the texts with the slots of their lists.
+/// Where memory is refused, new tags may stand behind the others.
+fn make_pieces(
+    alloc: Global,
+    tags: &mut TagTable,
+    own: TagSlot,
+    pairs: Vec<Pair>,
+) -> Result<Vec<Piece>, AllocError>
+    requires roomy { tags.old.limit ≡ MOST_TAGS }
+    requires few { length (with_names (names_of tags.old.tags) (all_names pairs.items)) ≤ MOST_TAGS + 1 }
+    requires known { own.0 < MOST_WIDGETS }
+    ensures front { IsFront tags.old tags.new }
+    ensures sound { OnOk result (AreTags tags.new) }
+    ensures made { OnOk result (names_of tags.new.tags ≡ with_names (names_of tags.old.tags) (all_names pairs.items)) }
+    ensures pieces { IfOk result (λ pieces. pieces.items ≡ map (piece_of tags.new.tags own.0) pairs.items) }
+{
+    match make_listed(alloc, tags, pairs.as_slice()) {
+        Err(Fault::Memory) => Err(AllocError),
+        Err(_) => unreachable!(),
+        Ok(()) => {
+            // Where the tags are counted, they are known to be those of a table.
+            let _count = tags.len();
+            pieces_of(alloc, tags, own, pairs)
+        }
+    }
+}
+
+/// Makes the tags of pairs that are new, and puts their texts in. Where that is refused, new tags may stand behind the
+/// others.
+pub fn put_pairs<S: TextStore>(
+    rules: &EditRules<'_>,
+    tags: &mut TagTable,
+    own: TagSlot,
+    text: &mut EditedText<S>,
+    at: usize,
+    pairs: Vec<Pair>,
+) -> Result<(), Fault>
+    requires within { at < length (S.content text.old.store).cells }
+    requires stand { All (AnchorsStand (length (S.content text.old.store).cells)) text.old.anchors.items }
+    requires roomy { tags.old.limit ≡ MOST_TAGS }
+    requires known { own.0 < MOST_WIDGETS }
+    ensures bounds { AreLimits rules.now.limits.now }
+    ensures front { IsFront tags.old tags.new }
+    ensures sound { OnOk result (AreTags tags.new) }
+    ensures scalars { All (λ pair. All IsScalar pair.text) pairs.items }
+    ensures made { OnOk result (names_of tags.new.tags ≡ with_names (names_of tags.old.tags) (all_names pairs.items)) }
+    ensures ok { OnOk result (state_in S.content text.new
+        ≡ inserted_texts rules.now.recording EditKind.Insert at (map (piece_of tags.new.tags own.0) pairs.items)
+        (state_in S.content text.old)) }
+    ensures room { OnOk result (excess rules.now.limits.now
+        (length (with_names (names_of tags.old.tags) (all_names pairs.items)))
+        (length (S.content text.old.store).cells + total pairs.items) ≡ None) }
+    ensures err { OnErr result (IsUnchanged S.content text.old text.new) }
+    ensures fault { IfErr result (λ fault. fault ≢ Memory →
+        excess rules.now.limits.now (length (with_names (names_of tags.old.tags) (all_names pairs.items)))
+        (length (S.content text.old.store).cells + total pairs.items) ≡ Some fault) }
+{
+    if let Some(fault) = excess_of(rules.limits, tags, pairs.as_slice(), text.store.len()) {
+        return Err(fault);
+    }
+    let pieces = make_pieces(rules.alloc, tags, own, pairs)?;
+    put_texts(rules, text, at, pieces)
+}
+
+/// Makes the tags of pairs that are new, and puts their texts in the place of the characters that a target names. Where
+/// that is refused, new tags may stand behind the others.
+pub fn replace_pairs<S: TextStore>(
+    rules: &EditRules<'_>,
+    tags: &mut TagTable,
+    own: TagSlot,
+    text: &mut EditedText<S>,
+    target: Target,
+    pairs: Vec<Pair>,
+) -> Result<(), Fault>
+    requires within { target.last < length (S.content text.old.store).cells }
+    requires ordered { target.from ≤ target.to }
+    requires stand { All (AnchorsStand (length (S.content text.old.store).cells)) text.old.anchors.items }
+    requires roomy { tags.old.limit ≡ MOST_TAGS }
+    requires known { own.0 < MOST_WIDGETS }
+    ensures bounds { AreLimits rules.now.limits.now }
+    ensures front { IsFront tags.old tags.new }
+    ensures sound { OnOk result (AreTags tags.new) }
+    ensures scalars { All (λ pair. All IsScalar pair.text) pairs.items }
+    ensures made { OnOk result (names_of tags.new.tags ≡ with_names (names_of tags.old.tags) (all_names pairs.items)) }
+    ensures ok { OnOk result (state_in S.content text.new
+        ≡ replaced rules.now.recording target.mark.0 target.last target.from target.to
+        (map (piece_of tags.new.tags own.0) pairs.items) (state_in S.content text.old)) }
+    ensures room { OnOk result (excess rules.now.limits.now
+        (length (with_names (names_of tags.old.tags) (all_names pairs.items)))
+        (length_replaced (length (S.content text.old.store).cells) target.last target.from target.to
+        + total pairs.items) ≡ None) }
+    ensures err { OnErr result (IsUnchanged S.content text.old text.new) }
+    ensures fault { IfErr result (λ fault. fault ≢ Memory →
+        excess rules.now.limits.now (length (with_names (names_of tags.old.tags) (all_names pairs.items)))
+        (length_replaced (length (S.content text.old.store).cells) target.last target.from target.to
+        + total pairs.items) ≡ Some fault) }
+{
+    let Target { last, from, to, .. } = target;
+    let left = text.store.len() - (to.min(last) - from.min(last));
+    if let Some(fault) = excess_of(rules.limits, tags, pairs.as_slice(), left) {
+        return Err(fault);
+    }
+    let pieces = make_pieces(rules.alloc, tags, own, pairs)?;
+    replace_texts(rules, text, target, pieces)
+}
+
+/// Makes a tag if it is new, of which there is room, and sets it on spans. Where memory is refused, the new tag may
+/// stand behind the others.
+pub fn tag_spans<S: TextStore>(
+    alloc: Global,
+    tags: &mut TagTable,
+    own: TagSlot,
+    text: &mut EditedText<S>,
+    name: &str,
+    spans: &[Span],
+) -> Result<(), AllocError>
+    requires spans { All (SpanFits (length (S.content text.old.store).cells)) spans.now }
+    requires roomy { tags.old.limit ≡ MOST_TAGS }
+    requires few { length (with_name (names_of tags.old.tags) (chars name.now)) ≤ MOST_TAGS + 1 }
+    requires known { own.0 < MOST_WIDGETS }
+    ensures front { IsFront tags.old tags.new }
+    ensures sound { OnOk result (AreTags tags.new) }
+    ensures made { OnOk result (names_of tags.new.tags ≡ with_name (names_of tags.old.tags) (chars name.now)) }
+    ensures ok { OnOk result (option_map (λ slot. tagged slot true spans.now (S.content text.old.store))
+        (known_tags tags.new.tags own.0 (chars name.now))
+        ≡ Some (S.content text.new.store)) }
+    ensures err { OnErr result (S.content text.new.store ≡ S.content text.old.store) }
+    ensures log { log_of text.new.history ≡ log_of text.old.history }
+    ensures anchors { text.new.anchors.items ≡ text.old.anchors.items }
+{
+    match make_tag(alloc, tags, name) {
+        Err(Fault::Memory) => Err(AllocError),
+        Err(_) => unreachable!(),
+        Ok(slot) => {
+            // Where the tags are counted, they are known to be those of a table.
+            let _count = tags.len();
+            match set_slot(alloc, text, spans, own_slot(slot, own), true) {
+                Err(_) => Err(AllocError),
+                Ok(()) => Ok(()),
+            }
+        }
+    }
+}

@@ -1,0 +1,208 @@
+ghost use Rattle.std.specs.Prelude.{◌≡◌, ◌≢◌, ◌+◌, ◌<◌, [], length, map, Some, Err, chars, option_map, IfOk, IfErr};
+ghost use Rattle.std.specs.Prelude.{OnOk, IfSome};
+ghost use Rattle.std.specs.FinSet as set;
+ghost use Rattle.std.specs.List.{All};
+ghost use Rattle.index_grammar.specs.Names.{known_tags};
+ghost use Rattle.tag_table.specs.Tags.{slot_of, names_of};
+ghost use Rattle.tcl_words.specs.Unread.{texts_of};
+ghost use Rattle.text_model.specs.TagBits.{slot_count};
+ghost use Rattle.text_model.specs.declared.limits.TheConstants.Limits.{MOST_WIDGETS};
+ghost use Rattle.command_effects.specs.declared.answers.Fault.TheVariants.{Memory, TooManyTags};
+ghost use Rattle.command_effects.specs.Lists.{with_name, with_names, listed_names, all_names};
+ghost use Rattle.command_effects.specs.Tagging.{IsFront, own_slot, with_found, slots_named, piece_of, slot_taken};
+ghost use Rattle.command_effects.specs.Tagging.{slots_deleted, tags_left};
+
+use crate::answers::Fault;
+use crate::lists::Pair;
+use edit_ops::Piece;
+use std::alloc::{AllocError, Global};
+use tag_table::TagTable;
+use text_model::{TagSet, TagSlot};
+
+/// The slot of the tag of a name, which is made if it is new.
+pub fn make_tag(alloc: Global, tags: &mut TagTable, name: &str) -> Result<TagSlot, Fault>
+    ensures front { IsFront tags.old tags.new }
+    ensures made { OnOk result (names_of tags.new.tags ≡ with_name (names_of tags.old.tags) (chars name.now)) }
+    ensures slot { IfOk result (λ slot. slot_of (chars name.now) tags.new.tags ≡ Some slot.0) }
+    ensures bound { IfOk result (λ slot. slot.0 < slot_count) }
+    ensures fault { IfErr result (λ fault. fault ≢ Memory →
+        (fault ≡ TooManyTags) × (tags.old.limit + 1 < length (with_name (names_of tags.old.tags) (chars name.now)))) }
+{
+    if let Some(slot) = tags.find(name) {
+        return Ok(slot);
+    }
+    match tags.create(String::from_str(alloc, name)?)? {
+        None => Err(Fault::TooManyTags),
+        Some(slot) => Ok(slot),
+    }
+}
+
+/// Makes tags of names, those that are new.
+fn make_tags(alloc: Global, tags: &mut TagTable, names: &[String]) -> Result<(), Fault>
+    ensures front { IsFront tags.old tags.new }
+    ensures made { OnOk result (names_of tags.new.tags ≡ with_names (names_of tags.old.tags) (texts_of names.now)) }
+    ensures fault { IfErr result (λ fault. fault ≢ Memory →
+        (fault ≡ TooManyTags) × (tags.old.limit + 1
+        < length (with_names (names_of tags.old.tags) (texts_of names.now)))) }
+{
+    for name in names {
+        match make_tag(alloc, tags, name.as_str()) {
+            Err(fault) => return Err(fault),
+            Ok(_) => {}
+        }
+    }
+    Ok(())
+}
+
+/// The names of the list of a pair, if it has one.
+pub fn listed_names(pair: &Pair) -> &[String]
+    ensures { texts_of result.now ≡ listed_names pair.now.names }
+{
+    match &pair.names {
+        None => &[],
+        Some(names) => names.as_slice(),
+    }
+}
+
+/// Makes the tags of lists, those that are new.
+pub fn make_listed(alloc: Global, tags: &mut TagTable, pairs: &[Pair]) -> Result<(), Fault>
+    ensures front { IsFront tags.old tags.new }
+    ensures made { OnOk result (names_of tags.new.tags ≡ with_names (names_of tags.old.tags) (all_names pairs.now)) }
+    ensures fault { IfErr result (λ fault. fault ≢ Memory →
+        (fault ≡ TooManyTags) × (tags.old.limit + 1
+        < length (with_names (names_of tags.old.tags) (all_names pairs.now)))) }
+{
+    for pair in pairs {
+        match make_tags(alloc, tags, listed_names(pair)) {
+            Err(fault) => return Err(fault),
+            Ok(()) => {}
+        }
+    }
+    Ok(())
+}
+
+/// The slot of a tag of the table, for a widget: that of `sel` is the widget's own.
+pub fn own_slot(slot: TagSlot, own: TagSlot) -> TagSlot
+    requires { own.0 < MOST_WIDGETS }
+    ensures value { result.0 ≡ own_slot own.0 slot.0 }
+    ensures bound { slot.0 < slot_count → result.0 < slot_count }
+{
+    if slot.0 == 0 { own } else { slot }
+}
+
+/// The slot of the tag of a name, for a widget that is known by its own slot: `sel` is the widget's own.
+pub fn find_tag(tags: &TagTable, own: TagSlot, name: &str) -> Option<TagSlot>
+    requires { own.0 < MOST_WIDGETS }
+    ensures value { option_map (λ slot. slot.0) result ≡ known_tags tags.now.tags own.0 (chars name.now) }
+    ensures bound { IfSome result (λ slot. slot.0 < slot_count) }
+{
+    match tags.find(name) {
+        None => None,
+        Some(slot) => Some(own_slot(slot, own)),
+    }
+}
+
+/// A set of slots with that of a tag, if there is one.
+fn with_found(slots: TagSet, tags: &TagTable, own: TagSlot, name: &str) -> TagSet
+    requires { own.0 < MOST_WIDGETS }
+    ensures { result ≡ with_found (known_tags tags.now.tags own.0 (chars name.now)) slots }
+{
+    match find_tag(tags, own, name) {
+        None => slots,
+        Some(slot) => slots.with(slot),
+    }
+}
+
+/// The slots of the tags of these names, for a widget.
+fn slots_of(tags: &TagTable, own: TagSlot, names: &[String]) -> TagSet
+    requires { own.0 < MOST_WIDGETS }
+    ensures { result ≡ slots_named tags.now.tags own.0 (texts_of names.now) }
+{
+    let mut slots = TagSet::empty();
+    for name in names {
+        slots = with_found(slots, tags, own, name.as_str());
+    }
+    slots
+}
+
+/// The slots of a list, where there is one.
+fn listed_slots(tags: &TagTable, own: TagSlot, names: &Option<Vec<String>>) -> Option<TagSet>
+    requires { own.0 < MOST_WIDGETS }
+    ensures { result ≡ option_map (slots_named tags.now.tags own.0)
+        (option_map (λ names. texts_of names.items) names.now) }
+{
+    match names {
+        None => None,
+        Some(names) => Some(slots_of(tags, own, names.as_slice())),
+    }
+}
+
+/// A pair with the slots of its list.
+fn piece_of(tags: &TagTable, own: TagSlot, pair: Pair) -> Piece
+    requires { own.0 < MOST_WIDGETS }
+    ensures { result ≡ piece_of tags.now.tags own.0 pair }
+{
+    let slots = listed_slots(tags, own, &pair.names);
+    Piece {
+        text: pair.text,
+        slots,
+    }
+}
+
+/// The texts of pairs with the slots of their lists.
+pub fn pieces_of(
+    alloc: Global,
+    tags: &TagTable,
+    own: TagSlot,
+    pairs: Vec<Pair>,
+) -> Result<Vec<Piece>, AllocError>
+    requires { own.0 < MOST_WIDGETS }
+    ensures { IfOk result (λ pieces. pieces.items ≡ map (piece_of tags.now.tags own.0) pairs.items) }
+{
+    let mut pieces = Vec::with_capacity(alloc, pairs.len())?;
+    for pair in pairs {
+        pieces.push(piece_of(tags, own, pair))?;
+    }
+    Ok(pieces)
+}
+
+/// The slot of the tag of a name, but not that of `sel`.
+fn taken_slot(tags: &TagTable, name: &str) -> Option<TagSlot>
+    ensures value { option_map (λ slot. slot.0) result ≡ slot_taken (slot_of (chars name.now) tags.now.tags) }
+    ensures bound { IfSome result (λ slot. slot.0 < slot_count) }
+{
+    match tags.find(name) {
+        None => None,
+        Some(slot) => { if slot.0 == 0 { None } else { Some(slot) } }
+    }
+}
+
+/// The slots of the tags of these names, but that of `sel`.
+pub fn deleted_slots(
+    alloc: Global,
+    tags: &TagTable,
+    names: &[String],
+) -> Result<Vec<TagSlot>, AllocError>
+    ensures value { IfOk result (λ slots. map (λ slot. slot.0) slots.items
+        ≡ slots_deleted tags.now.tags (texts_of names.now)) }
+    ensures bound { IfOk result (λ slots. All (λ slot. slot.0 < slot_count) slots.items) }
+{
+    let mut slots = Vec::with_capacity(alloc, names.len())?;
+    for name in names {
+        if let Some(slot) = taken_slot(tags, name.as_str()) {
+            slots.push(slot)?;
+        }
+    }
+    Ok(slots)
+}
+
+/// Takes the tags of these names out of a table, but `sel`.
+pub fn delete_names(tags: &mut TagTable, names: &[String])
+    ensures { tags.new ≡ record tags.old { tags = tags_left (texts_of names.now) tags.old.tags } }
+{
+    // Where the tags are counted, they are known to be those of a table.
+    let _count = tags.len();
+    for name in names {
+        tags.delete(name.as_str());
+    }
+}

@@ -1,6 +1,0 @@
-use Rattle.std.proofs.Common.{◌≡◌, take}
-use Rattle.command_parts.proofs.TakeLaws.{takes}
-use Rattle.command_parts.proofs.edits.take_marks.Given as goal
-
-abbrev pub invariant-loop-number : goal.invariant-loop-number
-invariant-loop-number g l = l.steps ≡ takes (take l.number-index l.numbers)

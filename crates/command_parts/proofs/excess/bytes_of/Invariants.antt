@@ -1,7 +1,0 @@
-use Rattle.std.proofs.Common.{◌≡◌, ◌-◌, ◌^◌, take}
-use Rattle.std.specs.Prelude.{min}
-use Rattle.command_parts.specs.Lists.{total_bytes}
-use Rattle.command_parts.proofs.excess.bytes_of.Given as goal
-
-abbrev pub invariant-loop-pair : goal.invariant-loop-pair
-invariant-loop-pair l = l.most ≡ min (total_bytes (take l.pair-index l.pairs)) (2 ^ 64 - 1)

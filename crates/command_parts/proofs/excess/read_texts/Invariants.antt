@@ -1,8 +1,0 @@
-use Rattle.std.proofs.Common.{take}
-use Rattle.std.specs.Char.{IsScalar}
-use Rattle.std.specs.List.{All}
-use Rattle.command_parts.specs.Lists.{Pair}
-use Rattle.command_parts.proofs.excess.read_texts.Given as goal
-
-abbrev pub invariant-loop-pair : goal.invariant-loop-pair
-invariant-loop-pair l = All (λ (pair : Pair). All IsScalar pair.text) (take l.pair-index l.pairs)

@@ -1,0 +1,85 @@
+-- How a run of switches goes on, and when words are too many to begin a subcommand.
+use Rattle.std.proofs.Common.{◌≡◌, ℕ, ◌+◌, ◌<◌, Bool, true, false, ◌&&◌, List, [], ◌∷◌, ◌++◌, length, take, drop}
+use Rattle.std.proofs.Common.{get_or, refl, sym, ap, ◌∙◌, arith, append_assoc, add-one}
+use Rattle.std.specs.Prelude.{Err, String, chars, string_bytes, if◌then◌else◌}
+use Rattle.std.proofs.lemmas.List.{length-map, drop_more, get_or-map}
+use Rattle.std.proofs.Math.Seq.{take-suc}
+use Rattle.command_table.specs.Reading.{go_on, unknown}
+use Rattle.command_table.specs.Words.{Word, texts_of, is_same, is_dashed}
+use Rattle.command_table.specs.declared.shapes.ShapeFault.TheVariants.{BadOption, WrongArguments}
+use Rattle.command_table.specs.Entries.{SwitchRule, begins, ends_switches, dashed_words}
+
+and_false : (b : Bool) → (b && false) ≡ false
+and_false true = refl
+and_false false = refl
+
+-- words that are more than a list has don't begin it
+pub begins-longer : (words list : List Word) → length list < length words → begins words list ≡ false
+begins-longer [] list more = absurd (omega arith)
+begins-longer (w ∷ words) [] more = refl
+begins-longer (w ∷ words) (x ∷ list) more =
+    ap (λ b. is_same x w && b) (begins-longer words list (omega arith)) ∙ and_false (is_same x w)
+
+-- the text of the string at a place
+abbrev text : {Z : Type 0} → String Z → Word
+text word = chars (string_bytes word)
+
+pub rest_at : {Z : Type 0} (words : List (String Z)) (i : ℕ) (word : String Z) → i < length words →
+    word ≡ get_or words i word
+    → texts_of (drop i words) ≡ text word ∷ texts_of (drop (i + 1) words)
+rest_at words i word within is =
+    ap texts_of (drop_more words i word within) ∙ ap (λ x. text x ∷ texts_of (drop (i + 1) words)) (sym is)
+
+front_at : {Z : Type 0} (words : List (String Z)) (i : ℕ) (word : String Z) → i < length words →
+    word ≡ get_or words i word
+    → take (i + 1) (texts_of words) ≡ take i (texts_of words) ++ text word ∷ []
+front_at words i word within is =
+    ap (λ k. take k (texts_of words)) (add-one i)
+    ∙ take-suc (texts_of words) i (text word) (rw (length-map words (λ w. text w)) within)
+    ∙ ap (λ x. take i (texts_of words) ++ x ∷ []) (get_or-map (λ w. text w) words i word (text word) within
+    ∙ ap text (sym is))
+
+one_dashed : (rule : SwitchRule) (word : Word) (rest : List Word) → is_dashed word ≡ true
+    → dashed_words rule (word ∷ rest) ≡ word ∷ (if ends_switches rule word then [] else dashed_words rule rest)
+one_dashed rule word rest dashed =
+    ap (λ b. if b then word ∷ (if ends_switches rule word then [] else dashed_words rule rest) else []) dashed
+
+-- a word that goes on with the run
+pub run_goes_on : {Z : Type 0} (rule : SwitchRule) (words : List (String Z)) (i : ℕ) (word : String Z) →
+    i < length words → word ≡ get_or words i word
+    → is_dashed (text word) ≡ true → ends_switches rule (text word) ≡ false
+    → take i (texts_of words) ++ dashed_words rule (texts_of (drop i words))
+    ≡ take (i + 1) (texts_of words) ++ dashed_words rule (texts_of (drop (i + 1) words))
+run_goes_on rule words i word within is dashed goes =
+    let rest = texts_of (drop (i + 1) words) in
+    ap (λ ws. take i (texts_of words) ++ dashed_words rule ws) (rest_at words i word within is)
+    ∙ ap (λ ws. take i (texts_of words) ++ ws) (one_dashed rule (text word) rest dashed
+    ∙ ap (λ b. text word ∷ (if b then [] else dashed_words rule rest)) goes)
+    ∙ sym (append_assoc (take i (texts_of words)) (text word ∷ []) (dashed_words rule rest))
+    ∙ ap (λ ws. ws ++ dashed_words rule rest) (sym (front_at words i word within is))
+
+-- a word that ends the run is the last of it
+pub run_ends : {Z : Type 0} (rule : SwitchRule) (words : List (String Z)) (i : ℕ) (word : String Z) → i < length words →
+    word ≡ get_or words i word
+    → is_dashed (text word) ≡ true → ends_switches rule (text word) ≡ true
+    → take i (texts_of words) ++ dashed_words rule (texts_of (drop i words)) ≡ take (i + 1) (texts_of words)
+run_ends rule words i word within is dashed ends =
+    let rest = texts_of (drop (i + 1) words) in
+    ap (λ ws. take i (texts_of words) ++ dashed_words rule ws) (rest_at words i word within is)
+    ∙ ap (λ ws. take i (texts_of words) ++ ws) (one_dashed rule (text word) rest dashed
+    ∙ ap (λ b. text word ∷ (if b then [] else dashed_words rule rest)) ends)
+    ∙ sym (front_at words i word within is)
+
+pub begins-too_many : {Z : Type 0} (words : List (String Z)) (list : List Word) (count : ℕ) → length list ≡ count →
+    count < length words
+    → false ≡ begins (texts_of words) list
+begins-too_many words list count is more =
+    sym (begins-longer (texts_of words) list (rw (is, length-map words (λ w. text w)) more))
+
+-- a word alone that begins no subcommand, and no word
+pub unknown-short : (words : List Word) → length words < 2 → go_on words ≡ false → unknown words ≡ Err (BadOption 1)
+unknown-short [] short none =
+    ap (λ b. if b then Err WrongArguments else (if b then Err (BadOption 2) else Err (BadOption 1))) none
+unknown-short (word ∷ []) short none =
+    ap (λ b. if b then Err WrongArguments else (if b then Err (BadOption 2) else Err (BadOption 1))) none
+unknown-short (word ∷ next ∷ words) short none = absurd (omega (arith, short))

@@ -1,0 +1,18 @@
+use Rattle.std.proofs.Common.{drop, sym, ap, ap₂, ◌∙◌}
+use Rattle.std.proofs.lemmas.List.{take_rest, drop-map}
+use Rattle.std.specs.List.{take-map}
+use Rattle.std.specs.Prelude.{chars, string_bytes}
+use Rattle.command_table.specs.Words.{texts_of}
+use Rattle.command_table.specs.Reading.{decided}
+use Rattle.command_table.specs.Spelled.{entry_rule}
+use Rattle.command_table.proofs.entries.Entry.read.Goals as goal
+
+pub returns-clause-value : goal.returns-clause-value
+returns-clause-value c =
+    let words = c.args.words.now in
+    let count = c.count_switches-count in
+    c.decide.ensures.value
+    ∙ ap₂ (λ front back. decided (entry_rule c.args.self.now) c.args.position front back)
+    (sym (take-map (λ word. chars (string_bytes word)) count.result words) ∙ count.ensures.front)
+    (ap texts_of (take_rest words count.result) ∙ sym (drop-map (λ word. chars (string_bytes word)) count.result words)
+    ∙ ap (λ n. drop n (texts_of words)) count.ensures.value)

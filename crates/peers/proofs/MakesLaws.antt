@@ -1,0 +1,23 @@
+-- What a command makes of a world, where it is refused.
+use Rattle.std.proofs.Common.{◌≡◌, ℕ, refl, sym, ap, subst}
+use Rattle.std.specs.Prelude.{Err}
+use Rattle.command_effects.specs.declared.answers.Fault.{Fault}
+use Rattle.documents.specs.Promise.{refused}
+use Rattle.peers.specs.Step.{Makes, Outcome, changed, refuses}
+use Rattle.peers.specs.WellFormed.{IsWellFormed}
+use Rattle.peers.specs.World.{World, document_at}
+use Rattle.peers.proofs.WorldLaws.{changed-refused}
+
+-- a command is refused with the fault that its definition has
+pub makes-refused : (world : World) (fault : Fault) (outcome : Outcome) → IsWellFormed world →
+    outcome ≡ refuses world fault → Makes world world (Err fault) outcome
+makes-refused world fault outcome formed is =
+    subst (Makes world world (Err fault)) (sym is)
+    (record { reply = λ _. refl; world = λ _. refl; refused = refl; well_formed = formed })
+
+-- a document that refuses a command changes no world
+pub changed-refuses : (world : World) (place : ℕ) (fault : Fault) →
+    changed world place (refused (document_at world.documents place) fault) ≡ refuses world fault
+changed-refuses world place fault =
+    ap (λ w. refuses w fault) (changed-refused world.limits world.documents place
+    (refused (document_at world.documents place) fault) refl)
