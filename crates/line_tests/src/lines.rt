@@ -102,6 +102,70 @@ fn toggles_and_marks_go(rt: HostRuntime) -> Result<(), Fail> {
     Ok(())
 }
 
+// ---- slots of two words
+
+const NEAR: TagSlot = TagSlot(3);
+
+const FAR: TagSlot = TagSlot(130);
+
+// `abcde`, with both slots toggled before the `c`, and one of them before the `e`.
+fn line_of_words(rt: &impl Abort, alloc: Global) -> Result<Line, AllocError> {
+    let mut line = Line::new(alloc, "abcde")?;
+    assert!(rt; line.len() == 5);
+    line.toggle(2, &TagSet::empty().with(FAR).with(NEAR))?;
+    assert!(rt; line.len() == 5);
+    line.set_toggle(4, NEAR, true)?;
+    Ok(line)
+}
+
+// Whether the two slots are toggled so before the character at a column.
+fn check_tags(rt: &impl Abort, line: &Line, column: usize, near: bool, far: bool) {
+    assert!(rt; column <= line.len());
+    let tags = line.tags_before(column);
+    assert!(rt; tags.has(NEAR) == near && tags.has(FAR) == far, "{column}");
+}
+
+#[test]
+fn words_stand_at_one_column(rt: HostRuntime) -> Result<(), Fail> {
+    let mut line = line_of_words(&rt, rt.alloc())?;
+    check_tags(&rt, &line, 1, false, false);
+    check_tags(&rt, &line, 2, true, true);
+    check_tags(&rt, &line, 4, false, true);
+    let sum = line.sum();
+    assert!(&rt; !sum.parity(NEAR) && sum.has(NEAR) && sum.parity(FAR));
+    assert!(&rt; line.len() == 5);
+    line.clear(NEAR, 1, 3);
+    check_tags(&rt, &line, 2, false, true);
+    check_tags(&rt, &line, 4, true, true);
+    Ok(())
+}
+
+#[test]
+fn words_meet_behind_a_removal(rt: HostRuntime) -> Result<(), Fail> {
+    let mut line = line_of_words(&rt, rt.alloc())?;
+    assert!(&rt; line.len() == 5);
+    line.remove_range(1, 4)?;
+    check_text(&rt, &line, "ae")?;
+    assert!(&rt; line.len() == 2);
+    assert!(&rt; line.next_toggle(0, NEAR) == None && line.next_toggle(0, FAR) == Some(1));
+    Ok(())
+}
+
+#[test]
+fn words_are_cut_and_joined(rt: HostRuntime) -> Result<(), Fail> {
+    let mut line = line_of_words(&rt, rt.alloc())?;
+    assert!(&rt; line.len() == 5);
+    let tail = line.cut(2)?;
+    check_tags(&rt, &line, 2, false, false);
+    check_tags(&rt, &tail, 0, true, true);
+    check_tags(&rt, &tail, 3, false, true);
+    let is_joined = line.join(tail).is_ok();
+    assert!(&rt; is_joined);
+    check_tags(&rt, &line, 2, true, true);
+    check_tags(&rt, &line, 4, false, true);
+    Ok(())
+}
+
 // Besides its text.
 #[test]
 fn plain_line_is_small(rt: HostRuntime) {

@@ -1,7 +1,7 @@
 use std::alloc::Global;
 use std::process::Abort;
 use std::test::Fail;
-use text_model::{Limits, Step, StepList, TagSet, TagSlot, Text};
+use text_model::{Limits, SlotWord, Step, StepList, TagSet, TagSlot, Text};
 
 // ---- steps
 
@@ -127,6 +127,34 @@ fn slots_are_common(rt: HostRuntime) {
     assert!(rt; both.has(TagSlot(64)));
     assert!(rt; !both.has(TagSlot(65)));
     assert!(rt; !both.has(TagSlot(0)));
+}
+
+// ---- slots of one word
+
+#[test]
+fn a_slot_has_a_word(rt: HostRuntime) {
+    let one = SlotWord::of(TagSlot(70));
+    assert!(rt; one.index() == 1 && one.bits() == 64);
+    assert!(rt; one.has(TagSlot(70)) && !one.has(TagSlot(6)) && !one.is_empty());
+    assert!(rt; one.without(TagSlot(6)).has(TagSlot(70)) && one.without(TagSlot(70)).is_empty());
+}
+
+#[test]
+fn words_differ(rt: HostRuntime) {
+    let two = SlotWord::of_bits(1, 65);
+    let one = SlotWord::of(TagSlot(64));
+    assert!(rt; two.index() == one.index());
+    let left = two.differing(&one);
+    assert!(rt; !left.has(TagSlot(64)) && left.has(TagSlot(70)));
+}
+
+#[test]
+fn a_set_has_words(rt: HostRuntime) {
+    let mut tags = ends();
+    let word = tags.word(1);
+    assert!(rt; tags.word_count() == 3 && word.has(TagSlot(64)) && tags.word(2).is_empty());
+    tags.flip_word(&word);
+    assert!(rt; tags.word_count() == 2 && !tags.has(TagSlot(64)) && tags.has(TagSlot(63)));
 }
 
 // ---- texts
