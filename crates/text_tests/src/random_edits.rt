@@ -127,6 +127,17 @@ fn has_tags<S: TextStore>(stores: &Stores<S>, offset: usize) -> bool {
         && plain.tags_at(offset).words() == other.tags_at(offset).words()
 }
 
+/// Whether the characters on both sides of an offset have the same tags.
+fn has_tags_around<S: TextStore>(stores: &Stores<S>, offset: usize) -> bool {
+    let Stores { plain, other } = stores;
+    if plain.len() <= offset || other.len() <= offset {
+        return false;
+    }
+    let (plain_before, plain_at) = plain.tags_around(offset);
+    let (before, at) = other.tags_around(offset);
+    plain_before.words() == before.words() && plain_at.words() == at.words()
+}
+
 /// Whether the character at an offset is the same, and its line.
 fn has_character<S: TextStore>(stores: &Stores<S>, offset: usize) -> bool {
     let Stores { plain, other } = stores;
@@ -165,6 +176,15 @@ fn has_line<S: TextStore>(stores: &Stores<S>, line: usize) -> bool {
         && plain.line_start(line) == other.line_start(line)
 }
 
+/// Whether a line begins and ends in the same places.
+fn has_bounds<S: TextStore>(stores: &Stores<S>, line: usize) -> bool {
+    let Stores { plain, other } = stores;
+    line < plain.lines()
+        && line < other.lines()
+        && plain.line_bounds(line) == other.line_bounds(line)
+        && plain.line_bounds(line).0 == plain.line_start(line)
+}
+
 /// Whether the texts from an offset on are the same.
 fn has_text<S: TextStore>(stores: &Stores<S>, offset: usize) -> Result<bool, AllocError> {
     let Stores { plain, other } = stores;
@@ -179,6 +199,7 @@ fn check_tags<S: TextStore>(rt: &impl Abort, stores: &Stores<S>) {
     assert!(rt; stores.plain.len() == stores.other.len());
     for offset in 0..stores.plain.len() {
         assert!(rt; has_tags(stores, offset), "at {offset}");
+        assert!(rt; has_tags_around(stores, offset), "at {offset}");
     }
 }
 
@@ -198,6 +219,9 @@ fn check_lines<S: TextStore>(rt: &impl Abort, stores: &Stores<S>) {
     assert!(rt; stores.plain.lines() == stores.other.lines());
     for line in 0..stores.plain.lines().saturating_add(1) {
         assert!(rt; has_line(stores, line), "line {line}");
+    }
+    for line in 0..stores.plain.lines() {
+        assert!(rt; has_bounds(stores, line), "line {line}");
     }
 }
 

@@ -309,6 +309,7 @@ fn has_tag_so<S: TextStore>(
         && offset < store.len()
         && store.has_tag(offset, slot) == is_on
         && store.tags_at(offset).has(slot) == is_on
+        && store.tags_around(offset).1.has(slot) == is_on
         && store.next_change(offset, slot) == end
         && store.previous_change(offset + 1, slot) == start
 }
