@@ -4,14 +4,18 @@
     python3 tools/bench_tree.py --program PATH --shim PATH --out FILE [--repeat 3]
 
 PATH is the program `tree_bench` and the allocator of `tools/weigh.c`. Prints a table and writes it to FILE. Each time
-is the processor's, the least of several runs, less that of a run that does the same without what is timed. A weight is
-the most bytes at once, the allocator's own among them. The exit status is 1 if an aim is missed, if the tree isn't as a
-plain list says after random edits, or if it can't be dropped on a small stack.
+is the processor's, the least of several runs, less that of a run that does the same without what is timed. Beside them
+stand the instructions by callgrind, where valgrind is installed, and what the machine takes for lines in a plain array
+(`tools/floor.c`), which is the least that a line at a random place can cost. A weight is the most bytes at once, the
+allocator's own among them. The exit status is 1 if an aim is missed, if the tree isn't as a plain list says after random
+edits, or if it can't be dropped on a small stack.
 """
 
 import argparse
 import os
+import re
 import resource
+import shutil
 import subprocess
 import sys
 import tempfile
@@ -32,6 +36,11 @@ WORKS = (
     ("found by number, one after the other", "walk", "fill", 10),
 )
 
+# What a line in a plain array costs at least.
+FLOORS = (("a plain array: a look at a line, anywhere", "look"), ("a plain array: a line freed, anywhere", "free"))
+FLOOR = os.path.join(os.path.dirname(os.path.abspath(__file__)), "floor.c")
+COLLECTED = re.compile(r"Collected : (\d+)")
+
 # Which lines stand in memory at most.
 WEIGHTS = (
     ("the tree, put in a thousand in a call", "load", True),
@@ -40,17 +49,18 @@ WEIGHTS = (
 )
 
 
-# Why what is missed is missed, measured once: nothing here is timed again.
+# Why what is missed is missed, beside what is measured above.
 REASONS = """
 What is done at a random place of a million lines waits for memory, and for the table of pages: hardly one of the
-nodes on the way is in a cache. By valgrind's model of 32 KB and 32 MB of cache a line that is taken out misses the
-first 63 times and the second 11 times; it takes 2,500 instructions, and 1,900 where there are 10,000 lines. With
-pages of 2 MB (GLIBC_TUNABLES=glibc.malloc.hugetlb=1, which a program can't ask for itself) the same takes 63 to 82
-percent of the time. (These are counts of a day when a line was looked for from the first child of a node on, and not
-from the nearer end.) At each level some children are asked for their lines, each in a node of its own. One place in
-memory a level would do if a node kept beside each link how many lines that child has; the map of records, which is all
-that is known of the nodes, has each number at the child alone. Two nodes with 12 children in all share them rather
-than be one node, so that edits of one line don't split and merge it by turns.
+nodes on the way is in a cache. That a line at a random place costs no more than half as much again among a million as
+among 10,000 can't be had on such a machine by anything that keeps each line in memory of its own: the last table says
+that already a look at a line of a plain array, or to give its two blocks back, grows by several times as much. The
+instructions, which don't wait, grow as the tree gets higher. With pages of 2 MB
+(GLIBC_TUNABLES=glibc.malloc.hugetlb=1, which a program can't ask for itself) a removal took 63 to 82 percent of its
+time. At each level some children are asked for their lines, each in a node of its own. One place in memory a level
+would do if a node kept beside each link how many lines that child has; the map of records, which is all that is known
+of the nodes, has each number at the child alone. Two nodes with 12 children in all share them rather than be one node,
+so that edits of one line don't split and merge it by turns.
 
 A full node shares with a neighbour before it splits, and the left one is filled where lines come in order: so lines
 that are put in a thousand in a call leave 12 in a node, and lines put in anywhere 9.4 (7 and 8.4 where nodes split
@@ -106,6 +116,46 @@ def times(options):
     return lines, aims
 
 
+def instructions(options, work, count):
+    """The instructions of one run."""
+    words = [options.program, work, str(count), str(LENGTH)]
+    run = subprocess.run(
+        ["valgrind", "--tool=callgrind", f"--callgrind-out-file={os.devnull}", *words],
+        capture_output=True, text=True, check=True,
+    )
+    return int(COLLECTED.search(run.stderr).group(1))
+
+
+def counts(options):
+    """The table of instructions, which the caches of a machine don't change."""
+    if not shutil.which("valgrind"):
+        return ["(no valgrind: instructions aren't counted)"]
+    works = ("lines", "fill", "insert", "remove", "walk")
+    taken = {(work, count): instructions(options, work, count) for work in works for count in COUNTS}
+    head = "".join(f"{count:>12,}" for count in COUNTS)
+    lines = [f"{'instructions a line, of so many':<42}{head}{'growth':>10}"]
+    for name, work, idle, times_done in WORKS:
+        each = [(taken[work, count] - taken[idle, count]) / times_done / count for count in COUNTS]
+        lines.append(f"{name:<42}" + "".join(f"{took:>12.0f}" for took in each) + f"{each[-1] / each[0]:>10.2f}")
+    return lines
+
+
+def floors():
+    """The table of what lines in a plain array cost."""
+    head = "".join(f"{count:>12,}" for count in COUNTS)
+    lines = [f"{'nanoseconds a line, of so many':<42}{head}{'growth':>10}"]
+    with tempfile.TemporaryDirectory() as folder:
+        program = os.path.join(folder, "floor")
+        subprocess.run(["cc", "-O2", "-o", program, FLOOR], check=True)
+        for name, work in FLOORS:
+            each = [
+                float(subprocess.run([program, work, str(count)], capture_output=True, text=True, check=True).stdout)
+                for count in COUNTS
+            ]
+            lines.append(f"{name:<42}" + "".join(f"{took:>12.0f}" for took in each) + f"{each[-1] / each[0]:>10.2f}")
+    return lines
+
+
 def weigh(options, work, count):
     """The most bytes that one run holds at once."""
     with tempfile.TemporaryDirectory() as folder:
@@ -149,7 +199,8 @@ def main():
     took, time_aims = times(options)
     weigh, weight_aims = weights(options)
     aims = time_aims + weight_aims + checks(options)
-    lines = [f"What is done with lines of {LENGTH} characters in the tree of lines.", ""] + took + [""] + weigh + [""]
+    lines = [f"What is done with lines of {LENGTH} characters in the tree of lines.", ""] + took + [""]
+    lines += counts(options) + [""] + floors() + [""] + weigh + [""]
     lines += [("met     " if is_met else "MISSED  ") + words for is_met, words in aims]
     text = "".join(line + "\n" for line in lines) + REASONS
     print(text, end="")
