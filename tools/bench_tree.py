@@ -7,8 +7,8 @@ PATH is the program `tree_bench` and the allocator of `tools/weigh.c`. Prints a 
 is the processor's, the least of several runs, less that of a run that does the same without what is timed. Beside them
 stand the instructions by callgrind, where valgrind is installed, and what the machine takes for lines in a plain array
 (`tools/floor.c`), which is the least that a line at a random place can cost. A weight is the most bytes at once, the
-allocator's own among them. The exit status is 1 if an aim is missed, if the tree isn't as a plain list says after random
-edits, or if it can't be dropped on a small stack.
+allocator's own among them. The exit status is 1 if an aim is missed, if the tree isn't as a plain list says after
+random edits, or if it can't be dropped on a small stack.
 """
 
 import argparse

@@ -1,5 +1,5 @@
-/* What a line of a text costs at least at a random place, whatever keeps it: in a plain array of pointers to lines of two
-   blocks each, a record and 40 bytes of text.
+/* What a line of a text costs at least at a random place, whatever keeps it: in a plain array of pointers to lines of
+   two blocks each, a record and 40 bytes of text.
 
        floor look COUNT        looks at the text of each line once, in a random order
        floor free COUNT        gives the two blocks of each line back, in a random order
