@@ -14,8 +14,8 @@ ghost use Rattle.segments.specs.Entries.{toggled_at, without_span};
 use std::alloc::AllocError;
 use text_model::{SlotWord, TagSet, TagSlot, WORDS};
 
-/// Slots of one word that are toggled at a column. Mostly one slot is, so an entry has room for one word, however many a
-/// set has.
+/// Slots of one word that are toggled at a column. Mostly one slot is, so an entry has room for one word, however many
+/// a set has.
 #[derive(Clone, Copy)]
 pub struct Toggled {
     pub column: usize,
