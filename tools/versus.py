@@ -295,7 +295,7 @@ def workload_row(line):
 
 WORKLOAD_HEAD = [
     "Workload", "Commands", "Tk, M instr.", "`tktext`, M instr.", "part", "Tk, ms", "`tktext`, ms", "part", "A third?",
-    "Most of it",
+    "Mostly",
 ]
 
 
