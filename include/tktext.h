@@ -57,7 +57,7 @@ enum {
 #define TKTEXT_BEHIND 1
 
 /* Makes a world without texts in an empty handle.  The limits, and the greatest of each: characters of a text, its last
-   newline included (1 to 134217728), tags of a text besides `sel` (192), shared marks of a text (4096), widgets (64).
+   newline included (1 to 134217728), tags of a text besides `sel` (960), shared marks of a text (4096), widgets (64).
    TKTEXT_ANSWER, TKTEXT_NO_MEMORY, TKTEXT_WRONG_LIMITS or TKTEXT_WRONG_HANDLE. */
 int32_t tktext_new(tktext *handle, size_t chars, uint16_t tags, uint16_t marks, uint16_t widgets);
 

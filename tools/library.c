@@ -133,11 +133,11 @@ static void check_empty(tktext *world)
 static void check_limits(void)
 {
     tktext world = TKTEXT_EMPTY;
-    check(tktext_new(&world, 0, 192, 4096, 64) == TKTEXT_WRONG_LIMITS, "no characters");
-    check(tktext_new(&world, 134217729, 192, 4096, 64) == TKTEXT_WRONG_LIMITS, "too many characters");
-    check(tktext_new(&world, 134217728, 193, 4096, 64) == TKTEXT_WRONG_LIMITS, "too many tags");
-    check(tktext_new(&world, 134217728, 192, 4097, 64) == TKTEXT_WRONG_LIMITS, "too many marks");
-    check(tktext_new(&world, 134217728, 192, 4096, 65) == TKTEXT_WRONG_LIMITS, "too many widgets");
+    check(tktext_new(&world, 0, 960, 4096, 64) == TKTEXT_WRONG_LIMITS, "no characters");
+    check(tktext_new(&world, 134217729, 960, 4096, 64) == TKTEXT_WRONG_LIMITS, "too many characters");
+    check(tktext_new(&world, 134217728, 961, 4096, 64) == TKTEXT_WRONG_LIMITS, "too many tags");
+    check(tktext_new(&world, 134217728, 960, 4097, 64) == TKTEXT_WRONG_LIMITS, "too many marks");
+    check(tktext_new(&world, 134217728, 960, 4096, 65) == TKTEXT_WRONG_LIMITS, "too many widgets");
     check(!world.full, "wrong limits make no world");
     check(tktext_new(&world, 3, 0, 0, 1) == TKTEXT_ANSWER && world.full, "small limits");
     check(tktext_new(&world, 3, 0, 0, 1) == TKTEXT_WRONG_HANDLE, "a full handle");

@@ -30,7 +30,7 @@ class Limits(NamedTuple):
     """The greatest numbers that a world may hold.  `characters` counts the last newline too."""
 
     characters: int = 134_217_728
-    tags: int = 192
+    tags: int = 960
     marks: int = 4_096
     widgets: int = 64
 

@@ -423,7 +423,7 @@ def broken_list(chance):
 
 def long_list(chance):
     """As many tags as there may be, or nearly, or one more."""
-    return model.list_text(["t%d" % number for number in range(chance.choice([100, 189, 190, 191, 192, 192, 193]))])
+    return model.list_text(["t%d" % number for number in range(chance.choice([100, 957, 958, 959, 960, 960, 961]))])
 
 
 TAG_LISTS = [

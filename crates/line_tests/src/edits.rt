@@ -6,7 +6,7 @@ use std::process::Abort;
 use std::test::Fail;
 use text_model::{Gravity, MarkNo, Place, TagSet, TagSlot};
 
-static SLOTS: [TagSlot; 3] = [TagSlot(0), TagSlot(64), TagSlot(255)];
+static SLOTS: [TagSlot; 3] = [TagSlot(0), TagSlot(64), TagSlot(1023)];
 
 // Characters of one to four bytes.
 static TEXTS: [&str; 5] = ["a", "é", "€x", "𐍈", "bcdef"];
@@ -115,7 +115,7 @@ fn mark_below(plain: &Plain, column: usize) -> Option<usize> {
 }
 
 fn check_slot(rt: &impl Abort, scene: &Scene, column: usize, index: usize, slot: TagSlot)
-    requires { slot.0 < 256 }
+    requires { slot.0 < 1024 }
 {
     assert!(rt; column <= scene.line.len());
     assert!(rt; scene.line.next_toggle(column, slot) == toggle_from(&scene.plain, column, index));

@@ -7,7 +7,7 @@ most_chars = 134217728
 
 -- the greatest number of tags besides `sel`
 abbrev pub most_tags : ℕ
-most_tags = 192
+most_tags = 960
 
 -- the greatest number of marks that widgets share
 abbrev pub most_marks : ℕ

@@ -52,7 +52,7 @@ impl Limits {
     pub const MOST_CHARS: usize = 134_217_728;
 
     /// The greatest number of tags besides `sel`.
-    pub const MOST_TAGS: u16 = 192;
+    pub const MOST_TAGS: u16 = 960;
 
     /// The greatest number of shared marks.
     pub const MOST_MARKS: u16 = 4_096;

@@ -9,7 +9,7 @@ use crate::slot_word::SlotWord;
 use std::marker::Model;
 
 /// How many words of 64 slots a set has.
-pub const WORDS: usize = 4;
+pub const WORDS: usize = 16;
 
 /// A set of tag slots. It takes no memory of its own.
 #[derive(Clone, Copy)]

@@ -12,7 +12,7 @@ use text_model::{Edit, Gravity, MarkNo, Place, PlainStore, StepList, TagSet, Tag
 static TEXTS: [&str; 8] = ["", "a", "\n", "xyz", "é\n", "€b\n𐍈\n", "ü\n\nab\n𐍈", "1\n2"];
 
 /// Slots that a text is put in with.
-static SETS: [&[u16]; 4] = [&[], &[0], &[63, 64], &[0, 63, 64, 255]];
+static SETS: [&[u16]; 4] = [&[], &[0], &[63, 64], &[0, 63, 64, 1023]];
 
 /// Twenty-four lines.
 static LINES: &str = "one\nñandú\n\n€ 4\nfive and six\n\n\n𐍈\n\

@@ -12,7 +12,7 @@ use text_model::{
 };
 
 /// The slots that the tests use: at both ends of the words of a set.
-pub const SLOTS: [u16; 4] = [0, 63, 64, 255];
+pub const SLOTS: [u16; 4] = [0, 63, 64, 1023];
 
 /// How many marks the tests use.
 pub const MARKS: u16 = 5;
@@ -33,7 +33,7 @@ fn has_slots(tags: &TagSet) -> [bool; 4] {
         tags.has(TagSlot(0)),
         tags.has(TagSlot(63)),
         tags.has(TagSlot(64)),
-        tags.has(TagSlot(255)),
+        tags.has(TagSlot(1023)),
     ]
 }
 
@@ -502,7 +502,7 @@ static EACH: [PlainStep; 24] = [
         },
     ),
     PlainStep::Insert(0, "añ\nc", &[]),
-    PlainStep::Insert(4, "de", &[0, 63, 64, 255]),
+    PlainStep::Insert(4, "de", &[0, 63, 64, 1023]),
     PlainStep::Insert(2, "", &[63]),
     PlainStep::PutMark(
         MarkNo(2),
@@ -512,8 +512,8 @@ static EACH: [PlainStep; 24] = [
         },
     ),
     PlainStep::SetTag(0, 7, TagSlot(64), true),
-    PlainStep::SetTag(6, 7, TagSlot(255), true),
-    PlainStep::SetTag(0, 1, TagSlot(255), true),
+    PlainStep::SetTag(6, 7, TagSlot(1023), true),
+    PlainStep::SetTag(0, 1, TagSlot(1023), true),
     PlainStep::SetTag(3, 3, TagSlot(0), true),
     PlainStep::SetTag(1, 5, TagSlot(64), false),
     PlainStep::ClearTags(0),
@@ -538,7 +538,7 @@ static EACH: [PlainStep; 24] = [
 
 /// An edit of all kinds of steps.
 static ALL: [PlainStep; 8] = [
-    PlainStep::Insert(0, "ab\ncd", &[0, 255]),
+    PlainStep::Insert(0, "ab\ncd", &[0, 1023]),
     PlainStep::PutMark(
         MarkNo(3),
         Place {
@@ -549,7 +549,7 @@ static ALL: [PlainStep; 8] = [
     PlainStep::SetTag(1, 6, TagSlot(63), true),
     PlainStep::Remove(2, 4),
     PlainStep::ClearTags(1),
-    PlainStep::ClearSlot(TagSlot(255)),
+    PlainStep::ClearSlot(TagSlot(1023)),
     PlainStep::PutMark(
         MarkNo(1),
         Place {

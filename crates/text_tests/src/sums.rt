@@ -81,13 +81,13 @@ fn sums_exchange_a_part(rt: HostRuntime) {
 #[test]
 fn sets_differ(rt: HostRuntime) {
     let some = TagSet::empty().with(TagSlot(3)).with(TagSlot(64));
-    let other = TagSet::empty().with(TagSlot(3)).with(TagSlot(255));
+    let other = TagSet::empty().with(TagSlot(3)).with(TagSlot(1023));
     let differing = TagSet::of_words(some.words()).differing(&other);
-    assert!(rt; differing.has(TagSlot(64)) && differing.has(TagSlot(255)));
+    assert!(rt; differing.has(TagSlot(64)) && differing.has(TagSlot(1023)));
     assert!(rt; !differing.has(TagSlot(3)));
     let mut turned = some;
     turned.flip(&other);
-    assert!(rt; turned.has(TagSlot(64)) && turned.has(TagSlot(255)) && !turned.is_empty());
+    assert!(rt; turned.has(TagSlot(64)) && turned.has(TagSlot(1023)) && !turned.is_empty());
     turned.flip_words(&differing.words());
     assert!(rt; turned.is_empty());
 }

@@ -64,11 +64,11 @@ fn readers_give_the_numbers(rt: HostRuntime) {
 static KNOWN: [(usize, u16, u16, u16, bool); 7] = [
     (1, 0, 0, 0, true),
     (0, 0, 0, 0, false),
-    (134_217_728, 192, 4_096, 64, true),
-    (134_217_729, 192, 4_096, 64, false),
-    (134_217_728, 193, 4_096, 64, false),
-    (134_217_728, 192, 4_097, 64, false),
-    (134_217_728, 192, 4_096, 65, false),
+    (134_217_728, 960, 4_096, 64, true),
+    (134_217_729, 960, 4_096, 64, false),
+    (134_217_728, 961, 4_096, 64, false),
+    (134_217_728, 960, 4_097, 64, false),
+    (134_217_728, 960, 4_096, 65, false),
 ];
 
 #[test]
@@ -89,7 +89,7 @@ fn has_ends(tags: &TagSet, first: bool, middle: bool, last: bool) -> bool {
     tags.has(TagSlot(0)) == first
         && tags.has(TagSlot(63)) == middle
         && tags.has(TagSlot(64)) == middle
-        && tags.has(TagSlot(255)) == last
+        && tags.has(TagSlot(1023)) == last
 }
 
 fn ends() -> TagSet {
@@ -97,7 +97,7 @@ fn ends() -> TagSet {
         .with(TagSlot(0))
         .with(TagSlot(63))
         .with(TagSlot(64))
-        .with(TagSlot(255))
+        .with(TagSlot(1023))
 }
 
 #[test]
@@ -105,7 +105,7 @@ fn slots_are_put_in(rt: HostRuntime) {
     let none = TagSet::empty();
     let ends = ends();
     for number in 0..TagSet::SLOTS {
-        let is_end = number == 0 || number == 63 || number == 64 || number == 255;
+        let is_end = number == 0 || number == 63 || number == 64 || number == 1023;
         assert!(rt; !none.has(TagSlot(number)), "{number}");
         assert!(rt; ends.has(TagSlot(number)) == is_end, "{number}");
     }
