@@ -232,9 +232,10 @@ impl Line {
     pub fn sum(&self) -> Sums<WORDS>
         ensures { result ≡ line_count self.now }
     {
-        let mut sum = Sums::counting(0, 0, 0);
-        self.add_to(&mut sum);
-        sum
+        match &self.form {
+            Form::Plain(text) => Sums::counting(1, text.len(), 0),
+            Form::Rich(line) => line.sum(),
+        }
     }
 
     /// Adds what is counted of the line to a sum.

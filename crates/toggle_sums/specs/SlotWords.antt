@@ -16,6 +16,12 @@ last_used zero first second = 0
 last_used (suc n) first second =
     if slice_index first n == 0 && slice_index second n == 0 then last_used n first second else suc n
 
+-- two lists of so many words, of which so many are used
+pub record AreUsed (count last : ℕ) (first second : List ℕ) : Type 0 where
+  pub parity : AreWords count first
+  pub presence : AreWords count second
+  pub used : last ≡ last_used count first second
+
 -- the slots whose bits are set
 abbrev pub slots_of : ℕ → List ℕ → Slots
 slots_of count words = slots_below (64 * count) words

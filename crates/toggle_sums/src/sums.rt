@@ -2,11 +2,10 @@ ghost use Rattle.std.specs.Prelude.{◌≡◌, ◌+◌, ◌*◌, ◌^◌, ◌<�
 ghost use Rattle.std.specs.Prelude.{true};
 ghost use Rattle.std.specs.FinSet as set;
 ghost use Rattle.text_model.specs.SlotSets.{differing};
+ghost use Rattle.text_model.specs.TagBits.{EndBy};
 ghost use Rattle.toggle_sums.specs.Counts.{CanExchange, CountsFit, HaveSameToggles, IsBare, IsWithin, counting, less};
 ghost use Rattle.toggle_sums.specs.Counts.{plus, toggled};
 ghost use Rattle.toggle_sums.specs.Counts.{HasCounts, exchanged, with_toggles, without};
-
-ghost use Rattle.text_model.specs.TagBits.{EndBy};
 ghost use Rattle.toggle_sums.specs.SlotWords.{last_used};
 
 use crate::exchange::Exchange;
@@ -29,7 +28,7 @@ pub struct Sums<const K: usize> {
 
 impl<const K: usize> Model for Sums<K> {
     ghost use Rattle.toggle_sums.specs.Counts.{Count, count_code};
-    ghost use Rattle.toggle_sums.specs.SlotWords.{AreWords, last_used, slots_of, words_of};
+    ghost use Rattle.toggle_sums.specs.SlotWords.{AreUsed, last_used, slots_of, words_of};
     ghost use Rattle.toggle_sums.specs.SlotWordLaws.{used_of-slots_of, words_of-slots_of};
 
     ghost Value = { Count };
@@ -44,7 +43,7 @@ impl<const K: usize> Model for Sums<K> {
       presence = slots_of K a.presence;
     } };
 
-    ghost invariant = { λ a. AreWords K a.parity × AreWords K a.presence × (a.used ≡ last_used K a.parity a.presence) };
+    ghost invariant = { λ a. AreUsed K a.used a.parity a.presence };
 
     ghost inverse = { λ s. record {
       lines = s.lines;
@@ -59,9 +58,9 @@ impl<const K: usize> Model for Sums<K> {
       lines = a.lines;
       characters = a.characters;
       marks = a.marks;
-      used = used_of-slots_of K a.parity a.presence are.0 are.1.0 a.used are.1.1 i;
-      parity = words_of-slots_of K a.parity are.0 i;
-      presence = words_of-slots_of K a.presence are.1.0 i;
+      used = used_of-slots_of K a.used a.parity a.presence are i;
+      parity = words_of-slots_of K a.parity are.parity i;
+      presence = words_of-slots_of K a.presence are.presence i;
     } };
 }
 
@@ -180,7 +179,10 @@ impl<const K: usize> Sums<K> {
         ensures yes { result ≡ true → HaveSameToggles self.now other.now }
         ensures no { HaveSameToggles self.now other.now → result ≡ true }
     {
-        self.used == other.used && self.parity == other.parity && self.presence == other.presence
+        if self.used != other.used {
+            return false;
+        }
+        self.parity == other.parity && self.presence == other.presence
     }
 
     /// Counts so many lines, characters and marks more. The toggles aren't touched.
