@@ -56,15 +56,21 @@ fn sums_lose_a_part(rt: HostRuntime) {
     assert!(rt; rest.has(TagSlot(64)) && !rest.parity(TagSlot(64)));
 }
 
+fn exchange_of(gone: &Sums<WORDS>, more: &Sums<WORDS>) -> Exchange {
+    let mut exchange = Exchange::none();
+    exchange.set(gone, more);
+    exchange
+}
+
 #[test]
 fn sums_exchange_a_part(rt: HostRuntime) {
     let tagged: Sums<WORDS> = Sums::counting(1, 5, 0).toggled(TagSlot(64));
     let longer = Sums::counting(1, 8, 1).toggled(TagSlot(64));
     let bare = Sums::counting(1, 5, 0);
     assert!(rt; tagged.has_toggles_of(&longer) && !tagged.has_toggles_of(&bare));
-    let level = Exchange::of(tagged, longer);
-    let within = Exchange::of(bare, tagged);
-    let outside = Exchange::of(tagged, bare);
+    let level = exchange_of(&tagged, &longer);
+    let within = exchange_of(&bare, &tagged);
+    let outside = exchange_of(&tagged, &bare);
     assert!(rt; level.is_level && level.is_within && within.is_within && !within.is_level);
     assert!(rt; !outside.is_within && !outside.is_level);
     let none = Exchange::none();
@@ -88,6 +94,6 @@ fn sets_differ(rt: HostRuntime) {
     let mut turned = some;
     turned.flip(&other);
     assert!(rt; turned.has(TagSlot(64)) && turned.has(TagSlot(1023)) && !turned.is_empty());
-    turned.flip_words(&differing.words());
+    turned.flip_words(&differing.words(), WORDS);
     assert!(rt; turned.is_empty());
 }
