@@ -53,13 +53,10 @@ fn add_line(sum: &mut Sums<WORDS>, line: &Line) -> Result<(), AllocError>
     ensures sum { OnOk result (sum.new ≡ plus sum.old (line_count line.now)) }
     ensures counted { OnOk result (IsCounted sum.new) }
 {
-    let more = line.sum();
-    sum.lines().checked_add(more.lines()).ok_or(AllocError)?;
-    sum.characters()
-        .checked_add(more.characters())
-        .ok_or(AllocError)?;
-    sum.marks().checked_add(more.marks()).ok_or(AllocError)?;
-    sum.add(&more);
+    sum.lines().checked_add(1).ok_or(AllocError)?;
+    sum.characters().checked_add(line.len()).ok_or(AllocError)?;
+    sum.marks().checked_add(line.marks()).ok_or(AllocError)?;
+    line.add_to(sum);
     Ok(())
 }
 

@@ -49,11 +49,11 @@ pub fn insert_behind<C: Ticks>(
         return false;
     }
     shift(store, node, slot, added.line, ticks);
-    add(store, node, &added.more, ticks);
+    add(store, node, &added.more);
     let mut at = node;
     for level in 1..height {
         at = store.parent(at, ticks).unwrap();
-        add(store, at, &added.more, ticks);
+        add(store, at, &added.more);
     }
     true
 }

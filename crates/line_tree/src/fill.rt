@@ -75,9 +75,8 @@ pub fn resum<C: Ticks>(store: &mut NodeStore<C>, node: NodePtr, ticks: &mut C)
     store.set_sum(node, sum);
 }
 
-/// Makes a node's sum that of its children, below which stands so much more than before. Where no slot is toggled in
-/// that, only the counts change.
-pub fn add<C: Ticks>(store: &mut NodeStore<C>, node: NodePtr, more: &Sums<WORDS>, ticks: &mut C)
+/// Makes a node's sum that of its children, below which stands so much more than before.
+pub fn add<C: Ticks>(store: &mut NodeStore<C>, node: NodePtr, more: &Sums<WORDS>)
     requires row { HasRow (records store.old) node }
     requires sum { plus (sum_at (records store.old) node) more.now
         ≡ sums (records store.old) (row (kids (records store.old) node)) }
@@ -86,12 +85,7 @@ pub fn add<C: Ticks>(store: &mut NodeStore<C>, node: NodePtr, more: &Sums<WORDS>
     ensures spares { spares store.new ≡ spares store.old }
     ensures rooms { rooms store.new ≡ rooms store.old }
 {
-    if more.is_bare() {
-        store.add_counts(node, more.lines(), more.characters(), more.marks());
-    } else {
-        let sum = store.sum(node, ticks);
-        store.set_sum(node, sum.plus(more));
-    }
+    store.add_sum(node, more);
 }
 
 /// Makes a node's sum that of its children, below which stands so much less than before. Which slots are toggled is
@@ -320,7 +314,7 @@ pub fn put<C: Ticks>(
 {
     if store.child(node, 11, ticks).is_none() {
         shift(store, node, at, extra, ticks);
-        add(store, node, more, ticks);
+        add(store, node, more);
         None
     } else {
         let old = store.sum(node, ticks);

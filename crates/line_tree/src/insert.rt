@@ -104,7 +104,7 @@ pub fn insert_in<C: Ticks>(
     match insert_in(store, found.child, height - 1, found.rest, added, ticks) {
         Some(sibling) => put(store, node, found.slot + 1, sibling, &added.more, ticks),
         None => {
-            add(store, node, &added.more, ticks);
+            add(store, node, &added.more);
             None
         }
     }

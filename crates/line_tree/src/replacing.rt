@@ -24,10 +24,15 @@ pub struct LineBelow {
     pub k: usize,
 }
 
-/// Puts a line in the place of another, under its name.
-fn put_over<C: Ticks>(store: &mut NodeStore<C>, name: NodePtr, line: Line) -> Exchange
+/// Puts a line in the place of another, under its name, and says what went and what came.
+fn put_over<C: Ticks>(
+    store: &mut NodeStore<C>,
+    name: NodePtr,
+    line: Line,
+    exchange: &mut Exchange,
+)
     requires line { IsTree (records store.old) 0 name }
-    ensures puts { PutsOver (records store.old) (records store.new) name line result.gone result.more }
+    ensures puts { PutsOver (records store.old) (records store.new) name line exchange.new.gone exchange.new.more }
     ensures spares { spares store.new ≡ spares store.old }
     ensures rooms { rooms store.new ≡ rooms store.old }
 {
@@ -35,7 +40,7 @@ fn put_over<C: Ticks>(store: &mut NodeStore<C>, name: NodePtr, line: Line) -> Ex
     let place = store.line_mut(name).unwrap();
     let gone = place.sum();
     *place = line;
-    Exchange::of(gone, more)
+    exchange.set(&gone, &more);
 }
 
 /// Makes a node's sum that of its children, in which one line's counts came for another's. Which slots are toggled is
@@ -82,7 +87,7 @@ pub fn replace_in<C: Ticks>(
     ensures rooms { rooms store.new ≡ rooms store.old }
 {
     if at.height == 0 {
-        *exchange = put_over(store, at.node, line);
+        put_over(store, at.node, line, exchange);
         return;
     }
     let lines = store.lines(at.node, ticks);

@@ -92,7 +92,7 @@ fn counts_below(rt: HostRuntime) -> Result<(), Fail> {
     store.reserve(1)?;
     let top = store.make(None);
     store.set_sum(top, Sums::counting(2, 9, 1));
-    store.add_counts(top, 1, 4, 0);
+    store.add_sum(top, &Sums::counting(1, 4, 0));
     store.lose_counts(top, 2, 9, 1);
     assert!(rt; store.size(top, &mut Steps::new()) == (1, 4));
     Ok(())
@@ -104,7 +104,8 @@ fn sums_exchanged(rt: HostRuntime) -> Result<(), Fail> {
     store.reserve(1)?;
     let top = store.make(None);
     store.set_sum(top, Sums::counting(2, 9, 1));
-    let exchange = Exchange::of(Sums::counting(1, 4, 0), Sums::counting(2, 6, 0));
+    let mut exchange = Exchange::none();
+    exchange.set(&Sums::counting(1, 4, 0), &Sums::counting(2, 6, 0));
     store.exchange(top, &exchange);
     assert!(rt; store.size(top, &mut Steps::new()) == (3, 11));
     Ok(())

@@ -47,15 +47,14 @@ impl Branch {
         self.room.sum = sum;
     }
 
-    /// The room's sum counts so much more. Its toggles aren't touched.
-    pub fn add_counts(&mut self, lines: usize, characters: usize, marks: usize)
-        requires { CountsFit self.old.room.value.sum (counting lines characters marks) }
-        ensures { self.new.room.value ≡ with_room_sum self.old.room.value
-            (plus self.old.room.value.sum (counting lines characters marks)) }
+    /// The room's sum counts so much more.
+    pub fn add_sum(&mut self, more: &Sums<WORDS>)
+        requires { CountsFit self.old.room.value.sum more.now }
+        ensures { self.new.room.value ≡ with_room_sum self.old.room.value (plus self.old.room.value.sum more.now) }
     {
-        self.lines += lines;
-        self.characters += characters;
-        self.room.sum.add_counts(lines, characters, marks);
+        self.room.sum.add(more);
+        self.lines = self.room.sum.lines();
+        self.characters = self.room.sum.characters();
     }
 
     /// The room's sum counts so much less. Its toggles aren't touched.

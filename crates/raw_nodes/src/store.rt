@@ -182,7 +182,7 @@ impl<C: Ticks> NodeStore<C> {
     {
         ticks.tick();
         match &self.heap.node(name).held {
-            Held::Line(line) => sum.add(&line.sum()),
+            Held::Line(line) => line.add_to(sum),
             Held::Inner(branch) => sum.add(&branch.room.sum),
             Held::Spare => {}
         }
@@ -270,17 +270,16 @@ impl<C: Ticks> NodeStore<C> {
         self.heap.node_mut(name).held.branch_mut().set_sum(sum);
     }
 
-    /// Counts so many lines, characters and marks more of the text below an inner node.
-    pub fn add_counts(&mut self, name: NodePtr, lines: usize, characters: usize, marks: usize)
+    /// Counts so much more of the text below an inner node.
+    pub fn add_sum(&mut self, name: NodePtr, more: &Sums<WORDS>)
         requires name { IsInner self.old name }
-        requires fits { IfSome (entry self.old name) (λ r. CountsFit r.sum (counting lines characters marks)) }
-        ensures records { records self.new ≡ update (records self.old) name
-            (λ r. with_sum r (plus r.sum (counting lines characters marks))) }
+        requires fits { IfSome (entry self.old name) (λ r. CountsFit r.sum more.now) }
+        ensures records { records self.new ≡ update (records self.old) name (λ r. with_sum r (plus r.sum more.now)) }
         ensures spares { spares self.new ≡ spares self.old }
         ensures rooms { rooms self.new ≡ rooms self.old }
     {
         let branch = self.heap.node_mut(name).held.branch_mut();
-        branch.add_counts(lines, characters, marks);
+        branch.add_sum(more);
     }
 
     /// Counts so many lines, characters and marks less of the text below an inner node.

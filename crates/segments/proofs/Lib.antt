@@ -11,5 +11,6 @@ pub mod PartLaws
 pub mod PlainLaws
 pub mod PreviousLaws
 pub mod SpanLaws
+pub mod SumLaws
 pub mod TextLaws
 pub mod ToggleLaws

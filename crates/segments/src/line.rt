@@ -11,6 +11,7 @@ ghost use Rattle.text_model.specs.TagBits.{slot_count};
 ghost use Rattle.segments.specs.Columns.{after_removal, after_text, characters, joined, line_before, line_behind};
 ghost use Rattle.segments.specs.Columns.{line_count, next_toggle, plain_line, previous_toggle, tags_before};
 ghost use Rattle.segments.specs.Columns.{toggled_more, toggles, with_toggle};
+ghost use Rattle.toggle_sums.specs.Counts.{CountsFit, plus};
 ghost use Rattle.toggle_sums.specs.Toggles.{parity};
 
 use crate::characters::Characters;
@@ -117,7 +118,7 @@ impl Line {
     {
         match &self.form {
             Form::Plain(_) => 0,
-            Form::Rich(line) => line.sum().marks(),
+            Form::Rich(line) => line.marks(),
         }
     }
 
@@ -128,7 +129,7 @@ impl Line {
     {
         match &self.form {
             Form::Plain(_) => false,
-            Form::Rich(line) => line.sum().has(slot),
+            Form::Rich(line) => line.has_toggle(slot),
         }
     }
 
@@ -234,6 +235,17 @@ impl Line {
         match &self.form {
             Form::Plain(text) => Sums::counting(1, text.len(), 0),
             Form::Rich(line) => line.sum(),
+        }
+    }
+
+    /// Adds what is counted of the line to a sum.
+    pub fn add_to(&self, sum: &mut Sums<WORDS>)
+        requires { CountsFit sum.old (line_count self.now) }
+        ensures { sum.new ≡ plus sum.old (line_count self.now) }
+    {
+        match &self.form {
+            Form::Plain(text) => sum.add_counts(1, text.len(), 0),
+            Form::Rich(line) => line.add_to(sum),
         }
     }
 

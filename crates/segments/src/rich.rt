@@ -2,6 +2,7 @@ ghost use Rattle.std.specs.Prelude.{◌≡◌, ℕ, ◌+◌, ◌++◌, ◌<◌, 
 ghost use Rattle.std.specs.Prelude.{slice_range, Some, IfSome, IfOk, IfErr, OnOk, OnErr, chars, string_bytes};
 ghost use Rattle.std.specs.Prelude.{option_map};
 ghost use Rattle.std.specs.FinMap as finite;
+ghost use Rattle.std.specs.FinSet as set;
 ghost use Rattle.text_model.specs.declared.places.MarkNo.{MarkNo};
 ghost use Rattle.text_model.specs.MarkOrder.{marks_at, next_mark, previous_mark};
 ghost use Rattle.text_model.specs.SlotSets.{differing};
@@ -10,6 +11,7 @@ ghost use Rattle.text_model.specs.TagBits.{slot_count};
 ghost use Rattle.segments.specs.Columns.{after_removal, after_text, characters, joined, line_before, line_behind};
 ghost use Rattle.segments.specs.Columns.{line_count, next_toggle, plain_line, previous_toggle, tags_before};
 ghost use Rattle.segments.specs.Columns.{toggled_more, toggles, with_toggle};
+ghost use Rattle.toggle_sums.specs.Counts.{CountsFit, plus, with_toggles_of};
 ghost use Rattle.toggle_sums.specs.Toggles.{parity};
 
 use crate::characters::Characters;
@@ -204,15 +206,51 @@ impl RichLine {
         mark_at(&self.marks, column, index)
     }
 
+    /// How many marks there are.
+    pub fn marks(&self) -> usize
+        ensures { result ≡ (line_count self.now).marks }
+    {
+        self.marks.len()
+    }
+
+    /// Whether a slot is toggled before one of the characters.
+    pub fn has_toggle(&self, slot: TagSlot) -> bool
+        requires { slot.0 < slot_count }
+        ensures { result ≡ set.contains (line_count self.now).presence slot.0 }
+    {
+        for entry in &self.toggles {
+            if entry.slots.has(slot) {
+                return true;
+            }
+        }
+        false
+    }
+
+    /// Adds the toggles of the line to a sum.
+    fn add_toggles(&self, sum: &mut Sums<WORDS>)
+        ensures { sum.new ≡ with_toggles_of (line_count self.now) sum.old }
+    {
+        for entry in &self.toggles {
+            sum.add_word(&entry.slots);
+        }
+    }
+
     /// What is counted of the line.
     pub fn sum(&self) -> Sums<WORDS>
         ensures { result ≡ line_count self.now }
     {
-        let mut sums = Sums::counting(1, self.text.len(), self.marks.len());
-        for entry in &self.toggles {
-            sums.add_word(&entry.slots);
-        }
-        sums
+        let mut sum = Sums::counting(1, self.text.len(), self.marks.len());
+        self.add_toggles(&mut sum);
+        sum
+    }
+
+    /// Adds what is counted of the line to a sum.
+    pub fn add_to(&self, sum: &mut Sums<WORDS>)
+        requires { CountsFit sum.old (line_count self.now) }
+        ensures { sum.new ≡ plus sum.old (line_count self.now) }
+    {
+        sum.add_counts(1, self.text.len(), self.marks.len());
+        self.add_toggles(sum);
     }
 
     /// The characters from one column to another.

@@ -1,6 +1,6 @@
 -- A set of slots as the bits of words of 64 bits: slot k is bit k % 64 of word k / 64.
-use Rattle.std.specs.Prelude.{◌≡◌, ℕ, zero, suc, ◌+◌, ◌*◌, ◌/◌, ◌%◌, ◌^◌, ◌<◌, Bool, cond, ◌==◌, List, map, length}
-use Rattle.std.specs.Prelude.{slice_index}
+use Rattle.std.specs.Prelude.{◌≡◌, ℕ, zero, suc, ◌+◌, ◌*◌, ◌/◌, ◌%◌, ◌^◌, ◌<◌, ◌≤◌, Bool, cond, ◌==◌, List, map}
+use Rattle.std.specs.Prelude.{length, slice_index}
 use Rattle.std.specs.FinSet as set
 use Rattle.std.specs.Int.{bit_at}
 use Rattle.std.specs.List.{range_with_len}
@@ -15,6 +15,10 @@ slot_count = 64 * WORDS
 pub record AreWords (words : List ℕ) : Type 0 where
   pub count : length words ≡ WORDS
   pub each : (i : ℕ) → i < WORDS → slice_index words i < 2 ^ 64
+
+-- no bit is set from a word on
+abbrev pub EndBy : ℕ → List ℕ → Type 0
+EndBy used words = (k : ℕ) → used ≤ k → slice_index words k ≡ 0
 
 -- whether the bit of slot k is set
 abbrev pub has_bit : List ℕ → ℕ → Bool

@@ -1,8 +1,8 @@
-ghost use Rattle.std.specs.Prelude.{◌≡◌, ◌<◌, bit_xor, slice_index, true};
+ghost use Rattle.std.specs.Prelude.{◌≡◌, ◌<◌, ◌≤◌, bit_xor, slice_index, true};
 ghost use Rattle.std.specs.FinSet as set;
 ghost use Rattle.text_model.specs.OneWord.{AreSlots, IsOneWord, in_word, word_count};
 ghost use Rattle.text_model.specs.SlotSets.{differing};
-ghost use Rattle.text_model.specs.TagBits.{slot_count, slots_of};
+ghost use Rattle.text_model.specs.TagBits.{EndBy, slot_count, slots_of};
 
 use crate::places::TagSlot;
 use crate::slot_word::SlotWord;
@@ -38,12 +38,14 @@ impl Model for TagSet {
     ghost inverse_ok = { λ a are. ap (λ words. record { words = words }) (words_of-slots_of a.words are) };
 }
 
-/// Turns the bits that are set in other words.
-fn turn(words: &mut [u64; WORDS], others: &[u64; WORDS])
+/// Turns the bits that are set in other words, where none is set from word `used` on.
+fn turn(words: &mut [u64; WORDS], others: &[u64; WORDS], used: usize)
+    requires used { used ≤ WORDS }
+    requires rest { EndBy used others.now }
     ensures { (k : _) → k < WORDS → slice_index words.new k
         ≡ bit_xor (slice_index words.old k) (slice_index others.now k) }
 {
-    for index in 0..WORDS {
+    for index in 0..used {
         words[index] ^= others[index];
     }
 }
@@ -118,7 +120,7 @@ impl TagSet {
         ensures { result ≡ differing self.now other.now }
     {
         let mut words = self.words;
-        turn(&mut words, &other.words);
+        turn(&mut words, &other.words, WORDS);
         TagSet { words }
     }
 
@@ -126,14 +128,16 @@ impl TagSet {
     pub fn flip(&mut self, other: &TagSet)
         ensures { self.new ≡ differing self.old other.now }
     {
-        turn(&mut self.words, &other.words);
+        turn(&mut self.words, &other.words, WORDS);
     }
 
-    /// The same by words whose bits are the slots.
-    pub fn flip_words(&mut self, words: &[u64; WORDS])
+    /// The same by words whose bits are the slots, where none is set from word `used` on.
+    pub fn flip_words(&mut self, words: &[u64; WORDS], used: usize)
+        requires used { used ≤ WORDS }
+        requires rest { EndBy used words.now }
         ensures { self.new ≡ differing self.old (slots_of words.now) }
     {
-        turn(&mut self.words, words);
+        turn(&mut self.words, words, used);
     }
 
     /// The slots of the set that are in one word.

@@ -1,3 +1,4 @@
 pub mod ExchangeLaws
 pub mod ToggleLaws
+pub mod UsedLaws
 pub mod WordSteps

@@ -3,7 +3,7 @@ use Rattle.std.proofs.Common.{◌≡◌, ◌≢◌, ℕ, zero, suc, ◌+◌, ◌
 use Rattle.std.proofs.Common.{◌||◌, not, cond, nat_lt, nat_eq, ◌==◌, List, length, replicate, slice_index, slice_set}
 use Rattle.std.proofs.Common.{bit_and, bit_or, bit_xor, refl, sym, ap, ap₂, ◌∙◌, arith, w64, inl, inr, lt-ltb}
 use Rattle.std.proofs.Common.{mod-eq_of_lt, length-set, get_or-set_same, get_or-set_other}
-use Rattle.std.proofs.lemmas.Bool.{cases_eq}
+use Rattle.std.proofs.lemmas.Bool.{cases_eq, cases_lt}
 use Rattle.std.proofs.lemmas.Bool.Decides.{nat_tests}
 use Rattle.std.proofs.lemmas.List.{length-replicate}
 use Rattle.std.proofs.lemmas.Nat.{or_lt, xor_lt}
@@ -18,7 +18,7 @@ use Rattle.std.specs.Int.Bits.{or_zero_r}
 use Rattle.text_model.specs.OneWord.{alone}
 use Rattle.text_model.specs.OneWordLaws.{alone-other, alone-same}
 use Rattle.text_model.specs.SlotSets.{differing}
-use Rattle.text_model.specs.TagBits.{has_bit}
+use Rattle.text_model.specs.TagBits.{EndBy, has_bit}
 use Rattle.text_model.specs.TagBitLaws.{contains_inserted, contains-slots_below}
 use Rattle.text_model.specs.declared.tag_set.TheConstants.{WORDS}
 use Rattle.text_model.proofs.TagSteps.{has_bit-with_word, with_word}
@@ -27,7 +27,7 @@ use Rattle.toggle_sums.specs.SlotWords.{AreWords, slots_of, words_of}
 use Rattle.toggle_sums.specs.SlotWordLaws.{words_of-slots_of}
 
 -- ---- zeros
-zeros_at : (count i : ℕ) → slice_index (replicate count 0) i ≡ 0
+pub zeros_at : (count i : ℕ) → slice_index (replicate count 0) i ≡ 0
 zeros_at zero i = refl
 zeros_at (suc count) zero = refl
 zeros_at (suc count) (suc i) = zeros_at count i
@@ -42,14 +42,17 @@ not_one : (x : ℕ) (b : Bool) → x ≡ 0 → (b && (x == 1)) ≡ false
 not_one x true e = grind (arith, nat_tests)
 not_one x false e = refl
 
-pub slots_of-zeros : (count : ℕ) → slots_of count (replicate count 0) ≡ set.empty
-slots_of-zeros count =
-    let zeros = replicate count 0 in
+-- words without bits have no slots
+pub slots_of-none : (count : ℕ) (words : List ℕ) → EndBy 0 words → slots_of count words ≡ set.empty
+slots_of-none count words none =
     same_slots _ _ (λ q.
-    contains-slots_below (64 * count) zeros q
-    ∙ not_one (bit_at (slice_index zeros (q / 64)) (q % 64)) (nat_lt q (64 * count))
-    (ap (λ w. bit_at w (q % 64)) (zeros_at count (q / 64)) ∙ bit_at-zero (q % 64))
+    contains-slots_below (64 * count) words q
+    ∙ not_one (bit_at (slice_index words (q / 64)) (q % 64)) (nat_lt q (64 * count))
+    (ap (λ w. bit_at w (q % 64)) (none (q / 64) (omega arith)) ∙ bit_at-zero (q % 64))
     ∙ sym (set.contains-empty nat_cmp q))
+
+pub slots_of-zeros : (count : ℕ) → slots_of count (replicate count 0) ≡ set.empty
+slots_of-zeros count = slots_of-none count (replicate count 0) (λ k _. zeros_at count k)
 
 -- the test `(word >> i) & 1` finds the slot
 pub found_bit : (count : ℕ) (words : List ℕ) (k : ℕ) → k < 64 * count →
@@ -79,6 +82,17 @@ SoFar-more f first second words count index within so_far =
       ];
       rest = λ k above. rw (get_or-set_other words index k new 0 (omega arith)) (so_far.rest k (omega arith));
     }
+
+-- where the others end, nothing is left to do
+pub SoFar-all : (f : ℕ → ℕ → ℕ) → ((x : ℕ) → f x 0 ≡ x) → (first second words : List ℕ) (count index used : ℕ) →
+    EndBy used second → used ≤ index → SoFar f first second words count index →
+    (k : ℕ) → slice_index words k ≡ f (slice_index first k) (slice_index second k)
+SoFar-all f none first second words count index used ends done so_far k =
+    elim (cases_lt k index) [
+      | inl below ↦ so_far.seen k below
+      | inr past ↦ so_far.rest k past ∙ sym (ap (f (slice_index first k)) (ends k (omega arith))
+          ∙ none (slice_index first k))
+    ]
 
 in_reach : (n q : ℕ) (a b : Bool) → (q < n → a ≡ b) → (nat_lt q n && a) ≡ (nat_lt q n && b)
 in_reach n q a b same = grind (arith, nat_tests)

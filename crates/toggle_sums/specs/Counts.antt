@@ -113,6 +113,13 @@ toggled slot count = record count {
   presence = set.insert count.presence slot;
 }
 
+-- the toggles of more lines, and nothing else of theirs
+abbrev pub with_toggles_of : Count → Count → Count
+with_toggles_of more count = record count {
+  parity = differing count.parity more.parity;
+  presence = set.union count.presence more.presence;
+}
+
 -- one toggle more of each slot of a set
 abbrev pub with_toggles : Slots → Count → Count
 with_toggles slots count = record count {

@@ -10,7 +10,7 @@ use Rattle.std.specs.Int.{bit_at}
 use Rattle.std.specs.Ordering.{nat_cmp}
 use Rattle.text_model.specs.TagBits.{has_bit, word_below}
 use Rattle.text_model.specs.TagBitLaws.{contains-slots_below}
-use Rattle.toggle_sums.specs.SlotWords.{AreWords, slots_of, words_of}
+use Rattle.toggle_sums.specs.SlotWords.{AreUsed, AreWords, last_used, slots_of, words_of}
 
 as_digit : (b : Bool) (t : ℕ) → t < 2 → b ≡ (t == 1) → cond b 1 0 ≡ t
 as_digit true t small is = grind (arith, nat_tests)
@@ -49,3 +49,10 @@ pub words_of-slots_of : (count : ℕ) (words : List ℕ) → AreWords count word
 words_of-slots_of count words are =
     sym (fill_by_all (λ i. word_below 64 (slots_of count words) (64 * i)) words count 0 are.long (λ i small.
     sym (word_of_slots count words are i small)))
+
+-- and how many of them are used
+pub used_of-slots_of : (count used : ℕ) (first second : List ℕ) → AreUsed count used first second →
+    last_used count (words_of count (slots_of count first)) (words_of count (slots_of count second)) ≡ used
+used_of-slots_of count used first second are =
+    ap₂ (last_used count) (words_of-slots_of count first are.parity) (words_of-slots_of count second are.presence)
+    ∙ sym are.used

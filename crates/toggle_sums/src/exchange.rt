@@ -34,18 +34,16 @@ impl Exchange {
     }
 
     /// These go, and those come.
-    pub fn of(gone: Sums<WORDS>, more: Sums<WORDS>) -> Exchange
-        ensures gone { result.gone ≡ gone }
-        ensures more { result.more ≡ more }
-        ensures level { HaveSameToggles gone more → result.is_level ≡ true }
-        ensures within { IsWithin gone more → result.is_within ≡ true }
+    // In place, since a sum takes much room.
+    pub fn set(&mut self, gone: &Sums<WORDS>, more: &Sums<WORDS>)
+        ensures gone { self.new.gone ≡ gone.now }
+        ensures more { self.new.more ≡ more.now }
+        ensures level { HaveSameToggles gone.now more.now → self.new.is_level ≡ true }
+        ensures within { IsWithin gone.now more.now → self.new.is_within ≡ true }
     {
-        let is_level = gone.has_toggles_of(&more);
-        Exchange {
-            gone,
-            more,
-            is_level,
-            is_within: is_level || gone.is_within(&more),
-        }
+        self.gone = *gone;
+        self.more = *more;
+        self.is_level = gone.has_toggles_of(more);
+        self.is_within = self.is_level || gone.is_within(more);
     }
 }

@@ -2,9 +2,11 @@ ghost use Rattle.std.specs.Prelude.{◌≡◌, ◌+◌, ◌*◌, ◌^◌, ◌<�
 ghost use Rattle.std.specs.Prelude.{true};
 ghost use Rattle.std.specs.FinSet as set;
 ghost use Rattle.text_model.specs.SlotSets.{differing};
+ghost use Rattle.text_model.specs.TagBits.{EndBy};
 ghost use Rattle.toggle_sums.specs.Counts.{CanExchange, CountsFit, HaveSameToggles, IsBare, IsWithin, counting, less};
 ghost use Rattle.toggle_sums.specs.Counts.{plus, toggled};
 ghost use Rattle.toggle_sums.specs.Counts.{HasCounts, exchanged, with_toggles, without};
+ghost use Rattle.toggle_sums.specs.SlotWords.{last_used};
 
 use crate::exchange::Exchange;
 use crate::summary::Summary;
@@ -18,14 +20,16 @@ pub struct Sums<const K: usize> {
     lines: usize,
     characters: usize,
     marks: usize,
+    /// How many words there are up to the last one in which a bit is set.
+    used: usize,
     parity: [u64; K],
     presence: [u64; K],
 }
 
 impl<const K: usize> Model for Sums<K> {
     ghost use Rattle.toggle_sums.specs.Counts.{Count, count_code};
-    ghost use Rattle.toggle_sums.specs.SlotWords.{AreWords, slots_of, words_of};
-    ghost use Rattle.toggle_sums.specs.SlotWordLaws.{words_of-slots_of};
+    ghost use Rattle.toggle_sums.specs.SlotWords.{AreUsed, last_used, slots_of, words_of};
+    ghost use Rattle.toggle_sums.specs.SlotWordLaws.{used_of-slots_of, words_of-slots_of};
 
     ghost Value = { Count };
 
@@ -39,12 +43,13 @@ impl<const K: usize> Model for Sums<K> {
       presence = slots_of K a.presence;
     } };
 
-    ghost invariant = { λ a. AreWords K a.parity × AreWords K a.presence };
+    ghost invariant = { λ a. AreUsed K a.used a.parity a.presence };
 
     ghost inverse = { λ s. record {
       lines = s.lines;
       characters = s.characters;
       marks = s.marks;
+      used = last_used K (words_of K s.parity) (words_of K s.presence);
       parity = words_of K s.parity;
       presence = words_of K s.presence;
     } };
@@ -53,29 +58,48 @@ impl<const K: usize> Model for Sums<K> {
       lines = a.lines;
       characters = a.characters;
       marks = a.marks;
-      parity = words_of-slots_of K a.parity are.0 i;
-      presence = words_of-slots_of K a.presence are.1 i;
+      used = used_of-slots_of K a.used a.parity a.presence are i;
+      parity = words_of-slots_of K a.parity are.parity i;
+      presence = words_of-slots_of K a.presence are.presence i;
     } };
 }
 
-/// Turns the bits that are set in other words.
-fn turn_words<const K: usize>(words: &mut [u64; K], others: &[u64; K])
+/// How many words there are up to the last one in which a bit of either list is set, where none is from `most` on.
+fn used_words<const K: usize>(parity: &[u64; K], presence: &[u64; K], most: usize) -> usize
+    requires most { most ≤ K }
+    requires parity { EndBy most parity.now }
+    requires presence { EndBy most presence.now }
+    ensures { result ≡ last_used K parity.now presence.now }
+{
+    let mut used = most;
+    while used > 0 && parity[used - 1] == 0 && presence[used - 1] == 0 {
+        used -= 1;
+    }
+    used
+}
+
+/// Turns the bits that are set in other words, where none is set from word `used` on.
+fn turn_words<const K: usize>(words: &mut [u64; K], others: &[u64; K], used: usize)
+    requires used { used ≤ K }
+    requires rest { EndBy used others.now }
     ensures long { length words.new ≡ K }
     ensures words { (k : _) → k < K → slice_index words.new k
         ≡ bit_xor (slice_index words.old k) (slice_index others.now k) }
 {
-    for index in 0..K {
+    for index in 0..used {
         words[index] ^= others[index];
     }
 }
 
-/// Sets the bits that are set in other words.
-fn join_words<const K: usize>(words: &mut [u64; K], others: &[u64; K])
+/// Sets the bits that are set in other words, where none is set from word `used` on.
+fn join_words<const K: usize>(words: &mut [u64; K], others: &[u64; K], used: usize)
+    requires used { used ≤ K }
+    requires rest { EndBy used others.now }
     ensures long { length words.new ≡ K }
     ensures words { (k : _) → k < K → slice_index words.new k
         ≡ bit_or (slice_index words.old k) (slice_index others.now k) }
 {
-    for index in 0..K {
+    for index in 0..used {
         words[index] |= others[index];
     }
 }
@@ -89,6 +113,7 @@ impl<const K: usize> Sums<K> {
             lines,
             characters,
             marks,
+            used: 0,
             parity: [0; K],
             presence: [0; K],
         }
@@ -136,7 +161,7 @@ impl<const K: usize> Sums<K> {
         ensures yes { result ≡ true → IsBare self.now }
         ensures no { IsBare self.now → result ≡ true }
     {
-        self.parity == [0; K] && self.presence == [0; K]
+        self.used == 0
     }
 
     /// Whether each slot that is toggled here is toggled in the other sum too.
@@ -145,7 +170,7 @@ impl<const K: usize> Sums<K> {
         ensures no { IsWithin self.now other.now → result ≡ true }
     {
         let mut both = other.presence;
-        join_words(&mut both, &self.presence);
+        join_words(&mut both, &self.presence, self.used);
         both == other.presence
     }
 
@@ -154,6 +179,9 @@ impl<const K: usize> Sums<K> {
         ensures yes { result ≡ true → HaveSameToggles self.now other.now }
         ensures no { HaveSameToggles self.now other.now → result ≡ true }
     {
+        if self.used != other.used {
+            return false;
+        }
         self.parity == other.parity && self.presence == other.presence
     }
 
@@ -185,8 +213,9 @@ impl<const K: usize> Sums<K> {
         self.lines += more.lines;
         self.characters += more.characters;
         self.marks += more.marks;
-        turn_words(&mut self.parity, &more.parity);
-        join_words(&mut self.presence, &more.presence);
+        turn_words(&mut self.parity, &more.parity, more.used);
+        join_words(&mut self.presence, &more.presence, more.used);
+        self.used = used_words(&self.parity, &self.presence, self.used.max(more.used));
     }
 
     /// Counts so much less, where each slot that is toggled in what goes is toggled in what stays too.
@@ -199,7 +228,8 @@ impl<const K: usize> Sums<K> {
         self.lines -= gone.lines;
         self.characters -= gone.characters;
         self.marks -= gone.marks;
-        turn_words(&mut self.parity, &gone.parity);
+        turn_words(&mut self.parity, &gone.parity, gone.used);
+        self.used = used_words(&self.parity, &self.presence, self.used.max(gone.used));
     }
 
     /// The sum with so many lines, characters and marks less.
@@ -224,6 +254,7 @@ impl<const K: usize> Sums<K> {
         let mut sums = *self;
         sums.parity[word] ^= bit;
         sums.presence[word] |= bit;
+        sums.used = used_words(&sums.parity, &sums.presence, sums.used.max(word + 1));
         sums
     }
 }
@@ -240,7 +271,7 @@ impl Sums<WORDS> {
     pub fn turn_odd_slots(&self, slots: &mut TagSet)
         ensures { slots.new ≡ differing slots.old self.now.parity }
     {
-        slots.flip_words(&self.parity);
+        slots.flip_words(&self.parity, self.used);
     }
 
     /// Counts what comes more, and what goes less, where each slot that is toggled in what goes is toggled in what
@@ -267,6 +298,7 @@ impl Sums<WORDS> {
         let bits = slots.bits();
         self.parity[index] ^= bits;
         self.presence[index] |= bits;
+        self.used = used_words(&self.parity, &self.presence, self.used.max(index + 1));
     }
 }
 

@@ -1,4 +1,4 @@
-use Rattle.std.proofs.Common.{◌≡◌, ◌<◌, ◌∙◌, ap, bit_or, bit_xor, length, length-set, slice_index, slice_set}
+use Rattle.std.proofs.Common.{rules, ◌≡◌, ◌+◌, ◌<◌, ◌∙◌, ap, arith, bit_or, bit_xor, length, length-set, slice_index, slice_set}
 use Rattle.std.specs.FinSet as set
 use Rattle.text_model.specs.OneWord.{alone, slots_in}
 use Rattle.text_model.specs.OneWordLaws.{AreWords-alone}
@@ -6,6 +6,7 @@ use Rattle.text_model.specs.SlotSets.{differing}
 use Rattle.text_model.specs.declared.tag_set.TheConstants.{WORDS}
 use Rattle.text_model.proofs.OneWordSteps.{turned-word}
 use Rattle.toggle_sums.specs.SlotWords.{slots_of}
+use Rattle.toggle_sums.proofs.UsedLaws.{EndBy-set, ends-parity, ends-presence, max-le, used-le}
 use Rattle.toggle_sums.proofs.WordSteps.{AreWords-differing, AreWords-joined, joined-word, slots_of-differing}
 use Rattle.toggle_sums.proofs.WordSteps.{slots_of-joined}
 use Rattle.toggle_sums.proofs.sums.Sums+WORDS.add_word.Goals as goal
@@ -18,14 +19,32 @@ invariant_of-self c =
     let bits = c.bits-bits.result in
     let within : index < WORDS = rw c.index-index.ensures.index c.index-index.ensures.word.within in
     let each = (AreWords-alone index bits within c.bits-bits.type_inv).each in
-    let long : index < length odd = rw c.self.invariant.0.long within in
-    let long_too : index < length any = rw c.self.invariant.1.long within in (
-      AreWords-differing WORDS odd (alone index bits)
-          (slice_set odd index (bit_xor (slice_index odd index) bits)) c.self.invariant.0 each
-          (length-set odd index _ ∙ c.self.invariant.0.long) (λ i _. turned-word odd index bits long within i),
-      AreWords-joined WORDS any (alone index bits)
-          (slice_set any index (bit_or (slice_index any index) bits)) c.self.invariant.1 each
-          (length-set any index _ ∙ c.self.invariant.1.long) (λ i _. joined-word any index bits long_too within i),
+    let long : index < length odd = rw c.self.invariant.parity.long within in
+    let long_too : index < length any = rw c.self.invariant.presence.long within in
+    record {
+      parity = AreWords-differing WORDS odd (alone index bits)
+          (slice_set odd index (bit_xor (slice_index odd index) bits)) c.self.invariant.parity each
+          (length-set odd index _ ∙ c.self.invariant.parity.long) (λ i _. turned-word odd index bits long within i);
+      presence = AreWords-joined WORDS any (alone index bits)
+          (slice_set any index (bit_or (slice_index any index) bits)) c.self.invariant.presence each
+          (length-set any index _ ∙ c.self.invariant.presence.long) (λ i _. joined-word any index bits long_too within i);
+      used = c.used_words-self-inside.ensures;
+    }
+
+pub used_words-self-inside-requires : goal.used_words-self-inside-requires
+used_words-self-inside-requires c =
+    let now = c.self.inside in
+    let index = c.index-index.result in
+    let within : index < WORDS = rw c.index-index.ensures.index c.index-index.ensures.word.within in
+    rw c.max.ensures (
+      search rules,
+      (
+        max-le now.used (index + 1) WORDS (used-le WORDS _ _ _ c.self.invariant) (omega (arith, within)),
+        (
+          EndBy-set now.used index _ now.parity (ends-parity WORDS _ _ _ c.self.invariant),
+          EndBy-set now.used index _ now.presence (ends-presence WORDS _ _ _ c.self.invariant),
+        ),
+      ),
     )
 
 pub returns : goal.returns
@@ -34,8 +53,8 @@ returns c =
     let index = c.index-index.result in
     let bits = c.bits-bits.result in
     let within : index < WORDS = rw c.index-index.ensures.index c.index-index.ensures.word.within in
-    let long : index < length now.parity = rw c.self.invariant.0.long within in
-    let long_too : index < length now.presence = rw c.self.invariant.1.long within in
+    let long : index < length now.parity = rw c.self.invariant.parity.long within in
+    let long_too : index < length now.presence = rw c.self.invariant.presence.long within in
     let word : slots_in index bits ≡ c.args.slots.now = ap (λ n. slots_in n bits) c.index-index.ensures.index
     ∙ c.bits-bits.ensures in
     rw (← c.self.view_is) (λ i. record {

@@ -1,16 +1,46 @@
-use Rattle.std.proofs.Common.{◌+◌}
+use Rattle.std.proofs.Common.{rules, ◌+◌, bit_or, bit_xor, refl}
+use Rattle.toggle_sums.proofs.UsedLaws.{EndBy-both, ends-parity, ends-presence, max-le, used-le}
 use Rattle.toggle_sums.proofs.WordSteps.{AreWords-differing, AreWords-joined, slots_of-differing, slots_of-joined}
 use Rattle.toggle_sums.proofs.sums.Sums.add.Goals as goal
+
+pub turn_words-requires : goal.turn_words-requires
+turn_words-requires g c =
+    (search rules, (used-le g.row.K _ _ _ c.more.invariant, ends-parity g.row.K _ _ _ c.more.invariant))
+
+pub join_words-requires : goal.join_words-requires
+join_words-requires g c =
+    (search rules, (used-le g.row.K _ _ _ c.more.invariant, ends-presence g.row.K _ _ _ c.more.invariant))
+
+pub used_words-self-inside-requires : goal.used_words-self-inside-requires
+used_words-self-inside-requires g c =
+    let now = c.self.inside in
+    let more = c.more.inside in
+    rw c.max.ensures (
+      search rules,
+      (
+        max-le _ _ _ (used-le g.row.K _ _ _ c.self.invariant) (used-le g.row.K _ _ _ c.more.invariant),
+        (
+          EndBy-both bit_xor refl g.row.K now.used more.used now.parity more.parity _ c.turn_words.ensures.long
+              (ends-parity g.row.K _ _ _ c.self.invariant) (ends-parity g.row.K _ _ _ c.more.invariant)
+              c.turn_words.ensures.words,
+          EndBy-both bit_or refl g.row.K now.used more.used now.presence more.presence _ c.join_words.ensures.long
+              (ends-presence g.row.K _ _ _ c.self.invariant) (ends-presence g.row.K _ _ _ c.more.invariant)
+              c.join_words.ensures.words,
+        ),
+      ),
+    )
 
 pub invariant_of-self : goal.invariant_of-self
 invariant_of-self g c =
     let now = c.self.inside in
-    let more = c.more.inside in (
-      AreWords-differing g.row.K now.parity more.parity _ c.self.invariant.0 c.more.invariant.0.each
-          c.turn_words.ensures.long c.turn_words.ensures.words,
-      AreWords-joined g.row.K now.presence more.presence _ c.self.invariant.1 c.more.invariant.1.each
-          c.join_words.ensures.long c.join_words.ensures.words,
-    )
+    let more = c.more.inside in
+    record {
+      parity = AreWords-differing g.row.K now.parity more.parity _ c.self.invariant.parity c.more.invariant.parity.each
+          c.turn_words.ensures.long c.turn_words.ensures.words;
+      presence = AreWords-joined g.row.K now.presence more.presence _ c.self.invariant.presence
+          c.more.invariant.presence.each c.join_words.ensures.long c.join_words.ensures.words;
+      used = c.used_words-self-inside.ensures;
+    }
 
 pub returns : goal.returns
 returns g c =

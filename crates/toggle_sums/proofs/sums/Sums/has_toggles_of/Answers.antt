@@ -2,6 +2,7 @@ use Rattle.std.proofs.Common.{◌∙◌, ap, sym}
 use Rattle.std.proofs.lemmas.Slice.Eq.{bytes_eq-Decides}
 use Rattle.toggle_sums.specs.Counts.{Count}
 use Rattle.toggle_sums.specs.SlotWords.{slots_of}
+use Rattle.toggle_sums.proofs.UsedLaws.{same_used}
 use Rattle.toggle_sums.proofs.WordSteps.{same_words}
 use Rattle.toggle_sums.proofs.sums.Sums.has_toggles_of.Goals as goal
 
@@ -20,7 +21,7 @@ returns-then-eq-clause-no g c = λ same.
     let other = c.other.inside in
     let seen = λ (count : Count). count.presence in
     c.eq-then-eq.ensures ∙ (bytes_eq-Decides now.presence other.presence).1
-    (same_words g.row.K now.presence other.presence c.self.invariant.1 c.other.invariant.1
+    (same_words g.row.K now.presence other.presence c.self.invariant.presence c.other.invariant.presence
     (ap seen c.self.view_is ∙ same.presence ∙ ap seen (sym c.other.view_is)))
 
 pub returns-else-eq-clause-no : goal.returns-else-eq-clause-no
@@ -29,5 +30,13 @@ returns-else-eq-clause-no g c = λ same.
     let other = c.other.inside in
     let seen = λ (count : Count). count.parity in
     c.eq.ensures ∙ (bytes_eq-Decides now.parity other.parity).1
-    (same_words g.row.K now.parity other.parity c.self.invariant.0 c.other.invariant.0
+    (same_words g.row.K now.parity other.parity c.self.invariant.parity c.other.invariant.parity
     (ap seen c.self.view_is ∙ same.parity ∙ ap seen (sym c.other.view_is)))
+
+pub returns-then-self-other-clause-no : goal.returns-then-self-other-clause-no
+returns-then-self-other-clause-no g c = λ same.
+    let odd = λ (count : Count). count.parity in
+    let any = λ (count : Count). count.presence in
+    absurd (c.if-self-other.true (same_used g.row.K _ _ _ _ _ _ c.self.invariant c.other.invariant
+    (ap odd c.self.view_is ∙ same.parity ∙ ap odd (sym c.other.view_is))
+    (ap any c.self.view_is ∙ same.presence ∙ ap any (sym c.other.view_is))))

@@ -1,35 +1,22 @@
-use Rattle.std.proofs.Common.{◌≡◌, ◌∙◌, ap, sym, replicate}
-use Rattle.std.proofs.lemmas.Slice.Eq.{bytes_eq-Decides}
-use Rattle.std.specs.FinSet as set
+use Rattle.std.proofs.Common.{◌∙◌, ap, sym, arith}
+use Rattle.std.proofs.lemmas.Bool.Decides.{nat_tests}
 use Rattle.toggle_sums.specs.Counts.{Count}
-use Rattle.toggle_sums.specs.SlotWords.{slots_of}
-use Rattle.toggle_sums.proofs.WordSteps.{slots_of-zeros, zeros_of-slots_of}
+use Rattle.toggle_sums.proofs.UsedLaws.{none_toggled, none_used}
 use Rattle.toggle_sums.proofs.sums.Sums.is_bare.Goals as goal
 
-pub returns-then-eq-clause-yes : goal.returns-then-eq-clause-yes
-returns-then-eq-clause-yes g c = λ yes.
+pub returns-clause-yes : goal.returns-clause-yes
+returns-clause-yes g c = λ yes.
     let now = c.self.inside in
-    let view = c.self.view_is in
-    let even = (bytes_eq-Decides now.parity (replicate g.row.K 0)).0 (sym c.eq.ensures ∙ c.if-eq.true) in
-    let absent = (bytes_eq-Decides now.presence (replicate g.row.K 0)).0 (sym c.eq-then-eq.ensures ∙ yes) in
+    let none = none_toggled g.row.K now.used now.parity now.presence c.self.invariant (grind (arith, nat_tests, yes)) in
     record {
-      parity = ap (λ (count : Count). count.parity) (sym view) ∙ ap (slots_of g.row.K) even ∙ slots_of-zeros g.row.K;
-      presence =
-          ap (λ (count : Count). count.presence) (sym view) ∙ ap (slots_of g.row.K) absent ∙ slots_of-zeros g.row.K;
+      parity = ap (λ (count : Count). count.parity) (sym c.self.view_is) ∙ none.0;
+      presence = ap (λ (count : Count). count.presence) (sym c.self.view_is) ∙ none.1;
     }
 
-pub returns-then-eq-clause-no : goal.returns-then-eq-clause-no
-returns-then-eq-clause-no g c = λ bare.
+pub returns-clause-no : goal.returns-clause-no
+returns-clause-no g c = λ bare.
     let now = c.self.inside in
-    let none : slots_of g.row.K now.presence ≡ set.empty = ap (λ (count : Count). count.presence) c.self.view_is
-    ∙ bare.presence in
-    c.eq-then-eq.ensures ∙ (bytes_eq-Decides now.presence (replicate g.row.K 0)).1
-    (zeros_of-slots_of g.row.K now.presence c.self.invariant.1 none)
-
-pub returns-else-eq-clause-no : goal.returns-else-eq-clause-no
-returns-else-eq-clause-no g c = λ bare.
-    let now = c.self.inside in
-    let none : slots_of g.row.K now.parity ≡ set.empty = ap (λ (count : Count). count.parity) c.self.view_is
-    ∙ bare.parity in
-    c.eq.ensures ∙ (bytes_eq-Decides now.parity (replicate g.row.K 0)).1
-    (zeros_of-slots_of g.row.K now.parity c.self.invariant.0 none)
+    let none = none_used g.row.K now.used now.parity now.presence c.self.invariant
+    (ap (λ (count : Count). count.parity) c.self.view_is ∙ bare.parity)
+    (ap (λ (count : Count). count.presence) c.self.view_is ∙ bare.presence) in
+    grind (arith, nat_tests, none)

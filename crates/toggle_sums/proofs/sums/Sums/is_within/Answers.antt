@@ -1,11 +1,16 @@
-use Rattle.std.proofs.Common.{◌≡◌, ◌∙◌, ap, sym}
+use Rattle.std.proofs.Common.{rules, ◌≡◌, ◌∙◌, ap, sym}
 use Rattle.std.proofs.lemmas.Slice.Eq.{bytes_eq-Decides}
 use Rattle.std.specs.FinSet as set
 use Rattle.toggle_sums.specs.Counts.{Count}
 use Rattle.toggle_sums.specs.SlotWords.{slots_of, words_of}
 use Rattle.toggle_sums.specs.SlotWordLaws.{words_of-slots_of}
+use Rattle.toggle_sums.proofs.UsedLaws.{ends-presence, used-le}
 use Rattle.toggle_sums.proofs.WordSteps.{AreWords-joined, slots_of-joined}
 use Rattle.toggle_sums.proofs.sums.Sums.is_within.Goals as goal
+
+pub join_words-requires : goal.join_words-requires
+join_words-requires g c =
+    (search rules, (used-le g.row.K _ _ _ c.self.invariant, ends-presence g.row.K _ _ _ c.self.invariant))
 
 pub returns-clause-yes : goal.returns-clause-yes
 returns-clause-yes g c = λ yes.
@@ -24,9 +29,9 @@ returns-clause-no g c = λ within.
     let seen = λ (count : Count). count.presence in
     let kept : set.union (slots_of g.row.K other) (slots_of g.row.K now) ≡ slots_of g.row.K other =
     (λ i. set.union (seen (c.other.view_is i)) (seen (c.self.view_is i))) ∙ within ∙ ap seen (sym c.other.view_is) in
-    let are = AreWords-joined g.row.K other now both c.other.invariant.1 c.self.invariant.1.each
+    let are = AreWords-joined g.row.K other now both c.other.invariant.presence c.self.invariant.presence.each
     c.join_words.ensures.long c.join_words.ensures.words in
     c.eq.ensures ∙ (bytes_eq-Decides both other).1
     (sym (words_of-slots_of g.row.K both are)
     ∙ ap (words_of g.row.K) (slots_of-joined g.row.K other now both c.join_words.ensures.words ∙ kept)
-    ∙ words_of-slots_of g.row.K other c.other.invariant.1)
+    ∙ words_of-slots_of g.row.K other c.other.invariant.presence)

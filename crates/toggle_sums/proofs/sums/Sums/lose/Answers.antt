@@ -1,16 +1,40 @@
-use Rattle.std.proofs.Common.{◌-◌}
+use Rattle.std.proofs.Common.{rules, ◌-◌, bit_xor, refl}
 use Rattle.toggle_sums.specs.SlotWords.{slots_of}
+use Rattle.toggle_sums.proofs.UsedLaws.{EndBy-both, EndBy-max, ends-parity, ends-presence, max-le, used-le}
 use Rattle.toggle_sums.proofs.WordSteps.{AreWords-differing, slots_of-differing}
 use Rattle.toggle_sums.proofs.sums.Sums.lose.Goals as goal
+
+pub turn_words-requires : goal.turn_words-requires
+turn_words-requires g c =
+    (search rules, (used-le g.row.K _ _ _ c.gone.invariant, ends-parity g.row.K _ _ _ c.gone.invariant))
+
+pub used_words-self-inside-requires : goal.used_words-self-inside-requires
+used_words-self-inside-requires g c =
+    let now = c.self.inside in
+    let gone = c.gone.inside in
+    rw c.max.ensures (
+      search rules,
+      (
+        max-le _ _ _ (used-le g.row.K _ _ _ c.self.invariant) (used-le g.row.K _ _ _ c.gone.invariant),
+        (
+          EndBy-both bit_xor refl g.row.K now.used gone.used now.parity gone.parity _ c.turn_words.ensures.long
+              (ends-parity g.row.K _ _ _ c.self.invariant) (ends-parity g.row.K _ _ _ c.gone.invariant)
+              c.turn_words.ensures.words,
+          EndBy-max now.used gone.used now.presence (ends-presence g.row.K _ _ _ c.self.invariant),
+        ),
+      ),
+    )
 
 pub invariant_of-self : goal.invariant_of-self
 invariant_of-self g c =
     let now = c.self.inside in
-    let gone = c.gone.inside in (
-      AreWords-differing g.row.K now.parity gone.parity _ c.self.invariant.0 c.gone.invariant.0.each
-          c.turn_words.ensures.long c.turn_words.ensures.words,
-      c.self.invariant.1,
-    )
+    let gone = c.gone.inside in
+    record {
+      parity = AreWords-differing g.row.K now.parity gone.parity _ c.self.invariant.parity c.gone.invariant.parity.each
+          c.turn_words.ensures.long c.turn_words.ensures.words;
+      presence = c.self.invariant.presence;
+      used = c.used_words-self-inside.ensures;
+    }
 
 pub returns : goal.returns
 returns g c =

@@ -1,0 +1,74 @@
+-- What is counted of a line, from how many characters and marks it has and from its toggles.
+use Rattle.std.proofs.Common.{◌≡◌, ℕ, ◌+◌, ◌<◌, true, false, ◌||◌, List, drop, get_or, length, sym, ap, ◌∙◌}
+use Rattle.std.proofs.lemmas.List.{drop_more}
+use Rattle.std.specs.Cmp.{nat_cmp_total}
+use Rattle.std.specs.FinMap as finite
+use Rattle.std.specs.FinSet as set
+use Rattle.text_model.specs.SlotSets.{differing}
+use Rattle.toggle_sums.specs.CountLaws.{differing-empty, empty-differing, empty-union, union-empty}
+use Rattle.toggle_sums.specs.Counts.{Count, CountsFit, counting, plus, with_toggles_of}
+use Rattle.segments.specs.declared.toggles.Toggled.{Toggled}
+use Rattle.segments.specs.Columns.{LineContent, line_count}
+use Rattle.segments.specs.Entries.{any_of}
+use Rattle.segments.specs.Kept.{columns_from}
+use Rattle.segments.specs.Marks.{Rise, marks_of}
+use Rattle.segments.specs.declared.marks.Mark.{Mark}
+use Rattle.segments.proofs.ColumnLaws.{length-columns}
+use Rattle.segments.proofs.MarkPlaceLaws.{len-marks}
+
+-- a line has so many characters and marks
+pub record HasSize (line : LineContent) (len many : ℕ) : Type 0 where
+  pub characters : len ≡ length line.columns
+  pub marks : many ≡ finite.len line.marks
+
+pub sized : (text : List ℕ) (kept : List Toggled) (items : List Mark) (line : LineContent) (len marks : ℕ) →
+    record { columns = columns_from 0 text kept; marks = marks_of items } ≡ line → Rise items → len ≡ length text →
+    marks ≡ length items → HasSize line len marks
+sized text kept items line len marks is rise long many = record {
+  characters = long ∙ sym (length-columns 0 text kept) ∙ ap (λ (l : LineContent). length l.columns) is;
+  marks = many ∙ sym (len-marks items rise) ∙ ap (λ (l : LineContent). finite.len l.marks) is;
+}
+
+pub counted : (line : LineContent) (len marks : ℕ) → HasSize line len marks →
+    with_toggles_of (line_count line) (counting 1 len marks) ≡ line_count line
+counted line len marks has = λ i. record {
+  lines = 1;
+  characters = has.characters i;
+  marks = has.marks i;
+  parity = empty-differing (line_count line).parity i;
+  presence = empty-union (line_count line).presence i;
+}
+
+pub counted_more : (old : Count) (line : LineContent) (len marks : ℕ) → HasSize line len marks →
+    with_toggles_of (line_count line) (plus old (counting 1 len marks)) ≡ plus old (line_count line)
+counted_more old line len marks has = λ i. record {
+  lines = old.lines + 1;
+  characters = old.characters + has.characters i;
+  marks = old.marks + has.marks i;
+  parity = differing (differing-empty old.parity i) (line_count line).parity;
+  presence = set.union (union-empty old.presence i) (line_count line).presence;
+}
+
+pub fits_more : (old : Count) (line : LineContent) (len marks : ℕ) → HasSize line len marks →
+    CountsFit old (line_count line) → CountsFit old (counting 1 len marks)
+fits_more old line len marks has fits = record {
+  lines = fits.lines;
+  characters = rw has.characters fits.characters;
+  marks = rw has.marks fits.marks;
+}
+
+-- ---- whether a slot is in one of some entries
+pub met_slot : (entries : List Toggled) (i : ℕ) (d : Toggled) (slot : ℕ) → i < length entries →
+    set.contains (get_or entries i d).slots slot ≡ true → set.contains (any_of (drop i entries)) slot ≡ true
+met_slot entries i d slot within has =
+    ap (λ es. set.contains (any_of es) slot) (drop_more entries i d within)
+    ∙ set.contains-union nat_cmp_total (get_or entries i d).slots (any_of (drop (i + 1) entries)) slot
+    ∙ ap (λ b. b || set.contains (any_of (drop (i + 1) entries)) slot) has
+
+pub passed_slot : (entries : List Toggled) (i : ℕ) (d : Toggled) (slot : ℕ) → i < length entries →
+    set.contains (get_or entries i d).slots slot ≡ false
+    → set.contains (any_of (drop i entries)) slot ≡ set.contains (any_of (drop (i + 1) entries)) slot
+passed_slot entries i d slot within hasn't =
+    ap (λ es. set.contains (any_of es) slot) (drop_more entries i d within)
+    ∙ set.contains-union nat_cmp_total (get_or entries i d).slots (any_of (drop (i + 1) entries)) slot
+    ∙ ap (λ b. b || set.contains (any_of (drop (i + 1) entries)) slot) hasn't

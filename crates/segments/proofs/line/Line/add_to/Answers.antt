@@ -1,0 +1,13 @@
+use Rattle.std.proofs.Common.{sym, ap, ◌∙◌}
+use Rattle.toggle_sums.specs.Counts.{Count, counting, plus}
+use Rattle.segments.specs.Columns.{line_count}
+use Rattle.segments.specs.Forms.{content}
+use Rattle.segments.proofs.PlainLaws.{sum-plain}
+use Rattle.segments.proofs.line.Line.add_to.Goals as goal
+
+pub returns-in-Plain : goal.returns-in-Plain
+returns-in-Plain c =
+    let old : Count = c.args.sum.now in
+    c.add_counts.ensures
+    ∙ ap (plus old) (ap (λ n. counting 1 n 0) c.len.ensures ∙ sym (sum-plain c.in-Plain.text)
+    ∙ ap line_count (ap content (sym c.in-Plain.is) ∙ c.self.view_is))
