@@ -261,9 +261,9 @@ impl<C: Ticks> NodeStore<C> {
     }
 
     /// Says what is counted of the text below an inner node.
-    pub fn set_sum(&mut self, name: NodePtr, sum: Sums<WORDS>)
+    pub fn set_sum(&mut self, name: NodePtr, sum: &Sums<WORDS>)
         requires { IsInner self.old name }
-        ensures records { records self.new ≡ update (records self.old) name (λ r. with_sum r sum) }
+        ensures records { records self.new ≡ update (records self.old) name (λ r. with_sum r sum.now) }
         ensures spares { spares self.new ≡ spares self.old }
         ensures rooms { rooms self.new ≡ rooms self.old }
     {
