@@ -31,6 +31,7 @@ pub mod StandLaws
 pub mod StepLaws
 pub mod StepTexts
 pub mod StoreLaws
+pub mod SwitchLaws
 pub mod TagLaws
 pub mod TextCuts
 pub mod TextRows

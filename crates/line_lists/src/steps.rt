@@ -19,12 +19,11 @@ fn switched_slots(before: &TagSet, slot: TagSlot, is_on: bool) -> TagSet
     requires { slot.0 < slot_count }
     ensures { result ≡ differing before.now (set_slot slot.0 is_on before.now) }
 {
-    let after = if is_on {
-        before.with(slot)
+    if before.has(slot) == is_on {
+        TagSet::empty()
     } else {
-        before.without(slot)
-    };
-    before.differing(&after)
+        TagSet::empty().with(slot)
+    }
 }
 
 impl<'a, L: LineList> Draft<'a, L> {

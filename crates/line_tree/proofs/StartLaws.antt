@@ -115,10 +115,10 @@ pub record Opens (ls xs : List Named) (k r : ℕ) (b : Slots) : Type 0 where
 pub opens-first : (ls : List Named) (k : ℕ) (b : Slots) → b ≡ set.empty → k < length ls → Opens ls ls k k b
 opens-first ls k b none less = record { sum = no_text; leaves = leaves-start ls k no_text refl less; slots = none }
 
-pub opens-step : (m : Records) (h : ℕ) (q : NodePtr) (ls : List Named) (k r : ℕ) (b : Slots) (f : Opened) →
-    IsTree m (suc h) q → Opens ls (lines_in m (suc h) q) k r b → IsOpened m q r b f
-    → IsTree m h f.child × Opens ls (lines_in m h f.child) k f.rest f.slots
-opens-step m h q ls k r b f is w found =
+pub opens-step : (m : Records) (h : ℕ) (q : NodePtr) (ls : List Named) (k r : ℕ) (b : Slots) (f : Opened) (now : Slots) →
+    IsTree m (suc h) q → Opens ls (lines_in m (suc h) q) k r b → IsOpened m q r b f now
+    → IsTree m h f.child × Opens ls (lines_in m h f.child) k f.rest now
+opens-step m h q ls k r b f now is w found =
     let front : Front = record {
       child = f.child;
       rest = f.rest;

@@ -33,11 +33,11 @@ pub record IsBehind (m : Records) (p : NodePtr) (k before : ℕ) (b : Behind) : 
   pub size : b.size ≡ (lines_at m b.child, characters_at m b.child)
   pub characters : b.characters ≡ before + (sum_all m (take slot (kids m p))).characters
 
--- and with the slots that are toggled before it
-pub record IsOpened (m : Records) (p : NodePtr) (k : ℕ) (before : Slots) (o : Opened) : Type 0 where
+-- and with the slots that are toggled before it, which the set becomes where it was those that are toggled before p
+pub record IsOpened (m : Records) (p : NodePtr) (k : ℕ) (before : Slots) (o : Opened) (now : Slots) : Type 0 where
   pub slot : ℕ
   pub child : slice_get (kids m p) slot ≡ Some o.child
   pub place : sum_by (lines_at m) (take slot (kids m p)) + o.rest ≡ k
   pub rest : o.rest < lines_at m o.child
   pub lines : o.lines ≡ lines_at m o.child
-  pub slots : o.slots ≡ differing before (sum_all m (take slot (kids m p))).parity
+  pub slots : now ≡ differing before (sum_all m (take slot (kids m p))).parity

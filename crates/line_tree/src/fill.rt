@@ -25,7 +25,7 @@ pub fn link<C: Ticks>(store: &mut NodeStore<C>, node: NodePtr, slot: usize, chil
 {
     store.set_child(node, slot, child);
     if let Some(child) = child {
-        store.set_parent(child, Some(node), slot);
+        store.set_parent(child, Some(node), slot as u32);
     }
 }
 

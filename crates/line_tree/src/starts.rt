@@ -23,14 +23,12 @@ pub struct Behind {
     pub characters: usize,
 }
 
-/// A child, how many lines it has, how many of the lines asked for are left in it, and which slots are toggled an odd
-/// number of times before it.
+/// A child, how many lines it has, and how many of the lines asked for are left in it.
 #[derive(Clone, Copy)]
 pub struct Opened {
     pub child: NodePtr,
     pub lines: usize,
     pub rest: usize,
-    pub slots: TagSet,
 }
 
 /// The child that has line `k` of those below a node, where so many characters stand before the node. No child's own
@@ -194,71 +192,63 @@ pub fn start<C: Ticks>(
     place(store, root, height, (lines, all), k, ticks).start
 }
 
-/// The child that has line `k` of those below a node, where some slots are toggled before the node.
+/// The child that has line `k` of those below a node. The slots that are toggled before the node become those that are
+/// toggled before the child.
 fn find_opened<C: Ticks>(
     store: &NodeStore<C>,
     node: NodePtr,
     k: usize,
-    before: TagSet,
+    slots: &mut TagSet,
     ticks: &mut C,
 ) -> Opened
     requires row { HasRow (records store.now) node }
     requires within { k < lines_below (records store.now) node }
-    ensures { IsOpened (records store.now) node k before result }
+    ensures { IsOpened (records store.now) node k slots.old result slots.new }
 {
     let mut rest = k;
-    let mut slots = before;
     for slot in 0..12 {
         if let Some(child) = store.child(node, slot, ticks) {
             let lines = store.lines(child, ticks);
             if rest < lines {
-                return Opened {
-                    child,
-                    lines,
-                    rest,
-                    slots,
-                };
+                return Opened { child, lines, rest };
             }
             rest -= lines;
-            store.turn_odd_slots(child, &mut slots, ticks);
+            store.turn_odd_slots(child, slots, ticks);
         }
     }
     Opened {
         child: node,
         lines: 0,
         rest,
-        slots,
     }
 }
 
-/// The child that has the line from which on so many stand below a node, where some slots are toggled before the node's
-/// end: from the last child back.
+/// The child that has the line from which on so many stand below a node: from the last child back. The slots that are
+/// toggled before the node's end become those that are toggled before the child.
 fn find_opened_back<C: Ticks>(
     store: &NodeStore<C>,
     node: NodePtr,
     behind: usize,
-    end: TagSet,
+    slots: &mut TagSet,
     ticks: &mut C,
 ) -> Opened
     requires row { HasRow (records store.now) node }
     requires some { 0 < behind }
     requires within { behind ≤ lines_below (records store.now) node }
     ensures { IsOpened (records store.now) node (lines_below (records store.now) node - behind)
-        (differing end (sum_all (records store.now) (kids (records store.now) node)).parity) result }
+        (differing slots.old (sum_all (records store.now) (kids (records store.now) node)).parity) result slots.new }
 {
     let mut rest = behind;
-    let mut slots = end;
     for back in 0..12 {
         let slot = 11 - back;
         if let Some(child) = store.child(node, slot, ticks) {
             let lines = store.lines(child, ticks);
-            store.turn_odd_slots(child, &mut slots, ticks);
+            store.turn_odd_slots(child, slots, ticks);
             if rest <= lines {
                 return Opened {
                     child,
                     lines,
                     rest: lines - rest,
-                    slots,
                 };
             }
             rest -= lines;
@@ -268,26 +258,28 @@ fn find_opened_back<C: Ticks>(
         child: node,
         lines: 0,
         rest,
-        slots,
     }
 }
 
 /// One level down to a line, from the end of the node that is nearer.
-fn find_opened_near<C: Ticks>(store: &NodeStore<C>, from: Opened, ticks: &mut C) -> Opened
+fn find_opened_near<C: Ticks>(
+    store: &NodeStore<C>,
+    from: Opened,
+    slots: &mut TagSet,
+    ticks: &mut C,
+) -> Opened
     requires row { HasRow (records store.now) from.child }
     requires within { from.rest < lines_below (records store.now) from.child }
     requires lines { from.lines ≡ lines_below (records store.now) from.child }
     requires whole { sum_at (records store.now) from.child
         ≡ sum_all (records store.now) (kids (records store.now) from.child) }
-    ensures { IsOpened (records store.now) from.child from.rest from.slots result }
+    ensures { IsOpened (records store.now) from.child from.rest slots.old result slots.new }
 {
     if from.rest < from.lines / 2 {
-        return find_opened(store, from.child, from.rest, from.slots, ticks);
+        return find_opened(store, from.child, from.rest, slots, ticks);
     }
-    let behind = from.lines - from.rest;
-    let mut end = from.slots;
-    store.turn_odd_slots(from.child, &mut end, ticks);
-    find_opened_back(store, from.child, behind, end, ticks)
+    store.turn_odd_slots(from.child, slots, ticks);
+    find_opened_back(store, from.child, from.lines - from.rest, slots, ticks)
 }
 
 /// The slots that are toggled an odd number of times in the first `k` lines.
@@ -302,28 +294,27 @@ pub fn odd_slots<C: Ticks>(
     requires within { k ≤ length (lines_in (records store.now) height root) }
     ensures { result ≡ (total (take k (lines_in (records store.now) height root))).parity }
 {
+    let mut slots = TagSet::empty();
     if k == 0 {
-        return TagSet::empty();
+        return slots;
     }
     if store.is_bare(root, ticks) {
-        return TagSet::empty();
+        return slots;
     }
     let lines = store.lines(root, ticks);
     if k == lines {
-        let mut all = TagSet::empty();
-        store.turn_odd_slots(root, &mut all, ticks);
-        return all;
+        store.turn_odd_slots(root, &mut slots, ticks);
+        return slots;
     }
     let mut at = Opened {
         child: root,
         lines,
         rest: k,
-        slots: TagSet::empty(),
     };
     let mut level = height;
     while level > 0 {
-        at = find_opened_near(store, at, ticks);
+        at = find_opened_near(store, at, &mut slots, ticks);
         level -= 1;
     }
-    at.slots
+    slots
 }

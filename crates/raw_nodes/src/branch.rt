@@ -39,12 +39,12 @@ impl Branch {
         room
     }
 
-    pub fn set_sum(&mut self, sum: Sums<WORDS>)
-        ensures { self.new.room.value ≡ with_room_sum self.old.room.value sum }
+    pub fn set_sum(&mut self, sum: &Sums<WORDS>)
+        ensures { self.new.room.value ≡ with_room_sum self.old.room.value sum.now }
     {
         self.lines = sum.lines();
         self.characters = sum.characters();
-        self.room.sum = sum;
+        self.room.sum = *sum;
     }
 
     /// The room's sum counts so much more.

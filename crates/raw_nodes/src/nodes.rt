@@ -32,8 +32,8 @@ pub enum Held {
 pub struct Node {
     pub parent: Link,
     pub before: Link,
-    pub slot: usize,
-    pub number: usize,
+    pub slot: u32,
+    pub number: u32,
     pub held: Held,
 }
 

@@ -25,15 +25,15 @@ pub struct NodeStore<C: Ticks> {
     alloc: Global,
     heap: Heap,
     last: Option<NodePtr>,
-    count: usize,
+    count: u32,
     first_spare: Option<NodePtr>,
-    spares: usize,
+    spares: u32,
     rooms: Vec<Box<Room>>,
     room_count: usize,
     counter: PhantomData<C>,
     ghost listed: { befores_of heap.values ++ last ∷ [] ≡ None ∷ map Some heap.places },
     ghost whole: { count ≡ length heap.values },
-    ghost small: { count < 2 ^ 64 },
+    ghost small: { count < 2 ^ 32 },
     ghost chained: { ∥ IsChain heap.places (marks_of heap.values) (nexts_of heap.values) spares first_spare ∥₁ },
     ghost counted: { spares ≡ sum_by flag_of heap.values },
     ghost numbered: { numbers_of heap.values ≡ range_with_len 0 (length heap.values) },
@@ -75,7 +75,7 @@ impl<C: Ticks> NodeStore<C> {
         requires { IsName self.now name }
         ensures { IfSome (entry self.now name) (λ r. result ≡ r.slot) }
     {
-        self.heap.node(name).slot
+        self.heap.node(name).slot as usize
     }
 
     /// A node's parent.
@@ -261,9 +261,9 @@ impl<C: Ticks> NodeStore<C> {
     }
 
     /// Says what is counted of the text below an inner node.
-    pub fn set_sum(&mut self, name: NodePtr, sum: Sums<WORDS>)
+    pub fn set_sum(&mut self, name: NodePtr, sum: &Sums<WORDS>)
         requires { IsInner self.old name }
-        ensures records { records self.new ≡ update (records self.old) name (λ r. with_sum r sum) }
+        ensures records { records self.new ≡ update (records self.old) name (λ r. with_sum r sum.now) }
         ensures spares { spares self.new ≡ spares self.old }
         ensures rooms { rooms self.new ≡ rooms self.old }
     {
@@ -310,7 +310,7 @@ impl<C: Ticks> NodeStore<C> {
     }
 
     /// Links a node to its parent, where it has a slot number, or to none.
-    pub fn set_parent(&mut self, name: NodePtr, parent: Option<NodePtr>, slot: usize)
+    pub fn set_parent(&mut self, name: NodePtr, parent: Option<NodePtr>, slot: u32)
         requires { IsName self.old name }
         ensures records { records self.new ≡ update (records self.old) name (λ r. with_parent r parent slot) }
         ensures spares { spares self.new ≡ spares self.old }
@@ -356,7 +356,7 @@ impl<C: Ticks> NodeStore<C> {
         ensures most { spares self.new ≤ max (spares self.old) count }
         ensures rooms { rooms self.new ≡ rooms self.old }
     {
-        while self.spares < count {
+        while self.spares() < count {
             self.grow()?;
         }
         Ok(())
@@ -366,7 +366,7 @@ impl<C: Ticks> NodeStore<C> {
     pub fn spares(&self) -> usize
         ensures { result ≡ spares self.now }
     {
-        self.spares
+        self.spares as usize
     }
 
     /// One more spare.
@@ -376,7 +376,7 @@ impl<C: Ticks> NodeStore<C> {
         ensures records { records self.new ≡ records self.old }
         ensures rooms { rooms self.new ≡ rooms self.old }
     {
-        if self.count == usize::MAX {
+        if self.count == u32::MAX {
             return Err(AllocError);
         }
         let node = Node {

@@ -27,7 +27,7 @@ turn_odd_slots-requires g c = let m = records c.args.store.now in
     ∙ c.in-Some.is)
 
 pub loop-slot-init : goal.loop-slot-init
-loop-slot-init g c = record { place = omega arith; slots = sym (differing-empty c.args.before) }
+loop-slot-init g c = record { place = omega arith; slots = sym (differing-empty c.args.slots.now) }
 
 pub returns-then-rest-lines : goal.returns-then-rest-lines
 returns-then-rest-lines g c = let m = records c.args.store.now in let i = c.loop-slot.slot in
@@ -60,8 +60,8 @@ loop-slot-preserved g c = let m = records c.args.store.now in let cs = kids m c.
             slots = w.slots-is ∙ said (λ (x : Count). differing c.loop-slot.slots x.parity) m w.in-Some.child _
                 (c.requires.row.each i w.in-Some.child here) w.turn_odd_slots.ensures.value
                 ∙ ap (λ x. differing x (sum_at m w.in-Some.child).parity) so_far
-                ∙ differing-associative c.args.before (sum_all m (take i cs)).parity (sum_at m w.in-Some.child).parity
-                ∙ ap (λ (x : Count). differing c.args.before x.parity) (sym (sum-more m cs i w.in-Some.child here));
+                ∙ differing-associative c.args.slots.now (sum_all m (take i cs)).parity (sum_at m w.in-Some.child).parity
+                ∙ ap (λ (x : Count). differing c.args.slots.now x.parity) (sym (sum-more m cs i w.in-Some.child here));
           }
       | in_default w ↦
           let none = sym child ∙ none_of c.child.result w.in_default.not-Some in
@@ -70,7 +70,7 @@ loop-slot-preserved g c = let m = records c.args.store.now in let cs = kids m c.
           record {
             place = omega arith;
             slots = w.slots-is ∙ so_far
-                ∙ ap (λ (x : Count). differing c.args.before x.parity) (sym (sum-none m cs i none));
+                ∙ ap (λ (x : Count). differing c.args.slots.now x.parity) (sym (sum-none m cs i none));
           }
     ]
 

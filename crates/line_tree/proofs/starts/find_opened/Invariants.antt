@@ -10,6 +10,6 @@ use Rattle.line_tree.proofs.starts.find_opened.Given as goal
 abbrev pub invariant-loop-slot : goal.invariant-loop-slot
 invariant-loop-slot g l = record {
   place : sum_by (lines_at (records l.store)) (take l.slot (kids (records l.store) l.node)) + l.rest ≡ l.k;
-  slots : l.slots ≡ differing l.fn.before (sum_all (records l.store)
+  slots : l.slots ≡ differing l.fn.slots (sum_all (records l.store)
       (take l.slot (kids (records l.store) l.node))).parity;
 }

@@ -21,8 +21,8 @@ loop-back-init g c = let m = records c.args.store.now in let cs = kids m c.args.
     record {
       place = omega arith;
       some = some;
-      slots = sym (differing-twice c.args.end sum)
-          ∙ ap (λ ds. differing (differing c.args.end sum) (sum_all m ds).parity) (sym all);
+      slots = sym (differing-twice c.args.slots.now sum)
+          ∙ ap (λ ds. differing (differing c.args.slots.now sum) (sum_all m ds).parity) (sym all);
     }
 
 pub lines-lines-requires : goal.lines-lines-requires
@@ -44,7 +44,7 @@ loop-back-preserved g c = let m = records c.args.store.now in let cs = kids m c.
     let e : slot + 1 ≡ 12 - c.loop-back.back = omega arith in
     let f : slot ≡ 12 - (c.loop-back.back + 1) = omega arith in
     let now = ap (λ n. sum_by (lines_at m) (take n cs)) e in let next = ap (λ n. sum_by (lines_at m) (take n cs)) f in
-    let base = differing c.args.end (sum_all m cs).parity in
+    let base = differing c.args.slots.now (sum_all m cs).parity in
     let said_now = ap (λ n. differing base (sum_all m (take n cs)).parity) e in
     let said_next = ap (λ n. differing base (sum_all m (take n cs)).parity) f in
     elim c.match-child.branch [
@@ -94,7 +94,7 @@ returns-then-rest-lines g c = let m = records c.args.store.now in let cs = kids 
     let test = c.if-rest-lines.true in let place = c.loop-back.invariant.place in
     let some = c.loop-back.invariant.some in let few = c.loop-back-test.true in
     let e : slot + 1 ≡ 12 - c.loop-back.back = omega arith in let now = ap (λ n. sum_by (lines_at m) (take n cs)) e in
-    let base = differing c.args.end (sum_all m cs).parity in
+    let base = differing c.args.slots.now (sum_all m cs).parity in
     let before = c.loop-back.invariant.slots ∙ sym (ap (λ n. differing base (sum_all m (take n cs)).parity) e)
     ∙ ap (λ (x : Count). differing base x.parity) (sum-more m cs slot c.in-Some.child here) in
     record {

@@ -13,6 +13,6 @@ invariant-loop-back g l = record {
   place : sum_by (lines_at (records l.store)) (take (12 - l.back) (kids (records l.store) l.node))
       ≡ lines_below (records l.store) l.node - l.behind + l.rest;
   some : 0 < l.rest;
-  slots : l.slots ≡ differing (differing l.fn.end (sum_all (records l.store) (kids (records l.store) l.node)).parity)
+  slots : l.slots ≡ differing (differing l.fn.slots (sum_all (records l.store) (kids (records l.store) l.node)).parity)
       (sum_all (records l.store) (take (12 - l.back) (kids (records l.store) l.node))).parity;
 }

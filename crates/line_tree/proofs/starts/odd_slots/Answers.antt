@@ -26,7 +26,7 @@ returns-then-is_bare g c = let m = records c.args.store.now in let r = c.args.ro
     let bare = at_some (finite.get m r) (λ y. c.is_bare.result ≡ true → IsBare y.sum) found.0 c.is_bare.ensures.yes found.1
     c.if-is_bare.true in
     let sum = ap sum_of (sym found.1) ∙ sum-tree m h r tree in
-    c.empty-then-is_bare.ensures ∙ sym (bare-front (lines_in m h r) c.args.k
+    c.empty-slots.ensures ∙ sym (bare-front (lines_in m h r) c.args.k
     (ap (λ (s : Count). s.presence) (sym sum) ∙ bare.presence))
 
 pub turn_odd_slots-requires : goal.turn_odd_slots-requires
@@ -35,8 +35,8 @@ turn_odd_slots-requires g c = named-tree (records c.args.store.now) c.args.heigh
 pub returns-then-k-lines : goal.returns-then-k-lines
 returns-then-k-lines g c = let m = records c.args.store.now in let r = c.args.root in let h = c.args.height in
     let named = named-tree m h r c.requires.tree in
-    let odd = said (λ (s : Count). differing c.empty-all.result s.parity) m r _ named c.turn_odd_slots.ensures.value in
-    odd ∙ ap (λ s. differing s (sum_at m r).parity) c.empty-all.ensures ∙ empty-differing (sum_at m r).parity
+    let odd = said (λ (s : Count). differing c.empty-slots.result s.parity) m r _ named c.turn_odd_slots.ensures.value in
+    odd ∙ ap (λ s. differing s (sum_at m r).parity) c.empty-slots.ensures ∙ empty-differing (sum_at m r).parity
     ∙ ap (λ (s : Count). s.parity) (all-lines m h r c.args.k c.lines-lines.result (sum_at m r) c.requires.tree refl
     (lines_is m r c.lines-lines.result named c.lines-lines.ensures.value) c.if-k-lines.true)
 
@@ -45,7 +45,7 @@ loop-level-init g c = let m = records c.args.store.now in let r = c.args.root in
     record {
       tree = c.requires.tree;
       lines = lines_is m r c.lines-lines.result (named-tree m h r c.requires.tree) c.lines-lines.ensures.value;
-      down = opens-first (lines_in m h r) c.args.k c.empty-2.result c.empty-2.ensures
+      down = opens-first (lines_in m h r) c.args.k c.empty-slots.result c.empty-slots.ensures
           (some-left m h r c.args.k c.lines-lines.result (sum_at m r) c.requires.tree refl
           (lines_is m r c.lines-lines.result (named-tree m h r c.requires.tree) c.lines-lines.ensures.value)
           c.if-k-lines.false c.requires.within);
@@ -57,7 +57,7 @@ find_opened_near-at-requires-clause-row g c =
     let e : c.loop-level.level ≡ suc n = omega (arith, c.loop-level-test.true) in
     let tree = subst (λ h. IsTree m h at) e c.loop-level.invariant.tree in
     let ls = lines_in m c.args.height c.args.root in
-    let down = subst (λ h. Opens ls (lines_in m h at) c.args.k c.loop-level.at.rest c.loop-level.at.slots) e
+    let down = subst (λ h. Opens ls (lines_in m h at) c.args.k c.loop-level.at.rest c.loop-level.slots) e
     c.loop-level.invariant.down in
     row-tree m n at tree
 
@@ -67,7 +67,7 @@ find_opened_near-at-requires-clause-within g c =
     let e : c.loop-level.level ≡ suc n = omega (arith, c.loop-level-test.true) in
     let tree = subst (λ h. IsTree m h at) e c.loop-level.invariant.tree in
     let ls = lines_in m c.args.height c.args.root in
-    let down = subst (λ h. Opens ls (lines_in m h at) c.args.k c.loop-level.at.rest c.loop-level.at.slots) e
+    let down = subst (λ h. Opens ls (lines_in m h at) c.args.k c.loop-level.at.rest c.loop-level.slots) e
     c.loop-level.invariant.down in
     subst (λ x. c.loop-level.at.rest < x) (sym (below-tree m n at tree)) down.leaves.rest
 
@@ -89,16 +89,16 @@ loop-level-preserved g c =
     let e : c.loop-level.level ≡ suc n = omega (arith, c.loop-level-test.true) in
     let tree = subst (λ h. IsTree m h at) e c.loop-level.invariant.tree in
     let ls = lines_in m c.args.height c.args.root in
-    let down = subst (λ h. Opens ls (lines_in m h at) c.args.k c.loop-level.at.rest c.loop-level.at.slots) e
+    let down = subst (λ h. Opens ls (lines_in m h at) c.args.k c.loop-level.at.rest c.loop-level.slots) e
     c.loop-level.invariant.down in
-    let step = opens-step m n at ls c.args.k c.loop-level.at.rest c.loop-level.at.slots c.find_opened_near-at.result
-    tree down c.find_opened_near-at.ensures in
+    let step = opens-step m n at ls c.args.k c.loop-level.at.rest c.loop-level.slots c.find_opened_near-at.result
+    c.find_opened_near-at.new.slots tree down c.find_opened_near-at.ensures in
     record { tree = step.0; lines = c.find_opened_near-at.ensures.lines; down = step.1 }
 
 pub returns : goal.returns
 returns g c = let m = records c.args.store.now in let at = c.loop-level.at.child in
     let e : c.loop-level.level ≡ 0 = omega (arith, c.loop-level-test.false) in
     let ls = lines_in m c.args.height c.args.root in
-    opens-line m at ls c.args.k c.loop-level.at.rest c.loop-level.at.slots
-    (subst (λ h. Opens ls (lines_in m h at) c.args.k c.loop-level.at.rest c.loop-level.at.slots) e
+    opens-line m at ls c.args.k c.loop-level.at.rest c.loop-level.slots
+    (subst (λ h. Opens ls (lines_in m h at) c.args.k c.loop-level.at.rest c.loop-level.slots) e
     c.loop-level.invariant.down)

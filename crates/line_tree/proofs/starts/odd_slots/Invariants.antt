@@ -9,7 +9,7 @@ invariant-loop-level g l = record {
   tree : IsTree (records l.store) l.level l.at.child;
   lines : l.at.lines ≡ lines_at (records l.store) l.at.child;
   down : Opens (lines_in (records l.store) l.fn.height l.fn.root) (lines_in (records l.store) l.level l.at.child) l.fn.k
-      l.at.rest l.at.slots;
+      l.at.rest l.slots;
 }
 
 abbrev pub decreases-loop-level : goal.decreases-loop-level

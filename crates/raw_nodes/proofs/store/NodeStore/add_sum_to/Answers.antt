@@ -16,17 +16,16 @@ unfolding records
 returns-in-Line-clause-value g c =
     let h = c.args.self.now.heap in let p = c.args.name in let x = c.node.result.now in let e = c.node.ensures in
     let old = c.args.sum.now in
-    read_entry h.places h.values p x h.paired c.requires.name e (λ r. c.add.new.self ≡ plus old r.sum)
-    (c.add.ensures ∙ ap (plus old) (c.sum.ensures
-    ∙ sym (ap (λ k. (record_in k (link_name x.parent) x.slot).sum) c.in-Line.is)))
+    read_entry h.places h.values p x h.paired c.requires.name e (λ r. c.add_to.new.sum ≡ plus old r.sum)
+    (c.add_to.ensures ∙ ap (plus old) (sym (ap (λ k. (record_in k (link_name x.parent) x.slot).sum) c.in-Line.is)))
 
 pub returns-in-Inner-clause-value : goal.returns-in-Inner-clause-value
 unfolding records
 returns-in-Inner-clause-value g c =
     let h = c.args.self.now.heap in let p = c.args.name in let x = c.node.result.now in let e = c.node.ensures in
     let old = c.args.sum.now in
-    read_entry h.places h.values p x h.paired c.requires.name e (λ r. c.add-in-Inner.new.self ≡ plus old r.sum)
-    (c.add-in-Inner.ensures ∙ ap (plus old) (ap (λ z. z.sum) c.deref.ensures
+    read_entry h.places h.values p x h.paired c.requires.name e (λ r. c.add.new.self ≡ plus old r.sum)
+    (c.add.ensures ∙ ap (plus old) (ap (λ z. z.sum) c.deref.ensures
     ∙ sym (ap (λ k. (record_in k (link_name x.parent) x.slot).sum) c.in-Inner.is)))
 
 pub returns-in-Spare-clause-value : goal.returns-in-Spare-clause-value
@@ -37,19 +36,17 @@ returns-in-Spare-clause-value g c =
     read_entry h.places h.values p x h.paired c.requires.name e (λ r. c.args.sum.now ≡ plus c.args.sum.now r.sum)
     (absurd (false≢true (sym (ap is_used c.in-Spare.is) ∙ used)))
 
+pub add_to-requires : goal.add_to-requires
+unfolding records
+add_to-requires g c =
+    let h = c.args.self.now.heap in let p = c.args.name in let x = c.node.result.now in let e = c.node.ensures in
+    let old = c.args.sum.now in
+    subst (CountsFit old) (ap (λ k. (record_in k (link_name x.parent) x.slot).sum) c.in-Line.is)
+    (told_entry h.places h.values p x h.paired c.requires.name e (λ r. CountsFit old r.sum) c.requires.fits)
+
 pub add-requires : goal.add-requires
 unfolding records
 add-requires g c =
-    let h = c.args.self.now.heap in let p = c.args.name in let x = c.node.result.now in let e = c.node.ensures in
-    let old = c.args.sum.now in (
-      omega arith,
-      subst (CountsFit old) (ap (λ k. (record_in k (link_name x.parent) x.slot).sum) c.in-Line.is ∙ sym c.sum.ensures)
-          (told_entry h.places h.values p x h.paired c.requires.name e (λ r. CountsFit old r.sum) c.requires.fits),
-    )
-
-pub add-requires-in-Inner : goal.add-requires-in-Inner
-unfolding records
-add-requires-in-Inner g c =
     let h = c.args.self.now.heap in let p = c.args.name in let x = c.node.result.now in let e = c.node.ensures in
     let old = c.args.sum.now in (
       omega arith,

@@ -21,7 +21,7 @@ pub overflow_add-self-2 : goal.overflow_add-self-2
 overflow_add-self-2 g c =
     let a = c.args.self.now in let few = count-le a.heap.values in let counted = a.counted in let whole = a.whole in
     let small = a.small in let full = c.if-self.false in
-    let less : a.count + 1 < 2 ^ 64 = grind (arith, nat_tests, small, full) in
+    let less : a.count + 1 < 2 ^ 32 = grind (arith, nat_tests, small, full) in
     record { fits = omega (arith, few, counted, whole, less) }
 
 pub invariant_of-self : goal.invariant_of-self

@@ -40,6 +40,6 @@ unfolding records
 returns-clause-records g c =
     let a = c.args.self.now in let h = a.heap in let p = c.args.name in let named = c.requires.0 in
     let x = c.node_mut.result.now in let e = c.node_mut.ensures.value in
-    rewritten h.places h.values p x _ h.paired named e refl (λ r. with_sum r c.args.sum)
-    (summed x.held c.branch_mut.result.now c.set_sum.new.self _ x.slot c.args.sum c.branch_mut.ensures.value
+    rewritten h.places h.values p x _ h.paired named e refl (λ r. with_sum r c.args.sum.now)
+    (summed x.held c.branch_mut.result.now c.set_sum.new.self _ x.slot c.args.sum.now c.branch_mut.ensures.value
     c.set_sum.ensures)

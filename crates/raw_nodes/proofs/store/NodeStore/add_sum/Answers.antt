@@ -5,8 +5,8 @@ use Rattle.raw_nodes.specs.Records.{record_in, with_sum}
 use Rattle.raw_nodes.proofs.NameLaws.{listed_kept, whole_kept, chain_kept, count_kept, in_use, name_place, numbers_kept}
 use Rattle.raw_nodes.proofs.NameLaws.{rewritten, recounted, room_if, rooms_kept, told_entry}
 use Rattle.raw_nodes.specs.Links.{link_name}
-use Rattle.toggle_sums.specs.Counts.{CountsFit, counting, plus}
-use Rattle.raw_nodes.proofs.store.NodeStore.add_counts.Goals as goal
+use Rattle.toggle_sums.specs.Counts.{CountsFit, plus}
+use Rattle.raw_nodes.proofs.store.NodeStore.add_sum.Goals as goal
 
 pub node_mut-requires : goal.node_mut-requires
 unfolding records
@@ -43,15 +43,15 @@ unfolding records
 returns-clause-records g c =
     let a = c.args.self.now in let h = a.heap in let p = c.args.name in let named = c.requires.name.0 in
     let x = c.node_mut.result.now in let e = c.node_mut.ensures.value in
-    let more = counting c.args.lines c.args.characters c.args.marks in
+    let more = c.args.more.now in
     rewritten h.places h.values p x _ h.paired named e refl (λ r. with_sum r (plus r.sum more))
-    (recounted x.held c.branch_mut-branch.result.now c.add_counts.new.self _ x.slot (λ s. plus s more)
-    c.branch_mut-branch.ensures.value c.add_counts.ensures)
+    (recounted x.held c.branch_mut-branch.result.now c.add_sum.new.self _ x.slot (λ s. plus s more)
+    c.branch_mut-branch.ensures.value c.add_sum.ensures)
 
-pub add_counts-requires : goal.add_counts-requires
+pub add_sum-requires : goal.add_sum-requires
 unfolding records
-add_counts-requires g c =
+add_sum-requires g c =
     let h = c.args.self.now.heap in let p = c.args.name in let x = c.node_mut.result.now in
-    let e = c.node_mut.ensures.value in let more = counting c.args.lines c.args.characters c.args.marks in
+    let e = c.node_mut.ensures.value in let more = c.args.more.now in
     subst (λ k. CountsFit (record_in k (link_name x.parent) x.slot).sum more) c.branch_mut-branch.ensures.value
     (told_entry h.places h.values p x h.paired c.requires.name.0 e (λ r. CountsFit r.sum more) c.requires.fits)
