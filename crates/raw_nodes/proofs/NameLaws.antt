@@ -5,7 +5,7 @@ use lib.ListN.{length-set}
 use mathlib.Core.Bool.{false≢true}
 use Rattle.std.specs.Prelude.{IfSome, IsSome, Option, None, Some, is_some}
 use Rattle.segments.specs.Columns.{LineContent}
-use Rattle.toggle_sums.specs.Counts.{Count, plus}
+use Rattle.toggle_sums.specs.Counts.{Count}
 use Rattle.std.specs.FinMap.{get, insert, remove}
 use Rattle.std.specs.List.{range_with_len, sum_by}
 use Rattle.std.proofs.lemmas.List.{map-append, map-set, length-map, get_or-map}
