@@ -7,7 +7,7 @@ use Rattle.text_model.specs.Content.{Slots}
 use Rattle.text_model.specs.SlotSets.{differing}
 use Rattle.toggle_sums.specs.CountLaws.{differing-empty, same_slots, union-commutative}
 use Rattle.toggle_sums.specs.Toggles.{parity, presence}
-use Rattle.segments.specs.Columns.{LineContent, toggles}
+use Rattle.segments.specs.Columns.{toggles}
 use Rattle.line_tree.specs.Trees.{Named, total}
 
 left_false : (a b : Bool) → (a || b) ≡ false → a ≡ false

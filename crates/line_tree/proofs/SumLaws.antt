@@ -4,10 +4,9 @@
 --     fits-none               the sum with nothing more fits too
 --     fits-part               a part and so much more fit where the sum and so much more do
 --     fits-both               two parts can be added where the sum fits
---     bare-counts             without toggles a sum is its counts
 use Rattle.std.proofs.Common.{◌≡◌, List, [], ◌∷◌, ◌++◌, sym, ap, ◌∙◌, subst, arith}
 use Rattle.toggle_sums.specs.CountLaws.{no_text-plus, plus-associative, plus-no_text}
-use Rattle.toggle_sums.specs.Counts.{Count, CountsFit, IsBare, counting, no_text, plus}
+use Rattle.toggle_sums.specs.Counts.{Count, CountsFit, no_text, plus}
 use Rattle.segments.specs.Columns.{line_count}
 use Rattle.line_tree.specs.Changes.{FitsSum}
 use Rattle.line_tree.specs.Trees.{Named, total}
@@ -34,12 +33,3 @@ fits-part a b c d fits = let l = fits.lines in let h = fits.characters in let m 
 
 pub fits-both : (a b : Count) → FitsSum (plus a b) → CountsFit a b
 fits-both a b fits = record { lines = fits.lines; characters = fits.characters; marks = fits.marks }
-
-pub bare-counts : (s : Count) → IsBare s → counting s.lines s.characters s.marks ≡ s
-bare-counts s bare = λ i. record {
-  lines = s.lines;
-  characters = s.characters;
-  marks = s.marks;
-  parity = sym bare.parity i;
-  presence = sym bare.presence i;
-}

@@ -72,7 +72,7 @@ pub fn resum<C: Ticks>(store: &mut NodeStore<C>, node: NodePtr, ticks: &mut C)
     ensures rooms { rooms store.new ≡ rooms store.old }
 {
     let sum = sum_below(store, node, ticks);
-    store.set_sum(node, sum);
+    store.set_sum(node, &sum);
 }
 
 /// Makes a node's sum that of its children, below which stands so much more than before.
@@ -125,24 +125,24 @@ pub fn sum_of<C: Ticks>(
     sum
 }
 
-/// What is counted of the text below these nodes, which is that much less than a sum. Which slots are toggled is asked
-/// of them, where some are in what went.
-pub fn sum_less<C: Ticks>(
+/// Makes a sum that of these nodes, which is that much less. Which slots are toggled is asked of them, where some are in
+/// what went.
+pub fn lessen_sum<C: Ticks>(
     store: &NodeStore<C>,
     nodes: &[Option<NodePtr>; 12],
-    sum: &Sums<WORDS>,
+    sum: &mut Sums<WORDS>,
     gone: &Sums<WORDS>,
     ticks: &mut C,
-) -> Sums<WORDS>
+)
     requires nodes { (i : ℕ) (c : _) → slice_get nodes.now i ≡ Some (Some c) → IsName store.now c }
-    requires sum { plus (sums (records store.now) nodes.now) gone.now ≡ sum.now }
+    requires sum { plus (sums (records store.now) nodes.now) gone.now ≡ sum.old }
     requires fits { FitsSum (sums (records store.now) nodes.now) }
-    ensures { result ≡ sums (records store.now) nodes.now }
+    ensures { sum.new ≡ sums (records store.now) nodes.now }
 {
     if gone.is_bare() {
-        sum.less(gone.lines(), gone.characters(), gone.marks())
+        sum.lose_counts(gone.lines(), gone.characters(), gone.marks());
     } else {
-        sum_of(store, nodes, ticks)
+        *sum = sum_of(store, nodes, ticks);
     }
 }
 
@@ -152,12 +152,12 @@ pub fn refill<C: Ticks>(
     node: NodePtr,
     from: usize,
     children: &[Option<NodePtr>; 12],
-    sum: Sums<WORDS>,
+    sum: &Sums<WORDS>,
 )
     requires fill { (cs : _) × (children.now ≡ row cs) × CanFill (records store.old) node cs }
     requires from { from ≤ 12 }
     requires kept { Stay (records store.old) node from children.now }
-    requires sum { sum ≡ sums (records store.old) children.now }
+    requires sum { sum.now ≡ sums (records store.old) children.now }
     ensures records { records store.new ≡ refilled (records store.old) node children.now }
     ensures spares { spares store.new ≡ spares store.old }
     ensures rooms { rooms store.new ≡ rooms store.old }
@@ -187,7 +187,7 @@ pub fn join<C: Ticks>(
     children[0] = Some(left);
     children[1] = Some(right);
     let sum = sum_of(store, &children, ticks);
-    refill(store, root, 0, &children, sum);
+    refill(store, root, 0, &children, &sum);
     root
 }
 
@@ -205,7 +205,7 @@ pub fn top<C: Ticks>(store: &mut NodeStore<C>, child: NodePtr, sum: Sums<WORDS>)
     let mut children = [None; 12];
     children[0] = Some(child);
     relink(store, root, 0, &children);
-    store.set_sum(root, sum);
+    store.set_sum(root, &sum);
     root
 }
 
@@ -317,16 +317,16 @@ pub fn put<C: Ticks>(
         add(store, node, more);
         None
     } else {
-        let old = store.sum(node, ticks);
-        let sum = old.plus(more);
+        let mut sum = store.sum(node, ticks);
+        sum.add(more);
         let half = first_half(at);
         let left = part(store, node, at, extra, 0, half, ticks);
         let right = part(store, node, at, extra, half, 13 - half, ticks);
         let last = sum_of(store, &right, ticks);
-        let first = sum_less(store, &left, &sum, &last, ticks);
+        lessen_sum(store, &left, &mut sum, &last, ticks);
         let sibling = store.make(None);
-        refill(store, node, at.min(half), &left, first);
-        refill(store, sibling, 0, &right, last);
+        refill(store, node, at.min(half), &left, &sum);
+        refill(store, sibling, 0, &right, &last);
         Some(sibling)
     }
 }

@@ -25,12 +25,7 @@ pub struct LineBelow {
 }
 
 /// Puts a line in the place of another, under its name, and says what went and what came.
-fn put_over<C: Ticks>(
-    store: &mut NodeStore<C>,
-    name: NodePtr,
-    line: Line,
-    exchange: &mut Exchange,
-)
+fn put_over<C: Ticks>(store: &mut NodeStore<C>, name: NodePtr, line: Line, exchange: &mut Exchange)
     requires line { IsTree (records store.old) 0 name }
     ensures puts { PutsOver (records store.old) (records store.new) name line exchange.new.gone exchange.new.more }
     ensures spares { spares store.new ≡ spares store.old }

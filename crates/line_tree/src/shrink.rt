@@ -9,10 +9,10 @@ ghost use Rattle.line_tree.specs.Shape.{Links, sum_at};
 ghost use Rattle.line_tree.specs.Changes.{CanEven, CanFill, Evens, Halves, Mends, refilled, relinked, shared, sum_all};
 ghost use Rattle.line_tree.specs.Shrinking.{CanMend};
 
-use crate::fill::{lessen, link, refill, sum_less, sum_of};
+use crate::fill::{lessen, lessen_sum, link, refill, sum_of};
 use raw_nodes::{NodePtr, NodeStore, Ticks};
 use text_model::WORDS;
-use toggle_sums::{Summary, Sums};
+use toggle_sums::Sums;
 
 /// Number `i` of a node's children.
 pub fn kid<C: Ticks>(
@@ -100,18 +100,20 @@ fn sum_halves<C: Ticks>(
         (drop half (kids (records store.now) left ++ kids (records store.now) right)) }
 {
     let first = store.children(left);
-    let sum_left = store.sum(left, ticks);
-    let sum_right = store.sum(right, ticks);
+    let mut sum_left = store.sum(left, ticks);
+    let mut sum_right = store.sum(right, ticks);
     if first < half {
         let moved = part_pair(store, left, right, first, half - first, ticks);
         let sum = sum_of(store, &moved, ticks);
-        let rest = sum_less(store, stay, &sum_right, &sum, ticks);
-        (sum_left.plus(&sum), rest)
+        sum_left.add(&sum);
+        lessen_sum(store, stay, &mut sum_right, &sum, ticks);
+        (sum_left, sum_right)
     } else {
         let moved = part_pair(store, left, right, half, first - half, ticks);
         let sum = sum_of(store, &moved, ticks);
-        let rest = sum_less(store, stay, &sum_left, &sum, ticks);
-        (rest, sum.plus(&sum_right))
+        lessen_sum(store, stay, &mut sum_left, &sum, ticks);
+        sum_right.add(&sum);
+        (sum_left, sum_right)
     }
 }
 
@@ -134,8 +136,8 @@ pub fn share<C: Ticks>(
     let back = part_pair(store, left, right, half, 12, ticks);
     let stay = if first < half { &back } else { &front };
     let (sum_front, sum_back) = sum_halves(store, left, right, half, stay, ticks);
-    refill(store, left, first.min(half), &front, sum_front);
-    refill(store, right, 0, &back, sum_back);
+    refill(store, left, first.min(half), &front, &sum_front);
+    refill(store, right, 0, &back, &sum_back);
 }
 
 /// Gives all children of two nodes to the left one, where it can have them and one more, and else half to each: a node
@@ -150,9 +152,9 @@ fn even<C: Ticks>(store: &mut NodeStore<C>, left: NodePtr, right: NodePtr, ticks
     let count = first + store.children(right);
     if count < 12 {
         let all = part_pair(store, left, right, 0, 12, ticks);
-        let sum_left = store.sum(left, ticks);
-        let sum_right = store.sum(right, ticks);
-        refill(store, left, first, &all, sum_left.plus(&sum_right));
+        let mut sum = store.sum(left, ticks);
+        store.add_sum_to(right, &mut sum, ticks);
+        refill(store, left, first, &all, &sum);
         true
     } else {
         share(store, left, right, count / 2, ticks);

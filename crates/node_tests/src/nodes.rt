@@ -91,7 +91,7 @@ fn counts_below(rt: HostRuntime) -> Result<(), Fail> {
     let mut store: NodeStore<Steps> = NodeStore::new(rt.alloc());
     store.reserve(1)?;
     let top = store.make(None);
-    store.set_sum(top, Sums::counting(2, 9, 1));
+    store.set_sum(top, &Sums::counting(2, 9, 1));
     store.add_sum(top, &Sums::counting(1, 4, 0));
     store.lose_counts(top, 2, 9, 1);
     assert!(rt; store.size(top, &mut Steps::new()) == (1, 4));
@@ -103,7 +103,7 @@ fn sums_exchanged(rt: HostRuntime) -> Result<(), Fail> {
     let mut store: NodeStore<Steps> = NodeStore::new(rt.alloc());
     store.reserve(1)?;
     let top = store.make(None);
-    store.set_sum(top, Sums::counting(2, 9, 1));
+    store.set_sum(top, &Sums::counting(2, 9, 1));
     let mut exchange = Exchange::none();
     exchange.set(&Sums::counting(1, 4, 0), &Sums::counting(2, 6, 0));
     store.exchange(top, &exchange);
@@ -116,7 +116,7 @@ fn sums_added(rt: HostRuntime) -> Result<(), Fail> {
     let mut store: NodeStore<Steps> = NodeStore::new(rt.alloc());
     store.reserve(1)?;
     let top = store.make(None);
-    store.set_sum(top, Sums::counting(2, 9, 1));
+    store.set_sum(top, &Sums::counting(2, 9, 1));
     let mut sum = Sums::counting(1, 1, 1);
     store.add_sum_to(top, &mut sum, &mut Steps::new());
     assert!(rt; sum.lines() == 3 && sum.characters() == 10 && sum.marks() == 2);

@@ -68,15 +68,15 @@ returns-then-is_none-clause-puts g c = let m = records c.args.store.now in
     shifted-fills m c.args.node c.args.at c.args.extra c.requires.put few (records c.shift.new.store)
     c.shift.ensures.records (records c.add.new.store) c.add.ensures.records
 
-pub sum-old-requires : goal.sum-old-requires
-sum-old-requires g c = named-row (records c.args.store.now) c.args.node c.requires.put.row
+pub sum-sum-requires : goal.sum-sum-requires
+sum-sum-requires g c = named-row (records c.args.store.now) c.args.node c.requires.put.row
 
-pub plus-sum-requires : goal.plus-sum-requires
-plus-sum-requires g c = let m = records c.args.store.now in let p = c.args.node in
+pub add-requires-else-is_none : goal.add-requires-else-is_none
+add-requires-else-is_none g c = let m = records c.args.store.now in let p = c.args.node in
     let all = insert (kids m p) c.args.at c.args.extra in
-    let now = summed m p c.sum-old.result c.args.more.now (sum_all m all) c.requires.put.row c.sum-old.ensures.value
+    let now = summed m p c.sum-sum.result c.args.more.now (sum_all m all) c.requires.put.row c.sum-sum.ensures.value
     c.requires.sum in
-    (omega arith, fits-both c.sum-old.result c.args.more.now (subst FitsSum (sym now) c.requires.put.fits))
+    (omega arith, fits-both c.sum-sum.result c.args.more.now (subst FitsSum (sym now) c.requires.put.fits))
 
 -- the parts of a node that splits
 named-part : (m : Records) (p : NodePtr) (at : ℕ) (x : NodePtr) → CanPut m p at x → (cs : List NodePtr) →
@@ -97,13 +97,13 @@ sum_of-last-requires g c = let m = records c.args.store.now in let half = c.firs
       fits = subst (λ os. FitsSum (sums m os)) (sym is) (last-fits m p c.args.at c.args.extra c.requires.put half);
     }
 
-pub sum_less-first-requires : goal.sum_less-first-requires
-sum_less-first-requires g c = let m = records c.args.store.now in let half = c.first_half-half.result in
+pub lessen_sum-requires : goal.lessen_sum-requires
+lessen_sum-requires g c = let m = records c.args.store.now in let half = c.first_half-half.result in
     let p = c.args.node in let all = insert (kids m p) c.args.at c.args.extra in
     let more = length-insert (kids m p) c.args.at c.args.extra c.requires.put.place in
     let few : length all ≤ 13 = omega (arith, c.requires.put.row.few) in
-    let sum = c.plus-sum.ensures ∙ summed m p c.sum-old.result c.args.more.now (sum_all m all) c.requires.put.row
-    c.sum-old.ensures.value c.requires.sum in
+    let sum = c.add-else-is_none.ensures ∙ summed m p c.sum-sum.result c.args.more.now (sum_all m all) c.requires.put.row
+    c.sum-sum.ensures.value c.requires.sum in
     let one = ap (sums m) c.part-left.ensures ∙ sums-row m (take half all) in
     let two = c.sum_of-last.ensures ∙ ap (sums m) (c.part-right.ensures
     ∙ last all half c.first_half-half.ensures.high few) ∙ sums-row m (drop half all) in
@@ -131,7 +131,7 @@ refill-requires g c = let m = records c.args.store.now in let half = c.first_hal
           (subst (λ n. Stay n p c.min.result (row (take half all))) (sym c.make-sibling.ensures.records)
           (kept-left m p c.args.at c.args.extra c.requires.put c.make-sibling.result c.make-sibling.ensures.fresh half
           c.min.result (omega (arith, c.min.ensures)) (omega (arith, c.min.ensures))));
-      sum = c.sum_less-first.ensures ∙ ap (sums m) c.part-left.ensures
+      sum = c.lessen_sum.ensures ∙ ap (sums m) c.part-left.ensures
           ∙ sym (ap (λ n. sums n c.part-left.result) c.make-sibling.ensures.records
           ∙ ap (sums (finite.insert m c.make-sibling.result (blank None))) c.part-left.ensures
           ∙ left-sums m p c.args.at c.args.extra c.requires.put c.make-sibling.result c.make-sibling.ensures.fresh

@@ -39,7 +39,7 @@ put_over-requires g t c = let m = records c.args.store.now in
 
 pub returns-then-at-eq0-clause-changes : goal.returns-then-at-eq0-clause-changes
 returns-then-at-eq0-clause-changes g t c = let m = records c.args.store.now in
-    let n = records c.put_over.new.store in let p = c.args.at.node in let k = c.args.at.k in let sums = c.put_over.result in
+    let n = records c.put_over.new.store in let p = c.args.at.node in let k = c.args.at.k in let sums = c.put_over.new.exchange in
     subst (λ h. Changes m n h p k (λ _. c.args.line) sums.gone sums.more) (sym c.if-at-eq0.true)
     (puts-line m n p k c.args.line sums.gone sums.more
     (low m c.args.at.height p k c.if-at-eq0.true c.requires.change) c.put_over.ensures.puts)
@@ -50,8 +50,8 @@ returns-then-at-eq0-clause-more g t c = c.put_over.ensures.puts.came
 pub returns-then-at-eq0-clause-went : goal.returns-then-at-eq0-clause-went
 returns-then-at-eq0-clause-went g t c = let m = records c.args.store.now in let p = c.args.at.node in
     let can = low m c.args.at.height p c.args.at.k c.if-at-eq0.true c.requires.change in
-    subst (λ h. IsWithin c.put_over.result.gone (total (lines_in m h p))) (sym c.if-at-eq0.true)
-    (within-line m p (records c.put_over.new.store) c.args.line c.put_over.result.gone c.put_over.result.more
+    subst (λ h. IsWithin c.put_over.new.exchange.gone (total (lines_in m h p))) (sym c.if-at-eq0.true)
+    (within-line m p (records c.put_over.new.store) c.args.line c.put_over.new.exchange.gone c.put_over.new.exchange.more
     c.args.at.k can c.put_over.ensures.puts)
 
 pub find_at-found-requires-clause-tree : goal.find_at-found-requires-clause-tree

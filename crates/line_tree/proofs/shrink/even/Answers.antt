@@ -7,12 +7,13 @@ use Rattle.raw_nodes.specs.Names.{records}
 use Rattle.raw_nodes.specs.Records.{Records}
 use Rattle.raw_nodes.specs.Rows.{kids, row}
 use Rattle.raw_nodes.specs.declared.names.NodePtr.{NodePtr}
-use Rattle.toggle_sums.specs.Counts.{Count, plus}
+use Rattle.toggle_sums.specs.Counts.{Count, CountsFit, plus}
 use Rattle.line_tree.specs.Changes.{CanEven, FitsSum, Halves, refilled, sum_all, sums}
+use Rattle.line_tree.specs.Shape.{sum_at}
 use Rattle.line_tree.proofs.EvenLaws.{fill-whole, kept-part, whole-sum}
 use Rattle.line_tree.proofs.FillLaws.{sums-row}
 use Rattle.line_tree.proofs.PutLaws.{count-row}
-use Rattle.line_tree.proofs.RowLaws.{sum_is}
+use Rattle.line_tree.proofs.RowLaws.{added_is, asks, sum_is}
 use Rattle.line_tree.proofs.SumLaws.{fits-both}
 use Rattle.line_tree.proofs.TreeLaws.{named-row}
 use Rattle.line_tree.proofs.shrink.even.Goals as goal
@@ -21,11 +22,10 @@ whole : (all : List NodePtr) → length all ≤ 12 → row (take 12 (drop 0 all)
 whole all few = ap row (take_all 12 all few)
 
 -- the sum of both
-both_are : (m : Records) (a b : NodePtr) (s t : Count) → CanEven m a b → IfSome (finite.get m a) (λ r. s ≡ r.sum) →
-    IfSome (finite.get m b) (λ r. t ≡ r.sum) → plus s t ≡ sum_all m (kids m a ++ kids m b)
-both_are m a b s t can left right = let one = sum_is m a s (named-row m a can.left) left in
-    let two = sum_is m b t (named-row m b can.right) right in
-    (λ i. plus (one i) (two i)) ∙ whole-sum m a b can
+both_are : (m : Records) (a b : NodePtr) (s : Count) → CanEven m a b → IfSome (finite.get m a) (λ r. s ≡ r.sum) →
+    plus s (sum_at m b) ≡ sum_all m (kids m a ++ kids m b)
+both_are m a b s can left =
+    ap (λ x. plus x (sum_at m b)) (sum_is m a s (named-row m a can.left) left) ∙ whole-sum m a b can
 
 -- half of them
 halved : (all first second : ℕ) → all ≡ first + second → first ≤ 12 → second ≤ 12 → 12 ≤ first + second →
@@ -39,17 +39,18 @@ both_halve m a b first second can na nb many = let n = length-append (kids m a) 
     let left = can.left.few in let right = can.right.few in
     halved (length (kids m a ++ kids m b)) first second (omega arith) (omega arith) (omega arith) many
 
-pub sum-sum_left-requires : goal.sum-sum_left-requires
-sum-sum_left-requires g c = named-row (records c.args.store.now) c.args.left c.requires.left
+pub sum-sum-requires : goal.sum-sum-requires
+sum-sum-requires g c = named-row (records c.args.store.now) c.args.left c.requires.left
 
-pub sum-sum_right-requires : goal.sum-sum_right-requires
-sum-sum_right-requires g c = named-row (records c.args.store.now) c.args.right c.requires.right
+pub add_sum_to-requires-clause-name : goal.add_sum_to-requires-clause-name
+add_sum_to-requires-clause-name g c = named-row (records c.args.store.now) c.args.right c.requires.right
 
-pub plus-requires : goal.plus-requires
-plus-requires g c = let m = records c.args.store.now in let a = c.args.left in let b = c.args.right in
-    let now = both_are m a b c.sum-sum_left.result c.sum-sum_right.result c.requires c.sum-sum_left.ensures.value
-    c.sum-sum_right.ensures.value in
-    (omega arith, fits-both c.sum-sum_left.result c.sum-sum_right.result (subst FitsSum (sym now) c.requires.fits))
+pub add_sum_to-requires-clause-fits : goal.add_sum_to-requires-clause-fits
+add_sum_to-requires-clause-fits g c = let m = records c.args.store.now in let b = c.args.right in
+    let s = c.sum-sum.result in
+    let now = both_are m c.args.left b s c.requires c.sum-sum.ensures.value in
+    asks (CountsFit s) m b (named-row m b c.requires.right)
+    (fits-both s (sum_at m b) (subst FitsSum (sym now) c.requires.fits))
 
 pub refill-requires : goal.refill-requires
 refill-requires g c = let m = records c.args.store.now in let a = c.args.left in let b = c.args.right in
@@ -63,8 +64,8 @@ refill-requires g c = let m = records c.args.store.now in let a = c.args.left in
       kept = kept-part m a b c.requires c.children-first.result all (omega arith)
           (take-append-le c.children-first.result (kids m a) (kids m b) (omega arith)) c.part_pair-all.result
           (c.part_pair-all.ensures ∙ whole all few);
-      sum = c.plus.ensures ∙ both_are m a b c.sum-sum_left.result c.sum-sum_right.result c.requires
-          c.sum-sum_left.ensures.value c.sum-sum_right.ensures.value
+      sum = added_is m b c.sum-sum.result _ (named-row m b c.requires.right) c.add_sum_to.ensures.value
+          ∙ both_are m a b c.sum-sum.result c.requires c.sum-sum.ensures.value
           ∙ sym (ap (sums m) (c.part_pair-all.ensures ∙ whole all few) ∙ sums-row m all);
     }
 

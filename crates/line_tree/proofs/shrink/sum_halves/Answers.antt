@@ -3,6 +3,7 @@ use Rattle.std.specs.Prelude.{IfSome}
 use Rattle.std.specs.declared.option.Option.{Option}
 use Rattle.std.specs.FinMap as finite
 use Rattle.std.proofs.lemmas.List.{take-append-drop}
+use Rattle.toggle_sums.specs.CountLaws.{plus-commutative}
 use Rattle.toggle_sums.specs.Counts.{Count, plus}
 use Rattle.raw_nodes.specs.Names.{records}
 use Rattle.raw_nodes.specs.Records.{Records}
@@ -76,8 +77,8 @@ sum_of-sum-requires-clause-fits g c = let m = records c.args.store.now in
     c.part_pair-moved.ensures (moved-fits m c.args.left c.args.right c.children-first.result (c.args.half - c.children-first.result)
     c.requires.even)
 
-pub sum_less-rest-requires-clause-nodes : goal.sum_less-rest-requires-clause-nodes
-sum_less-rest-requires-clause-nodes g c = let m = records c.args.store.now in
+pub lessen_sum-requires-clause-nodes : goal.lessen_sum-requires-clause-nodes
+lessen_sum-requires-clause-nodes g c = let m = records c.args.store.now in
     let na = count-row m c.args.left c.children-first.result c.requires.even.left c.children-first.ensures in
     let back = c.requires.back (shorter (length (kids m c.args.left)) c.children-first.result c.args.half na
     c.if-first-half.true) in
@@ -85,8 +86,8 @@ sum_less-rest-requires-clause-nodes g c = let m = records c.args.store.now in
     named-part m c.args.left c.args.right c.requires.even (drop c.args.half all) (λ d a. among-drop d c.args.half all a)
     c.args.stay.now back
 
-pub sum_less-rest-requires-clause-sum : goal.sum_less-rest-requires-clause-sum
-sum_less-rest-requires-clause-sum g c = let m = records c.args.store.now in
+pub lessen_sum-requires-clause-sum : goal.lessen_sum-requires-clause-sum
+lessen_sum-requires-clause-sum g c = let m = records c.args.store.now in
     let na = count-row m c.args.left c.children-first.result c.requires.even.left c.children-first.ensures in
     let back = c.requires.back (shorter (length (kids m c.args.left)) c.children-first.result c.args.half na
     c.if-first-half.true) in
@@ -100,8 +101,8 @@ sum_less-rest-requires-clause-sum g c = let m = records c.args.store.now in
     (omega (arith, c.if-first-half.true))
     ∙ sym (right_is m a b c.sum-sum_right.result c.requires.even c.sum-sum_right.ensures.value)
 
-pub sum_less-rest-requires-clause-fits : goal.sum_less-rest-requires-clause-fits
-sum_less-rest-requires-clause-fits g c = let m = records c.args.store.now in
+pub lessen_sum-requires-clause-fits : goal.lessen_sum-requires-clause-fits
+lessen_sum-requires-clause-fits g c = let m = records c.args.store.now in
     let na = count-row m c.args.left c.children-first.result c.requires.even.left c.children-first.ensures in
     let back = c.requires.back (shorter (length (kids m c.args.left)) c.children-first.result c.args.half na
     c.if-first-half.true) in
@@ -117,8 +118,8 @@ grown : (m : Records) (a b : NodePtr) (first half : ℕ) (s moved : Count) → f
 grown m a b first half s moved is less left more =
     (λ i. plus (left i) (more i)) ∙ left-more m (kids m a) (kids m b) first half is less
 
-pub plus-requires : goal.plus-requires
-plus-requires g c = let m = records c.args.store.now in
+pub add-requires : goal.add-requires
+add-requires g c = let m = records c.args.store.now in
     let na = count-row m c.args.left c.children-first.result c.requires.even.left c.children-first.ensures in
     let a = c.args.left in let b = c.args.right in
     let all = kids m a ++ kids m b in let first = c.children-first.result in let half = c.args.half in
@@ -140,7 +141,7 @@ returns-then-first-half-clause-first g c = let m = records c.args.store.now in
     let b = c.args.right in let all = kids m a ++ kids m b in let first = c.children-first.result in let half = c.args.half in
     let moved = moved_is m (take (half - first) (drop first all)) c.part_pair-moved.result c.sum_of-sum.result
     c.part_pair-moved.ensures c.sum_of-sum.ensures in
-    c.plus.ensures ∙ grown m a b first half c.sum-sum_left.result c.sum_of-sum.result na
+    c.add.ensures ∙ grown m a b first half c.sum-sum_left.result c.sum_of-sum.result na
     (omega (arith, c.if-first-half.true))
     (left_is m a b c.sum-sum_left.result c.requires.even c.sum-sum_left.ensures.value) moved
 
@@ -150,7 +151,7 @@ returns-then-first-half-clause-last g c = let m = records c.args.store.now in
     let back = c.requires.back (shorter (length (kids m c.args.left)) c.children-first.result c.args.half na
     c.if-first-half.true) in
     let all = kids m c.args.left ++ kids m c.args.right in
-    c.sum_less-rest.ensures ∙ ap (sums m) back
+    c.lessen_sum.ensures ∙ ap (sums m) back
     ∙ sums-row m (drop c.args.half all)
 
 -- ---- to the right
@@ -168,8 +169,8 @@ sum_of-sum-requires-else-first-half-clause-fits g c = let m = records c.args.sto
     c.part_pair-moved-else-first-half.ensures
     (moved-fits m c.args.left c.args.right c.args.half (c.children-first.result - c.args.half) c.requires.even)
 
-pub sum_less-rest-requires-else-first-half-clause-nodes : goal.sum_less-rest-requires-else-first-half-clause-nodes
-sum_less-rest-requires-else-first-half-clause-nodes g c = let m = records c.args.store.now in
+pub lessen_sum-requires-else-first-half-clause-nodes : goal.lessen_sum-requires-else-first-half-clause-nodes
+lessen_sum-requires-else-first-half-clause-nodes g c = let m = records c.args.store.now in
     let na = count-row m c.args.left c.children-first.result c.requires.even.left c.children-first.ensures in
     let front = c.requires.front (longer (length (kids m c.args.left)) c.children-first.result c.args.half na
     c.if-first-half.false) in
@@ -177,8 +178,8 @@ sum_less-rest-requires-else-first-half-clause-nodes g c = let m = records c.args
     named-part m c.args.left c.args.right c.requires.even (take c.args.half all) (λ d a. among-take d c.args.half all a)
     c.args.stay.now front
 
-pub sum_less-rest-requires-else-first-half-clause-sum : goal.sum_less-rest-requires-else-first-half-clause-sum
-sum_less-rest-requires-else-first-half-clause-sum g c = let m = records c.args.store.now in
+pub lessen_sum-requires-else-first-half-clause-sum : goal.lessen_sum-requires-else-first-half-clause-sum
+lessen_sum-requires-else-first-half-clause-sum g c = let m = records c.args.store.now in
     let na = count-row m c.args.left c.children-first.result c.requires.even.left c.children-first.ensures in
     let front = c.requires.front (longer (length (kids m c.args.left)) c.children-first.result c.args.half na
     c.if-first-half.false) in
@@ -192,8 +193,8 @@ sum_less-rest-requires-else-first-half-clause-sum g c = let m = records c.args.s
     (omega (arith, c.if-first-half.false))
     ∙ sym (left_is m a b c.sum-sum_left.result c.requires.even c.sum-sum_left.ensures.value)
 
-pub sum_less-rest-requires-else-first-half-clause-fits : goal.sum_less-rest-requires-else-first-half-clause-fits
-sum_less-rest-requires-else-first-half-clause-fits g c = let m = records c.args.store.now in
+pub lessen_sum-requires-else-first-half-clause-fits : goal.lessen_sum-requires-else-first-half-clause-fits
+lessen_sum-requires-else-first-half-clause-fits g c = let m = records c.args.store.now in
     let na = count-row m c.args.left c.children-first.result c.requires.even.left c.children-first.ensures in
     let front = c.requires.front (longer (length (kids m c.args.left)) c.children-first.result c.args.half na
     c.if-first-half.false) in
@@ -205,12 +206,12 @@ sum_less-rest-requires-else-first-half-clause-fits g c = let m = records c.args.
 -- the sum of the last
 lengthened : (m : Records) (a b : NodePtr) (first half : ℕ) (s moved : Count) → first ≡ length (kids m a) →
     half ≤ first → s ≡ sum_all m (kids m b) → moved ≡ sum_all m (take (first - half) (drop half (kids m a ++ kids m b)))
-    → plus moved s ≡ sum_all m (drop half (kids m a ++ kids m b))
+    → plus s moved ≡ sum_all m (drop half (kids m a ++ kids m b))
 lengthened m a b first half s moved is less right more =
-    (λ i. plus (more i) (right i)) ∙ right-more m (kids m a) (kids m b) first half is less
+    plus-commutative s moved ∙ (λ i. plus (more i) (right i)) ∙ right-more m (kids m a) (kids m b) first half is less
 
-pub plus-requires-else-first-half : goal.plus-requires-else-first-half
-plus-requires-else-first-half g c = let m = records c.args.store.now in
+pub add-requires-else-first-half : goal.add-requires-else-first-half
+add-requires-else-first-half g c = let m = records c.args.store.now in
     let na = count-row m c.args.left c.children-first.result c.requires.even.left c.children-first.ensures in
     let a = c.args.left in let b = c.args.right in
     let all = kids m a ++ kids m b in let first = c.children-first.result in let half = c.args.half in
@@ -221,7 +222,7 @@ plus-requires-else-first-half g c = let m = records c.args.store.now in
     (omega (arith, c.if-first-half.false))
     (right_is m a b c.sum-sum_right.result c.requires.even c.sum-sum_right.ensures.value) moved in (
       omega arith,
-      fits-both c.sum_of-sum-else-first-half.result c.sum-sum_right.result
+      fits-both c.sum-sum_right.result c.sum_of-sum-else-first-half.result
           (subst FitsSum (sym now) (fits-right (sum_all m (take half all)) (sum_all m (drop half all))
           (halves m a b c.requires.even half))),
     )
@@ -232,7 +233,7 @@ returns-else-first-half-clause-first g c = let m = records c.args.store.now in
     let front = c.requires.front (longer (length (kids m c.args.left)) c.children-first.result c.args.half na
     c.if-first-half.false) in
     let all = kids m c.args.left ++ kids m c.args.right in
-    c.sum_less-rest-else-first-half.ensures ∙ ap (sums m) front ∙ sums-row m (take c.args.half all)
+    c.lessen_sum-else-first-half.ensures ∙ ap (sums m) front ∙ sums-row m (take c.args.half all)
 
 pub returns-else-first-half-clause-last : goal.returns-else-first-half-clause-last
 returns-else-first-half-clause-last g c = let m = records c.args.store.now in
@@ -242,6 +243,6 @@ returns-else-first-half-clause-last g c = let m = records c.args.store.now in
     let moved = moved_is m (take (first - half) (drop half all)) c.part_pair-moved-else-first-half.result
     c.sum_of-sum-else-first-half.result c.part_pair-moved-else-first-half.ensures
     c.sum_of-sum-else-first-half.ensures in
-    c.plus-else-first-half.ensures ∙ lengthened m a b first half c.sum-sum_right.result
+    c.add-else-first-half.ensures ∙ lengthened m a b first half c.sum-sum_right.result
     c.sum_of-sum-else-first-half.result na (omega (arith, c.if-first-half.false))
     (right_is m a b c.sum-sum_right.result c.requires.even c.sum-sum_right.ensures.value) moved

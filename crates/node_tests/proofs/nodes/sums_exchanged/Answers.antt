@@ -18,13 +18,13 @@ exchange-requires-clause-name g c =
 pub exchange-requires-clause-sum : goal.exchange-requires-clause-sum
 exchange-requires-clause-sum g c =
     at _ _ (with_sum (blank None) c.counting.result)
-    (λ r. CanExchange c.of-exchange.result.gone c.of-exchange.result.more c.of-exchange.result.is_level r.sum)
+    (λ r. CanExchange c.set.new.self.gone c.set.new.self.more c.set.new.self.is_level r.sum)
     (get-summed _ _ _ _ c.counting.result c.make-top.ensures.records c.set_sum.ensures.records)
-    (subst (λ (s : Count). CanExchange c.of-exchange.result.gone c.of-exchange.result.more c.of-exchange.result.is_level s) (sym c.counting.ensures)
-    (subst (λ (s : Count). CanExchange s c.of-exchange.result.more c.of-exchange.result.is_level (counting 2 9 1))
-    (sym (c.of-exchange.ensures.gone ∙ c.counting-2.ensures))
-    (subst (λ (s : Count). CanExchange (counting 1 4 0) s c.of-exchange.result.is_level (counting 2 9 1))
-    (sym (c.of-exchange.ensures.more ∙ c.counting-3.ensures))
+    (subst (λ (s : Count). CanExchange c.set.new.self.gone c.set.new.self.more c.set.new.self.is_level s) (sym c.counting.ensures)
+    (subst (λ (s : Count). CanExchange s c.set.new.self.more c.set.new.self.is_level (counting 2 9 1))
+    (sym (c.set.ensures.gone ∙ c.counting-2.ensures))
+    (subst (λ (s : Count). CanExchange (counting 1 4 0) s c.set.new.self.is_level (counting 2 9 1))
+    (sym (c.set.ensures.more ∙ c.counting-3.ensures))
     (record {
       fits = record { lines = omega arith; characters = omega arith; marks = omega arith };
       counts = record { lines = omega arith; characters = omega arith; marks = omega arith };
@@ -34,6 +34,6 @@ exchange-requires-clause-sum g c =
 pub size-requires : goal.size-requires
 size-requires g c =
     named _ _ _
-    (get-updated _ _ _ (λ r. with_sum r (exchanged c.of-exchange.result.gone c.of-exchange.result.more r.sum))
+    (get-updated _ _ _ (λ r. with_sum r (exchanged c.set.new.self.gone c.set.new.self.more r.sum))
     (with_sum (blank None) c.counting.result) c.exchange.ensures.records
     (get-summed _ _ _ _ c.counting.result c.make-top.ensures.records c.set_sum.ensures.records))
