@@ -21,7 +21,7 @@ use Rattle.line_lists.specs.declared.drafts.Stop.{Stop}
 use Rattle.line_lists.specs.Clearing.{AreFree, free_end, free_length, lines_on, place_of}
 use Rattle.line_lists.specs.Drafts.{BeginsBehind, IsFound, IsReached, IsTaken, IsText, StandsAt, copies_of, covered}
 use Rattle.line_lists.specs.Drafts.{drafted, drafted_at, lines_before, lines_behind, made_lines, taken_lines, text_at}
-use Rattle.line_lists.specs.Drafts.{used}
+use Rattle.line_lists.specs.Drafts.{tags_after, used}
 use Rattle.line_lists.specs.Edits.{with_cleared}
 use Rattle.line_lists.specs.Lists.{AreRows, has_toggle, next_line}
 use Rattle.line_lists.specs.Texts.{whole}
@@ -60,18 +60,20 @@ tags-around before behind old line offset column old_is place inside =
 pub tags-before : (lines : List LineContent) (copies : List Copied) (reached : Reached) (copy : Copied) →
     IsReached reached copies lines
     → tags_behind (whole (lines_before copies copy lines)).columns
-    ≡ differing reached.tags (tags_behind (whole (take copy.kept (drop reached.used lines))).columns)
+    ≡ differing (tags_behind (whole (made_lines copies lines)).columns)
+    (tags_behind (whole (take copy.kept (drop reached.used lines))).columns)
 tags-before lines copies reached copy is =
+    let before = tags_behind (whole (made_lines copies lines)).columns in
     behind-whole (made_lines copies lines) (take copy.kept (drop (used copies) lines))
-    ∙ ap₂ (λ slots n. differing slots (tags_behind (whole (take copy.kept (drop n lines))).columns)) (sym is.tags)
-    (sym is.used)
+    ∙ ap (λ n. differing before (tags_behind (whole (take copy.kept (drop n lines))).columns)) (sym is.used)
 
 -- of a line that stands in a draft
 tags-stands : (lines old : List LineContent) (front : List Stop) (back : List Copied) (reached : Reached)
     (copy : Copied) (offset column : ℕ) → IsReached reached (copies_of front) lines
     → taken_lines lines front back copy ≡ old → StandsAt lines front copy offset column
     → tags_behind (take offset (whole old).columns)
-    ≡ differing (differing reached.tags (tags_behind (whole (take copy.kept (drop reached.used lines))).columns))
+    ≡ differing (differing (tags_after lines front)
+    (tags_behind (whole (take copy.kept (drop reached.used lines))).columns))
     (tags_behind (take column copy.line.columns))
 tags-stands lines old front back reached copy offset column is same stands =
     let copies = copies_of front in
@@ -84,7 +86,7 @@ tags-stands lines old front back reached copy offset column is same stands =
 pub copied-tags : (lines : List LineContent) (before : List Stop) (back : List Copied) (stop : Stop) (offset column : ℕ)
     → IsReached stop.reached (copies_of before) lines → StandsAt lines before stop.copy offset column
     → tags_behind (take offset (whole (drafted_at lines (before ++ stop ∷ []) back)).columns)
-    ≡ differing (differing stop.reached.tags
+    ≡ differing (differing (tags_after lines before)
     (tags_behind (whole (take stop.copy.kept (drop stop.reached.used lines))).columns))
     (tags_behind (take column stop.copy.line.columns))
 copied-tags lines before back stop offset column is stands =
@@ -126,7 +128,7 @@ module _ (lines : List LineContent) (front : List Stop) (reached : Reached) (off
     tags : (back : List Copied) (last : Option Copied) → last ≡ slice_get back (length back - 1) →
         BeginsBehind lines offset front back
         → tags_behind (take offset (whole (drafted_at lines front back)).columns)
-        ≡ differing (differing reached.tags
+        ≡ differing (differing (tags_after lines front)
         (tags_behind (whole (take (line - reached.used) (drop reached.used lines))).columns))
         (tags_behind (take column here.columns))
     tags back None last ahead =
@@ -148,7 +150,7 @@ module _ (lines : List LineContent) (front : List Stop) (reached : Reached) (off
 
     pub kept-tags : (back : List Copied) → BeginsBehind lines offset front back
         → tags_behind (take offset (whole (drafted_at lines front back)).columns)
-        ≡ differing (differing reached.tags
+        ≡ differing (differing (tags_after lines front)
         (tags_behind (whole (take (line - reached.used) (drop reached.used lines))).columns))
         (tags_behind (take column here.columns))
     kept-tags back ahead = tags back (slice_get back (length back - 1)) refl ahead

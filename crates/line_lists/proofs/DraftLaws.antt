@@ -4,7 +4,6 @@ use Rattle.std.proofs.Common.{sym, ap, ap₂, ◌∙◌, subst, arith, append_as
 use Rattle.std.specs.Prelude.{None, Option, Some, reverse, slice_get}
 use Rattle.std.proofs.lemmas.List.{append-nil, drop-drop, map-append, reverse-append}
 use Rattle.text_model.specs.SlotSets.{differing}
-use Rattle.toggle_sums.specs.CountLaws.{differing-associative}
 use Rattle.toggle_sums.specs.Counts.{Count}
 use Rattle.segments.specs.Columns.{LineContent}
 use Rattle.line_lists.specs.declared.drafts.Copied.{Copied}
@@ -151,10 +150,8 @@ pub reached-more : (reached new : Reached) (copies : List Copied) (copy : Copied
     → new.used ≡ reached.used + covered copy
     → new.characters ≡ reached.characters + length (whole (take copy.kept (drop reached.used lines))).columns
     + length copy.line.columns
-    → new.tags ≡ differing (differing reached.tags
-    (tags_behind (whole (take copy.kept (drop reached.used lines))).columns)) (tags_behind copy.line.columns)
     → IsReached new (copies ++ copy ∷ []) lines
-reached-more reached new copies copy lines so_far used_is characters_are tags_are =
+reached-more reached new copies copy lines so_far used_is characters_are =
     let kept = take copy.kept (drop (used copies) lines) in
     let kept_is : take copy.kept (drop reached.used lines)
     ≡ kept = ap (λ n. take copy.kept (drop n lines)) so_far.used in
@@ -169,16 +166,6 @@ reached-more reached new copies copy lines so_far used_is characters_are tags_ar
           ∙ ap (λ n. length (whole made).columns + n) (length-whole kept (copy.line ∷ [])
           ∙ ap (λ (line : LineContent). length (whole kept).columns + length line.columns) (whole-one copy.line))
           ∙ add_groups (length (whole made).columns) (length (whole kept).columns) (length copy.line.columns));
-      tags =
-          tags_are
-          ∙ ap₂ (λ s part. differing (differing s (tags_behind (whole part).columns)) (tags_behind copy.line.columns))
-          so_far.tags kept_is
-          ∙ differing-associative (tags_behind (whole made).columns) (tags_behind (whole kept).columns)
-          (tags_behind copy.line.columns)
-          ∙ sym (ap (λ xs. tags_behind (whole xs).columns) snoc ∙ behind-whole made (kept ++ copy.line ∷ [])
-          ∙ ap (differing (tags_behind (whole made).columns)) (behind-whole kept (copy.line ∷ [])
-          ∙ ap (λ (line : LineContent). differing (tags_behind (whole kept).columns) (tags_behind line.columns))
-          (whole-one copy.line)));
     }
 
 -- how many characters they cover then
@@ -190,9 +177,7 @@ covers-more reached copies copy lines so_far = (reached-more reached (record {
   used = reached.used + covered copy;
   characters = reached.characters + length (whole (take copy.kept (drop reached.used lines))).columns
       + length copy.line.columns;
-  tags = differing (differing reached.tags
-      (tags_behind (whole (take copy.kept (drop reached.used lines))).columns)) (tags_behind copy.line.columns);
-}) copies copy lines so_far refl refl refl).characters
+}) copies copy lines so_far refl refl).characters
 
 -- nothing is copied
 pub draft-none : (lines : List LineContent) → IsCounted (count_of lines) → IsDraft lines [] []

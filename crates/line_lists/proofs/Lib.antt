@@ -10,6 +10,7 @@ pub mod GatherLaws
 pub mod HeldLaws
 pub mod InsertionLaws
 pub mod JoinLaws
+pub mod KnownLaws
 pub mod LineSpans
 pub mod LineStarts
 pub mod ListLaws

@@ -24,13 +24,12 @@ use Rattle.text_model.proofs.StepLaws.{length-after_step}
 use Rattle.toggle_sums.specs.CountLaws.{empty-differing}
 use Rattle.segments.specs.Columns.{Column, LineContent, after_text, tags_before, toggled_first, with_toggle}
 use Rattle.line_lists.specs.declared.drafts.Copied.{Copied}
-use Rattle.line_lists.specs.declared.drafts.Reached.{Reached}
 use Rattle.line_lists.specs.declared.drafts.Stop.{Stop}
-use Rattle.line_lists.specs.Drafts.{IsReached, StandsAt, copies_of, lines_before, lines_behind, taken_lines}
+use Rattle.line_lists.specs.Drafts.{StandsAt, copies_of, lines_before, lines_behind, taken_lines}
 use Rattle.line_lists.specs.Edits.{made, with_cleared, with_mark, with_toggled, without_mark}
 use Rattle.line_lists.specs.Texts.{text_of, whole}
 use Rattle.line_lists.specs.Toggling.{switched, tags_behind, toggled_before}
-use Rattle.line_lists.proofs.ClearingLaws.{tags-around, tags-before}
+use Rattle.line_lists.proofs.ClearingLaws.{tags-around}
 use Rattle.line_lists.proofs.EditLaws.{length-text}
 use Rattle.line_lists.proofs.FreedLaws.{eq_self}
 use Rattle.line_lists.proofs.MadeLaws.{text-made}
@@ -142,31 +141,26 @@ bare-made at here old text here_is text_is =
     ap (with_toggled at here) text_is ∙ ap (λ s. with_toggled at s (with_toggled (at + 1) s old)) here_is
 
 -- ---- the slots that are on at a character of the line of a copy
-pub tags-taken : (lines old : List LineContent) (front : List Stop) (back : List Copied) (reached : Reached)
-    (copy : Copied) (offset column : ℕ) → IsReached reached (copies_of front) lines
-    → taken_lines lines front back copy ≡ old → StandsAt lines front copy offset column
+pub tags-taken : (lines old : List LineContent) (front : List Stop) (back : List Copied) (copy : Copied)
+    (offset column : ℕ) → taken_lines lines front back copy ≡ old → StandsAt lines front copy offset column
     → tags_before offset (whole old).columns
-    ≡ differing (differing reached.tags (tags_behind (whole (take copy.kept (drop reached.used lines))).columns))
+    ≡ differing (tags_behind (whole (lines_before (copies_of front) copy lines)).columns)
     (tags_before column copy.line.columns)
-tags-taken lines old front back reached copy offset column is same stands =
+tags-taken lines old front back copy offset column same stands =
     let copies = copies_of front in
     tags-around (lines_before copies copy lines) (lines_behind copies copy back lines) old copy.line (offset + 1)
     (column + 1) same (omega (arith, stands.place)) (omega (arith, stands.inside))
-    ∙ ap (λ slots. differing slots (tags_before column copy.line.columns)) (tags-before lines copies reached copy is)
 
 -- and before it
-pub tags-left : (lines old : List LineContent) (front : List Stop) (back : List Copied) (reached : Reached)
-    (copy : Copied) (offset column : ℕ) → IsReached reached (copies_of front) lines
-    → taken_lines lines front back copy ≡ old → StandsAt lines front copy offset column
+pub tags-left : (lines old : List LineContent) (front : List Stop) (back : List Copied) (copy : Copied)
+    (offset column : ℕ) → taken_lines lines front back copy ≡ old → StandsAt lines front copy offset column
     → tags_behind (take offset (whole old).columns)
-    ≡ differing (differing reached.tags (tags_behind (whole (take copy.kept (drop reached.used lines))).columns))
+    ≡ differing (tags_behind (whole (lines_before (copies_of front) copy lines)).columns)
     (tags_behind (take column copy.line.columns))
-tags-left lines old front back reached copy offset column is same stands =
+tags-left lines old front back copy offset column same stands =
     let copies = copies_of front in
     tags-around (lines_before copies copy lines) (lines_behind copies copy back lines) old copy.line offset column same
     stands.place (omega (arith, stands.inside))
-    ∙ ap (λ slots. differing slots (tags_behind (take column copy.line.columns)))
-    (tags-before lines copies reached copy is)
 
 -- ---- a mark that moves
 pub mark-free : (number : ℕ) (text new : LineContent) → new ≡ without_mark number text →

@@ -2,9 +2,13 @@
 use Rattle.std.specs.Prelude.{◌≡◌, ℕ, ◌+◌, ◌-◌, min, ◌<◌, ◌≤◌, ◌^◌, List, [], ◌∷◌, ◌++◌, ⊤, length, map, take, drop}
 use Rattle.std.specs.Prelude.{reverse, IfSome, slice_get}
 use Rattle.std.specs.FinMap as finite
+use Rattle.std.proofs.Props.{props}
+use Rattle.text_model.specs.Content.{Slots}
 use Rattle.text_model.specs.declared.places.Place.{Place}
+use Rattle.text_model.specs.contracts.tag_set.TagSet as tag_set
 use Rattle.segments.specs.Columns.{LineContent}
 use Rattle.line_lists.specs.declared.drafts.Copied.{Copied}
+use Rattle.line_lists.specs.declared.drafts.Known.{Known}
 use Rattle.line_lists.specs.declared.drafts.Reached.{Reached}
 use Rattle.line_lists.specs.declared.drafts.Stop.{Stop}
 use Rattle.line_lists.specs.Lists.{AreRows}
@@ -31,7 +35,6 @@ drafted copies lines = made_lines copies lines ++ drop (used copies) lines
 pub record IsReached (reached : Reached) (copies : List Copied) (lines : List LineContent) : Type 0 where
   pub used : reached.used ≡ used copies
   pub characters : reached.characters ≡ length (whole (made_lines copies lines)).columns
-  pub tags : reached.tags ≡ tags_behind (whole (made_lines copies lines)).columns
 
 -- a copy may follow what is covered: its lines are there, and the characters can be counted
 pub record CanFollow (reached : Reached) (copy : Copied) (lines : List LineContent) : Type 0 where
@@ -48,6 +51,18 @@ line_start reached copy lines =
 abbrev pub copies_of : List Stop → List Copied
 copies_of stops = map (λ (stop : Stop). stop.copy) stops
 
+-- the slots that are on behind copies
+abbrev pub tags_after : List LineContent → List Stop → Slots
+tags_after lines stops = tags_behind (whole (made_lines (copies_of stops) lines)).columns
+
+-- those behind the first so many of the copies before a place
+pub record IsKnown (lines : List LineContent) (front : List Stop) (known : Known) : Type 0 where
+  pub few : known.count ≤ length front
+  pub tags : known.tags ≡ tags_after lines (take known.count front)
+
+pub IsKnown-prop : (lines : List LineContent) (front : List Stop) (known : Known) → IsProp (IsKnown lines front known)
+IsKnown-prop lines front known = Prim.hlevel (tag_set.the_row.coded, props)
+
 -- copies before a place in their order, and those behind it from the last: all in order
 abbrev pub in_order : List Stop → List Copied → List Copied
 in_order front back = copies_of front ++ reverse back
@@ -61,6 +76,11 @@ abbrev pub AreStops : List LineContent → List Copied → List Stop → Type 0
 AreStops lines before [] = ⊤
 AreStops lines before (stop ∷ stops) =
     IsReached stop.reached before lines × AreStops lines (before ++ stop.copy ∷ []) stops
+
+-- the slots that are toggled an odd number of times in the line of a copy and in those kept before it
+abbrev pub copy_tags : List LineContent → Stop → Slots
+copy_tags lines stop =
+    tags_behind (whole (take stop.copy.kept (drop stop.reached.used lines) ++ stop.copy.line ∷ [])).columns
 
 -- copies of lines that are there, whose text can be counted
 pub record IsDraft (lines : List LineContent) (front : List Stop) (back : List Copied) : Type 0 where

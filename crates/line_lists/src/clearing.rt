@@ -31,20 +31,6 @@ fn next_below<L: LineList>(list: &L, slot: TagSlot, from: usize, end: usize) -> 
 }
 
 impl Reached {
-    /// The slots that are on behind so many kept lines that follow.
-    pub fn tags_behind<L: LineList>(&self, list: &L, count: usize) -> TagSet
-        requires { self.now.used + count ≤ length (L.lines list.now) }
-        ensures { result ≡ differing self.now.tags
-            (tags_behind (whole (take count (drop self.now.used (L.lines list.now)))).columns) }
-    {
-        if count == 0 {
-            return self.tags;
-        }
-        let start = list.odd_slots(self.used);
-        let kept = list.odd_slots(self.used + count);
-        self.tags.differing(&start.differing(&kept))
-    }
-
     /// How many characters stand before the end of so many kept lines that follow.
     fn characters_behind<L: LineList>(&self, list: &L, count: usize) -> usize
         requires there { self.now.used + count ≤ length (L.lines list.now) }
@@ -60,36 +46,45 @@ impl Reached {
 impl<'a, L: LineList> Draft<'a, L> {
     /// The slots that are on behind so many characters, of which the next is one of the last copy's before the place,
     /// where the copies end at another offset.
-    fn copied_tags(&self, offset: usize, end: usize) -> TagSet
-        requires is { IsDraft (L.lines self.now.list.now) self.now.front.items self.now.back.items }
-        requires begun { BeginsBy (L.lines self.now.list.now) offset self.now.front.items }
+    fn copied_tags(&mut self, offset: usize, end: usize) -> TagSet
+        requires is { IsDraft (L.lines self.old.list.now) self.old.front.items self.old.back.items }
+        requires begun { BeginsBy (L.lines self.old.list.now) offset self.old.front.items }
         requires end { end
-            ≡ length (whole (made_lines (copies_of self.now.front.items) (L.lines self.now.list.now))).columns }
+            ≡ length (whole (made_lines (copies_of self.old.front.items) (L.lines self.old.list.now))).columns }
         requires within { offset < end }
-        ensures { result ≡ tags_behind (take offset
-            (text_at (L.lines self.now.list.now) self.now.front.items self.now.back.items).columns) }
+        ensures list { self.new.list.now ≡ self.old.list.now }
+        ensures front { self.new.front ≡ self.old.front }
+        ensures back { self.new.back ≡ self.old.back }
+        ensures value { result ≡ tags_behind (take offset
+            (text_at (L.lines self.old.list.now) self.old.front.items self.old.back.items).columns) }
     {
+        let mut slots = self.known.but_last(self.list, &self.front);
         let stop = self.front.last().unwrap();
         let start = end - stop.copy.line.len();
-        let column = offset - start;
-        let before = stop.reached.tags_behind(self.list, stop.copy.kept);
-        before.differing(&stop.copy.line.tags_behind(column))
+        stop.reached.turn_kept(self.list, stop.copy.kept, &mut slots);
+        slots.flip(&stop.copy.line.tags_behind(offset - start));
+        slots
     }
 
     /// The slots that are on behind so many characters, of which the next is one of a kept line's behind the place.
-    fn kept_tags(&self, reached: &Reached, offset: usize) -> TagSet
-        requires is { IsDraft (L.lines self.now.list.now) self.now.front.items self.now.back.items }
-        requires reached { IsReached reached.now (copies_of self.now.front.items) (L.lines self.now.list.now) }
+    fn kept_tags(&mut self, reached: &Reached, offset: usize) -> TagSet
+        requires is { IsDraft (L.lines self.old.list.now) self.old.front.items self.old.back.items }
+        requires reached { IsReached reached.now (copies_of self.old.front.items) (L.lines self.old.list.now) }
         requires behind { reached.now.characters ≤ offset }
-        requires ahead { BeginsBehind (L.lines self.now.list.now) offset self.now.front.items self.now.back.items }
+        requires ahead { BeginsBehind (L.lines self.old.list.now) offset self.old.front.items self.old.back.items }
         requires within { offset
-            < length (text_at (L.lines self.now.list.now) self.now.front.items self.now.back.items).columns }
-        ensures { result ≡ tags_behind (take offset
-            (text_at (L.lines self.now.list.now) self.now.front.items self.now.back.items).columns) }
+            < length (text_at (L.lines self.old.list.now) self.old.front.items self.old.back.items).columns }
+        ensures list { self.new.list.now ≡ self.old.list.now }
+        ensures front { self.new.front ≡ self.old.front }
+        ensures back { self.new.back ≡ self.old.back }
+        ensures value { result ≡ tags_behind (take offset
+            (text_at (L.lines self.old.list.now) self.old.front.items self.old.back.items).columns) }
     {
+        let mut slots = self.known.all(self.list, &self.front);
         let (index, column, line) = self.find_line(reached, offset);
-        let before = reached.tags_behind(self.list, index - reached.used);
-        before.differing(&line.tags_behind(column))
+        reached.turn_kept(self.list, index - reached.used, &mut slots);
+        slots.flip(&line.tags_behind(column));
+        slots
     }
 
     /// The slots that are on behind so many characters of the text, which are those of the character before the offset.
@@ -136,7 +131,7 @@ impl<'a, L: LineList> Draft<'a, L> {
             Some(copy) => {
                 let end = reached.used + copy.kept;
                 let index = next_below(self.list, slot, reached.used, end);
-                if index < end || copy.line.sum().has(slot) {
+                if index < end || copy.line.has_toggle(slot) {
                     return Some(reached.characters_behind(self.list, index - reached.used));
                 }
                 None

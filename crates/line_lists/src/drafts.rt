@@ -4,8 +4,8 @@ ghost use Rattle.std.specs.FinMap as finite;
 ghost use Rattle.text_model.specs.Lines.{lines};
 ghost use Rattle.segments.specs.Columns.{LineContent, after_text};
 ghost use Rattle.line_lists.specs.Texts.{whole};
-ghost use Rattle.line_lists.specs.Drafts.{BeginsBehind, BeginsBy, CanFollow, IsDraft, IsFound, IsReached, IsTaken};
-ghost use Rattle.line_lists.specs.Drafts.{LastBeginsBehind};
+ghost use Rattle.line_lists.specs.Drafts.{BeginsBehind, BeginsBy, CanFollow, IsDraft, IsFound, IsKnown, IsKnown-prop};
+ghost use Rattle.line_lists.specs.Drafts.{IsReached, IsTaken, LastBeginsBehind};
 ghost use Rattle.line_lists.specs.Drafts.{IsText, NextBegins, StandsAt, StandsBy, copies_of, drafted_at, line_start};
 ghost use Rattle.line_lists.specs.Drafts.{lines_before, made_lines, taken_lines, text_at};
 ghost use Rattle.line_lists.specs.Edits.{with_mark, with_toggled, without_mark};
@@ -23,13 +23,12 @@ pub struct Copied {
     pub line: Line,
 }
 
-/// What some copies of a list's lines cover from its first line on: how many lines of the list, how many characters the
-/// text will have there, and which slots are on behind these.
+/// What some copies of a list's lines cover from its first line on: how many lines of the list, and how many characters
+/// the text will have there.
 #[derive(Clone, Copy)]
 pub struct Reached {
     pub used: usize,
     pub characters: usize,
-    pub tags: TagSet,
 }
 
 /// How many characters so many lines from one on have.
@@ -51,7 +50,6 @@ impl Reached {
         Reached {
             used: 0,
             characters: 0,
-            tags: TagSet::empty(),
         }
     }
 
@@ -69,12 +67,9 @@ impl Reached {
         ensures { (copies : List Copied) → IsReached self.now copies (L.lines list.now) →
             IsReached result (copies ++ copy.now ∷ []) (L.lines list.now) }
     {
-        let mut tags = self.tags_behind(list, copy.kept);
-        copy.line.turn_odd_slots(&mut tags);
         Reached {
             used: self.used + copy.kept + copy.gone,
             characters: self.start(list, copy) + copy.line.len(),
-            tags,
         }
     }
 }
@@ -84,6 +79,13 @@ impl Reached {
 pub struct Stop {
     pub reached: Reached,
     pub copy: Copied,
+}
+
+/// Which slots are on behind the first so many copies before a place.
+#[derive(Drop)]
+pub struct Known {
+    pub count: usize,
+    pub tags: TagSet,
 }
 
 /// The lines that the text of a list will have: copies of some of its lines, in order, with a place between two of
@@ -97,6 +99,9 @@ pub struct Draft<'a, L: LineList> {
     pub front: Vec<Stop>,
     /// The copies behind the place, the nearest last.
     pub back: Vec<Copied>,
+    /// Brought up to date where slots are asked for.
+    pub known: Known,
+    ghost told: { IsKnown (L.lines list.now) front.items known } by { IsKnown-prop (L.lines list.now) front.items known },
 }
 
 impl<'a, L: LineList> Draft<'a, L> {
@@ -111,6 +116,7 @@ impl<'a, L: LineList> Draft<'a, L> {
             list,
             front: Vec::new(alloc),
             back: Vec::new(alloc),
+            known: Known::nothing(),
         }
     }
 
@@ -147,6 +153,7 @@ impl<'a, L: LineList> Draft<'a, L> {
         ensures moved { OnOk result (vec_len self.new.front ≡ vec_len self.old.front - 1) }
     {
         self.back.reserve(1)?;
+        self.known.leave_last(self.list, &self.front);
         if let Some(stop) = self.front.pop() {
             self.back.push_reserved(stop.copy);
         }
@@ -282,6 +289,7 @@ impl<'a, L: LineList> Draft<'a, L> {
             result.column }
         ensures room { vec_len self.new.front < vec_capacity self.new.front }
     {
+        self.known.leave_last(self.list, &self.front);
         let stop = self.front.pop().unwrap();
         let start = end - stop.copy.line.len();
         Found {

@@ -4,6 +4,7 @@
 mod clearing;
 mod drafts;
 mod insertions;
+mod known;
 pub mod laws;
 mod line_vec;
 mod lists;

@@ -4,12 +4,12 @@ ghost use Rattle.text_model.specs.Steps.{Fits, StepFitsIn, after, set_slot};
 ghost use Rattle.text_model.specs.TagBits.{slot_count};
 ghost use Rattle.text_model.specs.declared.edits.Step.TheVariants.{ClearSlot, ClearTags, Insert, PutMark, SetTag};
 ghost use Rattle.segments.specs.Columns.{tags_before};
-ghost use Rattle.line_lists.specs.Drafts.{IsText, drafted_at, text_at};
+ghost use Rattle.line_lists.specs.Drafts.{IsTaken, IsText, copies_of, drafted_at, lines_before, text_at};
 ghost use Rattle.line_lists.specs.Edits.{made, with_toggled};
-ghost use Rattle.line_lists.specs.Texts.{text_of};
+ghost use Rattle.line_lists.specs.Texts.{text_of, whole};
 ghost use Rattle.line_lists.specs.Toggling.{switched, tags_behind};
 
-use crate::drafts::{Draft, Found};
+use crate::drafts::{Draft, Found, Stop};
 use crate::lists::LineList;
 use std::alloc::AllocError;
 use text_model::{MarkNo, Place, Step, TagSet, TagSlot};
@@ -45,6 +45,20 @@ impl<'a, L: LineList> Draft<'a, L> {
         self.toggle(offset, slots)
     }
 
+    /// The slots that are on behind the lines before that of a copy which was taken out.
+    fn tags_up_to(&mut self, stop: &Stop) -> TagSet
+        requires { IsTaken (L.lines self.old.list.now) self.old.front.items self.old.back.items stop.now }
+        ensures list { self.new.list.now ≡ self.old.list.now }
+        ensures front { self.new.front ≡ self.old.front }
+        ensures back { self.new.back ≡ self.old.back }
+        ensures value { result ≡ tags_behind (whole
+            (lines_before (copies_of self.old.front.items) stop.now.copy (L.lines self.old.list.now))).columns }
+    {
+        let mut slots = self.known.all(self.list, &self.front);
+        stop.reached.turn_kept(self.list, stop.copy.kept, &mut slots);
+        slots
+    }
+
     /// The slots that are on at a character.
     fn tags_at(&mut self, offset: usize) -> Result<TagSet, AllocError>
         requires is { IsText (L.lines self.old.list.now) self.old.front.items self.old.back.items }
@@ -58,8 +72,8 @@ impl<'a, L: LineList> Draft<'a, L> {
             (text_at (L.lines self.old.list.now) self.old.front.items self.old.back.items).columns) }
     {
         let Found { stop, column } = self.take(offset)?;
-        let before = stop.reached.tags_behind(self.list, stop.copy.kept);
-        let slots = before.differing(&stop.copy.line.tags_before(column));
+        let mut slots = self.tags_up_to(&stop);
+        stop.copy.line.turn_tags_before(column, &mut slots);
         self.put(stop);
         Ok(slots)
     }
@@ -77,8 +91,8 @@ impl<'a, L: LineList> Draft<'a, L> {
             (text_at (L.lines self.old.list.now) self.old.front.items self.old.back.items).columns)) }
     {
         let Found { stop, column } = self.take(offset)?;
-        let before = stop.reached.tags_behind(self.list, stop.copy.kept);
-        let slots = before.differing(&stop.copy.line.tags_behind(column));
+        let mut slots = self.tags_up_to(&stop);
+        slots.flip(&stop.copy.line.tags_behind(column));
         self.put(stop);
         Ok(slots)
     }

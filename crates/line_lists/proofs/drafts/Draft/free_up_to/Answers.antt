@@ -1,14 +1,12 @@
 use Rattle.std.proofs.Common.{◌≡◌, ◌-◌, ◌+◌, true, length, take, sym, ap, ◌∙◌, arith}
-use Rattle.std.specs.FinSet as set
 use Rattle.std.specs.Prelude.{slice_get}
-use Rattle.toggle_sums.specs.Counts.{Count}
 use Rattle.line_lists.specs.Lists.{has_toggle}
 use Rattle.line_lists.proofs.ClearingLaws.{end-kept, end-passed, end-rest, end-within}
 use Rattle.line_lists.proofs.CountRows.{count-lines}
 use Rattle.line_lists.proofs.DraftLaws.{can-follow-next, last_is, no_last}
 use Rattle.line_lists.proofs.drafts.Draft.free_up_to.Goals as goal
 use Rattle.line_lists.proofs.drafts.Draft.free_up_to.Goals.{then-index-end-via-then-index-end}
-use Rattle.line_lists.proofs.drafts.Draft.free_up_to.Goals.{then-index-end-via-else-index-end+then-has}
+use Rattle.line_lists.proofs.drafts.Draft.free_up_to.Goals.{then-index-end-via-else-index-end+then-has_toggle}
 
 pub characters_behind-requires-clause-counted : goal.characters_behind-requires-clause-counted
 characters_behind-requires-clause-counted g c =
@@ -93,8 +91,7 @@ characters_behind-requires-then-index-end-clause-counted g c =
     let has : index.result ≡ reached.used + copy.kept → has_toggle slot copy.line
     ≡ true = λ same. elim c.then-index-end.branch [
       | then-index-end-via-then-index-end w ↦ absurd (omega (arith, same, w.if-index-end.true))
-      | then-index-end-via-else-index-end+then-has w ↦ sym (w.has.ensures
-          ∙ ap (λ (n : Count). set.contains n.presence slot) w.sum.ensures) ∙ w.if-has.true
+      | then-index-end-via-else-index-end+then-has_toggle w ↦ sym w.has_toggle.ensures ∙ w.if-has_toggle.true
     ] in
     let end = end-kept slot lines front reached c.requires.reached index.result index.ensures.above index.ensures.free
     back copy last index.ensures.bound (omega (arith, follows.there)) index.ensures.stops has in
@@ -115,15 +112,14 @@ returns-then-index-end-clause-some g c =
     let has : index.result ≡ reached.used + copy.kept → has_toggle slot copy.line
     ≡ true = λ same. elim c.then-index-end.branch [
       | then-index-end-via-then-index-end w ↦ absurd (omega (arith, same, w.if-index-end.true))
-      | then-index-end-via-else-index-end+then-has w ↦ sym (w.has.ensures
-          ∙ ap (λ (n : Count). set.contains n.presence slot) w.sum.ensures) ∙ w.if-has.true
+      | then-index-end-via-else-index-end+then-has_toggle w ↦ sym w.has_toggle.ensures ∙ w.if-has_toggle.true
     ] in
     let end = end-kept slot lines front reached c.requires.reached index.result index.ensures.above index.ensures.free
     back copy last index.ensures.bound (omega (arith, follows.there)) index.ensures.stops has in
     c.characters_behind-then-index-end.ensures ∙ end
 
-pub returns-else-has-clause-none : goal.returns-else-has-clause-none
-returns-else-has-clause-none g c =
+pub returns-else-has_toggle-clause-none : goal.returns-else-has_toggle-clause-none
+returns-else-has_toggle-clause-none g c =
     let lines = g.L.LineList.lines c.args.self.now.list.now in
     let slot = c.args.slot.0 in
     let front = c.args.self.now.front.items in
@@ -135,7 +131,6 @@ returns-else-has-clause-none g c =
     c.requires.reached (last_is back copy last) in
     let index = c.next_below-index-in-Some in
     let all : index.result ≡ reached.used + copy.kept = omega (arith, index.ensures.bound, c.if-index-end.false) in
-    let hasn't = sym (c.has.ensures ∙ ap (λ (n : Count). set.contains n.presence slot) c.sum.ensures)
-    ∙ c.if-has.false in
+    let hasn't = sym c.has_toggle.ensures ∙ c.if-has_toggle.false in
     λ none. end-passed slot lines front reached c.requires.reached index.result index.ensures.above index.ensures.free
     back copy last all hasn't

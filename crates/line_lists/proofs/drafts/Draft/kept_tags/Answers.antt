@@ -1,8 +1,18 @@
-use Rattle.std.proofs.Common.{ap₂, sym, ◌∙◌}
+use Rattle.std.proofs.Common.{◌-◌, ◌≤◌, length, take, drop, subst, ap, ap₂, sym, ◌∙◌}
 use Rattle.text_model.specs.SlotSets.{differing}
+use Rattle.line_lists.specs.Drafts.{copies_of, tags_after, used}
+use Rattle.line_lists.specs.Texts.{whole}
+use Rattle.line_lists.specs.Toggling.{tags_behind}
 use Rattle.line_lists.proofs.ClearingLaws.{kept-ends, kept-tags}
 use Rattle.line_lists.proofs.FindLaws.{reached-there}
+use Rattle.line_lists.proofs.KnownLaws.{draft-there}
 use Rattle.line_lists.proofs.drafts.Draft.kept_tags.Goals as goal
+
+pub all-slots-requires-clause-there : goal.all-slots-requires-clause-there
+all-slots-requires-clause-there g c =
+    let lines = g.L.LineList.lines c.args.self.now.list.now in
+    subst (λ items. used (copies_of items) ≤ length lines) (sym c.deref.ensures.value)
+    (draft-there lines c.args.self.now.front.items c.args.self.now.back.items c.requires.is)
 
 pub find_line-index-requires-clause-used : goal.find_line-index-requires-clause-used
 find_line-index-requires-clause-used g c =
@@ -14,10 +24,15 @@ find_line-index-requires-clause-within g c =
     kept-ends (g.L.LineList.lines c.args.self.now.list.now) c.args.self.now.front.items c.args.reached.now c.args.offset
     c.requires.reached c.args.self.now.back.items c.requires.ahead c.requires.within
 
-pub returns : goal.returns
-returns g c =
+pub returns-clause-value : goal.returns-clause-value
+returns-clause-value g c =
     let lines = g.L.LineList.lines c.args.self.now.list.now in
-    c.differing.ensures ∙ ap₂ differing c.tags_behind-before.ensures c.tags_behind.ensures
-    ∙ sym (kept-tags lines c.args.self.now.front.items c.args.reached.now c.args.offset c.requires.reached
-    c.find_line-index.result.0 c.find_line-index.result.1 c.find_line-index.result.2.now c.find_line-index.ensures.place c.find_line-index.ensures.line
-    c.args.self.now.back.items c.requires.ahead)
+    let front = c.args.self.now.front.items in
+    let reached = c.args.reached.now in
+    let found = c.find_line-index in
+    let kept = tags_behind (whole (take (found.result.0 - reached.used) (drop reached.used lines))).columns in
+    let so_far = c.all-slots.ensures.value ∙ ap (tags_after lines) c.deref.ensures.value in
+    c.flip.ensures
+    ∙ ap₂ differing (c.turn_kept.ensures ∙ ap (λ s. differing s kept) so_far) c.tags_behind.ensures
+    ∙ sym (kept-tags lines front reached c.args.offset c.requires.reached found.result.0 found.result.1
+    found.result.2.now found.ensures.place found.ensures.line c.args.self.now.back.items c.requires.ahead)

@@ -1,5 +1,6 @@
-use Rattle.std.proofs.Common.{sym, ap₂, ◌∙◌}
+use Rattle.std.proofs.Common.{sym, ap, ◌∙◌}
 use Rattle.text_model.specs.SlotSets.{differing}
+use Rattle.segments.specs.Columns.{tags_before}
 use Rattle.line_lists.specs.Drafts.{drafted_at}
 use Rattle.line_lists.proofs.StepTexts.{tags-taken}
 use Rattle.line_lists.proofs.drafts.Draft.tags_at.Goals as goal
@@ -11,6 +12,7 @@ returns-clause-value g c =
     let taken = c.in_ok-stop.ensures in
     let old = drafted_at (g.L.LineList.lines c.args.self.now.list.now) c.args.self.now.front.items
     c.args.self.now.back.items in
-    c.differing-slots.ensures ∙ ap₂ differing c.tags_behind-before.ensures c.tags_before.ensures
-    ∙ sym (tags-taken lines old c.take.new.self.front.items c.take.new.self.back.items found.stop.reached
-    found.stop.copy c.args.offset found.column taken.taken.reached taken.same taken.place)
+    c.turn_tags_before.ensures
+    ∙ ap (λ s. differing s (tags_before found.column found.stop.copy.line.columns)) c.tags_up_to-slots.ensures.value
+    ∙ sym (tags-taken lines old c.take.new.self.front.items c.take.new.self.back.items found.stop.copy c.args.offset
+    found.column taken.same taken.place)

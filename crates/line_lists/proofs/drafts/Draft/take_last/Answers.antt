@@ -1,9 +1,17 @@
-use Rattle.std.proofs.Common.{◌≡◌, ◌-◌, ◌++◌, length, subst, sym, ap, ◌∙◌, arith}
+use Rattle.std.proofs.Common.{◌≡◌, ◌-◌, ◌≤◌, ◌++◌, length, subst, sym, ap, ◌∙◌, arith}
 use Rattle.std.specs.Prelude.{option_to_list}
 use Rattle.line_lists.specs.Drafts.{IsDraft, StandsAt, copies_of, drafted_at, line_start, made_lines}
+use Rattle.line_lists.specs.Drafts.{used}
 use Rattle.line_lists.specs.Texts.{whole}
 use Rattle.line_lists.proofs.FindLaws.{last-begun, last-starts, last-stands, taken-is, taken-last}
+use Rattle.line_lists.proofs.KnownLaws.{draft-there}
 use Rattle.line_lists.proofs.drafts.Draft.take_last.Goals as goal
+
+pub leave_last-requires-clause-there : goal.leave_last-requires-clause-there
+leave_last-requires-clause-there g c =
+    let lines = g.L.LineList.lines c.args.self.now.list.now in
+    subst (λ items. used (copies_of items) ≤ length lines) (sym c.deref.ensures.value)
+    (draft-there lines c.args.self.now.front.items c.args.self.now.back.items c.requires.is)
 
 pub overflow_sub-start : goal.overflow_sub-start
 overflow_sub-start g c =

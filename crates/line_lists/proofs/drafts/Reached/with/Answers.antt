@@ -1,6 +1,4 @@
-use Rattle.std.proofs.Common.{ap, ◌∙◌, arith}
-use Rattle.segments.specs.Columns.{line_count}
-use Rattle.text_model.specs.SlotSets.{differing}
+use Rattle.std.proofs.Common.{arith}
 use Rattle.line_lists.proofs.CountRows.{count-lines}
 use Rattle.line_lists.proofs.DraftLaws.{reached-more}
 use Rattle.line_lists.proofs.drafts.Reached.with.Goals as goal
@@ -23,5 +21,3 @@ returns g c = λ copies so_far.
     reached-more c.args.self.now _ copies c.args.copy.now lines so_far
     (omega arith)
     (omega (arith, c.start.ensures, c.len.ensures))
-    (c.turn_odd_slots.ensures
-    ∙ ap (λ s. differing s (line_count c.args.copy.now.line).parity) c.tags_behind-tags.ensures)

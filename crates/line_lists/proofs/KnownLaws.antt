@@ -1,0 +1,152 @@
+-- The slots that are on behind copies, by one copy more or less.
+use Rattle.std.proofs.Common.{◌≡◌, ℕ, zero, suc, ◌+◌, ◌-◌, ◌≤◌, List, [], ◌∷◌, ◌++◌, length, take, drop, refl, sym, ap}
+use Rattle.std.proofs.Common.{◌∙◌, subst, arith, append_assoc, length-append}
+use Rattle.std.specs.Prelude.{None, Option, Some, option_to_list, reverse, slice_get}
+use Rattle.std.proofs.lemmas.List.{append-nil, take-append-le}
+use Rattle.std.proofs.lemmas.Option.{slice_get_within}
+use Rattle.text_model.specs.Content.{Slots}
+use Rattle.text_model.specs.SlotSets.{differing}
+use Rattle.toggle_sums.specs.CountLaws.{differing-commutative}
+use Rattle.segments.specs.Columns.{LineContent}
+use Rattle.line_lists.specs.declared.drafts.Copied.{Copied}
+use Rattle.line_lists.specs.declared.drafts.Known.{Known}
+use Rattle.line_lists.specs.declared.drafts.Stop.{Stop}
+use Rattle.line_lists.specs.Drafts.{AreStops, IsDraft, IsKnown, IsReached, copies_of, copy_tags, covered, in_order}
+use Rattle.line_lists.specs.Drafts.{made_lines, tags_after, used}
+use Rattle.line_lists.specs.Texts.{whole}
+use Rattle.line_lists.specs.Toggling.{tags_behind}
+use Rattle.line_lists.proofs.DraftLaws.{behind-whole, copies-snoc, made-snoc, used-append}
+use Rattle.line_lists.proofs.SlotLaws.{differing-back}
+use Rattle.line_lists.proofs.WholeLaws.{whole-one}
+
+same_stop : {A : Type 0} (x y : A) → ◌≡◌ {A = Option A} (Some x) (Some y) → x ≡ y
+same_stop x y is = cc
+
+take-next : {A : Type 0} (xs : List A) (n : ℕ) (x : A) → slice_get xs n ≡ Some x → take (suc n) xs ≡ take n xs ++ x ∷ []
+take-next {A = A} [] n x is = let no : ◌≡◌ {A = Option A} None (Some x) = is in absurd (cc)
+take-next (y ∷ ys) zero x is = ap (λ z. z ∷ []) (same_stop y x is)
+take-next (y ∷ ys) (suc n) x is = ap (λ rest. y ∷ rest) (take-next ys n x is)
+
+take-whole : {A : Type 0} (xs : List A) → take (length xs) xs ≡ xs
+take-whole [] = refl
+take-whole (x ∷ xs) = ap (λ rest. x ∷ rest) (take-whole xs)
+
+-- what a stop tells
+stops-at : (lines : List LineContent) (before : List Copied) (stops : List Stop) (n : ℕ) (stop : Stop) →
+    AreStops lines before stops → slice_get stops n ≡ Some stop →
+    IsReached stop.reached (before ++ copies_of (take n stops)) lines
+stops-at lines before [] n stop are is = let no : ◌≡◌ {A = Option Stop} None (Some stop) = is in absurd (cc)
+stops-at lines before (first ∷ stops) zero stop are is =
+    subst (λ (x : Stop). IsReached x.reached (before ++ []) lines) (same_stop first stop is)
+    (subst (λ copies. IsReached first.reached copies lines) (sym (append-nil before)) are.0)
+stops-at lines before (first ∷ stops) (suc n) stop are is =
+    subst (λ copies. IsReached stop.reached copies lines)
+    (append_assoc before (first.copy ∷ []) (copies_of (take n stops)))
+    (stops-at lines (before ++ first.copy ∷ []) stops n stop are.1 is)
+
+used-at : (stops : List Stop) (n : ℕ) (stop : Stop) → slice_get stops n ≡ Some stop →
+    used (copies_of (take n stops)) + covered stop.copy ≤ used (copies_of stops)
+used-at [] n stop is = let no : ◌≡◌ {A = Option Stop} None (Some stop) = is in absurd (cc)
+used-at (first ∷ stops) zero stop is = omega (arith, ap (λ (x : Stop). covered x.copy) (same_stop first stop is))
+used-at (first ∷ stops) (suc n) stop is = omega (arith, used-at stops n stop is)
+
+-- what it covers is there
+pub stop-there : (lines : List LineContent) (stops : List Stop) (n : ℕ) (stop : Stop) →
+    AreStops lines [] stops → used (copies_of stops) ≤ length lines → slice_get stops n ≡ Some stop →
+    stop.reached.used + covered stop.copy ≤ length lines
+stop-there lines stops n stop are there is =
+    omega (arith, there, used-at stops n stop is, (stops-at lines [] stops n stop are is).used)
+
+pub draft-there : (lines : List LineContent) (front : List Stop) (back : List Copied) → IsDraft lines front back →
+    used (copies_of front) ≤ length lines
+draft-there lines front back draft = omega (arith, used-append (copies_of front) (reverse back), draft.there)
+
+pub copy-tags : (lines : List LineContent) (stop : Stop) → copy_tags lines stop
+    ≡ differing (tags_behind (whole (take stop.copy.kept (drop stop.reached.used lines))).columns)
+    (tags_behind stop.copy.line.columns)
+copy-tags lines stop =
+    let kept = take stop.copy.kept (drop stop.reached.used lines) in
+    behind-whole kept (stop.copy.line ∷ [])
+    ∙ ap (λ (line : LineContent). differing (tags_behind (whole kept).columns) (tags_behind line.columns))
+    (whole-one stop.copy.line)
+
+-- one copy more
+tags-next : (lines : List LineContent) (stops : List Stop) (n : ℕ) (stop : Stop) → AreStops lines [] stops →
+    slice_get stops n ≡ Some stop
+    → tags_after lines (take (suc n) stops) ≡ differing (tags_after lines (take n stops)) (copy_tags lines stop)
+tags-next lines stops n stop are is =
+    let before = take n stops in
+    let copies = copies_of before in
+    let reached = stops-at lines [] stops n stop are is in
+    ap (tags_after lines) (take-next stops n stop is)
+    ∙ ap (λ xs. tags_behind (whole (made_lines xs lines)).columns) (copies-snoc before stop)
+    ∙ ap (λ xs. tags_behind (whole xs).columns) (made-snoc copies stop.copy lines)
+    ∙ behind-whole (made_lines copies lines) (take stop.copy.kept (drop (used copies) lines) ++ stop.copy.line ∷ [])
+    ∙ ap (λ m. differing (tags_after lines before)
+    (tags_behind (whole (take stop.copy.kept (drop m lines) ++ stop.copy.line ∷ [])).columns)) (sym reached.used)
+
+next_of : (m n : ℕ) → m ≡ n + 1 → m ≡ suc n
+next_of m n is = omega (arith, is)
+
+pub known-forth : (lines : List LineContent) (stops : List Stop) (known new : Known) (stop : Stop) →
+    AreStops lines [] stops → IsKnown lines stops known → slice_get stops known.count ≡ Some stop →
+    new.count ≡ known.count + 1 → new.tags ≡ differing known.tags (copy_tags lines stop) → IsKnown lines stops new
+known-forth lines stops known new stop are so_far is count_is tags_are = record {
+  few = omega (arith, slice_get_within stops known.count stop is, count_is);
+  tags =
+      tags_are ∙ ap (λ s. differing s (copy_tags lines stop)) so_far.tags
+      ∙ sym (ap (λ n. tags_after lines (take n stops)) (next_of new.count known.count count_is)
+      ∙ tags-next lines stops known.count stop are is);
+}
+
+-- one copy less
+turned-twice : (s t : Slots) → differing (differing s t) t ≡ s
+turned-twice s t = differing-commutative (differing s t) t ∙ differing-back s t
+
+pub known-back : (lines : List LineContent) (stops : List Stop) (known new : Known) (stop : Stop) →
+    AreStops lines [] stops → IsKnown lines stops known → slice_get stops new.count ≡ Some stop →
+    known.count ≡ new.count + 1 → new.tags ≡ differing known.tags (copy_tags lines stop) → IsKnown lines stops new
+known-back lines stops known new stop are so_far is count_is tags_are = record {
+  few = omega (arith, so_far.few, count_is);
+  tags =
+      tags_are ∙ ap (λ s. differing s (copy_tags lines stop))
+      (so_far.tags ∙ ap (λ n. tags_after lines (take n stops)) (next_of known.count new.count count_is)
+      ∙ tags-next lines stops new.count stop are is)
+      ∙ turned-twice (tags_after lines (take new.count stops)) (copy_tags lines stop);
+}
+
+pub known-all : (lines : List LineContent) (stops : List Stop) (known : Known) → IsKnown lines stops known →
+    known.count ≡ length stops → known.tags ≡ tags_after lines stops
+known-all lines stops known is all =
+    is.tags ∙ ap (λ n. tags_after lines (take n stops)) all ∙ ap (tags_after lines) (take-whole stops)
+
+-- a copy more before the place, and one less
+pub known-pushed : (lines : List LineContent) (front : List Stop) (known : Known) (stop : Stop) →
+    IsKnown lines front known → IsKnown lines (front ++ stop ∷ []) known
+known-pushed lines front known stop is = record {
+  few = omega (arith, is.few, length-append front (stop ∷ []));
+  tags = is.tags ∙ sym (ap (tags_after lines) (take-append-le known.count front (stop ∷ []) is.few));
+}
+
+at-most-one : (last : Option Stop) → length (option_to_list last) ≤ 1
+at-most-one None = omega arith
+at-most-one (Some stop) = omega arith
+
+pub known-popped : (lines : List LineContent) (front before : List Stop) (known : Known) (last : Option Stop) →
+    IsKnown lines front known → front ≡ before ++ option_to_list last → known.count ≤ length front - 1 →
+    IsKnown lines before known
+known-popped lines front before known last is front_is left =
+    let few : known.count ≤ length before = omega (
+      arith,
+      left,
+      is.few,
+      ap length front_is,
+      length-append before (option_to_list last),
+      at-most-one last,
+    ) in
+    record {
+      few = few;
+      tags =
+          is.tags ∙ ap (λ xs. tags_after lines (take known.count xs)) front_is
+          ∙ ap (tags_after lines) (take-append-le known.count before (option_to_list last) few);
+    }

@@ -1,0 +1,33 @@
+use Rattle.std.proofs.Common.{◌+◌, take, drop, sym, ap, ◌∙◌, arith}
+use Rattle.text_model.specs.SlotSets.{differing}
+use Rattle.toggle_sums.specs.CountLaws.{differing-associative, differing-empty}
+use Rattle.line_lists.specs.Lists.{count_of}
+use Rattle.line_lists.specs.Texts.{whole}
+use Rattle.line_lists.specs.Toggling.{tags_behind}
+use Rattle.line_lists.proofs.CountRows.{count-lines}
+use Rattle.line_lists.proofs.DraftLaws.{parity-between}
+use Rattle.line_lists.proofs.drafts.Reached.turn_kept.Goals as goal
+
+pub returns-then-count-eq0 : goal.returns-then-count-eq0
+returns-then-count-eq0 g c =
+    let lines = g.L.LineList.lines c.args.list.now in
+    let slots = c.args.slots.now in
+    sym (ap (λ n. differing slots (tags_behind (whole (take n (drop c.args.self.now.used lines))).columns))
+    c.if-count-eq0.true ∙ differing-empty slots)
+
+pub overflow_add-self : goal.overflow_add-self
+overflow_add-self g c =
+    let lines = g.L.LineList.lines c.args.list.now in
+    let few = (g.L.LineList.are_lines c.args.list.now).counted.lines in
+    omega (arith, few, count-lines lines, c.requires)
+
+pub returns : goal.returns
+returns g c =
+    let lines = g.L.LineList.lines c.args.list.now in
+    let slots = c.args.slots.now in
+    let from = c.args.self.now.used in
+    let kept = (count_of (take (from + c.args.count) lines)).parity in
+    c.turn_before-2.ensures
+    ∙ ap (λ s. differing s kept) c.turn_before.ensures
+    ∙ differing-associative slots (count_of (take from lines)).parity kept
+    ∙ ap (differing slots) (parity-between from c.args.count lines)
