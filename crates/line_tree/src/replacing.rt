@@ -31,11 +31,12 @@ fn put_over<C: Ticks>(store: &mut NodeStore<C>, name: NodePtr, line: Line, excha
     ensures spares { spares store.new ≡ spares store.old }
     ensures rooms { rooms store.new ≡ rooms store.old }
 {
-    let more = line.sum();
+    exchange.open();
+    line.sum_to(&mut exchange.more);
     let place = store.line_mut(name).unwrap();
-    let gone = place.sum();
+    place.sum_to(&mut exchange.gone);
     *place = line;
-    exchange.set(&gone, &more);
+    exchange.compare();
 }
 
 /// Makes a node's sum that of its children, in which one line's counts came for another's. Which slots are toggled is

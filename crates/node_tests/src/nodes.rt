@@ -105,7 +105,10 @@ fn sums_exchanged(rt: HostRuntime) -> Result<(), Fail> {
     let top = store.make(None);
     store.set_sum(top, &Sums::counting(2, 9, 1));
     let mut exchange = Exchange::none();
-    exchange.set(&Sums::counting(1, 4, 0), &Sums::counting(2, 6, 0));
+    exchange.open();
+    exchange.gone = Sums::counting(1, 4, 0);
+    exchange.more = Sums::counting(2, 6, 0);
+    exchange.compare();
     store.exchange(top, &exchange);
     assert!(rt; store.size(top, &mut Steps::new()) == (3, 11));
     Ok(())

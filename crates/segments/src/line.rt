@@ -232,9 +232,18 @@ impl Line {
     pub fn sum(&self) -> Sums<WORDS>
         ensures { result ≡ line_count self.now }
     {
+        let mut sum = Sums::counting(0, 0, 0);
+        self.sum_to(&mut sum);
+        sum
+    }
+
+    /// Makes a sum what is counted of the line.
+    pub fn sum_to(&self, sum: &mut Sums<WORDS>)
+        ensures { sum.new ≡ line_count self.now }
+    {
         match &self.form {
-            Form::Plain(text) => Sums::counting(1, text.len(), 0),
-            Form::Rich(line) => line.sum(),
+            Form::Plain(text) => *sum = Sums::counting(1, text.len(), 0),
+            Form::Rich(line) => line.sum_to(sum),
         }
     }
 

@@ -235,13 +235,12 @@ impl RichLine {
         }
     }
 
-    /// What is counted of the line.
-    pub fn sum(&self) -> Sums<WORDS>
-        ensures { result ≡ line_count self.now }
+    /// Makes a sum what is counted of the line.
+    pub fn sum_to(&self, sum: &mut Sums<WORDS>)
+        ensures { sum.new ≡ line_count self.now }
     {
-        let mut sum = Sums::counting(1, self.text.len(), self.marks.len());
-        self.add_toggles(&mut sum);
-        sum
+        *sum = Sums::counting(1, self.text.len(), self.marks.len());
+        self.add_toggles(sum);
     }
 
     /// Adds what is counted of the line to a sum.

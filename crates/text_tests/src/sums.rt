@@ -25,9 +25,9 @@ fn sums_add_up(rt: HostRuntime) {
 
 #[test]
 fn sums_lose_numbers(rt: HostRuntime) {
-    let sums = joined();
-    assert!(rt; sums.lines() == 3 && sums.characters() == 12 && sums.marks() == 2);
-    let less = sums.less(1, 5, 2);
+    let mut less = joined();
+    assert!(rt; less.lines() == 3 && less.characters() == 12 && less.marks() == 2);
+    less.lose_counts(1, 5, 2);
     assert!(rt; less.lines() == 2 && less.characters() == 7 && less.marks() == 0);
     assert!(rt; less.has(TagSlot(3)) && less.parity(TagSlot(64)) && !less.is_bare());
     let bare: Sums<WORDS> = Sums::counting(1, 2, 3);
@@ -58,7 +58,10 @@ fn sums_lose_a_part(rt: HostRuntime) {
 
 fn exchange_of(gone: &Sums<WORDS>, more: &Sums<WORDS>) -> Exchange {
     let mut exchange = Exchange::none();
-    exchange.set(gone, more);
+    exchange.open();
+    exchange.gone = *gone;
+    exchange.more = *more;
+    exchange.compare();
     exchange
 }
 

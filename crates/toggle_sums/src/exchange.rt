@@ -33,17 +33,23 @@ impl Exchange {
         }
     }
 
-    /// These go, and those come.
+    /// Says nothing of how the two compare, so that either may be changed.
     // In place, since a sum takes much room.
-    pub fn set(&mut self, gone: &Sums<WORDS>, more: &Sums<WORDS>)
-        ensures gone { self.new.gone ≡ gone.now }
-        ensures more { self.new.more ≡ more.now }
-        ensures level { HaveSameToggles gone.now more.now → self.new.is_level ≡ true }
-        ensures within { IsWithin gone.now more.now → self.new.is_within ≡ true }
+    pub fn open(&mut self)
+        ensures open { (self.new.is_level ≡ false) × (self.new.is_within ≡ false) }
+        ensures same { (self.new.gone ≡ self.old.gone) × (self.new.more ≡ self.old.more) }
     {
-        self.gone = *gone;
-        self.more = *more;
-        self.is_level = gone.has_toggles_of(more);
-        self.is_within = self.is_level || gone.is_within(more);
+        self.is_level = false;
+        self.is_within = false;
+    }
+
+    /// Compares what goes with what comes.
+    pub fn compare(&mut self)
+        ensures same { (self.new.gone ≡ self.old.gone) × (self.new.more ≡ self.old.more) }
+        ensures level { HaveSameToggles self.old.gone self.old.more → self.new.is_level ≡ true }
+        ensures within { IsWithin self.old.gone self.old.more → self.new.is_within ≡ true }
+    {
+        self.is_level = self.gone.has_toggles_of(&self.more);
+        self.is_within = self.is_level || self.gone.is_within(&self.more);
     }
 }

@@ -232,18 +232,6 @@ impl<const K: usize> Sums<K> {
         self.used = used_words(&self.parity, &self.presence, self.used.max(gone.used));
     }
 
-    /// The sum with so many lines, characters and marks less.
-    pub fn less(&self, lines: usize, characters: usize, marks: usize) -> Sums<K>
-        requires lines { lines ≤ self.now.lines }
-        requires characters { characters ≤ self.now.characters }
-        requires marks { marks ≤ self.now.marks }
-        ensures { result ≡ less lines characters marks self.now }
-    {
-        let mut sums = *self;
-        sums.lose_counts(lines, characters, marks);
-        sums
-    }
-
     /// The sum with one toggle of a slot more.
     pub fn toggled(&self, slot: TagSlot) -> Sums<K>
         requires { slot.0 < 64 * K }

@@ -17,8 +17,8 @@ returns-clause-puts g c =
           ≡ r.line) c.requires.line.found c.line_mut.ensures.value c.requires.line.is)
           ∙ ap (option_map (λ x. x.now)) c.unwrap-place.ensures;
       same = wrote.records;
-      went = c.set.ensures.gone ∙ c.sum-gone.ensures;
-      came = c.set.ensures.more ∙ c.sum-more.ensures;
+      went = c.compare.ensures.same.0 ∙ c.sum_to-2.ensures;
+      came = c.compare.ensures.same.1 ∙ c.sum_to.ensures;
     }
 
 pub returns-clause-spares : goal.returns-clause-spares

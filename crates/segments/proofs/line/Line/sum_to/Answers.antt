@@ -3,7 +3,7 @@ use Rattle.toggle_sums.specs.Counts.{counting}
 use Rattle.segments.specs.Columns.{line_count}
 use Rattle.segments.specs.Forms.{content}
 use Rattle.segments.proofs.PlainLaws.{sum-plain}
-use Rattle.segments.proofs.line.Line.sum.Goals as goal
+use Rattle.segments.proofs.line.Line.sum_to.Goals as goal
 
 pub returns-in-Plain : goal.returns-in-Plain
 returns-in-Plain c = c.counting.ensures ∙ ap (λ n. counting 1 n 0) c.len.ensures ∙ sym (sum-plain c.in-Plain.text)

@@ -1,13 +1,13 @@
 use Rattle.std.proofs.Common.{sym, ap, ◌∙◌}
 use Rattle.std.specs.FinSet as set
 use Rattle.toggle_sums.proofs.ExchangeLaws.{part-same, part_of-union}
-use Rattle.toggle_sums.proofs.exchange.Exchange.set.Goals as goal
-use Rattle.toggle_sums.proofs.exchange.Exchange.set.Goals.{then-self, else-self}
+use Rattle.toggle_sums.proofs.exchange.Exchange.compare.Goals as goal
+use Rattle.toggle_sums.proofs.exchange.Exchange.compare.Goals.{then-self, else-self}
 
 pub invariant_of-self : goal.invariant_of-self
 invariant_of-self c =
-    let gone = c.args.gone.now in
-    let more = c.args.more.now in
+    let gone = c.args.self.now.gone in
+    let more = c.args.self.now.more in
     let same = c.has_toggles_of-self.ensures.yes in
     record {
       level_told = λ level. (

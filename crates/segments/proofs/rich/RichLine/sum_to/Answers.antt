@@ -2,7 +2,7 @@ use Rattle.std.proofs.Common.{◌∙◌, ap}
 use Rattle.toggle_sums.specs.Counts.{with_toggles_of}
 use Rattle.segments.specs.Columns.{line_count}
 use Rattle.segments.proofs.SumLaws.{counted, sized}
-use Rattle.segments.proofs.rich.RichLine.sum.Goals as goal
+use Rattle.segments.proofs.rich.RichLine.sum_to.Goals as goal
 
 pub returns : goal.returns
 returns c =
@@ -10,5 +10,5 @@ returns c =
     let inside = c.self.inside in
     let size = sized inside.text inside.toggles.items inside.marks.items line c.len.result c.len-2.result
     c.self.view_is c.self.invariant.1.rise c.len.ensures (c.len-2.ensures ∙ inside.marks.ok.0) in
-    c.add_toggles.ensures ∙ ap (with_toggles_of (line_count line)) c.counting-sum.ensures
+    c.add_toggles.ensures ∙ ap (with_toggles_of (line_count line)) c.counting.ensures
     ∙ counted line c.len.result c.len-2.result size
