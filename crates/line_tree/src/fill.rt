@@ -125,8 +125,8 @@ pub fn sum_of<C: Ticks>(
     sum
 }
 
-/// Makes a sum that of these nodes, which is that much less. Which slots are toggled is asked of them, where some are in
-/// what went.
+/// Makes a sum that of these nodes, which is that much less. Which slots are toggled is asked of them, where some are
+/// in what went.
 pub fn lessen_sum<C: Ticks>(
     store: &NodeStore<C>,
     nodes: &[Option<NodePtr>; 12],
