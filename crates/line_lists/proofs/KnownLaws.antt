@@ -1,8 +1,8 @@
 -- The slots that are on behind copies, by one copy more or less.
-use Rattle.std.proofs.Common.{◌≡◌, ℕ, zero, suc, ◌+◌, ◌-◌, ◌≤◌, List, [], ◌∷◌, ◌++◌, length, take, drop, refl, sym, ap}
-use Rattle.std.proofs.Common.{◌∙◌, subst, arith, append_assoc, length-append}
-use Rattle.std.specs.Prelude.{None, Option, Some, option_to_list, reverse, slice_get}
-use Rattle.std.proofs.lemmas.List.{append-nil, take-append-le}
+use Rattle.std.proofs.Common.{◌≡◌, ℕ, zero, suc, ◌+◌, ◌≤◌, List, [], ◌∷◌, ◌++◌, length, take, drop, sym, ap}
+use Rattle.std.proofs.Common.{◌∙◌, subst, arith, append_assoc}
+use Rattle.std.specs.Prelude.{None, Option, Some, reverse, slice_get}
+use Rattle.std.proofs.lemmas.List.{append-nil}
 use Rattle.std.proofs.lemmas.Option.{slice_get_within}
 use Rattle.text_model.specs.Content.{Slots}
 use Rattle.text_model.specs.SlotSets.{differing}
@@ -11,7 +11,7 @@ use Rattle.segments.specs.Columns.{LineContent}
 use Rattle.line_lists.specs.declared.drafts.Copied.{Copied}
 use Rattle.line_lists.specs.declared.drafts.Known.{Known}
 use Rattle.line_lists.specs.declared.drafts.Stop.{Stop}
-use Rattle.line_lists.specs.Drafts.{AreStops, IsDraft, IsKnown, IsReached, copies_of, copy_tags, covered, in_order}
+use Rattle.line_lists.specs.Drafts.{AreStops, IsDraft, IsKnown, IsReached, copies_of, copy_tags, covered}
 use Rattle.line_lists.specs.Drafts.{made_lines, tags_after, used}
 use Rattle.line_lists.specs.Texts.{whole}
 use Rattle.line_lists.specs.Toggling.{tags_behind}
@@ -26,10 +26,6 @@ take-next : {A : Type 0} (xs : List A) (n : ℕ) (x : A) → slice_get xs n ≡ 
 take-next {A = A} [] n x is = let no : ◌≡◌ {A = Option A} None (Some x) = is in absurd (cc)
 take-next (y ∷ ys) zero x is = ap (λ z. z ∷ []) (same_stop y x is)
 take-next (y ∷ ys) (suc n) x is = ap (λ rest. y ∷ rest) (take-next ys n x is)
-
-take-whole : {A : Type 0} (xs : List A) → take (length xs) xs ≡ xs
-take-whole [] = refl
-take-whole (x ∷ xs) = ap (λ rest. x ∷ rest) (take-whole xs)
 
 -- what a stop tells
 stops-at : (lines : List LineContent) (before : List Copied) (stops : List Stop) (n : ℕ) (stop : Stop) →
@@ -114,39 +110,3 @@ known-back lines stops known new stop are so_far is count_is tags_are = record {
       ∙ tags-next lines stops new.count stop are is)
       ∙ turned-twice (tags_after lines (take new.count stops)) (copy_tags lines stop);
 }
-
-pub known-all : (lines : List LineContent) (stops : List Stop) (known : Known) → IsKnown lines stops known →
-    known.count ≡ length stops → known.tags ≡ tags_after lines stops
-known-all lines stops known is all =
-    is.tags ∙ ap (λ n. tags_after lines (take n stops)) all ∙ ap (tags_after lines) (take-whole stops)
-
--- a copy more before the place, and one less
-pub known-pushed : (lines : List LineContent) (front : List Stop) (known : Known) (stop : Stop) →
-    IsKnown lines front known → IsKnown lines (front ++ stop ∷ []) known
-known-pushed lines front known stop is = record {
-  few = omega (arith, is.few, length-append front (stop ∷ []));
-  tags = is.tags ∙ sym (ap (tags_after lines) (take-append-le known.count front (stop ∷ []) is.few));
-}
-
-at-most-one : (last : Option Stop) → length (option_to_list last) ≤ 1
-at-most-one None = omega arith
-at-most-one (Some stop) = omega arith
-
-pub known-popped : (lines : List LineContent) (front before : List Stop) (known : Known) (last : Option Stop) →
-    IsKnown lines front known → front ≡ before ++ option_to_list last → known.count ≤ length front - 1 →
-    IsKnown lines before known
-known-popped lines front before known last is front_is left =
-    let few : known.count ≤ length before = omega (
-      arith,
-      left,
-      is.few,
-      ap length front_is,
-      length-append before (option_to_list last),
-      at-most-one last,
-    ) in
-    record {
-      few = few;
-      tags =
-          is.tags ∙ ap (λ xs. tags_after lines (take known.count xs)) front_is
-          ∙ ap (tags_after lines) (take-append-le known.count before (option_to_list last) few);
-    }

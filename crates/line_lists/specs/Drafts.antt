@@ -60,8 +60,8 @@ pub record IsKnown (lines : List LineContent) (front : List Stop) (known : Known
   pub few : known.count ≤ length front
   pub tags : known.tags ≡ tags_after lines (take known.count front)
 
-pub IsKnown-prop : (lines : List LineContent) (front : List Stop) (known : Known) → IsProp (IsKnown lines front known)
-IsKnown-prop lines front known = Prim.hlevel (tag_set.the_row.coded, props)
+pub IsKnown-prop : {lines : List LineContent} {front : List Stop} {known : Known} → IsProp (IsKnown lines front known)
+IsKnown-prop = Prim.hlevel (tag_set.the_row.coded, props)
 
 -- copies before a place in their order, and those behind it from the last: all in order
 abbrev pub in_order : List Stop → List Copied → List Copied

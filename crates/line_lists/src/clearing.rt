@@ -61,7 +61,8 @@ impl<'a, L: LineList> Draft<'a, L> {
         let mut slots = self.known.but_last(self.list, &self.front);
         let stop = self.front.last().unwrap();
         let start = end - stop.copy.line.len();
-        stop.reached.turn_kept(self.list, stop.copy.kept, &mut slots);
+        stop.reached
+            .turn_kept(self.list, stop.copy.kept, &mut slots);
         slots.flip(&stop.copy.line.tags_behind(offset - start));
         slots
     }

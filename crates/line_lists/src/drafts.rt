@@ -101,7 +101,7 @@ pub struct Draft<'a, L: LineList> {
     pub back: Vec<Copied>,
     /// Brought up to date where slots are asked for.
     pub known: Known,
-    ghost told: { IsKnown (L.lines list.now) front.items known } by { IsKnown-prop (L.lines list.now) front.items known },
+    ghost told: { IsKnown (L.lines list.now) front.items known } by { IsKnown-prop },
 }
 
 impl<'a, L: LineList> Draft<'a, L> {

@@ -1,4 +1,4 @@
-use Rattle.std.proofs.Common.{◌+◌, ◌<◌, ◌∙◌, ap, sym, suc, arith, length, add-one}
+use Rattle.std.proofs.Common.{◌<◌, ◌∙◌, ap, sym, suc, arith, length, add-one}
 use Rattle.text_model.specs.Content.{characters}
 use Rattle.text_model.specs.Lines.{line_start}
 use Rattle.line_lists.specs.Texts.{content_of}
