@@ -13,7 +13,7 @@ use Rattle.text_model.specs.declared.places.MarkNo.{MarkNo}
 use Rattle.text_model.specs.declared.places.Place.{Place}
 use Rattle.text_model.proofs.PlaceLaws.{same_marks}
 use Rattle.toggle_sums.specs.CountLaws.{plus-associative, plus-no_text}
-use Rattle.toggle_sums.specs.Counts.{Count, plus}
+use Rattle.toggle_sums.specs.Counts.{Count, counting, no_text, plus}
 use Rattle.segments.specs.Columns.{LineContent, line_count}
 use Rattle.line_lists.specs.declared.drafts.Copied.{Copied}
 use Rattle.line_lists.specs.declared.drafts.Stop.{Stop}
@@ -420,3 +420,42 @@ gathered-one front lines (piece ∷ []) gathers are there rows counted few =
       ),
       new,
     )
+
+-- ---- what is counted, but for toggles
+pub record SameNumbers (first second : Count) : Type 0 where
+  pub lines : first.lines ≡ second.lines
+  pub characters : first.characters ≡ second.characters
+  pub marks : first.marks ≡ second.marks
+
+pub numbers-none : (sum all : Count) (lines characters marks : ℕ) → sum ≡ counting lines characters marks →
+    lines ≡ all.lines → characters ≡ all.characters → marks ≡ all.marks → SameNumbers sum (plus all no_text)
+numbers-none sum all lines characters marks is same same_too same_marks =
+    let none : (n : ℕ) → n ≡ n + 0 = λ n. omega arith in
+    record {
+      lines = ap (λ (s : Count). s.lines) is ∙ same ∙ none all.lines;
+      characters = ap (λ (s : Count). s.characters) is ∙ same_too ∙ none all.characters;
+      marks = ap (λ (s : Count). s.marks) is ∙ same_marks ∙ none all.marks;
+    }
+
+pub numbers-more : (new old all next line : Count) → new ≡ plus old line → SameNumbers old all →
+    plus all line ≡ next → SameNumbers new next
+numbers-more new old all next line is same more = record {
+  lines = ap (λ (s : Count). s.lines) is ∙ ap (λ n. n + line.lines) same.lines ∙ ap (λ (s : Count). s.lines) more;
+  characters = ap (λ (s : Count). s.characters) is ∙ ap (λ n. n + line.characters) same.characters
+      ∙ ap (λ (s : Count). s.characters) more;
+  marks = ap (λ (s : Count). s.marks) is ∙ ap (λ n. n + line.marks) same.marks ∙ ap (λ (s : Count). s.marks) more;
+}
+
+pub counted-same : (first second : Count) → SameNumbers first second → IsCounted first → IsCounted second
+counted-same first second same counted = record {
+  lines = rw (← same.lines) counted.lines;
+  characters = rw (← same.characters) counted.characters;
+  marks = rw (← same.marks) counted.marks;
+}
+
+pub counted-none : (sum all : Count) → SameNumbers sum (plus all no_text) → IsCounted all → IsCounted sum
+counted-none sum all same counted = record {
+  lines = omega (arith, same.lines, counted.lines);
+  characters = omega (arith, same.characters, counted.characters);
+  marks = omega (arith, same.marks, counted.marks);
+}

@@ -78,6 +78,13 @@ pub trait LineList: Drop {
         requires { count ≤ length (lines self.now) }
         ensures { result ≡ count_of (take count (lines self.now)) };
 
+    /// How many marks stand in the lines.
+    fn marks(&self) -> usize
+        ensures { result ≡ (count_of (lines self.now)).marks }
+    {
+        self.prefix(self.len()).marks()
+    }
+
     /// The first line from one on in which a slot is toggled.
     fn next_with(&self, slot: TagSlot, from: usize) -> Option<usize>
         requires slot { slot.0 < slot_count }

@@ -146,7 +146,8 @@ impl<'a, L: LineList> Draft<'a, L> {
         ensures { OnOk result (IsCounted (plus (count_of (L.lines self.now.list.now))
             (count_of (copied_lines (copies_of self.now.front.items))))) }
     {
-        let mut sum = self.list.prefix(self.list.len());
+        let lines = self.list.len();
+        let mut sum = Sums::counting(lines, self.list.start(lines), self.list.marks());
         for stop in &self.front {
             add_line(&mut sum, &stop.copy.line)?;
         }

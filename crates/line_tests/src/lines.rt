@@ -80,6 +80,12 @@ fn check_marked(rt: &impl Abort, line: &Line) {
     let sum = line.sum();
     assert!(rt; sum.lines() == 1 && sum.characters() == 2 && sum.marks() == 2);
     assert!(rt; sum.parity(SLOT) && sum.has(SLOT));
+    let mut twice = sum;
+    line.add_to(&mut twice);
+    assert!(rt; twice.lines() == 2 && twice.characters() == 4 && twice.marks() == 4);
+    assert!(rt; !twice.parity(SLOT) && twice.has(SLOT));
+    line.sum_to(&mut twice);
+    assert!(rt; twice.lines() == 1 && twice.parity(SLOT));
 }
 
 #[test]

@@ -61,6 +61,7 @@ fn check_places<L: LineList>(rt: &impl Abort, list: &L)
     assert!(rt; list.start(2) == 4 && list.odd_slots(2).has(SLOT));
     let sums = list.prefix(1);
     assert!(rt; sums.lines() == 1 && sums.characters() == 2 && sums.marks() == 0);
+    assert!(rt; list.marks() == 1);
 }
 
 fn check_found<L: LineList>(rt: &impl Abort, list: &L)

@@ -48,6 +48,11 @@ pub lines_is : (m : Records) (q : NodePtr) (n : ℕ) → IsSome (finite.get m q)
 lines_is m q n named says = let r = some_of (finite.get m q) named in
     at_some (finite.get m q) (λ x. n ≡ x.sum.lines) r.0 says r.1 ∙ ap (λ o. (sum_of o).lines) (sym r.1)
 
+pub marks_is : (m : Records) (q : NodePtr) (n : ℕ) → IsSome (finite.get m q) →
+    IfSome (finite.get m q) (λ r. n ≡ r.sum.marks) → n ≡ (sum_at m q).marks
+marks_is m q n named says = let r = some_of (finite.get m q) named in
+    at_some (finite.get m q) (λ x. n ≡ x.sum.marks) r.0 says r.1 ∙ ap (λ o. (sum_of o).marks) (sym r.1)
+
 pub size_is : (m : Records) (q : NodePtr) (size : ℕ × ℕ) → IsSome (finite.get m q) →
     IfSome (finite.get m q) (λ r. size ≡ (r.sum.lines, r.sum.characters)) →
     size ≡ (lines_at m q, (sum_at m q).characters)

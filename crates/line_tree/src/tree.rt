@@ -242,6 +242,13 @@ impl<C: Ticks> LineTree<C> {
         prefix(&self.store, self.root, self.height, k, ticks)
     }
 
+    /// How many marks stand in the lines.
+    pub fn marks(&self, ticks: &mut C) -> usize
+        ensures { result ≡ (count_of (contents self.now.lines)).marks }
+    {
+        self.store.marks(self.root, ticks)
+    }
+
     /// The first line from one on in which a slot is toggled.
     pub fn next_with(&self, slot: TagSlot, from: usize, ticks: &mut C) -> Option<usize>
         requires slot { slot.0 < slot_count }

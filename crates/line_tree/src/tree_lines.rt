@@ -97,6 +97,10 @@ impl LineList for TreeLines {
         self.tree.prefix(count, &mut Steps::new())
     }
 
+    fn marks(&self) -> usize {
+        self.tree.marks(&mut Steps::new())
+    }
+
     fn next_with(&self, slot: TagSlot, from: usize) -> Option<usize> {
         self.tree.next_with(slot, from, &mut Steps::new())
     }

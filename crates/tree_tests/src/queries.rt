@@ -77,8 +77,12 @@ fn count(scene: &Scene, k: usize, ticks: &mut Counter) -> Option<(usize, usize)>
     if scene.plain.len() < k {
         return None;
     }
-    let sums = scene.tree.prefix(k, ticks);
-    Some((scene.tree.start(k, ticks), sums.marks()))
+    let marks = if k == scene.plain.len() {
+        scene.tree.marks(ticks)
+    } else {
+        scene.tree.prefix(k, ticks).marks()
+    };
+    Some((scene.tree.start(k, ticks), marks))
 }
 
 fn parity(scene: &Scene, k: usize, ticks: &mut Counter) -> Option<(usize, usize)> {

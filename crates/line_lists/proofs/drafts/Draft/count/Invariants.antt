@@ -1,12 +1,13 @@
-use Rattle.std.proofs.Common.{◌≡◌, take}
+use Rattle.std.proofs.Common.{take}
 use Rattle.toggle_sums.specs.Counts.{plus}
 use Rattle.line_lists.specs.Drafts.{copies_of}
 use Rattle.line_lists.specs.Lists.{IsCounted, count_of}
 use Rattle.line_lists.specs.Pieces.{copied_lines}
+use Rattle.line_lists.proofs.GatherLaws.{SameNumbers}
 use Rattle.line_lists.proofs.drafts.Draft.count.Given as goal
 
 abbrev pub invariant-loop-stop : goal.invariant-loop-stop
 invariant-loop-stop g l =
-    (l.sum ≡ plus (count_of (g.L.LineList.lines l.self.list.now))
+    SameNumbers l.sum (plus (count_of (g.L.LineList.lines l.self.list.now))
     (count_of (copied_lines (copies_of (take l.stop-index l.self.front.items)))))
     × IsCounted l.sum
