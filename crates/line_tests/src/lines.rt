@@ -172,6 +172,33 @@ fn words_are_cut_and_joined(rt: HostRuntime) -> Result<(), Fail> {
     Ok(())
 }
 
+// ---- more than a few blocks of bytes, with characters of one to four of them across their ends
+
+static LONG: &str =
+    "Zwölf Boxkämpfer jagen Viktor über den großen Deich 𐍈𐍈 και η αλεπού πηδά 素早い茶色の狐が犬を飛び越える and go on in ASCII alone";
+
+fn check_characters(rt: &impl Abort, line: &Line, wanted: &str) {
+    for (column, character) in wanted.chars().enumerate() {
+        assert!(rt;
+            column < line.len() && line.char_at(column) == character,
+            "{column}"
+        );
+    }
+}
+
+#[test]
+fn long_line(rt: HostRuntime) -> Result<(), Fail> {
+    let mut line = Line::new(rt.alloc(), LONG)?;
+    check_characters(&rt, &line, LONG);
+    check_text(&rt, &line, LONG)?;
+    assert!(&rt; 80 <= line.len());
+    let tail = line.cut(80)?;
+    let is_joined = line.join(tail).is_ok();
+    assert!(&rt; is_joined);
+    check_characters(&rt, &line, LONG);
+    Ok(())
+}
+
 // Besides its text.
 #[test]
 fn plain_line_is_small(rt: HostRuntime) {

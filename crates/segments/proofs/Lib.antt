@@ -1,3 +1,4 @@
+pub mod BeginningLaws
 pub mod ChangeLaws
 pub mod ColumnLaws
 pub mod EntryLaws

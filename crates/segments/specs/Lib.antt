@@ -1,3 +1,4 @@
+pub mod Beginnings
 pub mod Columns
 pub mod Entries
 pub mod Forms

@@ -3,6 +3,7 @@ ghost use Rattle.std.specs.Prelude.{string_bytes, slice_range, slice_get, Some, 
 ghost use Rattle.std.specs.Str.{IsCharBoundary};
 ghost use Rattle.text_model.specs.Splices.{inserted, removed};
 
+use crate::beginnings::{count_beginnings, find_beginning};
 use std::alloc::{AllocError, Global};
 use std::marker::Model;
 
@@ -27,7 +28,7 @@ impl Model for Characters {
 fn count_characters(text: &str) -> usize
     ensures { result ≡ length (chars text.now) }
 {
-    text.chars().count()
+    count_beginnings(text.as_bytes())
 }
 
 /// The first character of a text that has one.
@@ -44,13 +45,7 @@ fn front_bytes(text: &str, column: usize) -> usize
     ensures boundary { IsCharBoundary text.now result }
     ensures behind { chars (drop result text.now) ≡ drop column (chars text.now) }
 {
-    let mut left = column;
-    let mut byte = 0;
-    while left > 0 {
-        byte += first_character(&text[byte..]).len_utf8();
-        left -= 1;
-    }
-    byte
+    find_beginning(text.as_bytes(), column)
 }
 
 /// The byte at which a column begins, in a text of so many characters.
@@ -63,6 +58,9 @@ fn byte_of(text: &str, count: usize, column: usize) -> usize
 {
     if count == text.len() {
         return column;
+    }
+    if count == column {
+        return text.len();
     }
     front_bytes(text, column)
 }

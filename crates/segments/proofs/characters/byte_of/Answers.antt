@@ -1,6 +1,7 @@
-use Rattle.std.proofs.Common.{◌≡◌, length, drop, sym, ap, ◌∙◌, arith}
+use Rattle.std.proofs.Common.{◌≡◌, ◌≤◌, length, drop, sym, ap, ◌∙◌, arith}
 use Rattle.std.specs.Prelude.{chars}
-use Rattle.std.proofs.lemmas.Str.{chars-IsAscii, IsAscii-drop, IsCharBoundary-from_ascii}
+use Rattle.std.proofs.lemmas.List.{drop_all}
+use Rattle.std.proofs.lemmas.Str.{chars-IsAscii, chars-nil, IsAscii-drop, IsCharBoundary-end, IsCharBoundary-from_ascii}
 use Rattle.segments.proofs.TextLaws.{front_of, is_ascii}
 use Rattle.segments.proofs.characters.byte_of.Goals as goal
 
@@ -20,6 +21,18 @@ pub returns-then-count-text-clause-front : goal.returns-then-count-text-clause-f
 returns-then-count-text-clause-front c =
     front_of c.args.text.now c.args.column c.args.column c.utf8.text (returns-then-count-text-clause-boundary c)
     (returns-then-count-text-clause-behind c)
+
+pub returns-then-count-column-clause-behind : goal.returns-then-count-column-clause-behind
+returns-then-count-column-clause-behind c =
+    let text = c.args.text.now in
+    let column = c.args.column in
+    let end : length (chars text) ≤ column = omega (arith, c.requires.count, c.if-count-column.true) in
+    ap chars (drop_all (length text) text (omega arith)) ∙ chars-nil ∙ sym (drop_all column (chars text) end)
+
+pub returns-then-count-column-clause-front : goal.returns-then-count-column-clause-front
+returns-then-count-column-clause-front c =
+    front_of c.args.text.now (length c.args.text.now) c.args.column c.utf8.text (IsCharBoundary-end c.args.text.now)
+    (returns-then-count-column-clause-behind c)
 
 pub returns-clause-front : goal.returns-clause-front
 returns-clause-front c =

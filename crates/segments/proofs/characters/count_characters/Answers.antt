@@ -1,6 +1,10 @@
-use Rattle.std.proofs.Common.{rules}
-use Rattle.std.proofs.lemmas.Str.{chars_from_encodes}
+use Rattle.std.proofs.Common.{ap, ◌∙◌}
+use Rattle.segments.specs.Beginnings.{beginnings}
+use Rattle.segments.proofs.BeginningLaws.{beginnings-chars}
 use Rattle.segments.proofs.characters.count_characters.Goals as goal
 
 pub returns : goal.returns
-returns c = search (rules, chars_from_encodes)
+returns c =
+    c.count_beginnings.ensures
+    ∙ ap beginnings c.as_bytes.ensures.value
+    ∙ beginnings-chars c.args.text.now c.utf8.text

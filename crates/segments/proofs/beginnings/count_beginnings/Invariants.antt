@@ -1,0 +1,12 @@
+use Rattle.std.proofs.Common.{◌≡◌, ◌≤◌, ◌-◌, length, take}
+use Rattle.segments.specs.Beginnings.{beginnings}
+use Rattle.segments.proofs.beginnings.count_beginnings.Given as goal
+
+abbrev pub invariant-loop-start : goal.invariant-loop-start
+invariant-loop-start l = record {
+  within : l.start ≤ length l.bytes;
+  count : l.count ≡ beginnings (take l.start l.bytes);
+}
+
+abbrev pub decreases-loop-start : goal.decreases-loop-start
+decreases-loop-start l = length l.bytes - l.start

@@ -1,0 +1,9 @@
+use Rattle.std.proofs.Common.{◌≡◌, ◌≤◌, take}
+use Rattle.segments.specs.Beginnings.{beginnings}
+use Rattle.segments.proofs.beginnings.count_each.Given as goal
+
+abbrev pub invariant-loop-byte : goal.invariant-loop-byte
+invariant-loop-byte l = record {
+  within : l.count ≤ l.byte-index;
+  count : l.count ≡ beginnings (take l.byte-index l.bytes);
+}

@@ -1,0 +1,12 @@
+use Rattle.std.proofs.Common.{w8}
+use Rattle.std.specs.Simd.Lanes.{chunk}
+use Rattle.std.proofs.lemmas.Simd.{chunk-fits, length-chunk}
+use Rattle.segments.proofs.BeginningLaws.{block_count}
+use Rattle.segments.proofs.beginnings.count_in_block.Goals as goal
+
+pub returns : goal.returns
+returns c =
+    let bytes = c.args.bytes.now in
+    let start = c.args.start in
+    block_count (chunk start 32 bytes) (length-chunk start 32 bytes c.requires)
+    (chunk-fits w8 start 32 bytes c.type_inv.bytes)
