@@ -1,9 +1,10 @@
 -- The toggles of a line: where they lie, and what they are at a column.
 use Rattle.std.proofs.Common.{◌≡◌, ℕ, zero, suc, ◌+◌, ◌*◌, ◌/◌, ◌<◌, ◌≤◌, ◌≢◌, min, true, false, inl, inr, subst}
 use Rattle.std.proofs.Common.{◌==◌, List, [], ◌∷◌, ◌++◌, length, take, drop, get_or, refl}
-use Rattle.std.proofs.Common.{sym, ap, ap₂, ◌∙◌, arith, add-one}
+use Rattle.std.proofs.Common.{Bool, ltb, sym, ap, ap₂, ◌∙◌, arith}
 use Rattle.std.specs.Prelude.{if◌then◌else◌}
 use Rattle.std.specs.List.{All}
+use Rattle.std.specs.List.Sorted.{IsNonDecreasingBy}
 use Rattle.std.proofs.lemmas.Bool.{cases_eq}
 use Rattle.std.proofs.lemmas.Bool.Decides.{nat_tests}
 use Rattle.std.proofs.lemmas.List.{drop_more}
@@ -18,38 +19,50 @@ use Rattle.toggle_sums.specs.CountLaws.{contains-differing, differing-associativ
 use Rattle.segments.specs.declared.toggles.Toggled.{Toggled}
 use Rattle.segments.specs.Entries.{HasOneWord, LieIn, RiseIn, any_of, odd_of, place_of, toggled_at}
 
--- one entry more that stands before a place
-more_before : (from to place : ℕ) (entries : List Toggled) (i : ℕ) (d : Toggled) → RiseIn from to entries →
-    RiseIn from place (take i entries) → i < length entries →
-    (HasOneWord (get_or entries i d) → place_of (get_or entries i d) < place) → RiseIn from place (take (suc i) entries)
-more_before from to place [] i d rise before within small = absurd (omega arith)
-more_before from to place (entry ∷ entries) zero d rise before within small = (rise.0, small rise.2, rise.2, tt)
-more_before from to place (entry ∷ entries) (suc i) d rise before within small = (
-  before.0,
-  before.1,
-  before.2,
-  more_before (suc (place_of entry)) to place entries i d rise.3 before.3 (omega arith) small,
+-- no entry stands below the first place
+from_low : (from to : ℕ) (entries : List Toggled) (k : ℕ) (d : Toggled) → RiseIn from to entries → k < length entries →
+    from ≤ place_of (get_or entries k d)
+from_low from to [] k d rise within = absurd (omega arith)
+from_low from to (entry ∷ entries) zero d rise within = rise.0
+from_low from to (entry ∷ entries) (suc k) d rise within =
+    omega (arith, rise.0, from_low (suc (place_of entry)) to entries k d rise.3 (omega (arith, within)))
+
+pub places_rise : (from to : ℕ) (entries : List Toggled) → RiseIn from to entries → IsNonDecreasingBy place_of entries
+places_rise from to [] rise i j d order within = absurd (omega arith)
+places_rise from to (entry ∷ entries) rise zero zero d order within = omega arith
+places_rise from to (entry ∷ entries) rise zero (suc j) d order within =
+    omega (arith, from_low (suc (place_of entry)) to entries j d rise.3 (omega (arith, within)))
+places_rise from to (entry ∷ entries) rise (suc i) zero d order within = absurd (omega (arith, order))
+places_rise from to (entry ∷ entries) rise (suc i) (suc j) d order within =
+    places_rise (suc (place_of entry)) to entries rise.3 i j d (omega (arith, order)) (omega (arith, within))
+
+-- entries that all stand before a place, and entries that all stand behind it
+pub before_point : (from to place : ℕ) (entries : List Toggled) (i : ℕ) → RiseIn from to entries → i ≤ length entries →
+    ((k : ℕ) (d : Toggled) → k < i → place_of (get_or entries k d) < place) → RiseIn from place (take i entries)
+before_point from to place entries zero rise within below = tt
+before_point from to place [] (suc i) rise within below = tt
+before_point from to place (entry ∷ entries) (suc i) rise within below = (
+  rise.0,
+  below 0 entry (omega arith),
+  rise.2,
+  before_point (suc (place_of entry)) to place entries i rise.3 (omega (arith, within))
+      (λ k d less. below (suc k) d (omega (arith, less))),
 )
 
-pub before_more : (from to place : ℕ) (entries : List Toggled) (i : ℕ) (d : Toggled) → RiseIn from to entries →
-    RiseIn from place (take i entries) → i < length entries →
-    (HasOneWord (get_or entries i d) → place_of (get_or entries i d) < place) →
-    RiseIn from place (take (i + 1) entries)
-before_more from to place entries i d rise before within small =
-    rw (add-one i) (more_before from to place entries i d rise before within small)
+pub behind_point : (from to place : ℕ) (entries : List Toggled) (i : ℕ) → RiseIn from to entries →
+    ((k : ℕ) (d : Toggled) → i ≤ k → k < length entries → place ≤ place_of (get_or entries k d))
+    → RiseIn place to (drop i entries)
+behind_point from to place [] zero rise above = tt
+behind_point from to place [] (suc i) rise above = tt
+behind_point from to place (entry ∷ entries) zero rise above =
+    (above 0 entry (omega arith) (omega arith), rise.1, rise.2, rise.3)
+behind_point from to place (entry ∷ entries) (suc i) rise above =
+    behind_point (suc (place_of entry)) to place entries i rise.3
+    (λ k d order within. above (suc k) d (omega (arith, order)) (omega (arith, within)))
 
--- those behind
-pub behind_all : (from to place : ℕ) (entries : List Toggled) (i : ℕ) (d : Toggled) → RiseIn from to entries →
-    from ≤ place → RiseIn from place (take i entries) →
-    (i < length entries → HasOneWord (get_or entries i d) → place ≤ place_of (get_or entries i d)) →
-    RiseIn place to (drop i entries)
-behind_all from to place [] zero d rise above before next = tt
-behind_all from to place [] (suc i) d rise above before next = tt
-behind_all from to place (entry ∷ entries) zero d rise above before next =
-    (next (omega arith) rise.2, rise.1, rise.2, rise.3)
-behind_all from to place (entry ∷ entries) (suc i) d rise above before next =
-    behind_all (suc (place_of entry)) to place entries i d rise.3 (omega (arith, before.1)) before.3
-    (λ within. next (omega arith))
+pub told : (answer : Bool) (a b : ℕ) → (answer ≡ true → a < b) → (answer ≡ false → b ≤ a) → answer ≡ ltb a b
+told true a b less most = let is = less refl in grind (arith, nat_tests)
+told false a b less most = let is = most refl in grind (arith, nat_tests)
 
 -- the parity so far, and that of the rest
 pub odd_more : (entries : List Toggled) (i : ℕ) (d : Toggled) (so_far whole : Slots) → i < length entries →

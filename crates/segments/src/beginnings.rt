@@ -14,7 +14,7 @@ fn begins(byte: u8) -> bool
     byte < 128 || 192 <= byte
 }
 
-/// How many bytes of a block begin a character: 64 more make all others the greatest, from 192 on.
+/// How many bytes of a block begin a character. Raised by 64, those that go on with one are the greatest, from 192 on.
 fn count_in_block(bytes: &[u8], start: usize) -> usize
     requires { start + BLOCK ≤ length bytes.now }
     ensures { result ≡ beginnings (chunk start BLOCK bytes.now) }

@@ -29,12 +29,7 @@ pub fn count_before(toggles: &[Toggled], column: usize) -> usize
     ensures behind { (from to : ℕ) → LieIn from to toggles.now → from ≤ column →
         LieIn column to (drop result toggles.now) }
 {
-    for (count, entry) in toggles.iter().enumerate() {
-        if column <= entry.column {
-            return count;
-        }
-    }
-    toggles.len()
+    count_before_word(toggles, column, 0)
 }
 
 /// Turns in a set the slots that are toggled an odd number of times.
@@ -134,12 +129,7 @@ fn count_before_word(toggles: &[Toggled], column: usize, word: usize) -> usize
     ensures behind { (from to : ℕ) → RiseIn from to toggles.now → from ≤ WORDS * column + word →
         RiseIn (WORDS * column + word) to (drop result toggles.now) }
 {
-    for (count, entry) in toggles.iter().enumerate() {
-        if !is_before(entry, column, word) {
-            return count;
-        }
-    }
-    toggles.len()
+    toggles.partition_point(|entry| is_before(entry, column, word))
 }
 
 /// Puts an entry in at an index, where there is room for one.

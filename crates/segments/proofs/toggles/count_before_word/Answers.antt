@@ -1,24 +1,34 @@
-use Rattle.std.proofs.Common.{◌+◌, ◌*◌, ◌≤◌, ◌<◌, subst}
+use Rattle.std.proofs.Common.{◌≡◌, ℕ, ◌+◌, ◌*◌, true, false, ltb, ltb-true, ltb-false, arith, rules}
+use Rattle.std.proofs.lemmas.List.Sorted.{IsPartitionPoint-from_clause, IsPartitionedBy-ltb}
+use Rattle.std.specs.List.Sorted.{IsPartitionPoint}
 use Rattle.text_model.specs.declared.tag_set.TheConstants.{WORDS}
 use Rattle.segments.specs.declared.toggles.Toggled.{Toggled}
-use Rattle.segments.specs.Entries.{place_of}
-use Rattle.segments.proofs.EntryLaws.{before_more, behind_all}
+use Rattle.segments.specs.Entries.{RiseIn, place_of}
+use Rattle.segments.proofs.EntryLaws.{before_point, behind_point, places_rise, told}
 use Rattle.segments.proofs.toggles.count_before_word.Goals as goal
+use Rattle.segments.proofs.toggles.count_before_word.Goals.{After-partition_point}
 
-pub returns-then-not-is_before-clause-behind : goal.returns-then-not-is_before-clause-behind
-returns-then-not-is_before-clause-behind c = λ from to rise above.
+-- the entries before the index stand before the place, and those from it on don't
+parted : (c : After-partition_point) (from to : ℕ) → RiseIn from to c.args.toggles.now
+    → IsPartitionPoint (λ (entry : Toggled). ltb (place_of entry) (WORDS * c.args.column + c.args.word) ≡ true)
+    (λ entry. ltb (place_of entry) (WORDS * c.args.column + c.args.word) ≡ false)
+    c.args.toggles.now c.partition_point.result
+parted c from to rise =
     let place = WORDS * c.args.column + c.args.word in
-    let entry = c.index-toggles-count.result in
-    let no = c.is_before.ensures.no c.if-not-is_before.true in
-    behind_all from to place c.args.toggles.now c.loop-count.count entry rise above
-    (c.loop-count.invariant from to rise)
-    (λ within one. subst (λ (e : Toggled). place ≤ place_of e) c.index-toggles-count.is no)
+    let order = IsPartitionedBy-ltb place_of c.args.toggles.now place (places_rise from to c.args.toggles.now rise) in
+    IsPartitionPoint-from_clause (λ (entry : Toggled). ltb (place_of entry) place) _ _
+    c.partition_point.ensures.partitioned order (λ a r q k. search (rules, told))
 
-pub loop-count-preserved : goal.loop-count-preserved
-loop-count-preserved c = λ from to rise.
+pub returns-clause-before : goal.returns-clause-before
+returns-clause-before c = λ from to rise.
     let place = WORDS * c.args.column + c.args.word in
-    let entry = c.index-toggles-count.result in
-    let yes = c.is_before.ensures.yes c.if-not-is_before.false in
-    before_more from to place c.args.toggles.now c.loop-count.count entry rise
-    (c.loop-count.invariant from to rise) c.loop-count-test.true
-    (λ one. subst (λ (e : Toggled). place_of e < place) c.index-toggles-count.is yes)
+    let point = parted c from to rise in
+    before_point from to place c.args.toggles.now c.partition_point.result rise c.partition_point.ensures.bound
+    (λ k d less. ltb-true _ _ (point.0 k d (omega arith) less))
+
+pub returns-clause-behind : goal.returns-clause-behind
+returns-clause-behind c = λ from to rise above.
+    let place = WORDS * c.args.column + c.args.word in
+    let point = parted c from to rise in
+    behind_point from to place c.args.toggles.now c.partition_point.result rise
+    (λ k d order within. ltb-false _ _ (point.1 k d order within))
