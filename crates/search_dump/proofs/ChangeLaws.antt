@@ -1,38 +1,36 @@
 -- Where the tags of a view change next.
 use Rattle.std.proofs.Common.{◌≡◌, ℕ, zero, suc, inl, inr, ◌+◌, ◌-◌, ◌<◌, ◌≤◌, ◌&&◌, ◌||◌, ◌==◌, min, Bool, true, false}
-use Rattle.std.proofs.Common.{List, [], ◌∷◌, length, drop, refl, sym, ap, ap₂, ◌∙◌, arith}
+use Rattle.std.proofs.Common.{◌≢◌, List, [], ◌∷◌, length, drop, set, refl, sym, subst, ap, ap₂, ◌∙◌, arith}
 use Rattle.std.specs.Prelude.{not, replicate, slice_index_or}
 use Rattle.std.specs.List.{list_any, prefix_len}
 use Rattle.std.proofs.lemmas.Bool.{cases_Bool, cases_eq, cases_lt, cond-false, cond-true, false≢true, lt-ltb}
 use Rattle.std.proofs.lemmas.Bool.{true≢false}
-use Rattle.std.proofs.lemmas.List.{drop-drop, drop_more, get_or-replicate}
+use Rattle.std.proofs.lemmas.List.{drop-drop, drop_more, get_or-replicate, get_or-set_other, get_or-set_same}
+use Rattle.std.proofs.lemmas.List.{length-replicate, length-set}
 use Rattle.text_model.specs.Changes.{flag_at, is_alike, next_change}
 use Rattle.text_model.specs.Content.{Content}
-use Rattle.text_model.specs.TagBits.{slot_count}
+use Rattle.tag_table.specs.Tags.{Tag, slots_of}
 use Rattle.text_index.specs.Ranges.{tag_ranges}
 use Rattle.text_index.specs.Views.{shown_flags}
 use Rattle.text_index.specs.declared.ranges.TagRange.{TagRange}
 use Rattle.text_index.proofs.FlagLaws.{next-alike, next-other}
-use Rattle.search_dump.specs.Ahead.{AreAhead, IsNearest, slot_of_row}
+use Rattle.search_dump.specs.Ahead.{AreAhead, IsKnown, IsNearest, change_behind, slot_of_row}
 use Rattle.search_dump.specs.Dump.{flag_before}
 use Rattle.search_dump.proofs.DumpLaws.{begins-is, ends-is}
 
 -- one row more
-pub nearest-more : (next : List ℕ) (widget : ℕ) (slots : List ℕ) (rows place nearest later slot : ℕ) →
-    IsNearest next widget slots rows place nearest → slot ≡ slot_of_row widget slots rows
-    → later ≡ min nearest (slice_index_or next slot 0) → IsNearest next widget slots (rows + 1) place later
-nearest-more next widget slots rows place nearest later slot before is is_later =
-    let value : slice_index_or next slot 0
-    ≡ slice_index_or next (slot_of_row widget slots rows) 0 = ap (λ s. slice_index_or next s 0) is in
+pub nearest-more : (next : List ℕ) (rows place nearest later : ℕ) → IsNearest next rows place nearest →
+    later ≡ min nearest (slice_index_or next rows 0) → IsNearest next (rows + 1) place later
+nearest-more next rows place nearest later before is_later =
     record {
       within = omega (arith, before.within);
       each = λ at below.
           elim (cases_eq at rows) [
-            | inl same ↦ omega (arith, ap (λ n. slice_index_or next (slot_of_row widget slots n) 0) same)
+            | inl same ↦ omega (arith, ap (λ n. slice_index_or next n 0) same)
             | inr other ↦ omega (arith, before.each at (omega arith))
           ];
-      reached = elim (cases_lt (slice_index_or next slot 0) nearest) [
-        | inl less ↦ inr (rows, (omega arith), sym value ∙ omega arith)
+      reached = elim (cases_lt (slice_index_or next rows 0) nearest) [
+        | inl less ↦ inr (rows, (omega arith), omega arith)
         | inr more ↦ elim before.reached [
           | inl at-place ↦ inl (omega arith)
           | inr row ↦ inr (row.0, (omega (arith, row.1)), row.2 ∙ omega arith)
@@ -132,16 +130,62 @@ flag-other flags at k is within =
     ∙ other-flag (flag_at flags at) (flag_at flags (next_change flags at)) (next-other flags at (omega (arith, is)))
 
 -- what is known at a place is known behind it
-pub ahead-on : (content : Content) (start end place later : ℕ) (next : List ℕ) → AreAhead content start end place next →
-    place ≤ later → AreAhead content start end later next
-ahead-on content start end place later next ahead from slot within above =
-    let known = ahead slot within (omega arith) in
-    known ∙ sym (next-same (shown_flags slot content start end) place later from (omega (arith, known)))
+pub ahead-on : (content : Content) (start end : ℕ) (tags : List Tag) (widget place later : ℕ) (next : List ℕ) →
+    AreAhead content start end tags widget place next → place ≤ later →
+    AreAhead content start end tags widget later next
+ahead-on content start end tags widget place later next ahead from =
+    record {
+      rows = ahead.rows;
+      each = λ at within above.
+          let known = ahead.each at within (omega arith) in
+          known ∙ sym (next-same (shown_flags (slot_of_row widget (slots_of tags) at) content start end) place later from
+          (omega (arith, known)));
+    }
 
-pub ahead-begun : (content : Content) (start end place : ℕ) (next : List ℕ) → next ≡ replicate slot_count place →
-    AreAhead content start end place next
-ahead-begun content start end place next is slot within above =
-    absurd (omega (arith, ap (λ xs. slice_index_or xs slot 0) is, get_or-replicate slot_count slot place 0 within))
+pub ahead-begun : (content : Content) (start end : ℕ) (tags : List Tag) (widget place rows : ℕ) (next : List ℕ) →
+    rows ≡ length tags → next ≡ replicate rows place → AreAhead content start end tags widget place next
+ahead-begun content start end tags widget place rows next count is =
+    record {
+      rows = ap length is ∙ length-replicate rows place ∙ count;
+      each = λ at within above. absurd (omega (
+        arith,
+        ap (λ xs. slice_index_or xs at 0) is,
+        get_or-replicate rows at place 0 (omega (arith, count)),
+      ));
+    }
+
+-- one row is looked up
+module _ (content : Content) (start end : ℕ) (tags : List Tag) (widget place at change : ℕ) (old new : List ℕ)
+    (ahead : AreAhead content start end tags widget place old) (within : at < length tags) (is : new ≡ set old at change)
+    (known : change ≡ change_behind content start end place (slot_of_row widget (slots_of tags) at)) where
+  pub put-known : IsKnown content start end tags widget place new at
+  put-known =
+      ap (λ xs. slice_index_or xs at 0) is ∙ get_or-set_same old at change 0 (omega (arith, within, ahead.rows)) ∙ known
+
+  put-there : (other : ℕ) → other ≡ at → IsKnown content start end tags widget place new other
+  put-there other same = subst (IsKnown content start end tags widget place new) (sym same) put-known
+
+  put-apart : (other : ℕ) → other ≢ at → slice_index_or new other 0 ≡ slice_index_or old other 0
+  put-apart other apart = ap (λ xs. slice_index_or xs other 0) is ∙ get_or-set_other old at other change 0 apart
+
+  pub put-keeps : (other : ℕ) → IsKnown content start end tags widget place old other →
+      IsKnown content start end tags widget place new other
+  put-keeps other was =
+      elim (cases_eq other at) [
+        | inl same ↦ put-there other same
+        | inr apart ↦ put-apart other apart ∙ was
+      ]
+
+  pub put-ahead : AreAhead content start end tags widget place new
+  put-ahead =
+      record {
+        rows = ap length is ∙ length-set old at change ∙ ahead.rows;
+        each = λ other inside above.
+            elim (cases_eq other at) [
+              | inl same ↦ put-there other same
+              | inr apart ↦ put-keeps other (ahead.each other inside (omega (arith, above, put-apart other apart)))
+            ];
+      }
 
 alike-itself : (flag : Bool) → is_alike flag flag ≡ true
 alike-itself true = refl

@@ -46,10 +46,10 @@ turns-same content start end tags marks widget place =
 pub tag-stop : (content : Content) (start end : ℕ) (tags : List Tag) (marks : List Mark) (widget place to stop : ℕ)
     (next : List ℕ) → place < to → to ≤ end - start
     → ((slot : ℕ) → slot ≡ slot → length (shown_flags slot content start end) ≡ end - start)
-    → ((at : ℕ) → at < length tags → IsKnown content start end place next (slot_of_row widget (slots_of tags) at))
+    → ((at : ℕ) → at < length tags → IsKnown content start end tags widget place next at)
     → ((at : ℕ) → at < length tags → place
     < next_change (shown_flags (slot_of_row widget (slots_of tags) at) content start end) place)
-    → IsNearest next widget (slots_of tags) (length tags) to stop
+    → IsNearest next (length tags) to stop
     → (place < stop) × IsNextStop (has_tag_at (seen_by content start end tags marks widget)) place to stop
 unfolding tag_turns
 tag-stop content start end tags marks widget place to stop next some within long known later nearest =

@@ -1,47 +1,46 @@
 -- Tags that are turned where they change.
 use Rattle.std.proofs.Common.{◌≡◌, ◌≢◌, ℕ, inl, inr, ◌+◌, ◌-◌, ◌<◌, ◌≤◌, ◌⊎◌, ◌==◌, Bool, cond, List, length}
-use Rattle.std.proofs.Common.{sym, ap, ◌∙◌, arith}
+use Rattle.std.proofs.Common.{refl, sym, ap, ◌∙◌, arith}
 use Rattle.std.specs.FinSet as set
-use Rattle.std.specs.Prelude.{not, slice_index_or, if◌then◌else◌}
+use Rattle.std.specs.Prelude.{not, if◌then◌else◌}
 use Rattle.std.proofs.lemmas.Bool.{cases_eq, eq-eqb, ne_eqb}
 use Rattle.tag_table.specs.Tags.{Tag, slots_of}
 use Rattle.text_model.specs.Changes.{flag_at, next_change}
 use Rattle.text_model.specs.Content.{Content, Slots}
-use Rattle.text_model.specs.Steps.{set_slot}
 use Rattle.text_model.proofs.CellLaws.{contains-set_slot}
 use Rattle.text_index.specs.Views.{shown_flags}
-use Rattle.search_dump.specs.Ahead.{AreAt, AreBefore, AreKnownTo, AreTurned, slot_of_row, turned_at}
+use Rattle.search_dump.specs.Ahead.{AreAt, AreBefore, AreKept, AreKnownTo, AreTurned, IsTurned, change_behind}
+use Rattle.search_dump.specs.Ahead.{slot_of_row, turned_at}
 use Rattle.search_dump.specs.Dump.{flag_before}
 use Rattle.search_dump.proofs.ChangeLaws.{flag-other, flag-still, flag-upto}
 
 -- what turning one slot leaves: each slot is as it was at first, or turned
-abbrev pub IsEither : List ℕ → ℕ → Slots → Slots → ℕ → Type 0
-IsEither next place tags turned q =
-    (set.contains turned q ≡ set.contains tags q) ⊎ (set.contains turned q ≡ turned_at next place tags q)
+abbrev pub IsEither : (ℕ → ℕ) → ℕ → Slots → Slots → ℕ → Type 0
+IsEither change place tags turned q =
+    (set.contains turned q ≡ set.contains tags q) ⊎ (set.contains turned q ≡ turned_at change place tags q)
 
-module _ (next : List ℕ) (place slot : ℕ) (tags old new : Slots)
-    (turned : slice_index_or next slot 0 ≡ place → new ≡ set_slot slot (not (set.contains tags slot)) old)
-    (same : slice_index_or next slot 0 ≢ place → new ≡ old) where
-  turn-here : (q : ℕ) → slice_index_or next slot 0 ≡ place → q ≡ slot →
-      set.contains new q ≡ turned_at next place tags q
+module _ (change : ℕ → ℕ) (place slot kept : ℕ) (tags old new : Slots) (known : kept ≡ change slot)
+    (turned : kept ≡ place → IsTurned slot tags old new) (same : kept ≢ place → new ≡ old) where
+  turn-here : (q : ℕ) → kept ≡ place → q ≡ slot →
+      set.contains new q ≡ turned_at change place tags q
   turn-here q there is =
       let is_on = not (set.contains tags slot) in
       ap (λ s. set.contains s q) (turned there) ∙ contains-set_slot slot is_on old q
       ∙ ap (λ b. cond b is_on (set.contains old q)) (eq-eqb q slot is)
       ∙ ap (λ s. not (set.contains tags s)) (sym is)
       ∙ sym (ap (λ b. if b then not (set.contains tags q) else set.contains tags q)
-      (eq-eqb (slice_index_or next q 0) place (ap (λ s. slice_index_or next s 0) is ∙ there)))
+      (eq-eqb (change q) place (ap change is ∙ sym known ∙ there)))
 
-  turn-other : (q : ℕ) → slice_index_or next slot 0 ≡ place → q ≢ slot → set.contains new q ≡ set.contains old q
+  turn-other : (q : ℕ) → kept ≡ place → q ≢ slot → set.contains new q ≡ set.contains old q
   turn-other q there other =
       let is_on = not (set.contains tags slot) in
       ap (λ s. set.contains s q) (turned there) ∙ contains-set_slot slot is_on old q
       ∙ ap (λ b. cond b is_on (set.contains old q)) (ne_eqb q slot other)
 
-  pub turn-kept : (q : ℕ) → set.contains old q ≡ turned_at next place tags q →
-      set.contains new q ≡ turned_at next place tags q
+  pub turn-kept : (q : ℕ) → set.contains old q ≡ turned_at change place tags q →
+      set.contains new q ≡ turned_at change place tags q
   turn-kept q before =
-      elim (cases_eq (slice_index_or next slot 0) place) [
+      elim (cases_eq kept place) [
         | inr not-there ↦ ap (λ s. set.contains s q) (same not-there) ∙ before
         | inl there ↦ elim (cases_eq q slot) [
           | inl is ↦ turn-here q there is
@@ -49,10 +48,10 @@ module _ (next : List ℕ) (place slot : ℕ) (tags old new : Slots)
         ]
       ]
 
-  pub turn-either : (q : ℕ) → IsEither next place tags old q → IsEither next place tags new q
+  pub turn-either : (q : ℕ) → IsEither change place tags old q → IsEither change place tags new q
   turn-either q (inr is) = inr (turn-kept q is)
   turn-either q (inl is) =
-      elim (cases_eq (slice_index_or next slot 0) place) [
+      elim (cases_eq kept place) [
         | inr not-there ↦ inl (ap (λ s. set.contains s q) (same not-there) ∙ is)
         | inl there ↦ elim (cases_eq q slot) [
           | inl here ↦ inr (turn-here q there here)
@@ -60,24 +59,24 @@ module _ (next : List ℕ) (place slot : ℕ) (tags old new : Slots)
         ]
       ]
 
-  pub turn-row : IsEither next place tags old slot → set.contains new slot ≡ turned_at next place tags slot
+  pub turn-row : IsEither change place tags old slot → set.contains new slot ≡ turned_at change place tags slot
   turn-row (inr is) = turn-kept slot is
   turn-row (inl is) =
-      elim (cases_eq (slice_index_or next slot 0) place) [
+      elim (cases_eq kept place) [
         | inl there ↦ turn-here slot there (ap (λ n. n) (let e : slot ≡ slot = omega arith in e))
         | inr not-there ↦ ap (λ s. set.contains s slot) (same not-there) ∙ is
             ∙ sym (ap (λ b. if b then not (set.contains tags slot) else set.contains tags slot)
-            (ne_eqb (slice_index_or next slot 0) place not-there))
+            (ne_eqb (change slot) place (λ is. not-there (known ∙ is))))
       ]
 
   -- one row more
   pub turn-more : (widget : ℕ) (slots : List ℕ) (rows : ℕ) → slot ≡ slot_of_row widget slots rows →
-      ((q : ℕ) → IsEither next place tags old q) → AreTurned next widget slots rows place tags old →
-      AreTurned next widget slots (rows + 1) place tags new
+      ((q : ℕ) → IsEither change place tags old q) → AreTurned change widget slots rows place tags old →
+      AreTurned change widget slots (rows + 1) place tags new
   turn-more widget slots rows is either before at below =
       elim (cases_eq at rows) [
         | inl last ↦ ap (set.contains new) (ap (slot_of_row widget slots) last ∙ sym is) ∙ turn-row (either slot)
-            ∙ ap (turned_at next place tags) (is ∙ ap (slot_of_row widget slots) (sym last))
+            ∙ ap (turned_at change place tags) (is ∙ ap (slot_of_row widget slots) (sym last))
         | inr other ↦ turn-kept (slot_of_row widget slots at) (before at (omega arith))
       ]
 
@@ -99,12 +98,15 @@ turned-flag flags place stop change before above within known upto is =
 pub turned-are : (content : Content) (start end : ℕ) (tags : List Tag) (widget place stop : ℕ) (next : List ℕ)
     (before behind : Slots) → place < stop
     → ((slot : ℕ) → stop < length (shown_flags slot content start end))
-    → AreKnownTo content start end widget (slots_of tags) (length tags) place stop next →
+    → AreKnownTo content start end tags widget place stop next →
     AreBefore content start end tags widget stop before →
-    AreTurned next widget (slots_of tags) (length tags) stop before behind →
+    ((change : ℕ → ℕ) → AreKept change widget (slots_of tags) (length tags) next
+    → AreTurned change widget (slots_of tags) (length tags) stop before behind) →
     AreAt content start end tags widget stop behind
 turned-are content start end tags widget place stop next before behind above within known are turned at below =
     let slot = slot_of_row widget (slots_of tags) at in
-    turned at below
-    ∙ turned-flag (shown_flags slot content start end) place stop (slice_index_or next slot 0)
-    (set.contains before slot) above (within slot) (known at below).0 (known at below).1 (are at below)
+    let change = change_behind content start end place in
+    turned change (λ row inside. (known.each row inside).0) at below
+    ∙ turned-flag (shown_flags slot content start end) place stop (change slot)
+    (set.contains before slot) above (within slot) refl
+    (omega (arith, (known.each at below).0, (known.each at below).1)) (are at below)

@@ -1,6 +1,6 @@
 -- What a view shows of a store, whose content a function tells, and what a widget sees there by the names that it
 -- knows.
-use Rattle.std.specs.Prelude.{ℕ, List, Option, length}
+use Rattle.std.specs.Prelude.{ℕ, List, Option}
 use Rattle.std.specs.Option.{option_map}
 use Rattle.index_grammar.specs.declared.names.Names.{Names}
 use Rattle.mark_table.specs.declared.order.Shown.{Shown}
@@ -8,8 +8,7 @@ use Rattle.text_model.specs.Content.{Content, Slots}
 use Rattle.text_model.specs.declared.store.TextStore.{Ghosts}
 use Rattle.text_index.specs.Views.{shown, IsView}
 use Rattle.text_index.specs.declared.views.View.{View}
-use Rattle.tag_table.specs.Tags.{slots_of}
-use Rattle.search_dump.specs.Ahead.{AreAt, AreBefore, AreKnownTo}
+use Rattle.search_dump.specs.Ahead.{AreAhead, AreAt, AreBefore, AreKnownTo, IsKnown}
 use Rattle.search_dump.specs.Dump.{Seen, seen_by}
 use Rattle.search_dump.specs.MarksAhead.{shown_of, usable_by, IsMarkFrom}
 use Rattle.search_dump.specs.declared.dumped_marks.Marked.{Marked}
@@ -46,9 +45,19 @@ abbrev pub AreTagsAt : {S P : Type 0} {g : Ghosts S P} → (S → Content) → V
 AreTagsAt content view names place slots =
     AreAt (content view.store.now) view.s view.e names.tags.now.tags names.widget.0 place slots
 
+-- what is kept of the next change of a tag of the table is the one behind a place
+abbrev pub IsChangeKnown : {S P : Type 0} {g : Ghosts S P} → (S → Content) → View S P g → Names → ℕ → List ℕ → ℕ →
+    Type 0
+IsChangeKnown content view names place next at =
+    IsKnown (content view.store.now) view.s view.e names.tags.now.tags names.widget.0 place next at
+
+-- what is kept of them all stands at the place or before it, or is the next change behind it
+abbrev pub AreChangesAhead : {S P : Type 0} {g : Ghosts S P} → (S → Content) → View S P g → Names → ℕ → List ℕ → Type 0
+AreChangesAhead content view names place next =
+    AreAhead (content view.store.now) view.s view.e names.tags.now.tags names.widget.0 place next
+
 -- the next changes behind a place of the tags of the table are known, and none of them stands before a stop
 abbrev pub AreChangesKnown : {S P : Type 0} {g : Ghosts S P} → (S → Content) → View S P g → Names → ℕ → ℕ → List ℕ →
     Type 0
 AreChangesKnown content view names place stop next =
-    AreKnownTo (content view.store.now) view.s view.e names.widget.0 (slots_of names.tags.now.tags)
-    (length names.tags.now.tags) place stop next
+    AreKnownTo (content view.store.now) view.s view.e names.tags.now.tags names.widget.0 place stop next

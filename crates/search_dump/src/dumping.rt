@@ -10,7 +10,6 @@ ghost use Rattle.tcl_words.specs.ListText.{list_text, needs_quotes};
 ghost use Rattle.text_model.specs.declared.limits.TheConstants.Limits.{MOST_WIDGETS};
 ghost use Rattle.text_index.specs.Values.{column_of};
 ghost use Rattle.text_index.specs.Views.{IsView};
-ghost use Rattle.search_dump.specs.Ahead.{AreAhead};
 ghost use Rattle.search_dump.specs.Stops.{has_tag_at, stop_at_mark, stops_at_marks, stops_at_tags, tags_at, IsNextStop};
 ghost use Rattle.search_dump.specs.Stops.{IsStop};
 ghost use Rattle.search_dump.specs.Matches.{places};
@@ -19,7 +18,7 @@ ghost use Rattle.search_dump.specs.Dump.{dump_elements, elements_at, element, if
 ghost use Rattle.search_dump.specs.Dump.{seen_by, tagoff_elements};
 ghost use Rattle.tcl_words.specs.ListGrowth.{Goes};
 ghost use Rattle.search_dump.specs.Sight.{seen_in, marks_in, text_in, IsFirstMark, ShowsLines};
-ghost use Rattle.search_dump.specs.Sight.{AreChangesKnown, AreTagsAt, AreTagsBefore};
+ghost use Rattle.search_dump.specs.Sight.{AreChangesAhead, AreChangesKnown, AreTagsAt, AreTagsBefore};
 ghost use Rattle.search_dump.specs.Spots.{IsSpot};
 
 use crate::dumped_marks::{Marked, mark_from};
@@ -254,6 +253,22 @@ fn push_listed_text<S: TextStore>(
     out.push("text", text.as_str(), spot)
 }
 
+/// What is known of the next changes of the tags behind a place at first, if a dump stops at tags.
+fn listed_changes<S: TextStore>(
+    alloc: Global,
+    sight: &Sight<'_, S>,
+    listed: Listed,
+    place: usize,
+) -> Result<TagChanges, AllocError>
+    ensures { IfOk result (λ changes. IsTrue (stops_at_tags listed) →
+        AreChangesAhead S.content sight.now.view.now sight.now.names.now place changes.next.items) }
+{
+    if !listed.stops_at_tags() {
+        return TagChanges::new(alloc, 0, place);
+    }
+    TagChanges::new(alloc, sight.names.tags.len(), place)
+}
+
 /// The next place behind one at which a tag begins or ends, or another place, if that stands before it or a dump
 /// doesn't stop at tags.
 fn stop_at_tag<S: TextStore>(
@@ -267,12 +282,12 @@ fn stop_at_tag<S: TextStore>(
     requires widget { sight.now.names.now.widget.0 < MOST_WIDGETS }
     requires some { place < to }
     requires within { sight.now.view.now.s + to ≤ sight.now.view.now.e }
-    requires ahead { AreAhead (S.content sight.now.view.now.store.now) sight.now.view.now.s sight.now.view.now.e
-        place changes.old.next }
-    ensures ahead { AreAhead (S.content sight.now.view.now.store.now) sight.now.view.now.s sight.now.view.now.e
-        place changes.new.next }
+    requires ahead { IsTrue (stops_at_tags listed) → AreChangesAhead S.content sight.now.view.now sight.now.names.now
+        place changes.old.next.items }
+    ensures ahead { IsTrue (stops_at_tags listed) → AreChangesAhead S.content sight.now.view.now sight.now.names.now
+        place changes.new.next.items }
     ensures known { IsTrue (stops_at_tags listed) → AreChangesKnown S.content sight.now.view.now sight.now.names.now
-        place result changes.new.next }
+        place result changes.new.next.items }
     ensures above { place < result }
     ensures below { result ≤ to }
     ensures stop { IsTrue (stops_at_tags listed) →
@@ -282,7 +297,7 @@ fn stop_at_tag<S: TextStore>(
         return to;
     }
     changes.pass(sight.view, sight.names, place);
-    changes.nearest(sight.names, to)
+    changes.nearest(to)
 }
 
 /// The place of a mark, or another place, if that stands before it.
@@ -327,18 +342,18 @@ fn next_stop<S: TextStore>(
     requires widget { sight.now.names.now.widget.0 < MOST_WIDGETS }
     requires some { spot.place < to }
     requires within { sight.now.view.now.s + to ≤ sight.now.view.now.e }
-    requires ahead { AreAhead (S.content sight.now.view.now.store.now) sight.now.view.now.s sight.now.view.now.e
-        spot.place changes.old.next }
+    requires ahead { IsTrue (stops_at_tags listed) → AreChangesAhead S.content sight.now.view.now sight.now.names.now
+        spot.place changes.old.next.items }
     requires mark { IsTrue (stops_at_marks listed) →
         IsFirstMark S.content sight.now.view.now sight.now.names.now (sight.now.view.now.s + spot.place + 1) mark }
     requires behind { IfSome mark (λ next. spot.place < next.place) }
-    ensures ahead { AreAhead (S.content sight.now.view.now.store.now) sight.now.view.now.s sight.now.view.now.e
-        result changes.new.next }
+    ensures ahead { IsTrue (stops_at_tags listed) → AreChangesAhead S.content sight.now.view.now sight.now.names.now
+        result changes.new.next.items }
     ensures mark { IsTrue (stops_at_marks listed) →
         IsFirstMark S.content sight.now.view.now sight.now.names.now (sight.now.view.now.s + result) mark }
     ensures stop { IsStop listed (seen_in S.content sight.now.view.now sight.now.names.now) spot.place to result }
     ensures known { IsTrue listed.tags → AreChangesKnown S.content sight.now.view.now sight.now.names.now
-        spot.place result changes.new.next }
+        spot.place result changes.new.next.items }
 {
     let tag = stop_at_tag(changes, sight, listed, spot.place, to);
     stop_at_line(sight.view, listed, spot, stop_at_mark(mark, tag))
@@ -397,7 +412,7 @@ fn turned_tags<S: TextStore>(
     requires widget { sight.now.names.now.widget.0 < MOST_WIDGETS }
     requires above { place < stop }
     requires known { IsTrue listed.tags → AreChangesKnown S.content sight.now.view.now sight.now.names.now
-        place stop changes.now.next }
+        place stop changes.now.next.items }
     requires before { IsTrue listed.tags → AreTagsBefore S.content sight.now.view.now sight.now.names.now stop
         before.now }
     ensures { IsTrue listed.tags → sight.now.view.now.s + stop < sight.now.view.now.e →
@@ -439,7 +454,7 @@ fn push_elements<S: TextStore>(
     ensures before { IfOk result (λ reached. IsTrue listed.tags →
         AreTagsBefore S.content sight.now.view.now sight.now.names.now to reached.before) }
 {
-    let mut changes = TagChanges::new(from);
+    let mut changes = listed_changes(*out.list.allocator(), sight, listed, from)?;
     let mut mark = listed_mark(sight, listed, from);
     let mut before = listed_before(sight, listed, from);
     let mut behind = listed_behind(sight, listed, from);

@@ -1,4 +1,4 @@
-ghost use Rattle.std.specs.Prelude.{◌≡◌, ◌≢◌, ℕ, ◌≤◌, ◌<◌, ◌+◌, length, not, replicate, slice_index_or};
+ghost use Rattle.std.specs.Prelude.{◌≡◌, ◌≢◌, ℕ, ◌≤◌, ◌<◌, ◌+◌, length, replicate, slice_index_or, IfOk};
 ghost use Rattle.std.specs.FinSet as set;
 ghost use Rattle.text_model.specs.Changes.{flag_at, next_change};
 ghost use Rattle.tag_table.specs.Tags.{slots_of};
@@ -6,10 +6,11 @@ ghost use Rattle.text_index.specs.Views.{shown_flags};
 ghost use Rattle.text_model.specs.Steps.{set_slot};
 ghost use Rattle.text_model.specs.TagBits.{slot_count};
 ghost use Rattle.text_model.specs.declared.limits.TheConstants.Limits.{MOST_WIDGETS};
-ghost use Rattle.search_dump.specs.Ahead.{slot_of_row, AreAhead, AreTurned, IsKnown, IsNearest};
+ghost use Rattle.search_dump.specs.Ahead.{slot_of_row, AreKept, AreTurned, IsNearest, IsTurned};
 ghost use Rattle.search_dump.specs.Dump.{flag_before, own_slot};
-ghost use Rattle.search_dump.specs.Sight.{ShowsLines};
+ghost use Rattle.search_dump.specs.Sight.{AreChangesAhead, IsChangeKnown, ShowsLines};
 
+use std::alloc::{AllocError, Global};
 use text_index::{Names, View};
 use text_model::{TagSet, TagSlot, TextStore};
 
@@ -81,39 +82,39 @@ fn change_behind<S: TextStore>(view: &View<'_, S>, slot: TagSlot, place: usize) 
     view.store.next_change(view.s + place, slot).min(view.e) - view.s
 }
 
-/// For each tag, by its slot, the next place of a view at which it begins or ends, so that the store is asked for it
-/// once.
+/// For each tag, by its place in the table, the next place of a view at which it begins or ends, so that the store is
+/// asked for it once.
 #[derive(Drop)]
 pub struct TagChanges {
-    next: [usize; TagSet::SLOTS as usize],
+    next: Vec<usize>,
 }
 
 impl TagChanges {
-    /// Nothing is known yet of the places behind one.
-    pub fn new(place: usize) -> TagChanges
-        ensures { result.next ≡ replicate slot_count place }
+    /// Of so many tags, of which nothing is known yet behind a place.
+    pub fn new(alloc: Global, tags: usize, place: usize) -> Result<TagChanges, AllocError>
+        ensures { IfOk result (λ changes. changes.next.items ≡ replicate tags place) }
     {
-        TagChanges {
-            next: [place; TagSet::SLOTS as usize],
-        }
+        Ok(TagChanges {
+            next: vec![in alloc; place; tags]?,
+        })
     }
 
-    /// Knows where the tag of a slot changes next behind a place of the view, before its end.
-    fn look<S: TextStore>(&mut self, view: &View<'_, S>, slot: TagSlot, place: usize)
+    /// Knows where the tag at a place of the table changes next behind a place of the view, before its end.
+    fn look<S: TextStore>(&mut self, view: &View<'_, S>, names: &Names<'_>, at: usize, place: usize)
         requires view { ShowsLines S.content view.now }
-        requires slot { slot.0 < slot_count }
+        requires widget { names.now.widget.0 < MOST_WIDGETS }
+        requires row { at < length names.now.tags.now.tags }
         requires within { view.now.s + place < view.now.e }
-        requires ahead { AreAhead (S.content view.now.store.now) view.now.s view.now.e place self.old.next }
-        ensures known { IsKnown (S.content view.now.store.now) view.now.s view.now.e place self.new.next slot.0 }
-        ensures keeps { (other : ℕ) →
-            IsKnown (S.content view.now.store.now) view.now.s view.now.e place self.old.next other
-            → IsKnown (S.content view.now.store.now) view.now.s view.now.e place self.new.next other }
-        ensures ahead { AreAhead (S.content view.now.store.now) view.now.s view.now.e place self.new.next }
+        requires ahead { AreChangesAhead S.content view.now names.now place self.old.next.items }
+        ensures known { IsChangeKnown S.content view.now names.now place self.new.next.items at }
+        ensures keeps { (other : ℕ) → IsChangeKnown S.content view.now names.now place self.old.next.items other
+            → IsChangeKnown S.content view.now names.now place self.new.next.items other }
+        ensures ahead { AreChangesAhead S.content view.now names.now place self.new.next.items }
     {
-        if place < self.next[slot.0 as usize] {
+        if place < self.next[at] {
             return;
         }
-        self.next[slot.0 as usize] = change_behind(view, slot, place);
+        self.next[at] = change_behind(view, own_slot(names, at), place);
     }
 
     /// Knows where each tag changes next behind a place of the view, before its end.
@@ -121,40 +122,40 @@ impl TagChanges {
         requires view { ShowsLines S.content view.now }
         requires widget { names.now.widget.0 < MOST_WIDGETS }
         requires within { view.now.s + place < view.now.e }
-        requires ahead { AreAhead (S.content view.now.store.now) view.now.s view.now.e place self.old.next }
+        requires ahead { AreChangesAhead S.content view.now names.now place self.old.next.items }
         ensures known { (at : ℕ) → at < length names.now.tags.now.tags →
-            IsKnown (S.content view.now.store.now) view.now.s view.now.e place self.new.next
-            (slot_of_row names.now.widget.0 (slots_of names.now.tags.now.tags) at) }
-        ensures ahead { AreAhead (S.content view.now.store.now) view.now.s view.now.e place self.new.next }
+            IsChangeKnown S.content view.now names.now place self.new.next.items at }
+        ensures ahead { AreChangesAhead S.content view.now names.now place self.new.next.items }
     {
         for at in 0..names.tags.len() {
-            let slot = own_slot(names, at);
-            self.look(view, slot, place);
+            self.look(view, names, at, place);
         }
     }
 
     /// The first of the next places, or another place, if that is before all of them.
-    pub fn nearest(&self, names: &Names<'_>, place: usize) -> usize
-        requires widget { names.now.widget.0 < MOST_WIDGETS }
-        ensures { IsNearest self.now.next names.now.widget.0 (slots_of names.now.tags.now.tags)
-            (length names.now.tags.now.tags) place result }
+    pub fn nearest(&self, place: usize) -> usize
+        ensures { IsNearest self.now.next.items (length self.now.next.items) place result }
     {
         let mut nearest = place;
-        for at in 0..names.tags.len() {
-            let slot = own_slot(names, at);
-            nearest = nearest.min(self.next[slot.0 as usize]);
+        for at in 0..self.next.len() {
+            nearest = nearest.min(self.next[at]);
         }
         nearest
     }
 
-    /// Turns a slot in a set, if its tag changes at a place, by how it is in another.
-    fn turn(&self, slot: TagSlot, place: usize, tags: &TagSet, turned: &mut TagSet)
-        requires { slot.0 < slot_count }
-        ensures turned { slice_index_or self.now.next slot.0 0 ≡ place →
-            turned.new ≡ set_slot slot.0 (not (set.contains tags.now slot.0)) turned.old }
-        ensures same { slice_index_or self.now.next slot.0 0 ≢ place → turned.new ≡ turned.old }
+    /// Turns the slot of the tag at a place of the table in a set, if the tag changes at a place of the view, by how it
+    /// is in another set.
+    fn turn(&self, names: &Names<'_>, at: usize, place: usize, tags: &TagSet, turned: &mut TagSet)
+        requires widget { names.now.widget.0 < MOST_WIDGETS }
+        requires row { at < length names.now.tags.now.tags }
+        requires kept { at < length self.now.next.items }
+        ensures turned { slice_index_or self.now.next.items at 0 ≡ place →
+            IsTurned (slot_of_row names.now.widget.0 (slots_of names.now.tags.now.tags) at) tags.now
+            turned.old turned.new }
+        ensures same { slice_index_or self.now.next.items at 0 ≢ place → turned.new ≡ turned.old }
     {
-        if self.next[slot.0 as usize] == place {
+        if self.next[at] == place {
+            let slot = own_slot(names, at);
             set_slot(turned, slot, !tags.has(slot));
         }
     }
@@ -162,13 +163,15 @@ impl TagChanges {
     /// The tags of a set, those turned that change at a place.
     pub fn turned(&self, names: &Names<'_>, place: usize, tags: &TagSet) -> TagSet
         requires widget { names.now.widget.0 < MOST_WIDGETS }
-        ensures { AreTurned self.now.next names.now.widget.0 (slots_of names.now.tags.now.tags)
+        requires rows { length self.now.next.items ≡ length names.now.tags.now.tags }
+        ensures { (change : ℕ → ℕ) → AreKept change names.now.widget.0 (slots_of names.now.tags.now.tags)
+            (length names.now.tags.now.tags) self.now.next.items
+            → AreTurned change names.now.widget.0 (slots_of names.now.tags.now.tags)
             (length names.now.tags.now.tags) place tags.now result }
     {
         let mut turned = *tags;
         for at in 0..names.tags.len() {
-            let slot = own_slot(names, at);
-            self.turn(slot, place, tags, &mut turned);
+            self.turn(names, at, place, tags, &mut turned);
         }
         turned
     }

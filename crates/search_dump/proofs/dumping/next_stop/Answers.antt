@@ -7,8 +7,10 @@ use Rattle.search_dump.proofs.dumping.next_stop.Goals as goal
 pub returns-clause-ahead : goal.returns-clause-ahead
 returns-clause-ahead g c =
     let view = c.args.sight.now.view.now in
-    ahead-on (g.S.TextStore.content view.store.now) view.s view.e c.args.spot.place c.stop_at_line.result
-    c.stop_at_tag-tag.new.changes.next c.stop_at_tag-tag.ensures.ahead (omega arith)
+    let names = c.args.sight.now.names.now in
+    λ is. ahead-on (g.S.TextStore.content view.store.now) view.s view.e names.tags.now.tags names.widget.0
+    c.args.spot.place c.stop_at_line.result c.stop_at_tag-tag.new.changes.next.items
+    (c.stop_at_tag-tag.ensures.ahead is) (omega arith)
 
 pub returns-clause-mark : goal.returns-clause-mark
 returns-clause-mark g c =
@@ -33,11 +35,14 @@ returns-clause-stop g c =
     c.stop_at_tag-tag.ensures.below
 
 pub returns-clause-known : goal.returns-clause-known
-returns-clause-known g c is at below =
-    let known = c.stop_at_tag-tag.ensures.known (or_left c.args.listed.tags c.args.listed.text is) at below in
+returns-clause-known g c is =
+    let known = c.stop_at_tag-tag.ensures.known (or_left c.args.listed.tags c.args.listed.text is) in
     let stop : c.stop_at_line.result ≤ c.stop_at_tag-tag.result = omega (
       arith,
       c.stop_at_line.ensures.below,
       stop-within c.stop_at_tag-tag.result c.stop_at_mark.result c.args.mark c.stop_at_mark.ensures,
     ) in
-    (known.0, omega (arith, known.1, stop))
+    record {
+      rows = known.rows;
+      each = λ at below. ((known.each at below).0, omega (arith, (known.each at below).1, stop));
+    }

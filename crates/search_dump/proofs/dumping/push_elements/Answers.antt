@@ -8,7 +8,6 @@ use Rattle.search_dump.specs.Matches.{places}
 use Rattle.search_dump.specs.Sight.{seen_in, text_in, AreTagsBefore, IsFirstMark}
 use Rattle.search_dump.specs.Spots.{IsSpot}
 use Rattle.search_dump.specs.Stops.{stops_at_marks}
-use Rattle.search_dump.proofs.ChangeLaws.{ahead-begun}
 use Rattle.search_dump.proofs.StopLaws.{cut-next, cut-there, dump-begun, dump-on}
 use Rattle.search_dump.proofs.TagStops.{before-on}
 use Rattle.search_dump.proofs.dumping.push_elements.Goals as goal
@@ -25,7 +24,7 @@ loop-place-init g c =
       spot = record { line = c.line_at-line.ensures.line; before = c.line_at-line.ensures.before };
       begun = omega arith;
       within = c.requires.ordered;
-      ahead = ahead-begun content view.s view.e c.args.from c.new-changes.result.next c.new-changes.ensures;
+      ahead = c.in_ok-changes.ensures;
       mark = c.listed_mark-mark.ensures;
       before = c.listed_before-before.ensures;
       behind = λ is _. c.listed_behind-behind.ensures is;

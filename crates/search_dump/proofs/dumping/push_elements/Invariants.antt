@@ -8,7 +8,7 @@ use Rattle.search_dump.specs.Dump.{elements_at, is_cut, seen_by}
 use Rattle.search_dump.specs.MarksAhead.{IsMarkFrom, shown_of, usable_by}
 use Rattle.search_dump.specs.Matches.{places}
 use Rattle.search_dump.specs.Spots.{IsSpot}
-use Rattle.search_dump.specs.Stops.{stops_at_marks}
+use Rattle.search_dump.specs.Stops.{stops_at_marks, stops_at_tags}
 use Rattle.search_dump.proofs.dumping.push_elements.Given as goal
 
 abbrev pub invariant-loop-place : goal.invariant-loop-place
@@ -22,7 +22,8 @@ invariant-loop-place g l =
       spot : IsSpot (shown content l.sight.view.now.s l.sight.view.now.e) (record { place = l.place; line = l.line });
       begun : l.from ≤ l.place;
       within : l.place ≤ l.to;
-      ahead : AreAhead content l.sight.view.now.s l.sight.view.now.e l.place l.changes.next;
+      ahead : stops_at_tags l.listed ≡ true → AreAhead content l.sight.view.now.s l.sight.view.now.e
+          l.sight.names.now.tags.now.tags l.sight.names.now.widget.0 l.place l.changes.next.items;
       mark : stops_at_marks l.listed ≡ true →
           IsMarkFrom (usable_by content l.sight.view.now.s l.sight.view.now.e marks l.sight.names.now.widget.0) (l.sight.view.now.s + l.place)
           (option_map (shown_of l.sight.view.now.s) l.mark);

@@ -1,9 +1,9 @@
-use Rattle.std.proofs.Common.{ℕ, arith}
+use Rattle.std.proofs.Common.{ℕ, arith, subst}
 use Rattle.tag_table.specs.Tags.{slots_of}
 use Rattle.text_model.specs.Content.{flags}
 use Rattle.text_index.specs.Views.{shown_flags}
 use Rattle.text_index.proofs.FlagLaws.{flags-within, length-part}
-use Rattle.search_dump.specs.Ahead.{slot_of_row}
+use Rattle.search_dump.specs.Ahead.{slot_of_row, IsNearest}
 use Rattle.search_dump.proofs.ChangeLaws.{next-above}
 use Rattle.search_dump.proofs.TagStops.{tag-stop}
 use Rattle.search_dump.proofs.dumping.stop_at_tag.Goals as goal
@@ -17,11 +17,12 @@ returns-clause-stop g c = λ stops.
     let long = λ (slot : ℕ). length-part (flags slot content.cells) view.s view.e
     (flags-within content slot view.s view.e c.requires.view) c.requires.view.ordered in
     (tag-stop content view.s view.e tags names.marks.now.marks names.widget.0 c.args.place c.args.to c.nearest.result
-    c.pass.new.self.next c.requires.some (omega arith)
+    c.pass.new.self.next.items c.requires.some (omega arith)
     (λ slot is. long slot) c.pass.ensures.known
     (λ at within. next-above (shown_flags (slot_of_row names.widget.0 (slots_of tags) at) content view.s view.e)
     c.args.place (omega (arith, long (slot_of_row names.widget.0 (slots_of tags) at))))
-    c.nearest.ensures).1
+    (subst (λ rows. IsNearest c.pass.new.self.next.items rows c.args.to c.nearest.result) c.pass.ensures.ahead.rows
+    c.nearest.ensures)).1
 
 pub returns-clause-above : goal.returns-clause-above
 returns-clause-above g c =
@@ -32,17 +33,21 @@ returns-clause-above g c =
     let long = λ (slot : ℕ). length-part (flags slot content.cells) view.s view.e
     (flags-within content slot view.s view.e c.requires.view) c.requires.view.ordered in
     (tag-stop content view.s view.e tags names.marks.now.marks names.widget.0 c.args.place c.args.to c.nearest.result
-    c.pass.new.self.next c.requires.some (omega arith)
+    c.pass.new.self.next.items c.requires.some (omega arith)
     (λ slot is. long slot) c.pass.ensures.known
     (λ at within. next-above (shown_flags (slot_of_row names.widget.0 (slots_of tags) at) content view.s view.e)
     c.args.place (omega (arith, long (slot_of_row names.widget.0 (slots_of tags) at))))
-    c.nearest.ensures).0
+    (subst (λ rows. IsNearest c.pass.new.self.next.items rows c.args.to c.nearest.result) c.pass.ensures.ahead.rows
+    c.nearest.ensures)).0
 
 pub returns-clause-below : goal.returns-clause-below
 returns-clause-below g c = c.nearest.ensures.within
 
 pub returns-clause-ahead : goal.returns-clause-ahead
-returns-clause-ahead g c = c.pass.ensures.ahead
+returns-clause-ahead g c = λ _. c.pass.ensures.ahead
 
 pub returns-clause-known : goal.returns-clause-known
-returns-clause-known g c = λ _ at below. (c.pass.ensures.known at below, c.nearest.ensures.each at below)
+returns-clause-known g c = λ _. record {
+  rows = c.pass.ensures.ahead.rows;
+  each = λ at below. (c.pass.ensures.known at below, c.nearest.ensures.each at (omega (arith, below, c.pass.ensures.ahead.rows)));
+}

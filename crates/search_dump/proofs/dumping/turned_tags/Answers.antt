@@ -9,7 +9,7 @@ returns g c is within =
     let view = c.args.sight.now.view.now in
     let names = c.args.sight.now.names.now in
     let content = g.S.TextStore.content view.store.now in
-    turned-are content view.s view.e names.tags.now.tags names.widget.0 c.args.place c.args.stop c.args.changes.now.next
+    turned-are content view.s view.e names.tags.now.tags names.widget.0 c.args.place c.args.stop c.args.changes.now.next.items
     c.args.before.now c.turned.result c.requires.above
     (λ slot. omega (
       arith,

@@ -1,10 +1,11 @@
-use Rattle.tag_table.specs.Tags.{slots_of}
+use Rattle.std.proofs.Common.{ap, arith, min, ◌∙◌}
+use Rattle.std.proofs.lemmas.Grind.{get_or_default_zero}
 use Rattle.search_dump.proofs.ChangeLaws.{nearest-more}
 use Rattle.search_dump.proofs.tag_changes.TagChanges.nearest.Goals as goal
 
 pub loop-at-preserved : goal.loop-at-preserved
 loop-at-preserved c =
-    let h = c.min-nearest.ensures in
-    nearest-more c.args.self.now.next c.args.names.now.widget.0 (slots_of c.args.names.now.tags.now.tags) c.loop-at.at
-    c.args.place c.loop-at.nearest c.min-nearest.result c.own_slot-slot.result.0
-    c.loop-at.invariant c.own_slot-slot.ensures.value h
+    let next = c.args.self.now.next.items in
+    nearest-more next c.loop-at.at c.args.place c.loop-at.nearest c.min-nearest.result c.loop-at.invariant
+    (c.min-nearest.ensures ∙ ap (min c.loop-at.nearest) (c.index.ensures
+    ∙ get_or_default_zero next c.loop-at.at c.index.result.now (omega arith)))
