@@ -5,6 +5,7 @@ pub mod DumpLaws
 pub mod DumpRows
 pub mod EndLaws
 pub mod FirstLaws
+pub mod FoldLaws
 pub mod LineStops
 pub mod ListedLaws
 pub mod MarkLaws

@@ -110,7 +110,7 @@ bytes_before-least cs n m least within =
     ]
 
 -- ASCII is folded by its small letters
-folds-ascii : (bs : List ℕ) → IsAscii bs → map to_ascii_lowercase bs ≡ map simple_fold bs
+pub folds-ascii : (bs : List ℕ) → IsAscii bs → map to_ascii_lowercase bs ≡ map simple_fold bs
 folds-ascii [] ascii = refl
 folds-ascii (b ∷ bs) ascii =
     ap₂ (λ c cs. c ∷ cs) (sym (simple_fold-ascii b (ascii 0))) (folds-ascii bs (λ i. ascii (suc i)))

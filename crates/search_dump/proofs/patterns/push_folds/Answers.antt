@@ -1,0 +1,26 @@
+use Rattle.std.proofs.Common.{length, chars, string_bytes, map, sym, ap, ◌∙◌, ◌++◌, append-nil, encode_utf8_all, arith}
+use Rattle.std.proofs.lemmas.Iterator.{YieldsList-from_chars}
+use Rattle.std.proofs.lemmas.Iterator.Consumers.{YieldsList-turn, YieldsList-end}
+use Rattle.std.proofs.lemmas.List.{length_push, take_all}
+use Rattle.ucd_case.specs.CaseFolding.{simple_fold}
+use Rattle.search_dump.proofs.FoldLaws.{folded-on}
+use Rattle.search_dump.proofs.patterns.push_folds.Goals as goal
+
+pub loop-character-init : goal.loop-character-init
+loop-character-init c = sym (append-nil (string_bytes c.args.folds.now))
+
+pub loop-character-preserved : goal.loop-character-preserved
+loop-character-preserved c =
+    let t = YieldsList-turn (YieldsList-from_chars c.args.text.now c.utf8.text cc) c.loop-character.yielded _
+    c.loop-character.yielded_by _ _ c.in-Some.character c.in-Some.is c.next.ensures.steps in
+    folded-on (string_bytes c.args.folds.now) (chars c.args.text.now) (length c.loop-character.yielded) _
+    c.in-Some.character c.fold_of.result _ _ t (length_push c.loop-character.yielded c.in-Some.character)
+    c.fold_of.ensures c.loop-character.invariant c.in_ok-push.ensures.bytes
+
+pub returns : goal.returns
+returns c =
+    let t = YieldsList-end (YieldsList-from_chars c.args.text.now c.utf8.text cc) c.loop-character.yielded _
+    c.loop-character.yielded_by _ _ c.in-None.is c.next.ensures.steps in
+    c.loop-character.invariant
+    ∙ ap (λ cs. string_bytes c.args.folds.now ++ encode_utf8_all (map simple_fold cs))
+    (take_all (length c.loop-character.yielded) (chars c.args.text.now) (omega (arith, t.1)))
