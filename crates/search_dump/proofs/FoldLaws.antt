@@ -89,6 +89,10 @@ pub pushed_piece : (old new bytes : List ℕ) → new ≡ old ++ bytes → IsAsc
     new ≡ old ++ encode_utf8_all (map simple_fold (chars bytes))
 pushed_piece old new bytes is ascii low = is ∙ ap (λ xs. old ++ xs) (sym (low-folds bytes ascii low))
 
+-- it has as many characters as bytes
+pub ascii_count : (bytes : List ℕ) → IsAscii bytes → length bytes ≡ length (chars bytes)
+ascii_count bytes ascii = ap length (sym (chars-IsAscii bytes ascii))
+
 -- the letters of each piece are small
 pub low-front : (bytes : List ℕ) (n : ℕ) → map to_ascii_lowercase bytes ≡ bytes →
     map to_ascii_lowercase (take n bytes) ≡ take n bytes

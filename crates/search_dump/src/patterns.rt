@@ -157,13 +157,24 @@ impl<'a> Pattern<'a> {
     }
 }
 
+/// How many characters a text has. Those of an ASCII text needn't be counted.
+#[tactic(auto, using(crate::proofs::FoldLaws::ascii_count))]
+fn count(text: &str) -> usize
+    ensures { result ≡ length (chars text.now) }
+{
+    if text.is_ascii() {
+        return text.len();
+    }
+    text.chars().count()
+}
+
 /// How many characters stand before the first place in a text at which a pattern does.
 fn first_place(text: &str, pattern: &str) -> Option<usize>
     ensures { result ≡ find (matches_at (chars pattern.now) (chars text.now) (length (chars text.now)))
         (places 0 (length (chars text.now) + 1)) }
 {
     let at = text.find(pattern)?;
-    Some(text[..at].chars().count())
+    Some(count(&text[..at]))
 }
 
 /// How many characters stand before the last place in a text at which a pattern does.
@@ -172,7 +183,7 @@ fn last_place(text: &str, pattern: &str) -> Option<usize>
         (reverse (places 0 (length (chars text.now) + 1))) }
 {
     let at = text.rfind(pattern)?;
-    Some(text[..at].chars().count())
+    Some(count(&text[..at]))
 }
 
 /// How many characters stand before the place in a text at which a pattern does first in a direction.

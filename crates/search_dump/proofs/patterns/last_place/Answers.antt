@@ -1,6 +1,4 @@
 use Rattle.std.proofs.Common.{◌≡◌, Some, chars, drop, length, take, ap, arith, ◌∙◌, sym}
-use Rattle.std.proofs.lemmas.Iterator.{YieldsList-from_chars}
-use Rattle.std.proofs.lemmas.Iterator.Consumers.{count_from_yields_List}
 use Rattle.search_dump.proofs.MatchLaws.{last_place-at, last_place-none}
 use Rattle.search_dump.proofs.patterns.last_place.Goals as goal
 
@@ -12,11 +10,8 @@ pub returns : goal.returns
 returns c =
     let at = c.in_ok-at.at in
     let found = c.in_ok-at.ensures.cases in
-    let counted : c.count.result ≡ length (chars c.range.result.now) =
-    count_from_yields_List c.chars.result c.count.result c.count.ensures.ran
-    (YieldsList-from_chars c.range.result.now c.range.utf8 cc) in
     let front : c.range.result.now ≡ take at c.args.text.now = c.range.ensures.value
     ∙ ap (λ n. take n (drop 0 c.args.text.now)) (omega arith) in
-    ap Some (counted ∙ ap (λ bytes. length (chars bytes)) front)
+    ap Some (c.count.ensures ∙ ap (λ bytes. length (chars bytes)) front)
     ∙ sym (last_place-at c.args.pattern.now c.args.text.now at found.0 c.utf8.pattern c.utf8.text found.3 found.4
     found.1.1 found.1.0)
