@@ -1,6 +1,6 @@
 -- Where the lines in a row begin.
-use Rattle.std.proofs.Common.{◌≡◌, ℕ, zero, suc, ◌+◌, ◌-◌, ◌<◌, ◌≤◌, List, [], ◌∷◌, Some, length, take, sym, ap, subst}
-use Rattle.std.proofs.Common.{◌∙◌, inl, inr, arith, length-append}
+use Rattle.std.proofs.Common.{◌≡◌, ℕ, zero, suc, ◌+◌, ◌-◌, ◌<◌, ◌≤◌, List, [], ◌∷◌, None, Some, length, take, sym, ap}
+use Rattle.std.proofs.Common.{subst, ◌∙◌, inl, inr, arith, length-append}
 use Rattle.std.specs.Prelude.{IfSome, slice_get}
 use Rattle.std.proofs.lemmas.Bool.{cases_lt}
 use Rattle.std.proofs.lemmas.List.{take_all}
@@ -63,6 +63,33 @@ column-within lines k column within inside =
     IfSome found (λ (here : LineContent). column ≤ length here.columns)) (there lines k within) inside in
     let most : suc k ≤ length lines = omega arith in
     omega (arith, small, start-next lines k within, start-rises lines (suc k) (length lines) most, start-all lines)
+
+lent-there : (lines : List LineContent) (k : ℕ) (line : LineContent) → slice_get lines k ≡ Some line → k < length lines
+lent-there [] k line is = absurd (let no : None ≡ Some line = is in cc)
+lent-there (here ∷ lines) zero line is = omega arith
+lent-there (here ∷ lines) (suc k) line is = let less : k < length lines = lent-there lines k line is in
+    omega (arith, less)
+
+-- a column of a line that is lent behind where it begins
+pub placed-most : (lines : List LineContent) (k start column : ℕ) (line : LineContent) → start ≡ start_of lines k →
+    slice_get lines k ≡ Some line → column ≤ length line.columns → start + column ≤ length (whole lines).columns
+placed-most lines k start column line starts is small =
+    omega (
+      arith,
+      starts,
+      column-within lines k column (lent-there lines k line is) (lent-within lines k column line is small),
+    )
+
+-- a column of a line in which another one has an offset
+pub near-column : (lines : List LineContent) (offset k column found : ℕ) → offset ≡ start_of lines k + column →
+    (offset - column) + found ≡ start_of lines k + found
+near-column lines offset k column found behind = omega (arith, behind)
+
+pub near-most : (lines : List LineContent) (offset k column found : ℕ) (line : LineContent) →
+    offset ≡ start_of lines k + column → slice_get lines k ≡ Some line → found ≤ length line.columns
+    → (offset - column) + found ≤ length (whole lines).columns
+near-most lines offset k column found line behind is small =
+    placed-most lines k (offset - column) found line (omega (arith, behind)) is small
 
 -- from the end of the text on an offset is counted in the last line
 pub at-end : (lines : List LineContent) (offset last start : ℕ) → 0 < length lines → last ≡ length lines - 1 →

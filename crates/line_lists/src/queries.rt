@@ -1,6 +1,6 @@
 //! The queries of a text over any list of its lines: sums say where a line stands, the rest is asked of that line.
 
-ghost use Rattle.std.specs.Prelude.{◌≡◌, ◌+◌, ◌<◌, ◌≤◌, length, take, slice_get, slice_range, Some, IfSome, IfOk};
+ghost use Rattle.std.specs.Prelude.{◌≡◌, ◌+◌, ◌<◌, ◌≤◌, length, slice_get, slice_range, Some, IfSome, IfOk};
 ghost use Rattle.std.specs.Prelude.{chars, string_bytes};
 ghost use Rattle.std.specs.FinMap as finite;
 ghost use Rattle.text_model.specs.Changes.{next_change, previous_change};
@@ -9,7 +9,7 @@ ghost use Rattle.text_model.specs.Lines.{IsLineOf, lines, line_of, line_start};
 ghost use Rattle.text_model.specs.MarkOrder.{marks_at, next_mark, previous_mark};
 ghost use Rattle.text_model.specs.TagBits.{slot_count};
 ghost use Rattle.line_lists.specs.Places.{IsAt};
-ghost use Rattle.line_lists.specs.Texts.{content_of, whole};
+ghost use Rattle.line_lists.specs.Texts.{content_of};
 
 use crate::lists::LineList;
 use segments::Line;
@@ -135,17 +135,8 @@ fn place_of<L: LineList>(list: &L, offset: usize) -> (usize, usize, &Line)
         return list.line_at(offset);
     }
     let last = list.len() - 1;
-    (last, offset - list.start(last), list.line(last))
-}
-
-/// The offset of a column of a line.
-fn offset_of<L: LineList>(list: &L, index: usize, column: usize) -> usize
-    requires known { index < length (L.lines list.now) }
-    requires within { IfSome (slice_get (L.lines list.now) index) (λ line. column ≤ length line.columns) }
-    ensures value { result ≡ length (whole (take index (L.lines list.now))).columns + column }
-    ensures bound { result ≤ length (content_of (L.lines list.now)).cells }
-{
-    list.start(index) + column
+    let (start, line) = list.placed_line(last);
+    (last, offset - start, line)
 }
 
 /// The place of the mark of a number, if there is one.
@@ -154,9 +145,10 @@ pub fn mark_place<L: LineList>(list: &L, number: MarkNo) -> Option<Place>
     ensures bound { IfSome result (λ place. place.offset ≤ length (content_of (L.lines list.now)).cells) }
 {
     let index = list.mark_line(number)?;
-    let place = list.line(index).mark_place(number)?;
+    let (start, line) = list.placed_line(index);
+    let place = line.mark_place(number)?;
     Some(Place {
-        offset: offset_of(list, index, place.offset),
+        offset: start + place.offset,
         gravity: place.gravity,
     })
 }
@@ -169,11 +161,12 @@ pub fn next_mark<L: LineList>(list: &L, offset: usize) -> Option<usize>
 {
     let (index, column, here) = place_of(list, offset);
     if let Some(next) = here.next_mark(column) {
-        return Some(offset_of(list, index, next));
+        return Some(offset - column + next);
     }
     let later = list.next_marked(index + 1)?;
-    let next = list.line(later).next_mark(0)?;
-    Some(offset_of(list, later, next))
+    let (start, line) = list.placed_line(later);
+    let next = line.next_mark(0)?;
+    Some(start + next)
 }
 
 /// The greatest offset below this one at which a mark stands.
@@ -184,12 +177,12 @@ pub fn previous_mark<L: LineList>(list: &L, offset: usize) -> Option<usize>
 {
     let (index, column, here) = place_of(list, offset);
     if let Some(previous) = here.previous_mark(column) {
-        return Some(offset_of(list, index, previous));
+        return Some(offset - column + previous);
     }
     let earlier = list.previous_marked(index)?;
-    let line = list.line(earlier);
+    let (start, line) = list.placed_line(earlier);
     let previous = line.previous_mark(line.len())?;
-    Some(offset_of(list, earlier, previous))
+    Some(start + previous)
 }
 
 /// Of the marks that stand at an offset, in the order of their numbers, the one at an index.
@@ -211,14 +204,17 @@ pub fn next_change<L: LineList>(list: &L, offset: usize, slot: TagSlot) -> usize
 {
     let (index, column, here) = list.line_at(offset);
     if let Some(next) = here.next_toggle(column + 1, slot) {
-        return offset_of(list, index, next);
+        return offset - column + next;
     }
     match list.next_with(slot, index + 1) {
         None => len(list),
-        Some(later) => match list.line(later).next_toggle(0, slot) {
-            None => len(list),
-            Some(next) => offset_of(list, later, next),
-        },
+        Some(later) => {
+            let (start, line) = list.placed_line(later);
+            match line.next_toggle(0, slot) {
+                None => len(list),
+                Some(next) => start + next,
+            }
+        }
     }
 }
 
@@ -232,15 +228,15 @@ pub fn previous_change<L: LineList>(list: &L, offset: usize, slot: TagSlot) -> u
 {
     let (index, column, here) = place_of(list, offset);
     if let Some(previous) = here.previous_toggle(column, slot) {
-        return offset_of(list, index, previous);
+        return offset - column + previous;
     }
     match list.previous_with(slot, index) {
         None => 0,
         Some(earlier) => {
-            let line = list.line(earlier);
+            let (start, line) = list.placed_line(earlier);
             match line.previous_toggle(line.len(), slot) {
                 None => 0,
-                Some(previous) => offset_of(list, earlier, previous),
+                Some(previous) => start + previous,
             }
         }
     }

@@ -1,14 +1,17 @@
-use Rattle.std.proofs.Common.{◌≡◌, ◌+◌, ◌∙◌, ap, sym, true, false, arith}
+use Rattle.std.proofs.Common.{◌≡◌, ◌+◌, ◌≤◌, ◌∙◌, length, ap, sym, true, false, arith}
 use Rattle.std.specs.Prelude.{is_some}
 use Rattle.std.specs.FinMap as finite
+use Rattle.text_model.specs.declared.places.Place.{Place}
 use Rattle.segments.specs.Columns.{LineContent}
 use Rattle.line_lists.specs.Lists.{has_mark}
-use Rattle.line_lists.proofs.LineStarts.{lent, start_of}
+use Rattle.line_lists.proofs.CountRows.{count-characters}
+use Rattle.line_lists.proofs.LineStarts.{lent, placed-most, start_of}
 use Rattle.line_lists.proofs.MarkPlaces.{mark-nowhere, mark-out}
+use Rattle.line_lists.proofs.NearMarks.{if_some}
+use Rattle.line_lists.proofs.PlaceRows.{length-content}
 use Rattle.line_lists.proofs.SearchRows.{next-found, next-none}
 use Rattle.line_lists.proofs.queries.mark_place.Goals as goal
 
--- src/queries.rt:104:17
 pub returns-in_err-index-clause-value : goal.returns-in_err-index-clause-value
 returns-in_err-index-clause-value g c =
     let list = g.L.LineList.lines c.args.list.now in
@@ -16,7 +19,6 @@ returns-in_err-index-clause-value g c =
     ∙ sym (mark-nowhere list c.args.number.0 (next-none (has_mark c.args.number.0) 0 list (sym c.mark_line.ensures
     ∙ c.in_err-index.was)))
 
--- src/queries.rt:105:17
 pub returns-in_err-place-clause-value : goal.returns-in_err-place-clause-value
 returns-in_err-place-clause-value g c =
     let list = g.L.LineList.lines c.args.list.now in
@@ -24,11 +26,10 @@ returns-in_err-place-clause-value g c =
     let near = next-found (has_mark number) 0 list c.in_ok-index.index (sym c.mark_line.ensures ∙ c.in_ok-index.was) in
     let none =
     ap (λ (line : LineContent). is_some (finite.get line.marks number))
-    (lent list c.in_ok-index.index c.line.result.now c.line.ensures)
+    (lent list c.in_ok-index.index c.placed_line-start.result.1.now c.placed_line-start.ensures.line)
     ∙ ap is_some (sym c.mark_place.ensures.value ∙ c.in_err-place.was) in
     absurd (let no : false ≡ true = sym none ∙ near.passes in cc)
 
--- src/queries.rt:100:1
 pub returns-clause-value : goal.returns-clause-value
 returns-clause-value g c =
     let list = g.L.LineList.lines c.args.list.now in
@@ -36,11 +37,30 @@ returns-clause-value g c =
     let k = c.in_ok-index.index in
     let inner = c.in_ok-place.place in
     let near = next-found (has_mark number) 0 list k (sym c.mark_line.ensures ∙ c.in_ok-index.was) in
-    let at = c.offset_of.ensures.value ∙ (let turned : start_of list k + inner.offset
+    let at = ap (λ n. n + inner.offset) c.placed_line-start.ensures.start ∙ (let turned : start_of list k + inner.offset
     ≡ inner.offset + start_of list k = omega arith in turned) in
     sym (mark-out list number _ k inner (g.L.LineList.are_lines c.args.list.now).rows (record {
       within = near.within;
-      is = ap (λ (line : LineContent). finite.get line.marks number) (lent list k c.line.result.now c.line.ensures)
+      is = ap (λ (line : LineContent). finite.get line.marks number) (lent list k c.placed_line-start.result.1.now
+          c.placed_line-start.ensures.line)
           ∙ sym c.mark_place.ensures.value ∙ c.in_ok-place.was;
       at = ap (λ offset. record inner { offset = offset }) at;
     }))
+
+pub overflow_add-result : goal.overflow_add-result
+overflow_add-result g c =
+    let list = g.L.LineList.lines c.args.list.now in
+    let small = if_some (λ (place : Place). place.offset ≤ length c.placed_line-start.result.1.now.columns)
+    c.mark_place.result c.in_ok-place.place c.in_ok-place.was c.mark_place.ensures.bound in
+    let most = placed-most list c.in_ok-index.index c.placed_line-start.result.0 c.in_ok-place.place.offset
+    c.placed_line-start.result.1.now c.placed_line-start.ensures.start c.placed_line-start.ensures.line small in
+    omega (arith, most, (g.L.LineList.are_lines c.args.list.now).counted.characters, count-characters list)
+
+pub returns-clause-bound : goal.returns-clause-bound
+returns-clause-bound g c =
+    let list = g.L.LineList.lines c.args.list.now in
+    let small = if_some (λ (place : Place). place.offset ≤ length c.placed_line-start.result.1.now.columns)
+    c.mark_place.result c.in_ok-place.place c.in_ok-place.was c.mark_place.ensures.bound in
+    let most = placed-most list c.in_ok-index.index c.placed_line-start.result.0 c.in_ok-place.place.offset
+    c.placed_line-start.result.1.now c.placed_line-start.ensures.start c.placed_line-start.ensures.line small in
+    omega (arith, most, length-content list)

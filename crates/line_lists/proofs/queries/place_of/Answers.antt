@@ -12,7 +12,7 @@ overflow_sub-result g c =
     let list = g.L.LineList.lines c.args.list.now in
     omega (
       arith,
-      c.start.ensures,
+      c.placed_line-start.ensures.start,
       length-front list (c.len-last.result - 1),
       length-content list,
       c.len.ensures,
@@ -31,16 +31,16 @@ pub returns : goal.returns
 returns g c =
     let list = g.L.LineList.lines c.args.list.now in
     let last = c.len-last.result - 1 in
-    let starts : c.start.result ≤ c.args.offset = omega (
+    let starts : c.placed_line-start.result.0 ≤ c.args.offset = omega (
       arith,
-      c.start.ensures,
+      c.placed_line-start.ensures.start,
       length-front list last,
       length-content list,
       c.len.ensures,
       c.if-offset-len.false,
     ) in
     record {
-      place = at-end list c.args.offset last c.start.result (g.L.LineList.are_lines c.args.list.now).some
-          (ap (λ n. n - 1) c.len-last.ensures) c.start.ensures starts;
-      line = c.line.ensures;
+      place = at-end list c.args.offset last c.placed_line-start.result.0 (g.L.LineList.are_lines c.args.list.now).some
+          (ap (λ n. n - 1) c.len-last.ensures) c.placed_line-start.ensures.start starts;
+      line = c.placed_line-start.ensures.line;
     }

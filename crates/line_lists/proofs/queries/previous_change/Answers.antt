@@ -1,4 +1,4 @@
-use Rattle.std.proofs.Common.{◌<◌, ◌≤◌, ◌∙◌, sym, subst, arith, length, refl}
+use Rattle.std.proofs.Common.{ℕ, ◌+◌, ◌<◌, ◌≤◌, ◌∙◌, ap, sym, subst, arith, length, refl}
 use Rattle.std.specs.FinSet as set
 use Rattle.std.proofs.lemmas.List.{length-map}
 use Rattle.text_model.specs.declared.cells.Cell.{Cell}
@@ -6,7 +6,8 @@ use Rattle.text_model.specs.Content.{flags}
 use Rattle.text_model.proofs.ChangeLaws.{previous_change-below}
 use Rattle.line_lists.specs.Lists.{has_toggle}
 use Rattle.line_lists.specs.Texts.{content_of, whole}
-use Rattle.line_lists.proofs.LineStarts.{at-within, length_at, lent-length, lent-within}
+use Rattle.line_lists.proofs.CountRows.{count-characters}
+use Rattle.line_lists.proofs.LineStarts.{at-within, length_at, lent-length, near-column, placed-most}
 use Rattle.line_lists.proofs.NearChanges.{change-back, change-earlier, change-first, lent-none-previous, lent-previous}
 use Rattle.line_lists.proofs.NearMarks.{if_some}
 use Rattle.line_lists.proofs.PlaceRows.{length-content}
@@ -14,7 +15,6 @@ use Rattle.line_lists.proofs.SearchRows.{line_at, previous-found, previous-none}
 use Rattle.line_lists.proofs.ToggleColumns.{some-toggle}
 use Rattle.line_lists.proofs.queries.previous_change.Goals as goal
 
--- src/queries.rt:187:57
 pub previous_toggle-requires-clause-within : goal.previous_toggle-requires-clause-within
 previous_toggle-requires-clause-within g c =
     let list = g.L.LineList.lines c.args.list.now in
@@ -26,19 +26,6 @@ previous_toggle-requires-clause-within g c =
       lent-length list c.place_of-index.result.0 c.place_of-index.result.2.now c.place_of-index.ensures.line,
     )
 
--- src/queries.rt:188:16
-pub offset_of-requires-clause-within : goal.offset_of-requires-clause-within
-offset_of-requires-clause-within g c =
-    let list = g.L.LineList.lines c.args.list.now in
-    let k = c.place_of-index.result.0 in let column = c.place_of-index.result.1 in
-    let last : c.args.offset ≤ length (whole list).columns = omega (arith, c.requires.within, length-content list) in
-    let small = at-within list c.args.offset k column c.place_of-index.ensures.place last in
-    let below = if_some (λ previous. previous < column) c.previous_toggle.result c.in-Some.previous c.in-Some.is
-    c.previous_toggle.ensures.below in
-    lent-within list k c.in-Some.previous c.place_of-index.result.2.now c.place_of-index.ensures.line
-    (omega (arith, small, below, lent-length list k c.place_of-index.result.2.now c.place_of-index.ensures.line))
-
--- src/queries.rt:188:9
 pub returns-in-Some-clause-value : goal.returns-in-Some-clause-value
 returns-in-Some-clause-value g c =
     let list = g.L.LineList.lines c.args.list.now in
@@ -49,10 +36,9 @@ returns-in-Some-clause-value g c =
     let near = lent-previous list slot k c.place_of-index.result.2.now c.place_of-index.ensures.line column column n
     c.previous_toggle.result small
     c.previous_toggle.ensures.value c.in-Some.is refl in
-    c.offset_of.ensures.value
+    near-column list c.args.offset k column n c.place_of-index.ensures.place.behind
     ∙ sym (change-back list slot c.args.offset k column c.place_of-index.ensures.place last n small near)
 
--- src/queries.rt:191:17
 pub returns-in-None-clause-value : goal.returns-in-None-clause-value
 returns-in-None-clause-value g c =
     let list = g.L.LineList.lines c.args.list.now in
@@ -67,7 +53,6 @@ returns-in-None-clause-value g c =
     let free = previous-none (has_toggle slot) k list before (sym c.previous_with.ensures ∙ c.in-None.is) in
     sym (change-first list slot c.args.offset k column c.place_of-index.ensures.place last c.requires.some none free)
 
--- src/queries.rt:195:25
 pub returns-in-None-previous_toggle-clause-value : goal.returns-in-None-previous_toggle-clause-value
 returns-in-None-previous_toggle-clause-value g c =
     let list = g.L.LineList.lines c.args.list.now in
@@ -77,14 +62,14 @@ returns-in-None-previous_toggle-clause-value g c =
     let before : k ≤ length list = omega (arith, c.place_of-index.ensures.place.within) in
     let line = previous-found (has_toggle slot) k list before e (sym c.previous_with.ensures
     ∙ c.in-Some-previous_with.is) in
-    let long = c.len.ensures ∙ sym (lent-length list e c.line-line.result.now c.line-line.ensures) in
+    let long = c.len.ensures ∙ sym (lent-length list e c.placed_line-start.result.1.now
+    c.placed_line-start.ensures.line) in
     let same : length_at list e ≤ length_at list e = omega arith in
     some-toggle slot (line_at list e) line.passes
-    (lent-none-previous list slot e c.line-line.result.now c.line-line.ensures (length_at list e) c.len.result
-    c.previous_toggle-in-Some-previous_with.result same
+    (lent-none-previous list slot e c.placed_line-start.result.1.now c.placed_line-start.ensures.line (length_at list
+    e) c.len.result c.previous_toggle-in-Some-previous_with.result same
     c.previous_toggle-in-Some-previous_with.ensures.value c.in-None-previous_toggle.is long)
 
--- src/queries.rt:196:37
 pub returns-in-Some-previous_toggle-clause-value : goal.returns-in-Some-previous_toggle-clause-value
 returns-in-Some-previous_toggle-clause-value g c =
     let list = g.L.LineList.lines c.args.list.now in
@@ -99,15 +84,15 @@ returns-in-Some-previous_toggle-clause-value g c =
     let before : k ≤ length list = omega (arith, c.place_of-index.ensures.place.within) in
     let line = previous-found (has_toggle slot) k list before e (sym c.previous_with.ensures
     ∙ c.in-Some-previous_with.is) in
-    let long = c.len.ensures ∙ sym (lent-length list e c.line-line.result.now c.line-line.ensures) in
+    let long = c.len.ensures ∙ sym (lent-length list e c.placed_line-start.result.1.now
+    c.placed_line-start.ensures.line) in
     let same : length_at list e ≤ length_at list e = omega arith in
-    let near = lent-previous list slot e c.line-line.result.now c.line-line.ensures (length_at list e) c.len.result n
-    c.previous_toggle-in-Some-previous_with.result same
+    let near = lent-previous list slot e c.placed_line-start.result.1.now c.placed_line-start.ensures.line (length_at
+    list e) c.len.result n c.previous_toggle-in-Some-previous_with.result same
     c.previous_toggle-in-Some-previous_with.ensures.value c.in-Some-previous_toggle.is long in
-    c.offset_of-in-Some-previous_toggle.ensures.value
+    ap (λ m. m + n) c.placed_line-start.ensures.start
     ∙ sym (change-earlier list slot c.args.offset k column c.place_of-index.ensures.place last e n none line near)
 
--- src/queries.rt:196:37
 pub returns-in-Some-previous_toggle-clause-below : goal.returns-in-Some-previous_toggle-clause-below
 returns-in-Some-previous_toggle-clause-below g c =
     let cells = (content_of (g.L.LineList.lines c.args.list.now)).cells in
@@ -115,3 +100,14 @@ returns-in-Some-previous_toggle-clause-below g c =
     subst (λ n. n < c.args.offset) (sym (returns-in-Some-previous_toggle-clause-value g c))
     (previous_change-below (flags c.args.slot.0 cells) c.args.offset c.requires.some
     (omega (arith, long, c.requires.within)))
+
+pub overflow_add-result-in-Some-previous_toggle : goal.overflow_add-result-in-Some-previous_toggle
+overflow_add-result-in-Some-previous_toggle g c =
+    let list = g.L.LineList.lines c.args.list.now in
+    let small = if_some (λ (n : ℕ). n < c.len.result) c.previous_toggle-in-Some-previous_with.result
+    c.in-Some-previous_toggle.previous
+    c.in-Some-previous_toggle.is c.previous_toggle-in-Some-previous_with.ensures.below in
+    let most = placed-most list c.in-Some-previous_with.earlier c.placed_line-start.result.0
+    c.in-Some-previous_toggle.previous c.placed_line-start.result.1.now
+    c.placed_line-start.ensures.start c.placed_line-start.ensures.line (omega (arith, small, c.len.ensures)) in
+    omega (arith, most, (g.L.LineList.are_lines c.args.list.now).counted.characters, count-characters list)
