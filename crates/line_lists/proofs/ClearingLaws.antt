@@ -27,6 +27,7 @@ use Rattle.line_lists.specs.Lists.{AreRows, has_toggle, next_line}
 use Rattle.line_lists.specs.Texts.{whole}
 use Rattle.line_lists.specs.Toggling.{cleared, tags_behind}
 use Rattle.line_lists.proofs.DraftLaws.{behind-whole, copies-snoc, drafted-append, last_is, last_same, length-whole}
+use Rattle.line_lists.proofs.DraftLaws.{stop_of}
 use Rattle.line_lists.proofs.DraftLaws.{no_last, none_at, take-more, used-append}
 use Rattle.line_lists.proofs.FindLaws.{begin-le, drop_after, found-before, found-line, inside-line, kept-within}
 use Rattle.line_lists.proofs.FindLaws.{made-ends, opened-kept, opened-place, opened-rest, put-back, rest-within}
@@ -474,7 +475,7 @@ module _ (slot : ℕ) (lines : List LineContent) (front : List Stop) (reached : 
         (index ≡ reached.used + copy.kept → has_toggle slot copy.line ≡ true)
         → reached.characters + length (whole (take count rest)).columns ≡ free_end slot lines front back
     end-kept small there stops has =
-        let stop : Stop = record { reached = reached; copy = copy } in
+        let stop : Stop = stop_of lines reached copy in
         let behind = take (length back - 1) back in
         let on = lines_on lines (front ++ stop ∷ []) behind in
         let long = length-drop reached.used lines in
@@ -520,7 +521,7 @@ pub passed-end : (slot : ℕ) (lines : List LineContent) (front front₂ : List 
     → ((behind : List Copied) (stop : Stop) → back ≡ behind ++ stop.copy ∷ [] →
     free_end slot lines front back ≡ free_end slot lines (front ++ stop ∷ []) behind)
     → ((behind : List Copied) (copy : Copied) → back ≡ behind ++ copy ∷ [] →
-    (back₂ ≡ behind) × (front₂ ≡ front ++ record { reached = reached; copy = copy } ∷ []))
+    (back₂ ≡ behind) × (front₂ ≡ front ++ stop_of lines reached copy ∷ []))
     → free_end slot lines front₂ back₂ ≡ free_end slot lines front back
 passed-end slot lines front front₂ back back₂ reached some same moved =
     which (slice_get back (length back - 1)) refl where
@@ -531,7 +532,7 @@ passed-end slot lines front front₂ back back₂ reached some same moved =
           let behind = take (length back - 1) back in
           let is = moved behind copy (last_is back copy last) in
           ap₂ (λ xs ys. free_end slot lines xs ys) is.1 is.0
-          ∙ sym (same behind (record { reached = reached; copy = copy }) (last_is back copy last))
+          ∙ sym (same behind (stop_of lines reached copy) (last_is back copy last))
 
 -- it stands in the text
 free-le : (slot : ℕ) (lines : List LineContent) → free_length slot lines ≤ length (whole lines).columns
@@ -584,7 +585,7 @@ clears-line slot from to column lines old front back stop new taken same stands 
     let stop₂ : Stop = record stop { copy = record stop.copy { line = new } } in
     let taken₂ : IsTaken lines front back stop₂ = record {
       stops = taken.stops;
-      reached = taken.reached;
+      placed = record { reached = taken.placed.reached; start = taken.placed.start };
       there = taken.there;
     } in
     let all = ap (λ xs. length (whole xs).columns) same in

@@ -10,7 +10,8 @@ use Rattle.line_lists.specs.declared.drafts.Copied.{Copied}
 use Rattle.line_lists.specs.declared.drafts.Reached.{Reached}
 use Rattle.line_lists.specs.declared.drafts.Stop.{Stop}
 use Rattle.line_lists.specs.Drafts.{AreStops, BeginsBehind, BeginsBy, CanFollow, IsDraft, IsReached, LastBeginsBehind, NextBegins}
-use Rattle.line_lists.specs.Drafts.{copies_of, covered, drafted, in_order, line_start, lines_before, made_lines, used}
+use Rattle.line_lists.specs.Drafts.{IsStop, copies_of, covered, drafted, in_order, line_start, lines_before, made_lines}
+use Rattle.line_lists.specs.Drafts.{used}
 use Rattle.line_lists.specs.Lists.{IsCounted, count_of}
 use Rattle.line_lists.specs.Texts.{whole}
 use Rattle.line_lists.specs.Toggling.{tags_behind}
@@ -44,6 +45,14 @@ drafted-append xs ys lines =
     ∙ sym (drop-rest (used xs) (used ys) lines))
     ∙ append_assoc (made_lines xs lines) (made_lines ys (drop (used xs) lines)) (drop (used ys) (drop (used xs) lines))
 
+-- the stop of a copy that follows what is covered
+abbrev pub stop_of : List LineContent → Reached → Copied → Stop
+stop_of lines reached copy = record {
+  reached = reached;
+  start = line_start reached copy lines;
+  copy = copy;
+}
+
 -- the place moves by a copy
 pub copies-snoc : (front : List Stop) (stop : Stop) → copies_of (front ++ stop ∷ []) ≡ copies_of front ++ stop.copy ∷ []
 copies-snoc front stop = map-append (λ (x : Stop). x.copy) front (stop ∷ [])
@@ -56,15 +65,15 @@ in_order-moved front back stop =
     ∙ ap (λ rest. copies_of front ++ rest) (sym (reverse-append back (stop.copy ∷ [])))
 
 pub stops-snoc : (lines : List LineContent) (before : List Copied) (front : List Stop) (stop : Stop)
-    → AreStops lines before front → IsReached stop.reached (before ++ copies_of front) lines →
+    → AreStops lines before front → IsStop stop (before ++ copies_of front) lines →
     AreStops lines before (front ++ stop ∷ [])
-stops-snoc lines before [] stop stops reached =
-    (subst (λ copies. IsReached stop.reached copies lines) (append-nil before) reached, tt)
-stops-snoc lines before (first ∷ front) stop stops reached = (
+stops-snoc lines before [] stop stops placed =
+    (subst (λ copies. IsStop stop copies lines) (append-nil before) placed, tt)
+stops-snoc lines before (first ∷ front) stop stops placed = (
   stops.0,
   stops-snoc lines (before ++ first.copy ∷ []) front stop stops.1
-      (subst (λ copies. IsReached stop.reached copies lines)
-      (sym (append_assoc before (first.copy ∷ []) (copies_of front))) reached),
+      (subst (λ copies. IsStop stop copies lines)
+      (sym (append_assoc before (first.copy ∷ []) (copies_of front))) placed),
 )
 
 pub stops-front : (lines : List LineContent) (before : List Copied) (front : List Stop) (stop : Stop) →
@@ -73,13 +82,23 @@ stops-front lines before [] stop stops = tt
 stops-front lines before (first ∷ front) stop stops =
     (stops.0, stops-front lines (before ++ first.copy ∷ []) front stop stops.1)
 
+pub stops-end : (lines : List LineContent) (before : List Copied) (front : List Stop) (stop : Stop)
+    → AreStops lines before (front ++ stop ∷ []) → IsStop stop (before ++ copies_of front) lines
+stops-end lines before [] stop stops =
+    subst (λ copies. IsStop stop copies lines) (sym (append-nil before)) stops.0
+stops-end lines before (first ∷ front) stop stops =
+    subst (λ copies. IsStop stop copies lines) (append_assoc before (first.copy ∷ []) (copies_of front))
+    (stops-end lines (before ++ first.copy ∷ []) front stop stops.1)
+
 pub stops-last : (lines : List LineContent) (before : List Copied) (front : List Stop) (stop : Stop)
     → AreStops lines before (front ++ stop ∷ []) → IsReached stop.reached (before ++ copies_of front) lines
-stops-last lines before [] stop stops =
-    subst (λ copies. IsReached stop.reached copies lines) (sym (append-nil before)) stops.0
-stops-last lines before (first ∷ front) stop stops =
-    subst (λ copies. IsReached stop.reached copies lines) (append_assoc before (first.copy ∷ []) (copies_of front))
-    (stops-last lines (before ++ first.copy ∷ []) front stop stops.1)
+stops-last lines before front stop stops = (stops-end lines before front stop stops).reached
+
+-- the last copy before the place begins where its stop says
+pub last-start : (lines : List LineContent) (front before : List Stop) (back : List Copied) (stop : Stop) →
+    IsDraft lines front back → front ≡ before ++ stop ∷ [] → stop.start ≡ line_start stop.reached stop.copy lines
+last-start lines front before back stop draft is =
+    (stops-end lines [] before stop (subst (AreStops lines []) is draft.stops)).start
 
 pub draft-back : (lines : List LineContent) (front : List Stop) (back : List Copied) (stop : Stop) →
     IsDraft lines (front ++ stop ∷ []) back → IsDraft lines front (back ++ stop.copy ∷ [])
@@ -91,11 +110,11 @@ draft-back lines front back stop draft =
     }
 
 pub draft-forth : (lines : List LineContent) (front : List Stop) (back : List Copied) (stop : Stop) →
-    IsDraft lines front (back ++ stop.copy ∷ []) → IsReached stop.reached (copies_of front) lines
+    IsDraft lines front (back ++ stop.copy ∷ []) → IsStop stop (copies_of front) lines
     → IsDraft lines (front ++ stop ∷ []) back
-draft-forth lines front back stop draft reached =
+draft-forth lines front back stop draft placed =
     let same = sym (in_order-moved front back stop) in record {
-      stops = stops-snoc lines [] front stop draft.stops reached;
+      stops = stops-snoc lines [] front stop draft.stops placed;
       there = subst (λ copies. used copies ≤ length lines) same draft.there;
       counted = subst (λ copies. length (whole (drafted copies lines)).columns < 2 ^ 64) same draft.counted;
     }
@@ -335,6 +354,7 @@ pub can-follow-next : (lines : List LineContent) (front : List Stop) (back behin
     (copy : Copied) → IsDraft lines front back → IsReached reached (copies_of front) lines
     → back ≡ behind ++ copy ∷ [] → CanFollow reached copy lines
 can-follow-next lines front back behind reached copy draft is back_is =
-    can-follow lines front behind (record { reached = reached; copy = copy })
-    (draft-forth lines front behind (record { reached = reached; copy = copy })
-    (subst (λ items. IsDraft lines front items) back_is draft) is)
+    let stop : Stop = stop_of lines reached copy in
+    can-follow lines front behind stop
+    (draft-forth lines front behind stop (subst (λ items. IsDraft lines front items) back_is draft)
+    (record { reached = is; start = refl }))

@@ -16,7 +16,8 @@ use Rattle.line_lists.specs.Lists.{Holds}
 use Rattle.line_lists.specs.Texts.{whole}
 use Rattle.line_lists.proofs.CountRows.{count-characters}
 use Rattle.line_lists.proofs.DraftLaws.{copies-snoc, counted-between, drafted-append, length-whole, made-snoc, none_at}
-use Rattle.line_lists.proofs.DraftLaws.{start-is, stops-front, stops-last, stops-snoc, take-more, used-append}
+use Rattle.line_lists.proofs.DraftLaws.{start-is, stops-end, stops-front, stops-last, stops-snoc, take-more}
+use Rattle.line_lists.proofs.DraftLaws.{used-append}
 use Rattle.line_lists.proofs.PlaceRows.{split_at}
 use Rattle.line_lists.proofs.WholeLaws.{whole-one}
 
@@ -116,7 +117,7 @@ put-back lines front back stop taken small =
     let order : in_order (front ++ stop ∷ []) back ≡ (copies ++ stop.copy ∷ [])
     ++ reverse back = ap (λ xs. xs ++ reverse back) (copies-snoc front stop) in
     record {
-      stops = stops-snoc lines [] front stop taken.stops taken.reached;
+      stops = stops-snoc lines [] front stop taken.stops taken.placed;
       there = omega (
         arith,
         taken.there,
@@ -135,7 +136,7 @@ taken-last lines front back stop draft =
     ++ reverse back = ap (λ xs. xs ++ reverse back) (copies-snoc front stop) in
     record {
       stops = stops-front lines [] front stop draft.stops;
-      reached = stops-last lines [] front stop draft.stops;
+      placed = stops-end lines [] front stop draft.stops;
       there = omega (
         arith,
         draft.there,
@@ -222,6 +223,18 @@ opened-place lines front reached copy offset line column is find kept =
     ≡ begin lines line = ap (begin lines) (let n : reached.used + copy.kept
     ≡ line = omega (arith, kept, find.first) in n) in
     omega (arith, start-is lines (copies_of front) reached copy is, more, same, find.place)
+
+-- so its line begins so many characters before the offset
+pub opened-start : (lines : List LineContent) (front : List Stop) (reached : Reached) (copy : Copied)
+    (offset line column : ℕ) → IsReached reached (copies_of front) lines
+    → IsFound reached lines offset line column → copy.kept ≡ line - reached.used →
+    offset - column ≡ line_start reached copy lines
+opened-start lines front reached copy offset line column is find kept =
+    omega (
+      arith,
+      opened-place lines front reached copy offset line column is find kept,
+      start-is lines (copies_of front) reached copy is,
+    )
 
 -- where the line of the last copy ends
 pub made-ends : (lines : List LineContent) (copies : List Copied) (copy : Copied)
@@ -335,12 +348,13 @@ reached-there lines front back reached draft is =
     omega (arith, is.used, draft.there, used-append (copies_of front) (reverse back))
 
 pub taken-kept : (lines : List LineContent) (front : List Stop) (back : List Copied) (reached : Reached)
-    (copy next less : Copied) → IsDraft lines front (back ++ next ∷ []) → IsReached reached (copies_of front) lines
+    (copy next less : Copied) (start : ℕ) → IsDraft lines front (back ++ next ∷ [])
+    → IsReached reached (copies_of front) lines → start ≡ line_start reached copy lines
     → copy.gone ≡ 1 → copy.kept < next.kept → less.kept ≡ next.kept - (copy.kept + 1) → less.gone ≡ next.gone →
-    IsTaken lines front (back ++ less ∷ []) (record { reached = reached; copy = copy })
-taken-kept lines front back reached copy next less draft is one small kept gone = record {
+    IsTaken lines front (back ++ less ∷ []) (record { reached = reached; start = start; copy = copy })
+taken-kept lines front back reached copy next less start draft is start_is one small kept gone = record {
   stops = draft.stops;
-  reached = is;
+  placed = record { reached = is; start = start_is };
   there = omega (
     arith,
     draft.there,

@@ -185,7 +185,7 @@ next-used front stops lines stop rest goes =
 
 stops-here : (lines : List LineContent) (before : List Copied) (stops : List Stop) (stop : Stop) (rest : List Stop) →
     AreStops lines before (stops ++ stop ∷ rest) → stop.reached.used ≡ used before + used (copies_of stops)
-stops-here lines before [] stop rest are = omega (arith, are.0.used)
+stops-here lines before [] stop rest are = omega (arith, are.0.reached.used)
 stops-here lines before (first ∷ stops) stop rest are =
     omega (
       arith,

@@ -28,7 +28,7 @@ at-same lines other front stops copy new column same along kept =
 -- the copy with another line
 abbrev pub with_line : LineContent → Stop → Stop
 with_line line stop =
-    record { reached = stop.reached; copy = record { kept = stop.copy.kept; gone = stop.copy.gone; line = line } }
+    record stop { copy = record { kept = stop.copy.kept; gone = stop.copy.gone; line = line } }
 
 -- so many characters are gone from a text
 pub record Leaves (lines : List LineContent) (front : List Stop) (back : List Copied) (new : Stop) (column at count : ℕ)
@@ -53,7 +53,11 @@ leaves-within lines front back stop line column count held few line_is =
     ∙ length-without column (column + count) old.columns (omega arith) (omega (arith, within)) in
     record {
       held = record {
-        taken = record { stops = held.taken.stops; reached = held.taken.reached; there = held.taken.there };
+        taken = record {
+          stops = held.taken.stops;
+          placed = record { reached = held.taken.placed.reached; start = held.taken.placed.start };
+          there = held.taken.there;
+        };
         rows = makes.rows held.rows;
         inside = omega (arith, long, within);
       };
@@ -111,7 +115,11 @@ leaves_joined lines front before back stop joint line column left held more larg
     kept in
     record {
       held = record {
-        taken = record { stops = taken.stops; reached = taken.reached; there = taken.there };
+        taken = record {
+          stops = taken.stops;
+          placed = record { reached = taken.placed.reached; start = taken.placed.start };
+          there = taken.there;
+        };
         rows = subst AreRows (sym lines_are) (makes.rows held.rows);
         inside = omega (arith, long, all, both, some);
       };

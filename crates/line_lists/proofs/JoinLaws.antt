@@ -1,12 +1,13 @@
 -- The next line joins that of a copy which is taken out of a draft.
 use Rattle.std.proofs.Common.{◌≡◌, ℕ, ◌+◌, ◌-◌, ◌<◌, List, [], ◌∷◌, ◌++◌, Some, Result, Ok, Err, length, take, drop}
-use Rattle.std.proofs.Common.{refl, sym, ap, ap₂, ◌∙◌, arith, length-drop}
+use Rattle.std.proofs.Common.{refl, sym, ap, ap₂, subst, ◌∙◌, arith, length-drop}
 use Rattle.std.specs.Prelude.{OnOk, reverse, slice_get}
 use Rattle.std.proofs.lemmas.List.{drop-drop, reverse-append}
 use Rattle.segments.specs.Columns.{LineContent, joined}
 use Rattle.line_lists.specs.declared.drafts.Copied.{Copied}
+use Rattle.line_lists.specs.declared.drafts.Reached.{Reached}
 use Rattle.line_lists.specs.declared.drafts.Stop.{Stop}
-use Rattle.line_lists.specs.Drafts.{IsTaken, copies_of, covered, drafted, lines_behind, made_lines, used}
+use Rattle.line_lists.specs.Drafts.{IsReached, IsStop, IsTaken, copies_of, covered, drafted, lines_behind, made_lines, used}
 use Rattle.line_lists.specs.Removals.{JoinsNext}
 use Rattle.line_lists.specs.Texts.{whole}
 use Rattle.line_lists.proofs.FindLaws.{drop_after, opened_next}
@@ -29,6 +30,17 @@ first-line lines n line is = ap (λ xs. whole (take 1 xs)) (drop_after lines n l
 pub first-of : (lines : List LineContent) → 0 < length lines → lines ≡ whole (take 1 lines) ∷ drop 1 lines
 first-of [] some = absurd (omega (arith, some))
 first-of (x ∷ xs) some = ap (λ line. line ∷ xs) (sym (whole-one x))
+
+-- a stop whose copy has another line, or stands for more lines, still tells what it told
+pub still-placed : (lines : List LineContent) (copies : List Copied) (stop new : Stop) → IsStop stop copies lines →
+    new.reached ≡ stop.reached → new.start ≡ stop.start → new.copy.kept ≡ stop.copy.kept → IsStop new copies lines
+still-placed lines copies stop new placed reached_is start_is kept_is = record {
+  reached = subst (λ reached. IsReached reached copies lines) (sym reached_is) placed.reached;
+  start =
+      start_is ∙ placed.start
+      ∙ ap₂ (λ (reached : Reached) kept. reached.characters + length (whole (take kept (drop reached.used lines))).columns)
+      (sym reached_is) (sym kept_is);
+}
 
 pub joins : (old new line : LineContent) (behind rest : List LineContent) → behind ≡ line ∷ rest →
     new ≡ joined old line → JoinsNext old new behind rest
@@ -62,7 +74,7 @@ pub kept-there : (lines : List LineContent) (front : List Stop) (back : List Cop
     IsTaken lines front (back ++ next ∷ []) stop → 0 < next.kept
     → stop.reached.used + covered stop.copy < length lines
 kept-there lines front back stop next taken some =
-    omega (arith, taken.there, some, taken.reached.used, ap used (reverse-append back (next ∷ [])))
+    omega (arith, taken.there, some, taken.placed.reached.used, ap used (reverse-append back (next ∷ [])))
 
 pub behind-kept : (lines : List LineContent) (copies back : List Copied) (copy new next less : Copied) → 0 < next.kept →
     used copies + covered copy < length lines
@@ -88,7 +100,7 @@ pub rest-there : (lines : List LineContent) (front : List Stop) (stop : Stop) �
     0 < length (lines_behind (copies_of front) stop.copy [] lines)
     → stop.reached.used + covered stop.copy < length lines
 rest-there lines front stop taken some =
-    omega (arith, some, taken.reached.used, length-drop (used (copies_of front) + covered stop.copy) lines)
+    omega (arith, some, taken.placed.reached.used, length-drop (used (copies_of front) + covered stop.copy) lines)
 
 pub behind-rest : (lines : List LineContent) (copies : List Copied) (copy new : Copied) →
     used copies + covered copy < length lines → new.kept ≡ copy.kept → new.gone ≡ copy.gone + 1

@@ -34,7 +34,7 @@ stops-at : (lines : List LineContent) (before : List Copied) (stops : List Stop)
 stops-at lines before [] n stop are is = let no : ◌≡◌ {A = Option Stop} None (Some stop) = is in absurd (cc)
 stops-at lines before (first ∷ stops) zero stop are is =
     subst (λ (x : Stop). IsReached x.reached (before ++ []) lines) (same_stop first stop is)
-    (subst (λ copies. IsReached first.reached copies lines) (sym (append-nil before)) are.0)
+    (subst (λ copies. IsReached first.reached copies lines) (sym (append-nil before)) are.0.reached)
 stops-at lines before (first ∷ stops) (suc n) stop are is =
     subst (λ copies. IsReached stop.reached copies lines)
     (append_assoc before (first.copy ∷ []) (copies_of (take n stops)))

@@ -23,6 +23,13 @@ use Rattle.line_lists.proofs.RowLaws.{Makes}
 abbrev pub new_copy : LineContent → Copied
 new_copy line = record { kept = 0; gone = 0; line = line }
 
+abbrev pub new_stop : Reached → LineContent → Stop
+new_stop reached line = record {
+  reached = reached;
+  start = reached.characters;
+  copy = new_copy line;
+}
+
 opens : (lines : List LineContent) (front : List Stop) (back : List Copied) (offset : ℕ) (text : List ℕ)
     (old : List LineContent) → IsDraft lines front back → AreRows old → offset < length (whole old).columns →
     0 < length text
@@ -59,7 +66,7 @@ taken-new : (lines : List LineContent) (front : List Stop) (back : List Copied) 
     IsTaken lines front back stop → IsTaken lines front (back ++ new_copy line ∷ []) stop
 taken-new lines front back stop line taken = record {
   stops = taken.stops;
-  reached = taken.reached;
+  placed = record { reached = taken.placed.reached; start = taken.placed.start };
   there = omega (arith, taken.there, ap used (reverse-append back (new_copy line ∷ [])));
 }
 
@@ -105,7 +112,7 @@ split-opens lines front back stop first second old offset column text taken old_
     ∙ length-take-le at line.columns (omega (arith, wide, stands.inside)) in
     let kept : IsTaken lines front back head = record {
       stops = taken.stops;
-      reached = taken.reached;
+      placed = record { reached = taken.placed.reached; start = taken.placed.start };
       there = taken.there;
     } in
     let draft = put-back lines front (back ++ new_copy second ∷ []) head (taken-new lines front back head second kept)
@@ -127,11 +134,11 @@ pub line-opens : (lines : List LineContent) (front : List Stop) (back : List Cop
     (line : LineContent) (text : List ℕ) → IsOpen lines front back → IsReached reached (copies_of front) lines →
     line ≡ plain_line text
     → IsLine (plain_line text) → length (text_at lines front back).columns + length text < 2 ^ 64
-    → Opens lines (front ++ record { reached = reached; copy = new_copy line } ∷ []) back (place_at lines front) text
+    → Opens lines (front ++ new_stop reached line ∷ []) back (place_at lines front) text
     (text_at lines front back)
 line-opens lines front back reached line text opened reached_is line_is is small =
     let copies = copies_of front in
-    let stop : Stop = record { reached = reached; copy = new_copy line } in
+    let stop : Stop = new_stop reached line in
     let before = made_lines copies lines in
     let behind = drafted (reverse back) (drop (used copies) lines) in
     let offset = place_at lines front in
@@ -152,7 +159,7 @@ line-opens lines front back reached line text opened reached_is line_is is small
     ∙ length-text offset text (text_at lines front back).columns (omega (arith, opened.within)) in
     let taken : IsTaken lines front back stop = record {
       stops = opened.text.draft.stops;
-      reached = reached_is;
+      placed = record { reached = reached_is; start = omega arith };
       there = omega (arith, opened.text.draft.there, used-append copies (reverse back));
     } in
     let draft = put-back lines front back stop taken (omega (arith, long, small)) in

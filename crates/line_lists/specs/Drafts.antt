@@ -71,11 +71,15 @@ in_order front back = copies_of front ++ reverse back
 abbrev pub drafted_at : List LineContent → List Stop → List Copied → List LineContent
 drafted_at lines front back = drafted (in_order front back) lines
 
--- each stop tells what the copies before it cover
+-- a stop tells what the copies before it cover, and where the line of its copy begins
+pub record IsStop (stop : Stop) (copies : List Copied) (lines : List LineContent) : Type 0 where
+  pub reached : IsReached stop.reached copies lines
+  pub start : stop.start ≡ line_start stop.reached stop.copy lines
+
 abbrev pub AreStops : List LineContent → List Copied → List Stop → Type 0
 AreStops lines before [] = ⊤
 AreStops lines before (stop ∷ stops) =
-    IsReached stop.reached before lines × AreStops lines (before ++ stop.copy ∷ []) stops
+    IsStop stop before lines × AreStops lines (before ++ stop.copy ∷ []) stops
 
 -- the slots that are toggled an odd number of times in the line of a copy and in those kept before it
 abbrev pub copy_tags : List LineContent → Stop → Slots
@@ -132,7 +136,7 @@ lines_behind copies copy back lines = drafted (reverse back) (drop (used copies 
 -- a copy that is taken out of a draft, at its place
 pub record IsTaken (lines : List LineContent) (front : List Stop) (back : List Copied) (stop : Stop) : Type 0 where
   pub stops : AreStops lines [] front
-  pub reached : IsReached stop.reached (copies_of front) lines
+  pub placed : IsStop stop (copies_of front) lines
   pub there : used (copies_of front) + covered stop.copy + used (reverse back) ≤ length lines
 
 -- the lines of the draft with it

@@ -5,7 +5,7 @@ ghost use Rattle.segments.specs.Columns.{LineContent};
 ghost use Rattle.text_model.specs.TagBits.{slot_count};
 ghost use Rattle.line_lists.specs.Clearing.{AreFree, free_end, place_of};
 ghost use Rattle.line_lists.specs.Drafts.{BeginsBehind, BeginsBy, IsDraft, IsReached, IsText, copies_of, drafted_at};
-ghost use Rattle.line_lists.specs.Drafts.{made_lines, text_at};
+ghost use Rattle.line_lists.specs.Drafts.{line_start, made_lines, text_at};
 ghost use Rattle.line_lists.specs.Edits.{with_cleared};
 ghost use Rattle.line_lists.specs.Lists.{has_toggle};
 ghost use Rattle.line_lists.specs.Texts.{whole};
@@ -150,12 +150,16 @@ impl<'a, L: LineList> Draft<'a, L> {
             ≡ drafted_at (L.lines self.old.list.now) self.old.front.items self.old.back.items }
         ensures moved { OnOk result ((behind : List Copied) (copy : Copied) →
             self.old.back.items ≡ behind ++ copy ∷ [] → (self.new.back.items ≡ behind)
-            × (self.new.front.items ≡ self.old.front.items ++ record { reached = reached; copy = copy } ∷ [])) }
+            × (self.new.front.items ≡ self.old.front.items ++ record {
+              reached = reached;
+              start = line_start reached copy (L.lines self.old.list.now);
+              copy = copy;
+            } ∷ [])) }
         ensures fewer { OnOk result (vec_len self.new.back ≡ vec_len self.old.back - 1) }
     {
         self.front.reserve(1)?;
         if let Some(copy) = self.back.pop() {
-            self.front.push_reserved(Stop { reached, copy });
+            self.front.push_reserved(Stop::of(self.list, reached, copy));
         }
         Ok(())
     }

@@ -74,11 +74,30 @@ impl Reached {
     }
 }
 
-/// A copy, and what the copies before it cover.
+/// A copy, what the copies before it cover, and where its line begins in the text.
 #[derive(Drop)]
 pub struct Stop {
     pub reached: Reached,
+    pub start: usize,
     pub copy: Copied,
+}
+
+impl Stop {
+    /// Of a copy that follows what is covered.
+    pub fn of<L: LineList>(list: &L, reached: Reached, copy: Copied) -> Stop
+        requires { CanFollow reached copy (L.lines list.now) }
+        ensures { result ≡ record {
+          reached = reached;
+          start = line_start reached copy (L.lines list.now);
+          copy = copy;
+        } }
+    {
+        Stop {
+            reached,
+            start: reached.start(list, &copy),
+            copy,
+        }
+    }
 }
 
 /// Which slots are on behind the first so many copies before a place.
@@ -127,7 +146,10 @@ impl<'a, L: LineList> Draft<'a, L> {
     {
         match self.front.last() {
             None => Reached::nothing(),
-            Some(stop) => stop.reached.with(self.list, &stop.copy),
+            Some(stop) => Reached {
+                used: stop.reached.used + stop.copy.kept + stop.copy.gone,
+                characters: stop.start + stop.copy.line.len(),
+            },
         }
     }
 
@@ -139,7 +161,7 @@ impl<'a, L: LineList> Draft<'a, L> {
     {
         match self.front.last() {
             None => 0,
-            Some(stop) => stop.reached.start(self.list, &stop.copy) + stop.copy.line.len(),
+            Some(stop) => stop.start + stop.copy.line.len(),
         }
     }
 
@@ -176,7 +198,7 @@ impl<'a, L: LineList> Draft<'a, L> {
         self.front.reserve(1)?;
         let reached = self.reached();
         if let Some(copy) = self.back.pop() {
-            self.front.push_reserved(Stop { reached, copy });
+            self.front.push_reserved(Stop::of(self.list, reached, copy));
         }
         Ok(())
     }
@@ -189,7 +211,7 @@ impl<'a, L: LineList> Draft<'a, L> {
     {
         match self.front.last() {
             None => true,
-            Some(stop) => stop.reached.start(self.list, &stop.copy) <= offset,
+            Some(stop) => stop.start <= offset,
         }
     }
 
@@ -323,7 +345,11 @@ impl<'a, L: LineList> Draft<'a, L> {
             line: line.try_clone()?,
         };
         Ok(Found {
-            stop: Stop { reached, copy },
+            stop: Stop {
+                reached,
+                start: offset - column,
+                copy,
+            },
             column,
         })
     }
@@ -360,7 +386,11 @@ impl<'a, L: LineList> Draft<'a, L> {
         next.kept -= copy.kept + 1;
         self.back.push_reserved(next);
         Ok(Found {
-            stop: Stop { reached, copy },
+            stop: Stop {
+                reached,
+                start: offset - column,
+                copy,
+            },
             column,
         })
     }

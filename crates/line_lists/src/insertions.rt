@@ -80,7 +80,11 @@ impl<'a, L: LineList> Draft<'a, L> {
             gone: 0,
             line: Line::new(self.alloc, text)?,
         };
-        self.front.push_reserved(Stop { reached, copy });
+        self.front.push_reserved(Stop {
+            reached,
+            start: reached.characters,
+            copy,
+        });
         Ok(())
     }
 

@@ -33,6 +33,7 @@ impl<'a, L: LineList> Draft<'a, L> {
     fn join_kept(&self, stop: &mut Stop) -> Result<(), AllocError>
         requires { stop.old.reached.used + covered stop.old.copy < length (L.lines self.now.list.now) }
         ensures reached { stop.new.reached ≡ stop.old.reached }
+        ensures start { stop.new.start ≡ stop.old.start }
         ensures kept { stop.new.copy.kept ≡ stop.old.copy.kept }
         ensures gone { OnOk result (stop.new.copy.gone ≡ stop.old.copy.gone + 1) }
         ensures line { OnOk result (stop.new.copy.line ≡ joined stop.old.copy.line (whole

@@ -4,7 +4,7 @@ use Rattle.line_lists.specs.declared.drafts.Copied.{Copied}
 use Rattle.line_lists.specs.Drafts.{IsTaken, taken_lines}
 use Rattle.line_lists.proofs.CountRows.{count-lines}
 use Rattle.line_lists.proofs.FindLaws.{begin-le, found-before, found-line, inside-line, kept-within, opened-kept}
-use Rattle.line_lists.proofs.FindLaws.{opened-place, taken-kept}
+use Rattle.line_lists.proofs.FindLaws.{opened-place, opened-start, taken-kept}
 use Rattle.line_lists.proofs.drafts.Draft.copy_kept.Goals as goal
 
 pub find_line-index-requires-clause-within : goal.find_line-index-requires-clause-within
@@ -19,6 +19,20 @@ overflow_add-next g c =
     let lines = g.L.LineList.lines c.args.self.now.list.now in
     let few = (g.L.LineList.are_lines c.args.self.now.list.now).counted.lines in
     omega (arith, few, count-lines lines, c.find_line-index.ensures.place.within)
+
+pub overflow_sub-result : goal.overflow_sub-result
+overflow_sub-result g c =
+    let lines = g.L.LineList.lines c.args.self.now.list.now in
+    let copy : Copied = record {
+      kept = c.find_line-index.result.0 - c.args.reached.used;
+      gone = 1;
+      line = c.in_ok-try_clone.field-0;
+    } in
+    omega (
+      arith,
+      opened-place lines c.args.self.now.front.items c.args.reached copy c.args.offset c.find_line-index.result.0
+          c.find_line-index.result.1 c.requires.reached c.find_line-index.ensures.place refl,
+    )
 
 pub overflow_sub-next : goal.overflow_sub-next
 overflow_sub-next g c =
@@ -45,9 +59,13 @@ returns-clause-taken g c =
     let before = kept-within lines front c.args.reached next c.args.offset c.requires.reached c.requires.ahead in
     let small = found-before c.args.reached lines next c.args.offset c.find_line-index.result.0
     c.find_line-index.result.1 c.find_line-index.ensures.place before in
-    subst (λ back. IsTaken lines front back (record { reached = c.args.reached; copy = copy }))
+    let start = c.args.offset - c.find_line-index.result.1 in
+    subst (λ back. IsTaken lines front back (record { reached = c.args.reached; start = start; copy = copy }))
     (sym c.push_reserved.ensures.items)
-    (taken-kept lines front c.args.self.now.back.items c.args.reached copy next less c.requires.is c.requires.reached
+    (taken-kept lines front c.args.self.now.back.items c.args.reached copy next less start c.requires.is
+    c.requires.reached
+    (opened-start lines front c.args.reached copy c.args.offset c.find_line-index.result.0 c.find_line-index.result.1
+    c.requires.reached c.find_line-index.ensures.place refl)
     refl small refl refl)
 
 pub returns-clause-same : goal.returns-clause-same

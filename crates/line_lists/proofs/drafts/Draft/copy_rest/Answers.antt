@@ -1,14 +1,53 @@
-use Rattle.std.proofs.Common.{◌-◌, Some, refl, sym, ap, ◌∙◌}
-use Rattle.std.specs.Prelude.{slice_get}
+use Rattle.std.proofs.Common.{◌-◌, Some, refl, sym, ap, ◌∙◌, arith}
+use Rattle.std.specs.Prelude.{reverse, slice_get}
 use Rattle.line_lists.specs.declared.drafts.Copied.{Copied}
-use Rattle.line_lists.specs.Drafts.{taken_lines}
-use Rattle.line_lists.proofs.FindLaws.{found-line, inside-line, opened-place, opened-rest, rest-within}
+use Rattle.line_lists.specs.Drafts.{taken_lines, used}
+use Rattle.line_lists.proofs.FindLaws.{found-line, inside-line, opened-place, opened-rest, opened-start, rest-within}
 use Rattle.line_lists.proofs.drafts.Draft.copy_rest.Goals as goal
 
 pub find_line-index-requires-clause-within : goal.find_line-index-requires-clause-within
 find_line-index-requires-clause-within g c =
     rest-within (g.L.LineList.lines c.args.self.now.list.now) c.args.self.now.front.items c.args.reached c.args.offset
     c.requires.reached c.requires.within
+
+pub overflow_sub-result : goal.overflow_sub-result
+overflow_sub-result g c =
+    let lines = g.L.LineList.lines c.args.self.now.list.now in
+    let copy : Copied = record {
+      kept = c.find_line-index.result.0 - c.args.reached.used;
+      gone = 1;
+      line = c.in_ok-try_clone.field-0;
+    } in
+    omega (
+      arith,
+      opened-place lines c.args.self.now.front.items c.args.reached copy c.args.offset c.find_line-index.result.0
+          c.find_line-index.result.1 c.requires.reached c.find_line-index.ensures.place refl,
+    )
+
+pub returns-clause-taken : goal.returns-clause-taken
+returns-clause-taken g c =
+    let lines = g.L.LineList.lines c.args.self.now.list.now in
+    let copy : Copied = record {
+      kept = c.find_line-index.result.0 - c.args.reached.used;
+      gone = 1;
+      line = c.in_ok-try_clone.field-0;
+    } in
+    record {
+      stops = c.requires.is.stops;
+      placed = record {
+        reached = c.requires.reached;
+        start = opened-start lines c.args.self.now.front.items c.args.reached copy c.args.offset
+            c.find_line-index.result.0 c.find_line-index.result.1 c.requires.reached c.find_line-index.ensures.place
+            refl;
+      };
+      there = omega (
+        arith,
+        c.requires.reached.used,
+        c.find_line-index.ensures.place.first,
+        c.find_line-index.ensures.place.within,
+        ap (λ back. used (reverse back)) c.requires.back,
+      );
+    }
 
 pub returns-clause-same : goal.returns-clause-same
 returns-clause-same g c =

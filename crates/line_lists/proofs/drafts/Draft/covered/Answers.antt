@@ -1,21 +1,10 @@
 use Rattle.std.proofs.Common.{◌-◌, [], length, take, subst, sym, ap, ◌∙◌, arith}
 use Rattle.std.specs.Prelude.{slice_get}
 use Rattle.line_lists.specs.Drafts.{IsDraft, copies_of}
-use Rattle.line_lists.proofs.DraftLaws.{can-follow, copies-snoc, covers-more, last_is, no_last, stops-last}
+use Rattle.line_lists.proofs.DraftLaws.{can-follow, copies-snoc, covers-more, last-start, last_is, no_last, stops-last}
 use Rattle.line_lists.specs.Drafts.{made_lines}
 use Rattle.line_lists.specs.Texts.{whole}
 use Rattle.line_lists.proofs.drafts.Draft.covered.Goals as goal
-
-pub start-requires : goal.start-requires
-start-requires g c =
-    let lines = g.L.LineList.lines c.args.self.now.list.now in
-    let front = c.args.self.now.front.items in
-    let back = c.args.self.now.back.items in
-    let stop = c.in-Some.stop.now in
-    can-follow lines (take (length front - 1) front) back stop
-    (subst (λ items. IsDraft lines items back)
-    (last_is front stop (c.in-Some.ensures.value ∙ ap (λ xs. slice_get xs (length xs - 1)) c.deref.ensures.value))
-    c.requires)
 
 pub overflow_add-result : goal.overflow_add-result
 overflow_add-result g c =
@@ -23,11 +12,11 @@ overflow_add-result g c =
     let front = c.args.self.now.front.items in
     let back = c.args.self.now.back.items in
     let stop = c.in-Some.stop.now in
-    let follows = can-follow lines (take (length front - 1) front) back stop
-    (subst (λ items. IsDraft lines items back)
-    (last_is front stop (c.in-Some.ensures.value ∙ ap (λ xs. slice_get xs (length xs - 1)) c.deref.ensures.value))
-    c.requires) in
-    omega (arith, follows.counted, c.start.ensures, c.len.ensures)
+    let before = take (length front - 1) front in
+    let is = last_is front stop (c.in-Some.ensures.value
+    ∙ ap (λ xs. slice_get xs (length xs - 1)) c.deref.ensures.value) in
+    let follows = can-follow lines before back stop (subst (λ items. IsDraft lines items back) is c.requires) in
+    omega (arith, follows.counted, last-start lines front before back stop c.requires is, c.len.ensures)
 
 pub returns-in-None : goal.returns-in-None
 returns-in-None g c =
@@ -46,6 +35,11 @@ returns-in-Some g c =
     let is = last_is front stop (c.in-Some.ensures.value
     ∙ ap (λ xs. slice_get xs (length xs - 1)) c.deref.ensures.value) in
     let reached = (stops-last lines [] before stop (subst (λ items. IsDraft lines items back) is c.requires).stops) in
-    omega (arith, c.start.ensures, c.len.ensures, covers-more stop.reached (copies_of before) stop.copy lines reached)
+    omega (
+      arith,
+      last-start lines front before back stop c.requires is,
+      c.len.ensures,
+      covers-more stop.reached (copies_of before) stop.copy lines reached,
+    )
     ∙ sym (ap (λ copies. length (whole (made_lines copies lines)).columns)
     (ap copies_of is ∙ copies-snoc before stop))

@@ -1,4 +1,5 @@
 use Rattle.std.proofs.Common.{◌≡◌, ◌+◌, ◌-◌, ◌<◌, ◌++◌, ◌∷◌, [], drop, take, refl, sym, ap, subst, ◌∙◌, arith}
+use Rattle.std.specs.Prelude.{reverse}
 use Rattle.std.proofs.lemmas.List.{reverse-append}
 use Rattle.segments.specs.Columns.{joined}
 use Rattle.line_lists.specs.declared.drafts.Copied.{Copied}
@@ -6,7 +7,7 @@ use Rattle.line_lists.specs.Drafts.{copies_of, covered, lines_behind, used}
 use Rattle.line_lists.specs.Removals.{JoinsNext}
 use Rattle.line_lists.specs.Texts.{whole}
 use Rattle.line_lists.proofs.CountRows.{count-lines}
-use Rattle.line_lists.proofs.JoinLaws.{behind-copied, both_ok, behind-kept, joins, kept-there}
+use Rattle.line_lists.proofs.JoinLaws.{behind-copied, both_ok, behind-kept, joins, kept-there, still-placed}
 use Rattle.line_lists.proofs.drafts.Draft.join_before.Goals as goal
 
 pub join-requires : goal.join-requires
@@ -36,6 +37,29 @@ returns-then-next-eq0-clause-joins g c =
     (behind-copied lines copies back stop.copy new next none c.join.ensures.kept gone))
     c.join.ensures.gone c.join.ensures.line
 
+pub returns-clause-taken : goal.returns-clause-taken
+returns-clause-taken g c =
+    let lines = g.L.LineList.lines c.args.self.now.list.now in
+    let back = c.args.self.now.back.items in
+    let next = c.args.next in
+    let less : Copied = record next { kept = next.kept - 1 } in
+    let some : 0 < next.kept = omega (arith, c.if-next-eq0.false) in
+    record {
+      stops = c.requires.taken.stops;
+      placed = still-placed lines (copies_of c.args.self.now.front.items) c.args.stop.now c.join_kept.new.stop
+          c.requires.taken.placed c.join_kept.ensures.reached c.join_kept.ensures.start c.join_kept.ensures.kept;
+      there = omega (
+        arith,
+        c.requires.taken.there,
+        some,
+        c.join_kept.ensures.kept,
+        c.in_ok-join_kept.ensures.gone,
+        ap used (reverse-append back (next ∷ [])),
+        ap (λ items. used (reverse items)) c.push_reserved.ensures.items,
+        ap used (reverse-append back (less ∷ [])),
+      );
+    }
+
 pub returns-clause-joins : goal.returns-clause-joins
 returns-clause-joins g c =
     let lines = g.L.LineList.lines c.args.self.now.list.now in
@@ -49,7 +73,7 @@ returns-clause-joins g c =
     let some : 0 < next.kept = omega (arith, c.if-next-eq0.false) in
     let within = kept-there lines front back stop next c.requires.taken some in
     let place : stop.reached.used + covered stop.copy
-    ≡ used copies + covered stop.copy = omega (arith, c.requires.taken.reached.used) in
+    ≡ used copies + covered stop.copy = omega (arith, c.requires.taken.placed.reached.used) in
     subst (λ items. JoinsNext stop.copy.line new.line (lines_behind copies stop.copy (back ++ next ∷ []) lines)
     (lines_behind copies new items lines)) (sym c.push_reserved.ensures.items)
     (joins stop.copy.line new.line (whole (take 1 (drop (used copies + covered stop.copy) lines))) _ _

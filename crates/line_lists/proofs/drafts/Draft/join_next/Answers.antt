@@ -1,11 +1,43 @@
 use Rattle.std.proofs.Common.{◌≡◌, ◌+◌, ◌<◌, [], None, Some, drop, length, take, sym, ap, subst, ◌∙◌, arith}
+use Rattle.std.specs.Prelude.{reverse}
 use Rattle.std.proofs.lemmas.List.{append-nil}
 use Rattle.segments.specs.Columns.{joined}
 use Rattle.line_lists.specs.Drafts.{IsTaken, copies_of, covered, lines_behind, used}
 use Rattle.line_lists.specs.Removals.{JoinsNext}
 use Rattle.line_lists.specs.Texts.{whole}
-use Rattle.line_lists.proofs.JoinLaws.{none_popped, behind-rest, both_ok, joins, rest-there}
+use Rattle.line_lists.proofs.JoinLaws.{none_popped, behind-rest, both_ok, joins, rest-there, still-placed}
 use Rattle.line_lists.proofs.drafts.Draft.join_next.Goals as goal
+
+pub returns-in-None-clause-taken : goal.returns-in-None-clause-taken
+returns-in-None-clause-taken g c =
+    let lines = g.L.LineList.lines c.args.self.now.list.now in
+    let stop = c.args.stop.now in
+    let front = c.args.self.now.front.items in
+    let back = c.args.self.now.back.items in
+    let copies = copies_of front in
+    let none = none_popped back (λ some. let no : None
+    ≡ Some _ = c.in-None.ensures.value stop.copy (omega (arith, some, c.args.self.now.back.ok.0)) in absurd (cc)) in
+    let left : c.pop.new.self.items ≡ [] = sym (append-nil c.pop.new.self.items) ∙ sym c.in-None.ensures.items ∙ none in
+    let taken = subst (λ items. IsTaken lines front items stop) none c.requires.taken in
+    let within = rest-there lines front stop taken
+    (subst (λ items. 0 < length (lines_behind copies stop.copy items lines)) none c.requires.some) in
+    both_ok c.join_kept.result
+    (λ gone line.
+    let placed = still-placed lines copies stop c.join_kept.new.stop taken.placed c.join_kept.ensures.reached
+    c.join_kept.ensures.start c.join_kept.ensures.kept in
+    record {
+      stops = taken.stops;
+      placed = placed;
+      there = omega (
+        arith,
+        within,
+        taken.placed.reached.used,
+        c.join_kept.ensures.kept,
+        gone,
+        ap (λ items. used (reverse items)) left,
+      );
+    })
+    c.join_kept.ensures.gone c.join_kept.ensures.line
 
 pub returns-in-None-clause-joins : goal.returns-in-None-clause-joins
 returns-in-None-clause-joins g c =
@@ -22,7 +54,7 @@ returns-in-None-clause-joins g c =
     let within = rest-there lines front stop taken
     (subst (λ items. 0 < length (lines_behind copies stop.copy items lines)) none c.requires.some) in
     let place : stop.reached.used + covered stop.copy
-    ≡ used copies + covered stop.copy = omega (arith, taken.reached.used) in
+    ≡ used copies + covered stop.copy = omega (arith, taken.placed.reached.used) in
     both_ok c.join_kept.result
     (λ gone line.
     subst (λ items. JoinsNext stop.copy.line new.line (lines_behind copies stop.copy items lines)

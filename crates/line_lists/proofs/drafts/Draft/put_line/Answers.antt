@@ -2,7 +2,7 @@ use Rattle.std.proofs.Common.{◌++◌, ◌∷◌, [], chars, subst, sym, ap, �
 use Rattle.line_lists.specs.declared.drafts.Stop.{Stop}
 use Rattle.line_lists.specs.Drafts.{IsReached, copies_of, text_at}
 use Rattle.line_lists.specs.Insertions.{Opens, place_at}
-use Rattle.line_lists.proofs.OpenLaws.{line-opens, new_copy}
+use Rattle.line_lists.proofs.OpenLaws.{line-opens, new_stop}
 use Rattle.line_lists.proofs.drafts.Draft.put_line.Goals as goal
 
 pub returns-clause-opens : goal.returns-clause-opens
@@ -11,7 +11,7 @@ returns-clause-opens g c =
     let front = c.args.self.now.front.items in
     let back = c.args.self.now.back.items in
     let text = chars c.args.text.now in
-    let stop : Stop = record { reached = c.reached-reached.result; copy = new_copy c.in_ok-new.field-0 } in
+    let stop : Stop = new_stop c.reached-reached.result c.in_ok-new.field-0 in
     let same = c.in_ok-reserve.ensures.items in
     subst (λ items. Opens lines items back (place_at lines front) text (text_at lines front back))
     (sym (c.push_reserved.ensures.items ∙ ap (λ items. items ++ stop ∷ []) same))

@@ -13,4 +13,4 @@ returns-clause-value g c =
     let kept = tags_behind (whole (take stop.copy.kept (drop stop.reached.used lines))).columns in
     c.turn_kept.ensures
     ∙ ap (λ s. differing s kept) (c.all-slots.ensures.value ∙ ap (tags_after lines) c.deref.ensures.value)
-    ∙ sym (tags-before lines (copies_of c.args.self.now.front.items) stop.reached stop.copy c.requires.reached)
+    ∙ sym (tags-before lines (copies_of c.args.self.now.front.items) stop.reached stop.copy c.requires.placed.reached)
