@@ -32,7 +32,7 @@ before-within m h q i tree =
     ∙ sum_by-append (lines_at m) (take i ks) (drop i ks) in
     let all = whole-below m h q tree in omega (arith, parts, all)
 
-child-within : (m : Records) (h : ℕ) (q : NodePtr) (i : ℕ) (p : NodePtr) → IsChild m h q i p →
+pub child-within : (m : Records) (h : ℕ) (q : NodePtr) (i : ℕ) (p : NodePtr) → IsChild m h q i p →
     lines_before m q i + lines_at m p ≤ lines_at m q
 child-within m h q i p child =
     let n = step_yes (lines_at m) (kids m q) i p child.at in let w = before-within m h q (i + 1) child.tree in
@@ -128,7 +128,7 @@ some-parent m l h r k x j p less c up says =
     subst (λ o. IsSome o) (sym (parent-now m l h r k x j p less c up says)) refl
 
 -- at the root
-at-root : (m : Records) (d h : ℕ) (r p : NodePtr) (o : ℕ) → d ≡ 0 → Sits m d h r p o → (p ≡ r) × (o ≡ 0)
+pub at-root : (m : Records) (d h : ℕ) (r p : NodePtr) (o : ℕ) → d ≡ 0 → Sits m d h r p o → (p ≡ r) × (o ≡ 0)
 at-root m d h r p o e s = subst (λ n. Sits m n h r p o) e s
 
 pub climbed : (m l : Records) (h : ℕ) (r : NodePtr) (k : ℕ) (x : NodePtr) (j : ℕ) (p : NodePtr) → j ≡ h →

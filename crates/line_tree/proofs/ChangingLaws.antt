@@ -54,6 +54,12 @@ length-changed [] k f h = absurd (omega arith)
 length-changed (l ∷ ls) zero f h = refl
 length-changed (l ∷ ls) (suc k) f h = ap suc (length-changed ls k f (omega arith))
 
+pub changed-at : (ls : List Named) (k : ℕ) (l : Named) (f : LineContent → LineContent) → slice_get ls k ≡ Some l →
+    slice_get (changed k f ls) k ≡ Some (l.0, f l.1)
+changed-at [] k l f at = absurd (none-some l at)
+changed-at (x ∷ ls) zero l f at = ap (λ (y : Named). Some (y.0, f y.1)) (same_Some x l at)
+changed-at (x ∷ ls) (suc k) l f at = changed-at ls k l f at
+
 -- ---- sums
 sum-middle : (a b c d g e : Count) → plus b g ≡ plus c e → plus (plus a (plus b d)) g ≡ plus (plus a (plus c d)) e
 sum-middle a b c d g e is = aside a b d g ∙ ap (λ s. plus a (plus s d)) is ∙ sym (aside a c d e) where
@@ -70,7 +76,7 @@ pub named-linked : (m n : Records) → SameLinks m n → (q : NodePtr) → IsSom
 named-linked m n same q s =
     sym (is_some-linked (finite.get m q)) ∙ ap is_some (sym (same q)) ∙ is_some-linked (finite.get n q) ∙ s
 
-named-as-linked : (m n : Records) → SameLinks m n → (q : NodePtr) → IsSome (finite.get m q) → IsSome (finite.get n q)
+pub named-as-linked : (m n : Records) → SameLinks m n → (q : NodePtr) → IsSome (finite.get m q) → IsSome (finite.get n q)
 named-as-linked m n same q s =
     sym (is_some-linked (finite.get n q)) ∙ ap is_some (same q) ∙ is_some-linked (finite.get m q) ∙ s
 
@@ -86,7 +92,7 @@ kids-linked : (m n : Records) → SameLinks m n → (p : NodePtr) → kids n p �
 kids-linked m n same p =
     kids_of-linked (finite.get n p) ∙ ap kids_linked (same p) ∙ sym (kids_of-linked (finite.get m p))
 
-record-linked : (o u : Option Record) (r : Record) → option_map linked u ≡ option_map linked o → o ≡ Some r →
+pub record-linked : (o u : Option Record) (r : Record) → option_map linked u ≡ option_map linked o → o ≡ Some r →
     (v : Record) × (u ≡ Some v) × (linked v ≡ linked r)
 record-linked o None r e is = absurd (none-some (linked r) (e ∙ ap (option_map linked) is))
 record-linked o (Some v) r e is = (v, refl, same_Some (linked v) (linked r) (e ∙ ap (option_map linked) is))

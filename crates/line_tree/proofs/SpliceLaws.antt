@@ -23,6 +23,8 @@ use Rattle.line_tree.specs.Room.{line_room}
 use Rattle.line_tree.specs.Taking.{changed}
 use Rattle.line_tree.specs.TreeState.{TreeState}
 use Rattle.line_tree.specs.Trees.{Named, total}
+use Rattle.line_tree.proofs.ChangingLaws.{changed-at}
+use Rattle.line_tree.proofs.PlaceLaws.{named_line}
 use Rattle.line_tree.proofs.SumLaws.{total-append}
 use Rattle.line_tree.proofs.TreeLaws.{total-lines}
 use Rattle.line_tree.proofs.PrefixLaws.{count-contents}
@@ -192,6 +194,14 @@ pub put-named : (old now : List Named) (k : ℕ) (p : NodePtr) (c : LineContent)
 put-named old now k p c within is q same =
     ap (λ ls. option_map (λ (l : Named). l.0) (slice_get ls k)) is
     ∙ ap (option_map (λ (l : Named). l.0)) (inserted-at old k (p, c) within) ∙ same
+
+-- and so is a changed one
+pub still-named : (old now : List Named) (k : ℕ) (p q : NodePtr) (f : LineContent → LineContent) → IsLineAt old k p →
+    now ≡ changed k f old → Some p ≡ Some q → IsLineAt now k q
+still-named old now k p q f at is same =
+    let l = named_line old k p at in
+    ap (λ ls. option_map (λ (x : Named). x.0) (slice_get ls k)) is
+    ∙ ap (option_map (λ (x : Named). x.0)) (changed-at old k l.0 f l.1) ∙ ap (λ x. Some x) l.2 ∙ same
 
 -- ---- the first is taken out
 first-out : (ls : List Named) (n : ℕ) → n < length ls → remove (drop n ls) 0 ≡ drop (suc n) ls

@@ -1,6 +1,6 @@
 -- The mark of a number is taken off its line.
-use Rattle.std.proofs.Common.{◌≡◌, ℕ, zero, suc, ◌<◌, Bool, true, false, cond, List, [], ◌∷◌, ◌++◌, length, map, take}
-use Rattle.std.proofs.Common.{drop, set, refl, sym, ap, ap₂, ◌∙◌, subst, arith}
+use Rattle.std.proofs.Common.{◌≡◌, ℕ, suc, ◌<◌, Bool, true, false, cond, List, [], ◌∷◌, ◌++◌, length, map, take}
+use Rattle.std.proofs.Common.{drop, set, refl, sym, ap, ap₂, ◌∙◌, subst}
 use Rattle.std.specs.Prelude.{is_some, slice_get}
 use Rattle.std.specs.Cmp.{nat_cmp_total}
 use Rattle.std.specs.FinMap as finite
@@ -13,16 +13,15 @@ use Rattle.segments.specs.Columns.{LineContent}
 use Rattle.segments.proofs.MarkLaws.{tied_same}
 use Rattle.raw_nodes.specs.declared.names.NodePtr.{NodePtr}
 use Rattle.line_lists.specs.Edits.{without_mark}
-use Rattle.line_lists.specs.Lists.{AreLines, has_mark, next_line}
+use Rattle.line_lists.specs.Lists.{AreLines, has_mark}
 use Rattle.line_lists.proofs.FindLaws.{drop_after}
 use Rattle.line_lists.proofs.FreedLaws.{same-line}
-use Rattle.line_lists.proofs.SearchRows.{FailFrom, line_at, next-found, next-none}
 use Rattle.line_lists.proofs.VecLaws.{lines-are-without}
 use Rattle.line_tree.specs.MarkTable.{IsTable, holder, noted}
 use Rattle.line_tree.specs.Taking.{changed}
 use Rattle.line_tree.specs.Trees.{Named, contents}
 use Rattle.line_tree.proofs.HolderLaws.{alone, first, holder-append, not-first, whole-list}
-use Rattle.line_tree.proofs.NearestLaws.{long}
+use Rattle.line_tree.proofs.ListedLaws.{HeldAt}
 use Rattle.line_tree.proofs.TableLaws.{noted-set, noted-within}
 
 -- ---- the line of the mark
@@ -34,26 +33,17 @@ pub record IsOnlyIn (n : ℕ) (ls : List Named) (k : ℕ) : Type 0 where
   pub before : holder n (take k ls) ≡ None
   pub behind : holder n (drop (suc k) ls) ≡ None
 
-some-at : (ls : List Named) (k : ℕ) → k < length ls → (l : Named) × (slice_get ls k ≡ Some l)
-    × (line_at (contents ls) k ≡ l.1)
-some-at [] k within = absurd (omega (arith, within))
-some-at (l ∷ ls) zero within = (l, refl, refl)
-some-at (l ∷ ls) (suc k) within = some-at ls k (omega (arith, within))
-
-pub only-in : (n : ℕ) (ls : List Named) (k : ℕ) → AreLines (contents ls) →
-    next_line (has_mark n) 0 (contents ls) ≡ Some k → IsOnlyIn n ls k
-only-in n ls k are is =
-    let found = next-found (has_mark n) 0 (contents ls) k is in let within = found.within in let l = long ls in
-    let at = some-at ls k (omega (arith, within, l)) in
-    let has = sym (ap (has_mark n) at.2) ∙ found.passes in
-    let others = alone n ls k at.0 are.rows at.1 has in
-    record { line = at.0; at = at.1; has = has; before = others.0; behind = others.1 }
+pub only-in : (n : ℕ) (ls : List Named) (p : NodePtr) (k : ℕ) → AreLines (contents ls) → HeldAt n ls p k →
+    IsOnlyIn n ls k
+only-in n ls p k are held =
+    let others = alone n ls k (p, held.line) are.rows held.at held.has in
+    record { line = (p, held.line); at = held.at; has = held.has; before = others.0; behind = others.1 }
 
 -- the lines with another in its place
 put-in : (ls : List Named) (k : ℕ) (l : Named) → slice_get ls k ≡ Some l → take k ls ++ l ∷ drop (suc k) ls ≡ ls
 put-in ls k l at = ap (λ xs. take k ls ++ xs) (sym (drop_after ls k l at)) ∙ whole-list k ls
 
-changed-is : (ls : List Named) (k : ℕ) (l : Named) (f : LineContent → LineContent) → slice_get ls k ≡ Some l →
+pub changed-is : (ls : List Named) (k : ℕ) (l : Named) (f : LineContent → LineContent) → slice_get ls k ≡ Some l →
     changed k f ls ≡ take k ls ++ (l.0, f l.1) ∷ drop (suc k) ls
 changed-is ls k l f at =
     ap (λ xs. (take k ls ++ map (λ (x : Named). (x.0, f x.1)) (take 1 xs)) ++ drop (suc k) ls) (drop_after ls k l at)
@@ -67,17 +57,10 @@ no-mark n line hasn't =
       | Some place ↦ λ is. absurd (false≢true (sym hasn't ∙ ap is_some is))
     ] refl
 
-same-contents : (n : ℕ) (ls : List Named) → holder n ls ≡ None → map (without_mark n) (contents ls) ≡ contents ls
+pub same-contents : (n : ℕ) (ls : List Named) → holder n ls ≡ None → map (without_mark n) (contents ls) ≡ contents ls
 same-contents n [] none = refl
 same-contents n (l ∷ ls) none = let parts = not-first n l ls none in
     ap₂ (λ x xs. x ∷ xs) (no-mark n l.1 parts.0) (same-contents n ls parts.1)
-
-pub none-taken : (n : ℕ) (xs : List LineContent) → next_line (has_mark n) 0 xs ≡ None → xs ≡ map (without_mark n) xs
-none-taken n xs none = same xs (next-none (has_mark n) 0 xs none) where
-  same : (xs : List LineContent) → FailFrom (has_mark n) xs 0 (length xs) → xs ≡ map (without_mark n) xs
-  same [] free = refl
-  same (x ∷ xs) free = ap₂ (λ y ys. y ∷ ys) (sym (no-mark n x (free 0 (omega arith) (omega arith))))
-      (same xs (λ j more less. free (suc j) (omega arith) (omega (arith, less))))
 
 pub taken-lines : (n : ℕ) (ls now : List Named) (k : ℕ) → IsOnlyIn n ls k → now ≡ changed k (without_mark n) ls →
     contents now ≡ map (without_mark n) (contents ls)

@@ -12,19 +12,20 @@ use mir.Val.{bool_byte}
 use Rattle.text_model.specs.Content.{Marks}
 use Rattle.text_model.specs.declared.places.Place.{Place}
 use Rattle.toggle_sums.specs.CountLaws.{differing-empty, plus-no_text, union-empty}
-use Rattle.toggle_sums.specs.Counts.{Count, counting, less, no_text, plus}
+use Rattle.toggle_sums.specs.Counts.{Count, HasCounts, counting, less, no_text, plus}
 use Rattle.segments.specs.Columns.{LineContent, line_count}
 use Rattle.line_lists.specs.Edits.{without_mark}
 use Rattle.raw_nodes.specs.Records.{Records, update, with_sum}
 use Rattle.raw_nodes.specs.declared.names.NodePtr.{NodePtr}
-use Rattle.line_tree.specs.Finds.{Finds}
-use Rattle.line_tree.specs.Shape.{lines_in}
+use Rattle.line_tree.specs.Finds.{Finds, HasRow}
+use Rattle.line_tree.specs.Shape.{lines_in, sum_at, sum_of}
 use Rattle.line_tree.specs.Taking.{CanChange, Takes, TakesOff, marked}
 use Rattle.line_tree.specs.Trees.{total}
 use Rattle.line_tree.specs.declared.find.Found.{Found}
-use Rattle.line_tree.proofs.ChangingLaws.{changes-line, changes-node, node-row, node-sum, sum-changed}
-use Rattle.line_tree.proofs.RowLaws.{sum_is}
-use Rattle.line_tree.proofs.TreeLaws.{named-row}
+use Rattle.line_tree.proofs.ChangingLaws.{can-child, changes-line, changes-node, node-row, node-sum, sum-changed}
+use Rattle.line_tree.proofs.ClimbingLaws.{Above, Climbs, down, next}
+use Rattle.line_tree.proofs.KeptLaws.{update-as}
+use Rattle.line_tree.proofs.UpdateLaws.{InnerIn, inner-row}
 
 -- ---- sums
 add-less : (a b : ℕ) → a + b - b ≡ a
@@ -39,10 +40,10 @@ less-marks a gone = λ i. record {
   presence = union-empty a.presence i;
 }
 
-pub less-is : (a b : Count) (gone : ℕ) → plus a (counting 0 0 gone) ≡ plus b no_text → less 0 0 gone b ≡ a
+less-is : (a b : Count) (gone : ℕ) → plus a (counting 0 0 gone) ≡ plus b no_text → less 0 0 gone b ≡ a
 less-is a b gone is = ap (less 0 0 gone) (sym (is ∙ plus-no_text b)) ∙ less-marks a gone
 
-pub marks-within : (a b : Count) (gone : ℕ) → plus a (counting 0 0 gone) ≡ plus b no_text → gone ≤ b.marks
+marks-within : (a b : Count) (gone : ℕ) → plus a (counting 0 0 gone) ≡ plus b no_text → gone ≤ b.marks
 marks-within a b gone is = let e = ap (λ s. s.marks) (is ∙ plus-no_text b) in omega arith
 
 -- ---- how many go
@@ -98,22 +99,47 @@ takes-line m n p k number gone can off = changes-line m n p k (without_mark numb
 
 -- ---- above it
 module _ (m : Records) (h : ℕ) (p : NodePtr) (k : ℕ) (can : CanChange m (suc h) p k) (f : Found) (finds : Finds m p k f)
-    (l : Records) (number gone : ℕ) (taken : Takes m l h f.child f.rest number gone)
-    (sum : Count) (says : IfSome (finite.get l p) (λ r. sum ≡ r.sum)) where
-  sum-was : sum ≡ total (lines_in m (suc h) p)
-  sum-was =
-      sum_is l p sum (named-row l p (node-row m h p k can f finds l (without_mark number) (counting 0 0 gone) no_text
-      taken)) says
-      ∙ node-sum m h p k can f finds l (without_mark number) (counting 0 0 gone) no_text taken
+    (l : Records) (number gone : ℕ) (taken : Takes m l h f.child f.rest number gone) where
+  taken-row : HasRow l p
+  taken-row = node-row m h p k can f finds l (without_mark number) (counting 0 0 gone) no_text taken
 
-  pub marks-enough : gone ≤ sum.marks
-  marks-enough = subst (λ (s : Count). gone ≤ s.marks) (sym sum-was)
-      (marks-within _ (total (lines_in m (suc h) p)) gone
+  sum-was : sum_at l p ≡ total (lines_in m (suc h) p)
+  sum-was = node-sum m h p k can f finds l (without_mark number) (counting 0 0 gone) no_text taken
+
+  marks-enough : IfSome (finite.get l p) (λ r. HasCounts (counting 0 0 gone) r.sum)
+  marks-enough =
+      let enough = marks-within _ (total (lines_in m (suc h) p)) gone
+      (sum-changed m h p k can f finds l (without_mark number) (counting 0 0 gone) no_text taken) in
+      let here : gone ≤ taken-row.found.sum.marks = subst (λ (s : Count). gone ≤ s.marks)
+      (sym sum-was ∙ ap sum_of taken-row.is) enough in
+      subst (λ o. IfSome o (λ r. HasCounts (counting 0 0 gone) r.sum)) (sym taken-row.is)
+      (record { lines = omega arith; characters = omega arith; marks = here })
+
+  takes-node : (n : Records) → n ≡ update l p (λ r. with_sum r (less 0 0 gone r.sum)) →
+      Takes m n (suc h) p k number gone
+  takes-node n is = let rest = less 0 0 gone (sum_at l p) in
+      changes-node m h p k can f finds l (without_mark number) (counting 0 0 gone) no_text taken n rest
+      (ap (less 0 0 gone) sum-was ∙ less-is _ (total (lines_in m (suc h) p)) gone
       (sum-changed m h p k can f finds l (without_mark number) (counting 0 0 gone) no_text taken))
+      (is ∙ update-as l p (λ r. with_sum r (less 0 0 gone r.sum)) (λ r. with_sum r rest) taken-row.found taken-row.is
+      (ap (λ s. with_sum taken-row.found (less 0 0 gone s)) (sym (ap sum_of taken-row.is))))
 
-  pub takes-node : (n : Records) (less_sum : Count) → less_sum ≡ less 0 0 gone sum →
-      n ≡ update l p (λ r. with_sum r less_sum) → Takes m n (suc h) p k number gone
-  takes-node n less_sum less_is is =
-      changes-node m h p k can f finds l (without_mark number) (counting 0 0 gone) no_text taken n less_sum
-      (less_is ∙ ap (less 0 0 gone) sum-was ∙ less-is _ (total (lines_in m (suc h) p)) gone
-      (sum-changed m h p k can f finds l (without_mark number) (counting 0 0 gone) no_text taken)) is
+-- ---- one level up
+module _ (m l : Records) (h : ℕ) (r : NodePtr) (k : ℕ) (number gone : ℕ) (j : ℕ) (p q : NodePtr) (lower : j < h)
+    (above : Above m l h r k (without_mark number) (counting 0 0 gone) no_text j p q) (whole : CanChange m h r k) where
+  can-here : CanChange m (suc j) q (k - above.before)
+  can-here = let within : suc j ≤ h = omega (arith, lower) in
+      down m (λ n o i. CanChange m n o i) (can-child m) h (suc j) r q above.before k within above.sits above.low
+      above.high whole
+
+  pub inner-here : InnerIn l q
+  inner-here = inner-row l q (taken-row m j q (k - above.before) can-here above.found above.finds l number gone
+      above.changes)
+
+  pub marks-here : IfSome (finite.get l q) (λ x. HasCounts (counting 0 0 gone) x.sum)
+  marks-here = marks-enough m j q (k - above.before) can-here above.found above.finds l number gone above.changes
+
+  pub takes-here : (n : Records) → n ≡ update l q (λ x. with_sum x (less 0 0 gone x.sum)) →
+      Climbs m n h r k (without_mark number) (counting 0 0 gone) no_text (j + 1) q
+  takes-here n is = next m l n h r k (without_mark number) (counting 0 0 gone) no_text j p q above
+      (takes-node m j q (k - above.before) can-here above.found above.finds l number gone above.changes n is)

@@ -9,6 +9,7 @@ use Rattle.line_lists.specs.Edits.{without_mark}
 use Rattle.raw_nodes.specs.Records.{Record, Records, update, with_line}
 use Rattle.raw_nodes.specs.declared.names.NodePtr.{NodePtr}
 use Rattle.line_tree.specs.Changes.{Among, Distinct}
+use Rattle.line_tree.specs.Places.{IsLineAt}
 use Rattle.line_tree.specs.Shape.{IsTree, line_of, lines_in, tree_at}
 use Rattle.line_tree.specs.Trees.{Named, names, total}
 
@@ -53,6 +54,11 @@ pub record Changes (m n : Records) (h : ℕ) (p : NodePtr) (k : ℕ) (f : LineCo
   pub lines : lines_in n h p ≡ changed k f (lines_in m h p)
   pub sum : plus (total (lines_in n h p)) gone ≡ plus (total (lines_in m h p)) more
   pub count : finite.len n ≡ finite.len m
+
+-- the line with this name becomes f of it, whatever its number is
+abbrev pub ChangesNamed : Records → Records → ℕ → NodePtr → NodePtr → (LineContent → LineContent) → Count → Count
+    → Type 0
+ChangesNamed m n h r p f gone more = (k : ℕ) → IsLineAt (lines_in m h r) k p → Changes m n h r k f gone more
 
 -- the mark of a number is taken off line k below p, which has so many marks less
 abbrev pub Takes : Records → Records → ℕ → NodePtr → ℕ → ℕ → ℕ → Type 0

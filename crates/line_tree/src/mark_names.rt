@@ -36,7 +36,7 @@ pub fn grow(names: &mut Vec<Option<NodePtr>>, numbers: usize) -> Result<(), Allo
 }
 
 /// Writes what a table says of each mark of a line.
-fn write(names: &mut Vec<Option<NodePtr>>, line: &Line, name: Option<NodePtr>)
+pub fn write(names: &mut Vec<Option<NodePtr>>, line: &Line, name: Option<NodePtr>)
     requires { NumbersBelow (vec_len names.old) line.now.marks }
     ensures table { (number : ℕ) → noted number names.new.items
         ≡ (if has_mark number line.now then name else noted number names.old.items) }

@@ -1,28 +1,20 @@
-ghost use Rattle.std.specs.Prelude.{◌≡◌};
+ghost use Rattle.std.specs.Prelude.{◌≡◌, ℕ};
 ghost use Rattle.raw_nodes.specs.Names.{records, rooms, spares};
 ghost use Rattle.raw_nodes.specs.Rows.{kids, row};
 ghost use Rattle.segments.specs.Columns.{line_count};
-ghost use Rattle.toggle_sums.specs.Counts.{IsWithin, plus};
-ghost use Rattle.line_tree.specs.Changes.{FitsSum, resummed, sums};
+ghost use Rattle.toggle_sums.specs.Counts.{Count, IsWithin, plus};
+ghost use Rattle.line_tree.specs.Changes.{Distinct, FitsSum, resummed, sums};
 ghost use Rattle.line_tree.specs.Finds.{HasRow};
-ghost use Rattle.line_tree.specs.Shape.{IsTree, lines_in, sum_at};
-ghost use Rattle.line_tree.specs.Taking.{CanChange, Changes};
+ghost use Rattle.line_tree.specs.Places.{IsLineAt};
+ghost use Rattle.line_tree.specs.Shape.{IsTree, lines_in, sum_at, tree_at};
+ghost use Rattle.line_tree.specs.Taking.{ChangesNamed};
 ghost use Rattle.line_tree.specs.Replacing.{PutsOver};
-ghost use Rattle.line_tree.specs.Trees.{total};
+ghost use Rattle.line_tree.specs.Trees.{names, total};
 
 use crate::fill::resum;
-use crate::select::find_at;
 use raw_nodes::{NodePtr, NodeStore, Ticks};
 use segments::Line;
 use toggle_sums::Exchange;
-
-/// A line by its number among those below a node of a height.
-#[derive(Clone, Copy)]
-pub struct LineBelow {
-    pub node: NodePtr,
-    pub height: usize,
-    pub k: usize,
-}
 
 /// Puts a line in the place of another, under its name, and says what went and what came.
 fn put_over<C: Ticks>(store: &mut NodeStore<C>, name: NodePtr, line: Line, exchange: &mut Exchange)
@@ -64,35 +56,30 @@ fn exchange_sum<C: Ticks>(
     }
 }
 
-/// Puts a line in the place of another, under its name, and says what went and what came.
-// By reference, since what is said takes much room.
-pub fn replace_in<C: Ticks>(
+/// Puts a line in the place of the one with a name, under that name. It goes from the line up, so that nothing is
+/// looked for.
+pub fn replace_up<C: Ticks>(
     store: &mut NodeStore<C>,
-    at: LineBelow,
+    root: NodePtr,
+    height: usize,
+    name: NodePtr,
     line: Line,
-    exchange: &mut Exchange,
     ticks: &mut C,
 )
-    requires change { CanChange (records store.old) at.height at.node at.k }
-    requires fits { FitsSum (plus (total (lines_in (records store.old) at.height at.node)) (line_count line)) }
-    ensures changes { Changes (records store.old) (records store.new) at.height at.node at.k (λ _. line)
-        exchange.new.gone exchange.new.more }
-    ensures more { exchange.new.more ≡ line_count line }
-    ensures went { IsWithin exchange.new.gone (total (lines_in (records store.old) at.height at.node)) }
+    requires tree { IsTree (records store.old) height root }
+    requires distinct { Distinct (names height (tree_at (records store.old) height root)) }
+    requires named { (k : ℕ) × IsLineAt (lines_in (records store.old) height root) k name }
+    requires fits { FitsSum (plus (total (lines_in (records store.old) height root)) (line_count line)) }
+    ensures changes { (gone : Count) × ChangesNamed (records store.old) (records store.new) height root name (λ _. line)
+        gone (line_count line) }
     ensures spares { spares store.new ≡ spares store.old }
     ensures rooms { rooms store.new ≡ rooms store.old }
 {
-    if at.height == 0 {
-        put_over(store, at.node, line, exchange);
-        return;
+    let mut exchange = Exchange::none();
+    put_over(store, name, line, &mut exchange);
+    let mut at = name;
+    for level in 0..height {
+        at = store.parent(at, ticks).unwrap();
+        exchange_sum(store, at, &exchange, ticks);
     }
-    let lines = store.lines(at.node, ticks);
-    let found = find_at(store, at.node, at.height - 1, lines, at.k, ticks);
-    let below = LineBelow {
-        node: found.child,
-        height: at.height - 1,
-        k: found.rest,
-    };
-    replace_in(store, below, line, exchange, ticks);
-    exchange_sum(store, at.node, exchange, ticks);
 }

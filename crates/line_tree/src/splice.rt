@@ -52,7 +52,7 @@ impl<C: Ticks> LineTree<C> {
     }
 
     /// Puts a line in as number `k`, where that is below `end` in the place of the one that stands there. Gives its
-    /// name where it is new; that of the line before it may be known.
+    /// name; that of the line before it may be known.
     fn put_line(
         &mut self,
         k: usize,
@@ -72,8 +72,9 @@ impl<C: Ticks> LineTree<C> {
         ensures room { line_room self.old ≤ line_room self.new + 1 }
     {
         if k < end {
-            self.replace(k, line, ticks);
-            None
+            let name = self.select(k, ticks);
+            self.replace_named(name, line, ticks);
+            Some(name)
         } else {
             prove!(self.height() <= 25);
             Some(self.put_behind(behind, k, line, ticks))

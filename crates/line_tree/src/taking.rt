@@ -1,9 +1,13 @@
-ghost use Rattle.std.specs.Prelude.{◌≡◌};
+ghost use Rattle.std.specs.Prelude.{◌≡◌, ℕ};
+ghost use Rattle.toggle_sums.specs.Counts.{counting, no_text};
+ghost use Rattle.line_lists.specs.Edits.{without_mark};
 ghost use Rattle.raw_nodes.specs.Names.{records, rooms, spares};
-ghost use Rattle.line_tree.specs.Shape.{IsTree};
-ghost use Rattle.line_tree.specs.Taking.{CanChange, Takes, TakesOff};
+ghost use Rattle.line_tree.specs.Changes.{Distinct};
+ghost use Rattle.line_tree.specs.Places.{IsLineAt};
+ghost use Rattle.line_tree.specs.Shape.{IsTree, lines_in, tree_at};
+ghost use Rattle.line_tree.specs.Taking.{ChangesNamed, TakesOff};
+ghost use Rattle.line_tree.specs.Trees.{names};
 
-use crate::select::find_at;
 use raw_nodes::{NodePtr, NodeStore, Ticks};
 use text_model::MarkNo;
 
@@ -20,26 +24,27 @@ fn take_off<C: Ticks>(store: &mut NodeStore<C>, name: NodePtr, number: MarkNo) -
     gone
 }
 
-/// Takes the mark of a number off line `k` below a node of this height, and gives how many went, none or one.
-pub fn take_in<C: Ticks>(
+/// Takes the mark of a number off the line with a name. It goes from the line up, so that nothing is looked for.
+pub fn take_up<C: Ticks>(
     store: &mut NodeStore<C>,
-    node: NodePtr,
+    root: NodePtr,
     height: usize,
-    k: usize,
+    name: NodePtr,
     number: MarkNo,
     ticks: &mut C,
-) -> usize
-    requires take { CanChange (records store.old) height node k }
-    ensures takes { Takes (records store.old) (records store.new) height node k number.0 result }
+)
+    requires tree { IsTree (records store.old) height root }
+    requires distinct { Distinct (names height (tree_at (records store.old) height root)) }
+    requires named { (k : ℕ) × IsLineAt (lines_in (records store.old) height root) k name }
+    ensures takes { (gone : ℕ) × ChangesNamed (records store.old) (records store.new) height root name
+        (without_mark number.0) (counting 0 0 gone) no_text }
     ensures spares { spares store.new ≡ spares store.old }
     ensures rooms { rooms store.new ≡ rooms store.old }
 {
-    if height == 0 {
-        return take_off(store, node, number);
+    let gone = take_off(store, name, number);
+    let mut at = name;
+    for level in 0..height {
+        at = store.parent(at, ticks).unwrap();
+        store.lose_counts(at, 0, 0, gone);
     }
-    let lines = store.lines(node, ticks);
-    let found = find_at(store, node, height - 1, lines, k, ticks);
-    let gone = take_in(store, found.child, height - 1, found.rest, number, ticks);
-    store.lose_counts(node, 0, 0, gone);
-    gone
 }

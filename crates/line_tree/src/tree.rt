@@ -7,17 +7,17 @@ use crate::locate::{Located, locate};
 use crate::nearest::{Wanted, next, previous};
 use crate::prefix::prefix;
 use crate::remove::{lower, remove_in};
-use crate::replacing::{LineBelow, replace_in};
+use crate::replacing::replace_up;
 use crate::select::select;
 use crate::starts::{Placed, odd_slots, place, start};
-use crate::taking::take_in;
+use crate::taking::take_up;
 use crate::walk::behind;
 use raw_nodes::{NodePtr, NodeStore, Ticks};
 use segments::Line;
 use std::alloc::{AllocError, Global};
 use std::marker::Model;
 use text_model::{MarkNo, TagSet, TagSlot, WORDS};
-use toggle_sums::{Exchange, Sums};
+use toggle_sums::Sums;
 
 /// A list of lines with names, as a balanced tree.
 #[derive(Drop)]
@@ -362,7 +362,18 @@ impl<C: Ticks> LineTree<C> {
         ensures lines { self.new.lines ≡ changed k (without_mark number.0) self.old.lines }
         ensures room { line_room self.new ≡ line_room self.old }
     {
-        take_in(&mut self.store, self.root, self.height, k, number, ticks);
+        let name = self.select(k, ticks);
+        self.take_mark_named(name, number, ticks);
+    }
+
+    /// The same where the line is known by its name.
+    pub(crate) fn take_mark_named(&mut self, name: NodePtr, number: MarkNo, ticks: &mut C)
+        requires { (k : ℕ) × IsLineAt self.old.lines k name }
+        ensures lines { (k : ℕ) → IsLineAt self.old.lines k name
+            → self.new.lines ≡ changed k (without_mark number.0) self.old.lines }
+        ensures room { line_room self.new ≡ line_room self.old }
+    {
+        take_up(&mut self.store, self.root, self.height, name, number, ticks);
     }
 
     /// Puts a line in the place of line `k`, under its name.
@@ -372,12 +383,18 @@ impl<C: Ticks> LineTree<C> {
         ensures lines { self.new.lines ≡ changed k (λ _. line) self.old.lines }
         ensures room { line_room self.new ≡ line_room self.old }
     {
-        let at = LineBelow {
-            node: self.root,
-            height: self.height,
-            k,
-        };
-        let mut exchange = Exchange::none();
-        replace_in(&mut self.store, at, line, &mut exchange, ticks);
+        let name = self.select(k, ticks);
+        self.replace_named(name, line, ticks);
+    }
+
+    /// The same where the old line is known by its name.
+    pub(crate) fn replace_named(&mut self, name: NodePtr, line: Line, ticks: &mut C)
+        requires named { (k : ℕ) × IsLineAt self.old.lines k name }
+        requires fits { FitsSum (plus (total self.old.lines) (line_count line)) }
+        ensures lines { (k : ℕ) → IsLineAt self.old.lines k name
+            → self.new.lines ≡ changed k (λ _. line) self.old.lines }
+        ensures room { line_room self.new ≡ line_room self.old }
+    {
+        replace_up(&mut self.store, self.root, self.height, name, line, ticks);
     }
 }

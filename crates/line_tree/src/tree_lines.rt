@@ -1,12 +1,13 @@
-ghost use Rattle.std.specs.Prelude.{◌≡◌, ◌<◌, IfSome, length};
-ghost use Rattle.line_lists.specs.Lists.{AreLines};
+ghost use Rattle.std.specs.Prelude.{◌≡◌, ◌+◌, ◌<◌, ◌≤◌, [], ◌∷◌, IfSome, length};
+ghost use Rattle.toggle_sums.specs.Counts.{plus};
+ghost use Rattle.line_lists.specs.Lists.{AreLines, IsCounted, NumbersBelow, count_of, spliced};
 ghost use Rattle.line_lists.specs.RowLaws.{AreLines-prop};
 ghost use Rattle.line_tree.specs.MarkTable.{IsTable, IsTable-prop};
 ghost use Rattle.line_tree.specs.Places.{IsLineAt};
 ghost use Rattle.line_tree.specs.Room.{line_room};
 ghost use Rattle.line_tree.specs.Trees.{contents};
 
-use crate::mark_names::{forget, grow, name_of, note};
+use crate::mark_names::{forget, grow, name_of, note, write};
 use crate::tree::LineTree;
 use line_lists::LineList;
 use raw_nodes::{NodePtr, Steps};
@@ -32,6 +33,23 @@ impl TreeLines {
         ensures are { AreLines (contents result.now.lines) }
     {
         &self.tree
+    }
+
+    /// Puts a line in the place of another. That one is looked for once, where a splice looks for it to forget what
+    /// marks stood there, to put the line in, and to note what marks it has.
+    fn replace_line(&mut self, index: usize, line: Line)
+        requires within { index + 1 ≤ length (contents self.old.tree.lines) }
+        requires numbers { NumbersBelow (length self.old.names.items) line.marks }
+        requires lines { AreLines (spliced index 1 (line ∷ []) (contents self.old.tree.lines)) }
+        requires counted { IsCounted (plus (count_of (contents self.old.tree.lines)) (count_of (line ∷ []))) }
+        ensures lines { contents self.new.tree.lines ≡ spliced index 1 (line ∷ []) (contents self.old.tree.lines) }
+        ensures room { line_room self.new.tree ≡ line_room self.old.tree }
+        ensures numbers { length self.new.names.items ≡ length self.old.names.items }
+    {
+        let name = self.tree.select(index, &mut Steps::new());
+        write(&mut self.names, self.tree.line(name), None);
+        write(&mut self.names, &line, Some(name));
+        self.tree.replace_named(name, line, &mut Steps::new());
     }
 }
 
@@ -140,13 +158,18 @@ impl LineList for TreeLines {
     }
 
     fn take_mark(&mut self, number: MarkNo) {
-        if let Some(line) = self.mark_line(number) {
-            self.tree.take_mark(line, number, &mut Steps::new());
+        if let Some(name) = name_of(&self.names, number) {
+            self.tree.take_mark_named(name, number, &mut Steps::new());
             self.names[number.0 as usize] = None;
         }
     }
 
-    fn splice(&mut self, from: usize, count: usize, new: Vec<Line>) {
+    fn splice(&mut self, from: usize, count: usize, mut new: Vec<Line>) {
+        if count == 1 && new.len() == 1 {
+            let line = new.pop().unwrap();
+            self.replace_line(from, line);
+            return;
+        }
         let end = from + new.len();
         forget(&self.tree, &mut self.names, from, from + count);
         self.tree.splice(from, count, new, &mut Steps::new());

@@ -12,7 +12,7 @@ use Rattle.line_tree.proofs.tree_lines.TreeLinesLineList.splice.Goals as goal
 pub overflow_add-end : goal.overflow_add-end
 overflow_add-end c = let fits = end-fits c.args.self.now.tree.lines c.args.from c.args.count c.args.new.items
     c.requires.within c.requires.lines in
-    let n = c.len.ensures in let ok = c.args.new.ok.0 in omega (arith, fits, n, ok)
+    let n = c.len-2.ensures in let ok = c.args.new.ok.0 in omega (arith, fits, n, ok)
 
 pub overflow_add-from : goal.overflow_add-from
 overflow_add-from c = let fits = gone-fits c.args.self.now.tree.lines c.args.from c.args.count c.args.new.items
@@ -34,7 +34,7 @@ note-requires-clause-within c = let old = c.args.self.now.tree.lines in let now 
       is = made.2;
     } in
     let long = comes-long old c.args.from c.args.count c.args.new.items c.requires.within now comes in
-    let n = c.len.ensures in let ok = c.args.new.ok.0 in omega (arith, long, n, ok)
+    let n = c.len-2.ensures in let ok = c.args.new.ok.0 in omega (arith, long, n, ok)
 
 pub note-requires-clause-lines : goal.note-requires-clause-lines
 note-requires-clause-lines c = let old = c.args.self.now.tree.lines in let now = c.splice.new.self.lines in
@@ -55,12 +55,12 @@ note-requires-clause-below c = let old = c.args.self.now.tree.lines in let now =
       contents_of = made.1;
       is = made.2;
     } in
-    let n = c.len.ensures in let ok = c.args.new.ok.0 in let names = c.args.self.now.names.ok.0 in
+    let n = c.len-2.ensures in let ok = c.args.new.ok.0 in let names = c.args.self.now.names.ok.0 in
     let same = c.forget.ensures.len in
     let bound : length c.args.self.now.names.items ≡ vec_len c.forget.new.names = omega (arith, names, same) in
-    let end : c.args.from + length c.args.new.items ≡ c.args.from + c.len.result = omega (arith, n, ok) in
+    let end : c.args.from + length c.args.new.items ≡ c.args.from + c.len-2.result = omega (arith, n, ok) in
     subst (λ m. All (λ (line : LineContent). NumbersBelow m line.marks)
-    (slice_range (contents now) c.args.from (c.args.from + c.len.result))) bound
+    (slice_range (contents now) c.args.from (c.args.from + c.len-2.result))) bound
     (subst (λ m. All (λ (line : LineContent). NumbersBelow (length c.args.self.now.names.items) line.marks)
     (slice_range (contents now) c.args.from m)) end
     (comes-below old c.args.from c.args.count c.args.new.items c.requires.within now
@@ -74,8 +74,8 @@ note-requires-clause-table c = let old = c.args.self.now.tree.lines in let now =
       contents_of = made.1;
       is = made.2;
     } in
-    let n = c.len.ensures in let ok = c.args.new.ok.0 in
-    let end : c.args.from + c.len.result ≡ c.args.from + length c.args.new.items = omega (arith, n, ok) in
+    let n = c.len-2.ensures in let ok = c.args.new.ok.0 in
+    let end : c.args.from + c.len-2.result ≡ c.args.from + length c.args.new.items = omega (arith, n, ok) in
     let same = ap (λ m. lines_without c.args.from m now) end
     ∙ comes-others old c.args.from c.args.count c.args.new.items c.requires.within now comes in
     record { each = λ q. c.forget.ensures.table.each q ∙ sym (ap (holder q) same) }

@@ -1,4 +1,0 @@
-use Rattle.line_tree.proofs.replacing.+replace_in.Given as goal
-
-abbrev pub decreases-replace_in : goal.decreases-replace_in
-decreases-replace_in g l = l.at.height

@@ -1,0 +1,40 @@
+use Rattle.std.proofs.Common.{◌≡◌, length, vec_len, subst, sym, arith}
+use Rattle.line_lists.specs.Lists.{AreLines, NumbersBelow}
+use Rattle.line_tree.proofs.OverLaws.{fits-one, over-below, over-contents, over-table}
+use Rattle.line_tree.proofs.tree_lines.TreeLines.replace_line.Goals as goal
+
+pub write-requires : goal.write-requires
+write-requires c = let list = c.args.self.now in let k = c.args.index in let p = c.select-name.result in
+    let same : length list.names.items ≡ vec_len list.names = let ok = list.names.ok.0 in omega (arith, ok) in
+    subst (λ n. NumbersBelow n c.line.result.now.marks) same
+    (over-below list.names.items list.tree.lines k p c.line.result.now list.are_lines list.table
+    (c.line.ensures k c.select-name.ensures.name))
+
+pub write-requires-2 : goal.write-requires-2
+write-requires-2 c = let list = c.args.self.now in
+    let same : length list.names.items ≡ vec_len c.write.new.names = let ok = list.names.ok.0 in
+    let len = c.write.ensures.len in omega (arith, ok, len) in
+    subst (λ n. NumbersBelow n c.args.line.marks) same c.requires.numbers
+
+pub replace_named-requires-clause-named : goal.replace_named-requires-clause-named
+replace_named-requires-clause-named c = (c.args.index, c.select-name.ensures.name)
+
+pub replace_named-requires-clause-fits : goal.replace_named-requires-clause-fits
+replace_named-requires-clause-fits c = fits-one c.args.self.now.tree.lines c.args.line c.requires.counted
+
+pub invariant_of-self : goal.invariant_of-self
+invariant_of-self c = let list = c.args.self.now in let k = c.args.index in let p = c.select-name.result in
+    let old = list.tree.lines in let now = c.replace_named.new.self.lines in let line = c.args.line in
+    let was = c.line.result.now in let at = c.line.ensures k c.select-name.ensures.name in
+    let is = c.replace_named.ensures.lines k c.select-name.ensures.name in
+    let are = subst AreLines (sym (over-contents old now k p was line c.requires.within at is)) c.requires.lines in
+    record {
+      are_lines = are;
+      table = over-table old now k p was line c.requires.within at is list.names.items c.write.new.names.items
+          c.write-2.new.names.items list.are_lines are list.table c.write.ensures.table c.write-2.ensures.table;
+    }
+
+pub returns-clause-lines : goal.returns-clause-lines
+returns-clause-lines c = let list = c.args.self.now in let k = c.args.index in let p = c.select-name.result in
+    over-contents list.tree.lines c.replace_named.new.self.lines k p c.line.result.now c.args.line c.requires.within
+    (c.line.ensures k c.select-name.ensures.name) (c.replace_named.ensures.lines k c.select-name.ensures.name)
