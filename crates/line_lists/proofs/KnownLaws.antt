@@ -11,7 +11,7 @@ use Rattle.segments.specs.Columns.{LineContent}
 use Rattle.line_lists.specs.declared.drafts.Copied.{Copied}
 use Rattle.line_lists.specs.declared.drafts.Known.{Known}
 use Rattle.line_lists.specs.declared.drafts.Stop.{Stop}
-use Rattle.line_lists.specs.Drafts.{AreStops, IsDraft, IsKnown, IsReached, copies_of, copy_tags, covered}
+use Rattle.line_lists.specs.Drafts.{AreStops, IsBefore, IsDraft, IsKnown, IsReached, copies_of, copy_tags, covered}
 use Rattle.line_lists.specs.Drafts.{made_lines, tags_after, used}
 use Rattle.line_lists.specs.Texts.{whole}
 use Rattle.line_lists.specs.Toggling.{tags_behind}
@@ -86,13 +86,15 @@ next_of m n is = omega (arith, is)
 
 pub known-forth : (lines : List LineContent) (stops : List Stop) (known new : Known) (stop : Stop) →
     AreStops lines [] stops → IsKnown lines stops known → slice_get stops known.count ≡ Some stop →
-    new.count ≡ known.count + 1 → new.tags ≡ differing known.tags (copy_tags lines stop) → IsKnown lines stops new
-known-forth lines stops known new stop are so_far is count_is tags_are = record {
+    new.count ≡ known.count + 1 → new.tags ≡ differing known.tags (copy_tags lines stop) → IsBefore lines new.before →
+    IsKnown lines stops new
+known-forth lines stops known new stop are so_far is count_is tags_are before_is = record {
   few = omega (arith, slice_get_within stops known.count stop is, count_is);
   tags =
       tags_are ∙ ap (λ s. differing s (copy_tags lines stop)) so_far.tags
       ∙ sym (ap (λ n. tags_after lines (take n stops)) (next_of new.count known.count count_is)
       ∙ tags-next lines stops known.count stop are is);
+  before = before_is;
 }
 
 -- one copy less
@@ -101,12 +103,14 @@ turned-twice s t = differing-commutative (differing s t) t ∙ differing-back s 
 
 pub known-back : (lines : List LineContent) (stops : List Stop) (known new : Known) (stop : Stop) →
     AreStops lines [] stops → IsKnown lines stops known → slice_get stops new.count ≡ Some stop →
-    known.count ≡ new.count + 1 → new.tags ≡ differing known.tags (copy_tags lines stop) → IsKnown lines stops new
-known-back lines stops known new stop are so_far is count_is tags_are = record {
+    known.count ≡ new.count + 1 → new.tags ≡ differing known.tags (copy_tags lines stop) → IsBefore lines new.before →
+    IsKnown lines stops new
+known-back lines stops known new stop are so_far is count_is tags_are before_is = record {
   few = omega (arith, so_far.few, count_is);
   tags =
       tags_are ∙ ap (λ s. differing s (copy_tags lines stop))
       (so_far.tags ∙ ap (λ n. tags_after lines (take n stops)) (next_of known.count new.count count_is)
       ∙ tags-next lines stops new.count stop are is)
       ∙ turned-twice (tags_after lines (take new.count stops)) (copy_tags lines stop);
+  before = before_is;
 }

@@ -7,11 +7,12 @@ use Rattle.text_model.specs.Content.{Slots}
 use Rattle.text_model.specs.declared.places.Place.{Place}
 use Rattle.text_model.specs.contracts.tag_set.TagSet as tag_set
 use Rattle.segments.specs.Columns.{LineContent}
+use Rattle.line_lists.specs.declared.drafts.Before.{Before}
 use Rattle.line_lists.specs.declared.drafts.Copied.{Copied}
 use Rattle.line_lists.specs.declared.drafts.Known.{Known}
 use Rattle.line_lists.specs.declared.drafts.Reached.{Reached}
 use Rattle.line_lists.specs.declared.drafts.Stop.{Stop}
-use Rattle.line_lists.specs.Lists.{AreRows}
+use Rattle.line_lists.specs.Lists.{AreRows, count_of}
 use Rattle.line_lists.specs.Texts.{whole}
 use Rattle.line_lists.specs.Toggling.{tags_behind}
 
@@ -55,10 +56,16 @@ copies_of stops = map (λ (stop : Stop). stop.copy) stops
 abbrev pub tags_after : List LineContent → List Stop → Slots
 tags_after lines stops = tags_behind (whole (made_lines (copies_of stops) lines)).columns
 
--- those behind the first so many of the copies before a place
+-- those before a line of a list
+pub record IsBefore (lines : List LineContent) (before : Before) : Type 0 where
+  pub within : before.line ≤ length lines
+  pub tags : before.tags ≡ (count_of (take before.line lines)).parity
+
+-- those behind the first so many of the copies before a place, and those before a line
 pub record IsKnown (lines : List LineContent) (front : List Stop) (known : Known) : Type 0 where
   pub few : known.count ≤ length front
   pub tags : known.tags ≡ tags_after lines (take known.count front)
+  pub before : IsBefore lines known.before
 
 pub IsKnown-prop : {lines : List LineContent} {front : List Stop} {known : Known} → IsProp (IsKnown lines front known)
 IsKnown-prop = Prim.hlevel (tag_set.the_row.coded, props)

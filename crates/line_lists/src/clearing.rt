@@ -61,8 +61,12 @@ impl<'a, L: LineList> Draft<'a, L> {
         let mut slots = self.known.but_last(self.list, &self.front);
         let stop = self.front.last().unwrap();
         let start = end - stop.copy.line.len();
-        stop.reached
-            .turn_kept(self.list, stop.copy.kept, &mut slots);
+        stop.reached.turn_kept(
+            self.list,
+            &mut self.known.before,
+            stop.copy.kept,
+            &mut slots,
+        );
         slots.flip(&stop.copy.line.tags_behind(offset - start));
         slots
     }
@@ -83,7 +87,12 @@ impl<'a, L: LineList> Draft<'a, L> {
     {
         let mut slots = self.known.all(self.list, &self.front);
         let (index, column, line) = self.find_line(reached, offset);
-        reached.turn_kept(self.list, index - reached.used, &mut slots);
+        reached.turn_kept(
+            self.list,
+            &mut self.known.before,
+            index - reached.used,
+            &mut slots,
+        );
         slots.flip(&line.tags_behind(column));
         slots
     }

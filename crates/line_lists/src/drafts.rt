@@ -100,11 +100,20 @@ impl Stop {
     }
 }
 
-/// Which slots are on behind the first so many copies before a place.
+/// Which slots are on before a line of a list.
+#[derive(Drop)]
+pub struct Before {
+    pub line: usize,
+    pub tags: TagSet,
+}
+
+/// Which slots are on behind the first so many copies before a place, and before the line that the list was last asked
+/// for.
 #[derive(Drop)]
 pub struct Known {
     pub count: usize,
     pub tags: TagSet,
+    pub before: Before,
 }
 
 /// The lines that the text of a list will have: copies of some of its lines, in order, with a place between two of
@@ -284,7 +293,7 @@ impl<'a, L: LineList> Draft<'a, L> {
 
     /// The line of the list that is kept at an offset of the text, behind what is covered, lent, behind its number and
     /// the column there.
-    pub fn find_line<'b>(&'b self, reached: &Reached, offset: usize) -> (usize, usize, &'b Line)
+    pub fn find_line(&self, reached: &Reached, offset: usize) -> (usize, usize, &'a Line)
         requires used { reached.now.used ≤ length (L.lines self.now.list.now) }
         requires behind { reached.now.characters ≤ offset }
         requires within { offset + length (whole (take reached.now.used (L.lines self.now.list.now))).columns

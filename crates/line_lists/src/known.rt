@@ -1,48 +1,86 @@
 ghost use Rattle.std.specs.Prelude.{◌≡◌, ◌+◌, ◌-◌, ◌≤◌, List, [], drop, length, max, min, take};
 ghost use Rattle.text_model.specs.SlotSets.{differing};
 ghost use Rattle.segments.specs.Columns.{LineContent};
-ghost use Rattle.line_lists.specs.Drafts.{AreStops, IsKnown, copies_of, copy_tags, covered, tags_after, used};
+ghost use Rattle.line_lists.specs.Drafts.{AreStops, IsBefore, IsKnown, copies_of, copy_tags, covered, tags_after, used};
 ghost use Rattle.line_lists.specs.Lists.{count_of};
 ghost use Rattle.line_lists.specs.Texts.{whole};
 ghost use Rattle.line_lists.specs.Toggling.{tags_behind};
 
-use crate::drafts::{Known, Reached, Stop};
+use crate::drafts::{Before, Known, Reached, Stop};
 use crate::lists::LineList;
 use text_model::TagSet;
 
-/// Turns in a set the slots that are toggled an odd number of times before a line.
-fn turn_before<L: LineList>(list: &L, line: usize, slots: &mut TagSet)
-    requires { line ≤ length (L.lines list.now) }
-    ensures { slots.new ≡ differing slots.old (count_of (take line (L.lines list.now))).parity }
-{
-    if line == 0 {
-        return;
+impl Before {
+    /// Before the first line, where none is on.
+    fn first() -> Before
+        ensures { (lines : List LineContent) → IsBefore lines result }
+    {
+        Before {
+            line: 0,
+            tags: TagSet::empty(),
+        }
     }
-    slots.flip(&list.odd_slots(line));
+
+    /// Goes to a line. The list stays as it is while it has a draft, so of the same line it isn't asked again.
+    fn go_to<L: LineList>(&mut self, list: &L, line: usize)
+        requires within { line ≤ length (L.lines list.now) }
+        requires before { IsBefore (L.lines list.now) self.old }
+        ensures before { IsBefore (L.lines list.now) self.new }
+        ensures line { self.new.line ≡ line }
+    {
+        if line != self.line {
+            self.tags = list.odd_slots(line);
+            self.line = line;
+        }
+    }
+
+    /// Turns in a set the slots that are on before a line: none before the first, for which the last answer stays.
+    fn turn<L: LineList>(&mut self, list: &L, line: usize, slots: &mut TagSet)
+        requires within { line ≤ length (L.lines list.now) }
+        requires before { IsBefore (L.lines list.now) self.old }
+        ensures before { IsBefore (L.lines list.now) self.new }
+        ensures turned { slots.new ≡ differing slots.old (count_of (take line (L.lines list.now))).parity }
+    {
+        if line == 0 {
+            return;
+        }
+        self.go_to(list, line);
+        slots.flip(&self.tags);
+    }
 }
 
 impl Reached {
     /// Turns in a set the slots that are toggled an odd number of times in so many kept lines that follow.
-    pub fn turn_kept<L: LineList>(&self, list: &L, count: usize, slots: &mut TagSet)
-        requires { self.now.used + count ≤ length (L.lines list.now) }
-        ensures { slots.new ≡ differing slots.old
+    pub fn turn_kept<L: LineList>(
+        &self,
+        list: &L,
+        before: &mut Before,
+        count: usize,
+        slots: &mut TagSet,
+    )
+        requires there { self.now.used + count ≤ length (L.lines list.now) }
+        requires before { IsBefore (L.lines list.now) before.old }
+        ensures before { IsBefore (L.lines list.now) before.new }
+        ensures turned { slots.new ≡ differing slots.old
             (tags_behind (whole (take count (drop self.now.used (L.lines list.now)))).columns) }
     {
         if count == 0 {
             return;
         }
-        turn_before(list, self.used, slots);
-        turn_before(list, self.used + count, slots);
+        before.turn(list, self.used, slots);
+        before.turn(list, self.used + count, slots);
     }
 }
 
 impl Stop {
     /// Turns in a set the slots that are toggled an odd number of times in the copy's line and in those kept before it.
-    fn turn_slots<L: LineList>(&self, list: &L, slots: &mut TagSet)
-        requires { self.now.reached.used + covered self.now.copy ≤ length (L.lines list.now) }
-        ensures { slots.new ≡ differing slots.old (copy_tags (L.lines list.now) self.now) }
+    fn turn_slots<L: LineList>(&self, list: &L, before: &mut Before, slots: &mut TagSet)
+        requires there { self.now.reached.used + covered self.now.copy ≤ length (L.lines list.now) }
+        requires before { IsBefore (L.lines list.now) before.old }
+        ensures before { IsBefore (L.lines list.now) before.new }
+        ensures turned { slots.new ≡ differing slots.old (copy_tags (L.lines list.now) self.now) }
     {
-        self.reached.turn_kept(list, self.copy.kept, slots);
+        self.reached.turn_kept(list, before, self.copy.kept, slots);
         self.copy.line.turn_odd_slots(slots);
     }
 }
@@ -55,6 +93,7 @@ impl Known {
         Known {
             count: 0,
             tags: TagSet::empty(),
+            before: Before::first(),
         }
     }
 
@@ -68,7 +107,7 @@ impl Known {
         ensures count { self.new.count ≡ max self.old.count count }
     {
         while self.count < count {
-            stops[self.count].turn_slots(list, &mut self.tags);
+            stops[self.count].turn_slots(list, &mut self.before, &mut self.tags);
             self.count += 1;
         }
     }
@@ -83,7 +122,7 @@ impl Known {
     {
         while count < self.count {
             self.count -= 1;
-            stops[self.count].turn_slots(list, &mut self.tags);
+            stops[self.count].turn_slots(list, &mut self.before, &mut self.tags);
         }
     }
 

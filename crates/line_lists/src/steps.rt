@@ -55,8 +55,12 @@ impl<'a, L: LineList> Draft<'a, L> {
             (lines_before (copies_of self.old.front.items) stop.now.copy (L.lines self.old.list.now))).columns }
     {
         let mut slots = self.known.all(self.list, &self.front);
-        stop.reached
-            .turn_kept(self.list, stop.copy.kept, &mut slots);
+        stop.reached.turn_kept(
+            self.list,
+            &mut self.known.before,
+            stop.copy.kept,
+            &mut slots,
+        );
         slots
     }
 

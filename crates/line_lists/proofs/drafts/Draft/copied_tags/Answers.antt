@@ -49,8 +49,8 @@ overflow_sub-offset g c =
     let begun = last-begun lines before stop c.args.offset draft.stops (c.requires.begun before stop is) in
     omega (arith, starts, c.len.ensures, begun)
 
-pub turn_kept-requires : goal.turn_kept-requires
-turn_kept-requires g c =
+pub turn_kept-requires-clause-there : goal.turn_kept-requires-clause-there
+turn_kept-requires-clause-there g c =
     let lines = g.L.LineList.lines c.args.self.now.list.now in
     let front = c.args.self.now.front.items in
     let back = c.args.self.now.back.items in
@@ -104,6 +104,6 @@ returns-clause-value g c =
     let so_far = c.but_last-slots.ensures.value
     ∙ ap (λ items. tags_after lines (take (length items - 1) items)) c.deref.ensures.value in
     c.flip.ensures
-    ∙ ap₂ differing (c.turn_kept.ensures ∙ ap (λ s. differing s kept) so_far) c.tags_behind.ensures
+    ∙ ap₂ differing (c.turn_kept.ensures.turned ∙ ap (λ s. differing s kept) so_far) c.tags_behind.ensures
     ∙ sym (ap (λ items. tags_behind (take c.args.offset (whole (drafted_at lines items back)).columns)) is
     ∙ copied-tags lines before back stop c.args.offset (c.args.offset - (c.args.end - c.len.result)) reached stands)

@@ -33,6 +33,6 @@ returns-clause-value g c =
     let kept = tags_behind (whole (take (found.result.0 - reached.used) (drop reached.used lines))).columns in
     let so_far = c.all-slots.ensures.value ∙ ap (tags_after lines) c.deref.ensures.value in
     c.flip.ensures
-    ∙ ap₂ differing (c.turn_kept.ensures ∙ ap (λ s. differing s kept) so_far) c.tags_behind.ensures
+    ∙ ap₂ differing (c.turn_kept.ensures.turned ∙ ap (λ s. differing s kept) so_far) c.tags_behind.ensures
     ∙ sym (kept-tags lines front reached c.args.offset c.requires.reached found.result.0 found.result.1
     found.result.2.now found.ensures.place found.ensures.line c.args.self.now.back.items c.requires.ahead)

@@ -11,6 +11,6 @@ returns-clause-value g c =
     let lines = g.L.LineList.lines c.args.self.now.list.now in
     let stop = c.args.stop.now in
     let kept = tags_behind (whole (take stop.copy.kept (drop stop.reached.used lines))).columns in
-    c.turn_kept.ensures
+    c.turn_kept.ensures.turned
     ∙ ap (λ s. differing s kept) (c.all-slots.ensures.value ∙ ap (tags_after lines) c.deref.ensures.value)
     ∙ sym (tags-before lines (copies_of c.args.self.now.front.items) stop.reached stop.copy c.requires.placed.reached)

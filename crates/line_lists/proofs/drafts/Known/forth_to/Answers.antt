@@ -3,8 +3,8 @@ use Rattle.std.proofs.lemmas.Option.{slice_get_read}
 use Rattle.line_lists.proofs.KnownLaws.{known-forth, stop-there}
 use Rattle.line_lists.proofs.drafts.Known.forth_to.Goals as goal
 
-pub turn_slots-requires : goal.turn_slots-requires
-turn_slots-requires g c =
+pub turn_slots-requires-clause-there : goal.turn_slots-requires-clause-there
+turn_slots-requires-clause-there g c =
     let stops = c.args.stops.now in
     let count = c.loop-self.self.count in
     let within : count < length stops = omega (arith, c.loop-self-test.true, c.requires.within) in
@@ -20,9 +20,10 @@ loop-self-preserved g c =
     let within : count < length stops = omega (arith, c.loop-self-test.true, c.requires.within) in
     record {
       known = known-forth (g.L.LineList.lines c.args.list.now) stops c.loop-self.self
-          (record { count = count + 1; tags = c.turn_slots.new.slots }) stop c.requires.stops
-          c.loop-self.invariant.known
-          (slice_get_read stops (length stops) count stop refl within c.index-stops-self.is) refl c.turn_slots.ensures;
+          (record { count = count + 1; tags = c.turn_slots.new.slots; before = c.turn_slots.new.before }) stop
+          c.requires.stops c.loop-self.invariant.known
+          (slice_get_read stops (length stops) count stop refl within c.index-stops-self.is) refl
+          c.turn_slots.ensures.turned c.turn_slots.ensures.before;
       least = omega (arith, c.loop-self.invariant.least);
       most = omega (arith, c.loop-self-test.true);
     }

@@ -8,8 +8,8 @@ use Rattle.line_lists.proofs.CountRows.{count-lines}
 use Rattle.line_lists.proofs.DraftLaws.{parity-between}
 use Rattle.line_lists.proofs.drafts.Reached.turn_kept.Goals as goal
 
-pub returns-then-count-eq0 : goal.returns-then-count-eq0
-returns-then-count-eq0 g c =
+pub returns-then-count-eq0-clause-turned : goal.returns-then-count-eq0-clause-turned
+returns-then-count-eq0-clause-turned g c =
     let lines = g.L.LineList.lines c.args.list.now in
     let slots = c.args.slots.now in
     sym (ap (λ n. differing slots (tags_behind (whole (take n (drop c.args.self.now.used lines))).columns))
@@ -19,15 +19,15 @@ pub overflow_add-self : goal.overflow_add-self
 overflow_add-self g c =
     let lines = g.L.LineList.lines c.args.list.now in
     let few = (g.L.LineList.are_lines c.args.list.now).counted.lines in
-    omega (arith, few, count-lines lines, c.requires)
+    omega (arith, few, count-lines lines, c.requires.there)
 
-pub returns : goal.returns
-returns g c =
+pub returns-clause-turned : goal.returns-clause-turned
+returns-clause-turned g c =
     let lines = g.L.LineList.lines c.args.list.now in
     let slots = c.args.slots.now in
     let from = c.args.self.now.used in
     let kept = (count_of (take (from + c.args.count) lines)).parity in
-    c.turn_before-2.ensures
-    ∙ ap (λ s. differing s kept) c.turn_before.ensures
+    c.turn-2.ensures.turned
+    ∙ ap (λ s. differing s kept) c.turn.ensures.turned
     ∙ differing-associative slots (count_of (take from lines)).parity kept
     ∙ ap (differing slots) (parity-between from c.args.count lines)

@@ -6,14 +6,14 @@ use Rattle.line_lists.specs.Toggling.{tags_behind}
 use Rattle.line_lists.proofs.KnownLaws.{copy-tags}
 use Rattle.line_lists.proofs.drafts.Stop.turn_slots.Goals as goal
 
-pub returns : goal.returns
-returns g c =
+pub returns-clause-turned : goal.returns-clause-turned
+returns-clause-turned g c =
     let lines = g.L.LineList.lines c.args.list.now in
     let slots = c.args.slots.now in
     let stop = c.args.self.now in
     let line = tags_behind stop.copy.line.columns in
     let kept = tags_behind (whole (take stop.copy.kept (drop stop.reached.used lines))).columns in
     c.turn_odd_slots.ensures
-    ∙ ap (λ s. differing s line) c.turn_kept.ensures
+    ∙ ap (λ s. differing s line) c.turn_kept.ensures.turned
     ∙ differing-associative slots kept line
     ∙ sym (ap (differing slots) (copy-tags lines stop))
