@@ -16,7 +16,7 @@ use Rattle.line_lists.specs.declared.drafts.Reached.{Reached}
 use Rattle.line_lists.specs.declared.drafts.Stop.{Stop}
 use Rattle.line_lists.specs.Drafts.{AreStops, CanFollow, IsReached, IsText, StandsBy, copies_of, covered, drafted}
 use Rattle.line_lists.specs.Drafts.{drafted_at, in_order, made_lines, text_at, used}
-use Rattle.line_lists.specs.Lists.{AreRows, GoesBefore, StandBefore, has_mark, next_line}
+use Rattle.line_lists.specs.Lists.{AreRows, GoesBefore, IsMarked, StandBefore, has_mark, next_line}
 use Rattle.line_lists.specs.Marking.{StandsIn, lines_with}
 use Rattle.line_lists.specs.Texts.{whole}
 use Rattle.line_lists.proofs.DraftLaws.{copies-snoc, drafted-append, length-whole, made-snoc, stops-last, take-more}
@@ -394,6 +394,19 @@ none-rest number n lines front back reached is all free none =
 pub line-some : (lines : List LineContent) (k : ℕ) (line : LineContent) → AreRows lines →
     slice_get lines k ≡ Some line → 0 < length line.columns
 line-some lines k line rows is = some-columns line.columns (row-at lines k line rows is).alone.ends
+
+-- the line of a mark in a list of which no line is copied
+pub stands-listed : (number start column : ℕ) (lines : List LineContent) (line : LineContent) →
+    IsMarked number lines start line → StandsIn number column (line ∷ []) → StandsIn number (start + column) lines
+stands-listed number start column lines line marked stands =
+    let before = take marked.index lines in
+    let behind = drop (suc marked.index) lines in
+    let all : before ++ line ∷ behind ≡ lines =
+    ap (λ xs. before ++ xs) (sym (drop_after lines marked.index line marked.there))
+    ∙ take-append-drop marked.index lines in
+    subst (λ n. StandsIn number (n + column) lines) (sym marked.starts)
+    (subst (StandsIn number (length (whole before).columns + column)) all
+    (stands-behind number column before (line ∷ behind) (stands-before number column (line ∷ []) behind stands)))
 
 -- a line that is found by the mark of a number has it
 pub kept-there : (number index : ℕ) (lines : List LineContent) (line : LineContent) →

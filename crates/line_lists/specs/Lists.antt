@@ -82,6 +82,13 @@ previous_line test to lines =
     let free = suffix_len (λ line. not (test line)) (take to lines) in
     if nat_lt free to then Some (to - free - 1) else None
 
+-- the first line in which the mark of a number stands, and how many characters stand before it
+pub record IsMarked (number : ℕ) (lines : List LineContent) (start : ℕ) (line : LineContent) : Type 0 where
+  pub index : ℕ
+  pub first : next_line (has_mark number) 0 lines ≡ Some index
+  pub starts : start ≡ length (whole (take index lines)).columns
+  pub there : slice_get lines index ≡ Some line
+
 -- some lines from one on go, and others come in their place
 abbrev pub spliced : ℕ → ℕ → List LineContent → List LineContent → List LineContent
 spliced from count new lines = take from lines ++ new ++ drop (from + count) lines

@@ -1,12 +1,12 @@
 ghost use Rattle.std.specs.Prelude.{◌≡◌, ℕ, ◌+◌, ◌<◌, ◌≤◌, List, [], ◌∷◌, length, map, take, slice_get, Some, IfOk};
-ghost use Rattle.std.specs.Prelude.{◌++◌, OnOk, chars, slice_range, string_bytes};
+ghost use Rattle.std.specs.Prelude.{◌++◌, IfSome, None, OnOk, chars, slice_range, string_bytes};
 ghost use Rattle.std.specs.List.{All};
 ghost use Rattle.text_model.specs.TagBits.{slot_count};
 ghost use Rattle.toggle_sums.specs.Counts.{plus};
 ghost use Rattle.segments.specs.Columns.{LineContent, characters, plain_line};
 ghost use Rattle.line_lists.specs.Edits.{without_mark};
-ghost use Rattle.line_lists.specs.Lists.{AreLines, Holds, IsCounted, NumbersBelow, count_of, has_mark, has_marks};
-ghost use Rattle.line_lists.specs.Lists.{has_toggle, next_line, previous_line, spliced};
+ghost use Rattle.line_lists.specs.Lists.{AreLines, Holds, IsCounted, IsMarked, NumbersBelow, count_of, has_mark};
+ghost use Rattle.line_lists.specs.Lists.{has_marks, has_toggle, next_line, previous_line, spliced};
 ghost use Rattle.line_lists.specs.Texts.{whole};
 
 use segments::Line;
@@ -110,6 +110,15 @@ pub trait LineList: Drop {
     /// The line in which the mark of a number stands.
     fn mark_line(&self, number: MarkNo) -> Option<usize>
         ensures { result ≡ next_line (has_mark number.0) 0 (lines self.now) };
+
+    /// The line in which the mark of a number stands, lent, behind how many characters stand before it.
+    fn marked_line(&self, number: MarkNo) -> Option<(usize, &Line)>
+        ensures some { IfSome result (λ found. IsMarked number.0 (lines self.now) found.0 found.1.now) }
+        ensures none { result ≡ None → next_line (has_mark number.0) 0 (lines self.now) ≡ None }
+    {
+        let index = self.mark_line(number)?;
+        Some(self.placed_line(index))
+    }
 
     /// Adds the characters of the lines from one to another to a text. Fails for want of memory; the text may then have
     /// some of them.

@@ -137,6 +137,16 @@ impl<'a, L: LineList> Draft<'a, L> {
         Some(reached.characters + offset)
     }
 
+    /// Where the mark of a number stands in the text of the list, which is that of a draft without copies.
+    fn find_listed(&self, number: MarkNo) -> Option<usize>
+        ensures some { IfSome result (λ offset. StandsIn number.0 offset (L.lines self.now.list.now)) }
+        ensures none { result ≡ None → finite.get (whole (L.lines self.now.list.now)).marks number.0 ≡ None }
+    {
+        let (start, line) = self.list.marked_line(number)?;
+        let column = mark_column(line, number)?;
+        Some(start + column)
+    }
+
     /// Where the mark of a number stands in the text.
     fn find_mark(&self, number: MarkNo) -> Option<usize>
         requires { IsText (L.lines self.now.list.now) self.now.front.items self.now.back.items }
@@ -145,6 +155,9 @@ impl<'a, L: LineList> Draft<'a, L> {
         ensures none { result ≡ None → finite.get
             (text_at (L.lines self.now.list.now) self.now.front.items self.now.back.items).marks number.0 ≡ None }
     {
+        if self.front.is_empty() && self.back.is_empty() {
+            return self.find_listed(number);
+        }
         let marked = self.list.mark_line(number);
         match self.find_before(number, marked) {
             None => self.find_behind(number, marked),

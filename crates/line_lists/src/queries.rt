@@ -144,8 +144,7 @@ pub fn mark_place<L: LineList>(list: &L, number: MarkNo) -> Option<Place>
     ensures value { result ≡ finite.get (content_of (L.lines list.now)).marks number.0 }
     ensures bound { IfSome result (λ place. place.offset ≤ length (content_of (L.lines list.now)).cells) }
 {
-    let index = list.mark_line(number)?;
-    let (start, line) = list.placed_line(index);
+    let (start, line) = list.marked_line(number)?;
     let place = line.mark_place(number)?;
     Some(Place {
         offset: start + place.offset,

@@ -12,21 +12,22 @@ use Rattle.line_lists.proofs.PlaceRows.{length-content}
 use Rattle.line_lists.proofs.SearchRows.{next-found, next-none}
 use Rattle.line_lists.proofs.queries.mark_place.Goals as goal
 
-pub returns-in_err-index-clause-value : goal.returns-in_err-index-clause-value
-returns-in_err-index-clause-value g c =
+pub returns-in_err-start-clause-value : goal.returns-in_err-start-clause-value
+returns-in_err-start-clause-value g c =
     let list = g.L.LineList.lines c.args.list.now in
     c.from_residual.ensures
-    ∙ sym (mark-nowhere list c.args.number.0 (next-none (has_mark c.args.number.0) 0 list (sym c.mark_line.ensures
-    ∙ c.in_err-index.was)))
+    ∙ sym (mark-nowhere list c.args.number.0 (next-none (has_mark c.args.number.0) 0 list
+    (c.marked_line.ensures.none c.in_err-start.was)))
 
 pub returns-in_err-place-clause-value : goal.returns-in_err-place-clause-value
 returns-in_err-place-clause-value g c =
     let list = g.L.LineList.lines c.args.list.now in
     let number = c.args.number.0 in
-    let near = next-found (has_mark number) 0 list c.in_ok-index.index (sym c.mark_line.ensures ∙ c.in_ok-index.was) in
+    let marked = c.in_ok-start.ensures.some in
+    let near = next-found (has_mark number) 0 list marked.index marked.first in
     let none =
     ap (λ (line : LineContent). is_some (finite.get line.marks number))
-    (lent list c.in_ok-index.index c.placed_line-start.result.1.now c.placed_line-start.ensures.line)
+    (lent list marked.index c.in_ok-start.line.now marked.there)
     ∙ ap is_some (sym c.mark_place.ensures.value ∙ c.in_err-place.was) in
     absurd (let no : false ≡ true = sym none ∙ near.passes in cc)
 
@@ -34,15 +35,15 @@ pub returns-clause-value : goal.returns-clause-value
 returns-clause-value g c =
     let list = g.L.LineList.lines c.args.list.now in
     let number = c.args.number.0 in
-    let k = c.in_ok-index.index in
+    let marked = c.in_ok-start.ensures.some in
+    let k = marked.index in
     let inner = c.in_ok-place.place in
-    let near = next-found (has_mark number) 0 list k (sym c.mark_line.ensures ∙ c.in_ok-index.was) in
-    let at = ap (λ n. n + inner.offset) c.placed_line-start.ensures.start ∙ (let turned : start_of list k + inner.offset
+    let near = next-found (has_mark number) 0 list k marked.first in
+    let at = ap (λ n. n + inner.offset) marked.starts ∙ (let turned : start_of list k + inner.offset
     ≡ inner.offset + start_of list k = omega arith in turned) in
     sym (mark-out list number _ k inner (g.L.LineList.are_lines c.args.list.now).rows (record {
       within = near.within;
-      is = ap (λ (line : LineContent). finite.get line.marks number) (lent list k c.placed_line-start.result.1.now
-          c.placed_line-start.ensures.line)
+      is = ap (λ (line : LineContent). finite.get line.marks number) (lent list k c.in_ok-start.line.now marked.there)
           ∙ sym c.mark_place.ensures.value ∙ c.in_ok-place.was;
       at = ap (λ offset. record inner { offset = offset }) at;
     }))
@@ -50,17 +51,19 @@ returns-clause-value g c =
 pub overflow_add-result : goal.overflow_add-result
 overflow_add-result g c =
     let list = g.L.LineList.lines c.args.list.now in
-    let small = if_some (λ (place : Place). place.offset ≤ length c.placed_line-start.result.1.now.columns)
+    let marked = c.in_ok-start.ensures.some in
+    let small = if_some (λ (place : Place). place.offset ≤ length c.in_ok-start.line.now.columns)
     c.mark_place.result c.in_ok-place.place c.in_ok-place.was c.mark_place.ensures.bound in
-    let most = placed-most list c.in_ok-index.index c.placed_line-start.result.0 c.in_ok-place.place.offset
-    c.placed_line-start.result.1.now c.placed_line-start.ensures.start c.placed_line-start.ensures.line small in
+    let most = placed-most list marked.index c.in_ok-start.start c.in_ok-place.place.offset c.in_ok-start.line.now
+    marked.starts marked.there small in
     omega (arith, most, (g.L.LineList.are_lines c.args.list.now).counted.characters, count-characters list)
 
 pub returns-clause-bound : goal.returns-clause-bound
 returns-clause-bound g c =
     let list = g.L.LineList.lines c.args.list.now in
-    let small = if_some (λ (place : Place). place.offset ≤ length c.placed_line-start.result.1.now.columns)
+    let marked = c.in_ok-start.ensures.some in
+    let small = if_some (λ (place : Place). place.offset ≤ length c.in_ok-start.line.now.columns)
     c.mark_place.result c.in_ok-place.place c.in_ok-place.was c.mark_place.ensures.bound in
-    let most = placed-most list c.in_ok-index.index c.placed_line-start.result.0 c.in_ok-place.place.offset
-    c.placed_line-start.result.1.now c.placed_line-start.ensures.start c.placed_line-start.ensures.line small in
+    let most = placed-most list marked.index c.in_ok-start.start c.in_ok-place.place.offset c.in_ok-start.line.now
+    marked.starts marked.there small in
     omega (arith, most, length-content list)
