@@ -72,6 +72,10 @@ fn check_found<L: LineList>(rt: &impl Abort, list: &L)
     assert!(rt; list.next_marked(0) == Some(1) && list.next_marked(2) == None);
     assert!(rt; list.previous_marked(2) == Some(1) && list.previous_marked(1) == None);
     assert!(rt; list.mark_line(MARK) == Some(1) && list.mark_line(MarkNo(2)) == None);
+    let marked = list
+        .marked_line(MARK)
+        .map(|(start, line)| (start, line.len()));
+    assert!(rt; marked == Some((2, 2)) && list.marked_line(MarkNo(2)).is_none());
 }
 
 // The text of the last line, and behind it that of both.

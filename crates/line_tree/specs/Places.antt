@@ -6,6 +6,7 @@ use Rattle.std.specs.declared.option.Option.TheVariants.{Some}
 use Rattle.raw_nodes.specs.Records.{Records}
 use Rattle.raw_nodes.specs.Rows.{kids}
 use Rattle.raw_nodes.specs.declared.names.NodePtr.{NodePtr}
+use Rattle.line_tree.specs.Locating.{characters_at}
 use Rattle.line_tree.specs.Shape.{IsTree, lines_at}
 use Rattle.line_tree.specs.Trees.{Named}
 
@@ -23,6 +24,16 @@ abbrev pub Sits : Records → ℕ → ℕ → NodePtr → NodePtr → ℕ → Ty
 Sits m zero h r p o = (p ≡ r) × (o ≡ 0)
 Sits m (suc d) h r p o =
     (q : NodePtr) × (i : ℕ) × (b : ℕ) × Sits m d (suc h) r q b × IsChild m h q i p × (o ≡ b + lines_before m q i)
+
+-- how many characters the first children have
+abbrev pub characters_before : Records → NodePtr → ℕ → ℕ
+characters_before m p i = sum_by (characters_at m) (take i (kids m p))
+
+-- p stands at height h, d levels below the root r, and b characters of r stand before it
+abbrev pub Begins : Records → ℕ → ℕ → NodePtr → NodePtr → ℕ → Type 0
+Begins m zero h r p b = (p ≡ r) × (b ≡ 0)
+Begins m (suc d) h r p b =
+    (q : NodePtr) × (i : ℕ) × (a : ℕ) × Begins m d (suc h) r q a × IsChild m h q i p × (b ≡ a + characters_before m q i)
 
 -- line k has this name
 abbrev pub IsLineAt : List Named → ℕ → NodePtr → Type 0

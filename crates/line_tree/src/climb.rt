@@ -1,9 +1,11 @@
-ghost use Rattle.std.specs.Prelude.{◌≡◌, ℕ, suc, ◌+◌, ◌*◌, ◌^◌, ◌≤◌, ◌<◌, length};
+ghost use Rattle.std.specs.Prelude.{◌≡◌, ℕ, suc, ◌+◌, ◌*◌, ◌^◌, ◌≤◌, ◌<◌, length, take};
 ghost use Rattle.raw_nodes.specs.Names.{records};
 ghost use Rattle.line_tree.specs.Shape.{IsTree, lines_in};
 ghost use Rattle.raw_nodes.specs.Rows.{kids};
 ghost use Rattle.line_tree.specs.Finds.{HasRow};
-ghost use Rattle.line_tree.specs.Places.{IsLineAt, lines_before};
+ghost use Rattle.line_tree.specs.Changes.{FitsSum};
+ghost use Rattle.line_tree.specs.Places.{IsLineAt, characters_before, lines_before};
+ghost use Rattle.line_tree.specs.Trees.{total};
 
 use raw_nodes::{NodePtr, NodeStore, Ticks};
 
@@ -71,4 +73,53 @@ pub fn rank<C: Ticks>(
         at = up;
     }
     rank
+}
+
+/// How many characters the first `slot` children have.
+fn characters_ahead<C: Ticks>(
+    store: &NodeStore<C>,
+    node: NodePtr,
+    slot: usize,
+    ticks: &mut C,
+) -> usize
+    requires row { HasRow (records store.now) node }
+    requires within { slot ≤ length (kids (records store.now) node) }
+    requires fits { characters_before (records store.now) node slot < 2 ^ 64 }
+    ensures { result ≡ characters_before (records store.now) node slot }
+{
+    let mut characters = 0;
+    for i in 0..slot {
+        if let Some(child) = store.child(node, i, ticks) {
+            let (_, more) = store.size(child, ticks);
+            characters += more;
+        }
+    }
+    characters
+}
+
+/// How many characters stand before the line with a name.
+pub fn start_of<C: Ticks>(
+    store: &NodeStore<C>,
+    root: NodePtr,
+    height: usize,
+    name: NodePtr,
+    ticks: &mut C,
+) -> usize
+    requires tree { IsTree (records store.now) height root }
+    requires fits { FitsSum (total (lines_in (records store.now) height root)) }
+    requires named { (k : ℕ) × IsLineAt (lines_in (records store.now) height root) k name }
+    ensures { (k : ℕ) → IsLineAt (lines_in (records store.now) height root) k name
+        → result ≡ (total (take k (lines_in (records store.now) height root))).characters }
+{
+    let mut at = name;
+    let mut start = 0;
+    for level in 0..height {
+        let Some(up) = store.parent(at, ticks) else {
+            return start;
+        };
+        let slot = store.slot(at);
+        start += characters_ahead(store, up, slot, ticks);
+        at = up;
+    }
+    start
 }

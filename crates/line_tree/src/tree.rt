@@ -1,5 +1,5 @@
 use crate::behind::Added;
-use crate::climb::rank;
+use crate::climb::{rank, start_of};
 use crate::fill::{join, top};
 use crate::insert::{insert_next, new_line};
 use crate::levels::levels;
@@ -196,6 +196,15 @@ impl<C: Ticks> LineTree<C> {
         ensures ticks { C.count ticks.new ≤ C.count ticks.old + 23 * self.now.height }
     {
         rank(&self.store, self.root, self.height, name, ticks)
+    }
+
+    /// How many characters stand before the line with a name.
+    pub(crate) fn start_of(&self, name: NodePtr, ticks: &mut C) -> usize
+        requires { (k : ℕ) × IsLineAt self.now.lines k name }
+        ensures { (k : ℕ) → IsLineAt self.now.lines k name
+            → result ≡ length (whole (take k (contents self.now.lines))).columns }
+    {
+        start_of(&self.store, self.root, self.height, name, ticks)
     }
 
     /// The name of the line behind one, if there is one. From line to line to the last it takes a few steps on average.

@@ -140,6 +140,12 @@ impl LineList for TreeLines {
         Some(self.tree.rank(name, &mut Steps::new()))
     }
 
+    fn marked_line(&self, number: MarkNo) -> Option<(usize, &Line)> {
+        let name = name_of(&self.names, number)?;
+        let start = self.tree.start_of(name, &mut Steps::new());
+        Some((start, self.tree.line(name)))
+    }
+
     fn push_lines(&self, from: usize, to: usize, text: &mut String) -> Result<(), AllocError> {
         let mut next = None;
         for index in from..to {

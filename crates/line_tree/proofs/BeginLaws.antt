@@ -1,0 +1,114 @@
+-- How many characters stand before a line, from its name up to the root.
+use Rattle.std.proofs.Common.{◌≡◌, ℕ, zero, suc, ◌+◌, ◌-◌, ◌<◌, ◌≤◌, List, take, drop, refl, sym, ap, ◌∙◌, subst, arith}
+use Rattle.std.specs.Prelude.{IfSome, IsSome}
+use Rattle.std.specs.FinMap as finite
+use Rattle.std.specs.Option.{option_map}
+use Rattle.std.specs.declared.option.Option.{Option}
+use Rattle.std.specs.declared.option.Option.TheVariants.{Some}
+use Rattle.std.proofs.lemmas.List.{take-append-drop}
+use Rattle.std.proofs.lemmas.Option.{same_Some, slice_get_within}
+use Rattle.raw_nodes.specs.Records.{Records}
+use Rattle.raw_nodes.specs.Rows.{kids}
+use Rattle.raw_nodes.specs.declared.names.NodePtr.{NodePtr}
+use Rattle.raw_nodes.proofs.MapLaws.{at_some}
+use Rattle.line_tree.specs.Changes.{sum_all}
+use Rattle.line_tree.specs.Locating.{characters_at}
+use Rattle.line_tree.specs.Places.{Begins, IsChild, IsLineAt, characters_before}
+use Rattle.line_tree.specs.Prefixes.{IsBehind}
+use Rattle.line_tree.specs.Shape.{IsTree, lines_at, lines_in}
+use Rattle.line_tree.specs.Trees.{Named, total}
+use Rattle.line_tree.specs.declared.starts.Behind.{Behind}
+use Rattle.line_tree.proofs.PlaceLaws.{line-within, linked, named_line, through}
+use Rattle.line_tree.proofs.StartLaws.{Starts, characters-all, starts-first, starts-line, starts-step}
+use Rattle.line_tree.proofs.SumLaws.{total-append}
+use Rattle.line_tree.proofs.TreeLaws.{at_line, child-tree, count-tree}
+
+-- ---- from the root down to a line
+begins-line : (m : Records) (h d : ℕ) (r q p : NodePtr) (ls : List Named) (k o b : ℕ) → IsTree m h q →
+    Starts ls (lines_in m h q) k o b → Begins m d h r q b → IsLineAt (lines_in m h q) o p →
+    Begins m (d + h) 0 r p (total (take k ls)).characters
+begins-line m zero d r q p ls k o b tree w begins at =
+    let e : d ≡ d + 0 = omega arith in
+    let same = same_Some q p (sym (at_line m q o (line-within (lines_in m zero q) o p at)) ∙ at) in
+    let all = (total (take k ls)).characters in
+    subst (λ x. Begins m x 0 r p all) e (subst (λ x. Begins m d 0 r x all) same
+    (subst (λ x. Begins m d 0 r q x) (starts-line m q ls k o b w) begins))
+begins-line m (suc h) d r q p ls k o b tree w begins at =
+    let l = named_line (lines_in m (suc h) q) o p at in
+    let t = through m h (kids m q) o l.0 tree.2 l.1 in
+    let child = child-tree m h (kids m q) t.slot t.child tree.2 t.at in
+    let more = (sum_all m (take t.slot (kids m q))).characters in
+    let f : Behind = record {
+      child = t.child;
+      size = (lines_at m t.child, characters_at m t.child);
+      rest = t.rest;
+      characters = b + more;
+    } in
+    let less = slice_get_within (lines_in m h t.child) t.rest l.0 t.line in
+    let count = count-tree m h t.child child in
+    let found : IsBehind m q o b f = record {
+      slot = t.slot;
+      child = t.at;
+      place = sym t.place;
+      rest = omega (arith, less, count);
+      size = refl;
+      characters = refl;
+    } in
+    let step = starts-step m h q ls k o b f tree w found in
+    let levels : suc d + h ≡ d + suc h = omega arith in
+    subst (λ x. Begins m x 0 r p (total (take k ls)).characters) levels
+    (begins-line m h (suc d) r t.child p ls k t.rest (b + more) step.0 step.1 (
+      q,
+      t.slot,
+      b,
+      begins,
+      record { tree = tree; at = t.at },
+      ap (λ n. b + n) (characters-all m (take t.slot (kids m q))),
+    ) (ap (option_map (λ x. x.0)) t.line ∙ ap (λ x. Some x) l.2))
+
+-- a line of the root
+pub begins-named : (m : Records) (h : ℕ) (r p : NodePtr) (k : ℕ) → IsTree m h r → IsLineAt (lines_in m h r) k p →
+    Begins m h 0 r p (total (take k (lines_in m h r))).characters
+begins-named m h r p k tree at = let ls = lines_in m h r in let d : 0 + h ≡ h = omega arith in
+    subst (λ x. Begins m x 0 r p (total (take k ls)).characters) d
+    (begins-line m h 0 r r p ls k k 0 tree (starts-first ls k (line-within ls k p at)) (refl, refl) at)
+
+-- no more than all characters
+pub first-characters : (k : ℕ) (ls : List Named) → (total (take k ls)).characters ≤ (total ls).characters
+first-characters k ls = let all = ap (λ s. s.characters)
+    (ap total (sym (take-append-drop k ls)) ∙ total-append (take k ls) (drop k ls)) in omega arith
+
+-- ---- one level up
+pub begins-level : (m : Records) (h j : ℕ) (r p : NodePtr) (b : ℕ) → j < h → Begins m (h - j) j r p b →
+    Begins m (suc (h - suc j)) j r p b
+begins-level m h j r p b less s = let e : h - j ≡ suc (h - suc j) = omega arith in
+    subst (λ x. Begins m x j r p b) e s
+
+pub begins-below : (m : Records) (d j : ℕ) (r p : NodePtr) (b : ℕ) → Begins m (suc d) j r p b → IsSome (finite.get m p)
+begins-below m d j r p b s = subst (λ x. IsSome x) (sym (linked m j s.0 s.1 p s.4).is) refl
+
+pub parent-of : (m : Records) (d j : ℕ) (r p : NodePtr) (b : ℕ) (s : Begins m (suc d) j r p b) (up : Option NodePtr) →
+    IfSome (finite.get m p) (λ x. up ≡ x.parent) → up ≡ Some s.0
+parent-of m d j r p b s up says = let l = linked m j s.0 s.1 p s.4 in
+    at_some (finite.get m p) (λ x. up ≡ x.parent) l.found says l.is ∙ l.parent
+
+slot-of : (m : Records) (d j : ℕ) (r p : NodePtr) (b : ℕ) (s : Begins m (suc d) j r p b) (slot : ℕ) →
+    IfSome (finite.get m p) (λ x. slot ≡ x.slot) → slot ≡ s.1
+slot-of m d j r p b s slot says = let l = linked m j s.0 s.1 p s.4 in
+    at_some (finite.get m p) (λ x. slot ≡ x.slot) l.found says l.is ∙ l.slot
+
+pub record BeginsUp (m : Records) (d j : ℕ) (r p : NodePtr) (b : ℕ) (up : NodePtr) (slot : ℕ) : Type 0 where
+  pub base : ℕ
+  pub begins : Begins m d (suc j) r up base
+  pub child : IsChild m j up slot p
+  pub offset : b ≡ base + characters_before m up slot
+
+pub begins-up : (m : Records) (d j : ℕ) (r p : NodePtr) (b : ℕ) → Begins m (suc d) j r p b → (parent : Option NodePtr) →
+    IfSome (finite.get m p) (λ x. parent ≡ x.parent) → (up : NodePtr) → parent ≡ Some up
+    → (slot : ℕ) → IfSome (finite.get m p) (λ x. slot ≡ x.slot) → BeginsUp m d j r p b up slot
+begins-up m d j r p b s parent says up is slot slot_says =
+    let q = same_Some s.0 up (sym (parent-of m d j r p b s parent says) ∙ is) in
+    let i = sym (slot-of m d j r p b s slot slot_says) in
+    let at_up : BeginsUp m d j r p b up s.1 = subst (λ x. BeginsUp m d j r p b x s.1) q
+    (record { base = s.2; begins = s.3; child = s.4; offset = s.5 }) in
+    subst (λ x. BeginsUp m d j r p b up x) i at_up

@@ -1,0 +1,17 @@
+use Rattle.std.proofs.Common.{length, take, sym, subst, ap, ◌∙◌}
+use Rattle.toggle_sums.specs.Counts.{Count}
+use Rattle.raw_nodes.specs.Names.{records}
+use Rattle.line_lists.specs.Texts.{whole}
+use Rattle.line_lists.proofs.CountRows.{count-characters}
+use Rattle.line_tree.specs.Places.{IsLineAt}
+use Rattle.line_tree.specs.Shape.{lines_in}
+use Rattle.line_tree.specs.Trees.{contents}
+use Rattle.line_tree.proofs.PrefixLaws.{count-first}
+use Rattle.line_tree.proofs.tree.LineTree.start_of.Goals as goal
+
+pub returns : goal.returns
+returns g c k at = let ls = lines_in (records c.self.inside.store) c.self.inside.height c.self.inside.root in
+    c.start_of.ensures k (subst (λ v. IsLineAt v.lines k c.args.name) (sym c.self.view_is) at)
+    ∙ ap (λ (s : Count). s.characters) (sym (count-first k ls))
+    ∙ count-characters (take k (contents ls))
+    ∙ ap (λ v. length (whole (take k (contents v.lines))).columns) c.self.view_is
