@@ -1,10 +1,11 @@
 -- How many words of two lists are used, and that no bit is set behind them.
-use Rattle.std.proofs.Common.{◌≡◌, ◌≢◌, ℕ, zero, suc, ◌+◌, ◌<◌, ◌≤◌, max, true, false, ◌&&◌, ◌==◌}
-use Rattle.std.proofs.Common.{if◌then◌else◌, List, length, replicate, slice_index, slice_set, refl}
-use Rattle.std.proofs.Common.{sym, ap, ap₂, ◌∙◌, arith, inl, inr, get_or-set_other}
+use Rattle.std.proofs.Common.{◌≡◌, ◌≢◌, ℕ, zero, suc, ◌+◌, ◌<◌, ◌-◌, ◌≤◌, max, true, false, ◌&&◌, ◌==◌}
+use Rattle.std.proofs.Common.{if◌then◌else◌, bit_and, bit_or, List, length, replicate, slice_index, slice_set, refl}
+use Rattle.std.proofs.Common.{sym, ap, ap₂, ◌∙◌, arith, inl, inr, get_or-set_same, get_or-set_other}
 use Rattle.std.proofs.lemmas.Bool.{cases_eq, cases_lt}
 use Rattle.std.proofs.lemmas.Bool.Decides.{nat_tests}
 use Rattle.std.proofs.lemmas.List.{get_or_past}
+use Rattle.std.proofs.lemmas.Nat.{and_or_self}
 use Rattle.std.specs.FinSet as set
 use Rattle.text_model.specs.TagBits.{EndBy}
 use Rattle.toggle_sums.specs.SlotWords.{AreUsed, last_used, slots_of}
@@ -124,6 +125,49 @@ EndBy-set n i new words ends = λ k from.
 
 pub EndBy-max : (n m : ℕ) (words : List ℕ) → EndBy n words → EndBy (max n m) words
 EndBy-max n m words ends = λ k from. ends k (omega (arith, from))
+
+-- a word in which a bit is set is the last one, where none is set behind it
+last_used-at : (n m : ℕ) (first second : List ℕ) → suc m ≤ n → EndBy (suc m) first → EndBy (suc m) second →
+    (slice_index first m == 0 && slice_index second m == 0) ≡ false → last_used n first second ≡ suc m
+unfolding last_used
+last_used-at n m first second small none none_too some =
+    last_used-below n (suc m) first second small none none_too
+    ∙ ap (λ b. if b then last_used m first second else suc m) some
+
+-- and in the last one a bit is set
+some_last : (n m : ℕ) (first second : List ℕ) → last_used n first second ≡ suc m →
+    (slice_index first m == 0 && slice_index second m == 0) ≡ false
+unfolding last_used
+some_last zero m first second last = absurd (omega (arith, last))
+some_last (suc n) m first second last =
+    elim (slice_index first n == 0 && slice_index second n == 0) as
+    (λ b. (slice_index first n == 0 && slice_index second n == 0) ≡ b →
+    (if b then last_used n first second else suc n) ≡ suc m →
+    (slice_index first m == 0 && slice_index second m == 0) ≡ false) [
+      | true ↦ λ _ last. some_last n m first second last
+      | false ↦ λ some last. let here : m ≡ n = omega (arith, last) in rw here some
+    ] refl last
+
+-- a word with bits of another has one where the other has one
+pub some_of : (word bits : ℕ) → bits ≢ 0 → bit_or word bits ≢ 0
+some_of word bits some none = some (sym (and_or_self bits word) ∙ ap (λ w. bit_and w bits) none)
+
+-- where a word of the second list has a bit set, it is used, and those that were used are so still
+pub last_used-set : (n used i new new_too : ℕ) (first second : List ℕ) → AreUsed n used first second → i < n →
+    new_too ≢ 0 → max used (i + 1) ≡ last_used n (slice_set first i new) (slice_set second i new_too)
+last_used-set n used i new new_too first second are within some =
+    let m = max used (i + 1) - 1 in
+    let last : suc m ≡ max used (i + 1) = omega arith in
+    let small : suc m ≤ n = omega (arith, within, used-le n used first second are) in
+    let none : EndBy (suc m) (slice_set first i new) =
+    rw last (EndBy-set used i new first (ends-parity n used first second are)) in
+    let none_too : EndBy (suc m) (slice_set second i new_too) =
+    rw last (EndBy-set used i new_too second (ends-presence n used first second are)) in
+    sym (last_used-at n m _ _ small none none_too (elim (cases_eq m i) [
+      | inl here ↦ rw (here, get_or-set_same second i new_too 0 (rw are.presence.long within)) (second_some _ _ some)
+      | inr other ↦ rw (get_or-set_other first i m new 0 other, get_or-set_other second i m new_too 0 other)
+          (some_last n m first second (sym are.used ∙ omega (arith, other)))
+    ]) ∙ last)
 
 -- ---- none used
 pub AreUsed-zeros : (count : ℕ) → AreUsed count 0 (replicate count 0) (replicate count 0)

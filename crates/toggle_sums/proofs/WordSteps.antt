@@ -15,7 +15,7 @@ use Rattle.std.specs.FinSet as set
 use Rattle.std.specs.Int.{bit_at}
 use Rattle.std.specs.Ordering.{nat_cmp}
 use Rattle.std.specs.Int.Bits.{or_zero_r}
-use Rattle.text_model.specs.OneWord.{alone}
+use Rattle.text_model.specs.OneWord.{alone, slots_in}
 use Rattle.text_model.specs.OneWordLaws.{alone-other, alone-same}
 use Rattle.text_model.specs.SlotSets.{differing}
 use Rattle.text_model.specs.TagBits.{EndBy, has_bit}
@@ -53,6 +53,13 @@ slots_of-none count words none =
 
 pub slots_of-zeros : (count : ℕ) → slots_of count (replicate count 0) ≡ set.empty
 slots_of-zeros count = slots_of-none count (replicate count 0) (λ k _. zeros_at count k)
+
+pub slots_in-none : (word : ℕ) → word < WORDS → slots_in word 0 ≡ set.empty
+slots_in-none word within =
+    slots_of-none WORDS (alone word 0) (λ k _. elim (cases_eq k word) [
+      | inl here ↦ rw here (alone-same word 0 within)
+      | inr other ↦ alone-other word 0 k other
+    ])
 
 -- the test `(word >> i) & 1` finds the slot
 pub found_bit : (count : ℕ) (words : List ℕ) (k : ℕ) → k < 64 * count →

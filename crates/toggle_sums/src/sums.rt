@@ -284,9 +284,13 @@ impl Sums<WORDS> {
     {
         let index = slots.index();
         let bits = slots.bits();
+        if bits == 0 {
+            return;
+        }
         self.parity[index] ^= bits;
         self.presence[index] |= bits;
-        self.used = used_words(&self.parity, &self.presence, self.used.max(index + 1));
+        // A word with a bit is used, and no bit goes out where slots are present: nothing is looked for.
+        self.used = self.used.max(index + 1);
     }
 }
 

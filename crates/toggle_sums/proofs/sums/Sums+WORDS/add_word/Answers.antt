@@ -1,13 +1,14 @@
-use Rattle.std.proofs.Common.{rules, ◌≡◌, ◌+◌, ◌<◌, ◌∙◌, ap, arith, bit_or, bit_xor, length, length-set, slice_index, slice_set}
+use Rattle.std.proofs.Common.{◌≡◌, ◌<◌, ◌∙◌, ap, sym, bit_or, bit_xor, length, length-set, slice_index, slice_set}
 use Rattle.std.specs.FinSet as set
 use Rattle.text_model.specs.OneWord.{alone, slots_in}
 use Rattle.text_model.specs.OneWordLaws.{AreWords-alone}
 use Rattle.text_model.specs.SlotSets.{differing}
 use Rattle.text_model.specs.declared.tag_set.TheConstants.{WORDS}
 use Rattle.text_model.proofs.OneWordSteps.{turned-word}
+use Rattle.toggle_sums.specs.CountLaws.{differing-empty, union-empty}
 use Rattle.toggle_sums.specs.SlotWords.{slots_of}
-use Rattle.toggle_sums.proofs.UsedLaws.{EndBy-set, ends-parity, ends-presence, max-le, used-le}
-use Rattle.toggle_sums.proofs.WordSteps.{AreWords-differing, AreWords-joined, joined-word, slots_of-differing}
+use Rattle.toggle_sums.proofs.UsedLaws.{last_used-set, some_of}
+use Rattle.toggle_sums.proofs.WordSteps.{AreWords-differing, AreWords-joined, joined-word, slots_in-none, slots_of-differing}
 use Rattle.toggle_sums.proofs.WordSteps.{slots_of-joined}
 use Rattle.toggle_sums.proofs.sums.Sums+WORDS.add_word.Goals as goal
 
@@ -28,24 +29,24 @@ invariant_of-self c =
       presence = AreWords-joined WORDS any (alone index bits)
           (slice_set any index (bit_or (slice_index any index) bits)) c.self.invariant.presence each
           (length-set any index _ ∙ c.self.invariant.presence.long) (λ i _. joined-word any index bits long_too within i);
-      used = c.used_words-self-inside.ensures;
+      used = c.max-self-inside.ensures
+          ∙ last_used-set WORDS c.self.inside.used index (bit_xor (slice_index odd index) bits)
+          (bit_or (slice_index any index) bits) odd any c.self.invariant within
+          (some_of (slice_index any index) bits c.if-bits-eq0.false);
     }
 
-pub used_words-self-inside-requires : goal.used_words-self-inside-requires
-used_words-self-inside-requires c =
-    let now = c.self.inside in
-    let index = c.index-index.result in
-    let within : index < WORDS = rw c.index-index.ensures.index c.index-index.ensures.word.within in
-    rw c.max.ensures (
-      search rules,
-      (
-        max-le now.used (index + 1) WORDS (used-le WORDS _ _ _ c.self.invariant) (omega (arith, within)),
-        (
-          EndBy-set now.used index _ now.parity (ends-parity WORDS _ _ _ c.self.invariant),
-          EndBy-set now.used index _ now.presence (ends-presence WORDS _ _ _ c.self.invariant),
-        ),
-      ),
-    )
+pub returns-then-bits-eq0 : goal.returns-then-bits-eq0
+returns-then-bits-eq0 c =
+    let none : c.args.slots.now ≡ set.empty =
+    sym c.bits-bits.ensures ∙ ap (slots_in _) c.if-bits-eq0.true ∙ slots_in-none _ c.index-index.ensures.word.within in
+    let now = c.args.self.now in
+    rw none (λ i. record {
+      lines = now.lines;
+      characters = now.characters;
+      marks = now.marks;
+      parity = sym (differing-empty now.parity) i;
+      presence = sym (union-empty now.presence) i;
+    })
 
 pub returns : goal.returns
 returns c =
