@@ -437,14 +437,21 @@ numbers-none sum all lines characters marks is same same_too same_marks =
       marks = ap (λ (s : Count). s.marks) is ∙ same_marks ∙ none all.marks;
     }
 
-pub numbers-more : (new old all next line : Count) → new ≡ plus old line → SameNumbers old all →
-    plus all line ≡ next → SameNumbers new next
-numbers-more new old all next line is same more = record {
-  lines = ap (λ (s : Count). s.lines) is ∙ ap (λ n. n + line.lines) same.lines ∙ ap (λ (s : Count). s.lines) more;
-  characters = ap (λ (s : Count). s.characters) is ∙ ap (λ n. n + line.characters) same.characters
-      ∙ ap (λ (s : Count). s.characters) more;
-  marks = ap (λ (s : Count). s.marks) is ∙ ap (λ n. n + line.marks) same.marks ∙ ap (λ (s : Count). s.marks) more;
+pub numbers-more : (new old all next counted line : Count) → new ≡ plus old counted → SameNumbers counted line →
+    SameNumbers old all → plus all line ≡ next → SameNumbers new next
+numbers-more new old all next counted line is line_is same more = record {
+  lines = ap (λ (s : Count). s.lines) is ∙ ap₂ (λ n m. n + m) same.lines line_is.lines
+      ∙ ap (λ (s : Count). s.lines) more;
+  characters = ap (λ (s : Count). s.characters) is
+      ∙ ap₂ (λ n m. n + m) same.characters line_is.characters ∙ ap (λ (s : Count). s.characters) more;
+  marks = ap (λ (s : Count). s.marks) is ∙ ap₂ (λ n m. n + m) same.marks line_is.marks
+      ∙ ap (λ (s : Count). s.marks) more;
 }
+
+-- the numbers of a line, without its toggles
+pub numbers-line : (line : LineContent) →
+    SameNumbers (counting 1 (length line.columns) (line_count line).marks) (line_count line)
+numbers-line line = record { lines = refl; characters = refl; marks = refl }
 
 pub counted-same : (first second : Count) → SameNumbers first second → IsCounted first → IsCounted second
 counted-same first second same counted = record {

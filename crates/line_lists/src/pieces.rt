@@ -1,6 +1,6 @@
 ghost use Rattle.std.specs.Prelude.{◌≡◌, ◌+◌, ◌<◌, ◌≤◌, ◌^◌, ◌++◌, ◌∷◌, [], IfOk, OnOk, length};
 ghost use Rattle.std.specs.List.{All};
-ghost use Rattle.toggle_sums.specs.Counts.{plus};
+ghost use Rattle.toggle_sums.specs.Counts.{counting, plus};
 ghost use Rattle.segments.specs.Columns.{LineContent, line_count};
 ghost use Rattle.line_lists.specs.Drafts.{IsDraft, IsText, copies_of, drafted_at};
 ghost use Rattle.line_lists.specs.Lists.{IsCounted, NumbersBelow, count_of};
@@ -48,15 +48,16 @@ pub fn bound_of(numbers: &[MarkNo]) -> usize
     bound
 }
 
-/// Counts a line more. More than a number can count has no room in memory.
+/// Counts a line more, but for its toggles. More than a number can count has no room in memory.
 fn add_line(sum: &mut Sums<WORDS>, line: &Line) -> Result<(), AllocError>
-    ensures sum { OnOk result (sum.new ≡ plus sum.old (line_count line.now)) }
+    ensures sum { OnOk result (sum.new
+        ≡ plus sum.old (counting 1 (length line.now.columns) (line_count line.now).marks)) }
     ensures counted { OnOk result (IsCounted sum.new) }
 {
     sum.lines().checked_add(1).ok_or(AllocError)?;
     sum.characters().checked_add(line.len()).ok_or(AllocError)?;
     sum.marks().checked_add(line.marks()).ok_or(AllocError)?;
-    line.add_to(sum);
+    sum.add_counts(1, line.len(), line.marks());
     Ok(())
 }
 

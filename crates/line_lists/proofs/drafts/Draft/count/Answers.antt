@@ -1,4 +1,4 @@
-use Rattle.std.proofs.Common.{◌≡◌, ◌+◌, length, take, subst, sym, ap, ◌∙◌, arith}
+use Rattle.std.proofs.Common.{◌+◌, length, take, subst, sym, ap, ◌∙◌, arith}
 use Rattle.std.proofs.lemmas.List.{take_all}
 use Rattle.toggle_sums.specs.Counts.{plus}
 use Rattle.segments.specs.Columns.{line_count}
@@ -7,7 +7,8 @@ use Rattle.line_lists.specs.Lists.{IsCounted, count_of}
 use Rattle.line_lists.specs.Pieces.{copied_lines}
 use Rattle.line_lists.specs.Texts.{whole}
 use Rattle.line_lists.proofs.CountRows.{count-characters, count-lines}
-use Rattle.line_lists.proofs.GatherLaws.{count-stop, counted-none, counted-same, numbers-more, numbers-none}
+use Rattle.line_lists.proofs.GatherLaws.{count-stop, counted-none, counted-same, numbers-line, numbers-more}
+use Rattle.line_lists.proofs.GatherLaws.{numbers-none}
 use Rattle.line_lists.proofs.drafts.Draft.count.Goals as goal
 
 pub loop-stop-init : goal.loop-stop-init
@@ -27,7 +28,8 @@ loop-stop-preserved g c =
     let stops = c.deref-stop-items.ensures.value in
     let all = count_of (g.L.LineList.lines c.args.self.now.list.now) in
     let line = line_count c.stop-item.result.copy.line in (
-      numbers-more _ c.loop-stop.sum _ _ line c.in_ok-add_line.ensures.sum c.loop-stop.invariant.0
+      numbers-more _ c.loop-stop.sum _ _ _ line c.in_ok-add_line.ensures.sum
+          (numbers-line c.stop-item.result.copy.line) c.loop-stop.invariant.0
           (ap (λ xs. plus (plus all (count_of (copied_lines (copies_of (take c.loop-stop.stop-index xs))))) line)
           (sym stops)
           ∙ count-stop c.deref-stop-items.result.now c.loop-stop.stop-index c.stop-item.result all c.loop-stop-test.true
