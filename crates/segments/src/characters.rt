@@ -24,6 +24,9 @@ impl Model for Characters {
     ghost invariant = { λ a. a.count ≡ length (chars (string_bytes a.text)) };
 }
 
+/// A copy has room for so many bytes more: it is made to be changed, mostly by a few characters.
+const MORE: usize = 32;
+
 /// How many characters a text has.
 fn count_characters(text: &str) -> usize
     ensures { result ≡ length (chars text.now) }
@@ -191,12 +194,14 @@ impl Characters {
         Ok(())
     }
 
-    /// A copy of the characters.
+    /// A copy of the characters, to which a few can be added without memory.
     pub fn try_clone(&self, alloc: Global) -> Result<Characters, AllocError>
         ensures { IfOk result (λ copy. copy ≡ self.now) }
     {
+        let mut text = String::with_capacity(alloc, self.text.len().saturating_add(MORE))?;
+        text.push_str(self.text.as_str())?;
         Ok(Characters {
-            text: String::from_str(alloc, self.text.as_str())?,
+            text,
             count: self.count,
         })
     }
