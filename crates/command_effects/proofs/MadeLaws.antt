@@ -126,6 +126,19 @@ with_names-longer names [] = omega arith
 with_names-longer names (name ∷ more) =
     omega (arith, with_name-longer names name, with_names-longer (with_name names name) more)
 
+-- each name makes one tag at most
+with_name-within : (names : List (List ℕ)) (name : List ℕ) → length (with_name names name) ≤ length names + 1
+with_name-within names name =
+    elim (is_among name names) as (λ b. length (if b then names else names ++ name ∷ []) ≤ length names + 1) [
+      | true ↦ omega arith
+      | false ↦ omega (arith, length-append names (name ∷ []))
+    ]
+
+pub with_names-within : (names more : List (List ℕ)) → length (with_names names more) ≤ length names + length more
+with_names-within names [] = omega arith
+with_names-within names (name ∷ more) =
+    omega (arith, with_name-within names name, with_names-within (with_name names name) more)
+
 pub with_names-append : (names some more : List (List ℕ)) →
     with_names names (some ++ more) ≡ with_names (with_names names some) more
 with_names-append names [] more = refl
@@ -200,6 +213,15 @@ pub all_names-append : (pairs more : List Pair) → all_names (pairs ++ more) �
 all_names-append [] more = refl
 all_names-append (pair ∷ pairs) more = ap (λ ns. listed_names pair.names ++ ns) (all_names-append pairs more)
     ∙ sym (append_assoc (listed_names pair.names) (all_names pairs) (all_names more))
+
+-- the names of a list more are counted
+pub names-step : (pairs : List Pair) (at : ℕ) (pair : Pair) → at < length pairs → pair ≡ get_or pairs at pair
+    → length (all_names (take (at + 1) pairs)) ≡ length (all_names (take at pairs)) + length (listed_names pair.names)
+names-step pairs at pair within is =
+    ap (λ ps. length (all_names ps)) (take-more pairs at pair within is)
+    ∙ ap length (all_names-append (take at pairs) (pair ∷ []))
+    ∙ ap (λ ns. length (all_names (take at pairs) ++ ns)) (append-nil (listed_names pair.names))
+    ∙ length-append (all_names (take at pairs)) (listed_names pair.names)
 
 -- the names of a list more are made
 pub listed-step : (names : List (List ℕ)) (pairs : List Pair) (at : ℕ) (pair : Pair) → at < length pairs →

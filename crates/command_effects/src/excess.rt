@@ -90,7 +90,19 @@ fn count_with(
     Some(count)
 }
 
-/// Whether there are too many tags with those of the lists of these pairs.
+/// How many names the lists of pairs have, or the greatest number where that is more.
+fn count_names(pairs: &[Pair]) -> usize
+    ensures { result ≡ min (length (all_names pairs.now)) (2 ^ 64 - 1) }
+{
+    let mut most = 0usize;
+    for pair in pairs {
+        most = most.saturating_add(listed_names(pair).len());
+    }
+    most
+}
+
+/// Whether there are too many tags with those of the lists of these pairs. A name makes one tag at most, so none is
+/// looked up where there is room for all of them.
 fn has_too_many_tags(limits: &Limits, tags: &TagTable, pairs: &[Pair]) -> bool
     ensures { result
         ≡ nat_lt (limits.now.tags + 1) (length (with_names (names_of tags.now.tags) (all_names pairs.now))) }
@@ -99,6 +111,9 @@ fn has_too_many_tags(limits: &Limits, tags: &TagTable, pairs: &[Pair]) -> bool
     let mut count = tags.len();
     if count > most {
         return true;
+    }
+    if count.saturating_add(count_names(pairs)) <= most {
+        return false;
     }
     for place in 0..pairs.len() {
         match count_with(

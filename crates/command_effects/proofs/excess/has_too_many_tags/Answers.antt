@@ -1,9 +1,9 @@
-use Rattle.std.proofs.Common.{◌≡◌, ◌+◌, ◌<◌, length, take, refl, sym, ap, ◌∙◌, arith}
+use Rattle.std.proofs.Common.{◌≡◌, ◌+◌, ◌<◌, ◌≤◌, length, take, refl, sym, ap, ◌∙◌, arith}
 use Rattle.std.proofs.lemmas.Bool.Decides.{nat_tests}
 use Rattle.std.proofs.lemmas.List.{length-map}
 use Rattle.tag_table.specs.Tags.{Tag, names_of}
 use Rattle.command_effects.specs.Lists.{all_names, with_names}
-use Rattle.command_effects.proofs.MadeLaws.{listed-step, too_many_listed, with_names-longer}
+use Rattle.command_effects.proofs.MadeLaws.{listed-step, too_many_listed, with_names-longer, with_names-within}
 use Rattle.command_effects.proofs.excess.has_too_many_tags.Goals as goal
 
 pub returns-then-count-most : goal.returns-then-count-most
@@ -18,6 +18,21 @@ returns-then-count-most c =
       with_names-longer tags (all_names c.args.pairs.now),
     ) in
     grind (arith, nat_tests, many)
+
+pub returns-then-saturating_add-most : goal.returns-then-saturating_add-most
+returns-then-saturating_add-most c =
+    let tags = names_of c.args.tags.now.tags in
+    let few : length (with_names tags (all_names c.args.pairs.now)) ≤ c.args.limits.now.tags + 1 = omega (
+      arith,
+      c.if-saturating_add-most.true,
+      c.saturating_add.ensures,
+      c.count_names.ensures,
+      c.tags.ensures,
+      c.len-count.ensures.value,
+      length-map c.args.tags.now.tags (λ (tag : Tag). tag.name),
+      with_names-within tags (all_names c.args.pairs.now),
+    ) in
+    grind (arith, nat_tests, few)
 
 pub returns-in-None : goal.returns-in-None
 returns-in-None c =
