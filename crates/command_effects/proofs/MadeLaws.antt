@@ -4,8 +4,10 @@ use Rattle.std.proofs.Common.{refl, sym, ap, subst, ◌∙◌, arith, inl, inr, 
 use Rattle.std.specs.Prelude.{String, chars, string_bytes, get_or, drop, IfSome, Option, None, Some, find, option_map}
 use Rattle.std.specs.Prelude.{bytes_eq, slice_get, ◌||◌, if◌then◌else◌}
 use Rattle.std.specs.List.{position_from}
+use Rattle.std.specs.Option.{option_or}
 use Rattle.std.proofs.lemmas.List.{length-map, map-append, append_assoc, append-nil, take_all, take-append-le}
 use Rattle.std.proofs.lemmas.List.{take-append-drop, length-append}
+use Rattle.std.proofs.lemmas.List.Folds.{find-append}
 use Rattle.std.proofs.Math.Seq.{take-suc}
 use Rattle.tcl_words.specs.Unread.{texts_of}
 use Rattle.std.proofs.lemmas.Option.{none-some}
@@ -171,6 +173,21 @@ front_on old between new first second = record {
   limit = second.limit ∙ first.limit;
 }
 
+-- a tag keeps its slot where others come to stand behind
+pub slot_of-front : (name : List ℕ) (old new : Tags) (slot : ℕ) → IsFront old new → slot_of name old.tags ≡ Some slot →
+    slot_of name new.tags ≡ Some slot
+slot_of-front name old new slot front is =
+    let more : List Tag = drop (length old.tags) new.tags in
+    let whole : new.tags ≡ old.tags ++ more = sym (take-append-drop (length old.tags) new.tags)
+    ∙ ap (λ ts. ts ++ more) front.tags in
+    ap (slot_of name) whole
+    ∙ ap (option_map (λ (tag : Tag). tag.slot)) (find-append (is_named name) old.tags more)
+    ∙ elim (find (is_named name) old.tags) as (λ o. option_map (λ (tag : Tag). tag.slot) o ≡ Some slot →
+    option_map (λ (tag : Tag). tag.slot) (option_or o (find (is_named name) more)) ≡ Some slot) [
+      | None ↦ λ none. absurd (none-some slot none)
+      | Some tag ↦ λ there. there
+    ] is
+
 -- what is said of a value holds of it
 pub of_some : {A : Type 0} (P : A → Type 0) (found : Option A) (value : A) → found ≡ Some value → IfSome found P →
     P value
@@ -224,27 +241,32 @@ names-step pairs at pair within is =
     ∙ length-append (all_names (take at pairs)) (listed_names pair.names)
 
 -- the names of a list more are made
+pub listed-push : (names : List (List ℕ)) (pairs : List Pair) (pair : Pair) →
+    with_names (with_names names (all_names pairs)) (listed_names pair.names)
+    ≡ with_names names (all_names (pairs ++ pair ∷ []))
+listed-push names pairs pair =
+    sym (with_names-append names (all_names pairs) (listed_names pair.names))
+    ∙ ap (with_names names) (ap (λ ns. all_names pairs ++ ns) (sym (append-nil (listed_names pair.names)))
+    ∙ sym (all_names-append pairs (pair ∷ [])))
+
 pub listed-step : (names : List (List ℕ)) (pairs : List Pair) (at : ℕ) (pair : Pair) → at < length pairs →
     pair ≡ get_or pairs at pair
     → with_names (with_names names (all_names (take at pairs))) (listed_names pair.names)
     ≡ with_names names (all_names (take (at + 1) pairs))
 listed-step names pairs at pair within is =
-    sym (with_names-append names (all_names (take at pairs)) (listed_names pair.names))
-    ∙ ap (with_names names) (ap (λ ns. all_names (take at pairs) ++ ns) (sym (append-nil (listed_names pair.names)))
-    ∙ sym (all_names-append (take at pairs) (pair ∷ [])) ∙ ap all_names (sym (take-more pairs at pair within is)))
+    listed-push names (take at pairs) pair
+    ∙ ap (λ ps. with_names names (all_names ps)) (sym (take-more pairs at pair within is))
+
+pub too_many_before : (names : List (List ℕ)) (pairs more : List Pair) (limit : ℕ) →
+    limit < length (with_names names (all_names pairs)) → limit < length (with_names names (all_names (pairs ++ more)))
+too_many_before names pairs more limit many =
+    let split : with_names names (all_names (pairs ++ more))
+    ≡ with_names (with_names names (all_names pairs)) (all_names more) =
+    ap (with_names names) (all_names-append pairs more)
+    ∙ with_names-append names (all_names pairs) (all_names more) in
+    omega (arith, ap length split, with_names-longer (with_names names (all_names pairs)) (all_names more), many)
 
 pub too_many_listed : (names : List (List ℕ)) (pairs : List Pair) (at limit : ℕ) →
     limit < length (with_names names (all_names (take at pairs))) → limit < length (with_names names (all_names pairs))
-too_many_listed names pairs at limit many =
-    let split : with_names names (all_names pairs)
-    ≡ with_names (with_names names (all_names (take at pairs))) (all_names (drop at pairs)) =
-    ap (λ ps. with_names names (all_names ps)) (sym (take-append-drop at pairs))
-    ∙ ap (with_names names) (all_names-append (take at pairs) (drop at pairs))
-    ∙ with_names-append names (all_names (take at pairs)) (all_names (drop at pairs)) in
-    omega (
-      arith,
-      ap length split,
-      with_names-longer (with_names names (all_names (take at pairs)))
-          (all_names (drop at pairs)),
-      many,
-    )
+too_many_listed names pairs at limit many = subst (λ ps. limit < length (with_names names (all_names ps)))
+    (take-append-drop at pairs) (too_many_before names (take at pairs) (drop at pairs) limit many)

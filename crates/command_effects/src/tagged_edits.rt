@@ -20,7 +20,7 @@ use crate::answers::Fault;
 use crate::edits::{put_texts, replace_texts, set_slot};
 use crate::excess::excess_of;
 use crate::lists::Pair;
-use crate::tagging::{make_listed, make_tag, own_slot, pieces_of};
+use crate::tagging::{make_listed_pieces, make_tag, own_slot};
 use edit_ops::{EditRules, EditedText, Piece, Span, Target};
 use std::alloc::{AllocError, Global};
 use tag_table::TagTable;
@@ -43,13 +43,13 @@ fn make_pieces(
     ensures made { OnOk result (names_of tags.new.tags ≡ with_names (names_of tags.old.tags) (all_names pairs.items)) }
     ensures pieces { IfOk result (λ pieces. pieces.items ≡ map (piece_of tags.new.tags own.0) pairs.items) }
 {
-    match make_listed(alloc, tags, pairs.as_slice()) {
+    match make_listed_pieces(alloc, tags, own, pairs) {
         Err(Fault::Memory) => Err(AllocError),
         Err(_) => unreachable!(),
-        Ok(()) => {
+        Ok(pieces) => {
             // Where the tags are counted, they are known to be those of a table.
             let _count = tags.len();
-            pieces_of(alloc, tags, own, pairs)
+            Ok(pieces)
         }
     }
 }

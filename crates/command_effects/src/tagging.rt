@@ -3,13 +3,13 @@ ghost use Rattle.std.specs.Prelude.{OnOk, IfSome};
 ghost use Rattle.std.specs.FinSet as set;
 ghost use Rattle.std.specs.List.{All};
 ghost use Rattle.index_grammar.specs.Names.{known_tags};
-ghost use Rattle.tag_table.specs.Tags.{slot_of, names_of};
+ghost use Rattle.tag_table.specs.Tags.{Tags, slot_of, names_of};
 ghost use Rattle.tcl_words.specs.Unread.{texts_of};
 ghost use Rattle.text_model.specs.TagBits.{slot_count};
 ghost use Rattle.text_model.specs.declared.limits.TheConstants.Limits.{MOST_WIDGETS};
 ghost use Rattle.command_effects.specs.declared.answers.Fault.TheVariants.{Memory, TooManyTags};
 ghost use Rattle.command_effects.specs.Lists.{with_name, with_names, listed_names, all_names};
-ghost use Rattle.command_effects.specs.Tagging.{IsFront, own_slot, with_found, slots_named, piece_of, slot_taken};
+ghost use Rattle.command_effects.specs.Tagging.{IsFront, own_slot, slots_named, piece_of, slot_taken};
 ghost use Rattle.command_effects.specs.Tagging.{slots_deleted, tags_left};
 
 use crate::answers::Fault;
@@ -37,23 +37,6 @@ pub fn make_tag(alloc: Global, tags: &mut TagTable, name: &str) -> Result<TagSlo
     }
 }
 
-/// Makes tags of names, those that are new.
-fn make_tags(alloc: Global, tags: &mut TagTable, names: &[String]) -> Result<(), Fault>
-    ensures front { IsFront tags.old tags.new }
-    ensures made { OnOk result (names_of tags.new.tags ≡ with_names (names_of tags.old.tags) (texts_of names.now)) }
-    ensures fault { IfErr result (λ fault. fault ≢ Memory →
-        (fault ≡ TooManyTags) × (tags.old.limit + 1
-        < length (with_names (names_of tags.old.tags) (texts_of names.now)))) }
-{
-    for name in names {
-        match make_tag(alloc, tags, name.as_str()) {
-            Err(fault) => return Err(fault),
-            Ok(_) => {}
-        }
-    }
-    Ok(())
-}
-
 /// The names of the list of a pair, if it has one.
 pub fn listed_names(pair: &Pair) -> &[String]
     ensures { texts_of result.now ≡ listed_names pair.now.names }
@@ -62,23 +45,6 @@ pub fn listed_names(pair: &Pair) -> &[String]
         None => &[],
         Some(names) => names.as_slice(),
     }
-}
-
-/// Makes the tags of lists, those that are new.
-pub fn make_listed(alloc: Global, tags: &mut TagTable, pairs: &[Pair]) -> Result<(), Fault>
-    ensures front { IsFront tags.old tags.new }
-    ensures made { OnOk result (names_of tags.new.tags ≡ with_names (names_of tags.old.tags) (all_names pairs.now)) }
-    ensures fault { IfErr result (λ fault. fault ≢ Memory →
-        (fault ≡ TooManyTags) × (tags.old.limit + 1
-        < length (with_names (names_of tags.old.tags) (all_names pairs.now)))) }
-{
-    for pair in pairs {
-        match make_tags(alloc, tags, listed_names(pair)) {
-            Err(fault) => return Err(fault),
-            Ok(()) => {}
-        }
-    }
-    Ok(())
 }
 
 /// The slot of a tag of the table, for a widget: that of `sel` is the widget's own.
@@ -102,66 +68,82 @@ pub fn find_tag(tags: &TagTable, own: TagSlot, name: &str) -> Option<TagSlot>
     }
 }
 
-/// A set of slots with that of a tag, if there is one.
-fn with_found(slots: TagSet, tags: &TagTable, own: TagSlot, name: &str) -> TagSet
+/// The slots of the tags of these names, for a widget; those that are new are made.
+fn make_slots(
+    alloc: Global,
+    tags: &mut TagTable,
+    own: TagSlot,
+    names: &[String],
+) -> Result<TagSet, Fault>
     requires { own.0 < MOST_WIDGETS }
-    ensures { result ≡ with_found (known_tags tags.now.tags own.0 (chars name.now)) slots }
-{
-    match find_tag(tags, own, name) {
-        None => slots,
-        Some(slot) => slots.with(slot),
-    }
-}
-
-/// The slots of the tags of these names, for a widget.
-fn slots_of(tags: &TagTable, own: TagSlot, names: &[String]) -> TagSet
-    requires { own.0 < MOST_WIDGETS }
-    ensures { result ≡ slots_named tags.now.tags own.0 (texts_of names.now) }
+    ensures front { IsFront tags.old tags.new }
+    ensures made { OnOk result (names_of tags.new.tags ≡ with_names (names_of tags.old.tags) (texts_of names.now)) }
+    // Tags that are made later change none of them.
+    ensures slots { IfOk result (λ slots. (later : Tags) → IsFront tags.new later →
+        slots ≡ slots_named later.tags own.0 (texts_of names.now)) }
+    ensures fault { IfErr result (λ fault. fault ≢ Memory →
+        (fault ≡ TooManyTags) × (tags.old.limit + 1
+        < length (with_names (names_of tags.old.tags) (texts_of names.now)))) }
 {
     let mut slots = TagSet::empty();
     for name in names {
-        slots = with_found(slots, tags, own, name.as_str());
+        match make_tag(alloc, tags, name.as_str()) {
+            Err(fault) => return Err(fault),
+            Ok(slot) => slots = slots.with(own_slot(slot, own)),
+        }
     }
-    slots
+    Ok(slots)
 }
 
-/// The slots of a list, where there is one.
-fn listed_slots(tags: &TagTable, own: TagSlot, names: &Option<Vec<String>>) -> Option<TagSet>
+/// A pair with the slots of its list, whose tags are made where they are new.
+fn make_piece(alloc: Global, tags: &mut TagTable, own: TagSlot, pair: Pair) -> Result<Piece, Fault>
     requires { own.0 < MOST_WIDGETS }
-    ensures { result ≡ option_map (slots_named tags.now.tags own.0)
-        (option_map (λ names. texts_of names.items) names.now) }
+    ensures front { IsFront tags.old tags.new }
+    ensures made { OnOk result (names_of tags.new.tags
+        ≡ with_names (names_of tags.old.tags) (listed_names pair.names)) }
+    ensures piece { IfOk result (λ piece. (later : Tags) → IsFront tags.new later →
+        piece ≡ piece_of later.tags own.0 pair) }
+    ensures fault { IfErr result (λ fault. fault ≢ Memory →
+        (fault ≡ TooManyTags) × (tags.old.limit + 1
+        < length (with_names (names_of tags.old.tags) (listed_names pair.names)))) }
 {
-    match names {
-        None => None,
-        Some(names) => Some(slots_of(tags, own, names.as_slice())),
+    match &pair.names {
+        None => Ok(Piece {
+            text: pair.text,
+            slots: None,
+        }),
+        Some(names) => match make_slots(alloc, tags, own, names.as_slice()) {
+            Err(fault) => Err(fault),
+            Ok(slots) => Ok(Piece {
+                text: pair.text,
+                slots: Some(slots),
+            }),
+        },
     }
 }
 
-/// A pair with the slots of its list.
-fn piece_of(tags: &TagTable, own: TagSlot, pair: Pair) -> Piece
-    requires { own.0 < MOST_WIDGETS }
-    ensures { result ≡ piece_of tags.now.tags own.0 pair }
-{
-    let slots = listed_slots(tags, own, &pair.names);
-    Piece {
-        text: pair.text,
-        slots,
-    }
-}
-
-/// The texts of pairs with the slots of their lists.
-pub fn pieces_of(
+/// The texts of pairs with the slots of their lists, whose tags are made where they are new. Where that is refused, new
+/// tags may stand behind the others.
+pub fn make_listed_pieces(
     alloc: Global,
-    tags: &TagTable,
+    tags: &mut TagTable,
     own: TagSlot,
     pairs: Vec<Pair>,
-) -> Result<Vec<Piece>, AllocError>
+) -> Result<Vec<Piece>, Fault>
     requires { own.0 < MOST_WIDGETS }
-    ensures { IfOk result (λ pieces. pieces.items ≡ map (piece_of tags.now.tags own.0) pairs.items) }
+    ensures front { IsFront tags.old tags.new }
+    ensures made { OnOk result (names_of tags.new.tags ≡ with_names (names_of tags.old.tags) (all_names pairs.items)) }
+    ensures pieces { IfOk result (λ pieces. pieces.items ≡ map (piece_of tags.new.tags own.0) pairs.items) }
+    ensures fault { IfErr result (λ fault. fault ≢ Memory →
+        (fault ≡ TooManyTags) × (tags.old.limit + 1
+        < length (with_names (names_of tags.old.tags) (all_names pairs.items)))) }
 {
     let mut pieces = Vec::with_capacity(alloc, pairs.len())?;
     for pair in pairs {
-        pieces.push(piece_of(tags, own, pair))?;
+        match make_piece(alloc, tags, own, pair) {
+            Err(fault) => return Err(fault),
+            Ok(piece) => pieces.push(piece)?,
+        }
     }
     Ok(pieces)
 }

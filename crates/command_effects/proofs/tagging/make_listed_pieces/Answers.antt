@@ -1,0 +1,45 @@
+use Rattle.std.proofs.Common.{ap, sym, ◌∙◌, subst, arith, ◌+◌, ◌<◌, ◌++◌, ◌∷◌, [], length, map, append_assoc}
+use Rattle.std.proofs.lemmas.List.{map-append}
+use Rattle.tag_table.specs.Tags.{names_of}
+use Rattle.command_effects.specs.Lists.{all_names, listed_names, with_names}
+use Rattle.command_effects.specs.Tagging.{piece_of}
+use Rattle.command_effects.proofs.MadeLaws.{front_on, listed-push, too_many_before}
+use Rattle.command_effects.proofs.tagging.make_listed_pieces.Goals as goal
+
+pub returns-in-Err-clause-fault : goal.returns-in-Err-clause-fault
+returns-in-Err-clause-fault c = λ other.
+    let found = c.in-Err.ensures.fault other in
+    let names = names_of c.args.tags.now.tags in
+    let l = c.loop-pair in
+    let whole = l.invariant.whole ∙ ap (λ ps. l.yielded ++ ps) c.in-Some.ensures.steps.0
+    ∙ sym (append_assoc l.yielded (c.in-Some.pair ∷ []) c.next.new.self.rest.items) in (
+      found.0,
+      subst (λ ps. c.args.tags.now.limit + 1 < length (with_names names (all_names ps))) (sym whole)
+          (too_many_before names (l.yielded ++ c.in-Some.pair ∷ []) c.next.new.self.rest.items
+          (c.args.tags.now.limit + 1) (omega (
+            arith,
+            found.1,
+            ap length (listed-push names l.yielded c.in-Some.pair),
+            ap (λ ns. length (with_names ns (listed_names c.in-Some.pair.names))) l.invariant.made,
+            l.invariant.front.limit,
+          ))),
+    )
+
+pub loop-pair-preserved : goal.loop-pair-preserved
+loop-pair-preserved c =
+    let names = names_of c.args.tags.now.tags in
+    let l = c.loop-pair in
+    record {
+      whole = l.invariant.whole ∙ ap (λ ps. l.yielded ++ ps) c.in-Some.ensures.steps.0
+          ∙ sym (append_assoc l.yielded (c.in-Some.pair ∷ []) c.next.new.self.rest.items);
+      front = front_on c.args.tags.now l.tags c.make_piece.new.tags l.invariant.front c.make_piece.ensures.front;
+      made = c.in-Ok.ensures.made ∙ ap (λ ns. with_names ns (listed_names c.in-Some.pair.names)) l.invariant.made
+          ∙ listed-push names l.yielded c.in-Some.pair;
+      pieces = λ later front.
+          let piece_there = piece_of later.tags c.args.own.0 in
+          c.in_ok-push-in-Ok.ensures.items
+          ∙ ap (λ ps. ps ++ c.in-Ok.piece ∷ []) (l.invariant.pieces later
+          (front_on l.tags c.make_piece.new.tags later c.make_piece.ensures.front front))
+          ∙ ap (λ p. map piece_there l.yielded ++ p ∷ []) (c.in-Ok.ensures.piece later front)
+          ∙ sym (map-append piece_there l.yielded (c.in-Some.pair ∷ []));
+    }

@@ -1,0 +1,13 @@
+use Rattle.std.proofs.Common.{◌≡◌, ◌++◌, map}
+use Rattle.tag_table.specs.Tags.{Tags, names_of}
+use Rattle.command_effects.specs.Lists.{with_names, all_names}
+use Rattle.command_effects.specs.Tagging.{IsFront, piece_of}
+use Rattle.command_effects.proofs.tagging.make_listed_pieces.Given as goal
+
+abbrev pub invariant-loop-pair : goal.invariant-loop-pair
+invariant-loop-pair l = record {
+  whole : l.fn.pairs.items ≡ l.yielded ++ l.pair-iterator.rest.items;
+  front : IsFront l.fn.tags l.tags;
+  made : names_of l.tags.tags ≡ with_names (names_of l.fn.tags.tags) (all_names l.yielded);
+  pieces : (later : Tags) → IsFront l.tags later → l.pieces.items ≡ map (piece_of later.tags l.own.0) l.yielded;
+}
