@@ -5,13 +5,15 @@ use Rattle.std.proofs.Common.{length-append, take-append-drop}
 use Rattle.std.specs.Prelude.{IfSome, reverse, slice_get}
 use Rattle.std.proofs.lemmas.Bool.{cases_lt}
 use Rattle.std.proofs.lemmas.List.{drop-drop, reverse-append}
+use Rattle.std.proofs.lemmas.Option.{slice_get_within}
 use Rattle.segments.specs.Columns.{LineContent}
 use Rattle.line_lists.specs.declared.drafts.Copied.{Copied}
 use Rattle.line_lists.specs.declared.drafts.Reached.{Reached}
+use Rattle.line_lists.specs.declared.drafts.Seen.{Seen}
 use Rattle.line_lists.specs.declared.drafts.Stop.{Stop}
-use Rattle.line_lists.specs.Drafts.{AreStops, IsDraft, IsFound, IsReached, IsTaken, StandsAt, copies_of, covered}
-use Rattle.line_lists.specs.Drafts.{drafted, drafted_at, in_order, line_start, lines_before, made_lines, taken_lines}
-use Rattle.line_lists.specs.Drafts.{used}
+use Rattle.line_lists.specs.Drafts.{AreStops, IsDraft, IsFound, IsReached, IsSeen, IsTaken, StandsAt, copies_of}
+use Rattle.line_lists.specs.Drafts.{covered, drafted, drafted_at, in_order, line_start, lines_before, made_lines}
+use Rattle.line_lists.specs.Drafts.{taken_lines, used}
 use Rattle.line_lists.specs.Lists.{Holds}
 use Rattle.line_lists.specs.Texts.{whole}
 use Rattle.line_lists.proofs.CountRows.{count-characters}
@@ -76,6 +78,24 @@ found reached lines offset place line column behind place_is holds =
       place = omega (arith, holds.behind, place_is, behind);
       inside = holds.inside;
     }
+
+-- the line that was found last holds each place from its start up to its end
+pub seen-holds : (lines : List LineContent) (seen : Seen) (place : ℕ) → IsSeen lines seen → seen.start ≤ place →
+    place - seen.start < length seen.line.now.columns → Holds lines place seen.index (place - seen.start)
+seen-holds lines seen place is begun inside = record {
+  behind = omega (arith, is.start, begun);
+  inside = subst (λ here. IfSome here (λ (x : LineContent). place - seen.start < length x.columns)) (sym is.line)
+      inside;
+  within = slice_get_within lines seen.index seen.line.now is.line;
+}
+
+-- what holds of the lines and copies of a draft still holds where all are the same
+pub still : (P : List LineContent → List Stop → List Copied → Type 0) (lines same : List LineContent)
+    (front front₂ : List Stop) (back back₂ : List Copied) → same ≡ lines → front₂ ≡ front → back₂ ≡ back →
+    P lines front back → P same front₂ back₂
+still P lines same front front₂ back back₂ list before behind holds =
+    subst (λ xs. P xs front₂ back₂) (sym list)
+    (subst (λ stops. P lines stops back₂) (sym before) (subst (P lines front) (sym behind) holds))
 
 -- ---- a copy at its place
 pub slice_get-drop : {A : Type 0} (u b : ℕ) (xs : List A) → slice_get (drop u xs) b ≡ slice_get xs (u + b)

@@ -1,16 +1,18 @@
 -- The lines that a text will have, on the way: copies of some lines of a list, each in the place of some of them.
 use Rattle.std.specs.Prelude.{◌≡◌, ℕ, ◌+◌, ◌-◌, min, ◌<◌, ◌≤◌, ◌^◌, List, [], ◌∷◌, ◌++◌, ⊤, length, map, take, drop}
-use Rattle.std.specs.Prelude.{reverse, IfSome, slice_get}
+use Rattle.std.specs.Prelude.{reverse, IfSome, None, Option, Some, slice_get}
 use Rattle.std.specs.FinMap as finite
 use Rattle.std.proofs.Props.{props}
 use Rattle.text_model.specs.Content.{Slots}
 use Rattle.text_model.specs.declared.places.Place.{Place}
 use Rattle.text_model.specs.contracts.tag_set.TagSet as tag_set
 use Rattle.segments.specs.Columns.{LineContent}
+use Rattle.segments.specs.contracts.line.Line as line_row
 use Rattle.line_lists.specs.declared.drafts.Before.{Before}
 use Rattle.line_lists.specs.declared.drafts.Copied.{Copied}
 use Rattle.line_lists.specs.declared.drafts.Known.{Known}
 use Rattle.line_lists.specs.declared.drafts.Reached.{Reached}
+use Rattle.line_lists.specs.declared.drafts.Seen.{Seen}
 use Rattle.line_lists.specs.declared.drafts.Stop.{Stop}
 use Rattle.line_lists.specs.Lists.{AreRows, count_of}
 use Rattle.line_lists.specs.Texts.{whole}
@@ -69,6 +71,15 @@ pub record IsKnown (lines : List LineContent) (front : List Stop) (known : Known
 
 pub IsKnown-prop : {lines : List LineContent} {front : List Stop} {known : Known} → IsProp (IsKnown lines front known)
 IsKnown-prop = Prim.hlevel (tag_set.the_row.coded, props)
+
+-- a line of the list: the one of its number, which begins where it's said to
+pub record IsSeen (lines : List LineContent) (seen : Seen) : Type 0 where
+  pub start : seen.start ≡ length (whole (take seen.index lines)).columns
+  pub line : slice_get lines seen.index ≡ Some seen.line.now
+
+pub IsSeen-prop : (lines : List LineContent) (seen : Option Seen) → IsProp (IfSome seen (IsSeen lines))
+IsSeen-prop lines None = Prim.hlevel props
+IsSeen-prop lines (Some seen) = Prim.hlevel (line_row.the_row.coded, props)
 
 -- copies before a place in their order, and those behind it from the last: all in order
 abbrev pub in_order : List Stop → List Copied → List Copied

@@ -1,11 +1,11 @@
-ghost use Rattle.std.specs.Prelude.{◌≡◌, ℕ, ◌+◌, ◌-◌, ◌<◌, ◌≤◌, ◌^◌, List, ◌∷◌, [], ◌++◌, IfOk, OnOk, drop, length};
-ghost use Rattle.std.specs.Prelude.{take, slice_get, vec_len, vec_capacity, true, false, chars, None, Some};
+ghost use Rattle.std.specs.Prelude.{◌≡◌, ℕ, ◌+◌, ◌-◌, ◌<◌, ◌≤◌, ◌^◌, List, ◌∷◌, [], ◌++◌, IfOk, IfSome, OnOk, drop};
+ghost use Rattle.std.specs.Prelude.{length, take, slice_get, vec_len, vec_capacity, true, false, chars, None, Some};
 ghost use Rattle.std.specs.FinMap as finite;
 ghost use Rattle.text_model.specs.Lines.{lines};
 ghost use Rattle.segments.specs.Columns.{LineContent, after_text};
 ghost use Rattle.line_lists.specs.Texts.{whole};
 ghost use Rattle.line_lists.specs.Drafts.{BeginsBehind, BeginsBy, CanFollow, IsDraft, IsFound, IsKnown, IsKnown-prop};
-ghost use Rattle.line_lists.specs.Drafts.{IsReached, IsTaken, LastBeginsBehind};
+ghost use Rattle.line_lists.specs.Drafts.{IsReached, IsSeen, IsSeen-prop, IsTaken, LastBeginsBehind};
 ghost use Rattle.line_lists.specs.Drafts.{IsText, NextBegins, StandsAt, StandsBy, copies_of, drafted_at, line_start};
 ghost use Rattle.line_lists.specs.Drafts.{lines_before, made_lines, taken_lines, text_at};
 ghost use Rattle.line_lists.specs.Edits.{with_mark, with_toggled, without_mark};
@@ -116,6 +116,14 @@ pub struct Known {
     pub before: Before,
 }
 
+/// A line of a list, lent, with its number and how many characters stand before it.
+#[derive(Clone, Copy)]
+pub struct Seen<'a> {
+    pub index: usize,
+    pub start: usize,
+    pub line: &'a Line,
+}
+
 /// The lines that the text of a list will have: copies of some of its lines, in order, with a place between two of
 /// them.
 /// It reads the list, and changes its copies alone.
@@ -129,7 +137,10 @@ pub struct Draft<'a, L: LineList> {
     pub back: Vec<Copied>,
     /// Brought up to date where slots are asked for.
     pub known: Known,
+    /// The line of the list that was found last.
+    pub seen: Option<Seen<'a>>,
     ghost told: { IsKnown (L.lines list.now) front.items known } by { IsKnown-prop },
+    ghost shown: { IfSome seen (IsSeen (L.lines list.now)) } by { IsSeen-prop (L.lines list.now) seen },
 }
 
 impl<'a, L: LineList> Draft<'a, L> {
@@ -145,6 +156,7 @@ impl<'a, L: LineList> Draft<'a, L> {
             front: Vec::new(alloc),
             back: Vec::new(alloc),
             known: Known::nothing(),
+            seen: None,
         }
     }
 
@@ -292,17 +304,33 @@ impl<'a, L: LineList> Draft<'a, L> {
     }
 
     /// The line of the list that is kept at an offset of the text, behind what is covered, lent, behind its number and
-    /// the column there.
-    pub fn find_line(&self, reached: &Reached, offset: usize) -> (usize, usize, &'a Line)
-        requires used { reached.now.used ≤ length (L.lines self.now.list.now) }
+    /// the column there. The list stays as it is while it has a draft: of the line found last it isn't asked again.
+    pub fn find_line(&mut self, reached: &Reached, offset: usize) -> (usize, usize, &'a Line)
+        requires used { reached.now.used ≤ length (L.lines self.old.list.now) }
         requires behind { reached.now.characters ≤ offset }
-        requires within { offset + length (whole (take reached.now.used (L.lines self.now.list.now))).columns
-            < reached.now.characters + length (whole (L.lines self.now.list.now)).columns }
-        ensures place { IsFound reached.now (L.lines self.now.list.now) offset result.0 result.1 }
-        ensures line { slice_get (L.lines self.now.list.now) result.0 ≡ Some result.2.now }
+        requires within { offset + length (whole (take reached.now.used (L.lines self.old.list.now))).columns
+            < reached.now.characters + length (whole (L.lines self.old.list.now)).columns }
+        ensures list { self.new.list.now ≡ self.old.list.now }
+        ensures front { self.new.front ≡ self.old.front }
+        ensures back { self.new.back ≡ self.old.back }
+        ensures known { self.new.known ≡ self.old.known }
+        ensures place { IsFound reached.now (L.lines self.old.list.now) offset result.0 result.1 }
+        ensures line { slice_get (L.lines self.old.list.now) result.0 ≡ Some result.2.now }
     {
         let before = self.list.start(reached.used);
-        self.list.line_at(offset - reached.characters + before)
+        let place = offset - reached.characters + before;
+        if let Some(seen) = self.seen {
+            if seen.start <= place && place - seen.start < seen.line.len() {
+                return (seen.index, place - seen.start, seen.line);
+            }
+        }
+        let (index, column, line) = self.list.line_at(place);
+        self.seen = Some(Seen {
+            index,
+            start: place - column,
+            line,
+        });
+        (index, column, line)
     }
 
     /// Takes the last copy before the place out, whose line holds an offset, where the copies end at another one.

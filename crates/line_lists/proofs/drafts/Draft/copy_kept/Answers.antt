@@ -1,10 +1,11 @@
-use Rattle.std.proofs.Common.{◌+◌, ◌-◌, Some, refl, sym, ap, ◌∙◌, subst, arith}
+use Rattle.std.proofs.Common.{Vec, Global, ◌≡◌, ◌+◌, ◌-◌, ◌++◌, ◌∷◌, [], Some, refl, sym, ap, ◌∙◌, arith}
 use Rattle.std.specs.Prelude.{slice_get}
 use Rattle.line_lists.specs.declared.drafts.Copied.{Copied}
-use Rattle.line_lists.specs.Drafts.{IsTaken, taken_lines}
+use Rattle.line_lists.specs.declared.drafts.Stop.{Stop}
+use Rattle.line_lists.specs.Drafts.{IsTaken, StandsAt, drafted_at, taken_lines}
 use Rattle.line_lists.proofs.CountRows.{count-lines}
 use Rattle.line_lists.proofs.FindLaws.{begin-le, found-before, found-line, inside-line, kept-within, opened-kept}
-use Rattle.line_lists.proofs.FindLaws.{opened-place, opened-start, taken-kept}
+use Rattle.line_lists.proofs.FindLaws.{opened-place, opened-start, still, taken-kept}
 use Rattle.line_lists.proofs.drafts.Draft.copy_kept.Goals as goal
 
 pub find_line-index-requires-clause-within : goal.find_line-index-requires-clause-within
@@ -60,8 +61,15 @@ returns-clause-taken g c =
     let small = found-before c.args.reached lines next c.args.offset c.find_line-index.result.0
     c.find_line-index.result.1 c.find_line-index.ensures.place before in
     let start = c.args.offset - c.find_line-index.result.1 in
-    subst (λ back. IsTaken lines front back (record { reached = c.args.reached; start = start; copy = copy }))
-    (sym c.push_reserved.ensures.items)
+    let stop : Stop = record { reached = c.args.reached; start = start; copy = copy } in
+    still (λ xs stops back. IsTaken xs stops back stop)
+    lines (g.L.LineList.lines c.find_line-index.new.self.list.now)
+    front c.find_line-index.new.self.front.items
+    (c.args.self.now.back.items ++ less ∷ []) c.push_reserved.new.self.items
+    (ap g.L.LineList.lines c.find_line-index.ensures.list)
+    (ap (λ (front : Vec Stop Global). front.items) c.find_line-index.ensures.front)
+    (c.push_reserved.ensures.items
+    ∙ ap (λ (back : Vec Copied Global). back.items ++ less ∷ []) c.find_line-index.ensures.back)
     (taken-kept lines front c.args.self.now.back.items c.args.reached copy next less start c.requires.is
     c.requires.reached
     (opened-start lines front c.args.reached copy c.args.offset c.find_line-index.result.0 c.find_line-index.result.1
@@ -83,10 +91,18 @@ returns-clause-same g c =
     let small = found-before c.args.reached lines next c.args.offset c.find_line-index.result.0
     c.find_line-index.result.1 c.find_line-index.ensures.place before in
     let get = c.find_line-index.ensures.line ∙ ap Some (sym c.in_ok-try_clone.ensures) in
-    ap (λ back. taken_lines lines front back copy) c.push_reserved.ensures.items
-    ∙ opened-kept lines front c.args.self.now.back.items copy next less refl
+    still (λ xs stops back. taken_lines xs stops back copy
+    ≡ drafted_at lines front (c.args.self.now.back.items ++ next ∷ []))
+    lines (g.L.LineList.lines c.find_line-index.new.self.list.now)
+    front c.find_line-index.new.self.front.items
+    (c.args.self.now.back.items ++ less ∷ []) c.push_reserved.new.self.items
+    (ap g.L.LineList.lines c.find_line-index.ensures.list)
+    (ap (λ (front : Vec Stop Global). front.items) c.find_line-index.ensures.front)
+    (c.push_reserved.ensures.items
+    ∙ ap (λ (back : Vec Copied Global). back.items ++ less ∷ []) c.find_line-index.ensures.back)
+    (opened-kept lines front c.args.self.now.back.items copy next less refl
     (found-line lines front c.args.reached c.find_line-index.result.0 c.in_ok-try_clone.field-0 c.requires.reached
-    c.find_line-index.ensures.place.first get) small refl refl refl
+    c.find_line-index.ensures.place.first get) small refl refl refl)
 
 pub returns-clause-place : goal.returns-clause-place
 returns-clause-place g c =
@@ -98,9 +114,16 @@ returns-clause-place g c =
       line = c.in_ok-try_clone.field-0;
     } in
     let get = c.find_line-index.ensures.line ∙ ap Some (sym c.in_ok-try_clone.ensures) in
-    record {
+    still (λ xs stops back. StandsAt xs stops copy c.args.offset c.find_line-index.result.1)
+    lines (g.L.LineList.lines c.find_line-index.new.self.list.now)
+    c.args.self.now.front.items c.find_line-index.new.self.front.items
+    c.args.self.now.back.items c.find_line-index.new.self.back.items
+    (ap g.L.LineList.lines c.find_line-index.ensures.list)
+    (ap (λ (front : Vec Stop Global). front.items) c.find_line-index.ensures.front)
+    (ap (λ (back : Vec Copied Global). back.items) c.find_line-index.ensures.back)
+    (record {
       place = opened-place lines front c.args.reached copy c.args.offset c.find_line-index.result.0
           c.find_line-index.result.1 c.requires.reached c.find_line-index.ensures.place refl;
       inside = inside-line c.find_line-index.result.1 (slice_get lines c.find_line-index.result.0)
           c.in_ok-try_clone.field-0 get c.find_line-index.ensures.place.inside;
-    }
+    })

@@ -12,4 +12,4 @@ returns-clause-is g c =
 
 pub invariant_of-result : goal.invariant_of-result
 invariant_of-result g c =
-    record { told = c.nothing.ensures (g.L.LineList.lines c.args.list.now) c.new.result.items }
+    record { told = c.nothing.ensures (g.L.LineList.lines c.args.list.now) c.new.result.items; shown = tt }
