@@ -1,7 +1,7 @@
 -- What the steps of an edit make of the text of a draft.
-use Rattle.std.proofs.Common.{◌≡◌, ℕ, ◌+◌, ◌-◌, ◌<◌, ◌≤◌, Bool, true, false, cond, List, [], ◌∷◌, ◌++◌, Option, None}
-use Rattle.std.proofs.Common.{Some, Result, Err, Ok, get_or, length, map, take, drop, inl, inr, refl, sym, ap, ap₂}
-use Rattle.std.proofs.Common.{subst, ◌∙◌, arith}
+use Rattle.std.proofs.Common.{◌≡◌, ℕ, zero, suc, ◌+◌, ◌-◌, ◌<◌, ◌≤◌, Bool, true, false, cond, List, [], ◌∷◌, ◌++◌}
+use Rattle.std.proofs.Common.{Option, None, Some, Result, Err, Ok, get_or, length, map, take, drop, inl, inr, refl, sym}
+use Rattle.std.proofs.Common.{ap, ap₂, subst, ◌∙◌, arith}
 use Rattle.std.specs.Cmp.{nat_cmp_total}
 use Rattle.std.specs.FinMap as finite
 use Rattle.std.specs.FinSet as set
@@ -21,7 +21,7 @@ use Rattle.text_model.specs.Steps.{Fits, StepFitsIn, after, after_step, length_a
 use Rattle.text_model.proofs.PlaceLaws.{same_marks}
 use Rattle.text_model.proofs.SpliceLaws.{length-changed}
 use Rattle.text_model.proofs.StepLaws.{length-after_step}
-use Rattle.toggle_sums.specs.CountLaws.{empty-differing}
+use Rattle.toggle_sums.specs.CountLaws.{differing-associative, differing-commutative, empty-differing}
 use Rattle.segments.specs.Columns.{Column, LineContent, after_text, tags_before, toggled_first, with_toggle}
 use Rattle.line_lists.specs.declared.drafts.Copied.{Copied}
 use Rattle.line_lists.specs.declared.drafts.Stop.{Stop}
@@ -67,6 +67,26 @@ toggled-same at s t line same =
       | inl before ↦ ap (λ slots. with_toggled at slots line) (same before)
       | inr behind ↦ sym (toggled-end at s line (omega (arith, behind))) ∙ toggled-end at t line (omega (arith, behind))
     ]
+
+-- where slots are toggled before two columns, or twice before one, their order makes no difference
+toggle-swap : (s t : Slots) (a b : ℕ) (columns : List Column) →
+    toggled_before a s (toggled_before b t columns) ≡ toggled_before b t (toggled_before a s columns)
+toggle-swap s t zero zero [] = refl
+toggle-swap s t zero (suc b) [] = refl
+toggle-swap s t (suc a) zero [] = refl
+toggle-swap s t (suc a) (suc b) [] = refl
+toggle-swap s t zero zero (column ∷ columns) =
+    ap (λ slots. record { character = column.character; toggled = slots } ∷ columns)
+    (sym (differing-associative s t column.toggled)
+    ∙ ap (λ both. differing both column.toggled) (differing-commutative s t)
+    ∙ differing-associative t s column.toggled)
+toggle-swap s t zero (suc b) (column ∷ columns) = refl
+toggle-swap s t (suc a) zero (column ∷ columns) = refl
+toggle-swap s t (suc a) (suc b) (column ∷ columns) = ap (λ rest. column ∷ rest) (toggle-swap s t a b columns)
+
+toggled-swap : (a b : ℕ) (s t : Slots) (line : LineContent) →
+    with_toggled a s (with_toggled b t line) ≡ with_toggled b t (with_toggled a s line)
+toggled-swap a b s t line = λ i. record { columns = toggle-swap s t a b line.columns i; marks = line.marks }
 
 -- ---- steps that are made of others
 pub toggled-long : (at : ℕ) (slots : Slots) (text new : LineContent) (len : ℕ) → len ≡ length text.columns →
@@ -122,16 +142,17 @@ pub tagged-made : (from to : ℕ) (slot : TagSlot) (on : Bool) (first last : Slo
     (old bare text : LineContent) → from ≤ to → to ≤ len → len ≡ length old.columns
     → (from < len → first ≡ switched (set_slot slot.0 on) from old.columns) →
     (to < len → last ≡ switched (set_slot slot.0 on) to old.columns)
-    → bare ≡ with_cleared slot.0 from to old → text ≡ with_toggled to last bare →
-    with_toggled from first text ≡ made (SetTag from to slot on) old
+    → bare ≡ with_cleared slot.0 from to old → text ≡ with_toggled from first bare →
+    with_toggled to last text ≡ made (SetTag from to slot on) old
 tagged-made from to slot on first last len old bare text ordered within is first_is last_is bare_is text_is =
     let clear = with_cleared slot.0 from to old in
     let ends = switched (set_slot slot.0 on) to old.columns in
     let begins = switched (set_slot slot.0 on) from old.columns in
     let long = length-changed (with_toggle slot.0 false) from to old.columns ordered (omega (arith, within, is)) in
     let same = length-toggled to ends clear.columns in
-    ap (with_toggled from first) (text_is ∙ ap (with_toggled to last) bare_is
-    ∙ toggled-same to last ends clear (λ before. last_is (omega (arith, before, long, is))))
+    ap (with_toggled to last) (text_is ∙ ap (with_toggled from first) bare_is) ∙ toggled-swap to from last first clear
+    ∙ ap (with_toggled from first)
+    (toggled-same to last ends clear (λ before. last_is (omega (arith, before, long, is))))
     ∙ toggled-same from first begins (with_toggled to ends clear) (λ before.
     first_is (omega (arith, before, same, long, is)))
 

@@ -184,8 +184,9 @@ impl<'a, L: LineList> Draft<'a, L> {
         let first = self.switched(from, slot, is_on, len)?;
         let last = self.switched(to, slot, is_on, len)?;
         self.clear(slot, from, to)?;
-        self.toggle_before(to, &last, len)?;
-        self.toggle_before(from, &first, len)
+        // In the order of the text, so that the draft doesn't go back to the first of the two.
+        self.toggle_before(from, &first, len)?;
+        self.toggle_before(to, &last, len)
     }
 
     /// Takes all slots off a character of a text of so many.

@@ -20,7 +20,7 @@ toggle_before-requires-2-clause-len g c =
     let long = cleared-long c.args.slot.0 c.args.from c.args.to old bare c.args.len c.requires.ordered c.requires.within
     c.requires.len
     (c.in_ok-clear.ensures.new ∙ ap (λ lines. with_cleared c.args.slot.0 c.args.from c.args.to (whole lines)) same) in
-    toggled-long c.args.to c.in_ok-last.last bare text c.args.len long c.in_ok-toggle_before.ensures.new
+    toggled-long c.args.from c.in_ok-first.first bare text c.args.len long c.in_ok-toggle_before.ensures.new
 
 pub returns-clause-new : goal.returns-clause-new
 returns-clause-new g c =
