@@ -5,8 +5,8 @@ use Rattle.std.proofs.Common.{◌∙◌, arith, append_assoc, length-append, len
 use Rattle.std.specs.FinSet as set
 use Rattle.std.specs.Prelude.{IfSome, if◌then◌else◌, reverse, slice_get, unwrap_or}
 use Rattle.std.proofs.lemmas.Bool.{cases_lt}
-use Rattle.std.proofs.lemmas.List.{append-nil, drop-drop, get_or-drop, get_or-take, map-append, reverse-append}
-use Rattle.std.proofs.lemmas.List.{take-append-le, take-map, take-take, take_all}
+use Rattle.std.proofs.lemmas.List.{append-nil, drop-drop, drop-map, get_or-drop, get_or-take, map-append}
+use Rattle.std.proofs.lemmas.List.{reverse-append, take-append-le, take-map, take-take, take_all}
 use Rattle.std.proofs.lemmas.Option.{slice_get-get_or}
 use Rattle.std.proofs.Math.Seq.{take-append-add}
 use Rattle.text_model.specs.SlotSets.{differing}
@@ -202,6 +202,30 @@ clear_kept slot (x ∷ xs) free =
     let none = neither _ _ (sym (presence-cons slot x xs) ∙ free) in
     ap₂ (λ slots (rest : List Column). record x { toggled = slots } ∷ rest)
     (sym (slots_kept slot false x.toggled none.0)) (clear_kept slot xs none.1)
+
+-- a part that stays as it is where all of it would
+changed-fixed : {A : Type 0} (f : A → A) (from to : ℕ) (xs : List A) → from ≤ to → map f xs ≡ xs →
+    changed f from to xs ≡ xs
+changed-fixed f from to xs ordered same =
+    let part = take (to - from) (drop from xs) in
+    let kept : map f part ≡ part =
+    sym (take-map f (to - from) (drop from xs))
+    ∙ ap (take (to - from)) (sym (drop-map f from xs) ∙ ap (drop from) same) in
+    let rest : drop to xs ≡ drop (to - from) (drop from xs) =
+    ap (λ n. drop n xs) (let sum : to ≡ from + (to - from) = omega (arith, ordered) in sum)
+    ∙ sym (drop-drop (to - from) from xs) in
+    ap₂ (λ here behind. (take from xs ++ here) ++ behind) kept rest
+    ∙ append_assoc (take from xs) part (drop (to - from) (drop from xs))
+    ∙ ap (λ ys. take from xs ++ ys) (take-append-drop (to - from) (drop from xs))
+    ∙ take-append-drop from xs
+
+-- so a line without a toggle of a slot is the same without those from one column to another
+pub line-kept : (slot from to : ℕ) (line : LineContent) → from ≤ to → has_toggle slot line ≡ false →
+    line ≡ with_cleared slot from to line
+line-kept slot from to line ordered free =
+    let columns = changed-fixed (with_toggle slot false) from to line.columns ordered
+    (clear_kept slot line.columns free) in
+    λ i. record { columns = sym columns i; marks = line.marks }
 
 -- and so do lines up to the first one in which it is toggled
 free_kept : (slot : ℕ) (lines : List LineContent) (test : Bool) (line : LineContent) → has_toggle slot line ≡ test
@@ -426,7 +450,7 @@ on-first lines front behind stop =
     ) in n))
 
 -- where the place stands behind a copy
-place-behind : (lines : List LineContent) (front : List Stop) (stop : Stop)
+pub place-behind : (lines : List LineContent) (front : List Stop) (stop : Stop)
     → place_of lines (front ++ stop ∷ []) ≡ length (whole (lines_before (copies_of front) stop.copy lines)).columns
     + length stop.copy.line.columns
 place-behind lines front stop = ap (λ xs. length (whole (made_lines xs lines)).columns) (copies-snoc front stop)

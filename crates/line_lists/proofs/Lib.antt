@@ -1,3 +1,4 @@
+pub mod BeginLaws
 pub mod ClearingLaws
 pub mod CountRows
 pub mod CutLaws

@@ -217,6 +217,43 @@ impl<'a, L: LineList> Draft<'a, L> {
         Ok(())
     }
 
+    /// Where to begin to take the toggles of a slot away, from one offset on up to another: behind the characters of
+    /// the list's lines in which there are none, so that none of these is copied.
+    fn first_toggled(&mut self, slot: TagSlot, from: usize, to: usize) -> usize
+        requires is { IsText (L.lines self.old.list.now) self.old.front.items self.old.back.items }
+        requires slot { slot.0 < slot_count }
+        requires ordered { from ≤ to }
+        requires within { to
+            ≤ length (text_at (L.lines self.old.list.now) self.old.front.items self.old.back.items).columns }
+        ensures list { self.new.list.now ≡ self.old.list.now }
+        ensures front { self.new.front ≡ self.old.front }
+        ensures back { self.new.back ≡ self.old.back }
+        ensures above { from ≤ result }
+        ensures bound { result ≤ to }
+        ensures free { text_at (L.lines self.old.list.now) self.old.front.items self.old.back.items
+            ≡ with_cleared slot.0 from result
+            (text_at (L.lines self.old.list.now) self.old.front.items self.old.back.items) }
+    {
+        if from == to || !self.back.is_empty() {
+            return from;
+        }
+        let reached = self.reached();
+        if from < reached.characters {
+            return from;
+        }
+        let list = self.list;
+        let (index, column, line) = self.find_line(&reached, from);
+        if line.has_toggle(slot) {
+            return from;
+        }
+        // Where the line goes on up to the end, no walk of the list is needed.
+        if to - from <= line.len() - column {
+            return to;
+        }
+        let next = next_below(list, slot, index + 1, list.len());
+        reached.characters_behind(list, next - reached.used).min(to)
+    }
+
     /// Takes the toggles of a slot before the characters from one offset to another away.
     pub fn clear(&mut self, slot: TagSlot, from: usize, to: usize) -> Result<(), AllocError>
         requires is { IsText (L.lines self.old.list.now) self.old.front.items self.old.back.items }
@@ -230,7 +267,7 @@ impl<'a, L: LineList> Draft<'a, L> {
             ≡ with_cleared slot.0 from to
             (text_at (L.lines self.old.list.now) self.old.front.items self.old.back.items)) }
     {
-        let mut at = from;
+        let mut at = self.first_toggled(slot, from, to);
         while at < to {
             self.clear_line(slot, at, to)?;
             at = self.next_toggled(slot, to)?;
