@@ -1,10 +1,12 @@
 -- How many lines there are, and how many can be put in.
 use Rattle.std.proofs.Common.{◌≡◌, ℕ, zero, suc, ◌+◌, ◌-◌, ◌*◌, ◌/◌, ◌<◌, ◌≤◌, min, max, inl, inr, List, length, sym}
-use Rattle.std.proofs.Common.{ap, subst, arith, lit<, ◌⊎◌, OnOk, Result, Ok, Err}
+use Rattle.std.proofs.Common.{ap, subst, arith, lit<, ◌⊎◌, ◌++◌, OnOk, Result, Ok, Err, take, drop, length-append}
 use Rattle.std.specs.List.{insert, remove}
 use Rattle.std.proofs.Math.Nat.{div-mul-le_self, le-max_left, le-max_right, le-min, mul-le-mul_left}
 use Rattle.std.proofs.lemmas.Nat.{le-div}
-use Rattle.std.proofs.lemmas.List.Edits.{length-insert, length-remove}
+use Rattle.std.proofs.lemmas.List.{length-drop, length-take-le}
+use Rattle.std.proofs.lemmas.List.Edits.{length-insert}
+use Rattle.text_model.specs.Splices.{removed}
 use Rattle.line_tree.specs.Room.{levels_at_most, line_room, room_by_height, room_by_width}
 use Rattle.line_tree.specs.TreeState.{TreeState}
 use Rattle.line_tree.specs.Trees.{Named}
@@ -15,9 +17,18 @@ pub one-more : (ls : List Named) (k : ℕ) (l : Named) (now : List Named) (count
     count ≡ length ls → now ≡ insert ls k l → count + 1 ≡ length now
 one-more ls k l now count place was is = let a = length-insert ls k l place in let b = ap length is in omega arith
 
-pub one-less-line : (ls : List Named) (k : ℕ) (now : List Named) (count : ℕ) → k < length ls → count ≡ length ls →
-    now ≡ remove ls k → count - 1 ≡ length now
-one-less-line ls k now count place was is = let a = length-remove ls k place in let b = ap length is in omega arith
+pub length-removed : (ls now : List Named) (k n : ℕ) → k + n ≤ length ls → now ≡ removed k (k + n) ls →
+    length now + n ≡ length ls
+length-removed ls now k n within is =
+    let a = ap length is in let b = length-append (take k ls) (drop (k + n) ls) in
+    let c = length-take-le k ls (omega arith) in let d = length-drop (k + n) ls in omega arith
+
+pub fewer-lines : (ls now : List Named) (k n count : ℕ) → k + n ≤ length ls → count ≡ length ls →
+    now ≡ removed k (k + n) ls → count - n ≡ length now
+fewer-lines ls now k n count within was is = let a = length-removed ls now k n within is in omega arith
+
+pub removed-one : (ls : List Named) (k : ℕ) → removed k (k + 1) ls ≡ remove ls k
+removed-one ls k = let e : k + 1 ≡ suc k = omega arith in ap (λ n. take k ls ++ drop n ls) e
 
 -- ---- what a line takes off the room
 one-part : (q b d : ℕ) → 0 < d → q * d ≤ b + d → q ≤ b / d + 1
@@ -58,14 +69,14 @@ room-falls t u low nodes lines spares rooms =
     (5 * u.nodes + 5 * u.rooms - (5 * u.spares + 6 * length u.lines + 129)) 1
     (sixth (5 * t.nodes - (6 * length t.lines + 129)) (5 * u.nodes - (6 * length u.lines + 129)) p) q)
 
--- ---- one line out
+-- ---- lines out
 div-grows : (a b k : ℕ) → 0 < k → a ≤ b → a / k ≤ b / k
 div-grows a b k some h = le-div (a / k) b k some (let m = div-mul-le_self a k in omega arith)
 
-pub room-grows : (t u : TreeState) → u.nodes ≡ t.nodes → length u.lines + 1 ≡ length t.lines → t.spares + 1 ≤ u.spares →
-    u.rooms + t.spares + 1 ≡ t.rooms + u.spares → line_room t ≤ line_room u
+pub room-grows : (t u : TreeState) (n : ℕ) → u.nodes ≡ t.nodes → length u.lines + n ≡ length t.lines →
+    t.spares + n ≤ u.spares → u.rooms + t.spares + n ≡ t.rooms + u.spares → line_room t ≤ line_room u
 unfolding line_room
-room-grows t u nodes lines spares rooms =
+room-grows t u n nodes lines spares rooms =
     let r : t.rooms ≤ u.rooms + 0 = omega arith in
     let s : t.spares ≤ u.spares + 0 = omega arith in
     let least = min-falls t.spares t.rooms u.spares u.rooms 0 s r in

@@ -1,26 +1,25 @@
 -- A root with one child, and a record out of the tree.
-use Rattle.std.proofs.Common.{◌≡◌, ℕ, zero, suc, ◌-◌, ◌<◌, ◌≤◌, inl, inr, List, [], ◌∷◌, ◌++◌, length, map, refl, sym}
-use Rattle.std.proofs.Common.{ap, ◌∙◌, subst, arith}
+use Rattle.std.proofs.Common.{◌≡◌, ℕ, zero, suc, ◌+◌, ◌-◌, ◌<◌, ◌≤◌, inl, inr, List, [], ◌∷◌, ◌++◌, length, map, take}
+use Rattle.std.proofs.Common.{drop, refl, sym, ap, ◌∙◌, subst, arith}
 use Rattle.std.specs.Prelude.{◌≢◌, IsSome, slice_get}
 use Rattle.std.specs.FinMap as finite
-use Rattle.std.specs.List.{AllByRecursion, remove}
+use Rattle.std.specs.List.{AllByRecursion}
 use Rattle.std.specs.declared.option.Option.{Option}
 use Rattle.std.specs.declared.option.Option.TheVariants.{None, Some}
-use Rattle.std.proofs.lemmas.Bool.{cases_lt}
 use Rattle.std.proofs.lemmas.List.{append-nil}
 use Rattle.std.proofs.lemmas.Option.{none-some, same_Some}
 use mathlib.Core.Bool.{false≢true}
-use Rattle.toggle_sums.specs.CountLaws.{plus-no_text}
-use Rattle.segments.specs.Columns.{LineContent, line_count}
+use Rattle.text_model.specs.Splices.{removed}
+use Rattle.segments.specs.Columns.{LineContent}
 use Rattle.raw_nodes.specs.Records.{Record, Records, update, with_parent}
 use Rattle.raw_nodes.specs.Rows.{kids}
 use Rattle.raw_nodes.specs.declared.names.NodePtr.{NodePtr}
 use Rattle.raw_nodes.proofs.MapLaws.{get_unmoved, some_of}
 use Rattle.raw_nodes.proofs.UpdateLaws.{get-update-other, remove-named, update-named}
 use Rattle.line_tree.specs.Changes.{Among, Distinct, FitsSum}
+use Rattle.line_tree.specs.Giving.{Without}
 use Rattle.line_tree.specs.Growth.{IsWide, Stands, StandsAlone, lines_of, names_of}
-use Rattle.line_tree.specs.Places.{IsLineAt}
-use Rattle.line_tree.specs.Shape.{Holds, IsTree, lines_in, tree_at}
+use Rattle.line_tree.specs.Shape.{Holds, IsTree, line_of, lines_in, tree_at}
 use Rattle.line_tree.specs.Shrinking.{CanLower, CanRemove, Cleans, Lowers, Removes}
 use Rattle.line_tree.specs.Trees.{IsBalanced, IsBalancedRoot, Named, Tree, inner, lines, names, total}
 use Rattle.line_tree.proofs.AmongLaws.{among-left, among-or}
@@ -29,43 +28,8 @@ use Rattle.line_tree.proofs.DistinctLaws.{distinct-left}
 use Rattle.line_tree.proofs.FillLaws.{at-update}
 use Rattle.line_tree.proofs.FrameLaws.{holds-moved, holds-same}
 use Rattle.line_tree.proofs.GrowLaws.{of-one, to-one, unnamed}
-use Rattle.line_tree.proofs.PlaceLaws.{named_line}
-use Rattle.line_tree.proofs.RemoveLaws.{fits-remove}
-use Rattle.line_tree.proofs.TreeLaws.{get-left, get-right, top-tree_at}
-
--- ---- the line of a name
-pub record HasLine (m : Records) (x : NodePtr) (l : LineContent) : Type 0 where
-  pub found : Record
-  pub is : finite.get m x ≡ Some found
-  pub line : found.line ≡ Some l
-  pub sum : found.sum ≡ line_count l
-
-line-among : (m : Records) (h : ℕ) → ((t : Tree h) → Holds m h t → (k : ℕ) (n : Named) →
-    slice_get (lines h t) k ≡ Some n → HasLine m n.0 n.1)
-    → (ts : List (Tree h)) → AllByRecursion (Holds m h) ts → (k : ℕ) (n : Named) →
-    slice_get (lines_of h ts) k ≡ Some n → HasLine m n.0 n.1
-line-among m h one [] all k n at = absurd (none-some n at)
-line-among m h one (t ∷ ts) all k n at = elim (cases_lt k (length (lines h t))) [
-  | inl less ↦ one t all.0 k n (sym (get-left (lines h t) (lines_of h ts) k less) ∙ at)
-  | inr more ↦ line-among m h one ts all.1 (k - length (lines h t)) n
-      (sym (get-right (lines h t) (lines_of h ts) (k - length (lines h t)) k (omega arith)) ∙ at)
-]
-
-pub line-held : (m : Records) (h : ℕ) (t : Tree h) → Holds m h t → (k : ℕ) (n : Named) →
-    slice_get (lines h t) k ≡ Some n → HasLine m n.0 n.1
-line-held m zero t holds k n at = one t.1 holds.line holds.sum k at where
-  one : (o : Option LineContent) → holds.found.line ≡ o → holds.found.sum ≡ total (lines zero (t.0, o)) → (k : ℕ) →
-      slice_get (lines zero (t.0, o)) k ≡ Some n → HasLine m n.0 n.1
-  one None is sum k at = absurd (none-some n at)
-  one (Some l) is sum zero at = let e = same_Some (t.0, l) n at in
-      subst (λ (z : Named). HasLine m z.0 z.1) e (record {
-        found = holds.found;
-        is = holds.is;
-        line = is;
-        sum = sum ∙ plus-no_text (line_count l);
-      })
-  one (Some l) is sum (suc k) at = absurd (none-some n at)
-line-held m (suc h) t holds k n at = line-among m h (line-held m h) t.1 holds.2 k n at
+use Rattle.line_tree.proofs.RemoveLaws.{fits-removed}
+use Rattle.line_tree.proofs.TreeLaws.{top-tree_at}
 
 -- ---- a tree that stands can lose a line
 two-wide : (m : Records) (h : ℕ) (r : NodePtr) → Stands m h r → 2 ≤ length (lines_in m h r) → IsWide 2 h (tree_at m h r)
@@ -86,11 +50,17 @@ pub can-remove : (m : Records) (h : ℕ) (r : NodePtr) (k : ℕ) → Stands m h 
 can-remove m h r k s two place =
     record { tree = s.tree; wide = two-wide m h r s two; distinct = s.distinct; place = place; fits = s.fits }
 
-pub can-lower : (m n : Records) (h : ℕ) (r : NodePtr) (k : ℕ) (x : NodePtr) → Stands m h r →
-    2 ≤ length (lines_in m h r) → k < length (lines_in m h r) → Removes m n h r k x → CanLower n h r
-can-lower m n h r k x s two place removes =
+pub line-removed : (m n : Records) (h : ℕ) (r : NodePtr) (k j : ℕ) (x : NodePtr) → Removes m n h r k j x →
+    lines_in n h r ≡ removed k (k + length (lines_in m j x)) (lines_in m h r)
+line-removed m n h r k j x removes =
+    sym (append-nil (lines_in n h r)) ∙ removes.shrinks.line
+    ∙ ap (removed k (k + length (lines_in m j x))) (append-nil (lines_in m h r))
+
+pub can-lower : (m n : Records) (h : ℕ) (r : NodePtr) (k j : ℕ) (x : NodePtr) → Stands m h r →
+    2 ≤ length (lines_in m h r) → Removes m n h r k j x → CanLower n h r
+can-lower m n h r k j x s two removes =
     let g = removes.shrinks in let link = removes.link in let root = s.root in
-    let line = sym (append-nil (lines_in n h r)) ∙ g.line ∙ ap (λ ls. remove ls k) (append-nil (lines_in m h r)) in
+    let ordered : k ≤ k + length (lines_in m j x) = omega arith in
     record {
       tree = g.holds.0;
       wide = removes.wide 1 (two-wide m h r s two);
@@ -101,13 +71,9 @@ can-lower m n h r k x s two place removes =
         parent = link.parent
             ∙ ap (λ z. z.parent) (same_Some link.before root.found (sym link.was ∙ root.is)) ∙ root.parent;
       };
-      fits = subst (λ ls. FitsSum (total ls)) (sym line) (fits-remove (lines_in m h r) k place s.fits);
+      fits = subst (λ ls. FitsSum (total ls)) (sym (line-removed m n h r k j x removes))
+          (fits-removed (lines_in m h r) k (k + length (lines_in m j x)) ordered s.fits);
     }
-
-pub line-removed : (m n : Records) (h : ℕ) (r : NodePtr) (k : ℕ) (x : NodePtr) → Removes m n h r k x →
-    lines_in n h r ≡ remove (lines_in m h r) k
-line-removed m n h r k x removes =
-    sym (append-nil (lines_in n h r)) ∙ removes.shrinks.line ∙ ap (λ ls. remove ls k) (append-nil (lines_in m h r))
 
 -- ---- the root stays
 pub lowers-same : (m : Records) (h : ℕ) (r : NodePtr) → CanLower m h r → IsBalancedRoot h (tree_at m h r) →
@@ -181,33 +147,32 @@ lowers-child m g r c can only =
           );
     }
 
--- ---- a record that is not in the tree is given back
-pub drop-same : (m : Records) (h : ℕ) (r x : NodePtr) → Stands m h r → (Among x (names h (tree_at m h r)) → ⊥) →
-    tree_at (finite.remove m x) h r ≡ tree_at m h r
-drop-same m h r x s out =
-    let n = finite.remove m x in let t = tree_at m h r in
-    ap (tree_at n h) (sym (top-tree_at m h r))
-    ∙ tree-is n h t (holds-same m n h t s.tree (λ q a.
-    get_unmoved m x q (λ e. out (subst (λ z. Among z (names h t)) e a))))
+-- ---- records that are not in the tree are given back
+pub same-without : (u v : Records) (i : ℕ) (s : NodePtr) (ps : List NodePtr) → Stands u i s → Without u v ps →
+    ((q : NodePtr) → Among q ps → Among q (names i (tree_at u i s)) → ⊥) → tree_at v i s ≡ tree_at u i s
+same-without u v i s ps stands w out =
+    let t = tree_at u i s in
+    ap (tree_at v i) (sym (top-tree_at u i s))
+    ∙ tree-is v i t (holds-same u v i t stands.tree (λ q a. w.other q (λ b. out q b a)))
 
-pub stands-drop : (m : Records) (h : ℕ) (r x : NodePtr) → Stands m h r → (Among x (names h (tree_at m h r)) → ⊥) →
-    Stands (finite.remove m x) h r × (lines_in (finite.remove m x) h r ≡ lines_in m h r)
-stands-drop m h r x s out =
-    let n = finite.remove m x in let t = tree_at m h r in
-    let off : (q : NodePtr) → Among q (names h t) → finite.get n q
-    ≡ finite.get m q = λ q a. get_unmoved m x q (λ e. out (subst (λ z. Among z (names h t)) e a)) in
-    let holds = holds-same m n h t s.tree off in
-    let same : tree_at n h r ≡ t = ap (tree_at n h) (sym (top-tree_at m h r)) ∙ tree-is n h t holds in
-    let root = s.root in (
+pub stands-without : (u v : Records) (i : ℕ) (s : NodePtr) (ps : List NodePtr) → Stands u i s → Without u v ps →
+    ((q : NodePtr) → Among q ps → Among q (names i (tree_at u i s)) → ⊥) →
+    Stands v i s × (lines_in v i s ≡ lines_in u i s)
+stands-without u v i s ps stands w out =
+    let t = tree_at u i s in
+    let off : (q : NodePtr) → Among q (names i t) → finite.get v q ≡ finite.get u q = λ q a.
+    w.other q (λ b. out q b a) in
+    let same = same-without u v i s ps stands w out in
+    let root = stands.root in (
       record {
-        tree = subst (Holds n h) (sym same) holds;
-        balanced = subst (IsBalancedRoot h) (sym same) s.balanced;
-        distinct = subst (λ z. Distinct (names h z)) (sym same) s.distinct;
+        tree = subst (Holds v i) (sym same) (holds-same u v i t stands.tree off);
+        balanced = subst (IsBalancedRoot i) (sym same) stands.balanced;
+        distinct = subst (λ z. Distinct (names i z)) (sym same) stands.distinct;
         root =
-            record { found = root.found; is = off r (inl (sym (top-tree_at m h r))) ∙ root.is; parent = root.parent };
-        fits = subst (λ z. FitsSum (total (lines h z))) (sym same) s.fits;
+            record { found = root.found; is = off s (inl (sym (top-tree_at u i s))) ∙ root.is; parent = root.parent };
+        fits = subst (λ z. FitsSum (total (lines i z))) (sym same) stands.fits;
       },
-      ap (lines h) same,
+      ap (lines i) same,
     )
 
 -- ---- the line that is handed out
@@ -217,30 +182,51 @@ pub record Gone (m : Records) (ls : List Named) (k : ℕ) (x : NodePtr) : Type 0
   pub found : Record
   pub is : finite.get m x ≡ Some found
   pub has : found.line ≡ Some line
+  pub one : lines_in m 0 x ≡ (x, line) ∷ []
 
-pub gone-of : (m n : Records) (h : ℕ) (r : NodePtr) (k : ℕ) (x : NodePtr) → IsTree m h r → Removes m n h r k x →
+first-of : (ls : List Named) (k : ℕ) (l : Named) → take 1 (drop k ls) ≡ l ∷ [] → slice_get ls k ≡ Some l
+first-of [] zero l is = absurd (let e = ap length is in omega arith)
+first-of [] (suc k) l is = absurd (let e = ap length is in omega arith)
+first-of (n ∷ ls) zero l is = ap (λ zs. slice_get zs 0) is
+first-of (n ∷ ls) (suc k) l is = first-of ls k l is
+
+pub gone-of : (m n : Records) (h : ℕ) (r : NodePtr) (k : ℕ) (x : NodePtr) → Removes m n h r k 0 x →
     Gone m (lines_in m h r) k x
-gone-of m n h r k x tree removes =
-    let one = append-nil (lines_in m h r) in
-    let l = named_line (lines_in m h r) k x (subst (λ ls. IsLineAt ls k x) one removes.shrinks.gone) in
-    let has = line-held m h (tree_at m h r) tree k l.0 l.1 in
+gone-of m n h r k x removes =
+    let g = removes.shrinks in let ls = lines_in m h r in
+    let l = some_of (line_of (finite.get m x)) g.tree.some in
+    let one : lines_in m 0 x ≡ (x, l.0) ∷ [] = ap (λ o. lines zero (x, o)) l.1 in
+    let e : k + length (lines_in m 0 x) - k ≡ 1 = let long = ap length one in omega arith in
+    let cut : take (k + length (lines_in m 0 x) - k) (drop k (lines_of h (tree_at m h r ∷ []))) ≡ lines_in m 0 x =
+    g.gone in
     record {
-      line = l.0.1;
-      at = l.1 ∙ (λ i. Some (l.2 i, l.0.1));
-      found = has.found;
-      is = ap (finite.get m) (sym l.2) ∙ has.is;
-      has = has.line;
+      line = l.0;
+      at = first-of ls k (x, l.0) (ap (λ i. take i (drop k ls)) (sym e)
+          ∙ ap (λ zs. take (k + length (lines_in m 0 x) - k) (drop k zs)) (sym (append-nil ls)) ∙ cut ∙ one);
+      found = g.tree.found;
+      is = g.tree.is;
+      has = g.tree.line ∙ l.1;
+      one = one;
     }
 
-pub gone-after : (m n u : Records) (h i : ℕ) (r s : NodePtr) (k : ℕ) (x : NodePtr) → Removes m n h r k x →
-    Lowers n u h r i s → finite.get u x ≡ finite.get m x
-gone-after m n u h i r s k x removes lowers =
-    lowers.other x (λ a. removes.shrinks.out (to-one x (names h (tree_at n h r)) a)) ∙ removes.shrinks.left
+-- ---- what was taken out stands as it did, and in the tree no more
+pub gone-after : (m n u : Records) (h i : ℕ) (r s : NodePtr) (k j : ℕ) (x : NodePtr) → Removes m n h r k j x →
+    Lowers n u h r i s → (q : NodePtr) → Among q (names j (tree_at m j x)) → finite.get u q ≡ finite.get m q
+gone-after m n u h i r s k j x removes lowers q a =
+    lowers.other q (λ b. removes.shrinks.out q a (to-one q (names h (tree_at n h r)) b)) ∙ removes.shrinks.left q a
 
-pub gone-out : (m n u : Records) (h i : ℕ) (r s : NodePtr) (k : ℕ) (x : NodePtr) → Removes m n h r k x →
-    Lowers n u h r i s → Among x (names i (tree_at u i s)) → ⊥
-gone-out m n u h i r s k x removes lowers a =
-    removes.shrinks.out (to-one x (names h (tree_at n h r)) (lowers.within x a))
+pub gone-out : (m n u : Records) (h i : ℕ) (r s : NodePtr) (k j : ℕ) (x : NodePtr) → Removes m n h r k j x →
+    Lowers n u h r i s → (q : NodePtr) → Among q (names j (tree_at m j x)) → Among q (names i (tree_at u i s)) → ⊥
+gone-out m n u h i r s k j x removes lowers q a b =
+    removes.shrinks.out q a (to-one q (names h (tree_at n h r)) (lowers.within q b))
+
+pub branch-after : (m n u : Records) (h i : ℕ) (r s : NodePtr) (k j : ℕ) (x : NodePtr) → Removes m n h r k j x →
+    Lowers n u h r i s → IsTree u j x × (tree_at u j x ≡ tree_at m j x)
+branch-after m n u h i r s k j x removes lowers =
+    let t = tree_at m j x in
+    let holds = holds-same m u j t removes.shrinks.tree (gone-after m n u h i r s k j x removes lowers) in
+    let same : tree_at u j x ≡ t = ap (tree_at u j) (sym (top-tree_at m j x)) ∙ tree-is u j t holds in
+    (subst (Holds u j) (sym same) holds, same)
 
 pub only-child : (cs : List NodePtr) (c : NodePtr) → slice_get cs 0 ≡ Some c → length cs ≤ 1 → cs ≡ c ∷ []
 only-child [] c at few = absurd (none-some c at)
@@ -248,24 +234,36 @@ only-child (d ∷ []) c at few = ap (λ z. z ∷ []) (same_Some d c at)
 only-child (d ∷ e ∷ cs) c at few = absurd (omega arith)
 
 -- ---- no other record
-pub alone-after : (m n u : Records) (h i : ℕ) (r s : NodePtr) (k : ℕ) (x : NodePtr) → StandsAlone m h r →
-    Removes m n h r k x → Cleans m n h r x → Lowers n u h r i s → StandsAlone (finite.remove u x) i s
-alone-after m n u h i r s k x alone removes clean lowers =
-    let last = stands-drop u i s x lowers.stands (gone-out m n u h i r s k x removes lowers) in
-    let same : tree_at (finite.remove u x) i s
-    ≡ tree_at u i s = drop-same u i s x lowers.stands (gone-out m n u h i r s k x removes lowers) in
+pub alone-after : (m n u v : Records) (h i : ℕ) (r s : NodePtr) (k j : ℕ) (x : NodePtr) → StandsAlone m h r →
+    Removes m n h r k j x → Cleans m n h r j x → Lowers n u h r i s → Without u v (names j (tree_at m j x)) →
+    StandsAlone v i s
+alone-after m n u v h i r s k j x alone removes clean lowers w =
+    let ps = names j (tree_at m j x) in
+    let apart = gone-out m n u h i r s k j x removes lowers in
+    let same = same-without u v i s ps lowers.stands w apart in
     record {
-      stands = last.0;
-      whole = λ q c. let named = remove-named u x q c in
+      stands = (stands-without u v i s ps lowers.stands w apart).0;
+      whole = λ q c. let kept : Among q ps → ⊥ = λ a. unnamed v q c (w.gone q a) in
           subst (λ t. Among q (names i t)) (sym same) (elim (among-or q (names i (tree_at u i s))) [
             | inl a ↦ a
             | inr out ↦
-                let before = lowers.clean q named.1 out in
+                let before = lowers.clean q (subst (λ o. IsSome o) (w.other q kept) c) out in
                 absurd (elim (among-or q (names h (tree_at m h r))) [
-                  | inl a ↦ unnamed n q before.0 (clean q a before.1 named.0)
+                  | inl a ↦ unnamed n q before.0 (clean q a before.1 kept)
                   | inr off ↦ off
                       (alone.whole q (subst (λ o. IsSome o)
                       (removes.shrinks.other q (λ a. off (of-one q (names h (tree_at m h r)) a))) before.0))
                 ])
           ]);
     }
+
+-- ---- the lines that are left
+pub taken-out : (m n u v : Records) (h i : ℕ) (r s : NodePtr) (k j : ℕ) (x : NodePtr) → StandsAlone m h r →
+    Removes m n h r k j x → Cleans m n h r j x → Lowers n u h r i s → Without u v (names j (tree_at m j x)) →
+    StandsAlone v i s × (lines_in v i s ≡ removed k (k + length (lines_in m j x)) (lines_in m h r))
+taken-out m n u v h i r s k j x alone removes clean lowers w =
+    let apart = gone-out m n u h i r s k j x removes lowers in (
+      alone-after m n u v h i r s k j x alone removes clean lowers w,
+      (stands-without u v i s (names j (tree_at m j x)) lowers.stands w apart).1 ∙ lowers.lines
+          ∙ line-removed m n h r k j x removes,
+    )

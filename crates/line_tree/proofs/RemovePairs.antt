@@ -18,9 +18,9 @@ use Rattle.raw_nodes.proofs.PlaceLaws.{same_or_other}
 use Rattle.line_tree.specs.Changes.{Among, CanFill, Distinct, Mends, Merges, Shares, refilled}
 use Rattle.line_tree.specs.Changes.{sum_all}
 use Rattle.line_tree.specs.Finds.{Finds, HasRow}
-use Rattle.line_tree.specs.Growth.{IsWide, names_of}
+use Rattle.line_tree.specs.Growth.{IsWide, lines_of, names_of}
 use Rattle.toggle_sums.specs.Counts.{plus}
-use Rattle.line_tree.specs.Shape.{Holds, Links, sum_at, sum_of, tree_at}
+use Rattle.line_tree.specs.Shape.{Holds, Links, lines_in, sum_at, sum_of, tree_at}
 use Rattle.line_tree.specs.Shrinking.{CanMend, CanRemove, Cleans, Removes, Settles, Shrinks, Turns}
 use Rattle.line_tree.specs.Trees.{IsBalanced, Tree, names, tops, total}
 use Rattle.line_tree.specs.declared.find.Found.{Found}
@@ -33,16 +33,16 @@ use Rattle.line_tree.proofs.GrowLaws.{all-append, in-cases, in-left, in-right, n
 use Rattle.line_tree.proofs.InsertLaws.{has-kept}
 use Rattle.line_tree.proofs.PairLaws.{merge-inside, share-inside}
 use Rattle.line_tree.proofs.PairLaws.{two-right}
-use Rattle.line_tree.proofs.NeighbourLaws.{Siblings, can-even, hold-left, hold-right, merge-links, merge-turns, pair-apart}
-use Rattle.line_tree.proofs.NeighbourLaws.{pair-facts, pair-long, pair-placed, pair-right-apart, pair-two-apart}
+use Rattle.line_tree.proofs.NeighbourLaws.{Siblings, can-even, hold-left, hold-right, merge-links, merge-turns}
+use Rattle.line_tree.proofs.NeighbourLaws.{pair-apart, pair-facts, pair-long, pair-placed, pair-right-apart, pair-two-apart}
 use Rattle.line_tree.proofs.NeighbourLaws.{share-balanced, share-links, share-named, share-turns, tops-among-two}
 use Rattle.line_tree.proofs.NeighbourLaws.{turns-among}
 use Rattle.line_tree.proofs.RemoveLaws.{can-fill, drop-tree, finish, removes-drop}
-use Rattle.line_tree.proofs.RemoveSteps.{all-from, balanced-but, balanced-child, fits-now, has-now, in-drop, in-take}
-use Rattle.line_tree.proofs.RemoveSteps.{kids-same, links-now, node-same, now-lost, pair-remove, pair-same}
+use Rattle.line_tree.proofs.RemoveSteps.{all-from, balanced-but, balanced-child, fits-now, gone-same, has-now, in-drop}
+use Rattle.line_tree.proofs.RemoveSteps.{in-take, kids-same, links-now, node-same, now-lost, pair-remove, pair-same}
 use Rattle.line_tree.proofs.RemoveSteps.{shrinks-now}
 use Rattle.line_tree.proofs.ShrinkLaws.{shrinks-turns}
-use Rattle.line_tree.proofs.LessLaws.{line-gone}
+use Rattle.line_tree.proofs.LessLaws.{total-gone}
 use Rattle.line_tree.proofs.TreeLaws.{child-tree, row-tree, sum-tree, tops-tree_at}
 use Rattle.line_tree.proofs.UpdateLaws.{InnerIn, inner-refilled, inner-row, named-refilled}
 
@@ -52,7 +52,7 @@ without cs None = cs
 without cs (Some s) = remove cs s
 
 module _ (m : Records) (g : ℕ) (p : NodePtr) (k : ℕ) (can : CanRemove m (suc (suc g)) p k) (f : Found)
-    (finds : Finds m p k f) (l : Records) (x : NodePtr) (rem : Removes m l (suc g) f.child f.rest x) where
+    (finds : Finds m p k f) (l : Records) (h : ℕ) (x : NodePtr) (rem : Removes m l (suc g) f.child f.rest h x) where
   abbrev cs : List NodePtr
   cs = kids m p
 
@@ -62,15 +62,15 @@ module _ (m : Records) (g : ℕ) (p : NodePtr) (k : ℕ) (can : CanRemove m (suc
   abbrev ts : List (Tree (suc g))
   ts = map (tree_at m (suc g)) (kids m p)
 
-  shrinks : Shrinks m l (suc g) ts k x now
-  shrinks = shrinks-now m (suc g) p k can f finds l x rem
+  shrinks : Shrinks m l (suc g) ts k h x now
+  shrinks = shrinks-now m (suc g) p k can f finds l h x rem
 
   siblings : Siblings l g p cs
   siblings = record {
     holds = shrinks.holds;
     distinct = shrinks.distinct;
-    fits = fits-now m (suc g) p k can f finds l x rem;
-    links = links-now m (suc g) p k can f finds l x rem;
+    fits = fits-now m (suc g) p k can f finds l h x rem;
+    links = links-now m (suc g) p k can f finds l h x rem;
   }
 
   -- q is the child that o tells
@@ -82,7 +82,7 @@ module _ (m : Records) (g : ℕ) (p : NodePtr) (k : ℕ) (can : CanRemove m (suc
   -- what is there before the node's own children are told
   pub record Ready (n : Records) (o : Option ℕ) : Type 0 where
     pub trees : List (Tree (suc g))
-    pub shrinks : Shrinks m n (suc g) ts k x trees
+    pub shrinks : Shrinks m n (suc g) ts k h x trees
     pub tops : Rattle.line_tree.specs.Trees.tops (suc g) trees ≡ without cs o
     pub balanced : AllByRecursion (IsBalanced (suc g)) trees
     pub same : finite.get n p ≡ finite.get m p
@@ -91,8 +91,9 @@ module _ (m : Records) (g : ℕ) (p : NodePtr) (k : ℕ) (can : CanRemove m (suc
     pub links : Links n p 0 cs
     pub slot : (s : ℕ) → o ≡ Some s → s < length cs
     pub gone : (s : ℕ) (q : NodePtr) → o ≡ Some s → slice_get cs s ≡ Some q → Among q (names_of (suc g) trees) → ⊥
-    pub lost : Cleans m l (suc g) f.child x → (q : NodePtr) → Among q (names_of (suc g) ts) →
-        (Among q (names_of (suc g) trees) → ⊥) → q ≢ x → (finite.get n q ≡ None) ⊎ IsGone o q
+    pub lost : Cleans m l (suc g) f.child h x → (q : NodePtr) → Among q (names_of (suc g) ts) →
+        (Among q (names_of (suc g) trees) → ⊥) → (Among q (names h (tree_at m h x)) → ⊥) →
+        (finite.get n q ≡ None) ⊎ IsGone o q
 
   -- ---- two neighbours
   module _ (j : ℕ) (a b : NodePtr) (at_a : slice_get (kids m p) j ≡ Some a) (at_b : slice_get (kids m p) (suc j)
@@ -120,17 +121,17 @@ module _ (m : Records) (g : ℕ) (p : NodePtr) (k : ℕ) (can : CanRemove m (suc
 
     -- what stands in their place
     turned : (n : Records) (new : List (Tree (suc g))) → Turns l n (suc g) two new →
-        Shrinks m n (suc g) ts k x (left ++ (new ++ right))
-    turned n new turn = shrinks-turns m l n (suc g) ts k x now (left ++ (new ++ right)) shrinks
+        Shrinks m n (suc g) ts k h x (left ++ (new ++ right))
+    turned n new turn = shrinks-turns m l n (suc g) ts k h x now (left ++ (new ++ right)) shrinks
         (turns-among l g p cs siblings j a b at_a at_b n new turn)
 
     turn-same : (n : Records) (new : List (Tree (suc g))) → Turns l n (suc g) two new → finite.get n p ≡ finite.get l p
     turn-same n new turn =
         (turns-among l g p cs siblings j a b at_a at_b n new turn).other p (λ s. can.distinct.0 (shrinks.within p s))
 
-    off-two : (n : Records) (new : List (Tree (suc g))) → Turns l n (suc g) two new → Cleans m l (suc g) f.child x →
+    off-two : (n : Records) (new : List (Tree (suc g))) → Turns l n (suc g) two new → Cleans m l (suc g) f.child h x →
         (q : NodePtr) → Among q (names_of (suc g) ts) → (Among q (names_of (suc g) (left ++ (new ++ right))) → ⊥)
-        → (Among q (names_of (suc g) two) → ⊥) → q ≢ x → finite.get n q ≡ None
+        → (Among q (names_of (suc g) two) → ⊥) → (Among q (names h (tree_at m h x)) → ⊥) → finite.get n q ≡ None
     off-two n new turn clean q s out off n2 =
         let not_now : Among q (names_of (suc g) now) →
         ⊥ = λ i. elim (in-cases (suc g) left (two ++ right) q
@@ -139,7 +140,7 @@ module _ (m : Records) (g : ℕ) (p : NodePtr) (k : ℕ) (can : CanRemove m (suc
           | inr c ↦ elim (in-cases (suc g) two right q c)
               [ inl e ↦ off e | inr e ↦ out (in-right (suc g) left (new ++ right) q (in-right (suc g) new right q e)) ]
         ] in
-        turn.other q off ∙ now-lost m (suc g) p k can f finds l x rem clean q s not_now n2
+        turn.other q off ∙ now-lost m (suc g) p k can f finds l h x rem clean q s not_now n2
 
     module _ (near : (j ≡ f.slot) ⊎ (suc j ≡ f.slot)) where
       before-slot : (i : ℕ) → i < j → i ≢ f.slot
@@ -157,10 +158,10 @@ module _ (m : Records) (g : ℕ) (p : NodePtr) (k : ℕ) (can : CanRemove m (suc
       sides new balanced =
           all-append (IsBalanced (suc g)) left (new ++ right)
           (all-from (IsBalanced (suc g)) (tree_at l (suc g)) (take j cs) (λ i d at. let r = in-take j cs i d at in
-          balanced-but m (suc g) p k can f finds l x rem i d r.1 (before-slot i r.0)))
+          balanced-but m (suc g) p k can f finds l h x rem i d r.1 (before-slot i r.0)))
           (all-append (IsBalanced (suc g)) new right balanced
           (all-from (IsBalanced (suc g)) (tree_at l (suc g)) (drop (suc (suc j)) cs) (λ i d at.
-          balanced-but m (suc g) p k can f finds l x rem (suc (suc j) + i) d (in-drop (suc (suc j)) cs i d at)
+          balanced-but m (suc g) p k can f finds l h x rem (suc (suc j) + i) d (in-drop (suc (suc j)) cs i d at)
           (after-slot i))))
 
       wide-child : (d : NodePtr) (i : ℕ) → slice_get cs i ≡ Some d → i ≡ f.slot → IsWide 5 (suc g) (tree_at l (suc g) d)
@@ -173,12 +174,12 @@ module _ (m : Records) (g : ℕ) (p : NodePtr) (k : ℕ) (can : CanRemove m (suc
       many = elim near [
         | inl e ↦
             let wa = wide-child a j at_a e in
-            let wb = balanced-but m (suc g) p k can f finds l x rem (suc j) b at_b (λ o. next-not j (e ∙ sym o)) in
+            let wb = balanced-but m (suc g) p k can f finds l h x rem (suc j) b at_b (λ o. next-not j (e ∙ sym o)) in
             let n = length-append xs ys in let la = wa.0 in let lb = wb.0 in
             (omega arith, all-append (IsBalanced g) xs ys wa.2 wb.2)
         | inr e ↦
             let wb = wide-child b (suc j) at_b e in
-            let wa = balanced-but m (suc g) p k can f finds l x rem j a at_a (λ o. next-not j (o ∙ sym e)) in
+            let wa = balanced-but m (suc g) p k can f finds l h x rem j a at_a (λ o. next-not j (o ∙ sym e)) in
             let n = length-append xs ys in let la = wa.0 in let lb = wb.0 in
             (omega arith, all-append (IsBalanced g) xs ys wa.2 wb.2)
       ] where
@@ -195,7 +196,7 @@ module _ (m : Records) (g : ℕ) (p : NodePtr) (k : ℕ) (can : CanRemove m (suc
             shrinks = turned n new turn;
             tops = tops-among-two l g p cs siblings j a b at_a at_b new ∙ sym (pair-same cs j a b at_a at_b);
             balanced = sides new (share-balanced l g p cs siblings j a b at_a at_b n shares many.1);
-            same = turn-same n new turn ∙ node-same m (suc g) p k can f finds l x rem;
+            same = turn-same n new turn ∙ node-same m (suc g) p k can f finds l h x rem;
             named = share-named l g p cs siblings j a b at_a at_b n shares;
             still_inner = λ q s. subst (λ z. InnerIn z q) (sym shares.same)
                 (inner-refilled (refilled l a (row (take shares.half (kids l a ++ kids l b)))) b
@@ -208,7 +209,8 @@ module _ (m : Records) (g : ℕ) (p : NodePtr) (k : ℕ) (can : CanRemove m (suc
                 inl (off-two n new turn clean q s out (λ i.
                 out (in-right (suc g) left (new ++ right) q
                 (in-left (suc g) new right q (share-inside l g a b xs ys (hold-left l g p cs siblings j a b at_a at_b)
-                (hold-right l g p cs siblings j a b at_a at_b) (pair-two-apart l g p cs siblings j a b at_a at_b) shares.half
+                (hold-right l g p cs siblings j a b at_a at_b) (pair-two-apart l g p cs siblings j a b at_a at_b)
+                shares.half
                 q i)))) n2);
           }
 
@@ -240,7 +242,7 @@ module _ (m : Records) (g : ℕ) (p : NodePtr) (k : ℕ) (can : CanRemove m (suc
             shrinks = turned n new turn;
             tops = tops-among-two l g p cs siblings j a b at_a at_b new ∙ sym (pair-remove cs j a b at_a at_b);
             balanced = sides new balanced;
-            same = turn-same n new turn ∙ node-same m (suc g) p k can f finds l x rem;
+            same = turn-same n new turn ∙ node-same m (suc g) p k can f finds l h x rem;
             named = λ q s. subst (λ z. IsSome (finite.get z q)) (sym merges.same)
                 (named-refilled l a (row (kids l a ++ kids l b)) q s);
             still_inner =
@@ -252,7 +254,8 @@ module _ (m : Records) (g : ℕ) (p : NodePtr) (k : ℕ) (can : CanRemove m (suc
                 (same_Some q b (sym at ∙ ap (slice_get cs) (sym (same_Some (suc j) s e)) ∙ at_b)) r);
             lost = λ clean q s out n2. elim (among-or q (names_of (suc g) two)) [
               | inl i ↦ elim (merge-inside l g a b xs ys (hold-left l g p cs siblings j a b at_a at_b)
-                  (hold-right l g p cs siblings j a b at_a at_b) (pair-two-apart l g p cs siblings j a b at_a at_b) q i) [
+                  (hold-right l g p cs siblings j a b at_a at_b)
+                  (pair-two-apart l g p cs siblings j a b at_a at_b) q i) [
                     | inl c ↦ absurd (out (in-right (suc g) left (new ++ right) q (in-left (suc g) new right q c)))
                     | inr e ↦ inr (record { slot = suc j; is = refl; at = at_b ∙ ap (λ z. Some z) (sym e) })
                   ]
@@ -272,25 +275,25 @@ module _ (m : Records) (g : ℕ) (p : NodePtr) (k : ℕ) (can : CanRemove m (suc
           let w = rem.wide 5 (balanced-child m (suc g) p k can f finds) in
           let n = length-map (kids l f.child) (tree_at l g) in
           subst (λ z. IsBalanced (suc g) (tree_at l (suc g) z)) c (omega arith, w.1, w.2)
-      | inr e ↦ balanced-but m (suc g) p k can f finds l x rem j d at e
+      | inr e ↦ balanced-but m (suc g) p k can f finds l h x rem j d at e
     ]);
-    same = node-same m (suc g) p k can f finds l x rem;
+    same = node-same m (suc g) p k can f finds l h x rem;
     named = λ q s. s;
     still_inner = λ q s. s;
-    links = links-now m (suc g) p k can f finds l x rem;
+    links = links-now m (suc g) p k can f finds l h x rem;
     slot = λ s e. absurd (none-some s e);
     gone = λ s q e at. absurd (none-some s e);
-    lost = λ clean q s out n2. inl (now-lost m (suc g) p k can f finds l x rem clean q s out n2);
+    lost = λ clean q s out n2. inl (now-lost m (suc g) p k can f finds l h x rem clean q s out n2);
   }))
 
   shared : (n : Records) (o : Option ℕ) → Mends l n p f.slot o → Ready n o
   shared n None mends =
-      let ks = kids-same m (suc g) p k can f finds l x rem in
+      let ks = kids-same m (suc g) p k can f finds l h x rem in
       let at_a = ap (λ zs. slice_get zs mends.at) (sym ks) ∙ mends.is_left in
       let at_b = ap (λ zs. slice_get zs (suc mends.at)) (sym ks) ∙ mends.is_right in
       share mends.at mends.left mends.right at_a at_b mends.near n mends.evens
   shared n (Some s) mends =
-      let ks = kids-same m (suc g) p k can f finds l x rem in
+      let ks = kids-same m (suc g) p k can f finds l h x rem in
       let at_a = ap (λ zs. slice_get zs mends.at) (sym ks) ∙ mends.is_left in
       let at_b = ap (λ zs. slice_get zs (suc mends.at)) (sym ks) ∙ mends.is_right in
       subst (λ z. Ready n (Some z)) (sym mends.gap)
@@ -300,7 +303,7 @@ module _ (m : Records) (g : ℕ) (p : NodePtr) (k : ℕ) (can : CanRemove m (suc
   ready n o settles = elim settles.ways [ inl kept ↦ stays n o kept.0 kept.1 kept.2 | inr mends ↦ shared n o mends ]
 
   pub can-mend : CanMend l p
-  can-mend i a b at_a at_b = let ks = kids-same m (suc g) p k can f finds l x rem in
+  can-mend i a b at_a at_b = let ks = kids-same m (suc g) p k can f finds l h x rem in
       can-even l g p cs siblings i a b (ap (λ zs. slice_get zs i) (sym ks) ∙ at_a)
       (ap (λ zs. slice_get zs (suc i)) (sym ks) ∙ at_b)
 
@@ -316,8 +319,8 @@ module _ (m : Records) (g : ℕ) (p : NodePtr) (k : ℕ) (can : CanRemove m (suc
     kids-ready = ap kids_of is-ready.same
 
     pub has-ready : HasRow n p
-    has-ready = has-kept l n p (has-now m (suc g) p k can f finds l x rem) (is-ready.same
-        ∙ sym (node-same m (suc g) p k can f finds l x rem)) is-ready.named
+    has-ready = has-kept l n p (has-now m (suc g) p k can f finds l h x rem) (is-ready.same
+        ∙ sym (node-same m (suc g) p k can f finds l h x rem)) is-ready.named
 
     pub links-ready : Links n p 0 (kids n p)
     links-ready = subst (Links n p 0) (sym kids-ready) is-ready.links
@@ -333,8 +336,8 @@ module _ (m : Records) (g : ℕ) (p : NodePtr) (k : ℕ) (can : CanRemove m (suc
         let d = length-map is-ready.trees (λ (t : Tree (suc g)). t.0) in (omega arith, omega arith)
 
     fill-trees : CanFill n p (tops (suc g) is-ready.trees)
-    fill-trees = can-fill m n (suc g) p ts k x is-ready.trees is-ready.shrinks can.distinct.0 has-ready long-ready.0
-        can.place can.fits
+    fill-trees = can-fill m n (suc g) p ts k h x is-ready.trees is-ready.shrinks can.distinct.0 has-ready
+        long-ready.0 can.fits
 
     pub fill-ready : CanFill n p (without (kids n p) o)
     fill-ready =
@@ -343,8 +346,9 @@ module _ (m : Records) (g : ℕ) (p : NodePtr) (k : ℕ) (can : CanRemove m (suc
     pub slot-ready : (s : ℕ) → o ≡ Some s → s < length (kids n p)
     slot-ready s e = let w = is-ready.slot s e in let q = ap length kids-ready in omega arith
 
-    pub removes-ready : (u : Records) → u ≡ refilled n p (row (without (kids n p) o)) → Removes m u (suc (suc g)) p k x
-    removes-ready u is = finish m n u (suc g) p k x is-ready.trees can is-ready.shrinks is-ready.same fill-trees
+    pub removes-ready : (u : Records) → u ≡ refilled n p (row (without (kids n p) o)) →
+        Removes m u (suc (suc g)) p k h x
+    removes-ready u is = finish m n u (suc g) p k h x is-ready.trees can is-ready.shrinks is-ready.same fill-trees
         is-ready.balanced long-ready.1
         (is ∙ ap (λ zs. refilled n p (row (without zs o))) kids-ready
         ∙ ap (λ zs. refilled n p (row zs)) (sym is-ready.tops))
@@ -354,8 +358,9 @@ module _ (m : Records) (g : ℕ) (p : NodePtr) (k : ℕ) (can : CanRemove m (suc
     sum-ready =
         let left = ap (λ zs. sum_all n (without zs o)) kids-ready ∙ ap (sum_all n) (sym is-ready.tops)
         ∙ sum-trees n (suc g) is-ready.trees is-ready.shrinks.holds ∙ ap total is-ready.shrinks.line in
-        let line = ap sum_of shrinks.left in
-        (λ i. plus (left i) (line i)) ∙ line-gone m (suc (suc g)) p k x can.tree shrinks.gone
+        let gone = ap sum_of (gone-same m (suc g) p k can f finds l h x rem) ∙ sum-tree m h x shrinks.tree
+        ∙ ap total (sym shrinks.gone) in
+        (λ i. plus (left i) (gone i)) ∙ total-gone (lines_of (suc g) ts) k (k + length (lines_in m h x)) (omega arith)
         ∙ sym (ap sum_of is-ready.same ∙ sum-tree m (suc (suc g)) p can.tree)
 
     -- a child is no line
@@ -366,7 +371,7 @@ module _ (m : Records) (g : ℕ) (p : NodePtr) (k : ℕ) (can : CanRemove m (suc
 
     -- the child without children is given back
     pub removes-gone : (u : Records) (s : ℕ) (b : NodePtr) → o ≡ Some s → slice_get (kids n p) s ≡ Some b →
-        u ≡ refilled n p (row (without (kids n p) o)) → Removes m (finite.remove u b) (suc (suc g)) p k x
+        u ≡ refilled n p (row (without (kids n p) o)) → Removes m (finite.remove u b) (suc (suc g)) p k h x
     removes-gone u s b e at is =
         let r = removes-ready u is in
         let at_cs = ap (λ zs. slice_get zs s) (sym kids-ready) ∙ at in
@@ -374,9 +379,9 @@ module _ (m : Records) (g : ℕ) (p : NodePtr) (k : ℕ) (can : CanRemove m (suc
         in
         let inside = tops-among (suc g) ts b top in
         let p_b : p ≢ b = λ i. can.distinct.0 (subst (λ z. Among z (names_of (suc g) ts)) (sym i) inside) in
-        let b_x : b ≢ x = λ i.
-        shrinks.out (subst (λ z. Among z (names_of (suc g) now)) i
-        (tops-among (suc g) now b (subst (Among b) (sym (tops-tree_at l (suc g) cs)) (get-among cs s b at_cs)))) in
+        let b_x : Among b (names h (tree_at m h x)) → ⊥ = λ i.
+        shrinks.out b i
+        (tops-among (suc g) now b (subst (Among b) (sym (tops-tree_at l (suc g) cs)) (get-among cs s b at_cs))) in
         let tree : tree_at u (suc (suc g)) p ≡ (p, is-ready.trees) = tree-is u (suc (suc g)) (
           p,
           is-ready.trees,
@@ -385,7 +390,7 @@ module _ (m : Records) (g : ℕ) (p : NodePtr) (k : ℕ) (can : CanRemove m (suc
         ∙ ap (λ zs. refilled n p (row zs)) (sym is-ready.tops)))
         (built n (suc g) p is-ready.trees fill-trees is-ready.shrinks.holds
         ((λ i. can.distinct.0 (is-ready.shrinks.within p i)), is-ready.shrinks.distinct))) in
-        removes-drop m u (suc (suc g)) p k x b r
+        removes-drop m u (suc (suc g)) p k h x b r
         (λ i. elim (subst (λ t. Among b (names (suc (suc g)) t)) tree i)
         [ inl q ↦ p_b (sym q) | inr q ↦ is-ready.gone s b e at_cs q ])
         (inr inside) b_x p_b
@@ -399,9 +404,9 @@ module _ (m : Records) (g : ℕ) (p : NodePtr) (k : ℕ) (can : CanRemove m (suc
         (built n (suc g) p is-ready.trees fill-trees is-ready.shrinks.holds
         ((λ i. can.distinct.0 (is-ready.shrinks.within p i)), is-ready.shrinks.distinct)))
 
-    lost-ready : Cleans m l (suc g) f.child x → (u : Records) → u ≡ refilled n p (row (without (kids n p) o)) →
+    lost-ready : Cleans m l (suc g) f.child h x → (u : Records) → u ≡ refilled n p (row (without (kids n p) o)) →
         (q : NodePtr) → Among q (names (suc (suc g)) (tree_at m (suc (suc g)) p)) →
-        (Among q (names (suc (suc g)) (tree_at u (suc (suc g)) p)) → ⊥) → q ≢ x
+        (Among q (names (suc (suc g)) (tree_at u (suc (suc g)) p)) → ⊥) → (Among q (names h (tree_at m h x)) → ⊥)
         → (finite.get u q ≡ None) ⊎ IsGone o q
     lost-ready clean u is q a out n2 =
         let off : Among q (p ∷ names_of (suc g) is-ready.trees) →
@@ -418,14 +423,14 @@ module _ (m : Records) (g : ℕ) (p : NodePtr) (k : ℕ) (can : CanRemove m (suc
           ]
         ]
 
-    pub cleans-ready : Cleans m l (suc g) f.child x → (u : Records) → u ≡ refilled n p (row (without (kids n p) o)) →
-        o ≡ None → Cleans m u (suc (suc g)) p x
+    pub cleans-ready : Cleans m l (suc g) f.child h x → (u : Records) → u ≡ refilled n p (row (without (kids n p) o)) →
+        o ≡ None → Cleans m u (suc (suc g)) p h x
     cleans-ready clean u is none q a out n2 = elim (lost-ready clean u is q a out n2)
         [ inl e ↦ e | inr gone ↦ absurd (none-some gone.slot (sym none ∙ gone.is)) ]
 
-    pub cleans-gone : Cleans m l (suc g) f.child x → (u : Records) (s : ℕ) (b : NodePtr) → o ≡ Some s →
+    pub cleans-gone : Cleans m l (suc g) f.child h x → (u : Records) (s : ℕ) (b : NodePtr) → o ≡ Some s →
         slice_get (kids n p) s ≡ Some b → u ≡ refilled n p (row (without (kids n p) o)) →
-        Cleans m (finite.remove u b) (suc (suc g)) p x
+        Cleans m (finite.remove u b) (suc (suc g)) p h x
     cleans-gone clean u s b e at is q a out n2 =
         let at_cs = ap (λ zs. slice_get zs s) (sym kids-ready) ∙ at in
         let top : Among b (tops (suc g) ts) = subst (Among b) (sym (tops-tree_at m (suc g) cs)) (get-among cs s b at_cs)
@@ -435,7 +440,7 @@ module _ (m : Records) (g : ℕ) (p : NodePtr) (k : ℕ) (can : CanRemove m (suc
         let off : Among b (names (suc (suc g)) (tree_at u (suc (suc g)) p)) →
         ⊥ = λ i. elim (subst (λ t. Among b (names (suc (suc g)) t)) (tree-ready u is) i)
         [ inl r ↦ p_b (sym r) | inr r ↦ is-ready.gone s b e at_cs r ] in
-        let tree = drop-tree m u (suc (suc g)) p k x b (removes-ready u is) off in
+        let tree = drop-tree m u (suc (suc g)) p k h x b (removes-ready u is) off in
         elim (same_or_other q b) [
           | inl same ↦ ap (finite.get (finite.remove u b)) same ∙ get_removed u b
           | inr other ↦ get_unmoved u b q other

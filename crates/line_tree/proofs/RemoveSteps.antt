@@ -6,10 +6,12 @@ use Rattle.std.specs.FinMap as finite
 use Rattle.std.specs.List.{AllByRecursion, remove}
 use Rattle.std.specs.declared.option.Option.{Option}
 use Rattle.std.specs.declared.option.Option.TheVariants.{None, Some}
-use Rattle.std.proofs.lemmas.List.{drop-map, length-map, map-append, take-map}
+use Rattle.std.proofs.lemmas.List.{length-map, map-append}
 use Rattle.std.proofs.lemmas.List.Concat.{flat_map-append}
 use Rattle.std.proofs.lemmas.List.Edits.{length-remove}
-use Rattle.std.proofs.lemmas.Option.{none-some, same_Some, slice_get-map, slice_get_within, slice_get-get_or}
+use Rattle.std.proofs.lemmas.Option.{none-some, same_Some, slice_get-map, slice_get_within}
+use Rattle.toggle_sums.specs.Counts.{plus}
+use Rattle.segments.specs.Columns.{LineContent}
 use Rattle.raw_nodes.specs.Records.{Records}
 use Rattle.raw_nodes.specs.Rows.{kids, kids_of, row}
 use Rattle.raw_nodes.specs.declared.names.NodePtr.{NodePtr}
@@ -22,16 +24,17 @@ use Rattle.line_tree.specs.Shrinking.{CanRemove, Cleans, Removes, Shrinks}
 use Rattle.line_tree.specs.Trees.{IsBalanced, Tree, inner, lines, names, tops, total}
 use Rattle.line_tree.specs.declared.find.Found.{Found}
 use Rattle.line_tree.proofs.AmongLaws.{among-cases, among-get, among-left, among-right}
-use Rattle.line_tree.proofs.BuildLaws.{sum-trees, tree-is, trees-is}
+use Rattle.line_tree.proofs.BuildLaws.{sum-kids, tree-is, trees-is}
 use Rattle.line_tree.proofs.DistinctLaws.{distinct-left, distinct-right}
-use Rattle.line_tree.proofs.FrameLaws.{inner-no-top, names-all-held}
-use Rattle.line_tree.proofs.GrowLaws.{all-left, all-right, in-cases, in-left, in-right, names-append, of-one}
-use Rattle.line_tree.proofs.InsertLaws.{all-get, length-lines, lines-balanced}
-use Rattle.line_tree.proofs.RemoveLaws.{can-fill, finish, fits-part, fits-remove}
-use Rattle.line_tree.proofs.ShrinkLaws.{shrinks-line, shrinks-up, shrinks-wide}
-use Rattle.line_tree.proofs.StepLaws.{at-place, keeps-same, links-kept}
-use Rattle.line_tree.proofs.TreeLaws.{child-tree, count-tree, counted, named-tree, row-tree, sum-tree, top-tree_at}
-use Rattle.line_tree.proofs.TreeLaws.{tops-tree_at}
+use Rattle.line_tree.proofs.FrameLaws.{inner-no-top}
+use Rattle.line_tree.proofs.GrowLaws.{all-append, all-left, all-right, in-cases, in-left, in-right, names-append}
+use Rattle.line_tree.proofs.GrowLaws.{of-one}
+use Rattle.line_tree.proofs.InsertLaws.{all-get}
+use Rattle.line_tree.proofs.LessLaws.{sum_all-remove}
+use Rattle.line_tree.proofs.RemoveLaws.{can-fill, finish, fits-part, fits-removed}
+use Rattle.line_tree.proofs.ShrinkLaws.{shrinks-one, shrinks-up, shrinks-wide}
+use Rattle.line_tree.proofs.StepLaws.{at-place, keeps-same, links-kept, split-same}
+use Rattle.line_tree.proofs.TreeLaws.{child-tree, count-tree, counted, named-tree, row-tree, top-tree_at, tops-tree_at}
 
 -- ---- lists by index
 all-but : {X : Type 0} (P : X → Type 0) (ls : List X) (t : X) (rs : List X) → AllByRecursion P ls →
@@ -86,74 +89,14 @@ pair-remove (x ∷ []) zero a b at_a at_b = absurd (none-some b at_b)
 pair-remove (x ∷ y ∷ xs) zero a b at_a at_b = ap (λ z. z ∷ xs) (same_Some x a at_a)
 pair-remove (x ∷ xs) (suc i) a b at_a at_b = ap (λ zs. x ∷ zs) (pair-remove xs i a b at_a at_b)
 
--- ---- at the lowest level
-module _ (m : Records) (p : NodePtr) (k : ℕ) (can : CanRemove m 1 p k) where
-  abbrev leaves : List (Tree 0)
-  leaves = map (tree_at m 0) (kids m p)
+line-few : (h : ℕ) (t : Tree h) → h ≡ 0 → length (lines h t) ≤ 1
+line-few zero t e = one t.1 where
+  one : (o : Option LineContent) → length (lines zero (t.0, o)) ≤ 1
+  one None = omega arith
+  one (Some l) = omega arith
+line-few (suc h) t e = absurd (omega arith)
 
-  pub low-slot : k < length (kids m p)
-  low-slot = let a = length-lines m leaves can.tree.2 in let b = length-map (kids m p) (tree_at m 0) in
-      let c = can.place in omega arith
-
-  pub node-sum : sum_all m (kids m p) ≡ sum_at m p
-  node-sum = ap (sum_all m) (sym (tops-tree_at m 0 (kids m p))) ∙ sum-trees m 0 leaves can.tree.2
-      ∙ sym (sum-tree m 1 p can.tree)
-
-  low-tops : tops 0 (remove leaves k) ≡ remove (kids m p) k
-  low-tops = map-append (λ (t : Tree 0). t.0) (take k leaves) (drop (suc k) leaves)
-      ∙ sym (λ i. take-map (λ (t : Tree 0). t.0) k leaves i ++ drop-map (λ (t : Tree 0). t.0) (suc k) leaves i)
-      ∙ ap (λ cs. remove cs k) (tops-tree_at m 0 (kids m p))
-
-  low-shrinks : (x : NodePtr) → slice_get (kids m p) k ≡ Some x → Shrinks m m 0 leaves k x (remove leaves k)
-  low-shrinks x at = shrinks-line m leaves k (tree_at m 0 x) can.tree.2 can.distinct.1
-      (slice_get-map (tree_at m 0) (kids m p) k
-      ∙ ap (λ o. elim o as (λ _. Option (Tree 0)) [ None ↦ None | Some y ↦ Some (tree_at m 0 y) ]) at)
-
-  low-few : length (remove leaves k) + 1 ≡ length (kids m p)
-  low-few = let b = length-map (kids m p) (tree_at m 0) in let s = low-slot in
-      let n = length-remove leaves k (omega arith) in omega arith
-
-  low-fill-trees : (x : NodePtr) → slice_get (kids m p) k ≡ Some x → CanFill m p (tops 0 (remove leaves k))
-  low-fill-trees x at = let has = row-tree m 0 p can.tree in let n = low-few in let few = has.few in
-      can-fill m m 0 p leaves k x (remove leaves k) (low-shrinks x at) can.distinct.0 has (omega arith) can.place
-      can.fits
-
-  pub low-fill : CanFill m p (remove (kids m p) k)
-  low-fill = let s = low-slot in subst (CanFill m p) low-tops (low-fill-trees _ (slice_get-get_or (kids m p) k p s))
-
-  pub low-removes : (x : NodePtr) → slice_get (kids m p) k ≡ Some x → (n : Records) →
-      n ≡ refilled m p (row (remove (kids m p) k)) → Removes m n 1 p k x
-  low-removes x at n is = let e = low-few in
-      finish m m n 0 p k x (remove leaves k) can (low-shrinks x at) refl (low-fill-trees x at)
-      (lines-balanced (remove leaves k)) (omega arith) (is ∙ ap (λ cs. refilled m p (row cs)) (sym low-tops))
-
-  pub cleans-low : (x : NodePtr) → slice_get (kids m p) k ≡ Some x → (n : Records) →
-      n ≡ refilled m p (row (remove (kids m p) k)) → Cleans m n 1 p x
-  cleans-low x at n is q a out other =
-      let up = shrinks-up m m n 0 p leaves k x (remove leaves k) (low-shrinks x at) can.distinct.0 (low-fill-trees x at)
-      (is ∙ ap (λ cs. refilled m p (row cs)) (sym low-tops)) in
-      let tree : tree_at n 1 p ≡ (p, remove leaves k) = tree-is n 1 (p, remove leaves k) up.holds.0 in
-      let gone : Among q (p ∷ names_of 0 (remove leaves k)) →
-      ⊥ = λ b. out (subst (λ t. Among q (names 1 t)) (sym tree) b) in
-      absurd (elim a [
-        | inl e ↦ gone (inl e)
-        | inr b ↦ elim (in-cases 0 (take k leaves) (tree_at m 0 x ∷ drop (suc k) leaves) q
-            (subst (λ zs. Among q (names_of 0 zs)) (leaf-split x at) b)) [
-              | inl c ↦ gone (inr (in-left 0 (take k leaves) (drop (suc k) leaves) q c))
-              | inr c ↦ elim c [
-                | inl e ↦ other e
-                | inr d ↦ gone (inr (in-right 0 (take k leaves) (drop (suc k) leaves) q d))
-              ]
-            ]
-      ])
-    where
-      leaf-split : (x : NodePtr) → slice_get (kids m p) k ≡ Some x →
-          leaves ≡ take k leaves ++ (tree_at m 0 x ∷ drop (suc k) leaves)
-      leaf-split x at = at-place (tree_at m 0) (kids m p) k x at
-          ∙ sym (λ i. take-map (tree_at m 0) k (kids m p) i
-          ++ (tree_at m 0 x ∷ drop-map (tree_at m 0) (suc k) (kids m p) i))
-
--- ---- above it
+-- ---- at a node above the child with line k
 module _ (m : Records) (h : ℕ) (p : NodePtr) (k : ℕ) (can : CanRemove m (suc h) p k) (f : Found) (finds : Finds m p k f)
   where
     abbrev before : List (Tree h)
@@ -208,18 +151,88 @@ module _ (m : Records) (h : ℕ) (p : NodePtr) (k : ℕ) (can : CanRemove m (suc
           ∙ flat_map-append (lines h) before (tree_at m h f.child ∷ after)) can.fits);
     }
 
-    module _ (l : Records) (x : NodePtr) (rem : Removes m l h f.child f.rest x) where
+    -- line k is so many lines behind those of the children before
+    place-before : k ≡ length (lines_of h before) + f.rest
+    place-before = let place = finds.place in
+        let e = counted m h (take f.slot (kids m p)) (all-left (Holds m h) before (tree_at m h f.child ∷ after) whole)
+        in omega arith
+
+    pub within-slot : f.slot < length (kids m p)
+    within-slot = slice_get_within (kids m p) f.slot f.child finds.child
+
+    pub child-named : IsSome (finite.get m f.child)
+    child-named = named-tree m h f.child tree-child
+
+    pub one-long : length (lines_in m h f.child) ≡ f.lines
+    one-long = sym (count-tree m h f.child tree-child) ∙ sym finds.lines
+
+    pub line-alone : h ≡ 0 → f.lines ≤ 1
+    line-alone e = let n = one-long in let few = line-few h (tree_at m h f.child) e in omega arith
+
+    -- ---- the child itself goes, whose first line is line k
+    module _ (first : f.rest ≡ 0) where
+      one-shrinks : Shrinks m m h ts k h f.child (before ++ after)
+      one-shrinks = let at = place-before in
+          subst (λ zs. Shrinks m m h zs k h f.child (before ++ after)) (sym split)
+          (shrinks-one m h before f.child after k whole apart (omega arith))
+
+      one-tops : tops h (before ++ after) ≡ remove (kids m p) f.slot
+      one-tops = map-append (λ (t : Tree h). t.0) before after
+          ∙ (λ i. tops-tree_at m h (take f.slot (kids m p)) i ++ tops-tree_at m h (drop (suc f.slot) (kids m p)) i)
+
+      one-few : length (before ++ after) + 1 ≡ length (kids m p)
+      one-few = let e = ap length one-tops in let d = length-map (before ++ after) (λ (t : Tree h). t.0) in
+          let n = length-remove (kids m p) f.slot within-slot in omega arith
+
+      one-balanced : AllByRecursion (IsBalanced h) (before ++ after)
+      one-balanced = let old = subst (AllByRecursion (IsBalanced h)) split can.wide.2 in
+          all-append (IsBalanced h) before after (all-left (IsBalanced h) before (tree_at m h f.child ∷ after) old)
+          (all-right (IsBalanced h) before (tree_at m h f.child ∷ after) old).1
+
+      one-fill-trees : CanFill m p (tops h (before ++ after))
+      one-fill-trees = let has = row-tree m h p can.tree in let n = one-few in let few = has.few in
+          can-fill m m h p ts k h f.child (before ++ after) one-shrinks can.distinct.0 has (omega arith) can.fits
+
+      pub one-fill : CanFill m p (remove (kids m p) f.slot)
+      one-fill = subst (CanFill m p) one-tops one-fill-trees
+
+      pub one-removes : (n : Records) → n ≡ refilled m p (row (remove (kids m p) f.slot)) →
+          Removes m n (suc h) p k h f.child
+      one-removes n is = let e = one-few in
+          finish m m n h p k h f.child (before ++ after) can one-shrinks refl one-fill-trees one-balanced (omega arith)
+          (is ∙ ap (λ cs. refilled m p (row cs)) (sym one-tops))
+
+      pub one-cleans : (n : Records) → n ≡ refilled m p (row (remove (kids m p) f.slot)) →
+          Cleans m n (suc h) p h f.child
+      one-cleans n is q a out other =
+          let up = shrinks-up m m n h p ts k h f.child (before ++ after) one-shrinks can.distinct.0 one-fill-trees
+          (is ∙ ap (λ cs. refilled m p (row cs)) (sym one-tops)) in
+          let tree : tree_at n (suc h) p ≡ (p, before ++ after) = tree-is n (suc h) (p, before ++ after) up.holds.0 in
+          let gone : Among q (p ∷ names_of h (before ++ after)) →
+          ⊥ = λ b. out (subst (λ t. Among q (names (suc h) t)) (sym tree) b) in
+          absurd (elim a [
+            | inl e ↦ gone (inl e)
+            | inr b ↦ elim (in-cases h before (tree_at m h f.child ∷ after) q
+                (subst (λ zs. Among q (names_of h zs)) split b)) [
+                  | inl c ↦ gone (inr (in-left h before after q c))
+                  | inr c ↦ elim (among-cases q (names h (tree_at m h f.child)) (names_of h after) c)
+                      [ inl d ↦ other d | inr d ↦ gone (inr (in-right h before after q d)) ]
+                ]
+          ])
+
+      pub one-sum : plus (sum_all m (remove (kids m p) f.slot)) (sum_at m f.child) ≡ sum_at m p
+      one-sum = sum_all-remove m (kids m p) f.slot f.child finds.child ∙ sym (sum-kids m h p can.tree)
+
+    -- ---- so much goes below it
+    module _ (l : Records) (j : ℕ) (x : NodePtr) (rem : Removes m l h f.child f.rest j x) where
       abbrev now : List (Tree h)
       now = map (tree_at l h) (kids m p)
 
-      first : Shrinks m l h ts k x (before ++ (tree_at l h f.child ∷ after))
-      first =
-          let e = counted m h (take f.slot (kids m p)) (all-left (Holds m h) before (tree_at m h f.child ∷ after) whole)
-          in let place = finds.place in
-          let at : k ≡ length (lines_of h before) + f.rest = omega arith in
-          subst (λ zs. Shrinks m l h zs k x (before ++ (tree_at l h f.child ∷ after))) (sym split)
-          (shrinks-wide m l h before (tree_at m h f.child) after f.rest k x (tree_at l h f.child ∷ []) rem.shrinks whole
-          apart at rest-within)
+      first : Shrinks m l h ts k j x (before ++ (tree_at l h f.child ∷ after))
+      first = let less = rest-within in
+          subst (λ zs. Shrinks m l h zs k j x (before ++ (tree_at l h f.child ∷ after))) (sym split)
+          (shrinks-wide m l h before (tree_at m h f.child) after f.rest k j x (tree_at l h f.child ∷ []) rem.shrinks
+          whole apart place-before (omega arith))
 
       pub node-same : finite.get l p ≡ finite.get m p
       node-same = rem.shrinks.other p (λ a. can.distinct.0 (in-child p (of-one p (names h (tree_at m h f.child)) a)))
@@ -227,29 +240,25 @@ module _ (m : Records) (h : ℕ) (p : NodePtr) (k : ℕ) (can : CanRemove m (suc
       pub kids-same : kids l p ≡ kids m p
       kids-same = ap kids_of node-same
 
-      -- the line that goes has a record yet
-      pub line-named : IsSome (finite.get l x)
-      line-named = subst (λ o. IsSome o) (sym rem.shrinks.left)
-          (names-all-held m h (tree_at m h f.child ∷ []) (tree-child, tt) x rem.shrinks.inside)
+      -- what goes has its record yet
+      pub gone-same : finite.get l x ≡ finite.get m x
+      gone-same = rem.shrinks.left x (inl (sym (top-tree_at m j x)))
+
+      pub gone-named : IsSome (finite.get l x)
+      gone-named = subst (λ o. IsSome o) (sym gone-same) (named-tree m j x rem.shrinks.tree)
 
       tops-first : tops h (before ++ (tree_at l h f.child ∷ after)) ≡ kids m p
       tops-first = map-append (λ (t : Tree h). t.0) before (tree_at l h f.child ∷ after)
           ∙ (λ i. tops-tree_at m h (take f.slot (kids m p)) i
           ++ (top-tree_at l h f.child i ∷ tops-tree_at m h (drop (suc f.slot) (kids m p)) i))
-          ∙ sym (same-at (kids m p) f.slot f.child finds.child)
-        where
-          same-at : (xs : List NodePtr) (i : ℕ) (y : NodePtr) → slice_get xs i ≡ Some y →
-              xs ≡ take i xs ++ (y ∷ drop (suc i) xs)
-          same-at [] i y is = absurd (none-some y is)
-          same-at (z ∷ xs) zero y is = ap (λ w. w ∷ xs) (same_Some z y is)
-          same-at (z ∷ xs) (suc i) y is = ap (λ zs. z ∷ zs) (same-at xs i y is)
+          ∙ sym (split-same (kids m p) f.slot f.child finds.child)
 
       now-are : before ++ (tree_at l h f.child ∷ after) ≡ now
       now-are =
           sym (trees-is l h (before ++ (tree_at l h f.child ∷ after)) first.holds) ∙ ap (map (tree_at l h)) tops-first
 
-      pub shrinks-now : Shrinks m l h ts k x now
-      shrinks-now = subst (λ zs. Shrinks m l h ts k x zs) now-are first
+      pub shrinks-now : Shrinks m l h ts k j x now
+      shrinks-now = subst (λ zs. Shrinks m l h ts k j x zs) now-are first
 
       pub has-now : HasRow l p
       has-now = let has = row-tree m h p can.tree in record {
@@ -269,9 +278,9 @@ module _ (m : Records) (h : ℕ) (p : NodePtr) (k : ℕ) (can : CanRemove m (suc
       pub child-now : slice_get (kids l p) f.slot ≡ Some f.child
       child-now = ap (λ cs. slice_get cs f.slot) kids-same ∙ finds.child
 
-      pub balanced-but : (j : ℕ) (d : NodePtr) → slice_get (kids m p) j ≡ Some d → j ≢ f.slot →
+      pub balanced-but : (i : ℕ) (d : NodePtr) → slice_get (kids m p) i ≡ Some d → i ≢ f.slot →
           IsBalanced h (tree_at l h d)
-      balanced-but j d at n =
+      balanced-but i d at n =
           let old = subst (AllByRecursion (IsBalanced h)) split can.wide.2 in
           let w = slice_get_within (kids m p) f.slot f.child finds.child in
           let a = length-map (take f.slot (kids m p)) (tree_at m h) in let b = length-take f.slot (kids m p) in
@@ -279,13 +288,14 @@ module _ (m : Records) (h : ℕ) (p : NodePtr) (k : ℕ) (can : CanRemove m (suc
           all-but (IsBalanced h) before (tree_at l h f.child) after
           (all-left (IsBalanced h) before (tree_at m h f.child ∷ after) old)
           (all-right (IsBalanced h) before (tree_at m h f.child ∷ after) old).1
-          j (tree_at l h d) (ap (λ zs. slice_get zs j) now-are ∙ slice_get-map (tree_at l h) (kids m p) j
+          i (tree_at l h d) (ap (λ zs. slice_get zs i) now-are ∙ slice_get-map (tree_at l h) (kids m p) i
           ∙ ap (λ o. elim o as (λ _. Option (Tree h)) [ None ↦ None | Some y ↦ Some (tree_at l h y) ]) at) (λ e.
           n (e ∙ long))
 
       pub fits-now : FitsSum (total (lines_of h now))
       fits-now =
-          subst (λ ls. FitsSum (total ls)) (sym shrinks-now.line) (fits-remove (lines_of h ts) k can.place can.fits)
+          subst (λ ls. FitsSum (total ls)) (sym shrinks-now.line)
+          (fits-removed (lines_of h ts) k (k + length (lines_in m j x)) (omega arith) can.fits)
 
       -- each child keeps its place
       keeps-now : (q : NodePtr) → Among q (kids m p) → KeepsLink m l q
@@ -306,8 +316,8 @@ module _ (m : Records) (h : ℕ) (p : NodePtr) (k : ℕ) (can : CanRemove m (suc
       links-now = links-kept m l p 0 (kids m p) (subst (Links m p 0) (tops-tree_at m h (kids m p)) can.tree.1) keeps-now
 
       -- what is in the tree no more
-      pub now-lost : Cleans m l h f.child x → (q : NodePtr) → Among q (names_of h ts) → (Among q (names_of h now) → ⊥) →
-          q ≢ x → finite.get l q ≡ None
+      pub now-lost : Cleans m l h f.child j x → (q : NodePtr) → Among q (names_of h ts) →
+          (Among q (names_of h now) → ⊥) → (Among q (names j (tree_at m j x)) → ⊥) → finite.get l q ≡ None
       now-lost clean q a out n =
           let to-now : Among q (names_of h (before ++ (tree_at l h f.child ∷ after))) →
           Among q (names_of h now) = λ b. subst (λ zs. Among q (names_of h zs)) now-are b in

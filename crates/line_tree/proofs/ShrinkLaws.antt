@@ -1,105 +1,61 @@
--- Trees with one line less.
-use Rattle.std.proofs.Common.{◌≡◌, ℕ, zero, suc, ◌+◌, ◌<◌, inl, inr, List, [], ◌∷◌, ◌++◌, length, take, drop, refl, sym}
-use Rattle.std.proofs.Common.{ap, ◌∙◌, subst, arith, append_assoc}
-use Rattle.std.specs.Prelude.{◌≢◌, IsSome, slice_get}
-use Rattle.std.specs.List.{AllByRecursion, remove}
-use Rattle.std.specs.Option.{option_map}
-use Rattle.std.specs.declared.option.Option.{Option}
-use Rattle.std.specs.declared.option.Option.TheVariants.{None, Some}
-use Rattle.std.proofs.lemmas.List.{append-nil, drop-append-le, take-append-le}
+-- Trees without one subtree.
+use Rattle.std.proofs.Common.{◌≡◌, ℕ, suc, ◌+◌, ◌-◌, ◌≤◌, inl, inr, List, [], ◌∷◌, ◌++◌, length, take, drop, refl, sym}
+use Rattle.std.proofs.Common.{ap, ◌∙◌, subst, arith, drop-drop, length-drop, length-take, take_all}
+use Rattle.std.specs.Prelude.{◌≢◌, slice_range}
+use Rattle.std.specs.List.{AllByRecursion}
+use Rattle.std.proofs.lemmas.List.{append-nil, drop-append-le, drop_all, drop_at, take-append-le}
 use Rattle.std.proofs.lemmas.List.Concat.{flat_map-append}
-use Rattle.std.proofs.lemmas.Option.{none-some, same_Some}
-use mathlib.Core.Bool.{false≢true}
-use Rattle.segments.specs.Columns.{LineContent}
+use Rattle.text_model.specs.Splices.{removed}
+use Rattle.text_model.proofs.SpliceLaws.{removed-append_left, removed-append_right}
 use Rattle.raw_nodes.specs.Records.{Records}
 use Rattle.raw_nodes.specs.Rows.{row}
 use Rattle.raw_nodes.specs.declared.names.NodePtr.{NodePtr}
 use Rattle.line_tree.specs.Changes.{Among, CanFill, Distinct, refilled}
 use Rattle.line_tree.specs.Growth.{lines_of, names_of}
-use Rattle.line_tree.specs.Places.{IsLineAt}
-use Rattle.line_tree.specs.Shape.{Holds}
+use Rattle.line_tree.specs.Shape.{Holds, IsTree, lines_in, tree_at}
 use Rattle.line_tree.specs.Shrinking.{Shrinks, Turns}
-use Rattle.line_tree.specs.Trees.{Named, Tree, lines, names, tops}
+use Rattle.line_tree.specs.Trees.{Tree, lines, names, tops}
 use Rattle.line_tree.proofs.AmongLaws.{among-left, among-right}
 use Rattle.line_tree.proofs.BuildLaws.{built}
-use Rattle.line_tree.proofs.DistinctLaws.{distinct-apart, distinct-append, distinct-left, distinct-replace}
-use Rattle.line_tree.proofs.DistinctLaws.{distinct-right}
+use Rattle.line_tree.proofs.DistinctLaws.{distinct-apart, distinct-replace, distinct-right}
 use Rattle.line_tree.proofs.FillLaws.{refilled-other}
 use Rattle.line_tree.proofs.FrameLaws.{all-same, tops-among}
-use Rattle.line_tree.proofs.GrowLaws.{all-append, all-left, all-right, drop-lines, in-cases, in-left, in-right}
-use Rattle.line_tree.proofs.GrowLaws.{names-append, of-one, take-lines, to-one}
-use Rattle.line_tree.proofs.TreeLaws.{get-left, get-right}
+use Rattle.line_tree.proofs.GrowLaws.{all-append, all-left, all-right, in-cases, in-left, in-right}
+use Rattle.line_tree.proofs.GrowLaws.{names-append, of-one, to-one}
 
--- ---- a line out of the middle
-pub remove-middle : {X : Type 0} (xs cs ys : List X) (r k : ℕ) → k ≡ length xs + r → r < length cs →
-    remove (xs ++ (cs ++ ys)) k ≡ xs ++ (remove cs r ++ ys)
-remove-middle [] cs ys r k e h = let f : k ≡ r = omega arith in
-    ap (λ j. take j (cs ++ ys) ++ drop (suc j) (cs ++ ys)) f
-    ∙ (λ i. take-append-le r cs ys (omega arith) i ++ drop-append-le (suc r) cs ys h i)
-    ∙ sym (append_assoc (take r cs) (drop (suc r) cs) ys)
-remove-middle (x ∷ xs) cs ys r zero e h = absurd (omega arith)
-remove-middle (x ∷ xs) cs ys r (suc k) e h = ap (λ zs. x ∷ zs) (remove-middle xs cs ys r k (omega arith) h)
+-- ---- lines out of the middle
+removed-middle : {X : Type 0} (xs cs ys : List X) (r k n : ℕ) → k ≡ length xs + r → r + n ≤ length cs →
+    removed k (k + n) (xs ++ (cs ++ ys)) ≡ xs ++ (removed r (r + n) cs ++ ys)
+removed-middle xs cs ys r k n at fits =
+    let end : k + n ≡ length xs + (r + n) = omega arith in
+    (λ i. removed (at i) (end i) (xs ++ (cs ++ ys))) ∙ removed-append_right r (r + n) xs (cs ++ ys)
+    ∙ ap (λ zs. xs ++ zs) (removed-append_left r (r + n) cs ys (omega arith) fits)
 
-at-middle : (xs cs ys : List Named) (r k : ℕ) (x : NodePtr) → k ≡ length xs + r → r < length cs → IsLineAt cs r x →
-    IsLineAt (xs ++ (cs ++ ys)) k x
-at-middle xs cs ys r k x e h at = ap (option_map (λ l. l.0)) (get-right xs (cs ++ ys) r k e ∙ get-left cs ys r h) ∙ at
+range-is : {X : Type 0} (xs : List X) (k n : ℕ) → slice_range xs k (k + n) ≡ take n (drop k xs)
+range-is xs k n = let e : (k + n) - k ≡ n = omega arith in ap (λ c. take c (drop k xs)) e
 
--- ---- one of several lines
-leaf-at : (m : Records) (ts : List (Tree 0)) (k : ℕ) (t : Tree 0) → AllByRecursion (Holds m 0) ts →
-    slice_get ts k ≡ Some t → IsLineAt (lines_of 0 ts) k t.0
-leaf-at m [] k t all is = absurd (none-some t is)
-leaf-at m (u ∷ ts) zero t all is = one u.1 all.0.some where
-  one : (o : Option LineContent) → IsSome o → option_map (λ l. l.0) (slice_get (lines zero (u.0, o) ++ lines_of 0 ts) 0)
-      ≡ Some t.0
-  one None s = absurd (false≢true s)
-  one (Some l) s = ap (λ z. Some z.0) (same_Some u t is)
-leaf-at m (u ∷ ts) (suc k) t all is = one u.1 all.0.some (leaf-at m ts k t all.1 is) where
-  one : (o : Option LineContent) → IsSome o → IsLineAt (lines_of 0 ts) k t.0 →
-      option_map (λ l. l.0) (slice_get (lines zero (u.0, o) ++ lines_of 0 ts) (suc k)) ≡ Some t.0
-  one None s e = absurd (false≢true s)
-  one (Some l) s e = e
+range-middle : {X : Type 0} (xs cs ys : List X) (r k n : ℕ) → k ≡ length xs + r → r + n ≤ length cs →
+    slice_range (xs ++ (cs ++ ys)) k (k + n) ≡ slice_range cs r (r + n)
+range-middle xs cs ys r k n at fits =
+    let d = length-drop r cs in
+    range-is (xs ++ (cs ++ ys)) k n
+    ∙ ap (take n) (ap (λ c. drop c (xs ++ (cs ++ ys))) at ∙ sym (drop-drop r (length xs) (xs ++ (cs ++ ys)))
+    ∙ ap (drop r) (drop_at xs (cs ++ ys) (length xs) refl) ∙ drop-append-le r cs ys (omega arith))
+    ∙ take-append-le n (drop r cs) ys (omega arith) ∙ sym (range-is cs r n)
 
-split-at : {X : Type 0} (xs : List X) (i : ℕ) (x : X) → slice_get xs i ≡ Some x →
-    xs ≡ take i xs ++ (x ∷ drop (suc i) xs)
-split-at [] i x is = absurd (none-some x is)
-split-at (y ∷ xs) zero x is = ap (λ z. z ∷ xs) (same_Some y x is)
-split-at (y ∷ xs) (suc i) x is = ap (λ zs. y ∷ zs) (split-at xs i x is)
-
-pub shrinks-line : (m : Records) (ts : List (Tree 0)) (k : ℕ) (t : Tree 0) → AllByRecursion (Holds m 0) ts →
-    Distinct (names_of 0 ts) → slice_get ts k ≡ Some t → Shrinks m m 0 ts k t.0 (remove ts k)
-shrinks-line m ts k t all d is =
-    let front = take k ts in let back = drop (suc k) ts in let split = split-at ts k t is in
-    let whole = subst (AllByRecursion (Holds m 0)) split all in
-    let named = ap (names_of 0) split ∙ names-append 0 front (t ∷ back) in
-    let apart = subst Distinct named d in
-    let back_d = distinct-right (names_of 0 front) (names_of 0 (t ∷ back)) apart in
-    let no_front : Among t.0 (names_of 0 front) → ⊥ = λ a.
-    distinct-apart (names_of 0 front) (names_of 0 (t ∷ back)) apart t.0 a (inl refl) in
-    record {
-      holds = all-append (Holds m 0) front back (all-left (Holds m 0) front (t ∷ back) whole)
-          (all-right (Holds m 0) front (t ∷ back) whole).1;
-      line = flat_map-append (lines 0) front back ∙ sym (λ i. take-lines m ts k all i ++ drop-lines m ts (suc k) all i);
-      gone = leaf-at m ts k t all is;
-      distinct = subst Distinct (sym (names-append 0 front back))
-          (distinct-append (names_of 0 front) (names_of 0 back)
-          (distinct-left (names_of 0 front) (names_of 0 (t ∷ back)) apart) back_d.1
-          (λ q a b. distinct-apart (names_of 0 front) (names_of 0 (t ∷ back)) apart q a (inr b)));
-      within = λ q a. subst (λ zs. Among q (names_of 0 zs)) (sym split) (elim (in-cases 0 front back q a) [
-        | inl b ↦ in-left 0 front (t ∷ back) q b
-        | inr b ↦ in-right 0 front (t ∷ back) q (inr b)
-      ]);
-      inside = subst (λ zs. Among t.0 (names_of 0 zs)) (sym split) (in-right 0 front (t ∷ back) t.0 (inl refl));
-      out = λ a. elim (in-cases 0 front back t.0 a) [ inl b ↦ no_front b | inr b ↦ back_d.0 b ];
-      other = λ q n. refl;
-      left = refl;
-    }
+-- the lines of a range are there
+range-within : {X : Type 0} (xs part : List X) (r : ℕ) → slice_range xs r (r + length part) ≡ part → r ≤ length xs →
+    r + length part ≤ length xs
+range-within xs part r is low =
+    let e = ap length (sym (range-is xs r (length part)) ∙ is) in let t = length-take (length part) (drop r xs) in
+    let d = length-drop r xs in omega arith
 
 -- ---- one of several trees
-pub shrinks-wide : (m n : Records) (h : ℕ) (ls : List (Tree h)) (t : Tree h) (rs : List (Tree h)) (r k : ℕ)
-    (x : NodePtr) (us : List (Tree h)) → Shrinks m n h (t ∷ []) r x us
+pub shrinks-wide : (m n : Records) (h : ℕ) (ls : List (Tree h)) (t : Tree h) (rs : List (Tree h)) (r k j : ℕ)
+    (x : NodePtr) (us : List (Tree h)) → Shrinks m n h (t ∷ []) r j x us
     → AllByRecursion (Holds m h) (ls ++ (t ∷ rs)) → Distinct (names_of h (ls ++ (t ∷ rs))) →
-    k ≡ length (lines_of h ls) + r → r < length (lines h t) → Shrinks m n h (ls ++ (t ∷ rs)) k x (ls ++ (us ++ rs))
-shrinks-wide m n h ls t rs r k x us g all d at fits =
+    k ≡ length (lines_of h ls) + r → r ≤ length (lines h t) → Shrinks m n h (ls ++ (t ∷ rs)) k j x (ls ++ (us ++ rs))
+shrinks-wide m n h ls t rs r k j x us g all d at low =
     let split = names-append h ls (t ∷ rs) in let apart = subst Distinct split d in
     let all_left = all-left (Holds m h) ls (t ∷ rs) all in let all_right = (all-right (Holds m h) ls (t ∷ rs) all).1 in
     let no_left : (q : NodePtr) → Among q (names_of h ls) → Among q (names_of h (t ∷ [])) →
@@ -108,17 +64,19 @@ shrinks-wide m n h ls t rs r k x us g all d at fits =
     let no_right : (q : NodePtr) → Among q (names_of h rs) → Among q (names_of h (t ∷ [])) →
     ⊥ = λ q a b. distinct-apart (names h t) (names_of h rs)
     (distinct-right (names_of h ls) (names_of h (t ∷ rs)) apart) q (of-one q (names h t) b) a in
-    let lines_one = append-nil (lines h t) in
+    let count = length (lines_in m j x) in let lines_one = append-nil (lines h t) in
+    let own = ap (λ zs. slice_range zs r (r + count)) (sym lines_one) ∙ g.gone in
+    let fits = range-within (lines h t) (lines_in m j x) r own low in
     record {
       holds = all-append (Holds n h) ls (us ++ rs) (all-same m n h ls all_left (λ q a. g.other q (no_left q a)))
           (all-append (Holds n h) us rs g.holds (all-same m n h rs all_right (λ q a. g.other q (no_right q a))));
       line = flat_map-append (lines h) ls (us ++ rs) ∙ ap (λ zs. lines_of h ls ++ zs) (flat_map-append (lines h) us rs)
-          ∙ ap (λ zs. lines_of h ls ++ (zs ++ lines_of h rs)) (g.line ∙ ap (λ zs. remove zs r) lines_one)
-          ∙ sym (remove-middle (lines_of h ls) (lines h t) (lines_of h rs) r k at fits)
-          ∙ ap (λ zs. remove zs k) (sym (flat_map-append (lines h) ls (t ∷ rs)));
-      gone = subst (λ zs. IsLineAt zs k x) (sym (flat_map-append (lines h) ls (t ∷ rs)))
-          (at-middle (lines_of h ls) (lines h t) (lines_of h rs) r k x at fits
-          (subst (λ zs. IsLineAt zs r x) lines_one g.gone));
+          ∙ ap (λ zs. lines_of h ls ++ (zs ++ lines_of h rs)) (g.line ∙ ap (removed r (r + count)) lines_one)
+          ∙ sym (removed-middle (lines_of h ls) (lines h t) (lines_of h rs) r k count at fits)
+          ∙ ap (removed k (k + count)) (sym (flat_map-append (lines h) ls (t ∷ rs)));
+      gone = ap (λ zs. slice_range zs k (k + count)) (flat_map-append (lines h) ls (t ∷ rs))
+          ∙ range-middle (lines_of h ls) (lines h t) (lines_of h rs) r k count at fits ∙ own;
+      tree = g.tree;
       distinct =
           subst Distinct (sym (names-append h ls (us ++ rs) ∙ ap (λ zs. names_of h ls ++ zs) (names-append h us rs)))
           (distinct-replace (names_of h ls) (names h t) (names_of h us) (names_of h rs) apart g.distinct (λ q a b.
@@ -131,10 +89,11 @@ shrinks-wide m n h ls t rs r k x us g all d at fits =
           | inr c ↦ in-right h ls (t ∷ rs) q (among-right q (names h t) (names_of h rs) c)
         ]
       ];
-      inside = in-right h ls (t ∷ rs) x (among-left x (names h t) (names_of h rs) (of-one x (names h t) g.inside));
-      out = λ a. elim (in-cases h ls (us ++ rs) x a) [
-        | inl b ↦ no_left x b g.inside
-        | inr b ↦ elim (in-cases h us rs x b) [ inl c ↦ g.out c | inr c ↦ no_right x c g.inside ]
+      inside = λ q a.
+          in-right h ls (t ∷ rs) q (among-left q (names h t) (names_of h rs) (of-one q (names h t) (g.inside q a)));
+      out = λ q i a. elim (in-cases h ls (us ++ rs) q a) [
+        | inl b ↦ no_left q b (g.inside q i)
+        | inr b ↦ elim (in-cases h us rs q b) [ inl c ↦ g.out q i c | inr c ↦ no_right q c (g.inside q i) ]
       ];
       other = λ q off.
           g.other q (λ a.
@@ -142,43 +101,71 @@ shrinks-wide m n h ls t rs r k x us g all d at fits =
       left = g.left;
     }
 
+-- the whole of one tree
+shrinks-whole : (m : Records) (h : ℕ) (x : NodePtr) → IsTree m h x → Shrinks m m h (tree_at m h x ∷ []) 0 h x []
+shrinks-whole m h x tree =
+    let own = lines_in m h x in let one = append-nil own in let all : length own ≤ length own = omega arith in
+    let none : 0 + length own ≡ length own = omega arith in
+    record {
+      holds = tt;
+      line = sym ((λ i. drop (none i) (one i)) ∙ drop_all (length own) own all);
+      gone = range-is (own ++ []) 0 (length own) ∙ ap (take (length own)) one ∙ take_all (length own) own all;
+      tree = tree;
+      distinct = tt;
+      within = λ q a. absurd a;
+      inside = λ q a. to-one q (names h (tree_at m h x)) a;
+      out = λ q i a. a;
+      other = λ q off. refl;
+      left = λ q a. refl;
+    }
+
+pub shrinks-one : (m : Records) (h : ℕ) (ls : List (Tree h)) (x : NodePtr) (rs : List (Tree h)) (k : ℕ) →
+    AllByRecursion (Holds m h) (ls ++ (tree_at m h x ∷ rs)) → Distinct (names_of h (ls ++ (tree_at m h x ∷ rs))) →
+    k ≡ length (lines_of h ls) → Shrinks m m h (ls ++ (tree_at m h x ∷ rs)) k h x (ls ++ rs)
+shrinks-one m h ls x rs k all d at =
+    shrinks-wide m m h ls (tree_at m h x) rs 0 k h x []
+    (shrinks-whole m h x (all-right (Holds m h) ls (tree_at m h x ∷ rs) all).0) all d (omega arith) (omega arith)
+
 -- ---- the node above them
-pub shrinks-up : (m l n : Records) (h : ℕ) (p : NodePtr) (ts : List (Tree h)) (k : ℕ) (x : NodePtr) (us : List (Tree h))
-    → Shrinks m l h ts k x us → (Among p (names_of h ts) → ⊥) → CanFill l p (tops h us) →
+pub shrinks-up : (m l n : Records) (h : ℕ) (p : NodePtr) (ts : List (Tree h)) (k j : ℕ) (x : NodePtr)
+    (us : List (Tree h)) → Shrinks m l h ts k j x us → (Among p (names_of h ts) → ⊥) → CanFill l p (tops h us) →
     n ≡ refilled l p (row (tops h us))
-    → Shrinks m n (suc h) ((p, ts) ∷ []) k x ((p, us) ∷ [])
-shrinks-up m l n h p ts k x us g off_tree can is =
-    let last = refilled l p (row (tops h us)) in
+    → Shrinks m n (suc h) ((p, ts) ∷ []) k j x ((p, us) ∷ [])
+shrinks-up m l n h p ts k j x us g off_tree can is =
     let p_out : Among p (names_of h us) → ⊥ = λ a. off_tree (g.within p a) in
-    let x_p : x ≢ p = λ e. off_tree (subst (λ z. Among z (names_of h ts)) e g.inside) in
-    subst (λ z. Shrinks m z (suc h) ((p, ts) ∷ []) k x ((p, us) ∷ [])) (sym is) (record {
+    let x_p : (q : NodePtr) → Among q (names j (tree_at m j x)) →
+    q ≢ p = λ q a e. off_tree (subst (λ z. Among z (names_of h ts)) e (g.inside q a)) in
+    let count = length (lines_in m j x) in
+    subst (λ z. Shrinks m z (suc h) ((p, ts) ∷ []) k j x ((p, us) ∷ [])) (sym is) (record {
       holds = (built l h p us can g.holds (p_out, g.distinct), tt);
-      line = append-nil (lines_of h us) ∙ g.line ∙ ap (λ ls. remove ls k) (sym (append-nil (lines_of h ts)));
-      gone = subst (λ ls. IsLineAt ls k x) (sym (append-nil (lines_of h ts))) g.gone;
+      line = append-nil (lines_of h us) ∙ g.line ∙ ap (removed k (k + count)) (sym (append-nil (lines_of h ts)));
+      gone = ap (λ ls. slice_range ls k (k + count)) (append-nil (lines_of h ts)) ∙ g.gone;
+      tree = g.tree;
       distinct = subst Distinct (sym (append-nil (p ∷ names_of h us))) (p_out, g.distinct);
       within = λ q a. to-one q (p ∷ names_of h ts)
           (elim (of-one q (p ∷ names_of h us) a) [ inl e ↦ inl e | inr b ↦ inr (g.within q b) ]);
-      inside = to-one x (p ∷ names_of h ts) (inr g.inside);
-      out = λ a. elim (of-one x (p ∷ names_of h us) a) [ inl e ↦ x_p e | inr b ↦ g.out b ];
+      inside = λ q a. to-one q (p ∷ names_of h ts) (inr (g.inside q a));
+      out = λ q i a. elim (of-one q (p ∷ names_of h us) a) [ inl e ↦ x_p q i e | inr b ↦ g.out q i b ];
       other = λ q off. let not_p : q ≢ p = λ e. off (to-one q (p ∷ names_of h ts) (inl e)) in
           let not_ts : Among q (names_of h ts) → ⊥ = λ a. off (to-one q (p ∷ names_of h ts) (inr a)) in
           refilled-other l p (tops h us) q not_p (λ a. not_ts (g.within q (tops-among h us q a))) ∙ g.other q not_ts;
-      left = refilled-other l p (tops h us) x x_p (λ a. g.out (tops-among h us x a)) ∙ g.left;
+      left = λ q a. refilled-other l p (tops h us) q (x_p q a) (λ i. g.out q a (tops-among h us q i)) ∙ g.left q a;
     })
 
 -- ---- turns
-pub shrinks-turns : (m l n : Records) (h : ℕ) (ts : List (Tree h)) (k : ℕ) (x : NodePtr) (us vs : List (Tree h)) →
-    Shrinks m l h ts k x us → Turns l n h us vs → Shrinks m n h ts k x vs
-shrinks-turns m l n h ts k x us vs g t = record {
+pub shrinks-turns : (m l n : Records) (h : ℕ) (ts : List (Tree h)) (k j : ℕ) (x : NodePtr) (us vs : List (Tree h)) →
+    Shrinks m l h ts k j x us → Turns l n h us vs → Shrinks m n h ts k j x vs
+shrinks-turns m l n h ts k j x us vs g t = record {
   holds = t.holds;
   line = t.line ∙ g.line;
   gone = g.gone;
+  tree = g.tree;
   distinct = t.distinct;
   within = λ q a. g.within q (t.within q a);
   inside = g.inside;
-  out = λ a. g.out (t.within x a);
+  out = λ q i a. g.out q i (t.within q a);
   other = λ q off. t.other q (λ a. off (g.within q a)) ∙ g.other q off;
-  left = t.other x g.out ∙ g.left;
+  left = λ q a. t.other q (g.out q a) ∙ g.left q a;
 }
 
 pub turns-none : (m : Records) (h : ℕ) (ts : List (Tree h)) → AllByRecursion (Holds m h) ts → Distinct (names_of h ts) →

@@ -4,6 +4,7 @@
 #![tactic(auto)]
 
 mod behind;
+mod branches;
 mod climb;
 mod fill;
 mod find;

@@ -1,13 +1,14 @@
-ghost use Rattle.std.specs.Prelude.{◌≡◌, ◌+◌, ◌≤◌, ◌<◌, length, slice_get, Some};
+ghost use Rattle.std.specs.Prelude.{◌≡◌, ◌+◌, ◌≤◌, ◌<◌, IfSome, None, length, slice_get, Some};
 ghost use Rattle.std.specs.FinMap as finite;
 ghost use Rattle.raw_nodes.specs.Names.{records, rooms, spares};
 ghost use Rattle.raw_nodes.specs.Rows.{kids};
 ghost use Rattle.line_tree.specs.Finds.{HasRow};
+ghost use Rattle.line_tree.specs.Shape.{lines_in};
 ghost use Rattle.line_tree.specs.Shrinking.{CanLower, CanMend, CanRemove, Cleans, Lowers, Removes, Settles};
 
 use crate::fill::lessen;
 use crate::near::find_near;
-use crate::shrink::{drop_child, kid, mend, sum_in};
+use crate::shrink::{drop_child, kid, mend};
 use raw_nodes::{NodePtr, NodeStore, Ticks};
 
 /// Where the child in a slot has less than six children, it shares with a neighbour.
@@ -33,41 +34,59 @@ fn settle<C: Ticks>(
     mend(store, node, slot, ticks)
 }
 
-/// Takes out a line below a node of this height.
+/// The lines below a node of a level, of which line `first` is to be the first: at most so many.
+#[derive(Clone, Copy)]
+pub struct Branch {
+    pub level: usize,
+    pub first: usize,
+    pub most: usize,
+}
+
+/// Takes a branch out below a node of this height. `None` where its line isn't the first one of a node of its level, or
+/// that has more lines; a line is one of itself.
 pub fn remove_in<C: Ticks>(
     store: &mut NodeStore<C>,
     node: NodePtr,
     height: usize,
-    k: usize,
+    branch: Branch,
     ticks: &mut C,
-) -> NodePtr
-    requires node { 0 < height }
-    requires remove { CanRemove (records store.old) height node k }
-    ensures removes { Removes (records store.old) (records store.new) height node k result }
-    ensures clean { Cleans (records store.old) (records store.new) height node result }
+) -> Option<NodePtr>
+    requires node { branch.level < height }
+    requires some { 0 < branch.most }
+    requires remove { CanRemove (records store.old) height node branch.first }
+    ensures removes { IfSome result (λ x.
+        Removes (records store.old) (records store.new) height node branch.first branch.level x) }
+    ensures most { IfSome result (λ x. length (lines_in (records store.old) branch.level x) ≤ branch.most) }
+    ensures clean { IfSome result (λ x. Cleans (records store.old) (records store.new) height node branch.level x) }
+    ensures none { result ≡ None → (0 < branch.level) × (records store.new ≡ records store.old) }
     ensures spares { spares store.old ≤ spares store.new }
     ensures rooms { rooms store.new + spares store.old ≡ rooms store.old + spares store.new }
     ensures count { spares store.new + finite.len (records store.new)
         ≡ spares store.old + finite.len (records store.old) }
 {
-    if height == 1 {
-        let less = sum_in(store, node, k, ticks);
-        return drop_child(store, node, k, &less, ticks);
+    let found = find_near(store, node, branch.first, ticks);
+    if height == branch.level + 1 {
+        if found.rest > 0 || found.lines > branch.most {
+            return None;
+        }
+        let less = store.sum(found.child, ticks);
+        return Some(drop_child(store, node, found.slot, &less, ticks));
     }
-    let found = find_near(store, node, k, ticks);
-    let line = remove_in(store, found.child, height - 1, found.rest, ticks);
-    let less = store.sum(line, ticks);
+    let below = Branch {
+        level: branch.level,
+        first: found.rest,
+        most: branch.most,
+    };
+    let gone = remove_in(store, found.child, height - 1, below, ticks)?;
+    let less = store.sum(gone, ticks);
     match settle(store, node, found.slot, found.child, ticks) {
         Some(slot) => {
-            let gone = drop_child(store, node, slot, &less, ticks);
-            let _ = store.give_back(gone);
-            line
+            let merged = drop_child(store, node, slot, &less, ticks);
+            let _ = store.give_back(merged);
         }
-        None => {
-            lessen(store, node, &less, ticks);
-            line
-        }
+        None => lessen(store, node, &less, ticks),
     }
+    Some(gone)
 }
 
 /// A root and its height.

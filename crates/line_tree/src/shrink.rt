@@ -185,22 +185,6 @@ pub fn mend<C: Ticks>(
     if merged { Some(at + 1) } else { None }
 }
 
-/// The sum of the child in a slot.
-pub fn sum_in<C: Ticks>(
-    store: &NodeStore<C>,
-    node: NodePtr,
-    slot: usize,
-    ticks: &mut C,
-) -> Sums<WORDS>
-    requires row { HasRow (records store.now) node }
-    requires slot { slot < length (kids (records store.now) node) }
-    ensures { (c : _) → slice_get (kids (records store.now) node) slot ≡ Some c
-        → result ≡ sum_at (records store.now) c }
-{
-    let child = kid(store, node, slot, ticks).unwrap();
-    store.sum(child, ticks)
-}
-
 /// The child in the slot behind one, if there is one.
 fn kid_behind<C: Ticks>(
     store: &NodeStore<C>,

@@ -10,6 +10,7 @@ impl<C: Ticks> LineTree<C> {
     ghost use Rattle.raw_nodes.specs.declared.names.NodePtr.{NodePtr};
     ghost use Rattle.line_lists.specs.Lists.{count_of};
     ghost use Rattle.line_tree.specs.Changes.{FitsSum};
+    ghost use Rattle.line_tree.specs.Leaving.{Leaves};
     ghost use Rattle.line_tree.specs.Places.{IsLineAt};
     ghost use Rattle.line_tree.specs.Room.{line_room};
     ghost use Rattle.line_tree.specs.Taking.{changed};
@@ -81,8 +82,42 @@ impl<C: Ticks> LineTree<C> {
         }
     }
 
-    /// Takes out the `gone` lines from line `k` on.
+    /// Takes out the `gone` lines from line `k` on: whole nodes of them, and then the others.
     fn take_out(&mut self, k: usize, gone: usize, ticks: &mut C)
+        requires within { k + gone ≤ length self.old.lines }
+        requires some { gone < length self.old.lines }
+        ensures lines { self.new.lines ≡ take k self.old.lines ++ drop (k + gone) self.old.lines }
+        ensures room { line_room self.old ≤ line_room self.new }
+    {
+        let left = self.take_branches(k, gone, ticks);
+        self.take_lines(k, left, ticks);
+    }
+
+    /// Takes out whole lowest nodes, which have 6 lines at least, among the `gone` lines from line `k` on: a walk and
+    /// new sums for each node, and not for each line. Gives how many of these lines are left.
+    fn take_branches(&mut self, k: usize, gone: usize, ticks: &mut C) -> usize
+        requires within { k + gone ≤ length self.old.lines }
+        requires some { gone < length self.old.lines }
+        ensures { Leaves self.old k gone result self.new }
+    {
+        if gone < 6 {
+            return gone;
+        }
+        prove!(gone < self.len());
+        let mut end = k + gone;
+        let start = self.branch_near(k, end, ticks);
+        while start < end {
+            let taken = self.remove_branch(start, end - start, ticks);
+            if taken == 0 {
+                return end - k;
+            }
+            end -= taken;
+        }
+        end - k
+    }
+
+    /// Takes out the `gone` lines from line `k` on, one after the other.
+    fn take_lines(&mut self, k: usize, gone: usize, ticks: &mut C)
         requires within { k + gone ≤ length self.old.lines }
         requires some { gone < length self.old.lines }
         ensures lines { self.new.lines ≡ take k self.old.lines ++ drop (k + gone) self.old.lines }

@@ -1,4 +1,5 @@
 use crate::behind::Added;
+use crate::branches::{give_back_all, lines_from};
 use crate::climb::{rank, start_of};
 use crate::fill::{join, top};
 use crate::insert::{insert_next, new_line};
@@ -6,7 +7,7 @@ use crate::levels::levels;
 use crate::locate::{Located, locate};
 use crate::nearest::{Wanted, next, previous};
 use crate::prefix::prefix;
-use crate::remove::{lower, remove_in};
+use crate::remove::{Branch, lower, remove_in};
 use crate::replacing::replace_up;
 use crate::select::select;
 use crate::starts::{Placed, odd_slots, place, start};
@@ -57,6 +58,7 @@ impl<C: Ticks> LineTree<C> {
     ghost use Rattle.std.specs.Prelude.{[], ◌∷◌, Some, length, option_map, slice_get, take};
     ghost use Rattle.std.specs.List.{insert, remove};
     ghost use Rattle.toggle_sums.specs.Counts.{plus};
+    ghost use Rattle.text_model.specs.Splices.{removed};
     ghost use Rattle.text_model.specs.TagBits.{slot_count};
     ghost use Rattle.raw_nodes.specs.Names.{records};
     ghost use Rattle.raw_nodes.specs.declared.names.NodePtr.{NodePtr};
@@ -358,11 +360,55 @@ impl<C: Ticks> LineTree<C> {
         ensures room { line_room self.old ≤ line_room self.new }
     {
         self.count -= 1;
-        let name = remove_in(&mut self.store, self.root, self.height, k, ticks);
+        let line = Branch {
+            level: 0,
+            first: k,
+            most: 1,
+        };
+        let name = remove_in(&mut self.store, self.root, self.height, line, ticks).unwrap();
         let top = lower(&mut self.store, self.root, self.height, ticks);
         self.root = top.root;
         self.height = top.height;
         self.store.give_back(name).unwrap()
+    }
+
+    /// About where the first lowest node of the lines from line `k` on begins, but no later than line `end`.
+    pub(crate) fn branch_near(&self, k: usize, end: usize, ticks: &mut C) -> usize
+        requires within { k < length self.now.lines }
+        requires end { k ≤ end }
+        ensures { (k ≤ result) × (result ≤ end) }
+    {
+        let line = self.select(k, ticks);
+        let rest = lines_from(&self.store, line, ticks);
+        if rest < end - k { k + rest } else { end }
+    }
+
+    /// Takes out the lines of a lowest node, if line `k` is its first and it has at most so many. Gives how many.
+    pub(crate) fn remove_branch(&mut self, k: usize, most: usize, ticks: &mut C) -> usize
+        requires some { 0 < most }
+        requires within { k + most ≤ length self.old.lines }
+        requires left { most < length self.old.lines }
+        ensures lines { self.new.lines ≡ removed k (k + result) self.old.lines }
+        ensures most { result ≤ most }
+        ensures room { line_room self.old ≤ line_room self.new }
+    {
+        if self.height < 2 {
+            return 0;
+        }
+        let branch = Branch {
+            level: 1,
+            first: k,
+            most,
+        };
+        let Some(name) = remove_in(&mut self.store, self.root, self.height, branch, ticks) else {
+            return 0;
+        };
+        let left = lower(&mut self.store, self.root, self.height, ticks);
+        self.root = left.root;
+        self.height = left.height;
+        let lines = give_back_all(&mut self.store, name, ticks);
+        self.count -= lines;
+        lines
     }
 
     /// Takes the mark of a number off line `k`.

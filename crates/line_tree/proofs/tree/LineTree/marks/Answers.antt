@@ -1,4 +1,4 @@
-use Rattle.std.proofs.Common.{◌≡◌, sym, ap, ◌∙◌}
+use Rattle.std.proofs.Common.{sym, ap, ◌∙◌}
 use Rattle.toggle_sums.specs.Counts.{Count}
 use Rattle.raw_nodes.specs.Names.{records}
 use Rattle.line_lists.specs.Lists.{count_of}

@@ -1,11 +1,24 @@
-use Rattle.std.proofs.Common.{arith}
-use Rattle.line_tree.proofs.SpliceLaws.{next-out}
+use Rattle.std.proofs.Common.{◌∙◌, arith}
+use Rattle.line_tree.proofs.LeavingLaws.{leaves-long, rest-out}
 use Rattle.line_tree.proofs.tree.LineTree.take_out.Goals as goal
 
-pub loop-preserved : goal.loop-preserved
-loop-preserved g c = let within = c.requires.within in let room = c.loop.invariant.1 in
-    let grows = c.remove.ensures.room in (
-      next-out c.args.self.now.lines c.loop.self.lines c.remove.new.self.lines c.args.k c.loop.counter (omega arith)
-          c.loop.invariant.0 c.remove.ensures.lines,
-      omega (arith, room, grows),
-    )
+pub take_lines-requires-clause-within : goal.take_lines-requires-clause-within
+take_lines-requires-clause-within g c = let leaves = c.take_branches-left.ensures in
+    let long = leaves-long c.args.self.now _ c.args.k c.args.gone c.take_branches-left.result c.requires.within
+    leaves in
+    let within = c.requires.within in omega arith
+
+pub take_lines-requires-clause-some : goal.take_lines-requires-clause-some
+take_lines-requires-clause-some g c = let leaves = c.take_branches-left.ensures in
+    let long = leaves-long c.args.self.now _ c.args.k c.args.gone c.take_branches-left.result c.requires.within
+    leaves in
+    let some = c.requires.some in omega arith
+
+pub returns-clause-lines : goal.returns-clause-lines
+returns-clause-lines g c = c.take_lines.ensures.lines
+    ∙ rest-out c.args.self.now _ c.args.k c.args.gone c.take_branches-left.result c.requires.within
+    c.take_branches-left.ensures
+
+pub returns-clause-room : goal.returns-clause-room
+returns-clause-room g c = let kept = c.take_branches-left.ensures.room in let room = c.take_lines.ensures.room in
+    omega arith

@@ -1,6 +1,6 @@
 use Rattle.std.proofs.Common.{◌≡◌, ◌≤◌, ◌+◌, ◌++◌, take, drop}
 use Rattle.line_tree.specs.Room.{line_room}
-use Rattle.line_tree.proofs.tree.LineTree.take_out.Given as goal
+use Rattle.line_tree.proofs.tree.LineTree.take_lines.Given as goal
 
 abbrev pub invariant-loop : goal.invariant-loop
 invariant-loop g l =
