@@ -2,7 +2,6 @@
 use Rattle.std.proofs.Common.{◌≡◌, ℕ, ◌+◌, ◌-◌, ◌<◌, ◌≤◌, Bool, true, false, not, cond, List, [], ◌∷◌, ◌++◌, length}
 use Rattle.std.proofs.Common.{take, refl, sym, ap, ap₂, ◌∙◌, arith}
 use Rattle.std.specs.Prelude.{String, chars, string_bytes, get_or, is_some, option_map, Option, None, Some, ◌||◌, ◌&&◌}
-use Rattle.std.specs.Prelude.{if◌then◌else◌}
 use Rattle.tag_table.specs.Tags.{Tag, names_of, slot_of}
 use Rattle.text_model.specs.declared.places.TagSlot.{TagSlot}
 use Rattle.std.proofs.lemmas.List.{append-nil, length-append, map-append}

@@ -1,5 +1,5 @@
 -- What a change makes of a document as it is kept, and that it does what the definition says.
-use Rattle.std.proofs.Common.{◌≡◌, ◌≢◌, ℕ, ◌+◌, ◌<◌, ◌≤◌, Err, Ok, length, take, refl, sym, ap, ap₂, subst, ◌∙◌, arith}
+use Rattle.std.proofs.Common.{◌≡◌, ◌≢◌, ℕ, ◌+◌, ◌≤◌, Err, Ok, length, take, refl, sym, ap, ap₂, subst, ◌∙◌, arith}
 use Rattle.std.specs.Prelude.{Result}
 use Rattle.tag_table.specs.Tags.{Tags}
 use Rattle.text_model.specs.Content as model

@@ -9,7 +9,6 @@ use Rattle.std.proofs.lemmas.Option.{none-some, same_Some, get_or_from_slice_get
 use Rattle.text_model.specs.declared.cells.Cell.{Cell}
 use Rattle.text_model.specs.declared.limits.TheConstants.Limits.{MOST_WIDGETS}
 use Rattle.text_model.specs.Content as model
-use Rattle.text_model.specs.Content.{Content, Marks}
 use Rattle.name_list.specs.Names.{Named, numbers_of}
 use Rattle.tag_table.specs.Tags.{Tag}
 use Rattle.edit_ops.specs.Anchors.{AreAnchored}

@@ -9,7 +9,7 @@ use Rattle.text_index.specs.Ranges.{tag_ranges}
 use Rattle.text_model.specs.Content.{Content}
 use Rattle.text_model.proofs.SpliceLaws.{map-alike, map-map}
 use Rattle.search_dump.specs.Dump as dump
-use Rattle.search_dump.specs.Dump.{Tagged, name_of_rank, own_slot, seen_by}
+use Rattle.search_dump.specs.Dump.{name_of_rank, own_slot, seen_by}
 use Rattle.command_effects.specs.Words.{literal}
 use Rattle.documents.specs.Documents.{Document, Parts, Widget, widget_at}
 use Rattle.documents.specs.Keys.{key_named}

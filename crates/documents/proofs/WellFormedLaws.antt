@@ -9,7 +9,6 @@ use Rattle.std.specs.Prelude.{◌&&◌, not, map, slice_get, if◌then◌else◌
 use Rattle.std.specs.FinMap as finite
 use Rattle.text_model.specs.declared.cells.Cell.{Cell}
 use Rattle.text_model.specs.Content as model
-use Rattle.text_model.specs.Content.{Content}
 use Rattle.text_model.specs.Documents.{IsDocument}
 use Rattle.text_model.specs.LimitTable.{LimitTable}
 use Rattle.text_model.specs.Lines.{IsLineStart}

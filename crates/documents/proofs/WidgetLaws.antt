@@ -8,7 +8,6 @@ use Rattle.std.proofs.lemmas.Grind.{get_or-set_at}
 use Rattle.std.proofs.lemmas.List.Elements.{All-set}
 use Rattle.std.proofs.lemmas.Bool.Decides.{nat_tests}
 use Rattle.text_model.specs.Content as model
-use Rattle.text_model.specs.Content.{Content}
 use Rattle.text_model.specs.Lines.{IsLineStart, is_newline, line_of, line_start, lines}
 use Rattle.text_model.specs.LimitTable.{LimitTable}
 use Rattle.text_model.proofs.LineLaws.{line_start-le, lines-append, lines-cons, lines-le-length}

@@ -1,5 +1,5 @@
-use Rattle.std.proofs.Common.{◌≡◌, ◌+◌, ◌-◌, ◌<◌, true, false, List, ℕ, take, subst, sym, ap, ap₂, ◌∙◌, arith}
-use Rattle.std.specs.Prelude.{chars, ◌||◌}
+use Rattle.std.proofs.Common.{◌≡◌, ◌-◌, true, false, take, sym, ap, ◌∙◌, arith}
+use Rattle.std.specs.Prelude.{chars}
 use Rattle.command_effects.specs.Lists.{all_names, listed_names}
 use Rattle.command_effects.specs.Words.{is_among}
 use Rattle.command_effects.proofs.CountLaws.{listed-back, or-true, or-false}

@@ -1,4 +1,4 @@
-use Rattle.std.proofs.Common.{◌≡◌, true, false, not, sym, ap, ◌∙◌}
+use Rattle.std.proofs.Common.{true, false, not, sym, ap, ◌∙◌}
 use Rattle.std.specs.Prelude.{chars}
 use Rattle.tag_table.specs.Tags.{names_of}
 use Rattle.tcl_words.specs.Unread.{texts_of}

@@ -1,9 +1,8 @@
-use Rattle.std.proofs.Common.{◌≡◌, ◌+◌, length, not, sym, ap, ap₂, ◌∙◌, arith}
+use Rattle.std.proofs.Common.{◌+◌, length, not, sym, ap, ap₂, ◌∙◌, arith}
 use Rattle.std.specs.Prelude.{chars, nat_lt}
 use Rattle.std.proofs.lemmas.Bool.Decides.{nat_tests}
 use Rattle.std.proofs.lemmas.List.{length-map}
 use Rattle.tag_table.specs.Tags.{Tag, names_of}
-use Rattle.command_effects.specs.Lists.{with_name}
 use Rattle.command_effects.proofs.CountLaws.{count-known, count-new, tag-known}
 use Rattle.command_effects.proofs.excess.is_one_too_many.Goals as goal
 
