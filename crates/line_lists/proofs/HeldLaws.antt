@@ -11,7 +11,7 @@ use Rattle.line_lists.specs.Texts.{whole}
 use Rattle.line_lists.proofs.DraftLaws.{length-whole}
 use Rattle.line_lists.proofs.EditLaws.{some-columns}
 use Rattle.line_lists.proofs.JoinLaws.{first-of}
-use Rattle.line_lists.proofs.RemovalLaws.{joined-makes, removal-before, removal-none, removal-twice, removed-makes}
+use Rattle.line_lists.proofs.RemovalLaws.{joined-makes, removal-none, removal-twice, removed-makes}
 use Rattle.line_lists.proofs.RowLaws.{rows-behind}
 use Rattle.line_lists.proofs.WholeLaws.{length-without}
 
@@ -192,18 +192,3 @@ pub none-left : (at place left all : ℕ) (new first : LineContent) → place �
 none-left at place left all new first same none so_far =
     sym (removal-none place new) ∙ ap (λ n. after_removal place n new) (let end : place
     ≡ place + left = omega (arith, none) in end) ∙ so_far ∙ ap (λ n. after_removal n (n + all) first) same
-
--- ---- from the last on
-pub cut-long : (start end : ℕ) (old new : LineContent) → start ≤ end → end < length old.columns →
-    new ≡ after_removal start end old → start < length new.columns
-cut-long start end old new ordered within new_is =
-    let long = length-without start end old.columns ordered (omega (arith, within)) in
-    omega (arith, ap (λ (x : LineContent). length x.columns) new_is, long, within)
-
-pub cut-more : (start end to : ℕ) (new text old : LineContent) → start ≤ end → end ≤ to → to < length old.columns →
-    new ≡ after_removal start end text → text ≡ after_removal end to old → new ≡ after_removal start to old
-cut-more start end to new text old ordered behind within new_is text_is =
-    new_is ∙ ap (after_removal start end) text_is ∙ removal-before start end to old ordered behind (omega (
-      arith,
-      within,
-    ))

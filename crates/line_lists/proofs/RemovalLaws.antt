@@ -4,8 +4,7 @@ use Rattle.std.proofs.Common.{take, drop, refl, sym, ap, ap₂, subst, ◌∙◌
 use Rattle.std.specs.FinMap as finite
 use Rattle.std.specs.FinSet as set
 use Rattle.std.specs.Prelude.{option_map, slice_range}
-use Rattle.std.proofs.lemmas.List.{drop-append-le, drop-drop, drop-take, length-drop, length-map, length-take-le}
-use Rattle.std.proofs.lemmas.List.{map-append, take-append-le, take-take}
+use Rattle.std.proofs.lemmas.List.{drop-drop, length-map, length-take-le, map-append, take-append-le}
 use Rattle.std.proofs.Math.Seq.{drop-append-add}
 use Rattle.text_model.specs.declared.places.Place.{Place}
 use Rattle.text_model.specs.Content.{Marks, Slots, map_marks}
@@ -90,71 +89,6 @@ removal-twice from m k line ordered within =
     ∙ drawn_twice from m k (finite.get line.marks q) ordered
     ∙ sym (get-map_marks (drawn from (m + k)) line.marks q)) in
     λ i. record { columns = columns i; marks = marks i }
-
--- a removal and then one right before it are one
-front-end : (xs ys : List Column) (m : ℕ) → length xs ≡ m → drop m (xs ++ ys) ≡ ys
-front-end xs ys m long =
-    ap (λ n. drop n (xs ++ ys)) (let same : m ≡ length xs + 0 = omega (arith, long) in same) ∙ drop-append-add xs ys 0
-
-slice-front : (from m : ℕ) (xs ys : List Column) → from ≤ m → m ≤ length xs →
-    slice_range (take m xs ++ ys) from m ≡ slice_range xs from m
-slice-front from m xs ys ordered within =
-    let front = take m xs in
-    let long : length front ≡ m = length-take-le m xs within in
-    let split : from + (m - from) ≡ m = omega (arith, ordered) in
-    let part : drop from front ≡ take (m - from) (drop from xs) = ap (λ n. drop from (take n xs)) (sym split)
-    ∙ drop-take from (m - from) xs in
-    let rest : m - from ≤ length (drop from front) = omega (arith, long, length-drop from front) in
-    ap (take (m - from)) (drop-append-le from front ys (omega (arith, long, ordered)))
-    ∙ take-append-le (m - from) (drop from front) ys rest
-    ∙ ap (take (m - from)) part
-    ∙ take-take (m - from) (m - from) (drop from xs) (omega arith)
-
-first-twice : (slots others : Slots) (xs : List Column) →
-    toggled_first slots (toggled_first others xs) ≡ toggled_first (differing slots others) xs
-first-twice slots others [] = refl
-first-twice slots others (x ∷ xs) =
-    ap (λ s. record x { toggled = s } ∷ xs) (sym (differing-associative slots others x.toggled))
-
-without-before : (from m k : ℕ) (xs : List Column) → from ≤ m → m ≤ length xs →
-    without_columns from m (without_columns m (m + k) xs) ≡ without_columns from (m + k) xs
-without-before from m k xs ordered within =
-    let front = take m xs in
-    let gone = tags_behind (slice_range xs m (m + k)) in
-    let rest = toggled_first gone (drop (m + k) xs) in
-    let before = tags_behind (slice_range xs from m) in
-    let long : length front ≡ m = length-take-le m xs within in
-    let count : (m + k) - m ≡ k = omega arith in
-    ap₂ (λ part behind. part ++ behind)
-    (take-append-le from front rest (omega (arith, long, ordered)) ∙ take-take from m xs ordered)
-    (ap₂ (λ part behind. toggled_first (tags_behind part) behind) (slice-front from m xs rest ordered within)
-    (front-end front rest m long)
-    ∙ first-twice before gone (drop (m + k) xs)
-    ∙ ap (λ s. toggled_first s (drop (m + k) xs))
-    (ap (λ n. differing before (tags_behind (take n (drop m xs)))) count ∙ sym (slice-more from m k xs ordered)))
-
-drawn_before : (from m k : ℕ) (found : Option Place) → from ≤ m →
-    option_map (drawn from m) (option_map (drawn m (m + k)) found) ≡ option_map (drawn from (m + k)) found
-drawn_before from m k None ordered = refl
-drawn_before from m k (Some place) ordered =
-    ap (λ offset. Some (record place { offset = offset })) (omega (arith, ordered))
-
-pub removal-before : (from m to : ℕ) (line : LineContent) → from ≤ m → m ≤ to → m ≤ length line.columns →
-    after_removal from m (after_removal m to line) ≡ after_removal from to line
-removal-before from m to line ordered behind within =
-    let k = to - m in
-    let end : m + k ≡ to = omega (arith, behind) in
-    let columns = without-before from m k line.columns ordered within in
-    let marks = same_marks _ _ (λ q.
-    get-map_marks (drawn from m) (map_marks (drawn m (m + k)) line.marks) q
-    ∙ ap (option_map (drawn from m)) (get-map_marks (drawn m (m + k)) line.marks q)
-    ∙ drawn_before from m k (finite.get line.marks q) ordered
-    ∙ sym (get-map_marks (drawn from (m + k)) line.marks q)) in
-    let same : after_removal from m (after_removal m (m + k) line) ≡ after_removal from (m + k) line = λ i. record {
-      columns = columns i;
-      marks = marks i;
-    } in
-    subst (λ n. after_removal from m (after_removal m n line) ≡ after_removal from n line) end same
 
 -- nothing is taken out
 none-first : (xs : List Column) → toggled_first set.empty xs ≡ xs

@@ -1,18 +1,13 @@
 ghost use Rattle.std.specs.Prelude.{◌≡◌, ◌+◌, ◌<◌, ◌≤◌, ◌^◌, ◌∷◌, [], ◌++◌, IfOk, OnOk, length, take, drop, vec_len};
 ghost use Rattle.std.specs.Prelude.{vec_capacity};
 ghost use Rattle.segments.specs.Columns.{after_removal, joined};
-ghost use Rattle.line_lists.specs.Drafts.{IsTaken, IsText, copies_of, covered, drafted_at, lines_behind};
-ghost use Rattle.line_lists.specs.Drafts.{text_at};
+ghost use Rattle.line_lists.specs.Drafts.{IsTaken, IsText, copies_of, covered, lines_behind, text_at};
 ghost use Rattle.line_lists.specs.Removals.{HoldsMore, IsHeld, JoinsNext, held_at, held_text};
 ghost use Rattle.line_lists.specs.Texts.{whole};
 
 use crate::drafts::{Copied, Draft, Found, Stop};
 use crate::lists::LineList;
 use std::alloc::AllocError;
-
-/// How many characters are taken out at once, with those before them in their line. Where more are to go the last go
-/// first, so that few steps go over the marks that were gathered before.
-const AT_ONCE: usize = 4096;
 
 impl Copied {
     /// Joins the line of the copy behind it, before which no line is kept.
@@ -154,39 +149,6 @@ impl<'a, L: LineList> Draft<'a, L> {
         Ok(())
     }
 
-    /// Where the line of a character begins. The line is copied.
-    fn line_begin(&mut self, offset: usize) -> Result<usize, AllocError>
-        requires is { IsText (L.lines self.old.list.now) self.old.front.items self.old.back.items }
-        requires within { offset
-            < length (text_at (L.lines self.old.list.now) self.old.front.items self.old.back.items).columns }
-        ensures list { self.new.list.now ≡ self.old.list.now }
-        ensures is { OnOk result (IsText (L.lines self.new.list.now) self.new.front.items self.new.back.items) }
-        ensures same { OnOk result (drafted_at (L.lines self.new.list.now) self.new.front.items self.new.back.items
-            ≡ drafted_at (L.lines self.old.list.now) self.old.front.items self.old.back.items) }
-        ensures before { IfOk result (λ begin. begin ≤ offset) }
-    {
-        let Found { stop, column } = self.take(offset)?;
-        self.put(stop);
-        Ok(offset - column)
-    }
-
-    /// Takes the characters from one offset to another out, from the first on.
-    fn remove_near(&mut self, from: usize, to: usize) -> Result<(), AllocError>
-        requires is { IsText (L.lines self.old.list.now) self.old.front.items self.old.back.items }
-        requires ordered { from ≤ to }
-        requires within { to
-            < length (text_at (L.lines self.old.list.now) self.old.front.items self.old.back.items).columns }
-        ensures list { self.new.list.now ≡ self.old.list.now }
-        ensures is { OnOk result (IsText (L.lines self.new.list.now) self.new.front.items self.new.back.items) }
-        ensures new { OnOk result (text_at (L.lines self.new.list.now) self.new.front.items self.new.back.items
-            ≡ after_removal from to (text_at (L.lines self.old.list.now) self.old.front.items self.old.back.items)) }
-    {
-        let Found { mut stop, column } = self.take(from)?;
-        self.remove_behind(&mut stop, column, to - from)?;
-        self.put(stop);
-        Ok(())
-    }
-
     /// Takes the characters from one offset to another out. What was toggled an odd number of times in these is toggled
     /// before the character behind them, and their marks go there.
     pub fn remove(&mut self, from: usize, to: usize) -> Result<(), AllocError>
@@ -199,13 +161,9 @@ impl<'a, L: LineList> Draft<'a, L> {
         ensures new { OnOk result (text_at (L.lines self.new.list.now) self.new.front.items self.new.back.items
             ≡ after_removal from to (text_at (L.lines self.old.list.now) self.old.front.items self.old.back.items)) }
     {
-        let mut end = to;
-        while end - from > AT_ONCE {
-            let start = self.line_begin(end - AT_ONCE)?.max(from);
-            self.remove_near(start, end)?;
-            end = start;
-        }
-        self.remove_near(from, end)?;
+        let Found { mut stop, column } = self.take(from)?;
+        self.remove_behind(&mut stop, column, to - from)?;
+        self.put(stop);
         Ok(())
     }
 }

@@ -310,6 +310,11 @@ get-joined_marks len first second q =
     ∙ ap₂ or_else (sym (finite.get-entries (map_marks (later len) second) q)
     ∙ get-map_marks (later len) second q) (sym (finite.get-entries first q))
 
+pub joined_none : (len : ℕ) (first : Marks) → joined_marks len first finite.empty ≡ first
+joined_none len first = same_marks _ _ (λ q.
+    get-joined_marks len first finite.empty q
+    ∙ ap (λ found. or_else (option_map (later len) found) (finite.get first q)) (finite.get-empty nat_cmp q))
+
 -- ---- the marks of two texts, in one pass
 -- marks before one that has a higher number
 push_put : (marks : List Mark) (mark : Mark) → All (Below mark.number.0) marks →

@@ -1,8 +1,11 @@
 -- The marks of a line as a map, and what moving them makes of it.
-use Rattle.std.proofs.Common.{◌≡◌, ℕ, ◌≤◌, T, ◌&&◌, ◌++◌, List, [], ◌∷◌, length, map, take, drop, refl, sym, ap, ap₂}
-use Rattle.std.proofs.Common.{subst, ◌∙◌, arith}
+use Rattle.std.proofs.Common.{◌≡◌, ℕ, ◌+◌, ◌<◌, ◌≤◌, T, ◌&&◌, ◌++◌, List, [], ◌∷◌, true, false, length, map, take, drop, refl}
+use Rattle.std.proofs.Common.{sym, ap, ap₂, subst, ◌∙◌, arith}
+use Rattle.std.specs.List.{All}
+use Rattle.std.specs.Prelude.{◌==◌, ◌||◌, if◌then◌else◌, nat_lt}
 use Rattle.std.proofs.lemmas.List.{length-map, take-append-le, take_all}
-use Rattle.std.proofs.lemmas.List.Elements.{All-map}
+use Rattle.std.proofs.lemmas.Bool.Decides.{nat_tests}
+use Rattle.std.proofs.lemmas.List.Elements.{All-head, All-map, All-tail, All-weaker}
 use Rattle.std.specs.Cmp.{nat_cmp_total}
 use Rattle.std.specs.FinMap as finite
 use Rattle.std.specs.FinMap.{is_sorted}
@@ -10,8 +13,10 @@ use Rattle.std.specs.FinMap.Entries.{below_all}
 use Rattle.std.specs.Ordering.{is_lt, nat_cmp}
 use Rattle.text_model.specs.declared.places.Place.{Place}
 use Rattle.text_model.specs.Content.{map_marks}
+use Rattle.text_model.specs.Splices.{drawn, is_right, moved}
+use Rattle.text_model.proofs.StepLaws.{moved_le}
 use Rattle.segments.specs.declared.marks.Mark.{Mark}
-use Rattle.segments.specs.Kept.{AreMarks}
+use Rattle.segments.specs.Kept.{AreKept, AreMarks}
 use Rattle.segments.specs.Marks.{Rise, StandIn, entries_of, entry_of, marks_of, with_place}
 
 pub len-marks : (marks : List Mark) → Rise marks → finite.len (marks_of marks) ≡ length marks
@@ -23,6 +28,18 @@ placed-below : (number : ℕ) (f : Place → Place) (marks : List Mark) →
     below_all nat_cmp number (entries_of (map (with_place f) marks)) ≡ below_all nat_cmp number (entries_of marks)
 placed-below number f [] = refl
 placed-below number f (mark ∷ marks) = ap (λ b. is_lt (nat_cmp number mark.number.0) && b) (placed-below number f marks)
+
+-- a place before a column stays where an insertion goes on from there, or a removal does
+moved_before : (at count : ℕ) (place : Place) → place.offset < at → moved at count place ≡ place
+moved_before at count place before =
+    let low : nat_lt at place.offset ≡ false = grind (arith, nat_tests, before) in
+    let apart : (place.offset == at) ≡ false = grind (arith, nat_tests, before) in
+    ap₂ (λ a b. if a || (b && is_right place.gravity) then record place { offset = place.offset + count } else place) low
+    apart
+
+drawn_before : (from to : ℕ) (place : Place) → from ≤ to → place.offset ≤ from → drawn from to place ≡ place
+drawn_before from to place ordered before =
+    ap (λ offset. record place { offset = offset }) (omega (arith, ordered, before))
 
 placed-sorted : (f : Place → Place) (marks : List Mark) →
     is_sorted nat_cmp (entries_of (map (with_place f) marks)) ≡ is_sorted nat_cmp (entries_of marks)
@@ -59,6 +76,60 @@ pub AreMarks-placed : (f : Place → Place) (marks : List Mark) (len new_len : �
     AreMarks new_len (map (with_place f) marks)
 AreMarks-placed f marks len new_len keeps are =
     record { rise = Rise-placed f marks are.rise; stand = StandIn-placed f marks len new_len keeps are.stand }
+
+-- where none stands at a place that an insertion changes, none moves
+all_stay : (f : Place → Place) (marks : List Mark) → All (λ (mark : Mark). f mark.place ≡ mark.place) marks →
+    map (with_place f) marks ≡ marks
+all_stay f [] stay = refl
+all_stay f (mark ∷ marks) stay =
+    ap₂ (λ (place : Place) rest. record mark { place = place } ∷ rest)
+    (All-head (λ (mark : Mark). f mark.place ≡ mark.place) mark marks stay)
+    (all_stay f marks (All-tail (λ (mark : Mark). f mark.place ≡ mark.place) mark marks stay))
+
+pub none_moved : (at count reach : ℕ) (marks : List Mark) → reach < at → StandIn reach marks →
+    marks ≡ map (with_place (moved at count)) marks
+none_moved at count reach marks before stand =
+    sym (all_stay (moved at count) marks
+    (All-weaker (λ (mark : Mark). mark.place.offset ≤ reach) (λ (mark : Mark). moved at count mark.place ≡ mark.place)
+    (λ mark low. moved_before at count mark.place (omega (arith, low, before))) marks stand))
+
+pub none_drawn : (from to reach : ℕ) (marks : List Mark) → from ≤ to → reach ≤ from → StandIn reach marks →
+    marks ≡ map (with_place (drawn from to)) marks
+none_drawn from to reach marks ordered before stand =
+    sym (all_stay (drawn from to) marks
+    (All-weaker (λ (mark : Mark). mark.place.offset ≤ reach) (λ (mark : Mark). drawn from to mark.place ≡ mark.place)
+    (λ mark low. drawn_before from to mark.place ordered (omega (arith, low, before))) marks stand))
+
+-- behind which column none stands after an insertion
+abbrev pub moved_reach : ℕ → ℕ → ℕ → ℕ
+moved_reach at count reach = if nat_lt reach at then reach else reach + count
+
+pub moved_within : (at count reach len : ℕ) → reach ≤ len → moved_reach at count reach ≤ len + count
+moved_within at count reach len low =
+    elim (nat_lt reach at) as (λ b. (if b then reach else reach + count) ≤ len + count) [
+      | true ↦ omega (arith, low)
+      | false ↦ omega (arith, low)
+    ]
+
+pub moved_stand : (at count reach : ℕ) (marks : List Mark) → StandIn reach marks →
+    StandIn (moved_reach at count reach) (map (with_place (moved at count)) marks)
+moved_stand at count reach marks stand =
+    elim (nat_lt reach at) as (λ b. nat_lt reach at ≡ b
+    → StandIn (if b then reach else reach + count) (map (with_place (moved at count)) marks)) [
+      | true ↦ λ before. subst (StandIn reach) (none_moved at count reach marks (grind (arith, nat_tests, before)) stand)
+          stand
+      | false ↦ λ before. StandIn-placed (moved at count) marks reach (reach + count) (moved_le at count reach) stand
+    ] refl
+
+-- marks that are kept stand in their line
+pub kept_stand : (len reach : ℕ) (marks : List Mark) → AreKept len reach marks → StandIn len marks
+kept_stand len reach marks kept =
+    let within = kept.within in
+    All-weaker (λ (mark : Mark). mark.place.offset ≤ reach) (λ (mark : Mark). mark.place.offset ≤ len)
+    (λ mark low. omega (arith, low, within)) marks kept.stand
+
+pub kept_marks : (len reach : ℕ) (marks : List Mark) → AreKept len reach marks → AreMarks len marks
+kept_marks len reach marks kept = record { rise = kept.rise; stand = kept_stand len reach marks kept }
 
 -- marks written over all of a list
 pub written_over : (count : ℕ) (new old : List Mark) → length new ≡ count →

@@ -4,7 +4,7 @@ use Rattle.std.proofs.Common.{◌∷◌, ◌++◌, length, map, take, drop, refl
 use Rattle.std.proofs.Common.{take-append-drop}
 use Rattle.std.proofs.Math.Seq.{drop-append_seam, take-append_seam}
 use Rattle.std.proofs.lemmas.Bool.Decides.{nat_tests}
-use Rattle.std.proofs.lemmas.List.{take_rest}
+use Rattle.std.proofs.lemmas.List.{append-nil, take_rest}
 use Rattle.std.proofs.lemmas.List.Elements.{All-filter, All-weaker, filter_passes}
 use Rattle.std.specs.Cmp.{nat_cmp_total}
 use Rattle.std.specs.FinMap as finite
@@ -19,12 +19,12 @@ use Rattle.text_model.specs.Content.{map_marks}
 use Rattle.text_model.proofs.PlaceLaws.{same_marks}
 use Rattle.segments.specs.declared.marks.Mark.{Mark}
 use Rattle.segments.specs.declared.toggles.Toggled.{Toggled}
-use Rattle.segments.specs.Columns.{Column, earlier, marks_where}
+use Rattle.segments.specs.Columns.{Column, earlier, marks_where, plain_columns}
 use Rattle.segments.specs.Entries.{LieIn, moved_back, moved_on, toggled_at}
 use Rattle.segments.specs.Kept.{AreMarks, columns_from}
 use Rattle.segments.specs.Marks.{Rise, entries_of, entry_of, marks_of, with_place}
 use Rattle.segments.proofs.ChangeLaws.{columns_same}
-use Rattle.segments.proofs.ColumnLaws.{columns-append, columns-front, drop-columns, take-columns}
+use Rattle.segments.proofs.ColumnLaws.{columns-append, columns-front, columns-plain, drop-columns, take-columns}
 use Rattle.segments.proofs.MarkLaws.{entries-marks_of, get-marks_of}
 use Rattle.segments.proofs.MarkPlaceLaws.{AreMarks-placed, marks_of-placed}
 use Rattle.segments.proofs.MovedLaws.{LieIn-moved_back, LieIn-moved_on, rest_alone, toggled-moved_back}
@@ -114,6 +114,13 @@ module _ (first second : List ℕ) (front behind : List Toggled) (before : LieIn
       let turned : (0 + len) + k ≡ (0 + k) + len = omega arith in
       rest_alone 0 len front moved ((0 + len) + k) before (omega arith) ∙ ap (toggled_at moved) turned
       ∙ toggled-moved_on len behind (0 + k)))
+
+pub joined_text : (first second : List ℕ) (front : List Toggled) → LieIn 0 (length first) front →
+    columns_from 0 (first ++ second) front ≡ columns_from 0 first front ++ plain_columns second
+joined_text first second front before =
+    ap (columns_from 0 (first ++ second)) (sym (append-nil front))
+    ∙ columns_joined first second front [] before tt
+    ∙ ap (λ (columns : List Column). columns_from 0 first front ++ columns) (columns-plain 0 second)
 
 -- marks at whose places a test holds
 abbrev passing : (Place → Bool) → List Mark → List Mark

@@ -20,8 +20,8 @@ use Rattle.toggle_sums.specs.Counts.{counting}
 use Rattle.toggle_sums.specs.Toggles.{parity, presence}
 use Rattle.segments.specs.declared.marks.Mark.{Mark}
 use Rattle.segments.specs.declared.toggles.Toggled.{Toggled}
-use Rattle.segments.specs.Columns.{Column, after_removal, after_text, characters, joined, joined_marks}
-use Rattle.segments.specs.Columns.{later, line_before, line_behind, line_count, marks_where, next_toggle, plain_columns}
+use Rattle.segments.specs.Columns.{Column, after_removal, after_text, characters, joined}
+use Rattle.segments.specs.Columns.{line_before, line_behind, line_count, marks_where, next_toggle, plain_columns}
 use Rattle.segments.specs.Columns.{plain_line, previous_toggle, toggled_first, toggled_more, toggles}
 use Rattle.segments.specs.Columns.{with_toggle, without_columns}
 use Rattle.segments.specs.Kept.{columns_from}
@@ -29,7 +29,7 @@ use Rattle.segments.specs.Marks.{marks_of}
 use Rattle.segments.proofs.ChangeLaws.{columns_changed, columns_cleared, slots_kept}
 use Rattle.segments.proofs.ColumnLaws.{characters-columns, columns-plain, drop-columns, length-columns, parity-columns}
 use Rattle.segments.proofs.ColumnLaws.{presence-columns, take-columns}
-use Rattle.segments.proofs.MarkLaws.{entries-marks_of, marks_of-nil}
+use Rattle.segments.proofs.MarkLaws.{entries-marks_of, joined_none, marks_of-nil}
 use Rattle.segments.proofs.MarkPlaceLaws.{len-marks, marks_of-placed}
 use Rattle.segments.proofs.NextLaws.{next_column, previous_column}
 use Rattle.segments.proofs.PartLaws.{marks_of-passing}
@@ -112,14 +112,6 @@ placed-none f = ap (map_marks f) (sym marks_of-nil) ∙ sym (marks_of-placed f [
 where-none : (test : Place → Bool) → marks_where test finite.empty ≡ finite.empty
 where-none test = ap (marks_where test) (sym marks_of-nil) ∙ sym (marks_of-passing test [] tt) ∙ marks_of-nil
 
-joined-none : (len : ℕ) → joined_marks len finite.empty finite.empty ≡ finite.empty
-joined-none len =
-    ap (λ (first : Marks). finite.from_entries (finite.entries first ++ finite.entries no_marks))
-    (placed-none (later len))
-    ∙ ap (λ (entries : List (ℕ × Place)). finite.from_entries {R = nat_cmp} (entries ++ entries)) entries-none
-    ∙ same_marks (finite.from_entries []) no_marks (λ q. finite.get-from_entries nat_cmp_total [] q
-    ∙ sym (finite.get-empty nat_cmp q))
-
 none-either : (number : ℕ) (test : Bool) → cond test None (finite.get no_marks number) ≡ finite.get no_marks number
 none-either number true = sym (finite.get-empty nat_cmp number)
 none-either number false = refl
@@ -147,7 +139,7 @@ behind-plain n text = let columns = sym (drop-plain n text) in
 pub joined-plain : (front behind : List ℕ) → plain_line (front ++ behind)
     ≡ joined (plain_line front) (plain_line behind)
 joined-plain front behind = let columns = append-plain front behind in
-    let marks = sym (joined-none (length (plain_columns front))) in λ i. record { columns = columns i; marks = marks i }
+    let marks = sym (joined_none (length (plain_columns front)) no_marks) in λ i. record { columns = columns i; marks = marks i }
 
 pub inserted-plain : (at : ℕ) (new text : List ℕ) → plain_line (inserted at new text)
     ≡ after_text at new (plain_line text)

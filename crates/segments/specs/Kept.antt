@@ -1,5 +1,5 @@
 -- How a line is kept: what its toggles make of its columns, and its marks by their numbers, which rise.
-use Rattle.std.specs.Prelude.{ℕ, suc, List, [], ◌∷◌}
+use Rattle.std.specs.Prelude.{ℕ, suc, ◌≤◌, List, [], ◌∷◌}
 use Rattle.segments.specs.declared.toggles.Toggled.{Toggled}
 use Rattle.segments.specs.declared.marks.Mark.{Mark}
 use Rattle.segments.specs.Columns.{Column}
@@ -16,3 +16,9 @@ columns_from at (character ∷ text) entries =
 pub record AreMarks (len : ℕ) (marks : List Mark) : Type 0 where
   pub rise : Rise marks
   pub stand : StandIn len marks
+
+-- marks of a line of so many characters, of which none stands behind a column
+pub record AreKept (len reach : ℕ) (marks : List Mark) : Type 0 where
+  pub rise : Rise marks
+  pub stand : StandIn reach marks
+  pub within : reach ≤ len

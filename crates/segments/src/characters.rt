@@ -24,7 +24,8 @@ impl Model for Characters {
     ghost invariant = { λ a. a.count ≡ length (chars (string_bytes a.text)) };
 }
 
-/// A copy has room for so many bytes more: it is made to be changed, mostly by a few characters.
+/// A copy of a text that has characters has room for so many bytes more: it is made to be changed, mostly by a few
+/// characters.
 const MORE: usize = 32;
 
 /// How many characters a text has.
@@ -194,11 +195,12 @@ impl Characters {
         Ok(())
     }
 
-    /// A copy of the characters, to which a few can be added without memory.
+    /// A copy of the characters, to which a few can be added without memory. A copy of none takes none.
     pub fn try_clone(&self, alloc: Global) -> Result<Characters, AllocError>
         ensures { IfOk result (λ copy. copy ≡ self.now) }
     {
-        let mut text = String::with_capacity(alloc, self.text.len().saturating_add(MORE))?;
+        let more = if self.text.is_empty() { 0 } else { MORE };
+        let mut text = String::with_capacity(alloc, self.text.len().saturating_add(more))?;
         text.push_str(self.text.as_str())?;
         Ok(Characters {
             text,

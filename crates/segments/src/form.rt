@@ -230,10 +230,7 @@ impl Form {
         match other {
             Form::Plain(text) => match self {
                 Form::Plain(front) => front.join(text),
-                Form::Rich(line) => {
-                    let more = RichLine::plain(alloc, text.try_clone(alloc)?);
-                    line.join_copy(&more)
-                }
+                Form::Rich(line) => line.join_text(text),
             },
             Form::Rich(line) => {
                 self.enrich(alloc)?;

@@ -1,5 +1,5 @@
 ghost use Rattle.std.specs.Prelude.{◌≡◌, ℕ, ◌+◌, ◌-◌, ◌<◌, ◌≤◌, ◌^◌, T, List, length, map, take, drop, vec_len};
-ghost use Rattle.std.specs.Prelude.{slice_get, nat_le, nat_lt, OnOk, OnErr, IfOk};
+ghost use Rattle.std.specs.Prelude.{slice_get, nat_le, nat_lt, if◌then◌else◌, min, OnOk, OnErr, IfOk};
 ghost use Rattle.std.specs.List.{All, filter};
 ghost use Rattle.std.specs.FinMap as finite;
 ghost use Rattle.text_model.specs.declared.places.Place.{Place};
@@ -71,24 +71,38 @@ pub fn take_mark(marks: &mut Vec<Mark>, number: MarkNo)
     }
 }
 
-/// Moves marks as an insertion of so many characters at a column does.
-pub fn move_marks(marks: &mut [Mark], at: usize, count: usize)
-    requires { All (HaveRoom count) marks.old }
-    ensures { marks.new ≡ map (with_place (moved at count)) marks.old }
+/// Moves marks, of which none stands behind column `reach`, as an insertion of so many characters at a column does:
+/// none is looked at where all stand before it. Gives the column behind which none stands then.
+pub fn move_marks(marks: &mut [Mark], reach: usize, at: usize, count: usize) -> usize
+    requires stand { StandIn reach marks.old }
+    requires room { reach + count < 2 ^ 64 }
+    ensures moved { marks.new ≡ map (with_place (moved at count)) marks.old }
+    ensures reach { result ≡ (if nat_lt reach at then reach else reach + count) }
 {
+    if reach < at {
+        return reach;
+    }
     for mark in marks.iter_mut() {
         mark.place = mark.place.moved(at, count);
     }
+    reach + count
 }
 
-/// Draws marks as the removal of the characters from one column to another does.
-pub fn draw_marks(marks: &mut [Mark], from: usize, to: usize)
-    requires { from ≤ to }
-    ensures { marks.new ≡ map (with_place (drawn from to)) marks.old }
+/// Draws marks, of which none stands behind column `reach`, as the removal of the characters from one column to another
+/// does: none is looked at where none stands behind the first of these. Gives the column behind which none stands then.
+pub fn draw_marks(marks: &mut [Mark], reach: usize, from: usize, to: usize) -> usize
+    requires ordered { from ≤ to }
+    requires stand { StandIn reach marks.old }
+    ensures drawn { marks.new ≡ map (with_place (drawn from to)) marks.old }
+    ensures reach { result ≡ min reach from + (reach - to) }
 {
+    if reach <= from {
+        return reach;
+    }
     for mark in marks.iter_mut() {
         mark.place = mark.place.drawn(from, to);
     }
+    from + reach.saturating_sub(to)
 }
 
 /// The marks from a column on, in columns from there.

@@ -1,4 +1,4 @@
-ghost use Rattle.std.specs.Prelude.{◌≡◌, ℕ, ◌+◌, ◌++◌, ◌<◌, ◌≤◌, Bool, false, true, length, map, take, slice_get};
+ghost use Rattle.std.specs.Prelude.{◌≡◌, ℕ, ◌+◌, ◌++◌, ◌<◌, ◌≤◌, ◌^◌, Bool, false, true, length, map, take, slice_get};
 ghost use Rattle.std.specs.Prelude.{slice_range, Some, IfSome, IfOk, IfErr, OnOk, OnErr, chars, string_bytes};
 ghost use Rattle.std.specs.Prelude.{option_map};
 ghost use Rattle.std.specs.FinMap as finite;
@@ -54,6 +54,8 @@ pub struct RichLine {
     text: Characters,
     toggles: Vec<Toggled>,
     marks: Vec<Mark>,
+    /// No mark stands behind this column, so that those before a change needn't be looked at.
+    reach: usize,
 }
 
 impl Model for RichLine {
@@ -61,7 +63,7 @@ impl Model for RichLine {
     ghost use Rattle.std.specs.FinMap as finite;
     ghost use Rattle.segments.specs.Columns.{LineContent};
     ghost use Rattle.segments.specs.Entries.{LieIn};
-    ghost use Rattle.segments.specs.Kept.{columns_from, AreMarks};
+    ghost use Rattle.segments.specs.Kept.{columns_from, AreKept};
     ghost use Rattle.segments.specs.Marks.{marks_of};
     ghost use Rattle.std.specs.Coded.{codes, coded_ℕ};
     ghost use Rattle.std.specs.FinSet as set;
@@ -79,7 +81,7 @@ impl Model for RichLine {
 
     ghost view = { λ a. record { columns = columns_from 0 a.text a.toggles.items; marks = marks_of a.marks.items } };
 
-    ghost invariant = { λ a. LieIn 0 (length a.text) a.toggles.items × AreMarks (length a.text) a.marks.items };
+    ghost invariant = { λ a. LieIn 0 (length a.text) a.toggles.items × AreKept (length a.text) a.reach a.marks.items };
 }
 
 impl RichLine {
@@ -92,6 +94,7 @@ impl RichLine {
             text,
             toggles: Vec::new(alloc),
             marks: Vec::new(alloc),
+            reach: 0,
         }
     }
 
@@ -298,6 +301,7 @@ impl RichLine {
             text: self.text.try_clone(self.alloc)?,
             toggles: copy_with_more(self.alloc, &self.toggles, MORE_TOGGLES)?,
             marks: copy_with_more(self.alloc, &self.marks, MORE_MARKS)?,
+            reach: self.reach,
         })
     }
 
@@ -315,15 +319,45 @@ impl RichLine {
         move_rest_back(&mut toggles, 0, column);
         self.toggles.truncate(count);
         keep_before(&mut self.marks, column);
+        let reach = self.reach.saturating_sub(column);
+        self.reach = self.reach.min(column);
         Ok(RichLine {
             alloc: self.alloc,
             text,
             toggles,
             marks,
+            reach,
         })
     }
 
-    /// Adds a copy of another line behind this one.
+    /// Adds a copy of some characters behind the line.
+    pub fn join_text(&mut self, other: &Characters) -> Result<(), AllocError>
+        ensures new { OnOk result (self.new ≡ joined self.old (plain_line other.now)) }
+        ensures refused { OnErr result (self.new ≡ self.old) }
+    {
+        self.text.join(other)?;
+        Ok(())
+    }
+
+    /// Adds a copy of the characters of another line and of its toggles behind the line.
+    fn join_columns(&mut self, other: &RichLine) -> Result<(), AllocError>
+        requires { length self.old.columns + length other.now.columns < 2 ^ 64 }
+        ensures columns { OnOk result (self.new.columns ≡ self.old.columns ++ other.now.columns) }
+        ensures marks { self.new.marks ≡ self.old.marks }
+        ensures refused { OnErr result (self.new ≡ self.old) }
+    {
+        let len = self.text.len();
+        let count = self.toggles.len();
+        self.toggles.extend_from_slice(&other.toggles)?;
+        if self.text.join(&other.text).is_err() {
+            self.toggles.truncate(count);
+            return Err(AllocError);
+        }
+        move_rest_on(&mut self.toggles, count, len);
+        Ok(())
+    }
+
+    /// Adds a copy of another line behind this one. Where that has no marks, those of this one aren't looked at.
     pub fn join_copy(&mut self, other: &RichLine) -> Result<(), AllocError>
         ensures new { OnOk result (self.new ≡ joined self.old other.now) }
         ensures refused { OnErr result (self.new ≡ self.old) }
@@ -333,15 +367,13 @@ impl RichLine {
         if other.text.len() > usize::MAX - len {
             return Err(AllocError);
         }
-        let count = self.toggles.len();
-        let marks = joined_marks(self.alloc, &self.marks, &other.marks, len)?;
-        self.toggles.extend_from_slice(&other.toggles)?;
-        if self.text.join(&other.text).is_err() {
-            self.toggles.truncate(count);
-            return Err(AllocError);
+        if other.marks.is_empty() {
+            return self.join_columns(other);
         }
-        move_rest_on(&mut self.toggles, count, len);
+        let marks = joined_marks(self.alloc, &self.marks, &other.marks, len)?;
+        self.join_columns(other)?;
         self.marks = marks;
+        self.reach = len + other.reach;
         Ok(())
     }
 
@@ -356,7 +388,7 @@ impl RichLine {
         let count = self.text.len() - len;
         let start = count_before(&self.toggles, column);
         move_rest_on(&mut self.toggles, start, count);
-        move_marks(&mut self.marks, column, count);
+        self.reach = move_marks(&mut self.marks, self.reach, column, count);
         Ok(())
     }
 
@@ -371,7 +403,7 @@ impl RichLine {
         let len = self.text.len();
         self.text.remove(from, to)?;
         remove_columns(&mut self.toggles, from, to, len);
-        draw_marks(&mut self.marks, from, to);
+        self.reach = draw_marks(&mut self.marks, self.reach, from, to);
         Ok(())
     }
 
@@ -424,6 +456,7 @@ impl RichLine {
         ensures marks { OnOk result (self.new.marks ≡ finite.insert self.old.marks number.0 place) }
         ensures refused { OnErr result (self.new ≡ self.old) }
     {
+        self.reach = self.reach.max(place.offset);
         put_mark(&mut self.marks, number, place)
     }
 

@@ -6,6 +6,7 @@ use Rattle.text_model.specs.declared.places.Place.{Place}
 use Rattle.text_model.specs.Splices.{drawn}
 use Rattle.segments.specs.declared.marks.Mark.{Mark}
 use Rattle.segments.specs.Marks.{with_place}
+use Rattle.segments.proofs.MarkPlaceLaws.{none_drawn}
 use Rattle.segments.proofs.marks.draw_marks.Goals as goal
 
 pub loop-mark-preserved : goal.loop-mark-preserved
@@ -18,3 +19,7 @@ loop-mark-preserved c =
     ap (λ (place : Place). set marks index (record { number = mark.number; place = place })) c.drawn-mark.ensures
     ∙ map_over_more (with_place (drawn c.args.from c.args.to)) c.args.marks.now marks index mark c.loop-mark-test.true
     c.loop-mark.invariant (get_or_default marks index none mark within)
+
+pub returns-then-reach-from-clause-drawn : goal.returns-then-reach-from-clause-drawn
+returns-then-reach-from-clause-drawn c =
+    none_drawn c.args.from c.args.to c.args.reach c.args.marks.now c.requires.ordered c.if-reach-from.true c.requires.stand

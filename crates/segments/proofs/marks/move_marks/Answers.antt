@@ -6,6 +6,7 @@ use Rattle.text_model.specs.declared.places.Place.{Place}
 use Rattle.text_model.specs.Splices.{moved}
 use Rattle.segments.specs.declared.marks.Mark.{Mark}
 use Rattle.segments.specs.Marks.{with_place}
+use Rattle.segments.proofs.MarkPlaceLaws.{none_moved}
 use Rattle.segments.proofs.marks.move_marks.Goals as goal
 
 pub loop-mark-preserved : goal.loop-mark-preserved
@@ -18,3 +19,7 @@ loop-mark-preserved c =
     ap (λ (place : Place). set marks index (record { number = mark.number; place = place })) c.moved-mark.ensures
     ∙ map_over_more (with_place (moved c.args.at c.args.count)) c.args.marks.now marks index mark c.loop-mark-test.true
     c.loop-mark.invariant (get_or_default marks index none mark within)
+
+pub returns-then-reach-at-clause-moved : goal.returns-then-reach-at-clause-moved
+returns-then-reach-at-clause-moved c =
+    none_moved c.args.at c.args.count c.args.reach c.args.marks.now c.if-reach-at.true c.requires.stand

@@ -1,12 +1,13 @@
-use Rattle.std.proofs.Common.{◌≡◌, ◌-◌, length, take, drop, sym, ap, ap₂, subst, ◌∙◌, arith, length-take, length-drop}
+use Rattle.std.proofs.Common.{◌≡◌, ◌-◌, ◌≤◌, length, take, drop, sym, ap, ap₂, subst, ◌∙◌, arith, length-take, length-drop}
+use Rattle.std.proofs.lemmas.List.Elements.{All-filter}
 use Rattle.std.specs.List.{All, filter}
 use Rattle.std.specs.Prelude.{map, nat_le, nat_lt}
 use Rattle.text_model.specs.Content.{map_marks}
 use Rattle.segments.specs.declared.marks.Mark.{Mark}
 use Rattle.segments.specs.Columns.{LineContent, earlier, line_before, line_behind, marks_where}
 use Rattle.segments.specs.Entries.{CanMoveBack, LieIn, moved_back}
-use Rattle.segments.specs.Kept.{AreMarks, columns_from}
-use Rattle.segments.specs.Marks.{marks_of, with_place}
+use Rattle.segments.specs.Kept.{AreKept, columns_from}
+use Rattle.segments.specs.Marks.{StandIn, marks_of, with_place}
 use Rattle.segments.proofs.ColumnLaws.{length-columns}
 use Rattle.segments.proofs.MovedLaws.{can_move_back}
 use Rattle.segments.proofs.PartLaws.{before_lies, behind_lie, behind_lies, columns_before, columns_behind, marks_before}
@@ -40,6 +41,9 @@ invariant_of-self-2 c =
     let text = c.self.inside.text in
     let entries = c.self.inside.toggles.items in
     let column = c.args.column in
+    let marks = c.self.inside.marks.items in
+    let kept = c.self.invariant.1 in
+    let low = marks_before column c.self.inside.reach marks (record { rise = kept.rise; stand = kept.stand }) in
     let before = before_lies column (length text) c.count_before-count.result entries c.deref.result.now
     c.deref.ensures.value c.self.invariant.0 c.count_before-count.ensures.before in
     let within = ap (λ (line : LineContent). length line.columns) c.self.view_is in
@@ -53,9 +57,14 @@ invariant_of-self-2 c =
     ) in (
       subst (λ len. LieIn 0 len c.truncate.new.self.items) long
           (subst (LieIn 0 column) (sym c.truncate.ensures.items) before),
-      subst (λ len. AreMarks len c.keep_before.new.marks.items) long
-          (subst (AreMarks column) (sym c.keep_before.ensures)
-          (marks_before column (length text) c.self.inside.marks.items c.self.invariant.1)),
+      subst (AreKept (length c.cut.new.self) c.min-self-inside.result) (sym c.keep_before.ensures) (record {
+        rise = low.rise;
+        stand = λ k d small.
+            let one = low.stand k d small in
+            let other = All-filter (λ (mark : Mark). nat_lt mark.place.offset column) (λ (mark : Mark). mark.place.offset
+            ≤ c.self.inside.reach) marks kept.stand k d small in omega (arith, one, other, c.min-self-inside.ensures);
+        within = omega (arith, c.min-self-inside.ensures, long);
+      }),
     )
 
 pub invariant_of-result : goal.invariant_of-result
@@ -64,6 +73,10 @@ invariant_of-result c =
     let entries = c.self.inside.toggles.items in
     let len = length text in
     let column = c.args.column in
+    let kept = c.self.invariant.1 in
+    let within = kept.within in
+    let high = marks_behind column c.self.inside.reach c.self.inside.marks.items
+    (record { rise = kept.rise; stand = kept.stand }) in
     let count = c.count_before-count.result in
     let behind = behind_lies column len count entries c.deref.result.now c.deref.ensures.value c.self.invariant.0
     c.count_before-count.ensures.behind in
@@ -77,9 +90,13 @@ invariant_of-result c =
     ∙ length-drop column text) in (
       subst (λ n. LieIn 0 n c.move_rest_back.new.toggles.items) long
           (subst (LieIn 0 (len - column)) (sym moved) (behind_lie column len (drop count entries) behind)),
-      subst (λ n. AreMarks n c.in_ok-marks.marks.items) long
-          (subst (AreMarks (len - column)) (sym marked)
-          (marks_behind column len c.self.inside.marks.items c.self.invariant.1)),
+      subst (AreKept (length c.in_ok-text.text) c.saturating_sub-reach.result) (sym marked) (record {
+        rise = high.rise;
+        stand = subst (λ n. StandIn n (map (with_place (earlier column))
+            (filter (λ (mark : Mark). nat_le column mark.place.offset) c.self.inside.marks.items)))
+            (sym c.saturating_sub-reach.ensures) high.stand;
+        within = omega (arith, c.saturating_sub-reach.ensures, long, within);
+      }),
     )
 
 pub returns-clause-head : goal.returns-clause-head

@@ -4,17 +4,16 @@ use Rattle.std.proofs.lemmas.List.{length-map}
 use Rattle.text_model.specs.Content.{map_marks}
 use Rattle.text_model.specs.Splices.{inserted, moved}
 use Rattle.text_model.proofs.SpliceLaws.{length-inserted}
-use Rattle.text_model.proofs.StepLaws.{moved_le}
 use Rattle.segments.specs.Columns.{LineContent, after_text}
 use Rattle.segments.specs.Entries.{LieIn}
-use Rattle.segments.specs.Kept.{AreMarks, columns_from}
-use Rattle.segments.specs.Marks.{marks_of, with_place}
+use Rattle.segments.specs.Kept.{AreKept, columns_from}
+use Rattle.segments.specs.Marks.{StandIn, marks_of, with_place}
 use Rattle.segments.proofs.ColumnLaws.{length-columns}
 use Rattle.segments.proofs.InsertionLaws.{columns_inserted, moved_lie}
-use Rattle.segments.proofs.MarkPlaceLaws.{AreMarks-placed, marks_of-placed, written_over}
+use Rattle.segments.proofs.MarkPlaceLaws.{Rise-placed, marks_of-placed, moved_reach, moved_stand, moved_within, written_over}
 use Rattle.segments.proofs.MovedLaws.{can_move_on}
 use Rattle.segments.proofs.rich.RichLine.insert_text.Goals as goal
-use Rattle.segments.proofs.rich.RichLine.insert_text.Goals.{After-count_before-start, After-len-len, After-move_marks}
+use Rattle.segments.proofs.rich.RichLine.insert_text.Goals.{After-count_before-start, After-len-len, After-move_marks-self-inside}
 
 within : (c : After-len-len) → c.args.column ≤ length c.self.inside.text
 within c =
@@ -59,14 +58,14 @@ move_rest_on-requires-clause-room c =
     (omega (arith, c.len.ensures, c.len-len.ensures, c.len.type_inv, longer place small))
 
 -- the marks are all written anew
-marks_are : (c : After-move_marks) → take c.self.inside.marks.len
-    (c.move_marks.new.marks ++ drop (length c.move_marks.new.marks) c.self.inside.marks.items)
+marks_are : (c : After-move_marks-self-inside) → take c.self.inside.marks.len
+    (c.move_marks-self-inside.new.marks ++ drop (length c.move_marks-self-inside.new.marks) c.self.inside.marks.items)
     ≡ map (with_place (moved c.args.column (c.len.result - c.len-len.result))) c.self.inside.marks.items
 marks_are c =
     let f = with_place (moved c.args.column (c.len.result - c.len-len.result)) in
-    let new : c.move_marks.new.marks ≡ map f c.self.inside.marks.items = c.move_marks.ensures
+    let new : c.move_marks-self-inside.new.marks ≡ map f c.self.inside.marks.items = c.move_marks-self-inside.ensures.moved
     ∙ ap (map f) c.deref_mut.ensures.value in
-    written_over c.self.inside.marks.len c.move_marks.new.marks c.self.inside.marks.items (ap length new
+    written_over c.self.inside.marks.len c.move_marks-self-inside.new.marks c.self.inside.marks.items (ap length new
     ∙ length-map c.self.inside.marks.items f ∙ sym c.self.inside.marks.ok.0) ∙ new
 
 pub invariant_of-self-2 : goal.invariant_of-self-2
@@ -74,7 +73,11 @@ invariant_of-self-2 c =
     let place = (goal.at.invariant_of-self-2 c).After-count_before-start in
     let small = within (goal.at.invariant_of-self-2 c).After-len-len in
     let len = length c.self.inside.text in
+    let kept = c.self.invariant.1 in
+    let marks = c.self.inside.marks.items in
     let count = c.len.result - c.len-len.result in
+    let low = kept.within in
+    let new = c.move_marks-self-inside.ensures.reach in
     let long : len + count ≡ length c.insert.new.self = omega (
       arith,
       c.len.ensures,
@@ -85,10 +88,15 @@ invariant_of-self-2 c =
           (subst (LieIn 0 (len + count)) (sym c.move_rest_on.ensures)
           (moved_lie c.args.column len c.count_before-start.result count c.self.inside.toggles.items (before place)
           (behind place) small)),
-      subst (AreMarks (length c.insert.new.self)) (sym (marks_are (goal.at.invariant_of-self-2 c).After-move_marks))
-          (AreMarks-placed (moved c.args.column count) c.self.inside.marks.items len (length c.insert.new.self)
-          (λ mark there. subst (λ n. (moved c.args.column count mark).offset
-          ≤ n) long (moved_le c.args.column count len mark there)) c.self.invariant.1),
+      subst (AreKept (length c.insert.new.self) c.move_marks-self-inside.result)
+          (sym (marks_are (goal.at.invariant_of-self-2 c).After-move_marks-self-inside))
+          (record {
+            rise = Rise-placed (moved c.args.column count) marks kept.rise;
+            stand = subst (λ n. StandIn n (map (with_place (moved c.args.column count)) marks)) (sym new)
+                (moved_stand c.args.column count c.self.inside.reach marks kept.stand);
+            within = rw (← sym new) (subst (λ n. moved_reach c.args.column count c.self.inside.reach ≤ n) long
+                (moved_within c.args.column count c.self.inside.reach len low));
+          }),
     )
 
 pub returns-clause-new : goal.returns-clause-new
@@ -107,7 +115,7 @@ returns-clause-new c =
     ∙ columns_inserted c.args.column len c.count_before-start.result count entries (before place) (behind place) small
     text new refl short in
     let marks =
-    ap marks_of (marks_are (goal.at.returns-clause-new c).After-move_marks)
+    ap marks_of (marks_are (goal.at.returns-clause-new c).After-move_marks-self-inside)
     ∙ marks_of-placed (moved c.args.column count) c.self.inside.marks.items c.self.invariant.1.rise
     ∙ ap (λ n. map_marks (moved c.args.column n) (marks_of c.self.inside.marks.items)) (sym short) in
     (λ i. record { columns = columns i; marks = marks i }) ∙ ap (after_text c.args.column new) c.self.view_is

@@ -1,82 +1,94 @@
-use Rattle.std.proofs.Common.{◌≡◌, ◌+◌, ◌-◌, ◌++◌, ◌<◌, ◌≤◌, ◌^◌, length, map, sym, ap, ap₂, subst, ◌∙◌, arith}
-use Rattle.std.proofs.Common.{length-append}
-use Rattle.std.specs.List.{All}
-use Rattle.segments.specs.Columns.{joined, joined_marks}
-use Rattle.segments.specs.Entries.{CanMoveOn, LieIn, moved_on}
-use Rattle.segments.specs.Kept.{columns_from}
+use Rattle.std.proofs.Common.{◌≡◌, ◌+◌, ◌<◌, ◌^◌, List, [], ◌∷◌, length, refl, sym, ap, ap₂, subst, ◌∙◌, arith, length-append}
+use Rattle.std.proofs.lemmas.Bool.Decides.{nat_tests}
+use Rattle.std.proofs.lemmas.Result.{on_ok_weaker}
+use Rattle.std.specs.FinMap as finite
+use Rattle.segments.specs.declared.marks.Mark.{Mark}
+use Rattle.segments.specs.Columns.{LineContent, joined_marks}
 use Rattle.segments.specs.Marks.{StandIn, marks_of}
 use Rattle.segments.proofs.ColumnLaws.{length-columns}
-use Rattle.segments.proofs.MovedLaws.{can_move_on}
-use Rattle.segments.proofs.PartLaws.{columns_joined, joined_lie, not_refused, rest_added, rest_moved}
+use Rattle.segments.proofs.MarkLaws.{joined_none, marks_of-nil}
+use Rattle.segments.proofs.MarkPlaceLaws.{kept_stand}
 use Rattle.segments.proofs.rich.RichLine.join_copy.Goals as goal
+use Rattle.segments.proofs.rich.RichLine.join_copy.Goals.{Else-len}
 
-pub move_rest_on-requires-clause-room : goal.move_rest_on-requires-clause-room
-move_rest_on-requires-clause-room c =
-    let entries = c.self.inside.toggles.items in
-    let others = c.other.inside.toggles.items in
-    let added : c.extend_from_slice.new.self.items ≡ entries ++ others = c.in_ok-extend_from_slice.ensures.items
-    ∙ ap (λ es. entries ++ es) c.deref-3.ensures.value in
-    let few : c.len.result ≤ 18446744073709551615 - c.len-len.result = c.if-len.false in
-    let room : length c.other.inside.text + c.len-len.result
-    < 2 ^ 64 = omega (arith, few, c.len.ensures, c.len-len.type_inv) in
-    subst (All (CanMoveOn c.len-len.result))
-    (sym (rest_added c.len-count.result entries others c.extend_from_slice.new.self.items (c.len-count.ensures
-    ∙ c.self.inside.toggles.ok.0) added))
-    (can_move_on 0 (length c.other.inside.text) c.len-len.result others c.other.invariant.0 room)
+-- there are no more characters than a number counts
+room : (c : Else-len) → length c.args.self.now.columns + length c.args.other.now.columns < 2 ^ 64
+room c = omega (
+  arith,
+  c.if-len.false,
+  c.len.ensures,
+  c.len-len.ensures,
+  c.len-len.type_inv,
+  ap (λ (line : LineContent). length line.columns) c.self.view_is,
+  ap (λ (line : LineContent). length line.columns) c.other.view_is,
+  length-columns 0 c.self.inside.text c.self.inside.toggles.items,
+  length-columns 0 c.other.inside.text c.other.inside.toggles.items,
+)
 
-pub invariant_of-self-2 : goal.invariant_of-self-2
-invariant_of-self-2 c =
+pub join_columns-requires : goal.join_columns-requires
+join_columns-requires c = room (goal.at.join_columns-requires c).Else-len
+
+pub join_columns-requires-2 : goal.join_columns-requires-2
+join_columns-requires-2 c = room (goal.at.join_columns-requires-2 c).Else-len
+
+none_of : (marks : List Mark) → length marks ≡ 0 → marks ≡ []
+none_of [] empty = refl
+none_of (mark ∷ marks) empty = absurd (omega (arith, empty))
+
+pub returns-then-is_empty-clause-new : goal.returns-then-is_empty-clause-new
+returns-then-is_empty-clause-new c =
+    let line = c.args.self.now in
+    let few : length c.other.inside.marks.items ≡ 0 = let test = sym c.is_empty.ensures ∙ c.if-is_empty.true in
+    let len = c.other.inside.marks.ok.0 in grind (arith, nat_tests, test, len) in
+    let none : c.args.other.now.marks ≡ finite.empty = ap (λ (line : LineContent). line.marks) (sym c.other.view_is)
+    ∙ ap marks_of (none_of c.other.inside.marks.items few) ∙ marks_of-nil in
+    let marks : c.join_columns.new.self.marks ≡ joined_marks (length line.columns) line.marks c.args.other.now.marks =
+    c.join_columns.ensures.marks ∙ sym (joined_none (length line.columns) line.marks)
+    ∙ ap (joined_marks (length line.columns) line.marks) (sym none) in
+    on_ok_weaker c.join_columns.result (λ columns i. record { columns = columns i; marks = marks i })
+    c.join_columns.ensures.columns
+
+pub invariant_of-self : goal.invariant_of-self
+invariant_of-self c =
+    let kept = c.self.invariant.1 in
+    let others = c.other.invariant.1 in
     let first = c.self.inside.text in
-    let second = c.other.inside.text in
-    let entries = c.self.inside.toggles.items in
-    let others = c.other.inside.toggles.items in
-    let added : c.extend_from_slice.new.self.items ≡ entries ++ others = c.in_ok-extend_from_slice.ensures.items
-    ∙ ap (λ es. entries ++ es) c.deref-3.ensures.value in
-    let moved = c.move_rest_on.ensures ∙ rest_moved c.len-count.result c.len-len.result entries others
-    c.extend_from_slice.new.self.items (c.len-count.ensures ∙ c.self.inside.toggles.ok.0) added
-    ∙ ap (λ n. entries ++ map (moved_on n) others) c.len-len.ensures in
-    let text : c.join.new.self ≡ first ++ second = not_refused c.join.result c.if-is_err.ensures.value
-    c.join.ensures.new in
-    let long : length first + length second ≡ length c.join.new.self = sym (ap length text
-    ∙ length-append first second) in
     let len = c.len-len.ensures in
-    let stand = c.in_ok-marks.ensures.stand (length second)
-    (subst (λ n. StandIn n c.deref.result.now) (sym len)
-    (subst (StandIn (length first)) (sym c.deref.ensures.value) c.self.invariant.1.stand))
-    (subst (StandIn (length second)) (sym c.deref-2.ensures.value) c.other.invariant.1.stand) in (
-      subst (λ n. LieIn 0 n c.move_rest_on.new.toggles.items) long
-          (subst (LieIn 0 (length first + length second)) (sym moved)
-          (joined_lie first second entries others c.self.invariant.0 c.other.invariant.0)),
+    let low = others.within in
+    let long : length c.self-2.inside.text ≡ length first + length c.other.inside.text =
+    sym (length-columns 0 c.self-2.inside.text c.self-2.inside.toggles.items)
+    ∙ ap (λ (line : LineContent). length line.columns) c.self-2.view_is
+    ∙ ap length c.in_ok-join_columns.ensures.columns
+    ∙ length-append c.args.self.now.columns c.args.other.now.columns
+    ∙ ap₂ (λ a b. a + b) (ap (λ (line : LineContent). length line.columns) (sym c.self.view_is)
+    ∙ length-columns 0 first c.self.inside.toggles.items)
+    (ap (λ (line : LineContent). length line.columns) (sym c.other.view_is)
+    ∙ length-columns 0 c.other.inside.text c.other.inside.toggles.items) in (
+      c.self-2.invariant.0,
       record {
         rise = c.in_ok-marks.ensures.rise;
-        stand = subst (λ n. StandIn n c.in_ok-marks.marks.items) (ap (λ n. n + length second) len ∙ long) stand;
+        stand = c.in_ok-marks.ensures.stand c.other.inside.reach
+            (subst (λ n. StandIn n c.deref.result.now) (sym len)
+            (subst (StandIn (length first)) (sym c.deref.ensures.value)
+            (kept_stand (length first) c.self.inside.reach c.self.inside.marks.items kept)))
+            (subst (StandIn c.other.inside.reach) (sym c.deref-2.ensures.value) others.stand);
+        within = omega (arith, len, low, long);
       },
     )
 
 pub returns-clause-new : goal.returns-clause-new
 returns-clause-new c =
     let first = c.self.inside.text in
-    let second = c.other.inside.text in
     let entries = c.self.inside.toggles.items in
-    let others = c.other.inside.toggles.items in
     let marks = c.self.inside.marks.items in
     let more = c.other.inside.marks.items in
-    let added : c.extend_from_slice.new.self.items ≡ entries ++ others = c.in_ok-extend_from_slice.ensures.items
-    ∙ ap (λ es. entries ++ es) c.deref-3.ensures.value in
-    let moved = c.move_rest_on.ensures ∙ rest_moved c.len-count.result c.len-len.result entries others
-    c.extend_from_slice.new.self.items (c.len-count.ensures ∙ c.self.inside.toggles.ok.0) added
-    ∙ ap (λ n. entries ++ map (moved_on n) others) c.len-len.ensures in
-    let text : c.join.new.self ≡ first ++ second = not_refused c.join.result c.if-is_err.ensures.value
-    c.join.ensures.new in
-    let columns : columns_from 0 c.join.new.self c.move_rest_on.new.toggles.items
-    ≡ columns_from 0 first entries ++ columns_from 0 second others =
-    ap₂ (columns_from 0) text moved ∙ columns_joined first second entries others c.self.invariant.0 c.other.invariant.0
-    in
+    let columns = ap (λ (line : LineContent). line.columns) c.self-2.view_is ∙ c.in_ok-join_columns.ensures.columns in
     let both : marks_of c.in_ok-marks.marks.items
-    ≡ joined_marks (length (columns_from 0 first entries)) (marks_of marks) (marks_of more) =
+    ≡ joined_marks (length c.args.self.now.columns) c.args.self.now.marks c.args.other.now.marks =
     c.in_ok-marks.ensures.marks
     ∙ ap₂ (λ xs ys. joined_marks c.len-len.result (marks_of xs) (marks_of ys)) c.deref.ensures.value
     c.deref-2.ensures.value
     ∙ ap (λ n. joined_marks n (marks_of marks) (marks_of more)) (c.len-len.ensures
-    ∙ sym (length-columns 0 first entries)) in
-    (λ i. record { columns = columns i; marks = both i }) ∙ ap₂ joined c.self.view_is c.other.view_is
+    ∙ sym (length-columns 0 first entries))
+    ∙ ap₂ (λ (one two : LineContent). joined_marks (length one.columns) one.marks two.marks) c.self.view_is
+    c.other.view_is in λ i. record { columns = columns i; marks = both i }

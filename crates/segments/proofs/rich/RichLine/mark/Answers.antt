@@ -7,6 +7,7 @@ use Rattle.segments.specs.Columns.{LineContent}
 use Rattle.segments.specs.Marks.{entry_of}
 use Rattle.segments.proofs.ColumnLaws.{length-columns}
 use Rattle.segments.proofs.MarkLaws.{slice_get-marks_of}
+use Rattle.segments.proofs.MarkPlaceLaws.{kept_stand}
 use Rattle.segments.proofs.rich.RichLine.mark.Goals as goal
 
 pub returns-in-Some-clause-value : goal.returns-in-Some-clause-value
@@ -29,8 +30,9 @@ returns-in-Some-clause-bound c =
     let here = found.1 ∙ ap (λ marks. get_or marks index mark) c.deref.ensures.value in
     let long = sym (length-columns 0 text c.self.inside.toggles.items)
     ∙ ap (λ (line : LineContent). length line.columns) c.self.view_is in
+    let stand = kept_stand (length text) c.self.inside.reach c.self.inside.marks.items c.self.invariant.1 in
     subst (λ len. mark.place.offset ≤ len) long
-    (subst (λ (m : Mark). m.place.offset ≤ length text) (sym here) (c.self.invariant.1.stand index mark within))
+    (subst (λ (m : Mark). m.place.offset ≤ length text) (sym here) (stand index mark within))
 
 pub returns-in-None-clause-value : goal.returns-in-None-clause-value
 returns-in-None-clause-value c =

@@ -1,4 +1,6 @@
-use Rattle.std.proofs.Common.{◌≤◌, length, sym, ap, subst, ◌∙◌}
+use Rattle.std.proofs.Common.{◌≡◌, ◌≤◌, length, max, sym, ap, subst, ◌∙◌, arith}
+use Rattle.std.proofs.lemmas.List.Elements.{All-weaker}
+use Rattle.segments.specs.declared.marks.Mark.{Mark}
 use Rattle.segments.specs.Columns.{LineContent}
 use Rattle.segments.proofs.ColumnLaws.{length-columns}
 use Rattle.segments.proofs.rich.RichLine.put_mark.Goals as goal
@@ -6,13 +8,21 @@ use Rattle.segments.proofs.rich.RichLine.put_mark.Goals as goal
 pub invariant_of-self : goal.invariant_of-self
 invariant_of-self c =
     let kept = c.self.invariant in
+    let low = kept.1.within in
     let text = c.self.inside.text in
+    let offset = c.args.place.offset in
+    let reach = c.self.inside.reach in
     let long = ap (λ (line : LineContent). length line.columns) (sym c.self.view_is)
-    ∙ length-columns 0 text c.self.inside.toggles.items in (
+    ∙ length-columns 0 text c.self.inside.toggles.items in
+    let most : c.max-self-inside.result ≡ max reach offset = c.max-self-inside.ensures in
+    let within : offset ≤ length text = subst (λ len. offset ≤ len) long c.requires in (
       kept.0,
       record {
         rise = c.put_mark.ensures.rise;
-        stand = c.put_mark.ensures.stand (length text) kept.1.stand
-            (subst (λ len. c.args.place.offset ≤ len) long c.requires);
+        stand = c.put_mark.ensures.stand c.max-self-inside.result
+            (All-weaker (λ (mark : Mark). mark.place.offset ≤ reach) (λ (mark : Mark). mark.place.offset
+            ≤ c.max-self-inside.result) (λ mark low. omega (arith, low, most)) c.self.inside.marks.items kept.1.stand)
+            (omega (arith, most));
+        within = omega (arith, low, within, most);
       },
     )

@@ -4,13 +4,13 @@ use Rattle.text_model.specs.Splices.{drawn}
 use Rattle.text_model.proofs.SpliceLaws.{length-removed}
 use Rattle.segments.specs.Columns.{LineContent, after_removal}
 use Rattle.segments.specs.Entries.{LieIn}
-use Rattle.segments.specs.Kept.{AreMarks, columns_from}
+use Rattle.segments.specs.Kept.{AreKept, columns_from}
 use Rattle.segments.specs.Marks.{marks_of, with_place}
 use Rattle.segments.proofs.ColumnLaws.{length-columns}
 use Rattle.segments.proofs.InsertionLaws.{columns_removed}
-use Rattle.segments.proofs.MarkPlaceLaws.{AreMarks-placed, marks_of-placed, written_over}
+use Rattle.segments.proofs.MarkPlaceLaws.{Rise-placed, StandIn-placed, marks_of-placed, written_over}
 use Rattle.segments.proofs.rich.RichLine.remove_range.Goals as goal
-use Rattle.segments.proofs.rich.RichLine.remove_range.Goals.{After-draw_marks, After-len-len, After-remove_columns}
+use Rattle.segments.proofs.rich.RichLine.remove_range.Goals.{After-draw_marks-self-inside, After-len-len, After-remove_columns}
 
 within : (c : After-len-len) → c.args.to ≤ length c.self.inside.text
 within c =
@@ -37,30 +37,39 @@ shorter c small =
     ∙ length-removed c.args.from c.args.to c.self.inside.text c.requires.ordered small
 
 -- the marks are all written anew
-marks_are : (c : After-draw_marks) → take c.self.inside.marks.len
-    (c.draw_marks.new.marks ++ drop (length c.draw_marks.new.marks) c.self.inside.marks.items)
+marks_are : (c : After-draw_marks-self-inside) → take c.self.inside.marks.len
+    (c.draw_marks-self-inside.new.marks ++ drop (length c.draw_marks-self-inside.new.marks) c.self.inside.marks.items)
     ≡ map (with_place (drawn c.args.from c.args.to)) c.self.inside.marks.items
 marks_are c =
     let f = with_place (drawn c.args.from c.args.to) in
-    let new : c.draw_marks.new.marks ≡ map f c.self.inside.marks.items = c.draw_marks.ensures
+    let new : c.draw_marks-self-inside.new.marks ≡ map f c.self.inside.marks.items = c.draw_marks-self-inside.ensures.drawn
     ∙ ap (map f) c.deref_mut.ensures.value in
-    written_over c.self.inside.marks.len c.draw_marks.new.marks c.self.inside.marks.items (ap length new
+    written_over c.self.inside.marks.len c.draw_marks-self-inside.new.marks c.self.inside.marks.items (ap length new
     ∙ length-map c.self.inside.marks.items f ∙ sym c.self.inside.marks.ok.0) ∙ new
 
 pub invariant_of-self-2 : goal.invariant_of-self-2
 invariant_of-self-2 c =
     let small = within (goal.at.invariant_of-self-2 c).After-len-len in
     let short = shorter (goal.at.invariant_of-self-2 c).After-remove_columns small in
+    let kept = c.self.invariant.1 in
+    let marks = c.self.inside.marks.items in
+    let reach = c.self.inside.reach in
+    let from = c.args.from in
+    let to = c.args.to in
+    let low = kept.within in
+    let new = c.draw_marks-self-inside.ensures.reach in
     let len = length c.self.inside.text in
     let long : c.args.from + (c.len-len.result - c.args.to)
-    ≡ length c.remove.new.self = omega (arith, c.len-len.ensures, short, small, c.requires.ordered) in
-    let long_too : c.args.from + (len - c.args.to)
-    ≡ length c.remove.new.self = omega (arith, short, small, c.requires.ordered) in (
+    ≡ length c.remove.new.self = omega (arith, c.len-len.ensures, short, small, c.requires.ordered) in (
       subst (λ n. LieIn 0 n c.remove_columns.new.toggles.items) long c.remove_columns.ensures.lie,
-      subst (AreMarks (length c.remove.new.self)) (sym (marks_are (goal.at.invariant_of-self-2 c).After-draw_marks))
-          (AreMarks-placed (drawn c.args.from c.args.to) c.self.inside.marks.items len (length c.remove.new.self)
-          (λ mark there. subst (λ n. (drawn c.args.from c.args.to mark).offset ≤ n) long_too (omega (arith, there)))
-          c.self.invariant.1),
+      subst (AreKept (length c.remove.new.self) c.draw_marks-self-inside.result)
+          (sym (marks_are (goal.at.invariant_of-self-2 c).After-draw_marks-self-inside))
+          (record {
+            rise = Rise-placed (drawn from to) marks kept.rise;
+            stand = StandIn-placed (drawn from to) marks reach c.draw_marks-self-inside.result
+                (λ place there. omega (arith, there, new)) kept.stand;
+            within = omega (arith, low, new, short, small, c.requires.ordered);
+          }),
     )
 
 pub returns-clause-new : goal.returns-clause-new
@@ -76,6 +85,6 @@ returns-clause-new c =
     c.remove_columns.ensures.front c.remove_columns.ensures.behind text (sym c.len-len.ensures) small
     c.self.invariant.0 in
     let marks =
-    ap marks_of (marks_are (goal.at.returns-clause-new c).After-draw_marks)
+    ap marks_of (marks_are (goal.at.returns-clause-new c).After-draw_marks-self-inside)
     ∙ marks_of-placed (drawn from to) c.self.inside.marks.items c.self.invariant.1.rise in
     (λ i. record { columns = columns i; marks = marks i }) ∙ ap (after_removal from to) c.self.view_is
