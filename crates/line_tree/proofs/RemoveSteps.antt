@@ -244,9 +244,6 @@ module _ (m : Records) (h : ℕ) (p : NodePtr) (k : ℕ) (can : CanRemove m (suc
       pub gone-same : finite.get l x ≡ finite.get m x
       gone-same = rem.shrinks.left x (inl (sym (top-tree_at m j x)))
 
-      pub gone-named : IsSome (finite.get l x)
-      gone-named = subst (λ o. IsSome o) (sym gone-same) (named-tree m j x rem.shrinks.tree)
-
       tops-first : tops h (before ++ (tree_at l h f.child ∷ after)) ≡ kids m p
       tops-first = map-append (λ (t : Tree h). t.0) before (tree_at l h f.child ∷ after)
           ∙ (λ i. tops-tree_at m h (take f.slot (kids m p)) i

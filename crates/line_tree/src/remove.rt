@@ -3,13 +3,15 @@ ghost use Rattle.std.specs.FinMap as finite;
 ghost use Rattle.raw_nodes.specs.Names.{records, rooms, spares};
 ghost use Rattle.raw_nodes.specs.Rows.{kids};
 ghost use Rattle.line_tree.specs.Finds.{HasRow};
-ghost use Rattle.line_tree.specs.Shape.{lines_in};
+ghost use Rattle.line_tree.specs.Shape.{lines_in, sum_at};
 ghost use Rattle.line_tree.specs.Shrinking.{CanLower, CanMend, CanRemove, Cleans, Lowers, Removes, Settles};
 
 use crate::fill::lessen;
-use crate::near::find_near;
+use crate::select::find_at;
 use crate::shrink::{drop_child, kid, mend};
 use raw_nodes::{NodePtr, NodeStore, Ticks};
+use text_model::WORDS;
+use toggle_sums::Sums;
 
 /// Where the child in a slot has less than six children, it shares with a neighbour.
 fn settle<C: Ticks>(
@@ -42,13 +44,15 @@ pub struct Branch {
     pub most: usize,
 }
 
-/// Takes a branch out below a node of this height. `None` where its line isn't the first one of a node of its level, or
-/// that has more lines; a line is one of itself.
+/// Takes a branch out below a node of this height, and says what is counted of it. `None` where its line isn't the
+/// first one of a node of its level, or that has more lines; a line is one of itself.
+// By reference, since what is counted takes much room, and is the same at each level.
 pub fn remove_in<C: Ticks>(
     store: &mut NodeStore<C>,
     node: NodePtr,
     height: usize,
     branch: Branch,
+    less: &mut Sums<WORDS>,
     ticks: &mut C,
 ) -> Option<NodePtr>
     requires node { branch.level < height }
@@ -56,6 +60,7 @@ pub fn remove_in<C: Ticks>(
     requires remove { CanRemove (records store.old) height node branch.first }
     ensures removes { IfSome result (λ x.
         Removes (records store.old) (records store.new) height node branch.first branch.level x) }
+    ensures less { IfSome result (λ x. less.new ≡ sum_at (records store.old) x) }
     ensures most { IfSome result (λ x. length (lines_in (records store.old) branch.level x) ≤ branch.most) }
     ensures clean { IfSome result (λ x. Cleans (records store.old) (records store.new) height node branch.level x) }
     ensures none { result ≡ None → (0 < branch.level) × (records store.new ≡ records store.old) }
@@ -64,27 +69,27 @@ pub fn remove_in<C: Ticks>(
     ensures count { spares store.new + finite.len (records store.new)
         ≡ spares store.old + finite.len (records store.old) }
 {
-    let found = find_near(store, node, branch.first, ticks);
+    let lines = store.lines(node, ticks);
+    let found = find_at(store, node, height - 1, lines, branch.first, ticks);
     if height == branch.level + 1 {
         if found.rest > 0 || found.lines > branch.most {
             return None;
         }
-        let less = store.sum(found.child, ticks);
-        return Some(drop_child(store, node, found.slot, &less, ticks));
+        *less = store.sum(found.child, ticks);
+        return Some(drop_child(store, node, found.slot, less, ticks));
     }
     let below = Branch {
         level: branch.level,
         first: found.rest,
         most: branch.most,
     };
-    let gone = remove_in(store, found.child, height - 1, below, ticks)?;
-    let less = store.sum(gone, ticks);
+    let gone = remove_in(store, found.child, height - 1, below, less, ticks)?;
     match settle(store, node, found.slot, found.child, ticks) {
         Some(slot) => {
-            let merged = drop_child(store, node, slot, &less, ticks);
+            let merged = drop_child(store, node, slot, less, ticks);
             let _ = store.give_back(merged);
         }
-        None => lessen(store, node, &less, ticks),
+        None => lessen(store, node, less, ticks),
     }
     Some(gone)
 }

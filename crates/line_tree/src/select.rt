@@ -9,7 +9,7 @@ use raw_nodes::{NodePtr, NodeStore, Ticks};
 
 /// The child that has line `k` of those below a node, which are so many, where the children stand at this level. Those
 /// at level 0 are lines, which aren't looked at: line `k` is the child in slot `k`.
-fn find_at<C: Ticks>(
+pub fn find_at<C: Ticks>(
     store: &NodeStore<C>,
     node: NodePtr,
     level: usize,

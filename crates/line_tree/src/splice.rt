@@ -3,7 +3,7 @@ use raw_nodes::{NodePtr, Ticks};
 use segments::Line;
 
 impl<C: Ticks> LineTree<C> {
-    ghost use Rattle.std.specs.Prelude.{◌≡◌, ◌+◌, ◌-◌, ◌≤◌, ◌<◌, ◌++◌, List, Some, length, map, take, drop, min};
+    ghost use Rattle.std.specs.Prelude.{◌≡◌, ◌+◌, ◌-◌, ◌≤◌, ◌<◌, ◌++◌, List, Some, length, take, drop, min};
     ghost use Rattle.std.specs.List.{insert};
     ghost use Rattle.toggle_sums.specs.Counts.{plus};
     ghost use Rattle.segments.specs.Columns.{line_count};

@@ -365,7 +365,16 @@ impl<C: Ticks> LineTree<C> {
             first: k,
             most: 1,
         };
-        let name = remove_in(&mut self.store, self.root, self.height, line, ticks).unwrap();
+        let mut less = Sums::counting(0, 0, 0);
+        let name = remove_in(
+            &mut self.store,
+            self.root,
+            self.height,
+            line,
+            &mut less,
+            ticks,
+        )
+        .unwrap();
         let top = lower(&mut self.store, self.root, self.height, ticks);
         self.root = top.root;
         self.height = top.height;
@@ -400,7 +409,15 @@ impl<C: Ticks> LineTree<C> {
             first: k,
             most,
         };
-        let Some(name) = remove_in(&mut self.store, self.root, self.height, branch, ticks) else {
+        let mut less = Sums::counting(0, 0, 0);
+        let Some(name) = remove_in(
+            &mut self.store,
+            self.root,
+            self.height,
+            branch,
+            &mut less,
+            ticks,
+        ) else {
             return 0;
         };
         let left = lower(&mut self.store, self.root, self.height, ticks);

@@ -8,20 +8,20 @@ use Rattle.raw_nodes.specs.Records.{Records}
 use Rattle.raw_nodes.specs.Rows.{kids, row}
 use Rattle.raw_nodes.specs.declared.names.NodePtr.{NodePtr}
 use Rattle.line_tree.specs.Changes.{FitsSum, resummed, sum_all}
-use Rattle.line_tree.specs.Shape.{IsTree, Links, lines_in}
+use Rattle.line_tree.specs.Shape.{IsTree, Links, lines_in, sum_at, sum_of}
 use Rattle.line_tree.proofs.FillLaws.{sums-row}
 use Rattle.line_tree.proofs.KeptLaws.{kept-whole}
-use Rattle.line_tree.proofs.RowLaws.{sum_is}
+use Rattle.line_tree.proofs.RowLaws.{lines_is, sum_is}
 use Rattle.std.proofs.lemmas.Option.{same_Some}
 use Rattle.toggle_sums.specs.Counts.{plus}
 use Rattle.line_tree.specs.declared.find.Found.{Found}
 use Rattle.line_tree.specs.Shrinking.{CanRemove, Cleans, Removes, Settles}
 use Rattle.line_tree.proofs.RemovePairs.{sum-ready, below-now, can-mend, cleans-gone, cleans-ready, fill-ready}
 use Rattle.line_tree.proofs.RemovePairs.{has-ready, inner-ready, links-ready, removes-gone, removes-ready, slot-ready}
-use Rattle.line_tree.proofs.RemoveSteps.{can-below, child-named, child-now, gone-named, has-now, line-alone}
+use Rattle.line_tree.proofs.RemoveSteps.{can-below, child-named, child-now, gone-same, has-now, line-alone}
 use Rattle.line_tree.proofs.RemoveSteps.{one-cleans, one-fill, one-long, one-removes, one-sum, two-kids, within-slot}
 use Rattle.line_tree.proofs.RoomLaws.{len-gone, len-refilled, len-resummed, len-settles}
-use Rattle.line_tree.proofs.TreeLaws.{below-tree, row-tree, tops-tree_at, whole-below}
+use Rattle.line_tree.proofs.TreeLaws.{below-tree, named-tree, row-tree, tops-tree_at, whole-below}
 use Rattle.line_tree.proofs.UpdateLaws.{InnerIn, inner-refilled, named-refilled, room-given}
 use Rattle.line_tree.proofs.remove.+remove_in.Goals as goal
 
@@ -71,23 +71,29 @@ refused zero most f one inside some either = let alone = one refl in
     elim either [ inl a ↦ omega arith | inr a ↦ let more = a.1 in omega arith ]
 refused (suc j) most f one inside some either = omega arith
 
-pub find_near-found-requires-clause-row : goal.find_near-found-requires-clause-row
-find_near-found-requires-clause-row g t c = let m = records c.args.store.now in let h = c.args.height in
-    row-tree m (h - 1) c.args.node (tree-above m h c.args.branch.level c.args.node c.args.branch.first c.requires.node
-    c.requires.remove)
+pub lines-lines-requires : goal.lines-lines-requires
+lines-lines-requires g t c = let m = records c.args.store.now in let h = c.args.height in
+    named-tree m (suc (h - 1)) c.args.node (tree-above m h c.args.branch.level c.args.node c.args.branch.first
+    c.requires.node c.requires.remove)
 
-pub find_near-found-requires-clause-within : goal.find_near-found-requires-clause-within
-find_near-found-requires-clause-within g t c = let m = records c.args.store.now in let h = c.args.height in
+pub find_at-found-requires-clause-tree : goal.find_at-found-requires-clause-tree
+find_at-found-requires-clause-tree g t c = let m = records c.args.store.now in let h = c.args.height in
+    tree-above m h c.args.branch.level c.args.node c.args.branch.first c.requires.node c.requires.remove
+
+pub find_at-found-requires-clause-within : goal.find_at-found-requires-clause-within
+find_at-found-requires-clause-within g t c = let m = records c.args.store.now in let h = c.args.height in
     let p = c.args.node in let low = c.requires.node in let w = c.requires.remove.place in
     let e : suc (h - 1) ≡ h = omega arith in
     let same = ap (λ i. length (lines_in m i p)) e in
     let n = below-tree m (h - 1) p (tree-above m h c.args.branch.level p c.args.branch.first c.requires.node
     c.requires.remove) in omega arith
 
-pub find_near-found-requires-clause-whole : goal.find_near-found-requires-clause-whole
-find_near-found-requires-clause-whole g t c = let m = records c.args.store.now in let h = c.args.height in
-    whole-below m (h - 1) c.args.node (tree-above m h c.args.branch.level c.args.node c.args.branch.first
-    c.requires.node c.requires.remove)
+pub find_at-found-requires-clause-lines : goal.find_at-found-requires-clause-lines
+find_at-found-requires-clause-lines g t c = let m = records c.args.store.now in let h = c.args.height in
+    let p = c.args.node in
+    let tree = tree-above m h c.args.branch.level p c.args.branch.first c.requires.node c.requires.remove in
+    lines_is m p c.lines-lines.result (named-tree m (suc (h - 1)) p tree) c.lines-lines.ensures.value
+    ∙ whole-below m (h - 1) p tree
 
 -- ---- the child itself goes
 pub returns-then-found-gt0-clause-none : goal.returns-then-found-gt0-clause-none
@@ -95,7 +101,7 @@ returns-then-found-gt0-clause-none g t c none =
     let m = records c.args.store.now in let p = c.args.node in let k = c.args.branch.first in
     let j = c.args.branch.level in
     let can = right-above m c.args.height j p k c.if-height-branch.true c.requires.remove in
-    let f = c.find_near-found.result in let finds = c.find_near-found.ensures.found in (
+    let f = c.find_at-found.result in let finds = c.find_at-found.ensures.found in (
       refused j c.args.branch.most f (line-alone m j p k can f finds)
           (subst (λ n. f.rest < n) (sym finds.lines) finds.rest) c.requires.some c.then-found-gt0.either,
       refl,
@@ -106,7 +112,7 @@ drop_child-requires-clause-row g t c =
     let m = records c.args.store.now in let p = c.args.node in let k = c.args.branch.first in
     let j = c.args.branch.level in
     let can = right-above m c.args.height j p k c.if-height-branch.true c.requires.remove in
-    let f = c.find_near-found.result in let finds = c.find_near-found.ensures.found in
+    let f = c.find_at-found.result in let finds = c.find_at-found.ensures.found in
     row-tree m j p can.tree
 
 pub drop_child-requires-clause-links : goal.drop_child-requires-clause-links
@@ -114,7 +120,7 @@ drop_child-requires-clause-links g t c =
     let m = records c.args.store.now in let p = c.args.node in let k = c.args.branch.first in
     let j = c.args.branch.level in
     let can = right-above m c.args.height j p k c.if-height-branch.true c.requires.remove in
-    let f = c.find_near-found.result in let finds = c.find_near-found.ensures.found in
+    let f = c.find_at-found.result in let finds = c.find_at-found.ensures.found in
     subst (Links m p 0) (tops-tree_at m j (kids m p)) can.tree.1
 
 pub drop_child-requires-clause-slot : goal.drop_child-requires-clause-slot
@@ -122,7 +128,7 @@ drop_child-requires-clause-slot g t c =
     let m = records c.args.store.now in let p = c.args.node in let k = c.args.branch.first in
     let j = c.args.branch.level in
     let can = right-above m c.args.height j p k c.if-height-branch.true c.requires.remove in
-    let f = c.find_near-found.result in let finds = c.find_near-found.ensures.found in
+    let f = c.find_at-found.result in let finds = c.find_at-found.ensures.found in
     within-slot m j p k can f finds
 
 pub drop_child-requires-clause-fill : goal.drop_child-requires-clause-fill
@@ -130,7 +136,7 @@ drop_child-requires-clause-fill g t c =
     let m = records c.args.store.now in let p = c.args.node in let k = c.args.branch.first in
     let j = c.args.branch.level in
     let can = right-above m c.args.height j p k c.if-height-branch.true c.requires.remove in
-    let f = c.find_near-found.result in let finds = c.find_near-found.ensures.found in
+    let f = c.find_at-found.result in let finds = c.find_at-found.ensures.found in
     let first : f.rest ≡ 0 = omega (arith, c.if-found-gt0.false) in
     one-fill m j p k can f finds first
 
@@ -139,18 +145,18 @@ drop_child-requires-clause-sum g t c =
     let m = records c.args.store.now in let p = c.args.node in let k = c.args.branch.first in
     let j = c.args.branch.level in
     let can = right-above m c.args.height j p k c.if-height-branch.true c.requires.remove in
-    let f = c.find_near-found.result in let finds = c.find_near-found.ensures.found in
+    let f = c.find_at-found.result in let finds = c.find_at-found.ensures.found in
     let first : f.rest ≡ 0 = omega (arith, c.if-found-gt0.false) in
     ap (plus (sum_all m (remove (kids m p) f.slot)))
-    (sum_is m f.child c.sum-less.result (child-named m j p k can f finds) c.sum-less.ensures.value)
+    (sum_is m f.child c.sum.result (child-named m j p k can f finds) c.sum.ensures.value)
     ∙ one-sum m j p k can f finds first
 
-pub sum-less-requires : goal.sum-less-requires
-sum-less-requires g t c =
+pub sum-requires : goal.sum-requires
+sum-requires g t c =
     let m = records c.args.store.now in let p = c.args.node in let k = c.args.branch.first in
     let j = c.args.branch.level in
     let can = right-above m c.args.height j p k c.if-height-branch.true c.requires.remove in
-    let f = c.find_near-found.result in let finds = c.find_near-found.ensures.found in
+    let f = c.find_at-found.result in let finds = c.find_at-found.ensures.found in
     child-named m j p k can f finds
 
 pub returns-then-height-branch-clause-removes : goal.returns-then-height-branch-clause-removes
@@ -158,7 +164,7 @@ returns-then-height-branch-clause-removes g t c =
     let m = records c.args.store.now in let p = c.args.node in let k = c.args.branch.first in
     let j = c.args.branch.level in
     let can = right-above m c.args.height j p k c.if-height-branch.true c.requires.remove in
-    let f = c.find_near-found.result in let finds = c.find_near-found.ensures.found in
+    let f = c.find_at-found.result in let finds = c.find_at-found.ensures.found in
     let first : f.rest ≡ 0 = omega (arith, c.if-found-gt0.false) in
     let n = records c.drop_child.new.store in
     let same = same_Some f.child c.drop_child.result (sym finds.child ∙ c.drop_child.ensures.child) in
@@ -171,7 +177,7 @@ returns-then-height-branch-clause-most g t c =
     let m = records c.args.store.now in let p = c.args.node in let k = c.args.branch.first in
     let j = c.args.branch.level in
     let can = right-above m c.args.height j p k c.if-height-branch.true c.requires.remove in
-    let f = c.find_near-found.result in let finds = c.find_near-found.ensures.found in
+    let f = c.find_at-found.result in let finds = c.find_at-found.ensures.found in
     let same = same_Some f.child c.drop_child.result (sym finds.child ∙ c.drop_child.ensures.child) in
     subst (λ x. length (lines_in m j x) ≤ c.args.branch.most) same
     (subst (λ n. n ≤ c.args.branch.most) (sym (one-long m j p k can f finds)) c.if-found-branch.false)
@@ -181,7 +187,7 @@ returns-then-height-branch-clause-clean g t c =
     let m = records c.args.store.now in let p = c.args.node in let k = c.args.branch.first in
     let j = c.args.branch.level in
     let can = right-above m c.args.height j p k c.if-height-branch.true c.requires.remove in
-    let f = c.find_near-found.result in let finds = c.find_near-found.ensures.found in
+    let f = c.find_at-found.result in let finds = c.find_at-found.ensures.found in
     let first : f.rest ≡ 0 = omega (arith, c.if-found-gt0.false) in
     let n = records c.drop_child.new.store in
     let same = same_Some f.child c.drop_child.result (sym finds.child ∙ c.drop_child.ensures.child) in
@@ -192,7 +198,7 @@ returns-then-height-branch-clause-clean g t c =
 pub returns-then-height-branch-clause-count : goal.returns-then-height-branch-clause-count
 returns-then-height-branch-clause-count g t c = let m = records c.args.store.now in
     let n = ap finite.len c.drop_child.ensures.records
-    ∙ len-refilled m c.args.node (row (remove (kids m c.args.node) c.find_near-found.result.slot)) in
+    ∙ len-refilled m c.args.node (row (remove (kids m c.args.node) c.find_at-found.result.slot)) in
     let s = c.drop_child.ensures.spares in omega arith
 
 pub returns-then-height-branch-clause-rooms : goal.returns-then-height-branch-clause-rooms
@@ -203,8 +209,8 @@ returns-then-height-branch-clause-rooms g t c = let s = c.drop_child.ensures.spa
 pub remove_in-requires : goal.remove_in-requires
 remove_in-requires g t c κs inside =
     let m = records c.args.store.now in let p = c.args.node in let k = c.args.branch.first in
-    let j = c.args.branch.level in let g2 = c.args.height - 2 in let f = c.find_near-found.result in
-    let finds = c.find_near-found.ensures.found in
+    let j = c.args.branch.level in let g2 = c.args.height - 2 in let f = c.find_at-found.result in
+    let finds = c.find_at-found.ensures.found in
     let can = above m c.args.height j p k c.requires.node c.if-height-branch.false c.requires.remove in
     let below = down m c.args.height j f.child f.rest c.requires.node c.if-height-branch.false
     (can-below m (suc g2) p k can f finds) in
@@ -214,8 +220,8 @@ remove_in-requires g t c κs inside =
 pub settle-requires-clause-row : goal.settle-requires-clause-row
 settle-requires-clause-row g t c =
     let m = records c.args.store.now in let p = c.args.node in let k = c.args.branch.first in
-    let j = c.args.branch.level in let g2 = c.args.height - 2 in let f = c.find_near-found.result in
-    let finds = c.find_near-found.ensures.found in
+    let j = c.args.branch.level in let g2 = c.args.height - 2 in let f = c.find_at-found.result in
+    let finds = c.find_at-found.ensures.found in
     let can = above m c.args.height j p k c.requires.node c.if-height-branch.false c.requires.remove in
     let l = records c.remove_in.new.store in let x = c.in_ok-gone.gone in
     let rem = child m l c.args.height j f.child f.rest x c.requires.node c.if-height-branch.false
@@ -225,8 +231,8 @@ settle-requires-clause-row g t c =
 pub settle-requires-clause-two : goal.settle-requires-clause-two
 settle-requires-clause-two g t c =
     let m = records c.args.store.now in let p = c.args.node in let k = c.args.branch.first in
-    let j = c.args.branch.level in let g2 = c.args.height - 2 in let f = c.find_near-found.result in
-    let finds = c.find_near-found.ensures.found in
+    let j = c.args.branch.level in let g2 = c.args.height - 2 in let f = c.find_at-found.result in
+    let finds = c.find_at-found.ensures.found in
     let can = above m c.args.height j p k c.requires.node c.if-height-branch.false c.requires.remove in
     let l = records c.remove_in.new.store in let x = c.in_ok-gone.gone in
     let rem = child m l c.args.height j f.child f.rest x c.requires.node c.if-height-branch.false
@@ -236,8 +242,8 @@ settle-requires-clause-two g t c =
 pub settle-requires-clause-child : goal.settle-requires-clause-child
 settle-requires-clause-child g t c =
     let m = records c.args.store.now in let p = c.args.node in let k = c.args.branch.first in
-    let j = c.args.branch.level in let g2 = c.args.height - 2 in let f = c.find_near-found.result in
-    let finds = c.find_near-found.ensures.found in
+    let j = c.args.branch.level in let g2 = c.args.height - 2 in let f = c.find_at-found.result in
+    let finds = c.find_at-found.ensures.found in
     let can = above m c.args.height j p k c.requires.node c.if-height-branch.false c.requires.remove in
     let l = records c.remove_in.new.store in let x = c.in_ok-gone.gone in
     let rem = child m l c.args.height j f.child f.rest x c.requires.node c.if-height-branch.false
@@ -247,8 +253,8 @@ settle-requires-clause-child g t c =
 pub settle-requires-clause-below : goal.settle-requires-clause-below
 settle-requires-clause-below g t c =
     let m = records c.args.store.now in let p = c.args.node in let k = c.args.branch.first in
-    let j = c.args.branch.level in let g2 = c.args.height - 2 in let f = c.find_near-found.result in
-    let finds = c.find_near-found.ensures.found in
+    let j = c.args.branch.level in let g2 = c.args.height - 2 in let f = c.find_at-found.result in
+    let finds = c.find_at-found.ensures.found in
     let can = above m c.args.height j p k c.requires.node c.if-height-branch.false c.requires.remove in
     let l = records c.remove_in.new.store in let x = c.in_ok-gone.gone in
     let rem = child m l c.args.height j f.child f.rest x c.requires.node c.if-height-branch.false
@@ -258,8 +264,8 @@ settle-requires-clause-below g t c =
 pub settle-requires-clause-pairs : goal.settle-requires-clause-pairs
 settle-requires-clause-pairs g t c =
     let m = records c.args.store.now in let p = c.args.node in let k = c.args.branch.first in
-    let j = c.args.branch.level in let g2 = c.args.height - 2 in let f = c.find_near-found.result in
-    let finds = c.find_near-found.ensures.found in
+    let j = c.args.branch.level in let g2 = c.args.height - 2 in let f = c.find_at-found.result in
+    let finds = c.find_at-found.ensures.found in
     let can = above m c.args.height j p k c.requires.node c.if-height-branch.false c.requires.remove in
     let l = records c.remove_in.new.store in let x = c.in_ok-gone.gone in
     let rem = child m l c.args.height j f.child f.rest x c.requires.node c.if-height-branch.false
@@ -269,8 +275,8 @@ settle-requires-clause-pairs g t c =
 pub drop_child-merged-requires-clause-row : goal.drop_child-merged-requires-clause-row
 drop_child-merged-requires-clause-row g t c =
     let m = records c.args.store.now in let p = c.args.node in let k = c.args.branch.first in
-    let j = c.args.branch.level in let g2 = c.args.height - 2 in let f = c.find_near-found.result in
-    let finds = c.find_near-found.ensures.found in
+    let j = c.args.branch.level in let g2 = c.args.height - 2 in let f = c.find_at-found.result in
+    let finds = c.find_at-found.ensures.found in
     let can = above m c.args.height j p k c.requires.node c.if-height-branch.false c.requires.remove in
     let l = records c.remove_in.new.store in let x = c.in_ok-gone.gone in
     let rem = child m l c.args.height j f.child f.rest x c.requires.node c.if-height-branch.false
@@ -281,8 +287,8 @@ drop_child-merged-requires-clause-row g t c =
 pub drop_child-merged-requires-clause-links : goal.drop_child-merged-requires-clause-links
 drop_child-merged-requires-clause-links g t c =
     let m = records c.args.store.now in let p = c.args.node in let k = c.args.branch.first in
-    let j = c.args.branch.level in let g2 = c.args.height - 2 in let f = c.find_near-found.result in
-    let finds = c.find_near-found.ensures.found in
+    let j = c.args.branch.level in let g2 = c.args.height - 2 in let f = c.find_at-found.result in
+    let finds = c.find_at-found.ensures.found in
     let can = above m c.args.height j p k c.requires.node c.if-height-branch.false c.requires.remove in
     let l = records c.remove_in.new.store in let x = c.in_ok-gone.gone in
     let rem = child m l c.args.height j f.child f.rest x c.requires.node c.if-height-branch.false
@@ -293,8 +299,8 @@ drop_child-merged-requires-clause-links g t c =
 pub drop_child-merged-requires-clause-slot : goal.drop_child-merged-requires-clause-slot
 drop_child-merged-requires-clause-slot g t c =
     let m = records c.args.store.now in let p = c.args.node in let k = c.args.branch.first in
-    let j = c.args.branch.level in let g2 = c.args.height - 2 in let f = c.find_near-found.result in
-    let finds = c.find_near-found.ensures.found in
+    let j = c.args.branch.level in let g2 = c.args.height - 2 in let f = c.find_at-found.result in
+    let finds = c.find_at-found.ensures.found in
     let can = above m c.args.height j p k c.requires.node c.if-height-branch.false c.requires.remove in
     let l = records c.remove_in.new.store in let x = c.in_ok-gone.gone in
     let rem = child m l c.args.height j f.child f.rest x c.requires.node c.if-height-branch.false
@@ -305,8 +311,8 @@ drop_child-merged-requires-clause-slot g t c =
 pub drop_child-merged-requires-clause-fill : goal.drop_child-merged-requires-clause-fill
 drop_child-merged-requires-clause-fill g t c =
     let m = records c.args.store.now in let p = c.args.node in let k = c.args.branch.first in
-    let j = c.args.branch.level in let g2 = c.args.height - 2 in let f = c.find_near-found.result in
-    let finds = c.find_near-found.ensures.found in
+    let j = c.args.branch.level in let g2 = c.args.height - 2 in let f = c.find_at-found.result in
+    let finds = c.find_at-found.ensures.found in
     let can = above m c.args.height j p k c.requires.node c.if-height-branch.false c.requires.remove in
     let l = records c.remove_in.new.store in let x = c.in_ok-gone.gone in
     let rem = child m l c.args.height j f.child f.rest x c.requires.node c.if-height-branch.false
@@ -317,8 +323,8 @@ drop_child-merged-requires-clause-fill g t c =
 pub give_back-requires : goal.give_back-requires
 give_back-requires g t c =
     let m = records c.args.store.now in let p = c.args.node in let k = c.args.branch.first in
-    let j = c.args.branch.level in let g2 = c.args.height - 2 in let f = c.find_near-found.result in
-    let finds = c.find_near-found.ensures.found in
+    let j = c.args.branch.level in let g2 = c.args.height - 2 in let f = c.find_at-found.result in
+    let finds = c.find_at-found.ensures.found in
     let can = above m c.args.height j p k c.requires.node c.if-height-branch.false c.requires.remove in
     let l = records c.remove_in.new.store in let x = c.in_ok-gone.gone in
     let rem = child m l c.args.height j f.child f.rest x c.requires.node c.if-height-branch.false
@@ -332,8 +338,8 @@ give_back-requires g t c =
 pub lessen-requires-clause-row : goal.lessen-requires-clause-row
 lessen-requires-clause-row g t c =
     let m = records c.args.store.now in let p = c.args.node in let k = c.args.branch.first in
-    let j = c.args.branch.level in let g2 = c.args.height - 2 in let f = c.find_near-found.result in
-    let finds = c.find_near-found.ensures.found in
+    let j = c.args.branch.level in let g2 = c.args.height - 2 in let f = c.find_at-found.result in
+    let finds = c.find_at-found.ensures.found in
     let can = above m c.args.height j p k c.requires.node c.if-height-branch.false c.requires.remove in
     let l = records c.remove_in.new.store in let x = c.in_ok-gone.gone in
     let rem = child m l c.args.height j f.child f.rest x c.requires.node c.if-height-branch.false
@@ -344,22 +350,21 @@ lessen-requires-clause-row g t c =
 pub lessen-requires-clause-sum : goal.lessen-requires-clause-sum
 lessen-requires-clause-sum g t c =
     let m = records c.args.store.now in let p = c.args.node in let k = c.args.branch.first in
-    let j = c.args.branch.level in let g2 = c.args.height - 2 in let f = c.find_near-found.result in
-    let finds = c.find_near-found.ensures.found in
+    let j = c.args.branch.level in let g2 = c.args.height - 2 in let f = c.find_at-found.result in
+    let finds = c.find_at-found.ensures.found in
     let can = above m c.args.height j p k c.requires.node c.if-height-branch.false c.requires.remove in
     let l = records c.remove_in.new.store in let x = c.in_ok-gone.gone in
     let rem = child m l c.args.height j f.child f.rest x c.requires.node c.if-height-branch.false
     c.in_ok-gone.ensures.removes in let n = records c.settle.new.store in
     let settles = subst (λ o. Settles l n p f.slot f.child o) c.in-None.is c.settle.ensures.settles in
-    let named = gone-named m (suc g2) p k can f finds l j x rem in
-    let less = sum_is l x c.sum-less-2.result named c.sum-less-2.ensures.value in
+    let less = c.in_ok-gone.ensures.less ∙ ap sum_of (sym (gone-same m (suc g2) p k can f finds l j x rem)) in
     (λ i. plus (sums-row n (kids n p) i) (less i)) ∙ sum-ready m g2 p k can f finds l j x rem n None settles
 
 pub lessen-requires-clause-fits : goal.lessen-requires-clause-fits
 lessen-requires-clause-fits g t c =
     let m = records c.args.store.now in let p = c.args.node in let k = c.args.branch.first in
-    let j = c.args.branch.level in let g2 = c.args.height - 2 in let f = c.find_near-found.result in
-    let finds = c.find_near-found.ensures.found in
+    let j = c.args.branch.level in let g2 = c.args.height - 2 in let f = c.find_at-found.result in
+    let finds = c.find_at-found.ensures.found in
     let can = above m c.args.height j p k c.requires.node c.if-height-branch.false c.requires.remove in
     let l = records c.remove_in.new.store in let x = c.in_ok-gone.gone in
     let rem = child m l c.args.height j f.child f.rest x c.requires.node c.if-height-branch.false
@@ -370,34 +375,34 @@ lessen-requires-clause-fits g t c =
 pub drop_child-merged-requires-clause-sum : goal.drop_child-merged-requires-clause-sum
 drop_child-merged-requires-clause-sum g t c =
     let m = records c.args.store.now in let p = c.args.node in let k = c.args.branch.first in
-    let j = c.args.branch.level in let g2 = c.args.height - 2 in let f = c.find_near-found.result in
-    let finds = c.find_near-found.ensures.found in
+    let j = c.args.branch.level in let g2 = c.args.height - 2 in let f = c.find_at-found.result in
+    let finds = c.find_at-found.ensures.found in
     let can = above m c.args.height j p k c.requires.node c.if-height-branch.false c.requires.remove in
     let l = records c.remove_in.new.store in let x = c.in_ok-gone.gone in
     let rem = child m l c.args.height j f.child f.rest x c.requires.node c.if-height-branch.false
     c.in_ok-gone.ensures.removes in let n = records c.settle.new.store in
     let settles = subst (λ o. Settles l n p f.slot f.child o) c.in-Some.is c.settle.ensures.settles in
-    let named = gone-named m (suc g2) p k can f finds l j x rem in
-    let less = sum_is l x c.sum-less-2.result named c.sum-less-2.ensures.value in
+    let less = c.in_ok-gone.ensures.less ∙ ap sum_of (sym (gone-same m (suc g2) p k can f finds l j x rem)) in
     ap (plus (sum_all n (remove (kids n p) c.in-Some.slot))) less
     ∙ sum-ready m g2 p k can f finds l j x rem n (Some c.in-Some.slot) settles
 
-pub sum-less-requires-2 : goal.sum-less-requires-2
-sum-less-requires-2 g t c =
+pub returns-then-height-branch-clause-less : goal.returns-then-height-branch-clause-less
+returns-then-height-branch-clause-less g t c =
     let m = records c.args.store.now in let p = c.args.node in let k = c.args.branch.first in
-    let j = c.args.branch.level in let g2 = c.args.height - 2 in let f = c.find_near-found.result in
-    let finds = c.find_near-found.ensures.found in
-    let can = above m c.args.height j p k c.requires.node c.if-height-branch.false c.requires.remove in
-    let l = records c.remove_in.new.store in let x = c.in_ok-gone.gone in
-    let rem = child m l c.args.height j f.child f.rest x c.requires.node c.if-height-branch.false
-    c.in_ok-gone.ensures.removes in
-    gone-named m (suc g2) p k can f finds l j x rem
+    let j = c.args.branch.level in
+    let can = right-above m c.args.height j p k c.if-height-branch.true c.requires.remove in
+    let f = c.find_at-found.result in let finds = c.find_at-found.ensures.found in
+    let same = same_Some f.child c.drop_child.result (sym finds.child ∙ c.drop_child.ensures.child) in
+    sum_is m f.child c.sum.result (child-named m j p k can f finds) c.sum.ensures.value ∙ ap (sum_at m) same
+
+pub returns-in-Some-clause-less : goal.returns-in-Some-clause-less
+returns-in-Some-clause-less g t c = c.in_ok-gone.ensures.less
 
 pub returns-in-Some-clause-removes : goal.returns-in-Some-clause-removes
 returns-in-Some-clause-removes g t c =
     let m = records c.args.store.now in let p = c.args.node in let k = c.args.branch.first in
-    let j = c.args.branch.level in let g2 = c.args.height - 2 in let f = c.find_near-found.result in
-    let finds = c.find_near-found.ensures.found in
+    let j = c.args.branch.level in let g2 = c.args.height - 2 in let f = c.find_at-found.result in
+    let finds = c.find_at-found.ensures.found in
     let can = above m c.args.height j p k c.requires.node c.if-height-branch.false c.requires.remove in
     let l = records c.remove_in.new.store in let x = c.in_ok-gone.gone in
     let rem = child m l c.args.height j f.child f.rest x c.requires.node c.if-height-branch.false
@@ -412,8 +417,8 @@ returns-in-Some-clause-removes g t c =
 pub returns-in-None-clause-removes : goal.returns-in-None-clause-removes
 returns-in-None-clause-removes g t c =
     let m = records c.args.store.now in let p = c.args.node in let k = c.args.branch.first in
-    let j = c.args.branch.level in let g2 = c.args.height - 2 in let f = c.find_near-found.result in
-    let finds = c.find_near-found.ensures.found in
+    let j = c.args.branch.level in let g2 = c.args.height - 2 in let f = c.find_at-found.result in
+    let finds = c.find_at-found.ensures.found in
     let can = above m c.args.height j p k c.requires.node c.if-height-branch.false c.requires.remove in
     let l = records c.remove_in.new.store in let x = c.in_ok-gone.gone in
     let rem = child m l c.args.height j f.child f.rest x c.requires.node c.if-height-branch.false
@@ -428,8 +433,8 @@ returns-in-None-clause-removes g t c =
 pub returns-in-Some-clause-clean : goal.returns-in-Some-clause-clean
 returns-in-Some-clause-clean g t c =
     let m = records c.args.store.now in let p = c.args.node in let k = c.args.branch.first in
-    let j = c.args.branch.level in let g2 = c.args.height - 2 in let f = c.find_near-found.result in
-    let finds = c.find_near-found.ensures.found in
+    let j = c.args.branch.level in let g2 = c.args.height - 2 in let f = c.find_at-found.result in
+    let finds = c.find_at-found.ensures.found in
     let can = above m c.args.height j p k c.requires.node c.if-height-branch.false c.requires.remove in
     let l = records c.remove_in.new.store in let x = c.in_ok-gone.gone in
     let rem = child m l c.args.height j f.child f.rest x c.requires.node c.if-height-branch.false
@@ -446,8 +451,8 @@ returns-in-Some-clause-clean g t c =
 pub returns-in-None-clause-clean : goal.returns-in-None-clause-clean
 returns-in-None-clause-clean g t c =
     let m = records c.args.store.now in let p = c.args.node in let k = c.args.branch.first in
-    let j = c.args.branch.level in let g2 = c.args.height - 2 in let f = c.find_near-found.result in
-    let finds = c.find_near-found.ensures.found in
+    let j = c.args.branch.level in let g2 = c.args.height - 2 in let f = c.find_at-found.result in
+    let finds = c.find_at-found.ensures.found in
     let can = above m c.args.height j p k c.requires.node c.if-height-branch.false c.requires.remove in
     let l = records c.remove_in.new.store in let x = c.in_ok-gone.gone in
     let rem = child m l c.args.height j f.child f.rest x c.requires.node c.if-height-branch.false
@@ -464,8 +469,8 @@ returns-in-None-clause-clean g t c =
 pub returns-in-Some-clause-count : goal.returns-in-Some-clause-count
 returns-in-Some-clause-count g t c =
     let m = records c.args.store.now in let p = c.args.node in let k = c.args.branch.first in
-    let j = c.args.branch.level in let g2 = c.args.height - 2 in let f = c.find_near-found.result in
-    let finds = c.find_near-found.ensures.found in
+    let j = c.args.branch.level in let g2 = c.args.height - 2 in let f = c.find_at-found.result in
+    let finds = c.find_at-found.ensures.found in
     let can = above m c.args.height j p k c.requires.node c.if-height-branch.false c.requires.remove in
     let l = records c.remove_in.new.store in let x = c.in_ok-gone.gone in
     let rem = child m l c.args.height j f.child f.rest x c.requires.node c.if-height-branch.false
@@ -477,7 +482,7 @@ returns-in-Some-clause-count g t c =
     (named-refilled n p (row (remove (kids n p) c.in-Some.slot)) c.drop_child-merged.result
     (has.each c.in-Some.slot c.drop_child-merged.result c.drop_child-merged.ensures.child)) in let u =
     records c.drop_child-merged.new.store in let b = c.drop_child-merged.result in
-    let a = len-settles l n c.args.node c.find_near-found.result.slot c.find_near-found.result.child c.settle.result
+    let a = len-settles l n c.args.node c.find_at-found.result.slot c.find_at-found.result.child c.settle.result
     c.settle.ensures.settles in
     let d = ap finite.len c.drop_child-merged.ensures.records
     ∙ len-refilled n c.args.node (row (remove (kids n c.args.node) c.in-Some.slot)) in
@@ -487,7 +492,7 @@ returns-in-Some-clause-count g t c =
 
 pub returns-in-None-clause-count : goal.returns-in-None-clause-count
 returns-in-None-clause-count g t c = let l = records c.remove_in.new.store in let n = records c.settle.new.store in
-    let a = len-settles l n c.args.node c.find_near-found.result.slot c.find_near-found.result.child c.settle.result
+    let a = len-settles l n c.args.node c.find_at-found.result.slot c.find_at-found.result.child c.settle.result
     c.settle.ensures.settles in
     let d = ap finite.len c.lessen.ensures.records ∙ len-resummed n c.args.node (row (kids n c.args.node)) in
     let s1 = c.remove_in.ensures.count in let s2 = c.settle.ensures.spares in let s3 = c.lessen.ensures.spares in
@@ -496,8 +501,8 @@ returns-in-None-clause-count g t c = let l = records c.remove_in.new.store in le
 pub returns-in-Some-clause-rooms : goal.returns-in-Some-clause-rooms
 returns-in-Some-clause-rooms g t c =
     let m = records c.args.store.now in let p = c.args.node in let k = c.args.branch.first in
-    let j = c.args.branch.level in let g2 = c.args.height - 2 in let f = c.find_near-found.result in
-    let finds = c.find_near-found.ensures.found in
+    let j = c.args.branch.level in let g2 = c.args.height - 2 in let f = c.find_at-found.result in
+    let finds = c.find_at-found.ensures.found in
     let can = above m c.args.height j p k c.requires.node c.if-height-branch.false c.requires.remove in
     let l = records c.remove_in.new.store in let x = c.in_ok-gone.gone in
     let rem = child m l c.args.height j f.child f.rest x c.requires.node c.if-height-branch.false
