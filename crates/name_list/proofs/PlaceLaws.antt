@@ -1,17 +1,17 @@
 -- The places of numbers: what a push, a removal and a move leave, and that they give names that are in order.
-use Rattle.std.proofs.Common.{◌≡◌, ℕ, zero, suc, ◌+◌, ◌<◌, ◌≤◌, ◌≢◌, ◌⊎◌, ◌^◌, true, false, Option, None, Some, List}
-use Rattle.std.proofs.Common.{[], ◌∷◌, ◌++◌, length, take, drop, replicate, min, slice_get, slice_set, Contains, refl}
-use Rattle.std.proofs.Common.{sym, ap, ◌∙◌, subst, inl, inr, arith, length-append, length-set, true≢false}
+use Rattle.std.proofs.Common.{◌≡◌, ℕ, ◌+◌, ◌<◌, ◌≤◌, ◌≢◌, ◌⊎◌, ◌^◌, true, false, Option, None, Some, List}
+use Rattle.std.proofs.Common.{[], ◌∷◌, ◌++◌, length, take, drop, min, slice_get, slice_set, Contains, refl}
+use Rattle.std.proofs.Common.{sym, ap, ◌∙◌, subst, inl, inr, arith, length-append, length-set, true≢false, if◌then◌else◌, eq-eqb, ne_eqb}
 use Rattle.std.specs.Prelude.{insert, remove, is_some}
 use Rattle.std.specs.Option.{option_and_then, option_map_or}
 use Rattle.std.proofs.lemmas.Bool.{cases_lt, cases_eq}
 use Rattle.std.proofs.lemmas.Bool.Decides.{nat_tests}
 use Rattle.std.proofs.lemmas.Option.{none-some, same_Some, slice_get-get_or, slice_get_within}
-use Rattle.std.proofs.lemmas.List.{append-nil, take_all, drop_all, length-replicate}
+use Rattle.std.proofs.lemmas.List.{append-nil, take_all, drop_all}
 use Rattle.std.proofs.lemmas.List.Edits.{length-remove, length-insert}
 use Rattle.name_list.specs.Moves.{move_index}
 use Rattle.name_list.specs.Names.{AreApart, IsLeastFree}
-use Rattle.name_list.specs.Places.{is_taken, IsIndex, IsIndexTo, AreKept}
+use Rattle.name_list.specs.Places.{is_taken, with_place_for, IsIndex, IsIndexTo, AreKept}
 use Rattle.name_list.proofs.ListLaws.{Stands, stands_from_Contains, Contains-from_stands, get_push, get_pushed}
 use Rattle.name_list.proofs.ListLaws.{get_push_cases, get_set, get_set_other, get_remove, get_remove_other}
 use Rattle.name_list.proofs.ListLaws.{before_removal, removed_is_gone, AreApart-remove, AreApart-insert, get_inserted}
@@ -245,81 +245,118 @@ min_cases : (free number least : ℕ) → least ≡ min free number → (least �
 min_cases free number least is =
     elim (cases_lt free number) [ inl below ↦ inr (omega arith) | inr above ↦ inl (omega arith) ]
 
-none_in_new : (n number : ℕ) (place : Option ℕ) → slice_get (replicate n None) number ≡ Some place → None ≡ place
-none_in_new zero number place is = absurd (none-some _ is)
-none_in_new (suc n) zero place is = same_Some _ _ is
-none_in_new (suc n) (suc number) place is = none_in_new n number place is
-
 -- no names
-pub AreKept-none : (places : List (Option ℕ)) (limit : ℕ) → limit < 2 ^ 16 → places ≡ replicate limit None →
-    AreKept [] places 0
-AreKept-none places limit small fresh = record {
+pub AreKept-none : (limit : ℕ) → limit < 2 ^ 16 → AreKept [] [] 0 limit
+AreKept-none limit small = record {
   index = record {
     placed = λ at number is. absurd (none-some _ is);
-    there = λ at number is.
-        absurd (none-some _ (none_in_new limit number (Some at) (ap (λ ps. slice_get ps number) (sym fresh) ∙ is)));
+    there = λ at number is. absurd (none-some _ is);
   };
   least = record {
     free = λ has. absurd (none-some 0 (stands_from_Contains [] 0 has).1);
     below = λ k less. absurd (omega arith);
   };
+  within = omega arith;
   room = omega arith;
-  small = rw (fresh, length-replicate) small;
+  few = omega arith;
+  small = small;
 }
 
+-- room for one more place
+AreKept-more : (numbers : List ℕ) (places : List (Option ℕ)) (free limit : ℕ) →
+    AreKept numbers places free limit → length numbers < limit →
+    AreKept numbers (with_place_for free places) free limit × (free < length (with_place_for free places))
+AreKept-more numbers places free limit kept room = elim (cases_eq free (length places)) [
+  | inl new ↦
+      let is : with_place_for free places ≡ places ++ None ∷ [] = ap (λ b. if b then places ++ None ∷ []
+      else places) (eq-eqb free (length places) new) in
+      let count = length-append places (None ∷ []) in
+      let within = free_within numbers free kept.least in
+      subst (λ ps. AreKept numbers ps free limit × (free < length ps)) (sym is) (
+        record {
+          index = record {
+            placed = λ at number stands. get_push places None number _ (kept.index.placed at number stands);
+            there = λ at number stands. elim (get_push_cases places None number _ stands) [
+              | inl old ↦ kept.index.there at number old
+              | inr last ↦ absurd (none-some _ last.1)
+            ];
+          };
+          least = kept.least;
+          within = let fits = kept.within in omega arith;
+          room = kept.room;
+          few = omega arith;
+          small = kept.small;
+        },
+        omega arith,
+      )
+  | inr other ↦
+      let is : with_place_for free places ≡ places = ap (λ b. if b then places ++ None ∷ []
+      else places) (ne_eqb free (length places) other) in
+      let fits = kept.within in
+      subst (λ ps. AreKept numbers ps free limit × (free < length ps)) (sym is) (kept, omega arith)
+]
+
+-- the least free number is below the limit where there is room, and then it has a place
+pub free_below : (numbers : List ℕ) (places : List (Option ℕ)) (free place limit : ℕ) →
+    AreKept numbers places free limit → place ≡ length numbers → place < limit → free < limit
+free_below numbers places free place limit kept count room = omega (arith, free_within numbers free kept.least)
+
+pub AreKept-placed : (numbers : List ℕ) (places more : List (Option ℕ)) (free place limit : ℕ) →
+    AreKept numbers places free limit → place ≡ length numbers → place < limit → more ≡ with_place_for free places →
+    AreKept numbers more free limit × (free < length more)
+AreKept-placed numbers places more free place limit kept count room is =
+    subst (λ ps. AreKept numbers ps free limit × (free < length ps)) (sym is)
+    (AreKept-more numbers places free limit kept (omega arith))
+
 -- one name more
-pub AreKept-push : (numbers : List ℕ) (places : List (Option ℕ)) (free next : ℕ) → AreKept numbers places free →
-    length numbers < length places
-    → free + 1 ≤ next → ((k : ℕ) → free + 1 ≤ k → k < next →
-    is_taken (slice_set places free (Some (length numbers))) k ≡ true) →
-    is_taken (slice_set places free (Some (length numbers))) next ≡ false
-    → AreKept (numbers ++ free ∷ []) (slice_set places free (Some (length numbers))) next
-AreKept-push numbers places free next kept room above taken not_taken =
-    let below = free_within numbers free kept.least in
-    let index = IsIndex-push numbers places free kept.index (omega arith) (gone_from_least numbers free kept.least) in
-    let same = length-set places free (Some (length numbers)) in
+pub AreKept-push : (numbers : List ℕ) (places : List (Option ℕ)) (free next at limit : ℕ) →
+    AreKept numbers places free limit → free < length places → length numbers ≡ at → at < limit
+    → free + 1 ≤ next → next ≤ length places →
+    ((k : ℕ) → free + 1 ≤ k → k < next → is_taken (slice_set places free (Some at)) k ≡ true) →
+    is_taken (slice_set places free (Some at)) next ≡ false
+    → AreKept (numbers ++ free ∷ []) (slice_set places free (Some at)) next limit
+AreKept-push numbers places free next at limit kept there count room above within taken not_taken =
+    let index = subst (λ n. IsIndex (numbers ++ free ∷ []) (slice_set places free (Some n))) count
+    (IsIndex-push numbers places free kept.index there (gone_from_least numbers free kept.least)) in
+    let same = length-set places free (Some at) in
     record {
       index = index;
       least = IsLeastFree-next numbers _ free next kept.least index above taken not_taken;
+      within = rw same within;
       room = omega (arith, length-append numbers (free ∷ []));
-      small = rw same kept.small;
+      few = rw same kept.few;
+      small = kept.small;
     }
 
-pub AreKept-push_at : (numbers : List ℕ) (places : List (Option ℕ)) (free next at : ℕ) → AreKept numbers places free →
-    length numbers ≡ at → at < length places
-    → free + 1 ≤ next → ((k : ℕ) → free + 1 ≤ k → k < next → is_taken (slice_set places free (Some at)) k ≡ true) →
-    is_taken (slice_set places free (Some at)) next ≡ false
-    → AreKept (numbers ++ free ∷ []) (slice_set places free (Some at)) next
-AreKept-push_at numbers places free next at kept count room above taken not_taken =
-    subst (λ n. AreKept (numbers ++ free ∷ []) (slice_set places free (Some n)) next) count
-    (AreKept-push numbers places free next kept (omega arith) above (rw count taken) (rw count not_taken))
-
 -- one name fewer
-pub AreKept-remove : (numbers : List ℕ) (places new : List (Option ℕ)) (i number free least : ℕ) →
-    AreKept numbers places free → slice_get numbers i ≡ Some number
+pub AreKept-remove : (numbers : List ℕ) (places new : List (Option ℕ)) (i number free least limit : ℕ) →
+    AreKept numbers places free limit → slice_get numbers i ≡ Some number
     → IsIndex (remove numbers i) new → length new ≡ length places → least ≡ min free number →
-    AreKept (remove numbers i) new least
-AreKept-remove numbers places new i number free least kept here index same which =
-    let within = slice_get_within numbers i number here in
-    let shorter = length-remove numbers i within in
+    AreKept (remove numbers i) new least limit
+AreKept-remove numbers places new i number free least limit kept here index same which =
+    let shorter = length-remove numbers i (slice_get_within numbers i number here) in
     record {
       index = index;
       least = IsLeastFree-remove numbers i number free least (AreApart-index numbers places kept.index) here kept.least
           (omega arith) (omega arith) (min_cases free number least which);
+      within = let fits = kept.within in omega arith;
       room = let fits = kept.room in omega arith;
-      small = rw same kept.small;
+      few = rw same kept.few;
+      small = kept.small;
     }
 
 -- a name moved
-pub AreKept-move : (numbers : List ℕ) (places new : List (Option ℕ)) (from to number free : ℕ) →
-    AreKept numbers places free → slice_get numbers from ≡ Some number → to < length numbers
+pub AreKept-move : (numbers : List ℕ) (places new : List (Option ℕ)) (from to number free limit : ℕ) →
+    AreKept numbers places free limit → slice_get numbers from ≡ Some number → to < length numbers
     → IsIndex (move_index numbers from to) new → length new ≡ length places →
-    AreKept (move_index numbers from to) new free
-AreKept-move numbers places new from to number free kept here within index same = record {
+    AreKept (move_index numbers from to) new free limit
+AreKept-move numbers places new from to number free limit kept here within index same = record {
   index = index;
   least = IsLeastFree-move numbers from to number here within free kept.least;
-  room = rw (length-move numbers from to number here within, same) kept.room;
-  small = rw same kept.small;
+  within = rw same kept.within;
+  room = rw (length-move numbers from to number here within) kept.room;
+  few = rw same kept.few;
+  small = kept.small;
 }
 
 -- what is written of a whole list

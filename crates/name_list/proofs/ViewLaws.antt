@@ -138,12 +138,14 @@ number_at {Z} es limit names at seen within =
     (here, slice_get-get_or (values_of es) at 0 here)
 
 -- the laws of a list
-pub AreNames-kept : {Z : Type 0} (es : List (String Z × ℕ)) (places : List (Option ℕ)) (free : ℕ) →
-    IsDistinct string_eq (keys_of es) → AreKept (values_of es) places free →
-    AreNames (names_kept {Z = Z} es (length places))
-AreNames-kept {Z} es places free distinct kept = record {
+pub AreNames-kept : {Z : Type 0} (es : List (String Z × ℕ)) (places : List (Option ℕ)) (free limit : ℕ) →
+    IsDistinct string_eq (keys_of es) → AreKept (values_of es) places free limit →
+    AreNames (names_kept {Z = Z} es limit)
+AreNames-kept {Z} es places free limit distinct kept = record {
   names_apart = AreApart-names es distinct;
   numbers_apart = rw (numbers_seen es) (AreApart-index (values_of es) places kept.index);
-  below = rw (numbers_seen es) (within_index (values_of es) places kept.index);
+  below = rw (numbers_seen es) (λ at number is.
+      let within = within_index (values_of es) places kept.index at number is in
+      let few = kept.few in omega arith);
   room = let fits = kept.room in rw (length-map es (named {Z = Z})) (rw (length-map es (λ e. e.1)) at fits);
 }

@@ -1,6 +1,6 @@
 -- A list of names as it is kept: a map in order, and for each number the place of the name that has it.
 use Rattle.std.specs.Prelude.{◌≡◌, ℕ, ◌<◌, ◌≤◌, ◌^◌, Bool, Option, Some, List, map, length, is_some, option_and_then}
-use Rattle.std.specs.Prelude.{slice_get, chars, string_bytes, String}
+use Rattle.std.specs.Prelude.{slice_get, chars, string_bytes, String, None, [], ◌∷◌, ◌++◌, nat_eq, if◌then◌else◌}
 use Rattle.name_list.specs.Names.{Named, Names, IsLeastFree}
 
 abbrev pub named : {Z : Type 0} → String Z × ℕ → Named
@@ -12,6 +12,10 @@ names_kept {Z} entries limit = record { entries = map (named {Z = Z}) entries; l
 -- whether a number has a place
 abbrev pub is_taken : List (Option ℕ) → ℕ → Bool
 is_taken places number = is_some (option_and_then (λ place. place) (slice_get places number))
+
+-- the places with one for a number, before which each number has one
+abbrev pub with_place_for : ℕ → List (Option ℕ) → List (Option ℕ)
+with_place_for number places = if nat_eq number (length places) then places ++ None ∷ [] else places
 
 -- the places are those at which the numbers stand
 pub record IsIndex (numbers : List ℕ) (places : List (Option ℕ)) : Type 0 where
@@ -26,8 +30,10 @@ pub record IsIndexTo (numbers : List ℕ) (upto : ℕ) (places : List (Option �
       (i : ℕ) × (slice_get numbers i ≡ Some number)
 
 -- how the fields belong together: `free` is the least number that no name has
-pub record AreKept (numbers : List ℕ) (places : List (Option ℕ)) (free : ℕ) : Type 0 where
+pub record AreKept (numbers : List ℕ) (places : List (Option ℕ)) (free limit : ℕ) : Type 0 where
   pub index : IsIndex numbers places
   pub least : IsLeastFree numbers free
-  pub room : length numbers ≤ length places
-  pub small : length places < 2 ^ 16
+  pub within : free ≤ length places
+  pub room : length numbers ≤ limit
+  pub few : length places ≤ limit
+  pub small : limit < 2 ^ 16

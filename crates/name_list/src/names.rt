@@ -1,9 +1,9 @@
-ghost use Rattle.std.specs.Prelude.{◌≡◌, ◌<◌, ◌≤◌, ◌↔◌, ◌∷◌, [], ◌++◌, length, remove, take, slice_get, chars};
+ghost use Rattle.std.specs.Prelude.{◌≡◌, ◌<◌, ◌↔◌, ◌∷◌, [], ◌++◌, length, remove, take, slice_get, chars};
 ghost use Rattle.std.specs.Prelude.{string_bytes, None, Some, Contains, IsNone, IfOk, IfSome, OnErr, MatchOption};
 ghost use Rattle.name_list.specs.Moves.{move_index};
 ghost use Rattle.name_list.specs.Names.{Names, place_of, names_of, numbers_of, IsFull, IsLeastFree, AreNames};
 
-use crate::places::{next_free, note_places};
+use crate::places::{add_place, next_free, note_places};
 use indexmap::IndexMap;
 use std::alloc::{AllocError, Global};
 use std::marker::Model;
@@ -13,32 +13,34 @@ use std::marker::Model;
 #[derive(Drop)]
 pub struct NameList {
     numbers: IndexMap<String, u16>,
+    /// By the numbers that names have had so far.
     places: Vec<Option<u16>>,
     free: usize,
+    limit: u16,
 }
 
 impl Model for NameList {
-    ghost use Rattle.std.specs.Prelude.{length};
     ghost use Rattle.indexmap.specs.IndexMap.{values};
     ghost use Rattle.name_list.specs.Names.{Names};
     ghost use Rattle.name_list.specs.Places.{names_kept, AreKept};
 
     ghost Value = { Names };
 
-    ghost view = { λ a. names_kept a.numbers.entries (length a.places.items) };
+    ghost view = { λ a. names_kept a.numbers.entries a.limit };
 
-    ghost invariant = { λ a. AreKept (values a.numbers) a.places.items a.free };
+    ghost invariant = { λ a. AreKept (values a.numbers) a.places.items a.free a.limit };
 }
 
 impl NameList {
-    /// A list without names, which may hold so many.
+    /// A list without names, which may hold so many. It takes no memory.
     pub fn new(alloc: Global, limit: u16) -> Result<NameList, AllocError>
         ensures { IfOk result (λ names. names ≡ record { entries = []; limit = limit }) }
     {
         Ok(NameList {
             numbers: IndexMap::new(alloc),
-            places: vec![in alloc; None; limit as usize]?,
+            places: Vec::new(alloc),
             free: 0,
+            limit,
         })
     }
 
@@ -102,10 +104,11 @@ impl NameList {
         ensures err { OnErr result (self.new ≡ self.old) }
     {
         let place = self.numbers.len();
-        if place >= self.places.len() {
+        if place >= self.limit as usize {
             return Ok(None);
         }
         let number = self.free;
+        add_place(&mut self.places, number)?;
         self.numbers.insert(name, number as u16)?;
         self.places[number] = Some(place as u16);
         self.free = next_free(&self.places, number + 1);

@@ -1,10 +1,23 @@
 //! For each number the place of the name that has it.
-ghost use Rattle.std.specs.Prelude.{◌≡◌, ℕ, ◌<◌, ◌≤◌, ◌^◌, true, false, length, slice_get, Some};
+ghost use Rattle.std.specs.Prelude.{◌≡◌, ℕ, ◌<◌, ◌≤◌, ◌^◌, true, false, length, slice_get, OnErr, OnOk, Some};
 ghost use Rattle.indexmap.specs.IndexMap.{values, index_map_len};
 ghost use Rattle.name_list.specs.Names.{AreApart};
-ghost use Rattle.name_list.specs.Places.{is_taken, IsIndex, IsIndexTo};
+ghost use Rattle.name_list.specs.Places.{is_taken, with_place_for, IsIndex, IsIndexTo};
 
 use indexmap::IndexMap;
+use std::alloc::AllocError;
+
+/// Makes room for the place of a number, before which each has room.
+pub(crate) fn add_place(places: &mut Vec<Option<u16>>, number: usize) -> Result<(), AllocError>
+    requires { number ≤ length places.old.items }
+    ensures ok { OnOk result (places.new.items ≡ with_place_for number places.old.items) }
+    ensures err { OnErr result (places.new.items ≡ places.old.items) }
+{
+    if number == places.len() {
+        places.push(None)?;
+    }
+    Ok(())
+}
 
 /// The least number from `from` on that has no place.
 pub(crate) fn next_free(places: &[Option<u16>], from: usize) -> usize

@@ -1,4 +1,4 @@
-use Rattle.std.proofs.Common.{◌≡◌, length, sym, ap, ap₂, ◌∙◌, subst, slice_get, map, arith}
+use Rattle.std.proofs.Common.{◌≡◌, length, sym, ap, ◌∙◌, subst, slice_get, map, arith}
 use Rattle.std.specs.Map.{values_of}
 use Rattle.name_list.specs.Names.{AreApart}
 use Rattle.name_list.specs.Places.{AreKept, IsIndex, IsIndexTo, named}
@@ -52,16 +52,13 @@ invariant_of-self c =
     ∙ ap length c.deref_mut.ensures.value in
     rw (whole_written inside.places.items c.note_places.new.places inside.places.len same
     (omega (arith, inside.places.ok.0)))
-    (subst (λ ns. AreKept ns c.note_places.new.places inside.free) (sym moved)
-    (AreKept-move _ inside.places.items c.note_places.new.places c.args.from c.args.to _ inside.free c.self.invariant
-    from.1 to.0 (subst (λ ns. IsIndex ns c.note_places.new.places) moved c.note_places.ensures) same))
+    (subst (λ ns. AreKept ns c.note_places.new.places inside.free inside.limit) (sym moved)
+    (AreKept-move _ inside.places.items c.note_places.new.places c.args.from c.args.to _ inside.free inside.limit
+    c.self.invariant from.1 to.0 (subst (λ ns. IsIndex ns c.note_places.new.places) moved c.note_places.ensures) same))
 
 pub returns : goal.returns
 returns c =
     let inside = c.self.inside in
-    let same : length c.note_places.new.places ≡ length inside.places.items = c.note_places.auto.places
-    ∙ ap length c.deref_mut.ensures.value in
-    rw (← c.self.view_is) (ap₂ (λ entries limit. record { entries = entries; limit = limit })
-    (ap (map named) c.move_index.ensures.entries ∙ map-move_index named inside.numbers.entries c.args.from c.args.to)
-    (ap length (whole_written inside.places.items c.note_places.new.places inside.places.len same
-    (omega (arith, inside.places.ok.0))) ∙ same))
+    rw (← c.self.view_is) (ap (λ entries. record { entries = entries; limit = inside.limit })
+    (ap (map named) c.move_index.ensures.entries
+    ∙ map-move_index named inside.numbers.entries c.args.from c.args.to))

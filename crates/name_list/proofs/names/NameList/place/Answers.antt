@@ -9,5 +9,5 @@ returns-clause-value c = rw (← c.self.view_is) (c.get_index_of.ensures.index
 
 pub returns-clause-sound : goal.returns-clause-sound
 returns-clause-sound c = subst AreNames c.self.view_is
-    (AreNames-kept c.self.inside.numbers.entries c.self.inside.places.items c.self.inside.free
+    (AreNames-kept c.self.inside.numbers.entries c.self.inside.places.items c.self.inside.free c.self.inside.limit
     c.get_index_of.ensures.unique c.self.invariant)

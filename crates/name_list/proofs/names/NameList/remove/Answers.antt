@@ -1,4 +1,4 @@
-use Rattle.std.proofs.Common.{◌≡◌, None, length, sym, ap, ap₂, ◌∙◌, subst, slice_get, slice_set, map, length-set, arith}
+use Rattle.std.proofs.Common.{◌≡◌, None, length, sym, ap, ◌∙◌, subst, slice_get, slice_set, map, length-set, arith}
 use Rattle.std.specs.Map.{values_of}
 use Rattle.std.specs.Option.{option_map}
 use Rattle.std.proofs.lemmas.Option.{slice_get-map, slice_get_within}
@@ -62,19 +62,13 @@ invariant_of-self c =
     let same : length c.note_places.new.places ≡ length freed = c.note_places.auto.places
     ∙ ap length c.deref_mut.ensures.value in
     rw (whole_written freed c.note_places.new.places inside.places.len same (omega (arith, inside.places.ok.0, count)))
-    (subst (λ ns. AreKept ns c.note_places.new.places c.min-self-inside.result) (sym removed)
+    (subst (λ ns. AreKept ns c.note_places.new.places c.min-self-inside.result inside.limit) (sym removed)
     (AreKept-remove _ inside.places.items c.note_places.new.places c.args.place _ inside.free c.min-self-inside.result
-    c.self.invariant here (subst (λ ns. IsIndex ns c.note_places.new.places) removed c.note_places.ensures) (same
+    inside.limit c.self.invariant here (subst (λ ns. IsIndex ns c.note_places.new.places) removed c.note_places.ensures) (same
     ∙ count) c.min-self-inside.ensures))
 
 pub returns : goal.returns
 returns c =
     let inside = c.self.inside in
-    let freed = slice_set inside.places.items c.unwrap-number.result.1 None in
-    let count = length-set inside.places.items c.unwrap-number.result.1 None in
-    let same : length c.note_places.new.places ≡ length freed = c.note_places.auto.places
-    ∙ ap length c.deref_mut.ensures.value in
-    rw (← c.self.view_is) (ap₂ (λ entries limit. record { entries = entries; limit = limit })
-    (ap (map named) c.shift_remove_index.ensures.entries ∙ map-remove named inside.numbers.entries c.args.place)
-    (ap length (whole_written freed c.note_places.new.places inside.places.len same
-    (omega (arith, inside.places.ok.0, count))) ∙ same ∙ count))
+    rw (← c.self.view_is) (ap (λ entries. record { entries = entries; limit = inside.limit })
+    (ap (map named) c.shift_remove_index.ensures.entries ∙ map-remove named inside.numbers.entries c.args.place))
