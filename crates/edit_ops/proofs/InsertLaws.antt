@@ -1,10 +1,13 @@
 -- One text more is put in.
-use Rattle.std.proofs.Common.{◌≡◌, ℕ, ◌+◌, ◌-◌, ◌^◌, ◌<◌, ◌≤◌, Bool, true, false, List, [], ◌∷◌, ◌++◌, Option, Some}
-use Rattle.std.proofs.Common.{None, map, length, get_or, refl, sym, ap, ap₂, ◌∙◌, arith, ne_eqb, eq-eqb, subst}
+use Rattle.std.proofs.Common.{◌≡◌, ℕ, zero, suc, ◌+◌, ◌-◌, ◌^◌, ◌<◌, ◌≤◌, Bool, true, false, List, [], ◌∷◌, ◌++◌, Option}
+use Rattle.std.proofs.Common.{Some, None, ◌==◌, ◌&&◌, map, length, get_or, refl, sym, ap, ap₂, ◌∙◌, arith, ne_eqb, eq-eqb, subst}
 use Rattle.std.specs.Prelude.{slice_get, IfSome, option_map, nat_lt, ◌||◌, if◌then◌else◌, encode_utf8_all}
+use Rattle.std.specs.Cmp.{nat_cmp_total}
 use Rattle.std.specs.FinSet as set
 use Rattle.std.specs.Option.{is_none}
 use Rattle.std.specs.List.{All}
+use Rattle.std.specs.Ordering.{nat_cmp}
+use Rattle.std.proofs.lemmas.Bool.Decides.{nat_tests}
 use Rattle.std.proofs.lemmas.List.{length-map, get_or-map}
 use Rattle.std.proofs.lemmas.Option.{get_or_from_slice_get}
 use Rattle.std.proofs.lemmas.Str.{length-le-encodes}
@@ -13,7 +16,7 @@ use Rattle.std.proofs.Math.Bool.{or-true}
 use Rattle.std.proofs.lemmas.List.Elements.{All-map}
 use Rattle.text_model.specs.declared.cells.Cell.{Cell}
 use Rattle.text_model.specs.declared.edits.Step.TheVariants.{Insert}
-use Rattle.text_model.specs.Content.{Content, Slots, slot_sets}
+use Rattle.text_model.specs.Content.{Content, Slots, slot_sets, slots_behind}
 use Rattle.text_model.specs.Splices.{inserted}
 use Rattle.text_model.specs.Steps.{cells_of, Fits, after, after_insertion}
 use Rattle.text_model.proofs.SpliceLaws.{length-cells_inserted, map-inserted, map-map, get_or-inserted_within}
@@ -27,7 +30,7 @@ use Rattle.edit_ops.specs.declared.anchors.Anchors.{Anchors}
 use Rattle.edit_ops.specs.declared.pieces.Piece.{Piece}
 use Rattle.edit_ops.specs.declared.plans.Recording.{Recording}
 use Rattle.edit_ops.specs.Anchors.{AnchorsStand, anchor_moved, anchors_moved}
-use Rattle.text_cursor.specs.Around.{shared_slots}
+use Rattle.text_cursor.specs.Around.{shared_slots, slots_around}
 use Rattle.text_cursor.proofs.AroundLaws.{length-slot_sets}
 use Rattle.edit_ops.specs.Insertions.{slots_or, inserted_text, inserted_texts, total, total_bytes, needs_shared}
 use Rattle.edit_ops.specs.Insertions.{IsBetween}
@@ -391,3 +394,18 @@ put-in keeps draft new content anchors shared behind len at pieces made is goes 
 pub behind-is : (at : ℕ) (cells : List Cell) (slots : Slots) → slice_get (slot_sets cells) at ≡ Some slots →
     get_or (slot_sets cells) at set.empty ≡ slots
 behind-is at cells slots found = get_or_from_slice_get (slot_sets cells) at slots set.empty found
+
+-- what the cells before one place and at another share
+pub around-is : (from to : ℕ) (cells : List Cell) (behind : Slots) → slice_get (slot_sets cells) to ≡ Some behind →
+    slots_around from to cells ≡ set.intersection (slots_behind from cells) behind
+around-is zero to cells behind is =
+    set.same_set nat_cmp_total set.nat_cmp-IsAntisymmetric _ _ (λ q.
+    set.contains-empty nat_cmp q
+    ∙ sym (set.contains-intersection nat_cmp_total set.empty behind q
+    ∙ ap (λ b. b && set.contains behind q) (set.contains-empty nat_cmp q)))
+around-is (suc n) to cells behind is =
+    let before : suc n - 1 ≡ n = omega arith in
+    let some : (suc n == 0) ≡ false = grind (arith, nat_tests) in
+    ap (λ b. if b then set.empty else set.intersection (get_or (slot_sets cells) (suc n - 1) set.empty)
+    (get_or (slot_sets cells) to set.empty)) some
+    ∙ ap₂ set.intersection (ap (λ k. get_or (slot_sets cells) k set.empty) before) (behind-is to cells behind is)

@@ -9,7 +9,7 @@ use Rattle.text_model.specs.declared.cells.Cell.{Cell}
 use Rattle.text_model.specs.declared.edits.Step.TheVariants.{PutMark}
 use Rattle.text_model.specs.declared.places.Place.{Place}
 use Rattle.text_model.specs.declared.places.MarkNo.{MarkNo}
-use Rattle.text_model.specs.Content.{Content, Slots, slot_sets}
+use Rattle.text_model.specs.Content.{Content, Slots, slot_sets, slots_behind}
 use Rattle.text_model.specs.Splices.{removed}
 use Rattle.text_model.specs.Steps.{Fits, after}
 use Rattle.text_model.proofs.SpliceLaws.{length-removed, map-removed, get_or-removed_before, get_or-removed_behind}
@@ -22,7 +22,7 @@ use Rattle.edit_ops.specs.Insertions.{inserted_texts, total, IsBetween}
 use Rattle.edit_ops.specs.Removals.{clipped, with_mark, removed_span, replaced_span}
 use Rattle.edit_ops.specs.States.{State, Draft, drafted}
 use Rattle.text_cursor.proofs.AroundLaws.{length-slot_sets}
-use Rattle.edit_ops.proofs.InsertLaws.{behind-is}
+use Rattle.edit_ops.proofs.InsertLaws.{around-is, behind-is}
 
 around-removed : (from to : ℕ) (cells : List Cell) → from ≤ to → to < length cells
     → slots_around from from (removed from to cells) ≡ slots_around from to cells
@@ -45,21 +45,22 @@ around-removed from to cells ordered within =
     ] refl
 
 -- what stands around a span that was taken out
-pub between-removed : (matters : Bool) (shared behind : Slots) (len from to : ℕ) (cells now : List Cell) →
+pub between-removed : (matters : Bool) (before behind : Slots) (len from to : ℕ) (cells now : List Cell) →
     now ≡ removed from to cells → from ≤ to → to < length cells → len ≡ length cells - (to - from)
-    → (matters ≡ true → shared ≡ slots_around from to cells) →
-    (matters ≡ true → slice_get (slot_sets cells) to ≡ Some behind) → IsBetween matters shared behind len from now
-between-removed matters shared behind len from to cells now now_is ordered within counted shared_is behind_is =
+    → (matters ≡ true → before ≡ slots_behind from cells) →
+    (matters ≡ true → slice_get (slot_sets cells) to ≡ Some behind) → IsBetween matters (set.intersection before behind) behind len from now
+between-removed matters before behind len from to cells now now_is ordered within counted before_is behind_is =
     let sets = slot_sets cells in
     let long : length sets ≡ length cells = length-slot_sets cells in
-    subst (IsBetween matters shared behind len from) (sym now_is) (record {
+    subst (IsBetween matters (set.intersection before behind) behind len from) (sym now_is) (record {
       counted = let h = length-removed from to cells ordered (omega arith) in omega (arith, h, counted);
       within = omega (arith, counted);
       after = λ on. ap (λ xs. get_or xs from set.empty) (map-removed (λ (cell : Cell). cell.tags) from to cells)
           ∙ get_or-removed_behind from to sets from set.empty (omega (arith, long)) ordered (omega arith)
           ∙ ap (λ k. get_or sets k set.empty) (let e : from + (to - from) ≡ to = omega arith in e)
           ∙ behind-is to cells behind (behind_is on);
-      around = λ on. around-removed from to cells ordered within ∙ sym (shared_is on);
+      around = λ on. around-removed from to cells ordered within ∙ around-is from to cells behind (behind_is on)
+          ∙ ap (λ s. set.intersection s behind) (sym (before_is on));
     })
 
 clipped-within : (from to count : ℕ) (old place : Place) → clipped from to count old ≡ Some place →

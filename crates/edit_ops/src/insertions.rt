@@ -1,13 +1,13 @@
 ghost use Rattle.std.specs.Prelude.{◌≡◌, ◌≢◌, ◌+◌, ◌<◌, ◌≤◌, ◌^◌, ◌↔◌, ◌-◌, nat_lt, min, length, OnOk, IfOk, Err};
-ghost use Rattle.std.specs.Prelude.{true, false, ℕ, Some, slice_get};
+ghost use Rattle.std.specs.Prelude.{true, false, Some, slice_get};
+ghost use Rattle.std.specs.FinSet as set;
 ghost use Rattle.std.specs.List.{All};
 ghost use Rattle.edit_ops.specs.Anchors.{AnchorsStand};
 ghost use Rattle.edit_ops.specs.Insertions.{inserted_texts, needs_shared, slots_or, total, total_bytes, IsBetween};
 ghost use Rattle.edit_ops.specs.Plans.{planned, HasRoom};
 ghost use Rattle.edit_ops.specs.declared.plans.Recording.{Recording};
 ghost use Rattle.edit_ops.specs.States.{State, Log, log_of, state_of, state_in, drafted, IsUnchanged};
-ghost use Rattle.text_cursor.specs.Around.{slots_around};
-ghost use Rattle.text_model.specs.Content.{slot_sets};
+ghost use Rattle.text_model.specs.Content.{slot_sets, slots_behind};
 ghost use Rattle.text_model.specs.Steps.{Fits, after};
 
 use crate::drafts::Draft;
@@ -61,17 +61,15 @@ pub fn is_too_long(limits: &Limits, len: usize, pieces: &[Piece]) -> bool
     len.saturating_add(total_of(pieces)) > most
 }
 
-/// The slots that the character before an offset shares with the one at another offset, which has those of a set; none
-/// at the start.
-fn shared_around<S: TextStore>(store: &S, from: usize, behind: TagSet) -> TagSet
-    requires within { from < length (S.content store.now).cells }
-    ensures { (to : ℕ) → slice_get (slot_sets (S.content store.now).cells) to ≡ Some behind →
-        result ≡ slots_around from to (S.content store.now).cells }
+/// The slots of the character before an offset; none at the start.
+fn slots_before<S: TextStore>(store: &S, offset: usize) -> TagSet
+    requires within { offset ≤ length (S.content store.now).cells }
+    ensures { result ≡ slots_behind offset (S.content store.now).cells }
 {
-    if from == 0 {
+    if offset == 0 {
         return TagSet::empty();
     }
-    store.tags_at(from - 1).common(&behind)
+    store.tags_at(offset - 1)
 }
 
 /// Whether a text has no slots of its own.
@@ -86,8 +84,8 @@ pub fn needs_shared(pieces: &[Piece]) -> bool
     false
 }
 
-/// The slots that the character before an offset shares with the one at another offset, and those of that one, where
-/// they are needed, and else none.
+/// The slots of the character before an offset, none at the start, and those of the one at another offset, where they
+/// are needed, and else none.
 pub fn slots_beside<S: TextStore>(
     store: &S,
     from: usize,
@@ -96,39 +94,38 @@ pub fn slots_beside<S: TextStore>(
 ) -> (TagSet, TagSet)
     requires ordered { from ≤ to }
     requires within { to < length (S.content store.now).cells }
-    ensures shared { needed ≡ true → result.0 ≡ slots_around from to (S.content store.now).cells }
+    ensures before { needed ≡ true → result.0 ≡ slots_behind from (S.content store.now).cells }
     ensures behind { needed ≡ true → slice_get (slot_sets (S.content store.now).cells) to ≡ Some result.1 }
 {
     if !needed {
         return (TagSet::empty(), TagSet::empty());
     }
     if from == to {
-        let (before, behind) = store.tags_around(to);
-        return (before.common(&behind), behind);
+        return store.tags_around(to);
     }
-    let behind = store.tags_at(to);
-    (shared_around(store, from, behind), behind)
+    (slots_before(store, from), store.tags_at(to))
 }
 
-fn slots_or(slots: Option<TagSet>, shared: TagSet) -> TagSet
-    ensures { result ≡ slots_or slots shared }
+/// The slots of a list, or without a list those that the characters on both sides share.
+fn slots_or(slots: Option<TagSet>, before: &TagSet, behind: &TagSet) -> TagSet
+    ensures { result ≡ slots_or slots (set.intersection before.now behind.now) }
 {
     match slots {
-        None => shared,
+        None => before.common(behind),
         Some(slots) => slots,
     }
 }
 
 impl Draft {
     /// Puts texts in at an offset of a text of so many characters, each right behind the one before it, with the texts
-    /// of the actions where these are to be kept. The characters on both sides of the offset share some slots, and the
-    /// one behind it has others too, which matters where a text has no slots of its own. Where the last text ends.
+    /// of the actions where these are to be kept. The characters before the offset and behind it have these slots, and
+    /// a text that has none of its own gets those that they share. Where the last text ends.
     pub fn insert_pieces(
         &mut self,
         at: usize,
         pieces: Vec<Piece>,
-        shared: TagSet,
-        behind: TagSet,
+        before: TagSet,
+        behind: &TagSet,
         len: usize,
         keeps: bool,
     ) -> Result<usize, AllocError>
@@ -140,7 +137,8 @@ impl Draft {
         ensures makes { OnOk result ((recording : Recording) (kind : EditKind) (state : State) →
             (recording.undo ≡ true → keeps ≡ true) →
             Fits self.old.steps state.content →
-            IsBetween (needs_shared pieces.items) shared behind len at (after self.old.steps state.content).cells →
+            IsBetween (needs_shared pieces.items) (set.intersection before behind.now) behind.now len at
+            (after self.old.steps state.content).cells →
             Fits self.new.steps state.content
             × (length (after self.new.steps state.content).cells ≡ len + total pieces.items) ×
             (drafted recording kind self.new state
@@ -148,16 +146,15 @@ impl Draft {
     {
         let mut at = at;
         let mut len = len;
-        let mut shared = shared;
+        let mut slots = before;
         for piece in pieces {
             let count = count_of(&piece.text);
             if count > 0 {
-                let slots = slots_or(piece.slots, shared);
+                slots = slots_or(piece.slots, &slots, behind);
                 let kept = self.kept_copy(&piece.text, keeps)?;
                 self.insert(at, piece.text, kept, slots, count, len)?;
                 at += count;
                 len += count;
-                shared = slots.common(&behind);
             }
         }
         Ok(at)
@@ -185,8 +182,8 @@ fn draft_insert<S: TextStore>(
 {
     let mut draft = Draft::new(alloc, text, pieces.len())?;
     let store = &text.store;
-    let (shared, behind) = slots_beside(store, at, at, needs_shared(&pieces));
-    draft.insert_pieces(at, pieces, shared, behind, store.len(), keeps)?;
+    let (before, behind) = slots_beside(store, at, at, needs_shared(&pieces));
+    draft.insert_pieces(at, pieces, before, &behind, store.len(), keeps)?;
     Ok(draft)
 }
 

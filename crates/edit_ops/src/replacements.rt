@@ -6,7 +6,6 @@ ghost use Rattle.edit_ops.specs.Removals.{clipped, removed_span, replaced_span, 
 ghost use Rattle.edit_ops.specs.Plans.{planned, HasRoom};
 ghost use Rattle.edit_ops.specs.declared.plans.Recording.{Recording};
 ghost use Rattle.edit_ops.specs.States.{Log, log_of, state_of, state_in, drafted, IsUnchanged};
-ghost use Rattle.text_model.specs.Content.{characters};
 ghost use Rattle.text_model.specs.Splices.{removed};
 ghost use Rattle.text_model.specs.Steps.{Fits, after};
 
@@ -97,8 +96,8 @@ fn draft_replace<S: TextStore>(
     let mut draft = draft_removal(alloc, text, from, to, pieces.len() + 2, keeps)?;
     let store = &text.store;
     let len = store.len() - (to - from);
-    let (shared, behind) = slots_beside(store, from, to, needs_shared(&pieces));
-    let end = draft.insert_pieces(from, pieces, shared, behind, len, keeps)?;
+    let (before, behind) = slots_beside(store, from, to, needs_shared(&pieces));
+    let end = draft.insert_pieces(from, pieces, before, &behind, len, keeps)?;
     match clipped(store.mark_place(mark), from, to, end - from) {
         None => {}
         Some(place) => draft.put_mark(mark, place)?,

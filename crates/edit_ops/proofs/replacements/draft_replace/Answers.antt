@@ -18,11 +18,11 @@ returns-clause-fits g c =
     let content = g.S.TextStore.content c.args.text.now.store in
     let on : needs_shared c.args.pieces.items ≡ true → c.needs_shared.result ≡ true = λ some.
     c.needs_shared.ensures ∙ ap needs_shared c.deref.ensures.value ∙ some in
-    let is = between-removed (needs_shared c.args.pieces.items) c.slots_beside-shared.result.0
-    c.slots_beside-shared.result.1 (c.len-2.result - (c.args.to - c.args.from)) c.args.from c.args.to content.cells _
+    let is = between-removed (needs_shared c.args.pieces.items) c.slots_beside-before.result.0
+    c.slots_beside-before.result.1 (c.len-2.result - (c.args.to - c.args.from)) c.args.from c.args.to content.cells _
     c.in_ok-draft.ensures.cells c.requires.ordered c.requires.within (ap (λ n. n - (c.args.to - c.args.from)) c.len-2.ensures)
-    (λ some. c.slots_beside-shared.ensures.shared (on some))
-    (λ some. c.slots_beside-shared.ensures.behind (on some)) in
+    (λ some. c.slots_beside-before.ensures.before (on some))
+    (λ some. c.slots_beside-before.ensures.behind (on some)) in
     let made = c.in_ok-end.ensures.makes (record { undo = false; separators = false }) Replace
     (state_of content c.args.text.now.anchors.items (record { history = no_history; modified = unmodified; most = 0 }))
     (λ on. absurd (cc)) c.in_ok-draft.ensures.fits is in
@@ -49,11 +49,11 @@ returns-clause-makes g c = λ recording log keeping.
     let state = state_of content c.args.text.now.anchors.items log in
     let on : needs_shared c.args.pieces.items ≡ true → c.needs_shared.result ≡ true = λ some.
     c.needs_shared.ensures ∙ ap needs_shared c.deref.ensures.value ∙ some in
-    let is = between-removed (needs_shared c.args.pieces.items) c.slots_beside-shared.result.0
-    c.slots_beside-shared.result.1 (c.len-2.result - (c.args.to - c.args.from)) c.args.from c.args.to content.cells _
+    let is = between-removed (needs_shared c.args.pieces.items) c.slots_beside-before.result.0
+    c.slots_beside-before.result.1 (c.len-2.result - (c.args.to - c.args.from)) c.args.from c.args.to content.cells _
     c.in_ok-draft.ensures.cells c.requires.ordered c.requires.within (ap (λ n. n - (c.args.to - c.args.from)) c.len-2.ensures)
-    (λ some. c.slots_beside-shared.ensures.shared (on some))
-    (λ some. c.slots_beside-shared.ensures.behind (on some)) in
+    (λ some. c.slots_beside-before.ensures.before (on some))
+    (λ some. c.slots_beside-before.ensures.behind (on some)) in
     let made = c.in_ok-end.ensures.makes recording Replace state keeping c.in_ok-draft.ensures.fits is in
     let clip : c.clipped.result ≡ option_and_then (clipped c.args.from c.args.to (total c.args.pieces.items))
     (finite.get content.marks c.args.mark.0) =

@@ -1,4 +1,5 @@
 use Rattle.std.proofs.Common.{◌≡◌, [], ap, sym, ◌∙◌, arith}
+use Rattle.std.specs.FinSet as set
 use Rattle.std.proofs.lemmas.List.{nil_from_length}
 use Rattle.edit_ops.specs.Insertions.{inserted_texts, total}
 use Rattle.edit_ops.specs.States.{drafted}
@@ -7,35 +8,43 @@ use Rattle.edit_ops.proofs.drafts.Draft.insert_pieces.Goals as goal
 
 pub loop-piece-init : goal.loop-piece-init
 loop-piece-init c =
-    inserting-first c.args.keeps c.args.self.now c.args.at c.args.len c.args.shared c.args.behind c.args.pieces.items _
+    let around = set.intersection c.args.before c.args.behind.now in
+    inserting-first c.args.keeps c.args.self.now c.args.at c.args.len around c.args.behind.now c.args.pieces.items _
     c.into_iter-piece-iterator.ensures.into_iter_gives.0 c.requires.within c.requires.stand c.requires.fits
 
 pub insert-requires-clause-fits : goal.insert-requires-clause-fits
 insert-requires-clause-fits c =
-    (piece-fits c.args.keeps c.args.self.now c.loop-piece.self c.args.at c.args.len c.args.shared c.args.pieces.items
-    c.loop-piece.at c.loop-piece.len c.count_of-count.result c.loop-piece.shared c.args.behind c.in-Some.piece _ _
+    let around = set.intersection c.args.before c.args.behind.now in
+    let shared = set.intersection c.loop-piece.slots c.args.behind.now in
+    (piece-fits c.args.keeps c.args.self.now c.loop-piece.self c.args.at c.args.len around c.args.pieces.items
+    c.loop-piece.at c.loop-piece.len c.count_of-count.result shared c.args.behind.now c.in-Some.piece _ _
     c.loop-piece.invariant c.in-Some.ensures.steps.0 c.count_of-count.ensures).0
 
 pub overflow_add-at : goal.overflow_add-at
 overflow_add-at c =
-    let fits = (piece-fits c.args.keeps c.args.self.now c.loop-piece.self c.args.at c.args.len c.args.shared
-    c.args.pieces.items c.loop-piece.at c.loop-piece.len c.count_of-count.result c.loop-piece.shared c.args.behind
+    let around = set.intersection c.args.before c.args.behind.now in
+    let shared = set.intersection c.loop-piece.slots c.args.behind.now in
+    let fits = (piece-fits c.args.keeps c.args.self.now c.loop-piece.self c.args.at c.args.len around
+    c.args.pieces.items c.loop-piece.at c.loop-piece.len c.count_of-count.result shared c.args.behind.now
     c.in-Some.piece _ _ c.loop-piece.invariant c.in-Some.ensures.steps.0 c.count_of-count.ensures) in
     omega (arith, fits.1)
 
 pub loop-piece-preserved-then-count-gt0 : goal.loop-piece-preserved-then-count-gt0
 loop-piece-preserved-then-count-gt0 c =
-    rw c.common-shared.ensures
-    (inserting-count c.args.keeps c.args.self.now c.loop-piece.self c.insert.new.self c.args.at c.args.len
-    c.args.shared c.args.pieces.items c.loop-piece.at c.loop-piece.len c.count_of-count.result c.loop-piece.shared
-    c.args.behind c.slots_or-slots.result c.in-Some.piece c.in_ok-kept.kept c.next.new.self.rest.items _
+    let around = set.intersection c.args.before c.args.behind.now in
+    let shared = set.intersection c.loop-piece.slots c.args.behind.now in
+    inserting-count c.args.keeps c.args.self.now c.loop-piece.self c.insert.new.self c.args.at c.args.len
+    around c.args.pieces.items c.loop-piece.at c.loop-piece.len c.count_of-count.result shared
+    c.args.behind.now c.slots_or-slots.result c.in-Some.piece c.in_ok-kept.kept c.next.new.self.rest.items _
     c.loop-piece.invariant c.in-Some.ensures.steps.0 c.count_of-count.ensures c.if-count-gt0.true
-    c.slots_or-slots.ensures c.in_ok-kept.ensures c.in_ok-insert.ensures)
+    c.slots_or-slots.ensures c.in_ok-kept.ensures c.in_ok-insert.ensures
 
 pub loop-piece-preserved : goal.loop-piece-preserved
 loop-piece-preserved c =
-    inserting-none c.args.keeps c.args.self.now c.loop-piece.self c.args.at c.args.len c.args.shared
-    c.args.pieces.items c.loop-piece.at c.loop-piece.len c.loop-piece.shared c.args.behind c.in-Some.piece
+    let around = set.intersection c.args.before c.args.behind.now in
+    let shared = set.intersection c.loop-piece.slots c.args.behind.now in
+    inserting-none c.args.keeps c.args.self.now c.loop-piece.self c.args.at c.args.len around
+    c.args.pieces.items c.loop-piece.at c.loop-piece.len shared c.args.behind.now c.in-Some.piece
     c.next.new.self.rest.items _ c.loop-piece.invariant c.in-Some.ensures.steps.0
     (omega (arith, c.if-count-gt0.false, c.count_of-count.ensures))
 
