@@ -4,9 +4,10 @@
     python3 tools/bench_counts.py --program PATH --out FILE [--sizes 5000,100000] [--only WORD]
 
 Needs valgrind, whose callgrind counts instructions, which don't swing with the machine. Each kind is run twice for each
-size: once the text alone, and once the text with some commands behind it; what the second run takes more is shared
-out among these commands. The table is written to FILE. The exit status is 1 if a kind grows by more than a third from
-one size to the next.
+size: once the text with the first of some commands behind it, and once with all of them; what the second run takes more
+is shared out among the others. The first may clean up after the text was made: the C library's allocator gathers then
+what was freed. The table is written to FILE, and below it each first command that takes ten times what another does.
+The exit status is 1 if a kind grows by more than a third from one size to the next.
 """
 
 import argparse
@@ -19,6 +20,7 @@ from typing import NamedTuple
 
 COMMANDS = 400
 GROWTH_GOAL = 4 / 3
+FIRST_FACTOR = 10
 LINE = "a lazy dog, and\n"
 MARKS = 1_000
 VIEW_LINES = 10
@@ -142,35 +144,56 @@ def count(program, text, folder):
     return int(found.group(1))
 
 
-def per_command(program, size, kind, folder):
-    """The instructions that one of the commands takes."""
+class Cost(NamedTuple):
+    """The instructions of the first of some commands, and of each other."""
+
+    first: float
+    each: float
+
+
+def cost(program, size, kind, folder):
+    """What the commands of a kind take on a text of so many lines."""
     commands = kind.commands(size)
-    whole = count(program, script(size, kind, commands), folder)
-    return (whole - count(program, script(size, kind, []), folder)) / len(commands)
+    none, one, all_of_them = (count(program, script(size, kind, commands[:some]), folder) for some in (0, 1, len(commands)))
+    return Cost(one - none, (all_of_them - one) / (len(commands) - 1))
 
 
-def row(name, counts):
+def row(name, costs):
     """One row of the table: a count for each size, and how it grows."""
-    growth = counts[-1] / counts[0]
+    growth = costs[-1].each / costs[0].each
     verdict = "met" if growth <= GROWTH_GOAL else "MISSED"
-    return f"{name:<28}" + "".join(f"{number:>12.0f}" for number in counts) + f"{growth:>9.2f}  {verdict}"
+    return f"{name:<28}" + "".join(f"{cost.each:>12.0f}" for cost in costs) + f"{growth:>9.2f}  {verdict}"
+
+
+def firsts(costs_by_name, sizes):
+    """A line for each kind whose first command takes ten times what another does, by size."""
+    return [
+        f"{name}, the first on a text of {size:,} lines: {cost.first:,.0f}"
+        for name, costs in costs_by_name.items()
+        for size, cost in zip(sizes, costs)
+        if cost.first > FIRST_FACTOR * cost.each
+    ]
 
 
 def measure(program, sizes, kinds):
     """The table's lines."""
     lines = [
         "Instructions of a command (callgrind) on texts of so many lines of 16 characters, with its answer and the",
-        "reading of its words; and how they grow from one size to the other (goal: by at most a third).",
+        "reading of its words, but for the first one; and how they grow from one size to the other (goal: by at most a",
+        "third).",
         "",
         f"{'command':<28}" + "".join(f"{size:>12,}" for size in sizes) + f"{'growth':>9}",
     ]
     print("\n".join(lines), flush=True)
+    costs_by_name = {}
     with tempfile.TemporaryDirectory() as folder:
         for kind in kinds:
-            line = row(kind.name, [per_command(program, size, kind, folder) for size in sizes])
-            print(line, flush=True)
-            lines.append(line)
-    return lines
+            costs = [cost(program, size, kind, folder) for size in sizes]
+            costs_by_name[kind.name] = costs
+            lines.append(row(kind.name, costs))
+            print(lines[-1], flush=True)
+    below = firsts(costs_by_name, sizes)
+    return lines + ([""] + below if below else [])
 
 
 def main():
