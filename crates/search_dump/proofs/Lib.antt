@@ -5,7 +5,6 @@ pub mod DumpLaws
 pub mod DumpRows
 pub mod EndLaws
 pub mod FirstLaws
-pub mod FoldLaws
 pub mod LineStops
 pub mod ListedLaws
 pub mod MarkLaws

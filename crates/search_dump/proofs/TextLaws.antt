@@ -110,7 +110,7 @@ bytes_before-least cs n m least within =
     ]
 
 -- ASCII is folded by its small letters
-pub folds-ascii : (bs : List ℕ) → IsAscii bs → map to_ascii_lowercase bs ≡ map simple_fold bs
+folds-ascii : (bs : List ℕ) → IsAscii bs → map to_ascii_lowercase bs ≡ map simple_fold bs
 folds-ascii [] ascii = refl
 folds-ascii (b ∷ bs) ascii =
     ap₂ (λ c cs. c ∷ cs) (sym (simple_fold-ascii b (ascii 0))) (folds-ascii bs (λ i. ascii (suc i)))
@@ -121,3 +121,7 @@ lower-folds old new ascii is =
     ap chars is ∙ chars-IsAscii (map to_ascii_lowercase old)
     (IsAscii-map to_ascii_lowercase old lowercase_ascii ascii) ∙ folds-ascii old ascii
     ∙ ap (map simple_fold) (sym (chars-IsAscii old ascii))
+
+-- an ASCII text has as many characters as bytes
+pub ascii_count : (bytes : List ℕ) → IsAscii bytes → length bytes ≡ length (chars bytes)
+ascii_count bytes ascii = ap length (sym (chars-IsAscii bytes ascii))

@@ -1,6 +1,4 @@
-ghost use Rattle.std.specs.Prelude.{◌≡◌, ◌+◌, ◌++◌, chars, encode_utf8_all, find, length, map, reverse, string_bytes};
-ghost use Rattle.std.specs.Prelude.{IfOk, IfSome, OnOk};
-ghost use Rattle.std.specs.Char.{to_ascii_lowercase};
+ghost use Rattle.std.specs.Prelude.{◌≡◌, ◌+◌, chars, find, length, map, reverse, string_bytes, IfOk, IfSome};
 ghost use Rattle.ucd_case.specs.CaseFolding.{simple_fold};
 ghost use Rattle.std.specs.Option.{ForSome};
 ghost use Rattle.std.specs.Str.{IsAscii};
@@ -10,9 +8,6 @@ ghost use Rattle.search_dump.specs.Stretches.{ordered, IsPeriod};
 use std::alloc::{AllocError, Global};
 use text_index::Direction;
 use unicode::case::simple_fold;
-
-/// How many bytes of a text are folded at once, or a few more, up to where a character ends.
-const PIECE: usize = 32;
 
 /// The simple fold of a character. The tables are asked for one that isn't ASCII alone.
 fn fold_of(character: char) -> char
@@ -24,53 +19,15 @@ fn fold_of(character: char) -> char
     simple_fold(character)
 }
 
-/// Appends the simple fold of each character.
-fn push_folds(folds: &mut String, text: &str) -> Result<(), AllocError>
-    ensures { OnOk result (string_bytes folds.new
-        ≡ string_bytes folds.old ++ encode_utf8_all (map simple_fold (chars text.now))) }
-{
-    for character in text.chars() {
-        folds.push(fold_of(character))?;
-    }
-    Ok(())
-}
-
-/// Appends the simple fold of each character of a piece that has no capital ASCII letter: at once, if it is ASCII.
-#[tactic(auto, using(crate::proofs::FoldLaws::pushed_piece))]
-fn push_piece(folds: &mut String, piece: &str) -> Result<(), AllocError>
-    requires { map to_ascii_lowercase piece.now ≡ piece.now }
-    ensures { OnOk result (string_bytes folds.new
-        ≡ string_bytes folds.old ++ encode_utf8_all (map simple_fold (chars piece.now))) }
-{
-    if piece.is_ascii() {
-        folds.push_str(piece)?;
-        return Ok(());
-    }
-    push_folds(folds, piece)
-}
-
-/// The simple fold of each character of a text that has no capital ASCII letter, piece by piece.
-fn folded_pieces(alloc: Global, text: &str) -> Result<String, AllocError>
-    requires { map to_ascii_lowercase text.now ≡ text.now }
+/// The simple fold of each character.
+fn folded(alloc: Global, text: &str) -> Result<String, AllocError>
     ensures { IfOk result (λ folds. chars (string_bytes folds) ≡ map simple_fold (chars text.now)) }
 {
     let mut folds = String::with_capacity(alloc, text.len())?;
-    let mut rest = text;
-    while !rest.is_empty() {
-        let (piece, behind) = rest.split_at(rest.ceil_char_boundary(PIECE.min(rest.len())));
-        push_piece(&mut folds, piece)?;
-        rest = behind;
+    for character in text.chars() {
+        folds.push(fold_of(character))?;
     }
     Ok(folds)
-}
-
-/// The simple fold of each character.
-fn folded(text: String) -> Result<String, AllocError>
-    ensures { IfOk result (λ folds. chars (string_bytes folds) ≡ map simple_fold (chars (string_bytes text))) }
-{
-    let mut text = text;
-    text.make_ascii_lowercase();
-    folded_pieces(*text.allocator(), text.as_str())
 }
 
 /// The simple fold of each character of a text that is ASCII, in its place.
@@ -93,7 +50,7 @@ pub fn compared(text: String, ignores_case: bool) -> Result<String, AllocError>
     if text.as_str().is_ascii() {
         return Ok(lowered(text));
     }
-    folded(text)
+    folded(*text.allocator(), text.as_str())
 }
 
 /// The least distance, if it is about half of a pattern at most, at which a second match may begin in one: the
@@ -158,7 +115,7 @@ impl<'a> Pattern<'a> {
 }
 
 /// How many characters a text has. Those of an ASCII text needn't be counted.
-#[tactic(auto, using(crate::proofs::FoldLaws::ascii_count))]
+#[tactic(auto, using(crate::proofs::TextLaws::ascii_count))]
 fn count(text: &str) -> usize
     ensures { result ≡ length (chars text.now) }
 {

@@ -1,23 +1,29 @@
-use Rattle.std.proofs.Common.{◌≡◌, ap, chars, map, string_bytes, subst, sym, ◌∙◌}
-use Rattle.std.specs.Char.{to_ascii_lowercase}
-use Rattle.std.proofs.lemmas.Result.{IfOk-weaker}
-use Rattle.std.proofs.lemmas.Str.{IsUtf8-string_bytes}
+use Rattle.std.proofs.Common.{length, chars, string_bytes, map, sym, ap, ◌∙◌, encode_utf8_all, arith}
+use Rattle.std.proofs.lemmas.Iterator.{YieldsList-from_chars}
+use Rattle.std.proofs.lemmas.Iterator.Consumers.{YieldsList-turn, YieldsList-end}
+use Rattle.std.proofs.lemmas.List.{length_push, take_all}
+use Rattle.std.proofs.lemmas.Str.{chars_from_encodes, IsUtf8-string_bytes}
 use Rattle.ucd_case.specs.CaseFolding.{simple_fold}
-use Rattle.search_dump.proofs.FoldLaws.{lowered-folds, lows-low}
+use Rattle.search_dump.proofs.TextLaws.{folded-more}
 use Rattle.search_dump.proofs.patterns.folded.Goals as goal
 
-pub folded_pieces-requires : goal.folded_pieces-requires
-folded_pieces-requires c =
-    subst (λ bytes. map to_ascii_lowercase bytes ≡ bytes)
-    (sym (c.as_str.ensures.value ∙ c.make_ascii_lowercase.ensures.bytes)) (lows-low (string_bytes c.args.text))
+pub loop-character-init : goal.loop-character-init
+loop-character-init c = c.in_ok-folds.ensures.bytes
+
+pub loop-character-preserved : goal.loop-character-preserved
+loop-character-preserved c =
+    let t = YieldsList-turn (YieldsList-from_chars c.args.text.now c.utf8.text cc) c.loop-character.yielded _
+    c.loop-character.yielded_by _ _ c.in-Some.character c.in-Some.is c.next.ensures.steps in
+    folded-more (chars c.args.text.now) (length c.loop-character.yielded) _ c.in-Some.character c.fold_of.result _ _
+    t
+    (length_push c.loop-character.yielded c.in-Some.character) c.fold_of.ensures c.loop-character.invariant
+    c.in_ok-push.ensures.bytes
 
 pub returns : goal.returns
 returns c =
-    let made = string_bytes c.make_ascii_lowercase.new.self in
-    IfOk-weaker c.folded_pieces.result
-    (λ folds. chars (string_bytes folds) ≡ map simple_fold (chars c.as_str.result.now))
-    (λ folds. chars (string_bytes folds) ≡ map simple_fold (chars (string_bytes c.args.text)))
-    (λ folds is. is ∙ ap (λ bytes. map simple_fold (chars bytes)) c.as_str.ensures.value
-    ∙ lowered-folds (string_bytes c.args.text) made (IsUtf8-string_bytes c.args.text)
-    (IsUtf8-string_bytes c.make_ascii_lowercase.new.self) c.make_ascii_lowercase.ensures.bytes)
-    c.folded_pieces.ensures
+    let t = YieldsList-end (YieldsList-from_chars c.args.text.now c.utf8.text cc) c.loop-character.yielded _
+    c.loop-character.yielded_by _ _ c.in-None.is c.next.ensures.steps in
+    sym (chars_from_encodes (map simple_fold (chars c.args.text.now)) (string_bytes c.loop-character.folds)
+    (IsUtf8-string_bytes c.loop-character.folds)
+    (sym (c.loop-character.invariant ∙ ap (λ cs. encode_utf8_all (map simple_fold cs))
+    (take_all (length c.loop-character.yielded) (chars c.args.text.now) (omega (arith, t.1))))))

@@ -1,8 +1,0 @@
-use Rattle.std.proofs.Common.{◌≡◌, ◌++◌, chars, encode_utf8_all, length, map, string_bytes, take}
-use Rattle.ucd_case.specs.CaseFolding.{simple_fold}
-use Rattle.search_dump.proofs.patterns.push_folds.Given as goal
-
-abbrev pub invariant-loop-character : goal.invariant-loop-character
-invariant-loop-character l =
-    string_bytes l.folds
-    ≡ string_bytes l.fn.folds ++ encode_utf8_all (map simple_fold (take (length l.yielded) (chars l.text)))
