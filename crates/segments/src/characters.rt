@@ -26,7 +26,7 @@ impl Model for Characters {
 
 /// A copy of a text that has characters has room for so many bytes more: it is made to be changed, mostly by a few
 /// characters.
-const MORE: usize = 32;
+const MORE: usize = 8;
 
 /// How many characters a text has.
 fn count_characters(text: &str) -> usize

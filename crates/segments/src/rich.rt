@@ -28,24 +28,6 @@ use std::marker::Model;
 use text_model::{MarkNo, Place, TagSet, TagSlot, WORDS};
 use toggle_sums::Sums;
 
-/// A copy has room for the toggles of both ends of a tag, where there are any,
-const MORE_TOGGLES: usize = 2;
-
-/// and for one mark.
-const MORE_MARKS: usize = 1;
-
-/// A copy of some items with room for so many more. Of none it takes no memory.
-fn copy_with_more<T: Copy>(alloc: Global, items: &[T], more: usize) -> Result<Vec<T>, AllocError>
-    ensures { IfOk result (λ copy. copy.items ≡ items.now) }
-{
-    if items.is_empty() {
-        return Ok(Vec::new(alloc));
-    }
-    let mut copy = Vec::with_capacity(alloc, items.len().saturating_add(more))?;
-    copy.extend_from_slice(items)?;
-    Ok(copy)
-}
-
 /// A line of text with room for toggles and marks: its characters, the slots that are toggled before each of them, and
 /// the marks in it, whose places are columns. A place behind the last character is a mark's alone.
 #[derive(Drop)]
@@ -292,15 +274,15 @@ impl RichLine {
         self.text.push(from, to, text)
     }
 
-    /// A copy of the line, which can be changed a little without memory.
+    /// A copy of the line.
     pub fn try_clone(&self) -> Result<RichLine, AllocError>
         ensures { IfOk result (λ copy. copy ≡ self.now) }
     {
         Ok(RichLine {
             alloc: self.alloc,
             text: self.text.try_clone(self.alloc)?,
-            toggles: copy_with_more(self.alloc, &self.toggles, MORE_TOGGLES)?,
-            marks: copy_with_more(self.alloc, &self.marks, MORE_MARKS)?,
+            toggles: Vec::from_slice(self.alloc, &self.toggles)?,
+            marks: Vec::from_slice(self.alloc, &self.marks)?,
             reach: self.reach,
         })
     }
