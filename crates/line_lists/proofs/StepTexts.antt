@@ -84,7 +84,7 @@ toggle-swap s t zero (suc b) (column ∷ columns) = refl
 toggle-swap s t (suc a) zero (column ∷ columns) = refl
 toggle-swap s t (suc a) (suc b) (column ∷ columns) = ap (λ rest. column ∷ rest) (toggle-swap s t a b columns)
 
-toggled-swap : (a b : ℕ) (s t : Slots) (line : LineContent) →
+pub toggled-swap : (a b : ℕ) (s t : Slots) (line : LineContent) →
     with_toggled a s (with_toggled b t line) ≡ with_toggled b t (with_toggled a s line)
 toggled-swap a b s t line = λ i. record { columns = toggle-swap s t a b line.columns i; marks = line.marks }
 
@@ -139,18 +139,18 @@ inserted-made at end text slots differ old one two end_is differ_is one_is two_i
     ∙ ap (λ s. with_toggled at s (with_toggled (at + length text) s (after_text at text old))) differ_is
 
 pub tagged-made : (from to : ℕ) (slot : TagSlot) (on : Bool) (first last : Slots) (len : ℕ)
-    (old bare text : LineContent) → from ≤ to → to ≤ len → len ≡ length old.columns
+    (old bare : LineContent) → from ≤ to → to ≤ len → len ≡ length old.columns
     → (from < len → first ≡ switched (set_slot slot.0 on) from old.columns) →
     (to < len → last ≡ switched (set_slot slot.0 on) to old.columns)
-    → bare ≡ with_cleared slot.0 from to old → text ≡ with_toggled from first bare →
-    with_toggled to last text ≡ made (SetTag from to slot on) old
-tagged-made from to slot on first last len old bare text ordered within is first_is last_is bare_is text_is =
+    → bare ≡ with_cleared slot.0 from to old →
+    with_toggled to last (with_toggled from first bare) ≡ made (SetTag from to slot on) old
+tagged-made from to slot on first last len old bare ordered within is first_is last_is bare_is =
     let clear = with_cleared slot.0 from to old in
     let ends = switched (set_slot slot.0 on) to old.columns in
     let begins = switched (set_slot slot.0 on) from old.columns in
     let long = length-changed (with_toggle slot.0 false) from to old.columns ordered (omega (arith, within, is)) in
     let same = length-toggled to ends clear.columns in
-    ap (with_toggled to last) (text_is ∙ ap (with_toggled from first) bare_is) ∙ toggled-swap to from last first clear
+    ap (λ line. with_toggled to last (with_toggled from first line)) bare_is ∙ toggled-swap to from last first clear
     ∙ ap (with_toggled from first)
     (toggled-same to last ends clear (λ before. last_is (omega (arith, before, long, is))))
     ∙ toggled-same from first begins (with_toggled to ends clear) (λ before.

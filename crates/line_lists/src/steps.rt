@@ -45,6 +45,33 @@ impl<'a, L: LineList> Draft<'a, L> {
         self.toggle(offset, slots)
     }
 
+    /// Toggles slots before the characters at two offsets of a text of so many, in the order in which the draft comes
+    /// by: where its copies reach beyond the first of the two, it stands near the second.
+    fn toggle_ends(
+        &mut self,
+        from: usize,
+        to: usize,
+        first: &TagSet,
+        last: &TagSet,
+        len: usize,
+    ) -> Result<(), AllocError>
+        requires is { IsText (L.lines self.old.list.now) self.old.front.items self.old.back.items }
+        requires len { len
+            ≡ length (text_at (L.lines self.old.list.now) self.old.front.items self.old.back.items).columns }
+        ensures list { self.new.list.now ≡ self.old.list.now }
+        ensures is { OnOk result (IsText (L.lines self.new.list.now) self.new.front.items self.new.back.items) }
+        ensures new { OnOk result (text_at (L.lines self.new.list.now) self.new.front.items self.new.back.items
+            ≡ with_toggled to last.now (with_toggled from first.now
+            (text_at (L.lines self.old.list.now) self.old.front.items self.old.back.items))) }
+    {
+        if self.covered() > from {
+            self.toggle_before(to, last, len)?;
+            return self.toggle_before(from, first, len);
+        }
+        self.toggle_before(from, first, len)?;
+        self.toggle_before(to, last, len)
+    }
+
     /// The slots that are on behind the lines before that of a copy which was taken out.
     fn tags_up_to(&mut self, stop: &Stop) -> TagSet
         requires { IsTaken (L.lines self.old.list.now) self.old.front.items self.old.back.items stop.now }
@@ -184,9 +211,7 @@ impl<'a, L: LineList> Draft<'a, L> {
         let first = self.switched(from, slot, is_on, len)?;
         let last = self.switched(to, slot, is_on, len)?;
         self.clear(slot, from, to)?;
-        // In the order of the text, so that the draft doesn't go back to the first of the two.
-        self.toggle_before(from, &first, len)?;
-        self.toggle_before(to, &last, len)
+        self.toggle_ends(from, to, &first, &last, len)
     }
 
     /// Takes all slots off a character of a text of so many.

@@ -5,22 +5,19 @@ use Rattle.line_lists.specs.Drafts.{text_at}
 use Rattle.line_lists.specs.Edits.{with_cleared}
 use Rattle.line_lists.specs.Texts.{whole}
 use Rattle.line_lists.specs.Toggling.{switched}
-use Rattle.line_lists.proofs.StepTexts.{cleared-long, tagged-made, toggled-long}
+use Rattle.line_lists.proofs.StepTexts.{cleared-long, tagged-made}
 use Rattle.line_lists.proofs.drafts.Draft.set_tag.Goals as goal
 
-pub toggle_before-requires-2-clause-len : goal.toggle_before-requires-2-clause-len
-toggle_before-requires-2-clause-len g c =
+pub toggle_ends-requires-clause-len : goal.toggle_ends-requires-clause-len
+toggle_ends-requires-clause-len g c =
     let old = text_at (g.L.LineList.lines c.args.self.now.list.now) c.args.self.now.front.items
     c.args.self.now.back.items in
     let bare = text_at (g.L.LineList.lines c.clear.new.self.list.now) c.clear.new.self.front.items
     c.clear.new.self.back.items in
-    let text = text_at (g.L.LineList.lines c.toggle_before.new.self.list.now) c.toggle_before.new.self.front.items
-    c.toggle_before.new.self.back.items in
     let same = c.in_ok-last.ensures.same ∙ c.in_ok-first.ensures.same in
-    let long = cleared-long c.args.slot.0 c.args.from c.args.to old bare c.args.len c.requires.ordered c.requires.within
+    cleared-long c.args.slot.0 c.args.from c.args.to old bare c.args.len c.requires.ordered c.requires.within
     c.requires.len
-    (c.in_ok-clear.ensures.new ∙ ap (λ lines. with_cleared c.args.slot.0 c.args.from c.args.to (whole lines)) same) in
-    toggled-long c.args.from c.in_ok-first.first bare text c.args.len long c.in_ok-toggle_before.ensures.new
+    (c.in_ok-clear.ensures.new ∙ ap (λ lines. with_cleared c.args.slot.0 c.args.from c.args.to (whole lines)) same)
 
 pub returns-clause-new : goal.returns-clause-new
 returns-clause-new g c =
@@ -28,17 +25,14 @@ returns-clause-new g c =
     c.args.self.now.back.items in
     let bare = text_at (g.L.LineList.lines c.clear.new.self.list.now) c.clear.new.self.front.items
     c.clear.new.self.back.items in
-    let text = text_at (g.L.LineList.lines c.toggle_before.new.self.list.now) c.toggle_before.new.self.front.items
-    c.toggle_before.new.self.back.items in
-    let new = text_at (g.L.LineList.lines c.toggle_before-2.new.self.list.now) c.toggle_before-2.new.self.front.items
-    c.toggle_before-2.new.self.back.items in
+    let new = text_at (g.L.LineList.lines c.toggle_ends.new.self.list.now) c.toggle_ends.new.self.front.items
+    c.toggle_ends.new.self.back.items in
     let same = c.in_ok-last.ensures.same ∙ c.in_ok-first.ensures.same in
-    IfOk-equal c.toggle_before-2.result new _ _ c.toggle_before-2.ensures.new
+    IfOk-equal c.toggle_ends.result new _ _ c.toggle_ends.ensures.new
     (tagged-made c.args.from c.args.to c.args.slot c.args.is_on c.in_ok-first.first c.in_ok-last.last c.args.len old
-    bare text c.requires.ordered c.requires.within c.requires.len
+    bare c.requires.ordered c.requires.within c.requires.len
     c.in_ok-first.ensures.value
     (λ before. c.in_ok-last.ensures.value before
     ∙ ap (λ lines. switched (set_slot c.args.slot.0 c.args.is_on) c.args.to (whole lines).columns)
     c.in_ok-first.ensures.same)
-    (c.in_ok-clear.ensures.new ∙ ap (λ lines. with_cleared c.args.slot.0 c.args.from c.args.to (whole lines)) same)
-    c.in_ok-toggle_before.ensures.new)
+    (c.in_ok-clear.ensures.new ∙ ap (λ lines. with_cleared c.args.slot.0 c.args.from c.args.to (whole lines)) same))
