@@ -94,6 +94,10 @@ pub fn find_beginning(bytes: &[u8], count: usize) -> usize
     ensures begins { result < length bytes.now → begins_character (slice_index bytes.now result) ≡ true }
     ensures count { count ≤ beginnings bytes.now → beginnings (take result bytes.now) ≡ count }
 {
+    // Fewer characters than a block has bytes are found sooner one by one.
+    if count < BLOCK {
+        return next_beginning(bytes, 0, count);
+    }
     let (start, left) = skip_blocks(bytes, count);
     next_beginning(bytes, start, left)
 }
