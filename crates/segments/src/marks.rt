@@ -132,7 +132,8 @@ pub fn keep_before(marks: &mut Vec<Mark>, column: usize)
     marks.retain(|mark| mark.place.offset < column);
 }
 
-/// The marks of two texts, of which the first has so many characters.
+/// The marks of two texts, of which the first has so many characters. Room for all of them is asked for once, and no
+/// more is left than for those of a number that both have.
 pub fn joined_marks(
     alloc: Global,
     first: &[Mark],
@@ -148,7 +149,7 @@ pub fn joined_marks(
     ensures marks { IfOk result (λ marks. marks_of marks.items
         ≡ joined_marks len (marks_of first.now) (marks_of second.now)) }
 {
-    let mut marks = Vec::with_capacity(alloc, first.len())?;
+    let mut marks = Vec::with_capacity(alloc, first.len().saturating_add(second.len()))?;
     let (mut one, mut two) = (0, 0);
     while two < second.len() {
         let mark = second[two];
