@@ -218,7 +218,8 @@ impl<'a, L: LineList> Draft<'a, L> {
     }
 
     /// Where to begin to take the toggles of a slot away, from one offset on up to another: behind the characters of
-    /// the list's lines in which there are none, so that none of these is copied.
+    /// the list's lines in which there are none, so that none of these is copied. A first line with spare room isn't
+    /// passed over.
     fn first_toggled(&mut self, slot: TagSlot, from: usize, to: usize) -> usize
         requires is { IsText (L.lines self.old.list.now) self.old.front.items self.old.back.items }
         requires slot { slot.0 < slot_count }
@@ -244,6 +245,10 @@ impl<'a, L: LineList> Draft<'a, L> {
         let list = self.list;
         let (index, column, line) = self.find_line(&reached, from);
         if line.has_toggle(slot) {
+            return from;
+        }
+        // A copy gives back the room that edits left in the line.
+        if line.has_spare_room() {
             return from;
         }
         // Where the line goes on up to the end, no walk of the list is needed.

@@ -1,5 +1,6 @@
 ghost use Rattle.std.specs.Prelude.{◌≡◌, ◌+◌, ◌<◌, ◌≤◌, ◌^◌, [], ◌++◌, ℕ, List, encode_utf8, length, take, drop, chars};
 ghost use Rattle.std.specs.Prelude.{string_bytes, slice_range, slice_get, Some, IfOk, OnOk, OnErr};
+ghost use Rattle.std.specs.Prelude.{◌-◌, nat_lt, string_capacity, string_len};
 ghost use Rattle.std.specs.Str.{IsCharBoundary};
 ghost use Rattle.text_model.specs.Splices.{inserted, removed};
 
@@ -27,6 +28,13 @@ impl Model for Characters {
 /// A copy of a text that has characters has room for so many bytes more: it is made to be changed, mostly by a few
 /// characters.
 const MORE: usize = 8;
+
+/// Whether a text has room for more bytes than a copy of it.
+fn has_more_room(text: &String) -> bool
+    ensures { result ≡ nat_lt MORE (string_capacity text.now - string_len text.now) }
+{
+    text.capacity() - text.len() > MORE
+}
 
 /// How many characters a text has.
 fn count_characters(text: &str) -> usize
@@ -193,6 +201,11 @@ impl Characters {
         let _bytes = self.text.len();
         self.count += other.count;
         Ok(())
+    }
+
+    /// Whether they have more room than a copy of them, which so gives some back. The room is no part of their value.
+    pub fn has_spare_room(&self) -> bool {
+        has_more_room(&self.text)
     }
 
     /// A copy of the characters, to which a few can be added without memory. A copy of none takes none.

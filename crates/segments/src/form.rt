@@ -34,6 +34,14 @@ impl Form {
         }
     }
 
+    /// Whether there is more room than in a copy that is settled.
+    pub fn has_spare_room(&self) -> bool {
+        match self {
+            Form::Plain(text) => text.has_spare_room(),
+            Form::Rich(line) => line.has_spare_room(),
+        }
+    }
+
     /// The same with room for toggles and marks.
     fn richer(self, alloc: Global, mut room: Box<RichLine>) -> Form
         ensures rich { is_plain result ≡ false }

@@ -283,6 +283,12 @@ impl Line {
         }
     }
 
+    /// Whether edits left room in the line that is given back where it is copied and cleared of a slot, also of one
+    /// that isn't in it. The room is no part of the line's value: this tells which lines are worth that copy.
+    pub fn has_spare_room(&self) -> bool {
+        self.form.has_spare_room()
+    }
+
     /// A copy of the line.
     pub fn try_clone(&self) -> Result<Line, AllocError>
         ensures { IfOk result (λ copy. copy ≡ self.now) }

@@ -1,6 +1,6 @@
 ghost use Rattle.std.specs.Prelude.{◌≡◌, ℕ, ◌+◌, ◌++◌, ◌<◌, ◌≤◌, ◌^◌, Bool, false, true, length, map, take, slice_get};
 ghost use Rattle.std.specs.Prelude.{slice_range, Some, IfSome, IfOk, IfErr, OnOk, OnErr, chars, string_bytes};
-ghost use Rattle.std.specs.Prelude.{option_map};
+ghost use Rattle.std.specs.Prelude.{nat_lt, option_map, vec_capacity, vec_len};
 ghost use Rattle.std.specs.FinMap as finite;
 ghost use Rattle.std.specs.FinSet as set;
 ghost use Rattle.text_model.specs.declared.places.MarkNo.{MarkNo};
@@ -27,6 +27,13 @@ use std::alloc::{AllocError, AllocFailed, Global};
 use std::marker::Model;
 use text_model::{MarkNo, Place, TagSet, TagSlot, WORDS};
 use toggle_sums::Sums;
+
+/// Whether a list has room for more.
+fn has_room<T>(list: &Vec<T>) -> bool
+    ensures { result ≡ nat_lt (vec_len list.now) (vec_capacity list.now) }
+{
+    list.len() < list.capacity()
+}
 
 /// A line of text with room for toggles and marks: its characters, the slots that are toggled before each of them, and
 /// the marks in it, whose places are columns. A place behind the last character is a mark's alone.
@@ -85,6 +92,15 @@ impl RichLine {
         ensures { result ≡ true → self.now ≡ plain_line (characters self.now.columns) }
     {
         self.toggles.len() == 0 && self.marks.len() == 0
+    }
+
+    /// Whether the line has more room than it needs: any for toggles and marks where there are none, or for more of
+    /// them than there are, or for more characters than a copy of it. The room is no part of its value.
+    pub fn has_spare_room(&self) -> bool {
+        self.is_bare()
+            || has_room(&self.toggles)
+            || has_room(&self.marks)
+            || self.text.has_spare_room()
     }
 
     /// The characters alone.

@@ -1,7 +1,6 @@
 use Rattle.std.proofs.Common.{◌≡◌, ◌+◌, ◌++◌, length, sym, ap, ◌∙◌, arith, length-append}
 use Rattle.std.specs.FinMap as finite
 use Rattle.segments.specs.Columns.{joined, joined_marks, plain_columns, plain_line}
-use Rattle.segments.specs.Entries.{LieIn}
 use Rattle.segments.specs.Kept.{columns_from}
 use Rattle.segments.specs.Marks.{marks_of}
 use Rattle.segments.proofs.EntryLaws.{LieIn-wide}
