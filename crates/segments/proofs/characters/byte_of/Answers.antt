@@ -1,5 +1,6 @@
-use Rattle.std.proofs.Common.{◌≡◌, ◌≤◌, length, drop, sym, ap, ◌∙◌, arith}
+use Rattle.std.proofs.Common.{◌≡◌, ◌≤◌, length, drop, sym, ap, subst, ◌∙◌, arith}
 use Rattle.std.specs.Prelude.{chars}
+use Rattle.std.specs.Str.{IsCharBoundary}
 use Rattle.std.proofs.lemmas.List.{drop_all}
 use Rattle.std.proofs.lemmas.Str.{chars-IsAscii, chars-nil, IsAscii-drop, IsCharBoundary-end, IsCharBoundary-from_ascii}
 use Rattle.segments.proofs.TextLaws.{front_of, is_ascii}
@@ -27,11 +28,15 @@ returns-then-count-column-clause-behind c =
     let text = c.args.text.now in
     let column = c.args.column in
     let end : length (chars text) ≤ column = omega (arith, c.requires.count, c.if-count-column.true) in
-    ap chars (drop_all (length text) text (omega arith)) ∙ chars-nil ∙ sym (drop_all column (chars text) end)
+    ap chars (drop_all _ text (omega arith)) ∙ chars-nil ∙ sym (drop_all column (chars text) end)
+
+pub returns-then-count-column-clause-boundary : goal.returns-then-count-column-clause-boundary
+returns-then-count-column-clause-boundary c =
+    subst (IsCharBoundary c.args.text.now) (omega arith) (IsCharBoundary-end c.args.text.now)
 
 pub returns-then-count-column-clause-front : goal.returns-then-count-column-clause-front
 returns-then-count-column-clause-front c =
-    front_of c.args.text.now (length c.args.text.now) c.args.column c.utf8.text (IsCharBoundary-end c.args.text.now)
+    front_of c.args.text.now _ c.args.column c.utf8.text (returns-then-count-column-clause-boundary c)
     (returns-then-count-column-clause-behind c)
 
 pub returns-clause-front : goal.returns-clause-front
