@@ -23,10 +23,9 @@ use Rattle.line_tree.specs.Shrinking.{Cleans, Lowers, Removes}
 use Rattle.line_tree.specs.Trees.{lines, names}
 use Rattle.line_tree.proofs.AmongLaws.{among-cases, among-get, among-left, among-right, among-take}
 use Rattle.line_tree.proofs.LowerLaws.{branch-after, gone-of, taken-out}
-use Rattle.line_tree.proofs.LowestLaws.{lowest-below}
 use Rattle.line_tree.proofs.PlaceLaws.{linked, sits}
 use Rattle.line_tree.proofs.RowLaws.{child_is}
-use Rattle.line_tree.proofs.TreeLaws.{below-tree, child-tree, named-tree, row-tree}
+use Rattle.line_tree.proofs.TreeLaws.{child-tree, named-tree, row-tree}
 
 -- ---- the records but those of some names
 pub without-none : (m : Records) → Without m m []
@@ -50,9 +49,6 @@ names-lines m (c ∷ cs) = ap (λ zs. c ∷ zs) (names-lines m cs)
 
 pub names-low : (m : Records) (p : NodePtr) → names 1 (tree_at m 1 p) ≡ p ∷ kids m p
 names-low m p = ap (λ zs. p ∷ zs) (names-lines m (kids m p))
-
-pub lines-low : (m : Records) (p : NodePtr) → IsTree m 1 p → length (kids m p) ≡ length (lines_in m 1 p)
-lines-low m p tree = sym (lowest-below m p tree) ∙ below-tree m 0 p tree
 
 -- it is no line
 pub no-line : (m : Records) (p : NodePtr) → IsTree m 1 p → Among p (kids m p) → ⊥

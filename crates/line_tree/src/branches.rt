@@ -23,7 +23,7 @@ pub fn lines_from<C: Ticks>(store: &NodeStore<C>, line: NodePtr, ticks: &mut C) 
     let Some(node) = store.parent(line, ticks) else {
         return 0;
     };
-    store.children(node).saturating_sub(slot)
+    store.lines(node, ticks).saturating_sub(slot)
 }
 
 /// Gives back a node, and its line, if it is one.
@@ -62,7 +62,7 @@ pub fn give_back_all<C: Ticks>(store: &mut NodeStore<C>, node: NodePtr, ticks: &
     ensures rooms { rooms store.new ≡ rooms store.old + 1 }
     ensures nodes { nodes store.new ≡ nodes store.old }
 {
-    let lines = store.children(node);
+    let lines = store.lines(node, ticks);
     give_back_lines(store, node, lines, ticks);
     let_go(store, node);
     lines

@@ -4,14 +4,20 @@ use Rattle.raw_nodes.specs.Names.{records}
 use Rattle.line_tree.specs.Giving.{Without}
 use Rattle.line_tree.specs.Shape.{tree_at}
 use Rattle.line_tree.specs.Trees.{names}
-use Rattle.line_tree.proofs.GivingLaws.{lines-low, no-line, node-room, without-node}
-use Rattle.line_tree.proofs.PutLaws.{count-row}
-use Rattle.line_tree.proofs.TreeLaws.{named-tree, row-tree}
+use Rattle.line_tree.proofs.GivingLaws.{no-line, node-room, without-node}
+use Rattle.line_tree.proofs.LowestLaws.{lowest-below}
+use Rattle.line_tree.proofs.RowLaws.{lines_is}
+use Rattle.line_tree.proofs.TreeLaws.{count-tree, named-tree, whole-below}
 use Rattle.line_tree.proofs.branches.give_back_all.Goals as goal
 
+pub lines-lines-requires : goal.lines-lines-requires
+lines-lines-requires g c = named-tree (records c.args.store.now) 1 c.args.node c.requires.tree
+
 pub give_back_lines-requires-clause-all : goal.give_back_lines-requires-clause-all
-give_back_lines-requires-clause-all g c = let m = records c.args.store.now in
-    count-row m c.args.node c.children-lines.result (row-tree m 0 c.args.node c.requires.tree) c.children-lines.ensures
+give_back_lines-requires-clause-all g c = let m = records c.args.store.now in let p = c.args.node in
+    let tree = c.requires.tree in
+    lines_is m p c.lines-lines.result (named-tree m 1 p tree) c.lines-lines.ensures.value ∙ whole-below m 0 p tree
+    ∙ lowest-below m p tree
 
 pub let_go-requires : goal.let_go-requires
 let_go-requires g c = let m = records c.args.store.now in let p = c.args.node in
@@ -19,9 +25,8 @@ let_go-requires g c = let m = records c.args.store.now in let p = c.args.node in
     (named-tree m 1 p c.requires.tree)
 
 pub returns-clause-lines : goal.returns-clause-lines
-returns-clause-lines g c = let m = records c.args.store.now in let p = c.args.node in
-    count-row m p c.children-lines.result (row-tree m 0 p c.requires.tree) c.children-lines.ensures
-    ∙ lines-low m p c.requires.tree
+returns-clause-lines g c = let m = records c.args.store.now in let p = c.args.node in let tree = c.requires.tree in
+    lines_is m p c.lines-lines.result (named-tree m 1 p tree) c.lines-lines.ensures.value ∙ count-tree m 1 p tree
 
 pub returns-clause-without : goal.returns-clause-without
 returns-clause-without g c = let m = records c.args.store.now in let p = c.args.node in
