@@ -4,6 +4,7 @@ ghost use Rattle.line_tree.specs.Shape.{IsTree, lines_in};
 ghost use Rattle.raw_nodes.specs.Rows.{kids};
 ghost use Rattle.line_tree.specs.Finds.{HasRow};
 ghost use Rattle.line_tree.specs.Changes.{FitsSum};
+ghost use Rattle.line_tree.specs.Locating.{characters_at, characters_below};
 ghost use Rattle.line_tree.specs.Places.{IsLineAt, characters_before, lines_before};
 ghost use Rattle.line_tree.specs.Trees.{total};
 
@@ -75,7 +76,32 @@ pub fn rank<C: Ticks>(
     rank
 }
 
-/// How many characters the first `slot` children have.
+/// How many characters the children from one slot to another have.
+fn characters_between<C: Ticks>(
+    store: &NodeStore<C>,
+    node: NodePtr,
+    from: usize,
+    to: usize,
+    ticks: &mut C,
+) -> usize
+    requires row { HasRow (records store.now) node }
+    requires ordered { from ≤ to }
+    requires within { to ≤ 12 }
+    requires fits { characters_before (records store.now) node to < 2 ^ 64 }
+    ensures { characters_before (records store.now) node from + result ≡ characters_before (records store.now) node to }
+{
+    let mut characters = 0;
+    for i in from..to {
+        if let Some(child) = store.child(node, i, ticks) {
+            let (_, more) = store.size(child, ticks);
+            characters += more;
+        }
+    }
+    characters
+}
+
+/// How many characters the first `slot` children have, from the end of the node that is nearer: they are added up, or
+/// the others are taken off all that the node has.
 fn characters_ahead<C: Ticks>(
     store: &NodeStore<C>,
     node: NodePtr,
@@ -83,18 +109,16 @@ fn characters_ahead<C: Ticks>(
     ticks: &mut C,
 ) -> usize
     requires row { HasRow (records store.now) node }
+    requires whole { characters_at (records store.now) node ≡ characters_below (records store.now) node }
     requires within { slot ≤ length (kids (records store.now) node) }
     requires fits { characters_before (records store.now) node slot < 2 ^ 64 }
     ensures { result ≡ characters_before (records store.now) node slot }
 {
-    let mut characters = 0;
-    for i in 0..slot {
-        if let Some(child) = store.child(node, i, ticks) {
-            let (_, more) = store.size(child, ticks);
-            characters += more;
-        }
+    if slot < 6 {
+        return characters_between(store, node, 0, slot, ticks);
     }
-    characters
+    let (_, all) = store.size(node, ticks);
+    all - characters_between(store, node, slot, 12, ticks)
 }
 
 /// How many characters stand before the line with a name.

@@ -1,46 +1,29 @@
-use Rattle.std.proofs.Common.{◌+◌, ◌≤◌, take, sym, ap, ◌∙◌, arith}
+use Rattle.std.proofs.Common.{◌≡◌, ℕ, ap, sym, ◌∙◌, arith}
 use Rattle.std.specs.List.{sum_by}
-use Rattle.std.proofs.lemmas.List.{take-take}
-use Rattle.std.proofs.lemmas.List.Sums.{sum_by-take-le}
+use Rattle.std.proofs.lemmas.List.{take_all}
 use Rattle.raw_nodes.specs.Names.{records}
+use Rattle.raw_nodes.specs.Records.{Records}
 use Rattle.raw_nodes.specs.Rows.{kids}
-use Rattle.line_tree.specs.Locating.{characters_at}
-use Rattle.line_tree.proofs.RowLaws.{child_is, none_of, size_is, step_no, step_yes}
+use Rattle.raw_nodes.specs.declared.names.NodePtr.{NodePtr}
+use Rattle.line_tree.specs.Finds.{HasRow}
+use Rattle.line_tree.specs.Locating.{characters_at, characters_below}
+use Rattle.line_tree.specs.Places.{characters_before}
+use Rattle.line_tree.specs.Shape.{lines_at}
+use Rattle.line_tree.proofs.RowLaws.{size_is}
+use Rattle.line_tree.proofs.TreeLaws.{named-row}
 use Rattle.line_tree.proofs.climb.characters_ahead.Goals as goal
-use Rattle.line_tree.proofs.climb.characters_ahead.Goals.{in-Some, in_default}
 
-pub size-more-requires : goal.size-more-requires
-size-more-requires g c = let m = records c.args.store.now in
-    c.requires.row.each c.loop-i.i c.in-Some.child
-    (sym (child_is m c.args.node c.requires.row c.child.result c.loop-i.i c.child.ensures.value) ∙ c.in-Some.is)
+-- all that the node has is what all its slots have
+all-slots : (m : Records) (p : NodePtr) (size : ℕ × ℕ) → HasRow m p → characters_at m p ≡ characters_below m p →
+    size ≡ (lines_at m p, characters_at m p) → size.1 ≡ characters_before m p 12
+all-slots m p size has whole is = ap (λ (n : ℕ × ℕ). n.1) is ∙ whole
+    ∙ sym (ap (sum_by (characters_at m)) (take_all 12 (kids m p) has.few))
 
-pub overflow_add-characters : goal.overflow_add-characters
-overflow_add-characters g c =
-    let m = records c.args.store.now in let cs = kids m c.args.node in let i = c.loop-i.i in
-    let here = sym (child_is m c.args.node c.requires.row c.child.result i c.child.ensures.value) ∙ c.in-Some.is in
-    let more = step_yes (characters_at m) cs i c.in-Some.child here in
-    let size = ap (λ s. s.1) (size_is m c.in-Some.child c.size-more.result (c.requires.row.each i c.in-Some.child here)
-    c.size-more.ensures.value) in
-    let value = c.loop-i.invariant.value in let fits = c.requires.fits in let within = c.requires.within in
-    let shorter : i + 1 ≤ c.args.slot = omega (arith, c.loop-i-test.true) in
-    let part = sum_by-take-le (characters_at m) (take c.args.slot cs) (i + 1) in
-    let same = ap (sum_by (characters_at m)) (take-take (i + 1) c.args.slot cs shorter) in
-    omega arith
+pub size-all-requires : goal.size-all-requires
+size-all-requires g c = named-row (records c.args.store.now) c.args.node c.requires.row
 
-pub loop-i-preserved : goal.loop-i-preserved
-loop-i-preserved g c = let m = records c.args.store.now in let cs = kids m c.args.node in let i = c.loop-i.i in
-    let child = child_is m c.args.node c.requires.row c.child.result i c.child.ensures.value in
-    let value = c.loop-i.invariant.value in
-    elim c.match-child.branch [
-      | in-Some w ↦
-          let here = sym child ∙ w.in-Some.is in
-          let more = step_yes (characters_at m) cs i w.in-Some.child here in
-          let size = ap (λ s. s.1) (size_is m w.in-Some.child w.size-more.result
-          (c.requires.row.each i w.in-Some.child here) w.size-more.ensures.value) in
-          let now = w.characters-is in
-          record { value = omega arith }
-      | in_default w ↦
-          let same = step_no (characters_at m) cs i (sym child ∙ none_of c.child.result w.in_default.not-Some) in
-          let now = w.characters-is in
-          record { value = omega arith }
-    ]
+pub characters_between-requires-2-clause-fits : goal.characters_between-requires-2-clause-fits
+characters_between-requires-2-clause-fits g c = let m = records c.args.store.now in let p = c.args.node in
+    let has = c.requires.row in
+    let all = all-slots m p c.size-all.result has c.requires.whole
+    (size_is m p c.size-all.result (named-row m p has) c.size-all.ensures.value) in omega (arith, all)

@@ -1,4 +1,4 @@
-use Rattle.std.proofs.Common.{◌≡◌, ℕ, ◌+◌, ◌-◌, suc, subst, arith}
+use Rattle.std.proofs.Common.{◌≡◌, ℕ, ◌+◌, ◌-◌, suc, ap, subst, arith}
 use Rattle.std.proofs.lemmas.Option.{slice_get_within}
 use Rattle.raw_nodes.specs.Names.{records}
 use Rattle.raw_nodes.specs.Records.{Records}
@@ -8,6 +8,7 @@ use Rattle.line_tree.specs.Places.{Begins, IsLineAt}
 use Rattle.line_tree.specs.Shape.{lines_in}
 use Rattle.line_tree.proofs.BeginLaws.{BeginsUp, begins-below, begins-level, begins-named, begins-up}
 use Rattle.line_tree.proofs.BeginLaws.{first-characters, parent-of}
+use Rattle.line_tree.proofs.LocateLaws.{size-below}
 use Rattle.line_tree.proofs.TreeLaws.{row-tree}
 use Rattle.line_tree.proofs.climb.start_of.Given.{Over}
 use Rattle.line_tree.proofs.climb.start_of.Goals as goal
@@ -59,6 +60,11 @@ pub characters_ahead-start-requires-clause-row : goal.characters_ahead-start-req
 characters_ahead-start-requires-clause-row g c =
     row-tree (records c.args.store.now) c.loop-level.level c.in-Some.up
     (here g c c.requires.named.0 c.requires.named.1).child.tree
+
+pub characters_ahead-start-requires-clause-whole : goal.characters_ahead-start-requires-clause-whole
+characters_ahead-start-requires-clause-whole g c =
+    ap (λ (n : ℕ × ℕ). n.1) (size-below (records c.args.store.now) c.loop-level.level c.in-Some.up
+    (here g c c.requires.named.0 c.requires.named.1).child.tree)
 
 pub characters_ahead-start-requires-clause-within : goal.characters_ahead-start-requires-clause-within
 characters_ahead-start-requires-clause-within g c = let m = records c.args.store.now in

@@ -1,7 +1,0 @@
-use Rattle.std.proofs.Common.{◌≡◌}
-use Rattle.raw_nodes.specs.Names.{records}
-use Rattle.line_tree.specs.Places.{characters_before}
-use Rattle.line_tree.proofs.climb.characters_ahead.Given as goal
-
-abbrev pub invariant-loop-i : goal.invariant-loop-i
-invariant-loop-i g l = record { value : l.characters ≡ characters_before (records l.store) l.node l.i }
