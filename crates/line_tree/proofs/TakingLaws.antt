@@ -19,7 +19,7 @@ use Rattle.raw_nodes.specs.Records.{Records, update, with_sum}
 use Rattle.raw_nodes.specs.declared.names.NodePtr.{NodePtr}
 use Rattle.line_tree.specs.Finds.{Finds, HasRow}
 use Rattle.line_tree.specs.Shape.{lines_in, sum_at, sum_of}
-use Rattle.line_tree.specs.Taking.{CanChange, Takes, TakesOff, marked}
+use Rattle.line_tree.specs.Taking.{CanChange, Changes, TakesOff, marked}
 use Rattle.line_tree.specs.Trees.{total}
 use Rattle.line_tree.specs.declared.find.Found.{Found}
 use Rattle.line_tree.proofs.ChangingLaws.{can-child, changes-line, changes-node, node-row, node-sum, sum-changed}
@@ -87,7 +87,7 @@ line-less line number = λ i. record {
 
 -- ---- at a line
 pub takes-line : (m n : Records) (p : NodePtr) (k number gone : ℕ) → CanChange m 0 p k → TakesOff m n p number gone →
-    Takes m n 0 p k number gone
+    Changes m n 0 p k (without_mark number) (counting 0 0 gone) no_text
 takes-line m n p k number gone can off = changes-line m n p k (without_mark number) (counting 0 0 gone) no_text can
     (record {
       line = off.line;
@@ -99,7 +99,8 @@ takes-line m n p k number gone can off = changes-line m n p k (without_mark numb
 
 -- ---- above it
 module _ (m : Records) (h : ℕ) (p : NodePtr) (k : ℕ) (can : CanChange m (suc h) p k) (f : Found) (finds : Finds m p k f)
-    (l : Records) (number gone : ℕ) (taken : Takes m l h f.child f.rest number gone) where
+    (l : Records) (number gone : ℕ)
+    (taken : Changes m l h f.child f.rest (without_mark number) (counting 0 0 gone) no_text) where
   taken-row : HasRow l p
   taken-row = node-row m h p k can f finds l (without_mark number) (counting 0 0 gone) no_text taken
 
@@ -116,7 +117,7 @@ module _ (m : Records) (h : ℕ) (p : NodePtr) (k : ℕ) (can : CanChange m (suc
       (record { lines = omega arith; characters = omega arith; marks = here })
 
   takes-node : (n : Records) → n ≡ update l p (λ r. with_sum r (less 0 0 gone r.sum)) →
-      Takes m n (suc h) p k number gone
+      Changes m n (suc h) p k (without_mark number) (counting 0 0 gone) no_text
   takes-node n is = let rest = less 0 0 gone (sum_at l p) in
       changes-node m h p k can f finds l (without_mark number) (counting 0 0 gone) no_text taken n rest
       (ap (less 0 0 gone) sum-was ∙ less-is _ (total (lines_in m (suc h) p)) gone

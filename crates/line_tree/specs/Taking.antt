@@ -3,7 +3,7 @@ use Rattle.std.specs.Prelude.{◌≡◌, ◌<◌, ℕ, suc, List, ◌++◌, leng
 use Rattle.std.specs.FinMap as finite
 use Rattle.std.specs.declared.option.Option.{Option}
 use Rattle.std.specs.declared.option.Option.TheVariants.{Some}
-use Rattle.toggle_sums.specs.Counts.{Count, counting, no_text, plus}
+use Rattle.toggle_sums.specs.Counts.{Count, plus}
 use Rattle.segments.specs.Columns.{LineContent}
 use Rattle.line_lists.specs.Edits.{without_mark}
 use Rattle.raw_nodes.specs.Records.{Record, Records, update, with_line}
@@ -59,7 +59,3 @@ pub record Changes (m n : Records) (h : ℕ) (p : NodePtr) (k : ℕ) (f : LineCo
 abbrev pub ChangesNamed : Records → Records → ℕ → NodePtr → NodePtr → (LineContent → LineContent) → Count → Count
     → Type 0
 ChangesNamed m n h r p f gone more = (k : ℕ) → IsLineAt (lines_in m h r) k p → Changes m n h r k f gone more
-
--- the mark of a number is taken off line k below p, which has so many marks less
-abbrev pub Takes : Records → Records → ℕ → NodePtr → ℕ → ℕ → ℕ → Type 0
-Takes m n h p k number gone = Changes m n h p k (without_mark number) (counting 0 0 gone) no_text
