@@ -253,20 +253,22 @@ fn push_listed_text<S: TextStore>(
     out.push("text", text.as_str(), spot)
 }
 
-/// What is known of the next changes of the tags behind a place at first, if a dump stops at tags.
+/// What is known at first of the next changes of the tags behind a place, where a dump lists places from there on and
+/// stops at tags, and else nothing, which takes no memory.
 fn listed_changes<S: TextStore>(
     alloc: Global,
     sight: &Sight<'_, S>,
     listed: Listed,
-    place: usize,
+    from: usize,
+    to: usize,
 ) -> Result<TagChanges, AllocError>
-    ensures { IfOk result (λ changes. IsTrue (stops_at_tags listed) →
-        AreChangesAhead S.content sight.now.view.now sight.now.names.now place changes.next.items) }
+    ensures { IfOk result (λ changes. IsTrue (stops_at_tags listed) → from < to →
+        AreChangesAhead S.content sight.now.view.now sight.now.names.now from changes.next.items) }
 {
-    if !listed.stops_at_tags() {
-        return TagChanges::new(alloc, 0, place);
+    if from == to || !listed.stops_at_tags() {
+        return TagChanges::new(alloc, 0, from);
     }
-    TagChanges::new(alloc, sight.names.tags.len(), place)
+    TagChanges::new(alloc, sight.names.tags.len(), from)
 }
 
 /// The next place behind one at which a tag begins or ends, or another place, if that stands before it or a dump
@@ -454,7 +456,7 @@ fn push_elements<S: TextStore>(
     ensures before { IfOk result (λ reached. IsTrue listed.tags →
         AreTagsBefore S.content sight.now.view.now sight.now.names.now to reached.before) }
 {
-    let mut changes = listed_changes(*out.list.allocator(), sight, listed, from)?;
+    let mut changes = listed_changes(*out.list.allocator(), sight, listed, from, to)?;
     let mut mark = listed_mark(sight, listed, from);
     let mut before = listed_before(sight, listed, from);
     let mut behind = listed_behind(sight, listed, from);

@@ -51,7 +51,7 @@ loop-place-preserved g c =
       spot = c.line_on-line.ensures;
       begun = omega (arith, stop.above, before.begun);
       within = stop.below;
-      ahead = c.next_stop-next.ensures.ahead;
+      ahead = λ is _. c.next_stop-next.ensures.ahead is;
       mark = c.next_stop-next.ensures.mark;
       before = λ is. before-on content view.s view.e names.tags.now.tags names.marks.now.marks names.widget.0
           c.loop-place.place next c.loop-place.behind stop.above (stop.tags is)

@@ -22,8 +22,8 @@ invariant-loop-place g l =
       spot : IsSpot (shown content l.sight.view.now.s l.sight.view.now.e) (record { place = l.place; line = l.line });
       begun : l.from ≤ l.place;
       within : l.place ≤ l.to;
-      ahead : stops_at_tags l.listed ≡ true → AreAhead content l.sight.view.now.s l.sight.view.now.e
-          l.sight.names.now.tags.now.tags l.sight.names.now.widget.0 l.place l.changes.next.items;
+      ahead : stops_at_tags l.listed ≡ true → l.place < l.to → AreAhead content l.sight.view.now.s
+          l.sight.view.now.e l.sight.names.now.tags.now.tags l.sight.names.now.widget.0 l.place l.changes.next.items;
       mark : stops_at_marks l.listed ≡ true →
           IsMarkFrom (usable_by content l.sight.view.now.s l.sight.view.now.e marks l.sight.names.now.widget.0) (l.sight.view.now.s + l.place)
           (option_map (shown_of l.sight.view.now.s) l.mark);
