@@ -61,6 +61,14 @@ fn add_line(sum: &mut Sums<WORDS>, line: &Line) -> Result<(), AllocError>
     Ok(())
 }
 
+/// The line of a copy, which keeps no more room than it needs.
+fn trimmed(mut line: Line) -> Line
+    ensures { result ≡ line }
+{
+    line.trim();
+    line
+}
+
 /// A piece with the line of a copy behind its last.
 fn with_line(mut piece: Piece, copy: Copied) -> Result<Piece, AllocError>
     requires { piece.count + copy.gone < 2 ^ 64 }
@@ -69,7 +77,7 @@ fn with_line(mut piece: Piece, copy: Copied) -> Result<Piece, AllocError>
     ensures lines { IfOk result (λ new. new.lines.items ≡ piece.lines.items ++ copy.line ∷ []) }
 {
     piece.count += copy.gone;
-    piece.lines.push(copy.line)?;
+    piece.lines.push(trimmed(copy.line))?;
     Ok(piece)
 }
 
@@ -80,7 +88,7 @@ fn piece_of(alloc: Global, from: usize, copy: Copied) -> Result<Piece, AllocErro
     ensures lines { IfOk result (λ piece. piece.lines.items ≡ copy.line ∷ []) }
 {
     let mut lines = Vec::with_capacity(alloc, 1)?;
-    lines.push(copy.line)?;
+    lines.push(trimmed(copy.line))?;
     Ok(Piece {
         from,
         count: copy.gone,

@@ -36,11 +36,30 @@ fn has_more_room(text: &String) -> bool
     text.capacity() - text.len() > MORE
 }
 
+/// So many bytes of room beyond twice a text's length aren't given back.
+const SPARE: usize = 64;
+
 /// How many characters a text has.
 fn count_characters(text: &str) -> usize
     ensures { result ≡ length (chars text.now) }
 {
     count_beginnings(text.as_bytes())
+}
+
+/// Takes what stands from a byte on off a text, and hands it out. Of the two parts the shorter one is copied, so that
+/// the longer one keeps no more room than it has use for.
+fn split_text(text: &mut String, byte: usize) -> Result<String, AllocError>
+    requires { IsCharBoundary (string_bytes text.old) byte }
+    ensures head { OnOk result (string_bytes text.new ≡ take byte (string_bytes text.old)) }
+    ensures tail { IfOk result (λ tail. string_bytes tail ≡ drop byte (string_bytes text.old)) }
+    ensures refused { OnErr result (string_bytes text.new ≡ string_bytes text.old) }
+{
+    if byte >= text.len() / 2 {
+        return text.split_off(byte);
+    }
+    let front = String::from_str(*text.allocator(), &text.as_str()[..byte])?;
+    text.replace_range(0..byte, "")?;
+    Ok(std::mem::replace(text, front))
 }
 
 /// The first character of a text that has one.
@@ -185,10 +204,20 @@ impl Characters {
         ensures refused { OnErr result (self.new ≡ self.old) }
     {
         let byte = byte_of(self.text.as_str(), self.count, column);
-        let text = self.text.split_off(byte)?;
+        let text = split_text(&mut self.text, byte)?;
         let count = self.count - column;
         self.count = column;
         Ok(Characters { text, count })
+    }
+
+    /// Gives back room that isn't needed, where memory allows it: what is more than twice what the characters take.
+    pub fn trim(&mut self)
+        ensures { self.new ≡ self.old }
+    {
+        let len = self.text.len();
+        if self.text.capacity() > len.saturating_mul(2).saturating_add(SPARE) {
+            self.text.shrink_to(len.saturating_add(MORE));
+        }
     }
 
     /// Adds other characters behind these.

@@ -106,6 +106,17 @@ impl Form {
         }
     }
 
+    /// Gives back room that isn't needed, where memory allows it, and that for toggles and marks where there are none.
+    pub fn trim(&mut self, alloc: Global)
+        ensures { content self.new ≡ content self.old }
+    {
+        self.settle(alloc);
+        match self {
+            Form::Plain(text) => text.trim(),
+            Form::Rich(line) => line.trim(),
+        }
+    }
+
     pub fn try_clone(&self, alloc: Global) -> Result<Form, AllocError>
         ensures { IfOk result (λ copy. content copy ≡ content self.now) }
     {

@@ -35,6 +35,15 @@ fn has_room<T>(list: &Vec<T>) -> bool
     list.len() < list.capacity()
 }
 
+/// Gives back room of a list that isn't needed, where memory allows it: more than for twice as much, and a little.
+fn trim_list<T>(list: &mut Vec<T>)
+    ensures { list.new.items ≡ list.old.items }
+{
+    if list.capacity() > list.len().saturating_mul(2).saturating_add(8) {
+        list.shrink_to(list.len());
+    }
+}
+
 /// A line of text with room for toggles and marks: its characters, the slots that are toggled before each of them, and
 /// the marks in it, whose places are columns. A place behind the last character is a mark's alone.
 #[derive(Drop)]
@@ -101,6 +110,15 @@ impl RichLine {
             || has_room(&self.toggles)
             || has_room(&self.marks)
             || self.text.has_spare_room()
+    }
+
+    /// Gives back room that isn't needed, where memory allows it.
+    pub fn trim(&mut self)
+        ensures { self.new ≡ self.old }
+    {
+        self.text.trim();
+        trim_list(&mut self.toggles);
+        trim_list(&mut self.marks);
     }
 
     /// The characters alone.

@@ -46,7 +46,7 @@ impl Splitter {
     const ROOM: usize = 16_384;
 
     // So many bytes don't wait for the next piece.
-    const MANY: usize = 1_048_576;
+    const MANY: usize = 65_536;
 
     /// A splitter of a script of which nothing has come. It takes no memory.
     pub fn new(alloc: Global) -> Self
