@@ -67,6 +67,7 @@ test: $(SHIM) $(WEIGH)
 	  'python3 tools/idle.py --program $(PROGRAM)' \
 	  'python3 tools/devices.py --program $(PROGRAM)' \
 	  'python3 tools/memory.py --program $(NODE_MEMORY) --shim $(WEIGH)' \
+	  'python3 tools/held.py --program $(PROGRAM) --shim $(WEIGH)' \
 	  'python3 tools/tree_refusals.py --program $(TREE_BENCH) --shim $(SHIM)' \
 	  'python3 tools/own_counter.py' \
 	  'python3 tools/manual.py --program $(PROGRAM)' \

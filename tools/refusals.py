@@ -10,6 +10,8 @@ The shim is tools/refuse.c, built.  With one growth refused a run may end in two
   that command proves to hold a script fault, the fault is its piece, so the output is the plain one.)
 - the run ends with status 2, `out of memory` on standard error, and the front of the plain output.
 
+Where the growth only makes a block smaller the block may stay instead, and the output is the plain one.
+
 Anything else is a failure: another output, a crash, a run that doesn't end, a refusal that left no
 trace.  So is a run that answers out of memory though nothing was refused.
 
@@ -56,18 +58,24 @@ class Preloaded:
         self.program = program
         self.shim = os.path.abspath(shim)
         self.report = report
+        self.kept_report = report + ".kept"
         self.arguments = arguments
         self.before = 0
         _, self.before = self.run(b"", 0)
 
     def run(self, script, refused_growth):
         """One run with one growth refused (none for 0): its result, and how many growths there were."""
-        if os.path.exists(self.report):
-            os.remove(self.report)
-        environment = dict(os.environ, LD_PRELOAD=self.shim, GROWTH_REPORT=self.report)
+        for path in (self.report, self.kept_report):
+            if os.path.exists(path):
+                os.remove(path)
+        environment = dict(os.environ, LD_PRELOAD=self.shim, GROWTH_REPORT=self.report, KEPT_REPORT=self.kept_report)
         environment["REFUSE_GROWTH"] = str(refused_growth + self.before if refused_growth else 0)
         result = run_program(self.program, script, environment, arguments=self.arguments)
         return result, read_count(self.report) - self.before
+
+    def kept_block(self):
+        """Whether the growth that the last run was refused would have made a block smaller, which stayed instead."""
+        return os.path.exists(self.kept_report)
 
 
 def read_count(report):
@@ -111,12 +119,14 @@ def ends_for_memory(result, plain):
     )
 
 
-def kind_of_end(result, plain, one_refusal):
-    """How a run with one refused growth ended: one of the two ways that are right, or None."""
+def kind_of_end(result, plain, one_refusal, kept_block):
+    """How a run with one refused growth ended: one of the ways that are right, or None."""
     if ends_for_memory(result, plain):
         return "run ended"
     if result.errors == b"" and model.Run(result.output, result.status) in one_refusal:
         return "command refused"
+    if kept_block and (result.output, result.status, result.errors) == (plain.output, plain.status, b""):
+        return "block kept"
     return None
 
 
@@ -166,7 +176,7 @@ def check_script(program, name, script, tally, kinds, is_repeated=False, most_gr
     step = 1 if most_growths is None else max(1, growths // most_growths)
     for number in range(1, growths + 1, step):
         result, _ = program.run(script, number)
-        kind = kind_of_end(result, plain, one_refusal)
+        kind = kind_of_end(result, plain, one_refusal, program.kept_block())
         tally.check(kind is not None, f"{name!r}, growth {number} of {growths} refused: {describe(result)}")
         kinds[kind] += 1
         command = one_refusal.get(model.Run(result.output, result.status))
@@ -204,7 +214,7 @@ def check_scripts(name, program, given, tally):
     again = kinds.pop("given again", 0)
     print(f"{name}: {len(given)} scripts, {growths} growths, {sum(kinds.values())} runs with a growth refused:")
     print(f"  {kinds['command refused']} refused one command, of which {again} were given again;")
-    print(f"  {kinds['run ended']} ended the run", flush=True)
+    print(f"  {kinds['run ended']} ended the run, and {kinds['block kept']} left a block as it was", flush=True)
 
 
 def main():

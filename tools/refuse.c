@@ -6,14 +6,16 @@
    Growths are the calls of malloc, calloc, realloc (one that only frees aside), aligned_alloc,
    memalign and posix_memalign from the beginning of main to its end. The one with the number
    REFUSE_GROWTH, counted from 1, answers NULL (ENOMEM); all others, and all of them where the variable
-   is missing or 0, are handed on. The file GROWTH_REPORT holds the number of growths so far as decimal
-   digits. It is written anew at each growth, so it is right however the program ends. The file LEFT_REPORT
-   holds, once the program has ended, how many blocks were not freed. */
+   is missing or 0, are handed on. A realloc to no more bytes than the block has counts as one too: refused,
+   it leaves the block as it is, and the file KEPT_REPORT is made. The file GROWTH_REPORT holds the number of
+   growths so far as decimal digits. It is written anew at each growth, so it is right however the program
+   ends. The file LEFT_REPORT holds, once the program has ended, how many blocks were not freed. */
 
 #define _GNU_SOURCE
 #include <dlfcn.h>
 #include <errno.h>
 #include <fcntl.h>
+#include <malloc.h>
 #include <stddef.h>
 #include <stdio.h>
 #include <stdlib.h>
@@ -80,11 +82,25 @@ void *calloc(size_t count, size_t size)
     return is_refused() ? NULL : with(__libc_calloc(count, size));
 }
 
+/* Notes that a block stays, which was to have no more bytes than it has. */
+static void note_kept(void)
+{
+    const char *path = getenv("KEPT_REPORT");
+    int kept = errno;
+    int file = path == NULL ? -1 : open(path, O_WRONLY | O_CREAT | O_TRUNC, 0600);
+    if (file >= 0)
+        close(file);
+    errno = kept;
+}
+
 void *realloc(void *block, size_t size)
 {
     int only_frees = block != NULL && size == 0;
-    if (!only_frees && is_refused())
+    if (!only_frees && is_refused()) {
+        if (block != NULL && size <= malloc_usable_size(block))
+            note_kept();
         return NULL;
+    }
     void *moved = __libc_realloc(block, size);
     blocks += (block == NULL && moved != NULL) - only_frees;
     return moved;

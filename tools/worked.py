@@ -174,6 +174,7 @@ PROGRAM_ROWS = [most_marks()]
 def long_scripts():
     """Scripts that make the program's buffers grow more than once, for refused growth alone."""
     long_word = b"abcdefghij" * 500
+    long_line = b"abcdefghij" * 10_000
     pieces = b"".join(b".t insert end piece%d;" % number for number in range(40))
     many_words = b".t get " + b"1.0 " * 100
     many_ranges = b" ".join(b"1.%d 1.%d" % (2 * number, 2 * number + 1) for number in range(60))
@@ -184,6 +185,11 @@ def long_scripts():
         ("insertions in the middle", b"text .t;.t insert 1.0 ab;" + b".t insert 1.1 xyz;" * 40 + b".t get 1.0 1.end"),
         ("long words that are refused", b"text .t;." + long_word + b";.t " + long_word + b";.t index " + long_word),
         ("a command of many words", b"text .t;" + many_words + b";.t index end"),
+        (
+            "a long line that is split and joined",
+            b"text .t;.t insert 1.0 " + long_line + b";.t insert 1.20 {\n};.t insert 2.90000 {\n};.t delete 1.end;.t delete 1.end;.t index 1.end",
+        ),
+        ("a long line that is cut", b"text .t -undo 1;.t insert 1.0 " + long_line + b";.t delete 1.30 1.end;.t edit undo;.t index 1.end"),
         ("long answers", b"text .t;.t insert 1.0 " + long_word + b";" + b".t get 1.0 end;" * 5),
         ("a braced word of many lines", b"text .t;.t insert 1.0 {" + b"a line\n" * 700 + b"};.t get 1.0 end"),
         ("a quoted word of many escapes", b'text .t;.t insert 1.0 "' + b"\\x41\\n" * 700 + b'";.t index end'),
