@@ -6,8 +6,9 @@
 Needs valgrind, whose callgrind counts instructions, which don't swing with the machine. Each kind is run twice for each
 size: once the text with the first of some commands behind it, and once with all of them; what the second run takes more
 is shared out among the others. The first may clean up after the text was made: the C library's allocator gathers then
-what was freed. The table is written to FILE, and below it each first command that takes ten times what another does.
-The exit status is 1 if a kind grows by more than a third from one size to the next.
+what was freed. So it has a bound of its own, by the text's size. The table is written to FILE, and below it each first
+command that takes ten times what another does, or more than its bound. The exit status is 1 if a kind grows by more than
+a third from one size to the next, or a first command takes more than its bound.
 """
 
 import argparse
@@ -16,11 +17,14 @@ import re
 import subprocess
 import sys
 import tempfile
+from concurrent.futures import ThreadPoolExecutor
 from typing import NamedTuple
 
 COMMANDS = 400
 GROWTH_GOAL = 4 / 3
 FIRST_FACTOR = 10
+# So many instructions for each line of the text the first command may take more than another.
+FIRST_PER_LINE = 20
 LINE = "a lazy dog, and\n"
 MARKS = 1_000
 VIEW_LINES = 10
@@ -132,8 +136,8 @@ def script(size, kind, commands):
 
 def count(program, text, folder):
     """The instructions of one run of a script."""
-    path = os.path.join(folder, "script.tcl")
-    with open(path, "w", encoding="utf-8") as file:
+    handle, path = tempfile.mkstemp(dir=folder)
+    with open(handle, "w", encoding="utf-8") as file:
         file.write(text)
     valgrind = ["valgrind", "--tool=callgrind", "--callgrind-out-file=/dev/null", program]
     with open(path, "rb") as file:
@@ -166,13 +170,15 @@ def row(name, costs):
 
 
 def firsts(costs_by_name, sizes):
-    """A line for each kind whose first command takes ten times what another does, by size."""
-    return [
-        f"{name}, the first on a text of {size:,} lines: {cost.first:,.0f}"
-        for name, costs in costs_by_name.items()
-        for size, cost in zip(sizes, costs)
-        if cost.first > FIRST_FACTOR * cost.each
-    ]
+    """A line for each kind whose first command takes ten times what another does, or more than its bound, by size."""
+    lines = []
+    for name, costs in costs_by_name.items():
+        for size, cost in zip(sizes, costs):
+            bound = cost.each + FIRST_PER_LINE * size
+            verdict = "met" if cost.first <= bound else "MISSED"
+            if verdict != "met" or cost.first > FIRST_FACTOR * cost.each:
+                lines.append(f"{name}, the first on a text of {size:,} lines: {cost.first:,.0f}, at most {bound:,.0f}  {verdict}")
+    return lines
 
 
 def measure(program, sizes, kinds):
@@ -180,15 +186,16 @@ def measure(program, sizes, kinds):
     lines = [
         "Instructions of a command (callgrind) on texts of so many lines of 16 characters, with its answer and the",
         "reading of its words, but for the first one; and how they grow from one size to the other (goal: by at most a",
-        "third).",
+        f"third). The first one may take {FIRST_PER_LINE} instructions more for each line of the text.",
         "",
         f"{'command':<28}" + "".join(f"{size:>12,}" for size in sizes) + f"{'growth':>9}",
     ]
     print("\n".join(lines), flush=True)
     costs_by_name = {}
-    with tempfile.TemporaryDirectory() as folder:
-        for kind in kinds:
-            costs = [cost(program, size, kind, folder) for size in sizes]
+    # Instructions don't swing with what else runs, so each core takes a kind.
+    with tempfile.TemporaryDirectory() as folder, ThreadPoolExecutor(len(os.sched_getaffinity(0))) as cores:
+        all_costs = cores.map(lambda kind: [cost(program, size, kind, folder) for size in sizes], kinds)
+        for kind, costs in zip(kinds, all_costs):
             costs_by_name[kind.name] = costs
             lines.append(row(kind.name, costs))
             print(lines[-1], flush=True)
