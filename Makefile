@@ -12,12 +12,15 @@
 #              a command through the library, into docs/bench_library.txt
 # make versus  the program beside real Tk on the workloads of tools/workloads.py, into docs/performance.md; it needs Tk
 # make counts  the instructions of a command on texts of two sizes, into docs/bench_counts.txt; it needs valgrind
+# make gains   what the program takes beside docs/gains.txt, which it may not pass by more than a twentieth; UPDATE=1
+#              writes that file. It needs valgrind
 
 PROGRAM = crates/tktext/out/tktext
 ROWS = crates/rows/out/rows
 LINE_BENCH = crates/line_bench/out/line_bench
 TREE_BENCH = crates/tree_bench/out/tree_bench
 NODE_MEMORY = crates/node_memory/out/node_memory
+SCRIPT_BENCH = crates/script_bench/out/script_bench
 LIBRARY = out/libtktext.a
 SHIM = out/refuse.so
 WEIGH = out/weigh.so
@@ -56,7 +59,7 @@ $(WEIGH): tools/weigh.c
 
 # `rt ci` puts back an out/ that was there before it, so old programs are taken away first.
 test: $(SHIM) $(WEIGH)
-	rm -rf crates/tktext/out crates/rows/out crates/node_memory/out crates/tree_bench/out
+	rm -rf crates/tktext/out crates/rows/out crates/node_memory/out crates/tree_bench/out crates/script_bench/out
 	python3 tools/total.py 'python3 tools/gate.py' \
 	  'python3 tools/facts.py' \
 	  'python3 tools/selftest.py' \
@@ -69,6 +72,7 @@ test: $(SHIM) $(WEIGH)
 	  'python3 tools/memory.py --program $(NODE_MEMORY) --shim $(WEIGH)' \
 	  'python3 tools/held.py --program $(PROGRAM) --shim $(WEIGH)' \
 	  'python3 tools/tree_refusals.py --program $(TREE_BENCH) --shim $(SHIM)' \
+	  'python3 tools/gains.py --bench $(SCRIPT_BENCH) --program $(PROGRAM) --shim $(WEIGH) --file docs/gains.txt' \
 	  'python3 tools/own_counter.py' \
 	  'python3 tools/manual.py --program $(PROGRAM)' \
 	  'python3 tools/tk.py --program $(PROGRAM)' \
@@ -95,6 +99,14 @@ bench: $(PROGRAM) $(LINE_BENCH) $(TREE_BENCH) $(WEIGH) $(LIBRARY)
 versus: $(PROGRAM)
 	python3 tools/versus.py --program $(PROGRAM) --out docs/performance.md --kept out/tk_counts.json
 
+$(SCRIPT_BENCH): $(SOURCES)
+	@python3 tools/build.py --crate script_bench
+	@touch $@
+
+gains: $(SCRIPT_BENCH) $(PROGRAM) $(WEIGH)
+	python3 tools/gains.py --bench $(SCRIPT_BENCH) --program $(PROGRAM) --shim $(WEIGH) --file docs/gains.txt \
+	  $(if $(UPDATE),--update)
+
 counts: $(PROGRAM)
 	python3 tools/bench_counts.py --program $(PROGRAM) --out docs/bench_counts.txt
 
@@ -105,4 +117,4 @@ tk: $(PROGRAM)
 	python3 tools/tk.py --program $(PROGRAM)
 	python3 tools/tk.py --program $(PROGRAM) --scripts $(SEEDS) --first $(FIRST)
 
-.PHONY: try run build lib examples test fuzz bench versus counts gate tk
+.PHONY: try run build lib examples test fuzz bench versus counts gains gate tk
