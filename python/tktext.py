@@ -4,11 +4,17 @@
 written for tkinter's widget runs on it.  A command that is refused raises `TclError`, want of memory `MemoryError`;
 both leave everything as it was.
 
-The library is looked for in the file that TKTEXT_LIBRARY names, in out/ of this repository, and then where the system looks.
+Threads may share a world and its widgets: one call is carried out at a time.
+
+The library is looked for in the file that TKTEXT_LIBRARY names, in out/ of this repository, and then where the system
+looks.
 """
 
 import ctypes
+import itertools
+import operator
 import os
+import threading
 from ctypes import POINTER, byref, c_bool, c_char_p, c_int32, c_size_t, c_ubyte, c_uint16, c_void_p
 
 ANSWER, FAULT, NO_MEMORY, SCRIPT_FAULT, END, NOT_TEXT, WRONG_LENGTHS, WRONG_LIMITS, WRONG_HANDLE, FINISHED = range(10)
@@ -19,7 +25,13 @@ MISUSED = {
     WRONG_HANDLE: "the world was closed",
     FINISHED: "the script has ended",
 }
+UNDER_WAY = "a call of this world is under way in this thread"
 BEFORE_FAULT = b"error: "
+# The room for what is said, in bytes: at first, and the most that is kept from one answer to the next.
+FIRST_ROOM = 256
+MOST_ROOM = 65536
+# How many numbers the library's types for the four limits have.
+LIMIT_NUMBERS = (2 ** (8 * ctypes.sizeof(c_size_t)), 2**16, 2**16, 2**16)
 
 
 class TclError(Exception):
@@ -62,20 +74,41 @@ def _load():
 _LIBRARY = _load()
 
 
+def _limits_of(limits):
+    """The four limits, each a number that the library can be given as it is."""
+    numbers = tuple(map(operator.index, limits))
+    if len(numbers) != len(LIMIT_NUMBERS):
+        raise ValueError("the limits are four: characters, tags, marks and widgets")
+    if not all(0 <= number < count for number, count in zip(numbers, LIMIT_NUMBERS)):
+        raise ValueError(MISUSED[WRONG_LIMITS])
+    return numbers
+
+
+def _bytes_of(piece):
+    """The bytes of a buffer, as many as it has, whatever a class that stands on `bytes` says of its length."""
+    return piece if type(piece) is bytes else bytes(memoryview(piece))
+
+
 class World:
-    """Texts with the widgets on them, and a script that may be fed.  One thread at a time may use it."""
+    """Texts with the widgets on them, and a script that may be fed.
+
+    Threads may share it: a call waits until that of another thread has ended.  A call in the middle of one of the same
+    thread, as from the handler of a signal, raises RuntimeError.  It can't be copied.
+    """
 
     def __init__(self, limits=None):
         """Makes a world: `limits` are its characters, tags, marks and widgets, the greatest where they are left out."""
+        numbers = None if limits is None else _limits_of(limits)
+        self._lock = threading.RLock()
+        self._is_busy = False
+        self._room = (c_ubyte * FIRST_ROOM)()
         self._handle = _Handle(False, _Kept(None))
-        self._room = (c_ubyte * 256)()
-        self._used = 0
-        code = _LIBRARY.tktext_new(byref(self._handle), *limits) if limits else _LIBRARY.tktext_new_greatest(byref(self._handle))
-        self._check(code)
+        handle = byref(self._handle)
+        self._check(_LIBRARY.tktext_new_greatest(handle) if numbers is None else _LIBRARY.tktext_new(handle, *numbers))
 
     def close(self):
         """Drops the world; a second time does nothing."""
-        _LIBRARY.tktext_drop(byref(self._handle))
+        self._alone(_LIBRARY.tktext_drop)
 
     def __del__(self):
         if hasattr(self, "_handle"):
@@ -87,50 +120,88 @@ class World:
     def __exit__(self, *_):
         self.close()
 
+    def __reduce_ex__(self, _protocol):
+        """What copies and pickles a world, which has one handle."""
+        raise TypeError("a world can't be copied")
+
     def call(self, *words):
-        """Carries out a command and gives its answer."""
-        code = self.give([word if isinstance(word, bytes) else str(word).encode("utf-8") for word in words])
+        """Carries out a command and gives its answer.  A word of bytes is UTF-8."""
+        given = [word if isinstance(word, bytes) else str(word).encode("utf-8") for word in words]
+        code, said = self._alone(self._call, given)
         self._check(code)
-        said = self.said()
         if code == FAULT:
             raise TclError(said[len(BEFORE_FAULT):-1].decode("utf-8"))
         return said[:-1].decode("utf-8")
 
     def give(self, words):
         """Carries out a command of some bytes, and gives the code of the call."""
-        lengths = (c_size_t * max(len(words), 1))(*map(len, words))
-        joined = b"".join(words)
-        return _LIBRARY.tktext_call(byref(self._handle), joined, len(joined), lengths, len(words))
+        return self._alone(self._give, words)
 
     def said(self):
         """The line that was said last, as the program prints it."""
-        length = _LIBRARY.tktext_said(byref(self._handle), self._room, len(self._room))
-        if length > len(self._room):
-            self._room = (c_ubyte * (2 * length))()
-            _LIBRARY.tktext_said(byref(self._handle), self._room, length)
-        return ctypes.string_at(self._room, length)
+        return self._alone(self._said)
 
     def feed(self, piece):
         """Takes the next bytes of the script."""
-        self._check(_LIBRARY.tktext_feed(byref(self._handle), piece, len(piece)))
+        given = _bytes_of(piece)
+        self._check(self._alone(_LIBRARY.tktext_feed, given, len(given)))
 
     def finish(self):
         """Ends the script."""
-        _LIBRARY.tktext_finish(byref(self._handle))
+        self._alone(_LIBRARY.tktext_finish)
 
     def lines(self):
         """Carries out the commands of the script that are at hand, and gives the line of each."""
         code = ANSWER
         while code in (ANSWER, FAULT, NO_MEMORY):
-            code = _LIBRARY.tktext_next(byref(self._handle))
-            if code in (ANSWER, FAULT, NO_MEMORY, SCRIPT_FAULT):
-                yield self.said()
+            code, line = self._alone(self._turn)
+            if line is not None:
+                yield line
             elif code != END:
                 self._check(code)
 
     def status(self):
         """The exit status of the script so far."""
-        return _LIBRARY.tktext_status(byref(self._handle))
+        return self._alone(_LIBRARY.tktext_status)
+
+    # ---- what has the handle to itself
+
+    def _alone(self, call, *arguments):
+        """What a call of the handle gives, which no other call of it meets."""
+        with self._lock:
+            if self._is_busy:
+                raise RuntimeError(UNDER_WAY)
+            try:
+                self._is_busy = True
+                return call(byref(self._handle), *arguments)
+            finally:
+                self._is_busy = False
+
+    def _call(self, handle, words):
+        code = self._give(handle, words)
+        return code, self._said(handle) if code in (ANSWER, FAULT) else None
+
+    @staticmethod
+    def _give(handle, words):
+        given = list(map(_bytes_of, words))
+        joined = b"".join(given)
+        lengths = (c_size_t * max(len(given), 1))(*map(len, given))
+        return _LIBRARY.tktext_call(handle, joined, len(joined), lengths, len(given))
+
+    def _turn(self, handle):
+        """The code of the script's next command, and the line that it said, if any."""
+        code = _LIBRARY.tktext_next(handle)
+        return code, self._said(handle) if code in (ANSWER, FAULT, NO_MEMORY, SCRIPT_FAULT) else None
+
+    def _said(self, handle):
+        room = self._room
+        length = _LIBRARY.tktext_said(handle, room, len(room))
+        if length > len(room):
+            room = (c_ubyte * length)()
+            _LIBRARY.tktext_said(handle, room, length)
+            if length <= MOST_ROOM:
+                self._room = room
+        return ctypes.string_at(room, length)
 
     @staticmethod
     def _check(code):
@@ -180,20 +251,75 @@ def _bare(text, place):
 
 
 def list_text(elements):
-    """A list of these elements, as one word."""
+    """A list of these elements, as one word, spelled as Tcl does."""
     if isinstance(elements, str):
         return elements
-    return " ".join(_quoted(str(element)) for element in elements)
+    return " ".join(_quoted(_word(element), number == 0) for number, element in enumerate(elements))
 
 
-def _quoted(element):
-    special = set(' \t\n\r\v\f{}[]$;"\\')
-    escaped = "".join({"\n": "\\n", "\t": "\\t", "\r": "\\r", "\v": "\\v", "\f": "\\f"}.get(c, "\\" + c if c in special else c) for c in element)
-    return escaped.replace("#", "\\#", 1) if escaped.startswith("#") else escaped or "{}"
+_SPELLED = {"\n": "\\n", "\t": "\\t", "\r": "\\r", "\v": "\\v", "\f": "\\f"}
+_SPACE = set(" \t\n\r\v\f")
+# What braces are put around for, and what a backslash alone is put in front of where nothing else asks for braces.
+_BRACED = _SPACE | set("[$;\\")
+_ESCAPED = set(']"')
 
 
-def _given(*words):
-    return [word for word in words if word is not None]
+def _quoted(element, is_first):
+    """An element of a list: bare, in braces, or with backslashes."""
+    is_comment = is_first and element.startswith("#")
+    if not _can_be_braced(element):
+        escaped = _escaped(element, "{}")
+        return "\\" + escaped if is_comment else escaped
+    if element == "" or is_comment or element[0] in '{"' or _BRACED & set(element):
+        return "{" + element + "}"
+    return _escaped(element, "") if _ESCAPED & set(element) else element
+
+
+def _can_be_braced(element):
+    """Whether the element within braces is itself: its own are pairs, and no backslash meets its end or a new line."""
+    depth, place = 0, 0
+    while place < len(element) and depth >= 0:
+        if element[place] == "\\":
+            place += 1
+            if place == len(element) or element[place] == "\n":
+                return False
+        else:
+            depth += (element[place] == "{") - (element[place] == "}")
+        place += 1
+    return depth == 0
+
+
+def _escaped(element, braces):
+    special = _BRACED | _ESCAPED | set(braces)
+    return "".join(_SPELLED.get(c, "\\" + c if c in special else c) for c in element)
+
+
+def _float_text(number):
+    """A number as Tcl spells it: without an exponent below 1e17, and else with one without zeros in front."""
+    digits, is_long, exponent = repr(number).partition("e")
+    if not is_long:
+        return {"inf": "Inf", "-inf": "-Inf", "nan": "NaN"}.get(digits, digits)
+    if exponent != "+16":
+        return f"{digits}e{int(exponent):+d}"
+    return digits.replace(".", "").ljust(17 + digits.startswith("-"), "0") + ".0"
+
+
+def _word(value):
+    """A value as a word, as tkinter makes it: 1 or 0, a list, characters with the numbers of the bytes, or its text."""
+    if isinstance(value, str):
+        return str.__str__(value)
+    if isinstance(value, bytes):
+        return _bytes_of(value).decode("latin-1")
+    if isinstance(value, (tuple, list)):
+        return list_text(value)
+    if isinstance(value, bool):
+        return str(int(value))
+    return _float_text(value) if type(value) is float else str(value)
+
+
+def _words(values):
+    """The words of a command, which the first None ends, as in tkinter."""
+    return map(_word, itertools.takewhile(lambda value: value is not None, values))
 
 
 class Text:
@@ -203,7 +329,7 @@ class Text:
         """Makes a widget of a name in a world, or in a new one."""
         self.world = world or World()
         self._name = name
-        self.world.call("text", name, *self._options(options))
+        self.world.call("text", *_words([name, *self._options(options)]))
 
     @classmethod
     def named(cls, world, name):
@@ -217,27 +343,25 @@ class Text:
 
     @staticmethod
     def _options(options):
-        words = []
-        for name, value in options.items():
-            words += ["-" + name, "" if value is None else int(value) if isinstance(value, bool) else value]
-        return words
+        """The words of options; one of the value None stays as it is."""
+        return [word for name, value in options.items() if value is not None for word in ("-" + name, value)]
 
-    def _call(self, *words):
-        return self.world.call(self._name, *words)
+    def _call(self, *values):
+        return self.world.call(self._name, *_words(values))
 
     # ---- texts
 
     def insert(self, index, chars, *args):
-        self._call("insert", index, chars, *map(list_text, args))
+        self._call("insert", index, chars, *args)
 
     def delete(self, index1, index2=None):
-        self._call("delete", *_given(index1, index2))
+        self._call("delete", index1, index2)
 
     def replace(self, index1, index2, chars, *args):
-        self._call("replace", index1, index2, chars, *map(list_text, args))
+        self._call("replace", index1, index2, chars, *args)
 
     def get(self, index1, index2=None):
-        return self._call("get", *_given(index1, index2))
+        return self._call("get", index1, index2)
 
     def index(self, index):
         return self._call("index", index)
@@ -249,18 +373,18 @@ class Text:
         counts = tuple(map(int, split_list(self._call("count", *("-" + arg for arg in args), index1, index2))))
         return None if counts == (0,) else counts
 
-    def search(self, pattern, index, stopindex=None, forwards=None, backwards=None, exact=None, regexp=None, nocase=None,
-               count=None, elide=None, all=None, overlap=None):
-        flags = {"forwards": forwards, "backwards": backwards, "exact": exact, "regexp": regexp, "nocase": nocase, "elide": elide,
-                 "all": all, "overlap": overlap}
+    def search(self, pattern, index, stopindex=None, forwards=None, backwards=None, exact=None, regexp=None,
+               nocase=None, count=None, elide=None, all=None, overlap=None):
+        flags = {"forwards": forwards, "backwards": backwards, "exact": exact, "regexp": regexp, "nocase": nocase,
+                 "elide": elide, "all": all, "overlap": overlap}
         words = ["-" + name for name, is_set in flags.items() if is_set]
-        words += ["-count", count] if count is not None else []
-        return self._call("search", *words, "--", pattern, index, *_given(stopindex))
+        words += ["-count", count] if count else []
+        return self._call("search", *words, "--", pattern, index, stopindex or None)
 
     def dump(self, index1, index2=None, command=None, **kw):
         """A list of (kind, value, index), or a call of `command` with the three for each."""
         kinds = ["-" + name for name, is_set in kw.items() if is_set]
-        parts = split_list(self._call("dump", *kinds, *_given(index1, index2)))
+        parts = split_list(self._call("dump", *kinds, index1, index2 or None))
         found = list(zip(parts[0::3], parts[1::3], parts[2::3]))
         if command is None:
             return found
@@ -274,25 +398,25 @@ class Text:
         self._call("tag", "add", tagName, index1, *args)
 
     def tag_remove(self, tagName, index1, index2=None):
-        self._call("tag", "remove", tagName, *_given(index1, index2))
+        self._call("tag", "remove", tagName, index1, index2)
 
     def tag_names(self, index=None):
-        return split_list(self._call("tag", "names", *_given(index)))
+        return split_list(self._call("tag", "names", index))
 
     def tag_ranges(self, tagName):
         return split_list(self._call("tag", "ranges", tagName))
 
     def tag_nextrange(self, tagName, index1, index2=None):
-        return split_list(self._call("tag", "nextrange", tagName, *_given(index1, index2)))
+        return split_list(self._call("tag", "nextrange", tagName, index1, index2))
 
     def tag_prevrange(self, tagName, index1, index2=None):
-        return split_list(self._call("tag", "prevrange", tagName, *_given(index1, index2)))
+        return split_list(self._call("tag", "prevrange", tagName, index1, index2))
 
     def tag_raise(self, tagName, aboveThis=None):
-        self._call("tag", "raise", tagName, *_given(aboveThis))
+        self._call("tag", "raise", tagName, aboveThis)
 
     def tag_lower(self, tagName, belowThis=None):
-        self._call("tag", "lower", tagName, *_given(belowThis))
+        self._call("tag", "lower", tagName, belowThis)
 
     def tag_delete(self, *tagNames):
         self._call("tag", "delete", *tagNames)
@@ -315,7 +439,7 @@ class Text:
         return self._call("mark", "previous", index) or None
 
     def mark_gravity(self, markName, direction=None):
-        return self._call("mark", "gravity", *_given(markName, direction))
+        return self._call("mark", "gravity", markName, direction)
 
     # ---- the history
 
@@ -333,7 +457,7 @@ class Text:
 
     def edit_modified(self, arg=None):
         if arg is not None:
-            self._call("edit", "modified", int(arg) if isinstance(arg, bool) else arg)
+            self._call("edit", "modified", arg)
             return None
         return self._call("edit", "modified") == "1"
 
@@ -348,12 +472,17 @@ class Text:
         return split_list(self._call("peer", "names"))
 
     def cget(self, key):
-        return self._call("cget", "-" + key)
+        """The value of an option: a number, where it is one."""
+        value = self._call("cget", "-" + key)
+        return int(value) if value.removeprefix("-").isdecimal() else value
 
     __getitem__ = cget
 
     def configure(self, cnf=None, **kw):
-        self._call("configure", *self._options({**(cnf or {}), **kw}))
+        given = {**(cnf or {}), **kw}
+        words = self._options(given)
+        if words or not given:
+            self._call("configure", *words)
 
     config = configure
 

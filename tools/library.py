@@ -9,7 +9,8 @@ has just proved (tools/build_library.py).  Without a C compiler one line says so
 
 - C (tools/library.c): worked and random scripts, fed in pieces and word by word, answer as the model does; calls that a
   caller may get wrong; valgrind finds no leak and no wrong access in 10,000 commands and a drop.
-- Python (python/tktext.py): the worked rows, each under its limits; the methods of `Text` on worked and random scripts.
+- Python (python/tktext.py): the worked rows, each under its limits; the methods of `Text` on worked and random scripts;
+  the cases of tools/python_cases.py, threads among them.
 - Tcl (tcl/): a script with procedures, loops and variables, and random scripts.
 - Python and Tcl with growths of memory refused (tools/refuse_calls.c): want of memory is an error of the language, and the
   command answers as ever when it is given again.
@@ -31,6 +32,7 @@ import tempfile
 import build_library
 import examples
 import model
+import python_cases
 import scripts
 import worked
 from harness import LONG_TIMEOUT_SECONDS, Tally
@@ -230,6 +232,11 @@ def method_calls():
 METHODS = method_calls()
 
 
+def value_of(answer):
+    """The value of an option, a number where it is one."""
+    return int(answer) if answer.removeprefix("-").isdigit() else answer
+
+
 def method_of(words):
     """The method, its arguments and what it gives of the command's answer; None where the command isn't one of these."""
     for count in (1, 2):
@@ -242,7 +249,7 @@ def method_of(words):
     if words[1:2] == ["search"] and 4 <= len(words) <= 5 and not words[2].startswith("-"):
         return "search", words[2:], str
     if words[1:2] == ["cget"] and len(words) == 3 and words[2].startswith("-"):
-        return "cget", [words[2][1:]], str
+        return "cget", [words[2][1:]], value_of
     return None
 
 
@@ -605,6 +612,7 @@ def check_python(seeds, tally):
         output, status, errors = run(words, env=environment)
         sys.stderr.buffer.write(errors)
         add_counts(output, status, tally)
+    python_cases.check(python_cases.MODULE, SHARED, python_cases.ROUNDS, tally)
 
 
 def main():

@@ -1,0 +1,346 @@
+#!/usr/bin/env python3
+"""Cases of the Python module (python/tktext.py), each in a process of its own: what a caller may do to it.
+
+    python3 tools/python_cases.py [--module python] [--library out/libtktext.so] [--rounds 200]
+
+A case is a script and what it has to print; a crash is a failed case, and its script is shown.  Threads share a world,
+or have one each, in so many rounds.  Where Python has tkinter, random values become the words that they are there, which
+needs no display.  Ends in a line `N passed, M failed`; the exit status is 1 if anything failed.
+"""
+
+import argparse
+import os
+import subprocess
+import sys
+
+from harness import LONG_TIMEOUT_SECONDS, Tally
+
+TOP = os.path.dirname(os.path.dirname(os.path.abspath(__file__)))
+MODULE = os.path.join(TOP, "python")
+ROUNDS = 200
+HEAD = """
+import faulthandler, sys, threading
+faulthandler.enable()
+from tktext import *
+def tried(call, *arguments):
+    try:
+        return call(*arguments)
+    except Exception as error:
+        return f"{type(error).__name__}: {error}"
+"""
+
+# ---------------------------------------------------------------------------------------------------
+# Threads
+
+# Eight threads put lines into one text and take them out; each line is there, and no call is refused.
+ONE_WORLD = """
+text, faults = Text(undo=True), []
+def work(number):
+    for turn in range(10):
+        try:
+            text.insert("1.0", f"{number} {turn}\\n")
+            text.tag_add("t", "1.0", "1.1")
+            text.get("1.0", "end")
+        except Exception as error:
+            faults.append(f"{type(error).__name__}: {error}")
+sys.setswitchinterval(1e-5)
+for _ in range(ROUNDS):
+    threads = [threading.Thread(target=work, args=(number,)) for number in range(8)]
+    for thread in threads: thread.start()
+    for thread in threads: thread.join()
+    lines = text.get("1.0", "end-2c").split("\\n")
+    if faults or sorted(lines) != [f"{number} {turn}" for number in range(8) for turn in range(10)]:
+        print(len(faults), "faults", faults[:2], len(lines), "lines")
+        break
+    text.delete("1.0", "end")
+    text.edit_reset()
+print("done")
+"""
+
+# Eight worlds, each with a thread, end as they do one after another.
+EIGHT_WORLDS = """
+import random
+def work(seed, ended):
+    chance, text = random.Random(seed), Text(undo=True)
+    def place():
+        return f"{chance.randrange(1, 9)}.{chance.randrange(9)}"
+    for _ in range(12):
+        kind = chance.randrange(6)
+        try:
+            if kind < 3: text.insert(place(), chance.choice(["a", "b\\n", "xyz"]), chance.choice(["u", "v"]))
+            elif kind == 3: text.delete(place(), place())
+            elif kind == 4: text.edit_undo()
+            else: text.mark_set("m", place())
+        except TclError:
+            pass
+    ended[seed] = str(text.dump("1.0", "end"))
+for turn in range(ROUNDS):
+    seeds, alone, together = range(8 * turn, 8 * turn + 8), {}, {}
+    for seed in seeds: work(seed, alone)
+    threads = [threading.Thread(target=work, args=(seed, together)) for seed in seeds]
+    for thread in threads: thread.start()
+    for thread in threads: thread.join()
+    if alone != together:
+        print("they differ:", alone, together)
+        break
+print("done")
+"""
+
+# A world that is closed, fed and read by threads at once: each call is carried out, or told that the world was closed.
+CLOSED_BY_ANOTHER = """
+said = set()
+def work(world, number):
+    for _ in range(10):
+        try:
+            if number == 0: world.feed(b"text .t\\ndestroy .t\\n")
+            elif number == 1: list(world.lines())
+            elif number == 2: world.call("foo")
+            else: world.status()
+        except Exception as error:
+            said.add(f"{type(error).__name__}: {error}")
+    world.close()
+for _ in range(ROUNDS):
+    world = World()
+    threads = [threading.Thread(target=work, args=(world, number)) for number in range(4)]
+    for thread in threads: thread.start()
+    for thread in threads: thread.join()
+print(said - {'TclError: invalid command name "foo"', "ValueError: the world was closed"})
+"""
+
+# The handler of a signal calls in the middle of a call: it is refused by its own word, and the call comes to its end.
+REENTRANT = """
+import signal, time
+text, said = Text(), set()
+text.insert("1.0", "x" * 2_000_000)
+def handler(*_):
+    said.add(str(tried(text.index, "end")).replace("RuntimeError: ", "").replace("2.0", "carried out"))
+signal.signal(signal.SIGALRM, handler)
+until = time.monotonic() + 20
+signal.setitimer(signal.ITIMER_REAL, 0.003, 0.003)
+while len(said) < 2 and time.monotonic() < until:
+    if len(text.get("1.0", "end")) != 2_000_001: print("an answer is cut")
+    time.sleep(0.004)
+signal.setitimer(signal.ITIMER_REAL, 0)
+print(sorted(said), text.index("1.end"))
+"""
+REENTRANT_SAYS = "['a call of this world is under way in this thread', 'carried out'] 1.2000000"
+
+# ---------------------------------------------------------------------------------------------------
+# Limits, room, copies, lengths
+
+LIMITS = """
+for limits in ((10, 65541, 1, 1), (2**64 + 5, 1, 1, 1), (10, 1, 65536 + 4, 1), (10, 1, 1, 65536 + 2),
+               (10, -65535, 1, 1), (-2**64 + 7, 1, 1, 1), (0, 1, 1, 1), (10, 961, 1, 1), (10, 1, 1)):
+    print(tried(World, limits))
+with World((10, 1, 1, 1)) as world:
+    print(tried(Text(world).insert, "1.0", "0123456789"))
+"""
+LIMITS_SAY = """ValueError: no characters, or a limit above its greatest
+""" * 8 + """ValueError: the limits are four: characters, tags, marks and widgets
+TclError: text is too long"""
+
+# What is kept after a long answer, in KiB, also by a world that was closed.
+ROOM = """
+import tracemalloc
+tracemalloc.start()
+text = Text()
+text.insert("1.0", "x" * 5_000_000)
+def kept(call):
+    before = tracemalloc.get_traced_memory()[0]
+    call()
+    return (tracemalloc.get_traced_memory()[0] - before) // 1024 < 66
+text.index("1.0")
+print(kept(lambda: text.get("1.0", "end")), kept(lambda: text.get("1.0", "1.60000")), kept(lambda: text.world.said()))
+print(kept(text.world.close))
+"""
+
+COPIES = """
+import copy, gc, pickle
+text = Text()
+text.insert("1.0", "hi")
+print(tried(copy.copy, text.world))
+print(tried(copy.deepcopy, text.world))
+print(tried(pickle.dumps, text.world))
+print(repr(tried(text.get, "1.0", "end-1c")))
+other = copy.copy(text)
+del other
+gc.collect()
+print(repr(tried(text.get, "1.0", "end-1c")))
+"""
+COPIES_SAY = "TypeError: a world can't be copied\n" * 3 + "'hi'\n'hi'"
+
+# Classes that stand on `bytes` and tell a wrong length, a buffer of another class, and what is none.
+LENGTHS = """
+class Long(bytes):
+    def __len__(self): return 500_000_000
+class Short(bytes):
+    def __len__(self): return 1
+for piece in (Long(b"text .t\\n"), Short(b"text .u\\n"), bytearray(b"text .v\\n"), memoryview(b"xtext .w\\n")[1:]):
+    with World() as world:
+        world.feed(piece)
+        print(list(world.lines()))
+        print(world.give([Long(b"text"), Short(b".x")]), world.said())
+with World() as world:
+    print(tried(world.feed, "text .t\\n"))
+    print(tried(world.call, b"text", Long(b".y")), world.call(".y", "index", "end"))
+"""
+LENGTHS_SAY = """[b'.t\\n']
+0 b'.x\\n'
+[b'.u\\n']
+0 b'.x\\n'
+[b'.v\\n']
+0 b'.x\\n'
+[b'.w\\n']
+0 b'.x\\n'
+TypeError: memoryview: a bytes-like object is required, not 'str'
+.y 2.0"""
+
+# ---------------------------------------------------------------------------------------------------
+# Values, as tkinter has them: what it gave in each place stands behind.
+
+VALUES_HEAD = """
+import enum
+class Name(str, enum.Enum):
+    first = "x"
+def put(value):
+    text = Text()
+    said = tried(text.insert, "1.0", value)
+    print(repr(text.get("1.0", "end-1c")) if said is None else said)
+"""
+PUT = (
+    ("None", "TclError: wrong # args"),
+    ("True", "'1'"), ("False", "'0'"), ("5", "'5'"), ("1.5", "'1.5'"), ("-1.2e16", "'-12000000000000000.0'"),
+    ("1e17", "'1e+17'"), ("1e-05", "'1e-5'"), ('float("inf")', "'Inf'"), ('float("-inf")', "'-Inf'"),
+    ('float("nan")', "'NaN'"), ("b'q\\xe9'", "'qé'"), ("Name.first", "'x'"), ("['a', 'b c']", "'a {b c}'"), ("()", "''"),
+    ("('', 1, None, True, b'\\xe9')", "'{} 1 None 1 é'"),
+    ("['#x', '#y', ['n n', 'm'], 'a\"b', '\"q', '\\\\', 'a{b}', 'a}b', '$x', '[y]', ';', ']']",
+     "'{#x} #y {{n n} m} a\\\\\"b {\"q} \\\\\\\\ a{b} a\\\\}b {$x} {[y]} {;} \\\\]'"),
+)
+VALUES = """
+text = Text(undo=True, maxundo=7, startline=None)
+print(text["undo"], text["maxundo"], text["autoseparators"], text["state"])
+print(repr(text["startline"]), repr(text["endline"]))
+text.insert("1.0", "one two\\nthree\\nfour\\n", None, "not put in", "never")
+text.configure(undo=False, endline=3, startline=None)
+text.configure(undo=None)
+print(repr(text["undo"]), repr(text["endline"]), repr(text["startline"]), bool(text["undo"]))
+text["endline"] = ""
+print(repr(text["endline"]))
+text.tag_add("t", "1.0", None, "1.3")
+print(text.tag_ranges("t"))
+text.tag_add(b"tt", "2.0", "2.1")
+text.tag_add(True, "2.0")
+text.insert("3.0", "w", ("u", "v w"), "z")
+text.insert("3.2", "x", [1, True], "y", ("t3",))
+print(text.tag_names("2.0"), text.tag_names("3.0"), text.tag_names("3.1"), text.tag_names("3.2"), text.tag_names("3.3"))
+text.replace("1.0", "1.3", True, None, "no tag")
+print(repr(text.get("1.0", "1.end")), tried(text.replace, "1.0", "1.1", None))
+print(text.get("1.0", None), text.tag_nextrange("u", "1.0", None), text.mark_gravity("insert", None))
+print(text.tag_names(None)[:1])
+print(tried(text.get, None), tried(text.tag_delete, None), tried(text.mark_unset, None))
+print(text.search("t", 1.0, stopindex=""), text.index(1.0), tried(text.edit_modified, ""))
+text.edit_modified(False)
+print(text.edit_modified(None), text.edit_modified())
+"""
+VALUES_SAY = """1 7 1 normal
+'' ''
+0 3 '' False
+''
+('1.0', '1.1')
+('tt', '1') ('u', 'v w') () ('1',) ('t3',)
+'1 two' TclError: wrong # args
+1 ('3.0', '3.1') right
+('sel',)
+TclError: wrong # args TclError: wrong # args None
+1.2 1.0 TclError: expected boolean value but got ""
+False False"""
+
+# Random values, and lists of them, become the words that they are in a Tcl interpreter without a display.
+TKINTER = """
+import math, random
+try:
+    import tkinter
+    interpreter = tkinter.Tcl()
+except Exception:
+    interpreter = None
+def value(chance, depth):
+    kind = chance.randrange(9 if depth else 7)
+    if kind < 3: return "".join(chance.choice(' \\n\\t{}[]$;"\\\\#aéb') for _ in range(chance.randrange(7)))
+    if kind == 3: return chance.choice([True, False, 0, -7, 2**70])
+    if kind == 4: return math.ldexp(chance.uniform(-1, 1), chance.randrange(-90, 90))
+    if kind == 5: return bytes(chance.randrange(1, 256) for _ in range(chance.randrange(4)))
+    if kind == 6: return chance.choice([1e15, 1e16, 123456789.0, -2.0, 1e-4, 1e-5, ""])
+    return [value(chance, depth - 1) for _ in range(chance.randrange(5))]
+text, faults = Text(), 0
+for seed in range(0 if interpreter is None else 3000):
+    given = value(random.Random(seed), 3)
+    text.delete("1.0", "end")
+    text.insert("1.0", given)
+    wanted = interpreter.call("format", "%s", given)
+    if text.get("1.0", "end-1c") != str(wanted):
+        faults += 1
+        print(repr(given), repr(text.get("1.0", "end-1c")), repr(wanted))
+    if faults == 5: break
+print("done" if interpreter else "done without tkinter")
+"""
+
+
+def cases(rounds):
+    """The name of each case, its script, and what it prints."""
+    def of(script):
+        return script.replace("ROUNDS", str(rounds))
+
+    yield "threads on one world", of(ONE_WORLD), "done"
+    yield "threads on worlds of their own", of(EIGHT_WORLDS), "done"
+    yield "threads on a world that is closed", of(CLOSED_BY_ANOTHER), "set()"
+    yield "a call within a call", REENTRANT, REENTRANT_SAYS
+    yield "limits", LIMITS, LIMITS_SAY
+    yield "the room that is kept", ROOM, "True True True\nTrue"
+    yield "copies", COPIES, COPIES_SAY
+    yield "lengths", LENGTHS, LENGTHS_SAY
+    puts, said = "".join(f"put({value})\n" for value, _ in PUT), "\n".join(said for _, said in PUT)
+    yield "values that are put in", VALUES_HEAD + puts, said
+    yield "values of methods", VALUES, VALUES_SAY
+    yield "random values", TKINTER, "done"
+
+
+def check_case(module, library, name, script, wanted, tally):
+    """One case: what it prints and its end, or its script is shown."""
+    environment = dict(os.environ, PYTHONPATH=module, TKTEXT_LIBRARY=library, PYTHONIOENCODING="utf-8")
+    try:
+        done = subprocess.run(
+            [sys.executable, "-c", HEAD + script], capture_output=True, env=environment, timeout=LONG_TIMEOUT_SECONDS
+        )
+    except subprocess.TimeoutExpired:
+        tally.failed(f"Python, {name}: no end; the script:\n{HEAD}{script}")
+        return
+    said = done.stdout.decode("utf-8", "replace").rstrip("\n")
+    if name == "random values" and said == "done without tkinter":
+        print("Python: random values aren't compared with tkinter's, which isn't installed")
+        return
+    if (said, done.returncode, done.stderr) == (wanted, 0, b""):
+        tally.passed()
+        return
+    errors = done.stderr[-900:].decode("utf-8", "replace")
+    tally.failed(f"Python, {name}: status {done.returncode}\n{said}\n{errors}\nwanted\n{wanted}\nthe script:\n{HEAD}{script}")
+
+
+def check(module, library, rounds, tally):
+    """Each case, of the module in a folder over a library."""
+    for name, script, wanted in cases(rounds):
+        check_case(module, library, name, script, wanted, tally)
+
+
+def main():
+    parser = argparse.ArgumentParser(description="what a caller may do to the Python module")
+    parser.add_argument("--module", default=MODULE)
+    parser.add_argument("--library", default=os.path.join(TOP, "out", "libtktext.so"))
+    parser.add_argument("--rounds", type=int, default=ROUNDS)
+    options = parser.parse_args()
+    tally = Tally()
+    check(options.module, options.library, options.rounds, tally)
+    return tally.close()
+
+
+if __name__ == "__main__":
+    sys.exit(main())
