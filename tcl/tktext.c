@@ -2,29 +2,49 @@
 
        tktext::text .t ?option value ..?
 
-   makes a widget without a display, and a command `.t` that takes the words of Tk's own widget.  `.t peer create .u` makes
-   a command `.u` too; `tktext::destroy ?W ..?` takes widgets away, with their commands, and so does a command that is renamed
-   to the empty name.  All widgets of an interpreter stand in one world, which goes with it.  A refused command is an error
-   of its text, with the error code `TKTEXT FAULT`, or `TKTEXT MEMORY` where memory was refused. */
+   makes a widget without a display, and a command `.t` that takes the words of Tk's own widget.  `.t peer create .u`
+   makes a command `.u` too; `tktext::destroy ?W ..?` takes widgets away, with their commands, whatever these are called
+   by then, and a command that is renamed to the empty name takes its own widget with it.  All widgets of an interpreter
+   stand in one world, which goes with it.  A refused command is an error of its text, with the error code `TKTEXT
+   FAULT`, or `TKTEXT MEMORY` where memory was refused, or `TKTEXT SIZE` where words or an answer have more bytes than a
+   value of Tcl can hold; then the text of the error says whether the command was carried out. */
 
 #include "tktext.h"
 
+#include <limits.h>
 #include <string.h>
 #include <tcl.h>
 
 #define MOST_FIXED 16
 #define FIXED_BYTES 1024
 
-/* One world, and how many hold it: the package's two commands and each widget. */
+/* What Tcl's converter of texts wants behind a text's last byte. */
+#define SLACK 16
+
+/* The most bytes of a value, of the words of a command together, and of their lengths; less, to try what is refused. */
+#ifndef TKTEXT_MOST_BYTES
+#define TKTEXT_MOST_BYTES (INT_MAX - SLACK)
+#endif
+
+typedef struct Widget Widget;
+
+/* One world, its widgets that have a command, and how many hold it: the package's two commands and each widget. */
 typedef struct World {
     tktext handle;
+    Widget *widgets;
     int holders;
 } World;
 
-typedef struct Widget {
+/* Whether a widget stands in the world; or it was destroyed, and its command is yet to be deleted, or is just then. */
+enum { STANDS, IS_DESTROYED, IS_DELETED };
+
+struct Widget {
     World *world;
+    Widget *next;
     Tcl_Obj *name;
-} Widget;
+    Tcl_Command command;
+    int state;
+};
 
 static void let_go(void *data)
 {
@@ -35,103 +55,250 @@ static void let_go(void *data)
     }
 }
 
-static int fail(Tcl_Interp *interp, const char *kind, const char *text, size_t length)
+/* ---- Errors and lengths */
+
+static int fail(Tcl_Interp *interp, const char *kind, const char *text)
 {
-    Tcl_SetObjResult(interp, Tcl_NewStringObj(text, (int)length));
+    Tcl_SetObjResult(interp, Tcl_NewStringObj(text, -1));
     Tcl_SetErrorCode(interp, "TKTEXT", kind, NULL);
     return TCL_ERROR;
 }
 
 static int fail_for_memory(Tcl_Interp *interp)
 {
-    return fail(interp, "MEMORY", "out of memory", strlen("out of memory"));
+    return fail(interp, "MEMORY", "out of memory");
+}
+
+static int fail_for_words(Tcl_Interp *interp)
+{
+    return fail(interp, "SIZE", "the words of the command have more bytes than Tcl can hold");
+}
+
+static int fail_for_answer(Tcl_Interp *interp, int32_t code)
+{
+    if (code == TKTEXT_FAULT)
+        return fail(interp, "SIZE", "the command was refused, and its error has more bytes than Tcl can hold");
+    return fail(interp, "SIZE", "the command was carried out, but its answer has more bytes than Tcl can hold");
+}
+
+/* Whether Tcl can hold so many bytes, and some more: the one place where lengths are compared. */
+static int fits(size_t length, size_t more)
+{
+    return length <= TKTEXT_MOST_BYTES && more <= TKTEXT_MOST_BYTES - length;
+}
+
+/* A block of some bytes, which fit, or NULL. */
+static void *attempt(size_t size)
+{
+    return Tcl_AttemptAlloc((unsigned)size);
+}
+
+static void free_unless(void *block, void *fixed)
+{
+    if (block != NULL && block != fixed)
+        Tcl_Free(block);
+}
+
+/* ---- Answers */
+
+/* By how many bytes Tcl's own form is longer, at most: it has two for the character 0, and six for one of four. */
+static size_t growth_of(const uint8_t *text, size_t length)
+{
+    size_t growth = 0;
+    for (size_t at = 0; at < length; at++)
+        growth += text[at] == 0 ? 1 : text[at] >= 0xf0 ? 2 : 0;
+    return growth;
+}
+
+/* Writes a text in Tcl's own form into a value that has room for it and SLACK bytes more. */
+static void convert(Tcl_Obj *value, const uint8_t *text, size_t length)
+{
+    int written;
+    Tcl_Encoding utf8 = Tcl_GetEncoding(NULL, "utf-8");
+    Tcl_ExternalToUtf(NULL, utf8, (const char *)text, (int)length, TCL_ENCODING_START | TCL_ENCODING_END, NULL,
+                      value->bytes, value->length, NULL, &written, NULL);
+    Tcl_FreeEncoding(utf8);
+    Tcl_SetObjLength(value, written);
+}
+
+/* Sets the interpreter's result to a text, and gives whether it could be. */
+static int set_result(Tcl_Interp *interp, const uint8_t *text, size_t length, size_t growth)
+{
+    Tcl_Obj *value = Tcl_NewObj();
+    size_t room = growth == 0 ? length : length + growth + SLACK;
+    if (!Tcl_AttemptSetObjLength(value, (int)room)) {
+        Tcl_DecrRefCount(value);
+        return 0;
+    }
+    if (growth == 0)
+        memcpy(value->bytes, text, length);
+    else
+        convert(value, text, length);
+    Tcl_SetObjResult(interp, value);
+    return 1;
+}
+
+/* The same for the answer or the fault in a line that was said. */
+static int set_line(Tcl_Interp *interp, int32_t code, const uint8_t *line, size_t length)
+{
+    size_t before = code == TKTEXT_FAULT ? TKTEXT_BEFORE_FAULT : 0, size = length - before - TKTEXT_BEHIND;
+    size_t growth = growth_of(line + before, size);
+    if (!fits(size, growth))
+        return fail_for_answer(interp, code);
+    if (!set_result(interp, line + before, size, growth))
+        return fail_for_memory(interp);
+    if (code != TKTEXT_FAULT)
+        return TCL_OK;
+    Tcl_SetErrorCode(interp, "TKTEXT", "FAULT", NULL);
+    return TCL_ERROR;
 }
 
 /* Sets the interpreter's result to what was said. */
 static int said(Tcl_Interp *interp, World *world, int32_t code)
 {
-    uint8_t fixed[FIXED_BYTES], *room = fixed;
+    uint8_t fixed[FIXED_BYTES], *line = fixed;
     size_t length = tktext_said(&world->handle, fixed, sizeof fixed);
     if (length > sizeof fixed) {
-        room = (uint8_t *)Tcl_AttemptAlloc((unsigned)length);
-        if (room == NULL)
+        if (!fits(length, 0))
+            return fail_for_answer(interp, code);
+        line = attempt(length);
+        if (line == NULL)
             return fail_for_memory(interp);
-        tktext_said(&world->handle, room, length);
+        tktext_said(&world->handle, line, length);
     }
-    /* Tcl's own form of UTF-8 has two bytes for the character 0. */
-    Tcl_DString text;
-    Tcl_Encoding utf8 = Tcl_GetEncoding(NULL, "utf-8");
-    size_t before = code == TKTEXT_FAULT ? TKTEXT_BEFORE_FAULT : 0;
-    Tcl_ExternalToUtfDString(utf8, (char *)room + before, (int)(length - before - TKTEXT_BEHIND), &text);
-    int result = TCL_OK;
-    if (code == TKTEXT_FAULT)
-        result = fail(interp, "FAULT", Tcl_DStringValue(&text), (size_t)Tcl_DStringLength(&text));
-    else
-        Tcl_SetObjResult(interp, Tcl_NewStringObj(Tcl_DStringValue(&text), Tcl_DStringLength(&text)));
-    Tcl_DStringFree(&text);
-    Tcl_FreeEncoding(utf8);
-    if (room != fixed)
-        Tcl_Free((char *)room);
+    int result = set_line(interp, code, line, length);
+    free_unless(line, fixed);
     return result;
 }
 
-/* Puts a word behind others, as UTF-8, and gives its length. */
-static size_t append(Tcl_DString *bytes, Tcl_Encoding utf8, Tcl_Obj *word)
+/* ---- Commands */
+
+/* Whether Tcl's own form is UTF-8 as it stands: without a character 0, one in two halves, and one of four bytes. */
+static int is_utf8(const char *text, int length)
+{
+    for (int at = 0; at < length; at++)
+        if ((uint8_t)text[at] == 0xc0 || (uint8_t)text[at] == 0xed || (uint8_t)text[at] >= 0xf0)
+            return 0;
+    return 1;
+}
+
+/* How many bytes a word may take as UTF-8. */
+static size_t room_of(Tcl_Obj *word)
 {
     int length;
     const char *text = Tcl_GetStringFromObj(word, &length);
-    Tcl_DString outside;
-    Tcl_UtfToExternalDString(utf8, text, length, &outside);
-    size_t size = (size_t)Tcl_DStringLength(&outside);
-    Tcl_DStringAppend(bytes, Tcl_DStringValue(&outside), (int)size);
-    Tcl_DStringFree(&outside);
+    return is_utf8(text, length) ? (size_t)length : 2 * (size_t)length;
+}
+
+/* Writes a word as UTF-8 where there is its room and SLACK bytes more, and gives its length. */
+static size_t write_word(char *place, Tcl_Encoding utf8, Tcl_Obj *word)
+{
+    int length, written;
+    const char *text = Tcl_GetStringFromObj(word, &length);
+    if (is_utf8(text, length)) {
+        memcpy(place, text, (size_t)length);
+        return (size_t)length;
+    }
+    Tcl_UtfToExternal(NULL, utf8, text, length, TCL_ENCODING_START | TCL_ENCODING_END, NULL, place, 2 * length + SLACK,
+                      NULL, &written, NULL);
+    return (size_t)written;
+}
+
+/* How many bytes all words of a command may take together, and whether so many fit. */
+static int room_of_all(size_t *room, Tcl_Obj *first, int count, Tcl_Obj *const words[])
+{
+    *room = room_of(first);
+    for (int number = 0; number < count; number++) {
+        size_t more = room_of(words[number]);
+        if (!fits(*room, more))
+            return 0;
+        *room += more;
+    }
+    return fits(*room, 0);
+}
+
+/* Puts the words one behind the other, with their lengths, and gives the length of all. */
+static size_t join(char *place, size_t *lengths, Tcl_Obj *first, int count, Tcl_Obj *const words[])
+{
+    Tcl_Encoding utf8 = Tcl_GetEncoding(NULL, "utf-8");
+    size_t size = lengths[0] = write_word(place, utf8, first);
+    for (int number = 0; number < count; number++) {
+        lengths[number + 1] = write_word(place + size, utf8, words[number]);
+        size += lengths[number + 1];
+    }
+    Tcl_FreeEncoding(utf8);
     return size;
 }
 
+/* What `call` gives beside the library's codes, with nothing changed. */
+#define TOO_LONG (-1)
+
 /* Carries out the command of a first word and others. */
-static int32_t call(World *world, Tcl_Obj *first, size_t *lengths, int count, Tcl_Obj *const words[])
+static int32_t call(World *world, Tcl_Obj *first, int count, Tcl_Obj *const words[])
 {
-    Tcl_DString bytes;
-    Tcl_Encoding utf8 = Tcl_GetEncoding(NULL, "utf-8");
-    Tcl_DStringInit(&bytes);
-    lengths[0] = append(&bytes, utf8, first);
-    for (int number = 0; number < count; number++)
-        lengths[number + 1] = append(&bytes, utf8, words[number]);
-    Tcl_FreeEncoding(utf8);
-    int32_t code = tktext_call(&world->handle, (uint8_t *)Tcl_DStringValue(&bytes), (size_t)Tcl_DStringLength(&bytes), lengths,
-                               (size_t)count + 1);
-    Tcl_DStringFree(&bytes);
+    char fixed[FIXED_BYTES], *bytes = fixed;
+    size_t fixed_lengths[MOST_FIXED], *lengths = fixed_lengths;
+    size_t room, lengths_size = ((size_t)count + 1) * sizeof *lengths;
+    if (!fits(lengths_size, 0) || !room_of_all(&room, first, count, words))
+        return TOO_LONG;
+    if (lengths_size > sizeof fixed_lengths)
+        lengths = attempt(lengths_size);
+    if (room + SLACK > sizeof fixed)
+        bytes = attempt(room + SLACK);
+    int32_t code = TKTEXT_NO_MEMORY;
+    if (lengths != NULL && bytes != NULL) {
+        size_t size = join(bytes, lengths, first, count, words);
+        code = tktext_call(&world->handle, (uint8_t *)bytes, size, lengths, (size_t)count + 1);
+    }
+    free_unless(lengths, fixed_lengths);
+    free_unless(bytes, fixed);
     return code;
 }
 
-/* The same, with the answer or the fault as the interpreter's result. */
-static int give(Tcl_Interp *interp, World *world, Tcl_Obj *first, int count, Tcl_Obj *const words[])
+/* The same, with the answer or the fault as the interpreter's result; tells whether the command was carried out. */
+static int give(Tcl_Interp *interp, World *world, Tcl_Obj *first, int count, Tcl_Obj *const words[], int *is_done)
 {
-    size_t fixed[MOST_FIXED], *lengths = fixed;
-    if (count >= MOST_FIXED) {
-        lengths = (size_t *)Tcl_AttemptAlloc((unsigned)(((size_t)count + 1) * sizeof *lengths));
-        if (lengths == NULL)
-            return fail_for_memory(interp);
-    }
-    int32_t code = call(world, first, lengths, count, words);
-    if (lengths != fixed)
-        Tcl_Free((char *)lengths);
+    int32_t code = call(world, first, count, words);
+    *is_done = code == TKTEXT_ANSWER;
     if (code == TKTEXT_ANSWER || code == TKTEXT_FAULT)
         return said(interp, world, code);
     if (code == TKTEXT_NO_MEMORY)
         return fail_for_memory(interp);
-    return fail(interp, "WORDS", "a word isn't UTF-8", strlen("a word isn't UTF-8"));
+    return code == TOO_LONG ? fail_for_words(interp) : fail(interp, "WORDS", "a word isn't UTF-8");
 }
 
-/* Takes a widget away whose command goes.  Where memory is refused it stays in the world, without a command. */
+/* The same with the command's first word as it stands in the source. */
+static int give_named(Tcl_Interp *interp, World *world, const char *name, int count, Tcl_Obj *const words[],
+                      int *is_done)
+{
+    Tcl_Obj *first = Tcl_NewStringObj(name, -1);
+    Tcl_IncrRefCount(first);
+    int result = give(interp, world, first, count, words, is_done);
+    Tcl_DecrRefCount(first);
+    return result;
+}
+
+/* ---- Widgets */
+
+static void unlink_widget(Widget *widget)
+{
+    Widget **place = &widget->world->widgets;
+    while (*place != widget)
+        place = &(*place)->next;
+    *place = widget->next;
+}
+
+/* What is done for a widget whose command goes.  One that stands goes too, unless memory is refused for it. */
 static void forget(void *data)
 {
     Widget *widget = data;
-    size_t lengths[2];
-    Tcl_Obj *destroy = Tcl_NewStringObj("destroy", -1);
-    Tcl_IncrRefCount(destroy);
-    call(widget->world, destroy, lengths, 1, &widget->name);
-    Tcl_DecrRefCount(destroy);
+    if (widget->state == STANDS) {
+        Tcl_Obj *destroy = Tcl_NewStringObj("destroy", -1);
+        Tcl_IncrRefCount(destroy);
+        call(widget->world, destroy, 1, &widget->name);
+        Tcl_DecrRefCount(destroy);
+    }
+    unlink_widget(widget);
     Tcl_DecrRefCount(widget->name);
     let_go(widget->world);
     Tcl_Free((char *)widget);
@@ -142,57 +309,102 @@ static int is_word(Tcl_Obj *word, const char *text)
     return strcmp(Tcl_GetString(word), text) == 0;
 }
 
-static void add_command(Tcl_Interp *interp, World *world, Tcl_Obj *name);
+static int add_command(Tcl_Interp *interp, World *world, Tcl_Obj *name, int result);
 
-/* A command of a widget. */
+/* A command of a widget.  One whose widget was destroyed may have a later one's name, and does nothing any more. */
 static int run_widget(void *data, Tcl_Interp *interp, int count, Tcl_Obj *const words[])
 {
     Widget *widget = data;
-    int result = give(interp, widget->world, widget->name, count - 1, words + 1);
-    if (result == TCL_OK && count > 3 && is_word(words[1], "peer") && is_word(words[2], "create"))
-        add_command(interp, widget->world, words[3]);
+    int is_done;
+    if (widget->state != STANDS) {
+        fail(interp, "FAULT", "");
+        Tcl_SetObjResult(interp, Tcl_ObjPrintf("invalid command name \"%s\"", Tcl_GetString(widget->name)));
+        return TCL_ERROR;
+    }
+    int result = give(interp, widget->world, widget->name, count - 1, words + 1, &is_done);
+    if (is_done && count > 3 && is_word(words[1], "peer") && is_word(words[2], "create"))
+        return add_command(interp, widget->world, words[3], result);
     return result;
 }
 
-/* Makes the command of a new widget. */
-static void add_command(Tcl_Interp *interp, World *world, Tcl_Obj *name)
+/* Deletes the command that a new one would stand in the place of; what its traces do is done then. */
+static void clear_name(Tcl_Interp *interp, const char *name)
 {
-    Widget *widget = (Widget *)Tcl_Alloc(sizeof *widget);
-    *widget = (Widget){world, name};
-    Tcl_IncrRefCount(name);
-    world->holders++;
-    Tcl_CreateObjCommand(interp, Tcl_GetString(name), run_widget, widget, forget);
+    int where = strstr(name, "::") == NULL ? TCL_GLOBAL_ONLY : TCL_NAMESPACE_ONLY;
+    Tcl_Command found = Tcl_FindCommand(interp, name, NULL, where);
+    if (found != NULL)
+        Tcl_DeleteCommandFromToken(interp, found);
 }
 
-/* Gives the package's world a command of this name. */
-static int give_named(Tcl_Interp *interp, World *world, const char *name, int count, Tcl_Obj *const words[])
+/* Makes the command of a new widget, and gives the result; without a command there is no widget. */
+static int add_command(Tcl_Interp *interp, World *world, Tcl_Obj *name, int result)
 {
-    Tcl_Obj *first = Tcl_NewStringObj(name, -1);
-    Tcl_IncrRefCount(first);
-    int result = give(interp, world, first, count, words);
-    Tcl_DecrRefCount(first);
+    Widget *widget = (Widget *)Tcl_Alloc(sizeof *widget);
+    *widget = (Widget){world, world->widgets, name, NULL, STANDS};
+    world->widgets = widget;
+    world->holders++;
+    Tcl_IncrRefCount(name);
+    clear_name(interp, Tcl_GetString(name));
+    if (widget->state == STANDS) {
+        widget->command = Tcl_CreateObjCommand(interp, Tcl_GetString(name), run_widget, widget, forget);
+        if (widget->command == NULL)
+            result = fail(interp, "NAME", "there can't be a command of this name");
+    }
+    if (widget->command == NULL)
+        forget(widget);
+    else if (widget->state != STANDS)
+        Tcl_DeleteCommandFromToken(interp, widget->command);
     return result;
 }
 
 /* tktext::text W ?option value ..? */
 static int make(void *data, Tcl_Interp *interp, int count, Tcl_Obj *const words[])
 {
-    int result = give_named(interp, data, "text", count - 1, words + 1);
-    if (result == TCL_OK)
-        add_command(interp, data, words[1]);
-    return result;
+    int is_done;
+    int result = give_named(interp, data, "text", count - 1, words + 1, &is_done);
+    return is_done ? add_command(interp, data, words[1], result) : result;
+}
+
+/* Notes that the widget of a name was destroyed, where it has a command. */
+static void note_destroyed(World *world, Tcl_Obj *name)
+{
+    for (Widget *widget = world->widgets; widget != NULL; widget = widget->next)
+        if (widget->state == STANDS && is_word(widget->name, Tcl_GetString(name)))
+            widget->state = IS_DESTROYED;
+}
+
+static Widget *first_destroyed(World *world)
+{
+    Widget *widget = world->widgets;
+    while (widget != NULL && widget->state != IS_DESTROYED)
+        widget = widget->next;
+    return widget;
+}
+
+/* Deletes the commands of destroyed widgets.  Each is found anew, as the traces of one may do anything with others. */
+static void delete_destroyed(Tcl_Interp *interp, World *world)
+{
+    Widget *widget;
+    while ((widget = first_destroyed(world)) != NULL) {
+        widget->state = IS_DELETED;
+        if (widget->command != NULL)
+            Tcl_DeleteCommandFromToken(interp, widget->command);
+    }
 }
 
 /* tktext::destroy ?W ..? */
 static int destroy(void *data, Tcl_Interp *interp, int count, Tcl_Obj *const words[])
 {
-    int result = give_named(interp, data, "destroy", count - 1, words + 1);
-    for (int number = 1; result == TCL_OK && number < count; number++) {
-        Tcl_CmdInfo found;
-        const char *name = Tcl_GetString(words[number]);
-        if (Tcl_GetCommandInfo(interp, name, &found) && found.objProc == run_widget)
-            Tcl_DeleteCommand(interp, name);
-    }
+    World *world = data;
+    int is_done;
+    int result = give_named(interp, world, "destroy", count - 1, words + 1, &is_done);
+    if (!is_done)
+        return result;
+    for (int number = 1; number < count; number++)
+        note_destroyed(world, words[number]);
+    world->holders++;
+    delete_destroyed(interp, world);
+    let_go(world);
     return result;
 }
 
@@ -203,8 +415,7 @@ int DLLEXPORT Tktext_Init(Tcl_Interp *interp)
     World *world = (World *)Tcl_AttemptAlloc(sizeof *world);
     if (world == NULL)
         return fail_for_memory(interp);
-    world->handle = (tktext)TKTEXT_EMPTY;
-    world->holders = 2;
+    *world = (World){TKTEXT_EMPTY, NULL, 2};
     if (tktext_new_greatest(&world->handle) != TKTEXT_ANSWER) {
         Tcl_Free((char *)world);
         return fail_for_memory(interp);

@@ -11,7 +11,7 @@ has just proved (tools/build_library.py).  Without a C compiler one line says so
   caller may get wrong; valgrind finds no leak and no wrong access in 10,000 commands and a drop.
 - Python (python/tktext.py): the worked rows, each under its limits; the methods of `Text` on worked and random scripts;
   the cases of tools/python_cases.py, threads among them.
-- Tcl (tcl/): a script with procedures, loops and variables, and random scripts.
+- Tcl (tcl/): a script with procedures, loops and variables, and random scripts; the cases of tools/tcl_cases.py.
 - Python and Tcl with growths of memory refused (tools/refuse_calls.c): want of memory is an error of the language, and the
   command answers as ever when it is given again.
 - The time of a command by its words and by a script.
@@ -34,6 +34,7 @@ import examples
 import model
 import python_cases
 import scripts
+import tcl_cases
 import worked
 from harness import LONG_TIMEOUT_SECONDS, Tally
 
@@ -45,6 +46,7 @@ EXTENSION = os.path.join(OUT, "tktext.so")
 CLIENT = os.path.join(OUT, "library_client")
 REFUSED = os.path.join(OUT, "refused.so")
 REFUSED_EXTENSION = os.path.join(OUT, "refused_tktext.so")
+SMALL_EXTENSION = os.path.join(OUT, "small_tktext.so")
 FLAGS = ["-Wall", "-Wextra", "-O2", "-fPIC", "-I" + os.path.join(TOP, "include")]
 PIECES = (1, 7, 4096)
 LEAK_COMMANDS = 10_000
@@ -75,7 +77,9 @@ def compile_all(has_tcl):
     subprocess.run(["cc", *FLAGS, *wraps, "-o", REFUSED, "-Wl,--whole-archive", ARCHIVE, "-Wl,--no-whole-archive"], check=True)
     if has_tcl:
         tcl = ["-DUSE_TCL_STUBS", "-I" + examples.TCL_INCLUDE, source("tcl", "tktext.c")]
-        subprocess.run(["cc", *FLAGS, "-shared", *tcl, "-o", EXTENSION, ARCHIVE, "-ltclstub8.6"], check=True)
+        small = f"-DTKTEXT_MOST_BYTES={tcl_cases.MOST_BYTES}"
+        for made, flags in ((EXTENSION, []), (SMALL_EXTENSION, [small])):
+            subprocess.run(["cc", *FLAGS, *flags, "-shared", *tcl, "-o", made, ARCHIVE, "-ltclstub8.6"], check=True)
         # The words of Tcl's glue are Tcl's own growths, which Tcl doesn't survive: only those of the library are counted.
         subprocess.run(["cc", *FLAGS, *tcl, "-c", "-o", EXTENSION + ".o"], check=True)
         subprocess.run(["cc", *FLAGS, *wraps, EXTENSION + ".o", "-o", REFUSED_EXTENSION, ARCHIVE, "-ltclstub8.6"], check=True)
@@ -525,6 +529,7 @@ def check_tcl(seeds, tally):
         count = check_tcl_scripts(seeds, folder, tally)
         print(f"Tcl: a program, and {count} random scripts")
         check_tcl_refusals(folder, tally)
+    tcl_cases.check(EXTENSION, SMALL_EXTENSION, tally)
 
 
 # ---------------------------------------------------------------------------------------------------
