@@ -5,6 +5,7 @@
 # make examples  its examples in C, Python and Tcl, and what is missing for one that can't be run
 # make test    the gate, and then the checks that the gate can't do; the last line counts them
 # make fuzz    the program against the plain model on random scripts: SEEDS=300 of them, FIRST=0 on
+# make fuzz-library  random calls of the library under sanitizers, for SECONDS=600, from the seed FIRST=0 on
 # make tk      the program against real Tk, where that is installed: the rows of docs/differences.md, and random scripts
 # make gate    the gate alone, and its processor time over that of `rt selftest`; with nothing beside it
 # make bench   the program's time per command as the text grows, and its memory as the script does, into docs/bench.txt;
@@ -26,6 +27,7 @@ SHIM = out/refuse.so
 WEIGH = out/weigh.so
 SEEDS ?= 300
 FIRST ?= 0
+SECONDS ?= 600
 SOURCES = crates.txt $(shell find crates -name '*.rt' -o -name '*.antt' | grep -v /out/)
 
 try:
@@ -77,10 +79,14 @@ test: $(SHIM) $(WEIGH)
 	  'python3 tools/manual.py --program $(PROGRAM)' \
 	  'python3 tools/tk.py --program $(PROGRAM)' \
 	  'python3 tools/editor_test.py --program $(PROGRAM)' \
-	  'python3 tools/library.py --build'
+	  'python3 tools/library.py --build' \
+	  'python3 tools/fuzz_library.py'
 
 fuzz: $(PROGRAM)
 	python3 tools/fuzz.py --program $(PROGRAM) --seeds $(SEEDS) --first $(FIRST)
+
+fuzz-library: $(LIBRARY)
+	python3 tools/fuzz_library.py --seconds $(SECONDS) --first $(FIRST)
 
 $(LINE_BENCH): $(SOURCES)
 	cd crates/line_bench && rt run -- part 3 5 10 > /dev/null
@@ -117,4 +123,4 @@ tk: $(PROGRAM)
 	python3 tools/tk.py --program $(PROGRAM)
 	python3 tools/tk.py --program $(PROGRAM) --scripts $(SEEDS) --first $(FIRST)
 
-.PHONY: try run build lib examples test fuzz bench versus counts gains gate tk
+.PHONY: try run build lib examples test fuzz fuzz-library bench versus counts gains gate tk
