@@ -11,7 +11,6 @@ looks.
 """
 
 import ctypes
-import itertools
 import operator
 import os
 import threading
@@ -126,7 +125,7 @@ class World:
 
     def call(self, *words):
         """Carries out a command and gives its answer.  A word of bytes is UTF-8."""
-        given = [word if isinstance(word, bytes) else str(word).encode("utf-8") for word in words]
+        given = [_bytes_of(word) if isinstance(word, bytes) else str(word).encode("utf-8") for word in words]
         code, said = self._alone(self._call, given)
         self._check(code)
         if code == FAULT:
@@ -135,7 +134,7 @@ class World:
 
     def give(self, words):
         """Carries out a command of some bytes, and gives the code of the call."""
-        return self._alone(self._give, words)
+        return self._alone(self._give, list(map(_bytes_of, words)))
 
     def said(self):
         """The line that was said last, as the program prints it."""
@@ -183,10 +182,9 @@ class World:
 
     @staticmethod
     def _give(handle, words):
-        given = list(map(_bytes_of, words))
-        joined = b"".join(given)
-        lengths = (c_size_t * max(len(given), 1))(*map(len, given))
-        return _LIBRARY.tktext_call(handle, joined, len(joined), lengths, len(given))
+        joined = b"".join(words)
+        lengths = (c_size_t * max(len(words), 1))(*map(len, words))
+        return _LIBRARY.tktext_call(handle, joined, len(joined), lengths, len(words))
 
     def _turn(self, handle):
         """The code of the script's next command, and the line that it said, if any."""
@@ -319,7 +317,12 @@ def _word(value):
 
 def _words(values):
     """The words of a command, which the first None ends, as in tkinter."""
-    return map(_word, itertools.takewhile(lambda value: value is not None, values))
+    words = []
+    for value in values:
+        if value is None:
+            break
+        words.append(_word(value))
+    return words
 
 
 class Text:

@@ -381,6 +381,17 @@ static Widget *first_destroyed(World *world)
     return widget;
 }
 
+/* Deletes a widget's command.  One that a trace made while Tcl put another in its place was thrown away by Tcl without a
+   word, and at its token there may stand another by now. */
+static void delete_command(Tcl_Interp *interp, Widget *widget)
+{
+    Tcl_CmdInfo found;
+    if (Tcl_GetCommandInfoFromToken(widget->command, &found) && found.objClientData == widget)
+        Tcl_DeleteCommandFromToken(interp, widget->command);
+    else
+        forget(widget);
+}
+
 /* Deletes the commands of destroyed widgets.  Each is found anew, as the traces of one may do anything with others. */
 static void delete_destroyed(Tcl_Interp *interp, World *world)
 {
@@ -388,7 +399,7 @@ static void delete_destroyed(Tcl_Interp *interp, World *world)
     while ((widget = first_destroyed(world)) != NULL) {
         widget->state = IS_DELETED;
         if (widget->command != NULL)
-            Tcl_DeleteCommandFromToken(interp, widget->command);
+            delete_command(interp, widget);
     }
 }
 

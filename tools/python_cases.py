@@ -125,6 +125,27 @@ print(sorted(said), text.index("1.end"))
 """
 REENTRANT_SAYS = "['a call of this world is under way in this thread', 'carried out'] 1.2000000"
 
+# The handler raises, wherever in a call it comes: the world goes on, also for another thread.
+INTERRUPTED = """
+import signal, time
+text, interrupts = Text(), 0
+text.insert("1.0", "x" * 200_000)
+def handler(*_): raise KeyboardInterrupt
+signal.signal(signal.SIGALRM, handler)
+until = time.monotonic() + 20
+while interrupts < ROUNDS and time.monotonic() < until:
+    try:
+        signal.setitimer(signal.ITIMER_REAL, 0.0002 + 1e-6 * interrupts)
+        for _ in range(1000): text.get("1.0", "1.100000")
+        signal.setitimer(signal.ITIMER_REAL, 0)
+    except KeyboardInterrupt:
+        interrupts += 1
+thread = threading.Thread(target=lambda: print(text.index("1.end")), daemon=True)
+thread.start()
+thread.join(20)
+print(interrupts == ROUNDS, text.index("end"))
+"""
+
 # ---------------------------------------------------------------------------------------------------
 # Limits, room, copies, lengths
 
@@ -294,6 +315,7 @@ def cases(rounds):
     yield "threads on worlds of their own", of(EIGHT_WORLDS), "done"
     yield "threads on a world that is closed", of(CLOSED_BY_ANOTHER), "set()"
     yield "a call within a call", REENTRANT, REENTRANT_SAYS
+    yield "interrupted calls", of(INTERRUPTED), "1.200000\nTrue 2.0"
     yield "limits", LIMITS, LIMITS_SAY
     yield "the room that is kept", ROOM, "True True True\nTrue"
     yield "copies", COPIES, COPIES_SAY

@@ -6,7 +6,8 @@
 Each case is a script for a process of its own, under valgrind where it is installed, and what it prints; a crash or a
 wrong access is a failed case, and its script is shown.  Answers that Tcl can't hold take 20 GB to try, so the extension
 that `--small` names is built with a small number in the place of the most bytes of a value (TKTEXT_MOST_BYTES, here
-10,000): it is compared at the same one place.  Ends in a line `N passed, M failed`; the exit status is 1 if anything failed.
+10,000): it is compared at the same one place.  Ends in a line `N passed, M failed`; the exit status is 1 if anything
+failed.
 """
 
 import argparse
@@ -142,6 +143,11 @@ trace add command .y delete {apply {args {tktext::destroy .y; tktext::text .y; .
 tried {tktext::text .y}
 tried {.y get 1.0 1.end}
 tried {tktext::destroy .y; tktext::text .y}
+# A procedure is put in the place of a widget's command, whose trace makes the widget again: that one has no command.
+trace add command .y delete {apply {args {tktext::destroy .y; tktext::text .y}}}
+tried {proc .y {} {return mine}; .y}
+tried {tktext::destroy .y; .y}
+tried {tktext::text .y; .y get 1.0}
 """
 TRACED_PRINTS = """in the trace: 1
 .s 0 again
@@ -155,6 +161,10 @@ error: invalid command name ".y" (TCL LOOKUP COMMAND .y)
 .y
 inner
 .y
+mine
+mine
+
+
 """
 
 # The interpreter or the package's commands go in the middle of a command (Tcl itself ends where an interpreter goes in a
