@@ -381,8 +381,8 @@ static Widget *first_destroyed(World *world)
     return widget;
 }
 
-/* Deletes a widget's command.  One that a trace made while Tcl put another in its place was thrown away by Tcl without a
-   word, and at its token there may stand another by now. */
+/* Deletes a widget's command.  One that a trace made while Tcl put another in its place was thrown away by Tcl without
+   a word, and at its token there may stand another by now. */
 static void delete_command(Tcl_Interp *interp, Widget *widget)
 {
     Tcl_CmdInfo found;

@@ -6,14 +6,14 @@
        fuzz_library FIRST COUNT           runs of the seeds from FIRST on
        fuzz_library FIRST COUNT SECONDS   the same, and no further run after so many seconds
 
-   In each run two worlds take the same commands, one by their words and one by a script that is fed in pieces, and say the
-   same.  Growths of memory are refused in both: then the world's state is as it was, as its answers to many questions
-   tell, and the command answers when it is given again.  Between them come wrong lengths, wrong limits, bytes that are no
-   text or no script, dropped worlds and new ones.  Rooms and buffers are blocks of just the length that is told, for a
-   sanitizer to watch, and at a run's end no block of the library is left.
+   In each run two worlds take the same commands, one by their words and one by a script that is fed in pieces, and say
+   the same.  Growths of memory are refused in both: then the world's state is as it was, as its answers to many
+   questions tell, and the command answers when it is given again.  Between them come wrong lengths, wrong limits, bytes
+   that are no text or no script, dropped worlds and new ones.  Rooms and buffers are blocks of just the length that is
+   told, for a sanitizer to watch, and at a run's end no block of the library is left.
 
-   Runs are done in a process of their own.  Where one fails or ends it, its seed is printed with its calls, and the next
-   goes on.  The last line is `N passed, M failed`. */
+   Runs are done in a process of their own.  Where one fails or ends it, its seed is printed with its calls, and the
+   next goes on.  The last line is `N passed, M failed`. */
 
 #define _DEFAULT_SOURCE
 
@@ -186,6 +186,9 @@ static int is_text(const uint8_t *bytes, size_t size)
 
 /* ---- Commands */
 
+/* How many of the first widgets' names are those that there may be. */
+#define FOUND_WIDGETS 6
+
 struct command {
     size_t count, lengths[MOST_WORDS], size;
     uint8_t *bytes;
@@ -239,13 +242,6 @@ static void add(struct command *command, const char *word)
     add_bytes(command, word, strlen(word));
 }
 
-static void add_number(struct command *command, unsigned number)
-{
-    char digits[16];
-    snprintf(digits, sizeof digits, "%u", number);
-    add(command, digits);
-}
-
 /* Words as they come, well-formed or not. */
 static void add_any(struct command *command)
 {
@@ -270,76 +266,93 @@ static void add_any(struct command *command)
     }
 }
 
-static void maybe_add(struct command *command, const char *word)
+/* What stands in the place of a word that is left out. */
+static const char left_out[] = "left out";
+
+static const char *maybe(const char *word)
 {
-    if (in(2))
-        add(command, word);
+    return in(2) ? word : left_out;
 }
+
+static void add_all(struct command *command, const char *const *words)
+{
+    for (; *words != NULL; words++)
+        if (*words != left_out)
+            add(command, *words);
+}
+
+#define ADD(command, ...) add_all(command, (const char *[]){__VA_ARGS__, NULL})
 
 static void add_edit(struct command *command)
 {
     switch (below(8)) {
     case 0: case 1: case 2:
-        add(command, "insert"); add(command, ONE_OF(indices)); add(command, ONE_OF(texts));
-        if (in(2)) {
-            add(command, ONE_OF(names));
-            maybe_add(command, ONE_OF(texts));
-        }
+        ADD(command, "insert", ONE_OF(indices), ONE_OF(texts));
+        if (in(2))
+            ADD(command, ONE_OF(names), maybe(ONE_OF(texts)));
         break;
-    case 3: add(command, "delete"); add(command, ONE_OF(indices)); maybe_add(command, ONE_OF(indices)); break;
-    case 4:
-        add(command, "replace"); add(command, ONE_OF(indices)); add(command, ONE_OF(indices)); add(command, ONE_OF(texts));
-        maybe_add(command, ONE_OF(names));
-        break;
-    case 5: add(command, "edit"); add(command, "undo"); break;
-    case 6: add(command, "edit"); add(command, "redo"); break;
-    default: add(command, "configure"); add(command, "-undo"); add(command, "1");
+    case 3: ADD(command, "delete", ONE_OF(indices), maybe(ONE_OF(indices))); break;
+    case 4: ADD(command, "replace", ONE_OF(indices), ONE_OF(indices), ONE_OF(texts), maybe(ONE_OF(names))); break;
+    case 5: ADD(command, "edit", "undo"); break;
+    case 6: ADD(command, "edit", "redo"); break;
+    default: ADD(command, "configure", "-undo", "1");
     }
 }
 
 static void add_tag_or_mark(struct command *command)
 {
-    unsigned kind = below(9);
-    add(command, kind < 6 ? "tag" : "mark");
-    switch (kind) {
-    case 0: case 1: add(command, "add"); break;
-    case 2: add(command, "remove"); break;
-    case 3: add(command, in(2) ? "nextrange" : "prevrange"); break;
-    case 4: add(command, in(2) ? "raise" : "lower"); add(command, ONE_OF(names)); maybe_add(command, ONE_OF(names)); return;
-    case 5: add(command, "delete"); add(command, ONE_OF(names)); return;
-    case 6: add(command, "set"); add(command, ONE_OF(names)); add(command, ONE_OF(indices)); return;
-    case 7: add(command, "unset"); add(command, ONE_OF(names)); return;
-    default: add(command, "gravity"); add(command, ONE_OF(names)); add(command, in(2) ? "left" : "right"); return;
+    switch (below(9)) {
+    case 0: case 1: ADD(command, "tag", "add", ONE_OF(names), ONE_OF(indices), ONE_OF(indices)); break;
+    case 2: ADD(command, "tag", "remove", ONE_OF(names), ONE_OF(indices), ONE_OF(indices)); break;
+    case 3:
+        ADD(command, "tag", in(2) ? "nextrange" : "prevrange", ONE_OF(names), ONE_OF(indices), maybe(ONE_OF(indices)));
+        break;
+    case 4: ADD(command, "tag", in(2) ? "raise" : "lower", ONE_OF(names), maybe(ONE_OF(names))); break;
+    case 5: ADD(command, "tag", "delete", ONE_OF(names)); break;
+    case 6: ADD(command, "mark", "set", ONE_OF(names), ONE_OF(indices)); break;
+    case 7: ADD(command, "mark", "unset", ONE_OF(names)); break;
+    default: ADD(command, "mark", "gravity", ONE_OF(names), in(2) ? "left" : "right");
     }
-    add(command, ONE_OF(names)); add(command, ONE_OF(indices)); add(command, ONE_OF(indices));
 }
 
 static void add_question(struct command *command)
 {
     switch (below(5)) {
-    case 0: add(command, "index"); add(command, ONE_OF(indices)); break;
-    case 1: add(command, "get"); add(command, ONE_OF(indices)); add(command, ONE_OF(indices)); break;
-    case 2:
-        add(command, "count"); maybe_add(command, ONE_OF(counts)); add(command, ONE_OF(indices)); add(command, ONE_OF(indices));
-        break;
+    case 0: ADD(command, "index", ONE_OF(indices)); break;
+    case 1: ADD(command, "get", ONE_OF(indices), ONE_OF(indices)); break;
+    case 2: ADD(command, "count", maybe(ONE_OF(counts)), ONE_OF(indices), ONE_OF(indices)); break;
     case 3:
-        add(command, "search"); maybe_add(command, ONE_OF(searches)); maybe_add(command, ONE_OF(searches)); add(command, "--");
-        add(command, ONE_OF(texts)); add(command, ONE_OF(indices)); maybe_add(command, ONE_OF(indices));
+        ADD(command, "search", maybe(ONE_OF(searches)), maybe(ONE_OF(searches)), "--");
+        ADD(command, ONE_OF(texts), ONE_OF(indices), maybe(ONE_OF(indices)));
         break;
-    default: add(command, "dump"); maybe_add(command, ONE_OF(dumps)); add(command, ONE_OF(indices)); maybe_add(command, ONE_OF(indices));
+    default: ADD(command, "dump", maybe(ONE_OF(dumps)), ONE_OF(indices), maybe(ONE_OF(indices)));
     }
 }
 
 static void add_setting(struct command *command)
 {
+    static const char *lines[] = {"0", "1", "2", "3", "4"};
     if (in(2)) {
-        add(command, "configure"); add(command, ONE_OF(options)); add(command, ONE_OF(values));
+        ADD(command, "configure", ONE_OF(options), ONE_OF(values));
         return;
     }
-    add(command, "peer"); add(command, "create"); add(command, ONE_OF(widgets));
-    if (in(2)) {
-        add(command, in(2) ? "-startline" : "-endline"); add_number(command, below(5));
-    }
+    ADD(command, "peer", "create", ONE_OF(widgets));
+    if (in(2))
+        ADD(command, in(2) ? "-startline" : "-endline", ONE_OF(lines));
+}
+
+static void add_widget_command(struct command *command)
+{
+    unsigned kind = below(64);
+    add(command, widgets[below(FOUND_WIDGETS)]);
+    if (kind < 26)
+        add_edit(command);
+    else if (kind < 41)
+        add_tag_or_mark(command);
+    else if (kind < 56)
+        add_question(command);
+    else
+        add_setting(command);
 }
 
 static struct command random_command(void)
@@ -347,22 +360,19 @@ static struct command random_command(void)
     struct command command = {.count = 0, .size = 0, .bytes = NULL};
     unsigned kind = below(100);
     if (kind < 8) {
-        add(&command, "text"); add(&command, ONE_OF(widgets));
-        for (unsigned left = below(3); left > 0; left--) {
-            add(&command, ONE_OF(options)); add(&command, ONE_OF(values));
-        }
+        ADD(&command, "text", ONE_OF(widgets));
+        for (unsigned left = below(3); left > 0; left--)
+            ADD(&command, ONE_OF(options), ONE_OF(values));
     } else if (kind < 11) {
-        add(&command, "destroy"); maybe_add(&command, ONE_OF(widgets));
+        ADD(&command, "destroy", maybe(ONE_OF(widgets)));
     } else if (kind < 75) {
-        add(&command, widgets[below(6)]);
-        kind < 37 ? add_edit(&command) : kind < 52 ? add_tag_or_mark(&command) : kind < 67 ? add_question(&command) : add_setting(&command);
+        add_widget_command(&command);
     } else if (kind < 77) {
-        add(&command, ".t"); add(&command, ONE_OF(subcommands));
+        ADD(&command, ".t", ONE_OF(subcommands));
         for (unsigned left = below(MOST_WORDS - 2); left > 0; left--)
             add(&command, ONE_OF(indices));
     } else {
-        add(&command, ONE_OF(widgets)); add(&command, ONE_OF(subcommands));
-        maybe_add(&command, ONE_OF(second_words));
+        ADD(&command, ONE_OF(widgets), ONE_OF(subcommands), maybe(ONE_OF(second_words)));
         for (unsigned left = below(6); left > 0; left--)
             add_any(&command);
     }
@@ -465,8 +475,8 @@ static uint64_t state_of(tktext *world)
     static const char *questions[] = {
         ".t dump 1.0 end", ".t tag names", ".t mark names", ".t peer names", ".t index insert", ".t edit modified",
         ".t cget -undo", ".t tag ranges x", ".p dump 1.0 end", ".p tag names", ".p index insert", ".p cget -startline",
-        ".u dump 1.0 end", ".u mark names", ".t mark gravity m", ".t cget -state", ".q dump 1.0 end", ".t cget -maxundo",
-        ".t cget -endline", ".p cget -endline", ".p cget -state",
+        ".u dump 1.0 end", ".u mark names", ".t mark gravity m", ".t cget -state", ".q dump 1.0 end",
+        ".t cget -maxundo", ".t cget -endline", ".p cget -endline", ".p cget -state",
     };
     uint64_t sum = 14695981039346656037u;
     for (size_t number = 0; number < sizeof questions / sizeof *questions; number++) {
@@ -503,7 +513,8 @@ static int is_finished;
 
 static void make(tktext *world)
 {
-    check(tktext_new(world, limits.chars, limits.tags, limits.marks, limits.widgets) == TKTEXT_ANSWER, "no world is made");
+    int32_t code = tktext_new(world, limits.chars, limits.tags, limits.marks, limits.widgets);
+    check(code == TKTEXT_ANSWER, "no world is made");
 }
 
 static void make_both(void)
@@ -631,7 +642,8 @@ static void try_command(void)
 /* Lengths that don't add up to the bytes, or do by chance. */
 static void try_lengths(void)
 {
-    size_t size = below(20), count = below(6), *lengths = (size_t *)(void *)block_of(count * sizeof *lengths), left = size;
+    size_t size = below(20), count = below(6), left = size;
+    size_t *lengths = (size_t *)(void *)block_of(count * sizeof *lengths);
     uint8_t *bytes = random_bytes(size), *word = bytes;
     int adds_up = count > 0, are_texts = 1;
     for (size_t number = 0; number < count; number++) {
@@ -647,10 +659,12 @@ static void try_lengths(void)
     note("lengths, %zu of %zu bytes, which %s\n", count, size, adds_up ? "add up" : "don't add up");
     int32_t code = tktext_call(&by_words, bytes, size, lengths, count);
     if (adds_up && are_texts) {
-        check(code <= TKTEXT_FAULT && tktext_call(&by_script, bytes, size, lengths, count) == code, "right lengths have another code");
+        check(code <= TKTEXT_FAULT, "right lengths have another code");
+        check(tktext_call(&by_script, bytes, size, lengths, count) == code, "the two worlds' codes differ");
         check_same(&by_words, &by_script);
     } else {
-        check(code == TKTEXT_NOT_TEXT ? !are_texts : code == TKTEXT_WRONG_LENGTHS && !adds_up, "wrong lengths have another code");
+        int is_right = code == TKTEXT_NOT_TEXT ? !are_texts : code == TKTEXT_WRONG_LENGTHS && !adds_up;
+        check(is_right, "wrong lengths have another code");
     }
     free(bytes);
     free(lengths);
@@ -693,11 +707,12 @@ static void try_limits(void)
     uint16_t tags = (uint16_t)below(1100), marks = (uint16_t)(chance() >> below(16)), shown = (uint16_t)below(80);
     note("limits %zu %u %u %u\n", chars, tags, marks, shown);
     int are_right = chars >= 1 && chars <= 134217728 && tags <= 960 && marks <= 4096 && shown <= 64;
-    check(tktext_new(&world, chars, tags, marks, shown) == (are_right ? TKTEXT_ANSWER : TKTEXT_WRONG_LIMITS), "limits have another code");
+    int32_t code = tktext_new(&world, chars, tags, marks, shown);
+    check(code == (are_right ? TKTEXT_ANSWER : TKTEXT_WRONG_LIMITS), "limits have another code");
     check(world.full == are_right, "a handle is full or not against its code");
     tktext_drop(&world);
     refuse(1 + below(3), in(2));
-    int32_t code = tktext_new_greatest(&world);
+    code = tktext_new_greatest(&world);
     refuse_none();
     check(code == TKTEXT_ANSWER || code == TKTEXT_NO_MEMORY, "a new world has another code");
     check(world.full == (code == TKTEXT_ANSWER), "a handle is full though its world was refused");
@@ -711,7 +726,14 @@ static void finish_script(void)
     note("finish\n");
     tktext_finish(&by_script);
     is_finished = 1;
-    check(tktext_feed(&by_script, &byte, 1) == TKTEXT_FINISHED && tktext_next(&by_script) == TKTEXT_END, "a finished script goes on");
+    check(tktext_feed(&by_script, &byte, 1) == TKTEXT_FINISHED, "a piece behind the end is taken");
+    check(tktext_next(&by_script) == TKTEXT_END, "a finished script goes on");
+}
+
+static void check_full(void)
+{
+    check(tktext_new_greatest(&by_words) == TKTEXT_WRONG_HANDLE, "a world is made in a full handle");
+    check((unsigned)tktext_status(&by_script) <= 1, "the status is another than of commands");
 }
 
 static void take_step(void)
@@ -730,7 +752,7 @@ static void take_step(void)
     else if (kind < 98)
         finish_script();
     else if (kind < 99)
-        check(tktext_new_greatest(&by_words) == TKTEXT_WRONG_HANDLE && (unsigned)tktext_status(&by_script) <= 1, "a full handle's codes");
+        check_full();
     else {
         drop_both();
         make_both();

@@ -3,9 +3,10 @@
 
     python3 tools/fuzz_library.py [--runs 20000] [--first 0] [--seconds N]
 
-It is built over out/libtktext.a, which `make lib` makes, with that library's own calls for memory turned to the harness,
-which refuses some; and with clang's sanitizers of addresses and of undefined behaviour, or else a line says that it wasn't.
-A run is a seed; those from `--first` on are shared among the processors, and with `--seconds` none begins after so many.
+It is built over out/libtktext.a, which `make lib` makes, with that library's own calls for memory turned to the
+harness, which refuses some; and with clang's sanitizers of addresses and of undefined behaviour, or else a line says
+that it wasn't.  A run is a seed; those from `--first` on are shared among the processors, and with `--seconds` none
+begins after so many.
 Ends in a line `N passed, M failed`; the exit status is 1 if anything failed.
 """
 
@@ -76,7 +77,8 @@ def main():
         return tally.close()
     build()
     calls = refused = 0
-    for printed, status in run(options.first, options.runs or (ENDLESS if options.seconds else 20_000), options.seconds):
+    runs = options.runs or (ENDLESS if options.seconds else 20_000)
+    for printed, status in run(options.first, runs, options.seconds):
         closing = CLOSING_LINES.search(printed)
         print(printed[: closing.start() if closing else None], end="")
         if closing is None:

@@ -4,8 +4,8 @@
     python3 tools/python_cases.py [--module python] [--library out/libtktext.so] [--rounds 200]
 
 A case is a script and what it has to print; a crash is a failed case, and its script is shown.  Threads share a world,
-or have one each, in so many rounds.  Where Python has tkinter, random values become the words that they are there, which
-needs no display.  Ends in a line `N passed, M failed`; the exit status is 1 if anything failed.
+or have one each, in so many rounds.  Where Python has tkinter, random values become the words that they are there,
+which needs no display.  Ends in a line `N passed, M failed`; the exit status is 1 if anything failed.
 """
 
 import argparse
@@ -232,8 +232,8 @@ PUT = (
     ("None", "TclError: wrong # args"),
     ("True", "'1'"), ("False", "'0'"), ("5", "'5'"), ("1.5", "'1.5'"), ("-1.2e16", "'-12000000000000000.0'"),
     ("1e17", "'1e+17'"), ("1e-05", "'1e-5'"), ('float("inf")', "'Inf'"), ('float("-inf")', "'-Inf'"),
-    ('float("nan")', "'NaN'"), ("b'q\\xe9'", "'qé'"), ("Name.first", "'x'"), ("['a', 'b c']", "'a {b c}'"), ("()", "''"),
-    ("('', 1, None, True, b'\\xe9')", "'{} 1 None 1 é'"),
+    ('float("nan")', "'NaN'"), ("b'q\\xe9'", "'qé'"), ("Name.first", "'x'"), ("['a', 'b c']", "'a {b c}'"),
+    ("()", "''"), ("('', 1, None, True, b'\\xe9')", "'{} 1 None 1 é'"),
     ("['#x', '#y', ['n n', 'm'], 'a\"b', '\"q', '\\\\', 'a{b}', 'a}b', '$x', '[y]', ';', ']']",
      "'{#x} #y {{n n} m} a\\\\\"b {\"q} \\\\\\\\ a{b} a\\\\}b {$x} {[y]} {;} \\\\]'"),
 )
@@ -344,7 +344,8 @@ def check_case(module, library, name, script, wanted, tally):
         tally.passed()
         return
     errors = done.stderr[-900:].decode("utf-8", "replace")
-    tally.failed(f"Python, {name}: status {done.returncode}\n{said}\n{errors}\nwanted\n{wanted}\nthe script:\n{HEAD}{script}")
+    ended = f"Python, {name}: status {done.returncode}\n{said}\n{errors}\nwanted\n{wanted}"
+    tally.failed(f"{ended}\nthe script:\n{HEAD}{script}")
 
 
 def check(module, library, rounds, tally):

@@ -167,8 +167,8 @@ mine
 
 """
 
-# The interpreter or the package's commands go in the middle of a command (Tcl itself ends where an interpreter goes in a
-# trace of a command's execution); names of many kinds.
+# The interpreter or the package's commands go in the middle of a command (Tcl itself ends where an interpreter goes in
+# a trace of a command's execution); names of many kinds.
 ENDED = r"""
 set bodies {
     {tktext::text .u; trace add command .t delete {apply {args kill}}; tktext::destroy .t .u}
@@ -206,8 +206,8 @@ a\0é\U0001f600
 error: a word isn't UTF-8 (TKTEXT WORDS)
 """
 
-# Lengths around the greatest, 10,000 bytes here: words, and a shared word again and again; answers and errors.  What was
-# refused for its words wasn't carried out; what was refused for its answer was.
+# Lengths around the greatest, 10,000 bytes here: words, and a shared word again and again; answers and errors.  What
+# was refused for its words wasn't carried out; what was refused for its answer was.
 LONG = r"""
 tktext::text .t
 proc refill {text} { .t delete 1.0 end; .t insert 1.0 $text }
@@ -246,7 +246,8 @@ tried {.t get 1.0 1.5100}
 # Texts of both directions, around the room that stands ready.
 foreach length {980 990 996 997 998 999 1000 1001 1002 1003 1010 1020 1022 1023 1024 1025 1500} {
     foreach char {a \0 \u00e9 \ud83d\ude00} {
-        set text [string repeat $char [expr {$length / ([string length $char] * 2)}]][string repeat z [expr {$length % 7}]]
+        set text [string repeat $char [expr {$length / (2 * [string length $char])}]]
+        append text [string repeat z [expr {$length % 7}]]
         refill $text
         if {[.t get 1.0 end-1c] ne $text} { puts "$length differs" }
     }
@@ -277,7 +278,7 @@ DONE
     "DONE", "error: the command was carried out, but its answer has more bytes than Tcl can hold (TKTEXT SIZE)"
 ).replace("REFUSED", "error: the command was refused, and its error has more bytes than Tcl can hold (TKTEXT SIZE)")
 
-# More than 2 GiB by a word of 100 MB, which is one value: nothing is written, so it takes no more memory than the value.
+# More than 2 GiB by a word of 100 MB, which is one value: nothing is written, so it takes the memory of that alone.
 SHARED_WORD = r"""
 tktext::text .t
 set text [string repeat a 100000000]
@@ -307,7 +308,8 @@ def check_case(name, runner, extension, script, wanted, folder, tally):
     with open(file, "w", encoding="utf-8") as written:
         written.write(HEAD + script)
     try:
-        done = subprocess.run([*runner, file, os.path.abspath(extension)], capture_output=True, timeout=LONG_TIMEOUT_SECONDS)
+        words = [*runner, file, os.path.abspath(extension)]
+        done = subprocess.run(words, capture_output=True, timeout=LONG_TIMEOUT_SECONDS)
     except subprocess.TimeoutExpired:
         tally.failed(f"Tcl, {name}: no end; the script:\n{HEAD}{script}")
         return
