@@ -557,33 +557,37 @@ static int32_t call(tktext *world, const struct command *command)
     return code;
 }
 
-/* A command by its words; where a growth is refused for it, nothing is changed, and it is given again. */
+/* A growth was refused for the world that goes first: nothing is changed in it, so its state is the other's. */
+static void check_refused(void)
+{
+    shared->refused++;
+    note("  refused\n");
+    check(state_of(&by_words) == state_of(&by_script), "a refused call changed the world");
+}
+
+/* A command by its words; where a growth is refused for it, it is given again. */
 static int32_t call_refused(const struct command *command)
 {
-    int is_compared = in(2);
-    uint64_t before = is_compared ? state_of(&by_words) : 0;
     refuse(1 + below(in(3) ? 60 : 12), in(2));
     int32_t code = call(&by_words, command);
     refuse_none();
     if (code != TKTEXT_NO_MEMORY)
         return code;
-    shared->refused++;
-    note("  refused\n");
     check_memory_line(&by_words);
-    check(!is_compared || state_of(&by_words) == before, "a refused command changed the world");
+    check_refused();
     return call(&by_words, command);
 }
 
 /* A piece of the script; where a growth is refused for it, it is fed again. */
-static void feed(const uint8_t *bytes, size_t size)
+static void feed(const uint8_t *bytes, size_t size, int is_refused)
 {
     uint8_t *piece = copy_of(bytes, size);
-    if (in(8))
+    if (is_refused)
         refuse(1 + below(4), in(2));
     int32_t code = tktext_feed(&by_script, piece, size);
     refuse_none();
-    if (code == TKTEXT_NO_MEMORY) {
-        shared->refused++;
+    if (is_refused && code == TKTEXT_NO_MEMORY) {
+        check_refused();
         code = tktext_feed(&by_script, piece, size);
     }
     check(code == TKTEXT_ANSWER, "a piece isn't taken");
@@ -591,10 +595,8 @@ static void feed(const uint8_t *bytes, size_t size)
 }
 
 /* The next command of the script, which is this one; where a growth is refused for it, it is given by its words. */
-static int32_t take_turn(const struct command *command)
+static int32_t take_turn(const struct command *command, int is_refused)
 {
-    int is_refused = in(6);
-    uint64_t before = is_refused ? state_of(&by_script) : 0;
     if (is_refused)
         refuse(1 + below(12), in(2));
     int32_t code = tktext_next(&by_script);
@@ -602,40 +604,51 @@ static int32_t take_turn(const struct command *command)
     shared->calls++;
     if (!is_refused || code != TKTEXT_NO_MEMORY)
         return code;
-    shared->refused++;
     check_memory_line(&by_script);
-    check(state_of(&by_script) == before, "a command of the script that was refused changed the world");
+    check_refused();
     return call(&by_script, command);
 }
 
 /* The command by the script, in two pieces, or by its words where the script has ended. */
-static int32_t call_by_script(const struct command *command)
+static int32_t call_by_script(const struct command *command, int is_refused)
 {
     if (is_finished)
         return call(&by_script, command);
     size_t size;
     uint8_t *line = quoted(command, &size);
     size_t cut = below((unsigned)size);
-    feed(line, cut);
+    feed(line, cut, is_refused && in(4));
     check(tktext_next(&by_script) == TKTEXT_END, "half a command is carried out");
-    feed(line + cut, size - cut);
+    feed(line + cut, size - cut, is_refused && in(4));
     free(line);
-    return take_turn(command);
+    return take_turn(command, is_refused);
+}
+
+/* A command by its words and by the script, or the other way round; growths may be refused for the first. */
+static void try_texts(const struct command *command)
+{
+    int32_t code, other_code;
+    if (in(3)) {
+        other_code = call_by_script(command, in(2));
+        code = call(&by_words, command);
+    } else {
+        code = in(2) ? call_refused(command) : call(&by_words, command);
+        other_code = call_by_script(command, 0);
+    }
+    check(code == TKTEXT_ANSWER || code == TKTEXT_FAULT, "a command has another code");
+    check(code == other_code, "the two worlds' codes differ");
+    check_same(&by_words, &by_script);
+    check(is_finished || tktext_next(&by_script) == TKTEXT_END, "the script has a command more");
 }
 
 static void try_command(void)
 {
     struct command command = random_command();
     note_command(&command);
-    int32_t code = in(3) ? call_refused(&command) : call(&by_words, &command);
-    if (!has_texts(&command)) {
-        check(code == TKTEXT_NOT_TEXT, "a word that isn't text is taken");
-    } else {
-        check(code == TKTEXT_ANSWER || code == TKTEXT_FAULT, "a command has another code");
-        check(call_by_script(&command) == code, "the two worlds' codes differ");
-        check_same(&by_words, &by_script);
-        check(is_finished || tktext_next(&by_script) == TKTEXT_END, "the script has a command more");
-    }
+    if (has_texts(&command))
+        try_texts(&command);
+    else
+        check(call_refused(&command) == TKTEXT_NOT_TEXT, "a word that isn't text is taken");
     free(command.bytes);
 }
 
