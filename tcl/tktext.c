@@ -12,6 +12,7 @@
 #include "tktext.h"
 
 #include <limits.h>
+#include <stdlib.h>
 #include <string.h>
 #include <tcl.h>
 
@@ -51,7 +52,7 @@ static void let_go(void *data)
     World *world = data;
     if (--world->holders == 0) {
         tktext_drop(&world->handle);
-        Tcl_Free((char *)world);
+        free(world);
     }
 }
 
@@ -87,16 +88,10 @@ static int fits(size_t length, size_t more)
     return length <= TKTEXT_MOST_BYTES && more <= TKTEXT_MOST_BYTES - length;
 }
 
-/* A block of some bytes, which fit, or NULL. */
-static void *attempt(size_t size)
-{
-    return Tcl_AttemptAlloc((unsigned)size);
-}
-
 static void free_unless(void *block, void *fixed)
 {
-    if (block != NULL && block != fixed)
-        Tcl_Free(block);
+    if (block != fixed)
+        free(block);
 }
 
 /* ---- Answers */
@@ -161,7 +156,7 @@ static int said(Tcl_Interp *interp, World *world, int32_t code)
     if (length > sizeof fixed) {
         if (!fits(length, 0))
             return fail_for_answer(interp, code);
-        line = attempt(length);
+        line = malloc(length);
         if (line == NULL)
             return fail_for_memory(interp);
         tktext_said(&world->handle, line, length);
@@ -242,9 +237,9 @@ static int32_t call(World *world, Tcl_Obj *first, int count, Tcl_Obj *const word
     if (!fits(lengths_size, 0) || !room_of_all(&room, first, count, words))
         return TOO_LONG;
     if (lengths_size > sizeof fixed_lengths)
-        lengths = attempt(lengths_size);
+        lengths = malloc(lengths_size);
     if (room + SLACK > sizeof fixed)
-        bytes = attempt(room + SLACK);
+        bytes = malloc(room + SLACK);
     int32_t code = TKTEXT_NO_MEMORY;
     if (lengths != NULL && bytes != NULL) {
         size_t size = join(bytes, lengths, first, count, words);
@@ -265,17 +260,6 @@ static int give(Tcl_Interp *interp, World *world, Tcl_Obj *first, int count, Tcl
     if (code == TKTEXT_NO_MEMORY)
         return fail_for_memory(interp);
     return code == TOO_LONG ? fail_for_words(interp) : fail(interp, "WORDS", "a word isn't UTF-8");
-}
-
-/* The same with the command's first word as it stands in the source. */
-static int give_named(Tcl_Interp *interp, World *world, const char *name, int count, Tcl_Obj *const words[],
-                      int *is_done)
-{
-    Tcl_Obj *first = Tcl_NewStringObj(name, -1);
-    Tcl_IncrRefCount(first);
-    int result = give(interp, world, first, count, words, is_done);
-    Tcl_DecrRefCount(first);
-    return result;
 }
 
 /* ---- Widgets */
@@ -301,7 +285,7 @@ static void forget(void *data)
     unlink_widget(widget);
     Tcl_DecrRefCount(widget->name);
     let_go(widget->world);
-    Tcl_Free((char *)widget);
+    free(widget);
 }
 
 static int is_word(Tcl_Obj *word, const char *text)
@@ -309,7 +293,8 @@ static int is_word(Tcl_Obj *word, const char *text)
     return strcmp(Tcl_GetString(word), text) == 0;
 }
 
-static int add_command(Tcl_Interp *interp, World *world, Tcl_Obj *name, int result);
+static int make_widget(Tcl_Interp *interp, World *world, Tcl_Obj *first, int count, Tcl_Obj *const words[],
+                       Tcl_Obj *name);
 
 /* A command of a widget.  One whose widget was destroyed may have a later one's name, and does nothing any more. */
 static int run_widget(void *data, Tcl_Interp *interp, int count, Tcl_Obj *const words[])
@@ -321,10 +306,9 @@ static int run_widget(void *data, Tcl_Interp *interp, int count, Tcl_Obj *const 
         Tcl_SetObjResult(interp, Tcl_ObjPrintf("invalid command name \"%s\"", Tcl_GetString(widget->name)));
         return TCL_ERROR;
     }
-    int result = give(interp, widget->world, widget->name, count - 1, words + 1, &is_done);
-    if (is_done && count > 3 && is_word(words[1], "peer") && is_word(words[2], "create"))
-        return add_command(interp, widget->world, words[3], result);
-    return result;
+    if (count > 3 && is_word(words[1], "peer") && is_word(words[2], "create"))
+        return make_widget(interp, widget->world, widget->name, count - 1, words + 1, words[3]);
+    return give(interp, widget->world, widget->name, count - 1, words + 1, &is_done);
 }
 
 /* Deletes the command that a new one would stand in the place of; what its traces do is done then. */
@@ -337,16 +321,12 @@ static void clear_name(Tcl_Interp *interp, const char *name)
 }
 
 /* Makes the command of a new widget, and gives the result; without a command there is no widget. */
-static int add_command(Tcl_Interp *interp, World *world, Tcl_Obj *name, int result)
+static int add_command(Tcl_Interp *interp, Widget *widget, int result)
 {
-    Widget *widget = (Widget *)Tcl_Alloc(sizeof *widget);
-    *widget = (Widget){world, world->widgets, name, NULL, STANDS};
-    world->widgets = widget;
-    world->holders++;
-    Tcl_IncrRefCount(name);
-    clear_name(interp, Tcl_GetString(name));
+    const char *name = Tcl_GetString(widget->name);
+    clear_name(interp, name);
     if (widget->state == STANDS) {
-        widget->command = Tcl_CreateObjCommand(interp, Tcl_GetString(name), run_widget, widget, forget);
+        widget->command = Tcl_CreateObjCommand(interp, name, run_widget, widget, forget);
         if (widget->command == NULL)
             result = fail(interp, "NAME", "there can't be a command of this name");
     }
@@ -357,12 +337,34 @@ static int add_command(Tcl_Interp *interp, World *world, Tcl_Obj *name, int resu
     return result;
 }
 
+/* Carries out a command that makes a widget of a name, and makes the widget's own command. */
+static int make_widget(Tcl_Interp *interp, World *world, Tcl_Obj *first, int count, Tcl_Obj *const words[],
+                       Tcl_Obj *name)
+{
+    int is_done;
+    Widget *widget = malloc(sizeof *widget);
+    if (widget == NULL)
+        return fail_for_memory(interp);
+    int result = give(interp, world, first, count, words, &is_done);
+    if (!is_done) {
+        free(widget);
+        return result;
+    }
+    *widget = (Widget){world, world->widgets, name, NULL, STANDS};
+    world->widgets = widget;
+    world->holders++;
+    Tcl_IncrRefCount(name);
+    return add_command(interp, widget, result);
+}
+
 /* tktext::text W ?option value ..? */
 static int make(void *data, Tcl_Interp *interp, int count, Tcl_Obj *const words[])
 {
-    int is_done;
-    int result = give_named(interp, data, "text", count - 1, words + 1, &is_done);
-    return is_done ? add_command(interp, data, words[1], result) : result;
+    Tcl_Obj *first = Tcl_NewStringObj("text", -1);
+    Tcl_IncrRefCount(first);
+    int result = make_widget(interp, data, first, count - 1, words + 1, count > 1 ? words[1] : NULL);
+    Tcl_DecrRefCount(first);
+    return result;
 }
 
 /* Notes that the widget of a name was destroyed, where it has a command. */
@@ -408,7 +410,10 @@ static int destroy(void *data, Tcl_Interp *interp, int count, Tcl_Obj *const wor
 {
     World *world = data;
     int is_done;
-    int result = give_named(interp, world, "destroy", count - 1, words + 1, &is_done);
+    Tcl_Obj *first = Tcl_NewStringObj("destroy", -1);
+    Tcl_IncrRefCount(first);
+    int result = give(interp, world, first, count - 1, words + 1, &is_done);
+    Tcl_DecrRefCount(first);
     if (!is_done)
         return result;
     for (int number = 1; number < count; number++)
@@ -423,12 +428,12 @@ int DLLEXPORT Tktext_Init(Tcl_Interp *interp)
 {
     if (Tcl_InitStubs(interp, "8.6", 0) == NULL)
         return TCL_ERROR;
-    World *world = (World *)Tcl_AttemptAlloc(sizeof *world);
+    World *world = malloc(sizeof *world);
     if (world == NULL)
         return fail_for_memory(interp);
     *world = (World){TKTEXT_EMPTY, NULL, 2};
     if (tktext_new_greatest(&world->handle) != TKTEXT_ANSWER) {
-        Tcl_Free((char *)world);
+        free(world);
         return fail_for_memory(interp);
     }
     Tcl_CreateObjCommand(interp, "tktext::text", make, world, let_go);

@@ -80,7 +80,8 @@ def compile_all(has_tcl):
         small = f"-DTKTEXT_MOST_BYTES={tcl_cases.MOST_BYTES}"
         for made, flags in ((EXTENSION, []), (SMALL_EXTENSION, [small])):
             subprocess.run(["cc", *FLAGS, *flags, "-shared", *tcl, "-o", made, ARCHIVE, "-ltclstub8.6"], check=True)
-        # The words of Tcl's glue are Tcl's own growths, which Tcl doesn't survive: only those of the library are counted.
+        # What is Tcl's own, a value or a command, is taken from Tcl, which doesn't survive a refusal: those of the glue and
+        # of the library alone are counted.
         subprocess.run(["cc", *FLAGS, *tcl, "-c", "-o", EXTENSION + ".o"], check=True)
         subprocess.run(["cc", *FLAGS, *wraps, EXTENSION + ".o", "-o", REFUSED_EXTENSION, ARCHIVE, "-ltclstub8.6"], check=True)
 
