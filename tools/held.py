@@ -28,17 +28,19 @@ WORDS = "some words of a line"
 # A text of few long lines: how many, and how long the longest of them is at any time.
 LONG_LINES = 100
 LONG = "x" * 100_000
+LETTERS = "x" * 5_000
+MEGABYTE = "some letters and spaces, " * 40_000
 
 
 class Kind(NamedTuple):
-    """What is weighed: its name, the lines of its text, the commands that go through the first so many of them, what was
-    done to each line before that, and how far the longer run goes, where that isn't to the last line."""
+    """What is weighed: its name, the lines of its text, the commands of a run of a given length, what was done to each line
+    before that, and the lengths of the two runs; without these, they go through a tenth of the lines and through all."""
 
     name: str
     lines: list
     commands: callable
     before: tuple = ()
-    whole: int = 0
+    runs: tuple = ()
 
 
 def for_lines(*forms):
@@ -82,6 +84,55 @@ def long_front(count):
 TAGGED_END = " ".join(["x a y {{}}"] * 4)
 
 
+def rounds(*commands):
+    """These commands, so many times."""
+    return lambda count: list(commands) * count
+
+
+def named(command, last):
+    """A command for each of so many names, and then one for all of them."""
+    def commands(count):
+        names = [f"n{number}" for number in range(count)]
+        return [command.format(name=name) for name in names] + [f"{last} {' '.join(names)}"]
+
+    return commands
+
+
+def toggled(count):
+    """Twenty lines get 5,000 toggles each and are joined, their tag goes, and the line is split again."""
+    pieces = f"{LETTERS[0]} a {LETTERS[0]} {{}} " * (len(LETTERS) // 2)
+    tagged = [f".t replace {line}.0 {line}.end {pieces}" for line in range(1, 21)]
+    joined = [".t delete 1.end"] * 19
+    split = [f".t insert 1.{len(LETTERS) * line} {{\n}}" for line in range(19, 0, -1)]
+    return rounds(*tagged, *joined, ".t tag remove a 1.0 1.end", *split)(count)
+
+
+def marked(count):
+    """Lines get a thousand marks each, which are unset."""
+    marks = range(1_000)
+    unset = ".t mark unset " + " ".join(f"m{mark}" for mark in marks)
+    lines = [[f".t mark set m{mark} {line}.{mark % 20}" for mark in marks] for line in range(1, count + 1)]
+    return [command for line in lines for command in line + [unset]]
+
+
+def documents(count):
+    """Documents are made, written to and destroyed."""
+    forms = ("text .d{number}", ".d{number} insert 1.0 words", "destroy .d{number}")
+    return [form.format(number=number) for number in range(count) for form in forms]
+
+
+def inserted(count):
+    """So many lines are put in and taken out again."""
+    lines = f"{WORDS}\n" * count
+    return [f".t insert 1.0 {{{lines}}}", f".t delete 1.0 {count + 1}.0"]
+
+
+def undoable(count):
+    """So many edits can be undone, and then none."""
+    edits = [".t insert 1.0 some", ".t edit separator", ".t delete 1.0 1.4", ".t edit separator"]
+    return [".t configure -undo 1", *(edits * count), ".t edit reset", ".t configure -undo 0"]
+
+
 KINDS = [
     Kind("sixteen tags, replaced without", [WORDS] * LINES, replaced([f"a{tag}" for tag in range(16)])),
     Kind("one tag, replaced without", [WORDS] * LINES, replaced(["a"])),
@@ -105,11 +156,40 @@ KINDS = [
         ),
         before=(".t tag add k {line}.0 {line}.4",),
     ),
-    Kind("newlines in front of a long line", ["x" * 1_000_000], long_front, whole=200),
+    Kind("newlines in front of a long line", ["x" * 1_000_000], long_front, runs=(20, 200)),
     Kind(
         "long lines that are cut", ["short"] * LONG_LINES,
         for_lines(f".t insert {{line}}.5 {LONG}", ".t delete {line}.5 {line}.end"),
     ),
+    Kind("toggles that go", [LETTERS] * 20, toggled, runs=(1, 2)),
+    Kind("marks of a line that are unset", [WORDS] * 100, marked, runs=(2, 20)),
+    Kind(
+        "lines joined and split again", [WORDS] * 1_000,
+        rounds(*[".t delete 1.end"] * 999, *[f".t insert 1.{len(WORDS) * line} {{\n}}" for line in range(999, 0, -1)]),
+        runs=(1, 10),
+    ),
+    Kind(
+        "lines that are typed behind others that are cut", [WORDS] * LINES,
+        rounds(".t delete 1.0 2.0", f".t insert end {{{WORDS}}}", ".t insert end {\n}"),
+    ),
+    Kind("lines put in and taken out", [WORDS] * 1_000, inserted, runs=(300, 30_000)),
+    Kind(
+        "commands of a megabyte", [WORDS] * 100,
+        rounds(f".t insert 1.0 {{{MEGABYTE}}}", f".t delete 1.0 1.{len(MEGABYTE)}"), runs=(2, 200),
+    ),
+    Kind(
+        "refused commands of a megabyte", [WORDS] * 100,
+        rounds(f".t insert nowhere {{{MEGABYTE}}}", f".t mark gravity {{{MEGABYTE}}}", f"{{{MEGABYTE}}}"), runs=(1, 20),
+    ),
+    Kind("documents that are destroyed", [WORDS] * 100, documents, runs=(10, 1_000)),
+    Kind(
+        "a text deleted and brought back", [WORDS] * LINES,
+        rounds(".t configure -undo 1", ".t delete 1.0 end", ".t edit undo", ".t edit reset", ".t configure -undo 0"),
+        runs=(1, 10),
+    ),
+    Kind("edits that can't be undone any more", [WORDS] * 100, undoable, runs=(100, 10_000)),
+    Kind("marks that are unset", [WORDS] * 100, named(".t mark set {name} 1.0", ".t mark unset"), runs=(30, 3_000)),
+    Kind("tags that are deleted", [WORDS] * 100, named(".t tag add {name} 1.0", ".t tag delete"), runs=(30, 900)),
 ]
 
 
@@ -125,18 +205,21 @@ def weigh(options, text, folder):
     """The bytes in use when the program reads the end of a script."""
     report = os.path.join(folder, "weight.txt")
     environment = dict(os.environ, LD_PRELOAD=os.path.abspath(options.shim), WEIGHT_REPORT=report)
-    subprocess.run([options.program], input=text.encode(), env=environment, stdout=subprocess.DEVNULL, check=True)
+    ended = subprocess.run([options.program], input=text.encode(), env=environment, stdout=subprocess.DEVNULL, check=False)
+    # 1 says that a command was refused.
+    if ended.returncode not in (0, 1):
+        sys.exit(f"the program ended by {ended.returncode}")
     with open(report, encoding="ascii") as file:
         return int(file.read().split()[3])
 
 
 def checks(kind, options, folder):
     """Whether a kind grows with the length of its run, and whether it holds more than its text."""
-    whole = kind.whole or len(kind.lines)
-    little, much = (weigh(options, script(kind, count), folder) for count in (whole // 10, whole))
+    runs = kind.runs or (len(kind.lines) // 10, len(kind.lines))
+    little, much = (weigh(options, script(kind, length), folder) for length in runs)
     text = sum(len(line) + 1 for line in kind.lines)
     bound = MOST_PER_BYTE * text + MOST_PER_LINE * len(kind.lines) + FIXED_BYTES
-    yield much <= MOST_GROWTH * little, f"{kind.name}: {much:,} bytes are held after all, {little:,} after a tenth"
+    yield much <= MOST_GROWTH * little, f"{kind.name}: {much:,} bytes are held after the longer run, {little:,} after the other"
     yield much <= bound, f"{kind.name}: {much:,} bytes are held, at most {bound:,}"
 
 
