@@ -31,11 +31,14 @@ LONG = "x" * 100_000
 
 
 class Kind(NamedTuple):
-    """What is weighed: its name, the lines of its text, and the commands that go through the first so many of them."""
+    """What is weighed: its name, the lines of its text, the commands that go through the first so many of them, what was
+    done to each line before that, and how far the longer run goes, where that isn't to the last line."""
 
     name: str
     lines: list
     commands: callable
+    before: tuple = ()
+    whole: int = 0
 
 
 def for_lines(*forms):
@@ -75,6 +78,10 @@ def long_front(count):
     return [f".t insert {line}.0 {{\n}}" for line in range(1, count + 1)]
 
 
+# Toggles at eight places, which go with what is behind the words of a line; the tag that it keeps has two.
+TAGGED_END = " ".join(["x a y {{}}"] * 4)
+
+
 KINDS = [
     Kind("sixteen tags, replaced without", [WORDS] * LINES, replaced([f"a{tag}" for tag in range(16)])),
     Kind("one tag, replaced without", [WORDS] * LINES, replaced(["a"])),
@@ -90,7 +97,15 @@ KINDS = [
         for_lines(".t insert {line}.4 word a", ".t delete {line}.4 {line}.8", ".t tag remove a {line}.0 {line}.end"),
     ),
     Kind("mixed edits", [WORDS] * LINES, mixed),
-    Kind("newlines in front of a long line", ["x" * 1_000_000], long_front),
+    Kind(
+        "few of many toggles are kept", [WORDS] * LINES,
+        for_lines(
+            f".t insert {{line}}.end {TAGGED_END}", f".t delete {{line}}.{len(WORDS)} {{line}}.end",
+            ".t tag remove a {line}.0 {line}.end",
+        ),
+        before=(".t tag add k {line}.0 {line}.4",),
+    ),
+    Kind("newlines in front of a long line", ["x" * 1_000_000], long_front, whole=200),
     Kind(
         "long lines that are cut", ["short"] * LONG_LINES,
         for_lines(f".t insert {{line}}.5 {LONG}", ".t delete {line}.5 {line}.end"),
@@ -102,7 +117,7 @@ def script(kind, count):
     """The text, whose lines were all edited once, and the commands that go through the first so many of them."""
     text = "\n".join(kind.lines) + "\n"
     # A line that was edited has room for a few bytes more than one that was put in.
-    edited = for_lines(".t insert {line}.0 x", ".t delete {line}.0")(len(kind.lines))
+    edited = for_lines(*kind.before, ".t insert {line}.0 x", ".t delete {line}.0")(len(kind.lines))
     return "\n".join(["text .t", f".t insert end {{{text}}}", *edited, *kind.commands(count), ""])
 
 
@@ -117,7 +132,7 @@ def weigh(options, text, folder):
 
 def checks(kind, options, folder):
     """Whether a kind grows with the length of its run, and whether it holds more than its text."""
-    whole = 200 if kind.commands is long_front else len(kind.lines)
+    whole = kind.whole or len(kind.lines)
     little, much = (weigh(options, script(kind, count), folder) for count in (whole // 10, whole))
     text = sum(len(line) + 1 for line in kind.lines)
     bound = MOST_PER_BYTE * text + MOST_PER_LINE * len(kind.lines) + FIXED_BYTES
