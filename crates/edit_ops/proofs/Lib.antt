@@ -11,3 +11,4 @@ pub mod ReplayLaws
 pub mod ReversalLaws
 pub mod RunLaws
 pub mod StartLaws
+pub mod CoverLaws

@@ -28,7 +28,7 @@ in-append spans span offset =
     list_any-append (λ (s : Span). nat_le s.from offset && nat_lt offset s.to) spans (span ∷ [])
     ∙ ap (λ b. in_spans spans offset || b) (or-false (inside span offset))
 
-inside-before : (span : Span) (offset : ℕ) → offset < span.from → inside span offset ≡ false
+pub inside-before : (span : Span) (offset : ℕ) → offset < span.from → inside span offset ≡ false
 inside-before span offset before = ap (λ b. b && nat_lt offset span.to) (lt-leb span.from offset before)
 
 or-true : (b : Bool) → (b || true) ≡ true
@@ -43,11 +43,11 @@ and-false : (b : Bool) → (b && false) ≡ false
 and-false true = refl
 and-false false = refl
 
-inside-behind : (span : Span) (offset : ℕ) → span.to ≤ offset → inside span offset ≡ false
+pub inside-behind : (span : Span) (offset : ℕ) → span.to ≤ offset → inside span offset ≡ false
 inside-behind span offset behind =
     ap (λ b. nat_le span.from offset && b) (le-ltb offset span.to behind) ∙ and-false (nat_le span.from offset)
 
-inside-is : (span : Span) (offset : ℕ) → span.from ≤ offset → offset < span.to → inside span offset ≡ true
+pub inside-is : (span : Span) (offset : ℕ) → span.from ≤ offset → offset < span.to → inside span offset ≡ true
 inside-is span offset from to = ap₂ (λ a b. a && b) (le-leb span.from offset from) (lt-ltb offset span.to to)
 
 inside-none : (span : Span) (offset : ℕ) → span.to ≤ span.from → inside span offset ≡ false

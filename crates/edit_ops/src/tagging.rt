@@ -11,14 +11,15 @@ ghost use Rattle.text_model.specs.declared.places.TagSlot.{TagSlot};
 use crate::drafts::Draft;
 use crate::faults::EditFault;
 use crate::plans::{Plan, Recording, prepare};
+use crate::runs::union;
 use crate::spans::Span;
 use crate::texts::EditedText;
 use std::alloc::{AllocError, Global};
 use text_model::{Step, StepList, TagSlot, TextStore};
 use undo_stack::EditKind;
 
-/// The steps that set a slot on spans of a text of so many characters, or take it off them.
-fn tag_steps(
+/// The steps that set a slot on spans of a text of so many characters, or take it off them, one after the other.
+fn span_steps(
     alloc: Global,
     spans: &[Span],
     slot: TagSlot,
@@ -36,6 +37,33 @@ fn tag_steps(
         steps.push(Step::SetTag(span.from, span.to, slot, is_on))?;
     }
     Ok(steps)
+}
+
+/// Whether each span begins where the one before it ends, or behind that: either answer leads to the same text.
+fn do_rise(spans: &[Span]) -> bool {
+    spans.windows(2).all(|pair| pair[0].to <= pair[1].from)
+}
+
+/// The same steps where spans are in any order: those of the runs that they make together, from the first on, since a
+/// step that goes back over what is changed already costs as much as that.
+fn tag_steps(
+    alloc: Global,
+    spans: &[Span],
+    slot: TagSlot,
+    is_on: bool,
+    len: usize,
+) -> Result<StepList, AllocError>
+    requires spans { All (SpanFits len) spans.now }
+    requires known { slot.0 < slot_count }
+    ensures { IfOk result (λ steps. (content : Content) → length content.cells ≡ len →
+        Fits steps content × (after steps content ≡ tagged slot.0 is_on spans.now content)) }
+{
+    if do_rise(spans) {
+        return span_steps(alloc, spans, slot, is_on, len);
+    }
+    let mut runs = union(alloc, spans)?;
+    runs.reverse();
+    span_steps(alloc, runs.as_slice(), slot, is_on, len)
 }
 
 /// A plan that makes steps of which nothing is noted.

@@ -118,3 +118,48 @@ pub last_within : (at : List MarkNo) (numbers : List ℕ) (upto most : ℕ) (fou
 last_within at numbers upto most None few is = tt
 last_within at numbers upto most (Some last) few is = let within = slice_get_within numbers last is.1.1.0 is.1.3 in
     omega arith
+
+-- one place more at which no mark stands, from the front and from the end
+pub none-more : (at : List MarkNo) (numbers : List ℕ) (from place : ℕ) →
+    ((other : ℕ) → from ≤ other → other < place → ¬ IsAt at numbers other) → ¬ IsAt at numbers place
+    → (other : ℕ) → from ≤ other → other < place + 1 → ¬ IsAt at numbers other
+none-more at numbers from place none here = λ other low below stands. elim (cases_eq other place) [
+  | inl same ↦ here (subst (IsAt at numbers) same stands)
+  | inr apart ↦ none other low (omega (arith, apart, below)) stands
+]
+
+pub none-before : (at : List MarkNo) (numbers : List ℕ) (near place upto : ℕ) → near ≡ place + 1 →
+    ((other : ℕ) → near ≤ other → other < upto → ¬ IsAt at numbers other) → ¬ IsAt at numbers place
+    → (other : ℕ) → place ≤ other → other < upto → ¬ IsAt at numbers other
+none-before at numbers near place upto is none here = λ other low below stands. elim (cases_eq other place) [
+  | inl same ↦ here (subst (IsAt at numbers) same stands)
+  | inr apart ↦ none other (omega (arith, apart, low, is)) below stands
+]
+
+-- no mark stands behind the last place of the table
+pub none-behind : (at : List MarkNo) (numbers : List ℕ) (from len place : ℕ) → length numbers ≡ len → len ≤ place →
+    ((other : ℕ) → from ≤ other → other < place → ¬ IsAt at numbers other)
+    → (other : ℕ) → from ≤ other → ¬ IsAt at numbers other
+none-behind at numbers from len place count past none = λ other low stands.
+    let within = slice_get_within numbers other stands.1.0 stands.3 in
+    none other low (omega (arith, within, count, past)) stands
+
+pub first-here : (at : List MarkNo) (numbers : List ℕ) (from place : ℕ) → from ≤ place →
+    ((other : ℕ) → from ≤ other → other < place → ¬ IsAt at numbers other) → IsAt at numbers place
+    → IsFirstAt at numbers from (Some place)
+first-here at numbers from place low none here = (low, here, λ other above stands. elim (cases_lt other place) [
+  | inl below ↦ absurd (none other above below stands)
+  | inr behind ↦ behind
+])
+
+pub last-here : (at : List MarkNo) (numbers : List ℕ) (near place upto : ℕ) → near ≡ place + 1 → near ≤ upto →
+    ((other : ℕ) → near ≤ other → other < upto → ¬ IsAt at numbers other) → IsAt at numbers place
+    → IsLastAt at numbers upto (Some place)
+last-here at numbers near place upto is short none here = (
+  omega (arith, is, short),
+  here,
+  λ other below stands. elim (cases_lt place other) [
+    | inl above ↦ absurd (none other (omega (arith, is, above)) below stands)
+    | inr under ↦ under
+  ],
+)

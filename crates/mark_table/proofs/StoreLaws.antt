@@ -14,6 +14,7 @@ use Rattle.text_model.specs.declared.places.MarkNo.{MarkNo}
 use Rattle.text_model.specs.declared.places.Place.{Place}
 use Rattle.text_model.specs.Content.{Marks}
 use Rattle.text_model.specs.MarkOrder.{marks_at}
+use Rattle.mark_table.specs.Walk.{IsAt}
 
 -- keys that rise from a number on
 Rises : ℕ → List (ℕ × Place) → Type 0
@@ -163,3 +164,18 @@ mark_told_at at marks number place is here =
     let entry = found_entry (finite.entries marks) number place (sym (finite.get-entries marks number) ∙ is) in
     let kept = kept_entry p (finite.entries marks) (number, place) entry (eq-eqb place.offset at here) in
     stands_map (λ (e : ℕ × Place). record { 0 = e.0 }) (filter p (finite.entries marks)) (number, place) kept
+
+-- whether the shared mark at a place of the table stands at an offset
+pub stands-here : (at place : ℕ) (marks : Marks) (numbers : List ℕ) (number : ℕ) (found : Place) →
+    slice_get numbers place ≡ Some number → finite.get marks number ≡ Some found → found.offset ≡ at
+    → IsAt (marks_at at marks) numbers place
+stands-here at place marks numbers number found is has here =
+    let told = mark_told_at at marks number found has here in (told.0, record { 0 = number }, told.1, is)
+
+pub stands-there : (at place : ℕ) (marks : Marks) (numbers : List ℕ) (number : ℕ) →
+    slice_get numbers place ≡ Some number → IsAt (marks_at at marks) numbers place
+    → (found : Place) × (finite.get marks number ≡ Some found) × (found.offset ≡ at)
+stands-there at place marks numbers number is stands =
+    let told = place_of_mark_at at marks stands.1 (stands.0, stands.2) in
+    let same = same_Some stands.1.0 number (sym stands.3 ∙ is) in
+    (told.0, ap (finite.get marks) (sym same) ∙ told.1, told.2)

@@ -1,11 +1,12 @@
 ghost use Rattle.std.specs.Prelude.{◌≡◌, ℕ, ◌+◌, ◌-◌, ◌^◌, ◌<◌, ◌≤◌, ◌⊎◌, max, None, Some, IfSome, length, slice_get};
+ghost use Rattle.std.specs.Prelude.{true, false};
 ghost use Rattle.std.specs.Option.{option_to_list};
 ghost use Rattle.text_model.specs.declared.limits.TheConstants.Limits.{MOST_MARKS, MOST_WIDGETS};
 ghost use Rattle.text_model.specs.MarkOrder.{marks_at, next_mark as next_in_store};
 ghost use Rattle.mark_table.specs.Order.{shared_marks, shown_mark, usable, next_mark, next_shown, previous_mark};
 ghost use Rattle.mark_table.specs.Order.{previous_shown};
 ghost use Rattle.mark_table.specs.SharedMarks.{numbers_of};
-ghost use Rattle.mark_table.specs.Walk.{IsFirstAt, IsLastAt, IsFirst, IsLast, first_of, last_of, shared_at};
+ghost use Rattle.mark_table.specs.Walk.{IsAt, IsFirstAt, IsLastAt, IsFirst, IsLast, first_of, last_of, shared_at};
 
 use crate::marks::MarkTable;
 use crate::order::{MarkView, Origin, Shown, WidgetMark};
@@ -99,36 +100,68 @@ impl MarkTable {
         }
     }
 
-    // Of the shared marks at an offset the first by creation, from a place of the table on.
+    // Whether the shared mark at a place of the table stands at an offset.
+    fn stands_at<S: TextStore>(&self, store: &S, place: usize, offset: usize) -> bool
+        requires { place < length self.now.marks }
+        ensures yes { result ≡ true →
+            IsAt (marks_at offset (S.content store.now).marks) (numbers_of self.now.marks) place }
+        ensures no { result ≡ false →
+            ¬ IsAt (marks_at offset (S.content store.now).marks) (numbers_of self.now.marks) place }
+    {
+        match store.mark_place(self.number(place)) {
+            Some(found) => found.offset == offset,
+            None => false,
+        }
+    }
+
+    // Of the shared marks at an offset the first by creation, from a place of the table on. Where more than one stands
+    // there the next by creation is mostly one of them, so both are gone through side by side: the marks at the offset,
+    // and those that were made next.
     fn first_at<S: TextStore>(&self, store: &S, offset: usize, from: usize) -> Option<usize>
         ensures first { IsFirstAt (marks_at offset (S.content store.now).marks) (numbers_of self.now.marks) from
             result }
         ensures small { IfSome result (λ place. place < MOST_MARKS) }
     {
         let len = self.len();
-        let mut first = len;
-        let mut index = 0;
+        let number = store.mark_at(offset, 0)?;
+        let mut first = self.place_from(number, from);
+        let mut place = from;
+        let mut index = 1;
         while let Some(number) = store.mark_at(offset, index) {
+            if place >= len {
+                return None;
+            }
+            if self.stands_at(store, place, offset) {
+                return Some(place);
+            }
+            place += 1;
             first = first.min(self.place_from(number, from));
             index += 1;
         }
         (first < len).then_some(first)
     }
 
-    // Of the shared marks at an offset the last by creation, before a place of the table.
+    // Of the shared marks at an offset the last by creation, before a place of the table; looked for in the same way.
     fn last_at<S: TextStore>(&self, store: &S, offset: usize, upto: usize) -> Option<usize>
         ensures last { IsLastAt (marks_at offset (S.content store.now).marks) (numbers_of self.now.marks) upto result }
         ensures small { IfSome result (λ place. place < MOST_MARKS) }
     {
-        let _len = self.len();
-        let mut places: usize = 0;
-        let mut index = 0;
+        let mut near = upto.min(self.len());
+        let number = store.mark_at(offset, 0)?;
+        let mut places = self.places_before(number, upto);
+        let mut index = 1;
         while let Some(number) = store.mark_at(offset, index) {
+            let place = near.checked_sub(1)?;
+            if self.stands_at(store, place, offset) {
+                return Some(place);
+            }
+            near = place;
             places = places.max(self.places_before(number, upto));
             index += 1;
         }
         places.checked_sub(1)
     }
+
     // The first of the shared marks in the order that isn't before a bound.
     fn next_shared<S: TextStore>(&self, store: &S, view: MarkView, bound: Shown) -> Option<Shown>
         ensures { IsFirst (shared_marks view (S.content store.now).marks 2 (numbers_of self.now.marks)) bound result }

@@ -61,23 +61,25 @@ fn readers_give_the_numbers(rt: HostRuntime) {
     assert!(rt; limits.is_some_and(|limits| gives_numbers(&limits)));
 }
 
-static KNOWN: [(usize, u16, u16, u16, bool); 7] = [
-    (1, 0, 0, 0, true),
-    (0, 0, 0, 0, false),
-    (134_217_728, 960, 4_096, 64, true),
-    (134_217_729, 960, 4_096, 64, false),
-    (134_217_728, 961, 4_096, 64, false),
-    (134_217_728, 960, 4_097, 64, false),
-    (134_217_728, 960, 4_096, 65, false),
+static KNOWN: [(usize, u16, u16, u16, u32, bool); 9] = [
+    (1, 0, 0, 0, u32::MAX, true),
+    (0, 0, 0, 0, u32::MAX, false),
+    (0, 1, 1, 1, 1, false),
+    (16_777_217, 193, 0, 0, 1, true),
+    (134_217_728, 960, 4_096, 64, 0, true),
+    (134_217_729, 960, 4_096, 64, 0, false),
+    (134_217_728, 961, 4_096, 64, 0, false),
+    (134_217_728, 960, 4_097, 64, 0, false),
+    (134_217_728, 960, 4_096, 65, 0, false),
 ];
 
 #[test]
 fn numbers_have_bounds(rt: HostRuntime) {
-    for (chars, tags, marks, widgets, is_known) in &KNOWN {
-        let limits = Limits::new(*chars, *tags, *marks, *widgets, u32::MAX);
+    for (chars, tags, marks, widgets, reads, is_known) in &KNOWN {
+        let limits = Limits::new(*chars, *tags, *marks, *widgets, *reads);
         assert!(rt;
             limits.is_some() == *is_known,
-            "{chars} {tags} {marks} {widgets}"
+            "{chars} {tags} {marks} {widgets} {reads}"
         );
     }
 }

@@ -1,23 +1,30 @@
-use Rattle.std.proofs.Common.{◌≡◌, [], drop, ap, sym, ◌∙◌}
-use Rattle.std.proofs.Math.ListN.{drop_of_length-le}
-use Rattle.text_model.specs.Steps.{after}
-use Rattle.edit_ops.specs.Tagging.{tagged}
-use Rattle.edit_ops.proofs.TagLaws.{tagging-more}
+use Rattle.std.proofs.Common.{◌≡◌, length, sym, ap, ◌∙◌, subst}
+use Rattle.std.specs.List.{All}
+use Rattle.std.proofs.lemmas.Result.{IfOk-weaker}
+use Rattle.text_model.specs.Content.{Content}
+use Rattle.text_model.specs.Steps.{Fits, after}
+use Rattle.edit_ops.specs.Deletions.{in_spans}
+use Rattle.edit_ops.specs.Tagging.{SpanFits, tagged}
+use Rattle.edit_ops.proofs.CoverLaws.{in-reversed, runs-fit, tagged-same}
 use Rattle.edit_ops.proofs.tagging.tag_steps.Goals as goal
 
-pub loop-span-preserved : goal.loop-span-preserved
-loop-span-preserved c = λ content long.
-    rw c.in_ok-push.ensures.ok
-    (tagging-more c.args.slot c.args.is_on c.args.spans.now c.loop-span.steps c.loop-span.span-index c.args.len _
-    content c.requires.known c.loop-span-test.true
-    (c.requires.spans c.loop-span.span-index _ c.loop-span-test.true) (c.loop-span.invariant content long))
+pub span_steps-requires-2-clause-spans : goal.span_steps-requires-2-clause-spans
+span_steps-requires-2-clause-spans c = subst (All (SpanFits c.args.len))
+    (sym (c.as_slice.ensures.value ∙ c.reverse.ensures.items))
+    (runs-fit c.args.len c.in_ok-runs.runs.items
+    (c.in_ok-runs.ensures.apart c.args.len (λ k d within. (c.requires.spans k d within).within)))
 
 pub returns : goal.returns
-returns c = λ content long.
-    let done = c.loop-span.invariant content long in
-    let none : drop c.loop-span.span-index c.args.spans.now
-    ≡ [] = drop_of_length-le c.args.spans.now c.loop-span-test.false in (
-      done.fits,
-      sym (ap (λ left. tagged c.args.slot.0 c.args.is_on left (after c.loop-span.steps content)) none)
-          ∙ done.makes,
-    )
+returns c =
+    let slot = c.args.slot.0 in let on = c.args.is_on in let spans = c.args.spans.now in
+    let runs = c.as_slice.result.now in let found = c.in_ok-runs.runs.items in
+    let is : runs ≡ _ = c.as_slice.ensures.value ∙ c.reverse.ensures.items in
+    let fit : All (SpanFits c.args.len) runs = subst (All (SpanFits c.args.len)) (sym is)
+    (runs-fit c.args.len found
+    (c.in_ok-runs.ensures.apart c.args.len (λ k d within. (c.requires.spans k d within).within))) in
+    IfOk-weaker c.span_steps-2.result _ _ (λ steps made content long.
+    let makes = made content long in
+    (makes.0, makes.1 ∙ tagged-same slot on runs spans content
+    (subst (λ n. All (SpanFits n) runs) (sym long) fit) (subst (λ n. All (SpanFits n) spans) (sym long) c.requires.spans)
+    (λ offset. ap (λ all. in_spans all offset) is ∙ in-reversed found offset ∙ c.in_ok-runs.ensures.covers offset)))
+    c.span_steps-2.ensures

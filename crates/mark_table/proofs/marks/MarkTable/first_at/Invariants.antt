@@ -13,6 +13,9 @@ invariant-loop-number g l = record {
   least : (index place : ℕ) (number : MarkNo) → index < l.index →
       slice_get (marks_at l.offset (g.S.TextStore.content l.store).marks) index ≡ Some number
       → slice_get (numbers_of l.self.marks) place ≡ Some number.0 → l.from ≤ place → l.first ≤ place;
+  reached : l.from ≤ l.place;
+  none : (place : ℕ) → l.from ≤ place → place < l.place →
+      ¬ IsAt (marks_at l.offset (g.S.TextStore.content l.store).marks) (numbers_of l.self.marks) place;
 }
 
 abbrev pub decreases-loop-number : goal.decreases-loop-number

@@ -12,6 +12,10 @@ invariant-loop-number g l = record {
   greatest : (index place : ℕ) (number : MarkNo) → index < l.index →
       slice_get (marks_at l.offset (g.S.TextStore.content l.store).marks) index ≡ Some number
       → slice_get (numbers_of l.self.marks) place ≡ Some number.0 → place < l.upto → place < l.places;
+  none : (place : ℕ) → l.near ≤ place → place < l.upto →
+      ¬ IsAt (marks_at l.offset (g.S.TextStore.content l.store).marks) (numbers_of l.self.marks) place;
+  short : l.near ≤ l.upto;
+  under : l.near ≤ length l.self.marks;
 }
 
 abbrev pub decreases-loop-number : goal.decreases-loop-number

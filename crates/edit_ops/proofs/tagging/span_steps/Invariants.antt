@@ -1,7 +1,7 @@
 use Rattle.std.proofs.Common.{◌≡◌, drop, length}
 use Rattle.text_model.specs.Content.{Content}
 use Rattle.edit_ops.proofs.TagLaws.{Tagging}
-use Rattle.edit_ops.proofs.tagging.tag_steps.Given as goal
+use Rattle.edit_ops.proofs.tagging.span_steps.Given as goal
 
 abbrev pub invariant-loop-span : goal.invariant-loop-span
 invariant-loop-span l = (content : Content) → length content.cells ≡ l.len →
