@@ -182,6 +182,7 @@ impl DocumentSettings {
             history.reset();
         }
         history.set_limit(self.most_undo);
+        history.give_back_room();
     }
 }
 

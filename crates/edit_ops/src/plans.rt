@@ -140,4 +140,6 @@ pub fn commit<S: TextStore>(plan: Plan<S>, text: &mut EditedText<S>)
     text.store.commit(prepared);
     text.anchors = anchors;
     note(&mut text.history, notes);
+    // Where noting made groups go, what they held goes too.
+    text.history.give_back_room();
 }

@@ -1,7 +1,8 @@
 -- Marks as a list of names with numbers, and a gravity for each number.
-use Rattle.std.proofs.Common.{◌≡◌, ◌≢◌, ℕ, ◌+◌, ◌-◌, ◌<◌, ◌≤◌, Bool, true, false, if◌then◌else◌, Option, None, Some}
+use Rattle.std.proofs.Common.{◌≡◌, ◌≢◌, ℕ, zero, suc, ◌+◌, ◌-◌, ◌<◌, ◌≤◌, Bool, true, false, Option, None}
+use Rattle.std.proofs.Common.{if◌then◌else◌, Some}
 use Rattle.std.proofs.Common.{List, [], ◌∷◌, ◌++◌, length, map, slice_get, slice_set, Contains, refl, sym, ap, ap₂, ◌∙◌}
-use Rattle.std.proofs.Common.{subst, inl, inr, arith}
+use Rattle.std.proofs.Common.{subst, inl, inr, take, arith, eq-eqb, ne_eqb, length-append, length-set}
 use Rattle.std.specs.Prelude.{position, find, remove, bytes_eq, unwrap_or}
 use Rattle.std.specs.Option.{MatchOption, SomeIff, option_map}
 use Rattle.std.proofs.lemmas.Bool.{cases_eq}
@@ -12,13 +13,14 @@ use Rattle.name_list.specs.Moves.{without}
 use Rattle.name_list.specs.Names as list
 use Rattle.name_list.specs.Names.{Named, Names, AreNames, AreApart, place_of}
 use Rattle.name_list.proofs.ListLaws.{Stands, stands_from_Contains, Contains-from_stands, stands_map, stood_at}
-use Rattle.name_list.proofs.ListLaws.{map-same, map-map, get_set, get_set_other}
+use Rattle.name_list.proofs.ListLaws.{map-same, map-map, get_set, get_set_other, get_push_cases}
+use Rattle.name_list.proofs.ListLaws.{get_remove, before_removal}
 use Rattle.name_list.proofs.MoveLaws.{position-map, position-passes, first_is, found_at, not_found, none_found}
 use Rattle.name_list.proofs.MoveLaws.{without-push, without-remove, without_none}
 use Rattle.name_list.proofs.ViewLaws.{map-remove}
 use Rattle.text_model.specs.declared.places.Gravity.{Gravity}
 use Rattle.text_model.specs.declared.places.Gravity.TheVariants.{Right}
-use Rattle.mark_table.specs.Kept.{AreKept, gravity_at, mark, marks_kept}
+use Rattle.mark_table.specs.Kept.{AreKept, gravity_at, mark, marks_kept, with_gravity_for}
 use Rattle.mark_table.specs.SharedMarks.{Mark, SharedMarks, AreMarks, IsLeastFree, first_number, gravity_of, is_named}
 use Rattle.mark_table.specs.SharedMarks.{names_of, number_of, numbers_of, turned}
 
@@ -140,6 +142,94 @@ gravity_turns : (gravities : List Gravity) (number : ℕ) (gravity : Gravity) (e
 gravity_turns gravities number gravity e within same = ap (λ o.
     record { name = e.name; number = first_number + e.number; gravity = unwrap_or o Right })
     (ap (slice_get (slice_set gravities number gravity)) same ∙ get_set gravities number gravity within)
+
+-- a mark is the same where its gravity is
+same_mark : (gravities others : List Gravity) (e : Named) →
+    gravity_at gravities e.number ≡ gravity_at others e.number → mark gravities e ≡ mark others e
+same_mark gravities others e same =
+    ap (λ gravity. record { name = e.name; number = first_number + e.number; gravity = gravity }) same
+
+-- a gravity more for a new number, which is what no gravity counts as
+gravity_pushed : (gravities : List Gravity) (number : ℕ) →
+    gravity_at (gravities ++ Right ∷ []) number ≡ gravity_at gravities number
+gravity_pushed [] zero = refl
+gravity_pushed [] (suc number) = refl
+gravity_pushed (gravity ∷ gravities) zero = refl
+gravity_pushed (gravity ∷ gravities) (suc number) = gravity_pushed gravities number
+
+pub marks-placed : (gravities : List Gravity) (es : List Named) (number : ℕ) →
+    map (mark (with_gravity_for number gravities)) es ≡ map (mark gravities) es
+marks-placed gravities es number = elim (cases_eq number (length gravities)) [
+  | inl new ↦ ap (λ b. map (mark (if b then gravities ++ Right ∷ [] else gravities)) es) (eq-eqb number _ new)
+      ∙ map-same (mark (gravities ++ Right ∷ [])) (mark gravities) es (λ at e is.
+      same_mark (gravities ++ Right ∷ []) gravities e (gravity_pushed gravities e.number))
+  | inr old ↦ ap (λ b. map (mark (if b then gravities ++ Right ∷ [] else gravities)) es) (ne_eqb number _ old)
+]
+
+pub placed : (gravities : List Gravity) (number : ℕ) → number ≤ length gravities →
+    (number < length (with_gravity_for number gravities))
+    × (length gravities ≤ length (with_gravity_for number gravities))
+placed gravities number within = elim (cases_eq number (length gravities)) [
+  | inl new ↦ rw (eq-eqb number (length gravities) new)
+      (let more = length-append gravities (Right ∷ []) in (omega arith, omega arith))
+  | inr old ↦ rw (ne_eqb number (length gravities) old) (omega arith, omega arith)
+]
+
+-- what belongs together stays together: a new number is at most behind the gravities
+pub least_within : (names : Names) (gravities : List Gravity) (number : ℕ) → AreKept names gravities →
+    list.IsLeastFree (list.numbers_of names.entries) number → number ≤ length gravities
+least_within names gravities zero kept least = omega arith
+least_within names gravities (suc n) kept least =
+    let last = stands_from_Contains (list.numbers_of names.entries) n (least.below n (omega arith)) in
+    let within = kept.each last.0 n last.1 in
+    omega arith
+
+pub AreKept-push : (names new : Names) (gravities : List Gravity) (name : List ℕ) (number : ℕ) →
+    AreKept names gravities → list.IsLeastFree (list.numbers_of names.entries) number
+    → new ≡ record names { entries = names.entries ++ record { name = name; number = number } ∷ [] }
+    → AreKept new (slice_set (with_gravity_for number gravities) number Right)
+AreKept-push names new gravities name number kept least last =
+    let more = with_gravity_for number gravities in
+    let fits = placed gravities number (least_within names gravities number kept least) in
+    let count = length-set more number Right in
+    subst (λ ns. AreKept ns (slice_set more number Right)) (sym last) (record {
+      few = kept.few;
+      each = λ place other is. elim (get_push_cases (list.numbers_of names.entries) number place other
+          (ap (λ ns. slice_get ns place) (sym (map_push (λ (e : Named). e.number) names.entries
+          (record { name = name; number = number }))) ∙ is)) [
+            | inl old ↦ let within = kept.each place other old in let long = fits.1 in omega arith
+            | inr new ↦ let within = fits.0 in let same = new.1 in omega arith
+          ];
+    })
+
+pub AreKept-remove : (names new : Names) (gravities : List Gravity) (at : ℕ) → at < length names.entries →
+    AreKept names gravities → new ≡ record names { entries = remove names.entries at } → AreKept new gravities
+AreKept-remove names new gravities at within kept is =
+    let number = λ (e : Named). e.number in
+    subst (λ ns. AreKept ns gravities) (sym is) (record {
+      few = kept.few;
+      each = λ place n here. kept.each (before_removal at place) n
+          (sym (get_remove (map number names.entries) at place (omega (arith, length-map names.entries number)))
+          ∙ ap (λ ns. slice_get ns place) (sym (map-remove number names.entries at)) ∙ here);
+    })
+
+-- gravities behind the numbers that marks have are taken off
+gravity_taken : (bound : ℕ) (gravities : List Gravity) (number : ℕ) → number < bound →
+    gravity_at (take bound gravities) number ≡ gravity_at gravities number
+gravity_taken zero gravities number below = absurd (omega arith)
+gravity_taken (suc bound) [] number below = refl
+gravity_taken (suc bound) (gravity ∷ gravities) zero below = refl
+gravity_taken (suc bound) (gravity ∷ gravities) (suc number) below =
+    gravity_taken bound gravities number (omega arith)
+
+pub marks-take : (names : Names) (gravities : List Gravity) (bound : ℕ) →
+    ((place number : ℕ) → slice_get (list.numbers_of names.entries) place ≡ Some number → number < bound) →
+    marks_kept names (take bound gravities) ≡ marks_kept names gravities
+marks-take names gravities bound above = ap (λ marks. record { marks = marks; limit = names.limit })
+    (map-same (mark (take bound gravities)) (mark gravities) names.entries (λ at e is.
+    let below = above at e.number (slice_get-map (λ (x : Named). x.number) names.entries at
+    ∙ ap (option_map (λ (x : Named). x.number)) is) in
+    same_mark (take bound gravities) gravities e (gravity_taken bound gravities e.number below)))
 
 -- a mark more, with right gravity
 pub marks-push : (gravities : List Gravity) (es : List Named) (name : List ℕ) (number : ℕ) → number < length gravities →

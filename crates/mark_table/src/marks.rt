@@ -1,9 +1,10 @@
 ghost use Rattle.std.specs.Prelude.{◌≡◌, ◌<◌, ◌≤◌, ◌+◌, ◌↔◌, ◌∷◌, [], ◌++◌, length, slice_get, chars, string_bytes};
 ghost use Rattle.std.specs.Prelude.{None, Some, Contains, IsNone, IsSome, IfOk, IfSome, OnOk, OnErr, MatchOption};
-ghost use Rattle.std.specs.Prelude.{MatchResult};
+ghost use Rattle.std.specs.Prelude.{MatchResult, slice_set, vec_len, vec_capacity};
 ghost use Rattle.std.specs.Option.{option_map};
 ghost use Rattle.name_list.specs.Moves.{without};
 ghost use Rattle.text_model.specs.declared.limits.TheConstants.Limits.{MOST_MARKS};
+ghost use Rattle.mark_table.specs.Kept.{with_gravity_for};
 ghost use Rattle.mark_table.specs.SharedMarks.{SharedMarks, first_number, is_named, names_of, numbers_of, number_of};
 ghost use Rattle.mark_table.specs.SharedMarks.{gravity_of, turned, IsFull, IsLeastFree, AreMarks};
 
@@ -21,6 +22,18 @@ fn mark_number(number: u16) -> MarkNo
     MarkNo(2 * Limits::MOST_WIDGETS + number)
 }
 
+// Gives a number right gravity, where each number before it has one, and there is room for one more.
+fn put_right(gravities: &mut Vec<Gravity>, number: usize)
+    requires before { number ≤ length gravities.old.items }
+    requires room { vec_len gravities.old < vec_capacity gravities.old }
+    ensures { gravities.new.items ≡ slice_set (with_gravity_for number gravities.old.items) number Gravity.Right }
+{
+    if number == gravities.len() {
+        gravities.push_reserved(Gravity::Right);
+    }
+    gravities[number] = Gravity::Right;
+}
+
 /// The marks that the widgets of a document share, in the order of their creation, each with its gravity and with the
 /// number by which a store knows it. Places in the order count from 0.
 ///
@@ -29,6 +42,7 @@ fn mark_number(number: u16) -> MarkNo
 #[derive(Drop)]
 pub struct MarkTable {
     names: NameList,
+    // by the numbers of the list, as far as some mark had one
     gravities: Vec<Gravity>,
 }
 
@@ -45,7 +59,7 @@ impl Model for MarkTable {
 }
 
 impl MarkTable {
-    /// A table without marks, for as many as the limits allow.
+    /// A table without marks, for as many as the limits allow. It takes no memory.
     pub fn new(alloc: Global, limits: &Limits) -> Result<MarkTable, AllocError>
         ensures { IfOk result (λ marks. marks ≡ record { marks = []; limit = limits.now.marks }) }
     {
@@ -53,7 +67,7 @@ impl MarkTable {
         let _chars = limits.chars();
         Ok(MarkTable {
             names: NameList::new(alloc, limits.marks())?,
-            gravities: vec![in alloc; Gravity::Right; limits.marks() as usize]?,
+            gravities: Vec::new(alloc),
         })
     }
 
@@ -117,10 +131,12 @@ impl MarkTable {
             without (is_named (chars (string_bytes name))) self.new.marks ≡ self.old.marks)) }
         ensures err { OnErr result (self.new ≡ self.old) }
     {
+        // Nothing is refused behind the name's own request.
+        self.gravities.reserve(1)?;
         let Some(number) = self.names.create(name)? else {
             return Ok(None);
         };
-        self.gravities[number as usize] = Gravity::Right;
+        put_right(&mut self.gravities, number as usize);
         Ok(Some(mark_number(number)))
     }
 
@@ -130,6 +146,19 @@ impl MarkTable {
     {
         if let Some(place) = self.names.place(name) {
             self.names.remove(place);
+            self.give_back_room();
+        }
+    }
+
+    // Takes off the gravities behind the numbers that marks have. Where more than four times as many as are left and 16
+    // more would fit, the room becomes that of twice as many, so this takes as long as a few of the calls before it.
+    fn give_back_room(&mut self)
+        ensures { self.new ≡ self.old }
+    {
+        self.gravities.truncate(self.names.number_bound());
+        let len = self.gravities.len();
+        if len < self.gravities.capacity().saturating_sub(16) / 4 {
+            self.gravities.shrink_to(2 * len);
         }
     }
 

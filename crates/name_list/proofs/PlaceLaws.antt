@@ -1,7 +1,8 @@
 -- The places of numbers: what a push, a removal and a move leave, and that they give names that are in order.
-use Rattle.std.proofs.Common.{◌≡◌, ℕ, ◌+◌, ◌<◌, ◌≤◌, ◌≢◌, ◌⊎◌, ◌^◌, true, false, Option, None, Some, List}
+use Rattle.std.proofs.Common.{◌≡◌, ℕ, zero, suc, ◌+◌, ◌<◌, ◌≤◌, ◌≢◌, ◌⊎◌, ◌^◌, true, false, Option, None, Some, List}
 use Rattle.std.proofs.Common.{[], ◌∷◌, ◌++◌, length, take, drop, min, slice_get, slice_set, Contains, refl}
-use Rattle.std.proofs.Common.{sym, ap, ◌∙◌, subst, inl, inr, arith, length-append, length-set, true≢false, if◌then◌else◌, eq-eqb, ne_eqb}
+use Rattle.std.proofs.Common.{sym, ap, ◌∙◌, subst, inl, inr, arith, length-append, length-set}
+use Rattle.std.proofs.Common.{true≢false, if◌then◌else◌, eq-eqb, ne_eqb}
 use Rattle.std.specs.Prelude.{insert, remove, is_some}
 use Rattle.std.specs.Option.{option_and_then, option_map_or}
 use Rattle.std.proofs.lemmas.Bool.{cases_lt, cases_eq}
@@ -11,7 +12,7 @@ use Rattle.std.proofs.lemmas.List.{append-nil, take_all, drop_all}
 use Rattle.std.proofs.lemmas.List.Edits.{length-remove, length-insert}
 use Rattle.name_list.specs.Moves.{move_index}
 use Rattle.name_list.specs.Names.{AreApart, IsLeastFree}
-use Rattle.name_list.specs.Places.{is_taken, with_place_for, IsIndex, IsIndexTo, AreKept}
+use Rattle.name_list.specs.Places.{is_taken, with_place_for, AreTrimmed, IsIndex, IsIndexTo, AreKept}
 use Rattle.name_list.proofs.ListLaws.{Stands, stands_from_Contains, Contains-from_stands, get_push, get_pushed}
 use Rattle.name_list.proofs.ListLaws.{get_push_cases, get_set, get_set_other, get_remove, get_remove_other}
 use Rattle.name_list.proofs.ListLaws.{before_removal, removed_is_gone, AreApart-remove, AreApart-insert, get_inserted}
@@ -356,6 +357,29 @@ AreKept-move numbers places new from to number free limit kept here within index
   within = rw same kept.within;
   room = rw (length-move numbers from to number here within) kept.room;
   few = rw same kept.few;
+  small = kept.small;
+}
+
+-- places without a number are taken off at the end
+free_trimmed : (numbers : List ℕ) (old new : List (Option ℕ)) (free : ℕ) → IsIndex numbers old →
+    IsLeastFree numbers free → AreTrimmed old new → free ≤ length new
+free_trimmed numbers old new zero index least trimmed = omega arith
+free_trimmed numbers old new (suc n) index least trimmed =
+    let last = stands_from_Contains numbers n (least.below n (omega arith)) in
+    let within = slice_get_within new n (Some last.0) (trimmed.same last.0 n (index.placed last.0 n last.1)) in
+    omega arith
+
+pub AreKept-trimmed : (numbers : List ℕ) (old new : List (Option ℕ)) (free limit : ℕ) →
+    AreKept numbers old free limit → AreTrimmed old new → AreKept numbers new free limit
+AreKept-trimmed numbers old new free limit kept trimmed = record {
+  index = record {
+    placed = λ at number is. trimmed.same at number (kept.index.placed at number is);
+    there = λ at number is. kept.index.there at number (trimmed.no_others at number is);
+  };
+  least = kept.least;
+  within = free_trimmed numbers old new free kept.index kept.least trimmed;
+  room = kept.room;
+  few = let fits = kept.few in let shorter = trimmed.shorter in omega arith;
   small = kept.small;
 }
 

@@ -17,6 +17,12 @@ is_taken places number = is_some (option_and_then (λ place. place) (slice_get p
 abbrev pub with_place_for : ℕ → List (Option ℕ) → List (Option ℕ)
 with_place_for number places = if nat_eq number (length places) then places ++ None ∷ [] else places
 
+-- each number has the place that it had, in a list that isn't longer
+pub record AreTrimmed (old new : List (Option ℕ)) : Type 0 where
+  pub same : (at number : ℕ) → slice_get old number ≡ Some (Some at) → slice_get new number ≡ Some (Some at)
+  pub no_others : (at number : ℕ) → slice_get new number ≡ Some (Some at) → slice_get old number ≡ Some (Some at)
+  pub shorter : length new ≤ length old
+
 -- the places are those at which the numbers stand
 pub record IsIndex (numbers : List ℕ) (places : List (Option ℕ)) : Type 0 where
   pub placed : (at number : ℕ) → slice_get numbers at ≡ Some number → slice_get places number ≡ Some (Some at)

@@ -1,9 +1,9 @@
-ghost use Rattle.std.specs.Prelude.{◌≡◌, ◌<◌, ◌↔◌, ◌∷◌, [], ◌++◌, length, remove, take, slice_get, chars};
+ghost use Rattle.std.specs.Prelude.{◌≡◌, ℕ, ◌<◌, ◌↔◌, ◌∷◌, [], ◌++◌, length, remove, take, slice_get, chars};
 ghost use Rattle.std.specs.Prelude.{string_bytes, None, Some, Contains, IsNone, IfOk, IfSome, OnErr, MatchOption};
 ghost use Rattle.name_list.specs.Moves.{move_index};
 ghost use Rattle.name_list.specs.Names.{Names, place_of, names_of, numbers_of, IsFull, IsLeastFree, AreNames};
 
-use crate::places::{add_place, next_free, note_places};
+use crate::places::{add_place, give_back_places, next_free, note_places};
 use indexmap::IndexMap;
 use std::alloc::{AllocError, Global};
 use std::marker::Model;
@@ -59,6 +59,13 @@ impl NameList {
         ensures sound { AreNames self.now }
     {
         self.numbers.get_index_of(name)
+    }
+
+    /// A number above all that names have: what is kept by these numbers needs so many places.
+    pub fn number_bound(&self) -> usize
+        ensures { (place number : ℕ) → slice_get (numbers_of self.now.entries) place ≡ Some number → number < result }
+    {
+        self.places.len()
     }
 
     /// The place of the name that has a number.
@@ -120,6 +127,15 @@ impl NameList {
         requires { place < length self.old.entries }
         ensures { self.new ≡ record self.old { entries = remove self.old.entries place } }
     {
+        self.take_out(place);
+        self.give_back_room();
+    }
+
+    // Takes out the name at a place, and keeps the room that it had.
+    fn take_out(&mut self, place: usize)
+        requires { place < length self.old.entries }
+        ensures { self.new ≡ record self.old { entries = remove self.old.entries place } }
+    {
         let (_, number) = self.numbers.shift_remove_index(place).unwrap();
         self.places[number as usize] = None;
         note_places(&self.numbers, &mut self.places, place);
@@ -132,7 +148,20 @@ impl NameList {
     {
         while self.len() > len {
             let last = self.len() - 1;
-            self.remove(last);
+            self.take_out(last);
+        }
+        self.give_back_room();
+    }
+
+    // Gives back room that is no longer needed: where more than four times the names and 16 more would fit, it becomes
+    // twice the names. So it takes as long as a few of the removals before it, and a name more finds room again.
+    fn give_back_room(&mut self)
+        ensures { self.new ≡ self.old }
+    {
+        give_back_places(&mut self.places);
+        let len = self.numbers.len();
+        if len < self.numbers.capacity().saturating_sub(16) / 4 {
+            self.numbers.shrink_to(2 * len);
         }
     }
 

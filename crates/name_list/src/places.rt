@@ -2,7 +2,7 @@
 ghost use Rattle.std.specs.Prelude.{◌≡◌, ℕ, ◌<◌, ◌≤◌, ◌^◌, true, false, length, slice_get, OnErr, OnOk, Some};
 ghost use Rattle.indexmap.specs.IndexMap.{values, index_map_len};
 ghost use Rattle.name_list.specs.Names.{AreApart};
-ghost use Rattle.name_list.specs.Places.{is_taken, with_place_for, IsIndex, IsIndexTo};
+ghost use Rattle.name_list.specs.Places.{is_taken, with_place_for, AreTrimmed, IsIndex, IsIndexTo};
 
 use indexmap::IndexMap;
 use std::alloc::AllocError;
@@ -17,6 +17,29 @@ pub(crate) fn add_place(places: &mut Vec<Option<u16>>, number: usize) -> Result<
         places.push(None)?;
     }
     Ok(())
+}
+
+/// How many places there are as far as the last that a number has.
+fn places_needed(places: &[Option<u16>]) -> usize
+    ensures within { result ≤ length places.now }
+    ensures free { (number : ℕ) → result ≤ number → is_taken places.now number ≡ false }
+{
+    let mut needed = places.len();
+    while needed > 0 && places[needed - 1].is_none() {
+        needed -= 1;
+    }
+    needed
+}
+
+/// Takes off the places behind the last that a number has, and gives back room by the same measure as that for names.
+pub(crate) fn give_back_places(places: &mut Vec<Option<u16>>)
+    ensures { AreTrimmed places.old.items places.new.items }
+{
+    let len = places_needed(places);
+    places.truncate(len);
+    if len < places.capacity().saturating_sub(16) / 4 {
+        places.shrink_to(2 * len);
+    }
 }
 
 /// The least number from `from` on that has no place.

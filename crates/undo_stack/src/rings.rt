@@ -15,3 +15,15 @@ pub fn drop_front(actions: &mut VecDeque<Action>, count: usize)
         let _ = actions.pop_front();
     }
 }
+
+/// Gives back room that a row no longer needs: where more than four times its elements and 16 more would fit, it
+/// becomes that of twice its elements. So it takes as long as a few of the calls by which they went.
+pub fn give_back_room<T>(row: &mut VecDeque<T>)
+    ensures items { row.new.items ≡ row.old.items }
+    ensures len { deque_len row.new ≡ deque_len row.old }
+{
+    let len = row.len();
+    if len < row.capacity().saturating_sub(16) / 4 {
+        row.shrink_to(2 * len);
+    }
+}

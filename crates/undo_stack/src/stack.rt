@@ -9,7 +9,7 @@ use crate::actions::{Action, EditKind};
 use crate::counts::ModifiedCount;
 use crate::faults::HistoryFault;
 use crate::groups::Group;
-use crate::rings::drop_front;
+use crate::rings::{drop_front, give_back_room};
 use std::alloc::{AllocError, Global};
 use std::collections::VecDeque;
 use std::marker::Model;
@@ -82,6 +82,16 @@ impl UndoStack {
         self.lengths.reserve(notes)?;
         self.actions.reserve(notes)?;
         Ok(())
+    }
+
+    /// Gives back room that the history no longer needs, so that what it holds follows what is noted.
+    pub fn give_back_room(&mut self)
+        ensures history { self.new.history ≡ self.old.history }
+        ensures modified { self.new.modified ≡ self.old.modified }
+        ensures most { self.new.most ≡ self.old.most }
+    {
+        give_back_room(&mut self.lengths);
+        give_back_room(&mut self.actions);
     }
 
     /// Whether the text is modified.

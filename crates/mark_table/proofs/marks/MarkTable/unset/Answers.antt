@@ -3,12 +3,17 @@ use Rattle.std.specs.Prelude.{chars}
 use Rattle.name_list.specs.Moves.{without}
 use Rattle.mark_table.specs.Kept.{marks_kept}
 use Rattle.mark_table.specs.SharedMarks.{SharedMarks, is_named}
-use Rattle.mark_table.proofs.MarkLaws.{place_of_mark, marks-remove, marks-keep}
+use Rattle.mark_table.proofs.MarkLaws.{place_of_mark, marks-remove, marks-keep, AreKept-remove}
 use Rattle.mark_table.proofs.marks.MarkTable.unset.Goals as goal
+
+pub invariant_of-self : goal.invariant_of-self
+invariant_of-self c = AreKept-remove c.self.inside.names c.remove.new.self c.self.inside.gravities.items c.in-Some.place
+    c.in-Some.ensures.within c.self.invariant c.remove.ensures
 
 pub returns-in-Some : goal.returns-in-Some
 returns-in-Some c =
-    ap (λ names. marks_kept names c.self.inside.gravities.items) c.remove.ensures
+    c.give_back_room.ensures
+    ∙ ap (λ names. marks_kept names c.self.inside.gravities.items) c.remove.ensures
     ∙ ap (λ marks. record { marks = marks; limit = c.self.inside.names.limit })
     (marks-remove c.self.inside.gravities.items c.self.inside.names.entries (chars c.args.name.now) c.in-Some.place
     (sym c.place.ensures.value ∙ c.in-Some.is))

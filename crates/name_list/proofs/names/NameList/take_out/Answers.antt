@@ -7,7 +7,7 @@ use Rattle.name_list.specs.Places.{AreKept, IsIndex, IsIndexTo, named}
 use Rattle.name_list.proofs.ListLaws.{AreApart-remove, get_remove, before_removal}
 use Rattle.name_list.proofs.PlaceLaws.{AreApart-index, within_index, IsIndexTo-remove, AreKept-remove, whole_written}
 use Rattle.name_list.proofs.ViewLaws.{map-remove}
-use Rattle.name_list.proofs.names.NameList.remove.Goals as goal
+use Rattle.name_list.proofs.names.NameList.take_out.Goals as goal
 
 pub index_mut-requires : goal.index_mut-requires
 index_mut-requires c =
