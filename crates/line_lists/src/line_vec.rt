@@ -143,6 +143,15 @@ fn drop_lines(lines: &mut Vec<Line>, from: usize, to: usize)
     lines.truncate(end - (to - from));
 }
 
+/// Gives back room that isn't needed, where memory allows it: more than for twice as many lines, and a few.
+fn trim_lines(lines: &mut Vec<Line>)
+    ensures { lines.new.items ≡ lines.old.items }
+{
+    if lines.capacity() > lines.len().saturating_mul(2).saturating_add(8) {
+        lines.shrink_to(lines.len());
+    }
+}
+
 impl LineList for LineVec {
     ghost lines = { λ list. list.lines.items };
 
@@ -218,6 +227,10 @@ impl LineList for LineVec {
     fn reserve(&mut self, count: usize, numbers: usize) -> Result<(), AllocError> {
         self.lines.reserve(count)?;
         Ok(())
+    }
+
+    fn free_room(&mut self) {
+        trim_lines(&mut self.lines);
     }
 
     fn take_mark(&mut self, number: MarkNo) {

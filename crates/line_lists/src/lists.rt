@@ -141,6 +141,11 @@ pub trait LineList: Drop {
         ensures room { OnOk result (count ≤ line_room self.new) }
         ensures numbers { OnOk result (numbers ≤ mark_room self.new) };
 
+    /// Gives back room that was reserved for lines, or that lines left, beyond a part of what there is.
+    fn free_room(&mut self)
+        ensures lines { lines self.new ≡ lines self.old }
+        ensures numbers { mark_room self.old ≤ mark_room self.new };
+
     /// Takes the mark of a number away.
     fn take_mark(&mut self, number: MarkNo)
         ensures lines { lines self.new ≡ map (without_mark number.0) (lines self.old) }

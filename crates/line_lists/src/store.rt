@@ -169,12 +169,19 @@ impl<L: LineList> TextStore for LineStore<L> {
 
     fn prepare(&mut self, edit: &Edit) -> Result<Change, AllocError> {
         let change = change_of(self.alloc, &self.list, edit)?;
-        self.list.reserve(change.count, change.bound)?;
-        Ok(change)
+        match self.list.reserve(change.count, change.bound) {
+            Ok(()) => Ok(change),
+            Err(refused) => {
+                self.list.free_room();
+                Err(refused)
+            }
+        }
     }
 
     fn commit(&mut self, change: Change) {
         take_marks(&mut self.list, &change.taken);
         place(&mut self.list, change.pieces);
+        // What these pieces didn't need of the room that was reserved for them, and what is left of lines that went.
+        self.list.free_room();
     }
 }

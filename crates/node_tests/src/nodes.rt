@@ -150,3 +150,36 @@ fn a_thousand(rt: HostRuntime) -> Result<(), Fail> {
     }
     Ok(())
 }
+
+/// Nodes are made and given back in another order, and spares from all over the row are freed.
+fn turn_and_free(store: &mut NodeStore<Steps>)
+    requires spares { 3 ≤ spares store.old }
+    requires rooms { 3 ≤ rooms store.old }
+{
+    let first = store.make(None);
+    let second = store.make(None);
+    let third = store.make(None);
+    store.give_back(second);
+    store.free_spares(1, 1);
+    store.give_back(third);
+    store.give_back(first);
+    store.free_spares(2, 2);
+}
+
+#[test]
+fn spares_freed(rt: HostRuntime) -> Result<(), Fail> {
+    let mut store: NodeStore<Steps> = NodeStore::new(rt.alloc());
+    for _ in 0..100 {
+        store.reserve(3)?;
+        turn_and_free(&mut store);
+        assert!(rt; store.spares() == 2);
+    }
+    store.reserve(20)?;
+    store.free_spares(0, 0);
+    assert!(rt; store.spares() == 0);
+    store.reserve(2)?;
+    let first = store.make(None);
+    let second = store.make(None);
+    assert!(rt; !store.same(first, second));
+    Ok(())
+}

@@ -8,15 +8,14 @@ use mathlib.Core.Logic.{∥∥₁_map, ∥∥₁_elim}
 use base.Stored.{Coded-set, coded_ℕ}
 use Rattle.std.proofs.Math.Bridge.{le_prop}
 use Rattle.std.specs.Prelude.{IfSome, IsSome, ◌≢◌, Option, None, Some, is_some, unwrap_or}
-use Rattle.std.specs.List.{range_with_len, sum_by}
+use Rattle.std.specs.List.{sum_by}
 use Rattle.std.proofs.lemmas.List.{get_or-set_same, get_or-set_other, map-set, map-append, length-map, get_or-map}
 use Rattle.std.proofs.lemmas.List.{get_or_append_left, set-get_or}
-use Rattle.std.proofs.lemmas.List.FromFn.{get_or-range_with_len}
 use Rattle.std.proofs.lemmas.List.Sums.{sum_by-set, sum_by-cons, sum_by_push}
-use Rattle.raw_nodes.specs.Cells.{IsLast, IsPlace, NotIn, ats, number_in}
-use Rattle.raw_nodes.specs.Chain.{before_of, befores_of, if_spare, if_free, flag_of, mark_of, marks_of, next_of}
-use Rattle.raw_nodes.specs.Chain.{nexts_of, number_of, numbers_of, room_of, IsChain}
-use Rattle.raw_nodes.specs.Records.{Record, record_of, if_used, is_used, cell_of, cells_of}
+use Rattle.raw_nodes.specs.Cells.{IsPlace, NotIn, ats, number_in}
+use Rattle.raw_nodes.specs.Chain.{after_of, afters_of, before_of, befores_of, behind, if_spare, if_free, flag_of}
+use Rattle.raw_nodes.specs.Chain.{mark_of, marks_of, next_of, nexts_of, room_of, IsChain}
+use Rattle.raw_nodes.specs.Records.{Record, record_of, if_used, is_used, cell_of, cells_of, slot_in}
 use Rattle.raw_nodes.specs.declared.names.NodePtr.{NodePtr}
 use Rattle.raw_nodes.specs.declared.nodes.Node.{Node}
 use Rattle.raw_nodes.proofs.HeapSteps.{unsnoc}
@@ -36,7 +35,7 @@ used_cell : (x : Node) → is_used x.held ≡ true → cell_of x ≡ Some (recor
 used_cell x e = ap (λ y. if_used y (record_of x)) e
 
 used_mark : (x : Node) → is_used x.held ≡ true → mark_of x ≡ 0
-used_mark x e = ap (λ y. if_spare y x.slot) e
+used_mark x e = ap (λ y. if_spare y (slot_in x.held)) e
 
 pub cell_is : (xs : List Node) (i : ℕ) (x : Node) → i < length xs → x ≡ get_or xs i x → is_used x.held ≡ true →
     get_or (cells_of xs) i None ≡ Some (record_of x)
@@ -145,7 +144,7 @@ chain_head ps xs n o p e c = head_at ps (marks_of xs) (nexts_of xs) n p
 -- a node becomes the first spare
 pub given_chain : (ps : List NodePtr) (xs : List Node) (n : ℕ) (o : Option NodePtr) (p : NodePtr) (x w : Node) →
     IsPlace ps p → length ps ≡ length xs → x ≡ get_or xs (number_in ps p) x → is_used x.held ≡ true
-    → is_used w.held ≡ false → w.slot ≡ n → next_of w ≡ o → ∥ IsChain ps (marks_of xs) (nexts_of xs) n o ∥₁ →
+    → is_used w.held ≡ false → slot_in w.held ≡ n → next_of w ≡ o → ∥ IsChain ps (marks_of xs) (nexts_of xs) n o ∥₁ →
     ∥ IsChain ps (marks_of (set xs (number_in ps p) w)) (nexts_of (set xs (number_in ps p) w)) (n + 1) (Some p) ∥₁
 given_chain ps xs n o p x w at paired e u v s t c =
     let i = number_in ps p in let here : i < length xs = omega (arith, at) in let ys = set xs i w in
@@ -180,7 +179,7 @@ spare_flag false k n e = refl
 pub is_spare : (xs : List Node) (i : ℕ) (x : Node) (n : ℕ) → i < length xs → x ≡ get_or xs i x → 0 < n →
     get_or (marks_of xs) i 0 ≡ n → is_used x.held ≡ false
 is_spare xs i x n h e z m = let more : n ≡ suc (n - 1) = omega arith in
-    spare_flag (is_used x.held) x.slot (n - 1) (ap mark_of e ∙ sym (get_or-map mark_of xs i x 0 h) ∙ m ∙ more)
+    spare_flag (is_used x.held) (slot_in x.held) (n - 1) (ap mark_of e ∙ sym (get_or-map mark_of xs i x 0 h) ∙ m ∙ more)
 
 pub next_is : (xs : List Node) (i : ℕ) (x : Node) → i < length xs → x ≡ get_or xs i x →
     get_or (nexts_of xs) i None ≡ next_of x
@@ -232,7 +231,7 @@ last_at (y ∷ xs) x d zero e = absurd (omega arith)
 last_at (y ∷ xs) x d (suc i) e = last_at xs x d i (omega arith)
 
 pub grown_chain : (ps : List NodePtr) (xs : List Node) (n : ℕ) (o : Option NodePtr) (p : NodePtr) (w : Node) →
-    NotIn (ats ps) p.at → length ps ≡ length xs → is_used w.held ≡ false → w.slot ≡ n → next_of w ≡ o
+    NotIn (ats ps) p.at → length ps ≡ length xs → is_used w.held ≡ false → slot_in w.held ≡ n → next_of w ≡ o
     → ∥ IsChain ps (marks_of xs) (nexts_of xs) n o ∥₁ →
     ∥ IsChain (ps ++ p ∷ []) (marks_of (xs ++ w ∷ [])) (nexts_of (xs ++ w ∷ [])) (n + 1) (Some p) ∥₁
 grown_chain ps xs n o p w fresh paired v s t c =
@@ -259,43 +258,6 @@ pub grown_count : (xs : List Node) (w : Node) (n : ℕ) → is_used w.held ≡ f
     n + 1 ≡ sum_by flag_of (xs ++ w ∷ [])
 grown_count xs w n v s = let more = sum_by_push flag_of xs w in let one = ap if_free v in omega arith
 
--- ---- the numbers of the nodes
-pub same_numbers : (xs : List Node) (i : ℕ) (x w : Node) → x ≡ get_or xs i x → w.number ≡ x.number →
-    numbers_of (set xs i w) ≡ numbers_of xs
-same_numbers xs i x w e n =
-    map-set number_of xs i w
-    ∙ ap (set (numbers_of xs) i) n
-    ∙ sym (map-set number_of xs i x)
-    ∙ ap numbers_of (ap (set xs i) e ∙ set-get_or xs i x)
-
-pub numbered_set : (xs : List Node) (i : ℕ) (x w : Node) → x ≡ get_or xs i x → w.number ≡ x.number →
-    numbers_of xs ≡ range_with_len 0 (length xs) → numbers_of (set xs i w) ≡ range_with_len 0 (length (set xs i w))
-numbered_set xs i x w e n h = same_numbers xs i x w e n ∙ h ∙ ap (range_with_len 0) (sym (length-set xs i w))
-
-range_more : (a n : ℕ) → range_with_len a n ++ (a + n) ∷ [] ≡ range_with_len a (suc n)
-range_more a zero = ap (λ k. k ∷ []) (let same : a + 0 ≡ a = omega arith in same)
-range_more a (suc n) = ap (λ l. a ∷ l) (ap (λ k. range_with_len (a + 1) n ++ k ∷ []) (let same : a + suc n
-    ≡ (a + 1) + n = omega arith in same) ∙ range_more (a + 1) n)
-
-pub numbered_grown : (xs : List Node) (w : Node) → w.number ≡ length xs → numbers_of xs ≡ range_with_len 0 (length xs) →
-    numbers_of (xs ++ w ∷ []) ≡ range_with_len 0 (length (xs ++ w ∷ []))
-numbered_grown xs w n h =
-    let long = length-append xs (w ∷ []) in let more : suc (length xs) ≡ length (xs ++ w ∷ []) = omega (arith, long) in
-    map-append number_of xs (w ∷ [])
-    ∙ ap (λ l. l ++ w.number ∷ []) h
-    ∙ ap (λ k. range_with_len 0 (length xs) ++ k ∷ []) (let same : w.number ≡ 0 + length xs = omega (arith, n) in same)
-    ∙ range_more 0 (length xs)
-    ∙ ap (range_with_len 0) more
-
-pub number_is : (xs : List Node) (i : ℕ) (x : Node) → i < length xs → x ≡ get_or xs i x →
-    numbers_of xs ≡ range_with_len 0 (length xs) → x.number ≡ i
-number_is xs i x h e n =
-    ap number_of e
-    ∙ sym (get_or-map number_of xs i x 0 h)
-    ∙ ap (λ l. get_or l i 0) n
-    ∙ get_or-range_with_len 0 (length xs) i 0 h
-    ∙ (let same : 0 + i ≡ i = omega arith in same)
-
 -- ---- the rooms of the nodes
 pub room_moved : (xs : List Node) (i : ℕ) (x w : Node) → i < length xs → x ≡ get_or xs i x →
     sum_by room_of (set xs i w) + room_of x ≡ sum_by room_of xs + room_of w
@@ -306,12 +268,20 @@ pub room_grown : (xs : List Node) (w : Node) → room_of w ≡ 0 → sum_by room
 room_grown xs w none = let more = sum_by_push room_of xs w in omega (arith, more, none)
 
 -- ---- the nodes one before the other
+-- what is read of a node that stays is read of all that stay
+pub same_at : {Y : Type 0} (f : Node → Y) (xs : List Node) (i : ℕ) (x w : Node) → x ≡ get_or xs i x → f w ≡ f x →
+    map f (set xs i w) ≡ map f xs
+same_at f xs i x w e n =
+    map-set f xs i w ∙ ap (set (map f xs) i) n ∙ sym (map-set f xs i x) ∙ ap (map f) (ap (set xs i) e ∙ set-get_or xs i x)
+
 pub listed_set : (ps : List NodePtr) (xs : List Node) (i : ℕ) (x w : Node) (last : Option NodePtr) → x ≡ get_or xs i x →
     before_of w ≡ before_of x
     → befores_of xs ++ last ∷ [] ≡ None ∷ map Some ps → befores_of (set xs i w) ++ last ∷ [] ≡ None ∷ map Some ps
-listed_set ps xs i x w last e n h =
-    ap (λ bs. bs ++ last ∷ []) (map-set before_of xs i w ∙ ap (set (befores_of xs) i) n ∙ sym (map-set before_of xs i x)
-    ∙ ap befores_of (ap (set xs i) e ∙ set-get_or xs i x)) ∙ h
+listed_set ps xs i x w last e n h = ap (λ bs. bs ++ last ∷ []) (same_at before_of xs i x w e n) ∙ h
+
+pub followed_set : (ps : List NodePtr) (xs : List Node) (i : ℕ) (x w : Node) → x ≡ get_or xs i x →
+    after_of w ≡ after_of x → afters_of xs ≡ behind ps → afters_of (set xs i w) ≡ behind ps
+followed_set ps xs i x w e n h = same_at after_of xs i x w e n ∙ h
 
 pub listed_grown : (ps : List NodePtr) (xs : List Node) (w : Node) (p : NodePtr) (last : Option NodePtr) →
     before_of w ≡ last
@@ -331,18 +301,8 @@ snoc (z ∷ xs) (v ∷ ys) x y e =
     let rest = snoc xs ys x y (ap (drop 1) e) in let head : z ≡ v = ap (λ l. get_or l 0 z) e in
     ((λ j. head j ∷ rest.0 j), rest.1)
 
-some_same : (p q : NodePtr) → Some p ≡ Some q → p ≡ q
+pub some_same : (p q : NodePtr) → Some p ≡ Some q → p ≡ q
 some_same p q e = ap (λ (o : Option NodePtr). unwrap_or o p) e
-
--- the last node is the last place
-pub listed_last : (bs : List (Option NodePtr)) (ps : List NodePtr) (p : NodePtr) →
-    bs ++ Some p ∷ [] ≡ None ∷ map Some ps → IsLast ps p
-listed_last bs [] p h = absurd (false≢true (ap is_some (sym (snoc bs [] (Some p) None h).1)))
-listed_last bs (q ∷ ps) p h =
-    let end = unsnoc (q ∷ ps) (omega arith) in
-    let both = snoc bs (None ∷ map Some end.0) (Some p) (Some end.1) (h ∙ ap (λ l. None ∷ map Some l) end.2
-    ∙ ap (λ os. None ∷ os) (map-append (λ q. Some q) end.0 (end.1 ∷ []))) in
-    (end.0, end.2 ∙ ap (λ r. end.0 ++ r ∷ []) (sym (some_same p end.1 both.1)))
 
 -- where there is no last node there is none
 pub listed_none : (bs : List (Option NodePtr)) (ps : List NodePtr) → bs ++ None ∷ [] ≡ None ∷ map Some ps → ps ≡ []
@@ -352,13 +312,3 @@ listed_none bs (q ∷ ps) h =
     let both = snoc bs (None ∷ map Some end.0) None (Some end.1) (h ∙ ap (λ l. None ∷ map Some l) end.2
     ∙ ap (λ os. None ∷ os) (map-append (λ q. Some q) end.0 (end.1 ∷ []))) in
     absurd (false≢true (ap is_some both.1))
-
--- what is left is listed, without the last node
-pub listed_fewer : (ps qs : List NodePtr) (xs ys : List Node) (w : Node) (p : NodePtr) (last : Option NodePtr) →
-    ps ≡ qs ++ p ∷ [] → xs ≡ ys ++ w ∷ [] → last ≡ before_of w
-    → befores_of xs ++ Some p ∷ [] ≡ None ∷ map Some ps → befores_of ys ++ last ∷ [] ≡ None ∷ map Some qs
-listed_fewer ps qs xs ys w p last e f n h =
-    ap (λ o. befores_of ys ++ o ∷ []) n
-    ∙ (snoc (befores_of ys ++ before_of w ∷ []) (None ∷ map Some qs) (Some p) (Some p)
-    (ap (λ bs. bs ++ Some p ∷ []) (sym (ap befores_of f ∙ map-append before_of ys (w ∷ []))) ∙ h
-    ∙ ap (λ l. None ∷ map Some l) e ∙ ap (λ os. None ∷ os) (map-append (λ q. Some q) qs (p ∷ [])))).0

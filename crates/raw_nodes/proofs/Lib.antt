@@ -6,7 +6,9 @@ pub mod HeapSteps
 pub mod LinkLaws
 pub mod MapLaws
 pub mod NameLaws
+pub mod NeighbourLaws
 pub mod PlaceLaws
 pub mod RowLaws
 pub mod UpdateLaws
 pub mod WalkSteps
+pub mod WithoutLaws

@@ -8,7 +8,7 @@ use Rattle.std.specs.FinMap.{empty, get, insert, len, remove, get-empty, get-ins
 use Rattle.std.specs.FinMap.{empty_of_len, same_map}
 use Rattle.std.specs.Ordering.{eq_by_cmp}
 use Rattle.std.proofs.lemmas.List.{get_or-set_same, get_or-set_other}
-use Rattle.raw_nodes.specs.Cells.{IsPlace, name_cmp, number_in}
+use Rattle.raw_nodes.specs.Cells.{AreApart, IsPlace, NotIn, ats, name_cmp, number_in, without}
 use Rattle.raw_nodes.specs.Records.{Record, Records, records_of}
 use Rattle.raw_nodes.specs.declared.names.NodePtr.{NodePtr}
 use Rattle.raw_nodes.proofs.PlaceLaws.{apart, name_antisym, name_total, same_number, same_or_other, tied}
@@ -109,13 +109,16 @@ module _ (ps : List NodePtr) (cs : List (Option Record)) (p : NodePtr) (place : 
         | inr n ↦ get_that None q n ∙ sym (get_unmoved m p q n)
       ])
 
-none_taken : (p : NodePtr) → remove (empty {X = Record} {R = name_cmp}) p ≡ empty
-none_taken p =
-    let m : Records = empty in let t : Records = remove m p in
+absent_taken : (m : Records) (p : NodePtr) → get m p ≡ None → remove m p ≡ m
+absent_taken m p none =
+    let t : Records = remove m p in
     same_map name_total name_antisym t m (λ q. elim (same_or_other q p) [
-      | inl s ↦ subst (λ z. get t z ≡ get m z) (sym s) (get_removed m p ∙ sym (get-empty name_cmp p))
+      | inl s ↦ subst (λ z. get t z ≡ get m z) (sym s) (get_removed m p ∙ sym none)
       | inr n ↦ get_unmoved m p q n
     ])
+
+none_taken : (p : NodePtr) → remove (empty {X = Record} {R = name_cmp}) p ≡ empty
+none_taken p = absent_taken empty p (get-empty name_cmp p)
 
 -- one more place with no record
 pub records_grown : (ps : List NodePtr) (cs : List (Option Record)) (b : NodePtr) → length ps ≡ length cs →
@@ -125,6 +128,34 @@ records_grown [] (c ∷ cs) b e = absurd (omega arith)
 records_grown (p ∷ ps) [] b e = absurd (omega arith)
 records_grown (p ∷ ps) (None ∷ cs) b e = ap (λ m. remove m p) (records_grown ps cs b (omega arith))
 records_grown (p ∷ ps) (Some r ∷ cs) b e = ap (λ m. insert m p r) (records_grown ps cs b (omega arith))
+
+number_off : (ps : List NodePtr) (p : NodePtr) → NotIn (ats ps) p.at → number_in ps p ≡ length ps
+number_off [] p n = refl
+number_off (q ∷ ps) p n = ap (λ b. cond b 0 (suc (number_in ps p)))
+    (apart p q (λ e. n.0 (ap (λ (r : NodePtr). r.at) (sym e)))) ∙ ap suc (number_off ps p n.1)
+
+none_behind : (cs : List (Option Record)) (n : ℕ) → n ≡ length cs → get_or cs n None ≡ None
+none_behind [] n e = refl
+none_behind (c ∷ cs) zero e = absurd (omega arith)
+none_behind (c ∷ cs) (suc n) e = none_behind cs n (omega arith)
+
+off_records : (ps : List NodePtr) (cs : List (Option Record)) (p : NodePtr) → length ps ≡ length cs →
+    NotIn (ats ps) p.at → get (records_of ps cs) p ≡ None
+off_records ps cs p e n = get_record ps cs p e ∙ none_behind cs (number_in ps p) (number_off ps p n ∙ e)
+
+-- one place less, which has no record
+pub records_fewer : (ps : List NodePtr) (cs : List (Option Record)) (i : ℕ) → length ps ≡ length cs →
+    AreApart (ats ps) → i < length ps → get_or cs i None ≡ None
+    → records_of (without ps i) (without cs i) ≡ records_of ps cs
+records_fewer [] cs i e a h n = absurd (omega arith)
+records_fewer (p ∷ ps) [] i e a h n = absurd (omega arith)
+records_fewer (p ∷ ps) (None ∷ cs) zero e a h n =
+    sym (absent_taken (records_of ps cs) p (off_records ps cs p (omega arith) a.0))
+records_fewer (p ∷ ps) (Some r ∷ cs) zero e a h n = absurd (false≢true (sym (ap is_some n)))
+records_fewer (p ∷ ps) (None ∷ cs) (suc i) e a h n =
+    ap (λ m. remove m p) (records_fewer ps cs i (omega arith) a.1 (omega arith) n)
+records_fewer (p ∷ ps) (Some r ∷ cs) (suc i) e a h n =
+    ap (λ m. insert m p r) (records_fewer ps cs i (omega arith) a.1 (omega arith) n)
 
 -- ---- how many there are
 pub len_made : (m n : Records) (p : NodePtr) (r : Record) (s t : ℕ) → get m p ≡ None → n ≡ insert m p r → t + 1 ≡ s →

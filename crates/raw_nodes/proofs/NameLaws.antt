@@ -7,16 +7,16 @@ use Rattle.std.specs.Prelude.{IfSome, IsSome, Option, None, Some, is_some}
 use Rattle.segments.specs.Columns.{LineContent}
 use Rattle.toggle_sums.specs.Counts.{Count}
 use Rattle.std.specs.FinMap.{get, insert, remove}
-use Rattle.std.specs.List.{range_with_len, sum_by}
+use Rattle.std.specs.List.{sum_by}
 use Rattle.std.proofs.lemmas.List.{map-append, map-set, length-map, get_or-map}
-use Rattle.raw_nodes.specs.Cells.{IsPlace, node_at, number_in}
-use Rattle.raw_nodes.specs.Chain.{IsChain, before_of, befores_of, flag_of, marks_of, nexts_of, numbers_of, room_in}
-use Rattle.raw_nodes.specs.Chain.{room_of}
+use Rattle.raw_nodes.specs.Cells.{AreApart, IsPlace, ats, node_at, number_in, without}
+use Rattle.raw_nodes.specs.Chain.{IsChain, after_of, afters_of, before_of, befores_of, behind, flag_of, marks_of}
+use Rattle.raw_nodes.specs.Chain.{nexts_of, room_in, room_of}
 use Rattle.raw_nodes.specs.HeldLending.{IsLine, IsRoom}
 use Rattle.raw_nodes.specs.Links.{link_name}
 use Rattle.raw_nodes.specs.Records.{Record, cell_of, cells_of, if_used, inner_record, is_used, nones, line_in}
 use Rattle.raw_nodes.specs.Records.{record_in, record_of, records_in, records_of, update, updated, with_child}
-use Rattle.raw_nodes.specs.Records.{with_line, with_parent, with_sum}
+use Rattle.raw_nodes.specs.Records.{slot_in, with_line, with_parent, with_slot, with_sum}
 use Rattle.raw_nodes.specs.Rooms.{with_room_child, with_room_sum}
 use Rattle.raw_nodes.specs.declared.names.Link.{Link}
 use Rattle.raw_nodes.specs.declared.branch.Branch.{Branch}
@@ -25,11 +25,13 @@ use Rattle.raw_nodes.specs.declared.nodes.Held.{Held}
 use Rattle.raw_nodes.specs.declared.nodes.Held.TheVariants.{Spare, Line, Inner}
 use Rattle.raw_nodes.specs.declared.nodes.Node.{Node}
 use Rattle.raw_nodes.specs.declared.nodes.Room.{Room}
-use Rattle.raw_nodes.proofs.ChainLaws.{cell_is, given_cells, made_cells, is_used_at, listed_set, numbered_set}
+use Rattle.raw_nodes.proofs.ChainLaws.{cell_is, followed_set, given_cells, made_cells, is_used_at, listed_set}
 use Rattle.raw_nodes.proofs.ChainLaws.{room_moved, used_chain, used_count}
 use Rattle.raw_nodes.proofs.HeapSteps.{any_default}
 use Rattle.raw_nodes.proofs.RowLaws.{get_or-nones}
-use Rattle.raw_nodes.proofs.MapLaws.{get_record, place_of_name, records_grown, records_set, records_unset}
+use Rattle.raw_nodes.proofs.MapLaws.{get_record, place_of_name, records_fewer, records_grown, records_set}
+use Rattle.raw_nodes.proofs.MapLaws.{records_unset}
+use Rattle.raw_nodes.proofs.WithoutLaws.{map-without}
 
 -- the name is that of a node in use
 abbrev pub IsNamed : List NodePtr → List Node → NodePtr → Type 0
@@ -92,6 +94,15 @@ grown_records ps xs b w paired v =
     ap (records_of (ps ++ b ∷ [])) (map-append cell_of xs (w ∷ []) ∙ ap (λ o. cells_of xs ++ o ∷ []) (spare_cell w v))
     ∙ records_grown ps (cells_of xs) b (cells_long ps xs paired)
 
+-- after one has left that is not
+pub fewer_records : (ps : List NodePtr) (xs : List Node) (i : ℕ) (x : Node) → length ps ≡ length xs →
+    AreApart (ats ps) → i < length xs → x ≡ get_or xs i x → is_used x.held ≡ false
+    → records_in (without ps i) (without xs i) ≡ records_in ps xs
+fewer_records ps xs i x paired a h e v =
+    ap (records_of (without ps i)) (map-without cell_of xs i)
+    ∙ records_fewer ps (cells_of xs) i (cells_long ps xs paired) a (omega (arith, paired, h))
+    (get_or-map cell_of xs i x None h ∙ ap cell_of (sym e) ∙ spare_cell x v)
+
 -- a spare has no record
 pub entry_none : (ps : List NodePtr) (xs : List Node) (p : NodePtr) (x : Node) → length ps ≡ length xs →
     number_in ps p < length xs → x ≡ node_at ps xs p x → is_used x.held ≡ false → get (records_in ps xs) p ≡ None
@@ -128,9 +139,8 @@ module _ (ps : List NodePtr) (xs : List Node) (p : NodePtr) (x w : Node) (paired
   pub whole_kept : (n : ℕ) → n ≡ length xs → n ≡ length (set xs j w)
   whole_kept n h = h ∙ sym (length-set xs j w)
 
-  pub numbers_kept : w.number ≡ x.number → numbers_of xs ≡ range_with_len 0 (length xs) →
-      numbers_of (set xs j w) ≡ range_with_len 0 (length (set xs j w))
-  numbers_kept same h = numbered_set xs j x w e same h
+  pub followed_kept : after_of w ≡ after_of x → afters_of xs ≡ behind ps → afters_of (set xs j w) ≡ behind ps
+  followed_kept same h = followed_set ps xs j x w e same h
 
   pub rooms_kept : (k c : ℕ) → room_in w.held ≡ room_in x.held → k + sum_by room_of xs ≡ c →
       k + sum_by room_of (set xs j w) ≡ c
@@ -138,101 +148,111 @@ module _ (ps : List NodePtr) (xs : List Node) (p : NodePtr) (x w : Node) (paired
       omega (arith, moved, same, h)
 
 -- ---- what the setters write
-pub parented : (h : Held) (parent new : Option NodePtr) (slot n : ℕ) → is_used h ≡ true →
-    record_in h new n ≡ with_parent (record_in h parent slot) new n
-parented Spare parent new slot n u = absurd (false≢true u)
-parented (Line line) parent new slot n u = refl
-parented (Inner room) parent new slot n u = refl
+pub used_slot : (h : Held) (n : ℕ) → is_used (with_slot h n) ≡ is_used h
+used_slot (Spare m) n = refl
+used_slot (Line slot line) n = refl
+used_slot (Inner slot room) n = refl
+
+pub room_slot : (h : Held) (n : ℕ) → room_in (with_slot h n) ≡ room_in h
+room_slot (Spare m) n = refl
+room_slot (Line slot line) n = refl
+room_slot (Inner slot room) n = refl
+
+pub parented : (h : Held) (parent new : Option NodePtr) (n : ℕ) → is_used h ≡ true →
+    record_in (with_slot h n) new ≡ with_parent (record_in h parent) new n
+parented (Spare m) parent new n u = absurd (false≢true u)
+parented (Line slot line) parent new n u = refl
+parented (Inner slot room) parent new n u = refl
 
 -- the record of a branch is that of its room
 room_record : Option NodePtr → ℕ → Room → Record
 room_record parent slot room = inner_record parent slot (map link_name room.children) room.sum
 
-pub summed : (h : Held) (old new : Branch) (parent : Option NodePtr) (slot : ℕ) (sum : Count) → h ≡ Inner old →
+pub summed : (h : Held) (old new : Branch) (parent : Option NodePtr) (sum : Count) → h ≡ Inner (slot_in h) old →
     new.room.value ≡ with_room_sum old.room.value sum
-    → record_in (Inner new) parent slot ≡ with_sum (record_in h parent slot) sum
+    → record_in (Inner (slot_in h) new) parent ≡ with_sum (record_in h parent) sum
 unfolding room_record
-summed h old new parent slot sum e d =
-    ap (room_record parent slot) d ∙ ap (λ k. with_sum (record_in k parent slot) sum) (sym e)
+summed h old new parent sum e d =
+    ap (room_record parent (slot_in h)) d ∙ ap (λ k. with_sum (record_in k parent) sum) (sym e)
 
 -- the sum becomes what is made of it
-pub recounted : (h : Held) (old new : Branch) (parent : Option NodePtr) (slot : ℕ) (f : Count → Count) →
-    h ≡ Inner old → new.room.value ≡ with_room_sum old.room.value (f old.room.value.sum)
-    → record_in (Inner new) parent slot ≡ with_sum (record_in h parent slot) (f (record_in h parent slot).sum)
+pub recounted : (h : Held) (old new : Branch) (parent : Option NodePtr) (f : Count → Count) →
+    h ≡ Inner (slot_in h) old → new.room.value ≡ with_room_sum old.room.value (f old.room.value.sum)
+    → record_in (Inner (slot_in h) new) parent ≡ with_sum (record_in h parent) (f (record_in h parent).sum)
 unfolding room_record
-recounted h old new parent slot f e d =
-    ap (room_record parent slot) d ∙ ap (λ k. with_sum (record_in k parent slot) (f (record_in k parent slot).sum)) (sym e)
+recounted h old new parent f e d =
+    ap (room_record parent (slot_in h)) d
+    ∙ ap (λ k. with_sum (record_in k parent) (f (record_in k parent).sum)) (sym e)
 
-pub lodged : (h : Held) (old new : Branch) (parent : Option NodePtr) (slot i : ℕ) (link : Link) (child : Option NodePtr)
-    → h ≡ Inner old → new.room.value ≡ with_room_child old.room.value i link → link_name link ≡ child
-    → record_in (Inner new) parent slot ≡ with_child (record_in h parent slot) i child
+pub lodged : (h : Held) (old new : Branch) (parent : Option NodePtr) (i : ℕ) (link : Link) (child : Option NodePtr)
+    → h ≡ Inner (slot_in h) old → new.room.value ≡ with_room_child old.room.value i link → link_name link ≡ child
+    → record_in (Inner (slot_in h) new) parent ≡ with_child (record_in h parent) i child
 unfolding room_record
-lodged h old new parent slot i link child e d n =
-    ap (room_record parent slot) d
-    ∙ ap (λ cs. inner_record parent slot cs old.room.value.sum) (map-set link_name old.room.value.children i link
+lodged h old new parent i link child e d n =
+    ap (room_record parent (slot_in h)) d
+    ∙ ap (λ cs. inner_record parent (slot_in h) cs old.room.value.sum) (map-set link_name old.room.value.children i link
     ∙ ap (set (map link_name old.room.value.children) i) n)
-    ∙ ap (λ k. with_child (record_in k parent slot) i child) (sym e)
+    ∙ ap (λ k. with_child (record_in k parent) i child) (sym e)
 
-pub lined : (h : Held) (line w : LineContent) (parent : Option NodePtr) (slot : ℕ) → h ≡ Line line →
-    record_in (Line w) parent slot ≡ with_line (record_in h parent slot) w
-lined h line w parent slot e = ap (λ k. with_line (record_in k parent slot) w) (sym e)
+pub lined : (h : Held) (line w : LineContent) (parent : Option NodePtr) → h ≡ Line (slot_in h) line →
+    record_in (Line (slot_in h) w) parent ≡ with_line (record_in h parent) w
+lined h line w parent e = ap (λ k. with_line (record_in k parent) w) (sym e)
 
 -- ---- what a node is
-pub line_said : (h : Held) (parent : Option NodePtr) (slot : ℕ) → is_used h ≡ true →
-    (record_in h parent slot).line ≡ line_in h
-line_said Spare parent slot u = absurd (false≢true u)
-line_said (Line line) parent slot u = refl
-line_said (Inner room) parent slot u = refl
+pub line_said : (h : Held) (parent : Option NodePtr) → is_used h ≡ true →
+    (record_in h parent).line ≡ line_in h
+line_said (Spare m) parent u = absurd (false≢true u)
+line_said (Line slot line) parent u = refl
+line_said (Inner slot room) parent u = refl
 
-pub room_if : (h : Held) (parent : Option NodePtr) (slot : ℕ) → is_used h ≡ true →
-    (record_in h parent slot).line ≡ None → IsRoom h
-room_if Spare parent slot u n = absurd (false≢true u)
-room_if (Line line) parent slot u n = absurd (false≢true (sym (ap is_some n)))
-room_if (Inner room) parent slot u n = tt
+pub room_if : (h : Held) (parent : Option NodePtr) → is_used h ≡ true →
+    (record_in h parent).line ≡ None → IsRoom h
+room_if (Spare m) parent u n = absurd (false≢true u)
+room_if (Line slot line) parent u n = absurd (false≢true (sym (ap is_some n)))
+room_if (Inner slot room) parent u n = tt
 
 pub line_if : (h : Held) → is_some (line_in h) ≡ true → IsLine h
-line_if Spare s = absurd (false≢true s)
-line_if (Line line) s = tt
-line_if (Inner room) s = absurd (false≢true s)
+line_if (Spare m) s = absurd (false≢true s)
+line_if (Line slot line) s = tt
+line_if (Inner slot room) s = absurd (false≢true s)
 
 pub no_line : (h : Held) → is_some (line_in h) ≡ false → line_in h ≡ None
-no_line Spare s = refl
-no_line (Line line) s = absurd (false≢true (sym s))
-no_line (Inner room) s = refl
+no_line (Spare m) s = refl
+no_line (Line slot line) s = absurd (false≢true (sym s))
+no_line (Inner slot room) s = refl
 
 -- ---- two names
 pub same_node : (ps : List NodePtr) (xs : List Node) (p : NodePtr) (x y : Node) → number_in ps p < length xs →
     x ≡ node_at ps xs p x → y ≡ node_at ps xs p y → x ≡ y
 same_node ps xs p x y h e d = e ∙ any_default xs (number_in ps p) x y h ∙ sym d
 
-pub line_off : (h : Held) → ((line : LineContent) → h ≡ Line line → ⊥) → line_in h ≡ None
-line_off Spare n = refl
-line_off (Line line) n = absurd (n line refl)
-line_off (Inner room) n = refl
+pub line_off : (h : Held) → ((slot : ℕ) (line : LineContent) → h ≡ Line slot line → ⊥) → line_in h ≡ None
+line_off (Spare m) n = refl
+line_off (Line slot line) n = absurd (n slot line refl)
+line_off (Inner slot room) n = refl
 
 -- a node that has no room has no children
-pub childless : (h : Held) (parent : Option NodePtr) (slot : ℕ) → is_used h ≡ true →
-    ((room : Branch) → h ≡ Inner room → ⊥) → (record_in h parent slot).children ≡ nones
-childless Spare parent slot u n = refl
-childless (Line line) parent slot u n = refl
-childless (Inner room) parent slot u n = absurd (n room refl)
+pub childless : (h : Held) (parent : Option NodePtr) → is_used h ≡ true →
+    ((slot : ℕ) (room : Branch) → h ≡ Inner slot room → ⊥) → (record_in h parent).children ≡ nones
+childless (Spare m) parent u n = refl
+childless (Line slot line) parent u n = refl
+childless (Inner slot room) parent u n = absurd (n slot room refl)
 
 pub none_at : (cs : List (Option NodePtr)) (i : ℕ) → cs ≡ nones → None ≡ get_or cs i None
 none_at cs i e = sym (ap (λ ds. get_or ds i None) e ∙ get_or-nones 12 i)
 
-pub slot_said : (h : Held) (parent : Option NodePtr) (slot : ℕ) → is_used h ≡ true →
-    slot ≡ (record_in h parent slot).slot
-slot_said Spare parent slot u = absurd (false≢true u)
-slot_said (Line line) parent slot u = refl
-slot_said (Inner room) parent slot u = refl
+pub slot_said : (h : Held) (parent : Option NodePtr) → is_used h ≡ true → slot_in h ≡ (record_in h parent).slot
+slot_said (Spare m) parent u = absurd (false≢true u)
+slot_said (Line slot line) parent u = refl
+slot_said (Inner slot room) parent u = refl
 
-pub parent_said : (h : Held) (parent : Option NodePtr) (slot : ℕ) → is_used h ≡ true →
-    parent ≡ (record_in h parent slot).parent
-parent_said Spare parent slot u = absurd (false≢true u)
-parent_said (Line line) parent slot u = refl
-parent_said (Inner room) parent slot u = refl
+pub parent_said : (h : Held) (parent : Option NodePtr) → is_used h ≡ true →
+    parent ≡ (record_in h parent).parent
+parent_said (Spare m) parent u = absurd (false≢true u)
+parent_said (Line slot line) parent u = refl
+parent_said (Inner slot room) parent u = refl
 
 pub spare_room : (h : Held) → is_used h ≡ false → room_in h ≡ 0
-spare_room Spare u = refl
-spare_room (Line line) u = absurd (false≢true (sym u))
-spare_room (Inner room) u = absurd (false≢true (sym u))
+spare_room (Spare m) u = refl
+spare_room (Line slot line) u = absurd (false≢true (sym u))
+spare_room (Inner slot room) u = absurd (false≢true (sym u))

@@ -1,5 +1,6 @@
 -- What owns the nodes, and where they lie.
-use Rattle.std.specs.Prelude.{◌≡◌, ◌≢◌, ⊤, ℕ, suc, ◌<◌, List, [], ◌∷◌, ◌++◌, cond, length, map, slice_index_or}
+use Rattle.std.specs.Prelude.{◌≢◌, ⊤, ℕ, suc, ◌<◌, List, [], ◌∷◌, cond, length, map, slice_index_or}
+use Rattle.std.specs.Prelude.{zero, slice_set, Option, None, Some}
 use Rattle.std.specs.Global.{Global}
 use Rattle.std.specs.Ordering.{eq_by_cmp, nat_cmp}
 use Rattle.std.specs.declared.cmp.Ordering.{Ordering}
@@ -57,11 +58,23 @@ IsPlace ps p = number_in ps p < length ps
 abbrev pub node_at : List NodePtr → List Node → NodePtr → Node → Node
 node_at ps xs p none = slice_index_or xs (number_in ps p) none
 
--- p is the last name
-abbrev pub IsLast : List NodePtr → NodePtr → Type 0
-IsLast ps p = (qs : List NodePtr) × (ps ≡ qs ++ p ∷ [])
+-- the values with y for that of the name, if there is one
+abbrev pub put_at : {Y : Type 0} → List NodePtr → List Y → Option NodePtr → Y → List Y
+put_at ps ys None y = ys
+put_at ps ys (Some p) y = slice_set ys (number_in ps p) y
+
+-- a list but for its element of number i
+abbrev pub without : {X : Type 0} → List X → ℕ → List X
+without [] i = []
+without (x ∷ xs) zero = xs
+without (x ∷ xs) (suc i) = x ∷ without xs i
 
 -- p is none of the places
 abbrev pub NotIn : List Ptr → Ptr → Type 0
 NotIn [] p = ⊤
 NotIn (q ∷ ps) p = (q ≢ p) × NotIn ps p
+
+-- no place stands twice
+abbrev pub AreApart : List Ptr → Type 0
+AreApart [] = ⊤
+AreApart (p ∷ ps) = NotIn ps p × AreApart ps

@@ -1,9 +1,11 @@
 -- How the nodes that are spares hang together, and what is counted of the nodes.
-use Rattle.std.specs.Prelude.{◌≡◌, ℕ, zero, suc, ⊤, Bool, true, false, Option, None, Some, List, map, slice_index_or}
+use Rattle.std.specs.Prelude.{◌≡◌, ℕ, zero, suc, ⊤, Bool, true, false, Option, None, Some, List, [], ◌∷◌, map}
+use Rattle.std.specs.Prelude.{slice_index_or}
 use Rattle.segments.specs.Columns.{LineContent}
 use Rattle.raw_nodes.specs.Cells.{IsPlace, number_in}
 use Rattle.raw_nodes.specs.Links.{link_name}
-use Rattle.raw_nodes.specs.Records.{is_used}
+use Rattle.raw_nodes.specs.Records.{is_used, slot_in}
+use Rattle.raw_nodes.specs.declared.names.Link.{Link}
 use Rattle.raw_nodes.specs.declared.names.NodePtr.{NodePtr}
 use Rattle.raw_nodes.specs.declared.nodes.Held.{Held}
 use Rattle.raw_nodes.specs.declared.nodes.Held.TheVariants.{Spare, Line, Inner}
@@ -15,7 +17,7 @@ if_spare true n = 0
 if_spare false n = suc n
 
 abbrev pub mark_of : Node → ℕ
-mark_of x = if_spare (is_used x.held) x.slot
+mark_of x = if_spare (is_used x.held) (slot_in x.held)
 
 abbrev pub marks_of : List Node → List ℕ
 marks_of = map mark_of
@@ -30,9 +32,9 @@ flag_of x = if_free (is_used x.held)
 
 -- 1 of an inner node, which has a room
 abbrev pub room_in : Held → ℕ
-room_in Spare = 0
-room_in (Line line) = 0
-room_in (Inner room) = 1
+room_in (Spare n) = 0
+room_in (Line slot line) = 0
+room_in (Inner slot room) = 1
 
 -- how many rooms a node takes that is this line, or no line
 abbrev pub rooms_for : Option LineContent → ℕ
@@ -49,18 +51,40 @@ next_of x = link_name x.parent
 abbrev pub nexts_of : List Node → List (Option NodePtr)
 nexts_of = map next_of
 
--- the one before, among all nodes
+-- the one before in the row of all nodes
 abbrev pub before_of : Node → Option NodePtr
 before_of x = link_name x.before
 
 abbrev pub befores_of : List Node → List (Option NodePtr)
 befores_of = map before_of
 
-abbrev pub number_of : Node → ℕ
-number_of x = x.number
+-- the one after
+abbrev pub after_of : Node → Option NodePtr
+after_of x = link_name x.after
 
-abbrev pub numbers_of : List Node → List ℕ
-numbers_of = map number_of
+abbrev pub afters_of : List Node → List (Option NodePtr)
+afters_of = map after_of
+
+-- a node but for its links in the row
+abbrev pub content_of : Node → Link × Held
+content_of x = (x.parent, x.held)
+
+abbrev pub contents_of : List Node → List (Link × Held)
+contents_of = map content_of
+
+abbrev pub first_of : List NodePtr → Option NodePtr
+first_of [] = None
+first_of (p ∷ ps) = Some p
+
+-- the one behind each in the row
+abbrev pub behind : List NodePtr → List (Option NodePtr)
+behind [] = []
+behind (p ∷ ps) = first_of ps ∷ behind ps
+
+-- the last node once one has left that stands between these two
+abbrev pub last_left : Option NodePtr → Option NodePtr → Option NodePtr → Option NodePtr
+last_left last before None = before
+last_left last before (Some p) = last
 
 -- n spares hang together, from this one on
 abbrev pub IsChain : List NodePtr → List ℕ → List (Option NodePtr) → ℕ → Option NodePtr → Type 0

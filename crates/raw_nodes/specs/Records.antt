@@ -63,23 +63,33 @@ update m p f = updated m p f (finite.get m p)
 
 -- ---- what the nodes in memory say
 abbrev pub is_used : Held → Bool
-is_used Spare = false
-is_used (Line line) = true
-is_used (Inner room) = true
+is_used (Spare n) = false
+is_used (Line slot line) = true
+is_used (Inner slot room) = true
+
+abbrev pub slot_in : Held → ℕ
+slot_in (Spare n) = n
+slot_in (Line slot line) = slot
+slot_in (Inner slot room) = slot
+
+abbrev pub with_slot : Held → ℕ → Held
+with_slot (Spare n) slot = Spare slot
+with_slot (Line old line) slot = Line slot line
+with_slot (Inner old room) slot = Inner slot room
 
 abbrev pub line_in : Held → Option LineContent
-line_in Spare = None
-line_in (Line line) = Some line
-line_in (Inner room) = None
+line_in (Spare n) = None
+line_in (Line slot line) = Some line
+line_in (Inner slot room) = None
 
-abbrev pub record_in : Held → Option NodePtr → ℕ → Record
-record_in Spare parent slot = blank None
-record_in (Line line) parent slot = line_record parent slot line
-record_in (Inner branch) parent slot =
+abbrev pub record_in : Held → Option NodePtr → Record
+record_in (Spare n) parent = blank None
+record_in (Line slot line) parent = line_record parent slot line
+record_in (Inner slot branch) parent =
     inner_record parent slot (map link_name branch.room.value.children) branch.room.value.sum
 
 abbrev pub record_of : Node → Record
-record_of x = record_in x.held (link_name x.parent) x.slot
+record_of x = record_in x.held (link_name x.parent)
 
 abbrev pub if_used : Bool → Record → Option Record
 if_used true r = Some r

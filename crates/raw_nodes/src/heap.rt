@@ -1,11 +1,14 @@
-ghost use Rattle.raw_nodes.specs.Cells.{IsLast, IsPlace, NotIn, ats, node_at, nodes_lent, nodes_own};
+ghost use Rattle.raw_nodes.specs.Cells.{IsPlace, NotIn, ats, node_at, nodes_lent, nodes_own, number_in, put_at};
+ghost use Rattle.raw_nodes.specs.Cells.{without};
+ghost use Rattle.raw_nodes.specs.Chain.{afters_of, befores_of, contents_of};
+ghost use Rattle.raw_nodes.specs.Links.{link_name};
 ghost use Rattle.raw_nodes.specs.declared.names.NodePtr.{NodePtr};
 ghost use Rattle.raw_nodes.specs.contracts.nodes.Node as node;
 ghost use Rattle.raw_nodes.specs.declared.nodes.Node.{Node};
 ghost use Rattle.std.specs.Coded.{coded_list};
-ghost use Rattle.std.specs.Prelude.{◌≡◌, [], ◌∷◌, ◌++◌, List, length};
+ghost use Rattle.std.specs.Prelude.{◌≡◌, [], ◌∷◌, ◌++◌, IfSome, List, length};
 
-use crate::names::NodePtr;
+use crate::names::{Link, NodePtr};
 use crate::nodes::Node;
 use crate::parts::Parts;
 use std::alloc::Global;
@@ -66,15 +69,46 @@ impl Heap {
         NodePtr { at: ptr }
     }
 
-    /// Gives up the last node.
+    /// Gives up a node.
     // By `requires` and `also_owns`: the node and the right to free it go from the heap to the parts.
     pub fn release(&mut self, name: NodePtr, alloc: Global) -> Parts<Node, Global>
-        requires { IsLast self.old.places name }
-        ensures places { self.old.places ≡ self.new.places ++ name ∷ [] }
-        ensures values { self.old.values ≡ self.new.values ++ result.value ∷ [] }
+        requires { IsPlace self.old.places name }
+        ensures places { self.new.places ≡ without self.old.places (number_in self.old.places name) }
+        ensures values { self.new.values ≡ without self.old.values (number_in self.old.places name) }
+        ensures value { result.value ≡ node_at self.old.places self.old.values name result.value }
     {
         let ptr = name.at;
         Parts { ptr, alloc }
+    }
+
+    /// Links a node, if there is one, to the one after it.
+    pub fn link_after(&mut self, name: Option<NodePtr>, after: Link)
+        requires { IfSome name (IsPlace self.old.places) }
+        ensures places { self.new.places ≡ self.old.places }
+        ensures contents { contents_of self.new.values ≡ contents_of self.old.values }
+        ensures befores { befores_of self.new.values ≡ befores_of self.old.values }
+        ensures afters { afters_of self.new.values
+            ≡ put_at self.old.places (afters_of self.old.values) name (link_name after) }
+    {
+        let Some(name) = name else {
+            return;
+        };
+        self.node_mut(name).after = after;
+    }
+
+    /// Links a node, if there is one, to the one before it.
+    pub fn link_before(&mut self, name: Option<NodePtr>, before: Link)
+        requires { IfSome name (IsPlace self.old.places) }
+        ensures places { self.new.places ≡ self.old.places }
+        ensures contents { contents_of self.new.values ≡ contents_of self.old.values }
+        ensures befores { befores_of self.new.values
+            ≡ put_at self.old.places (befores_of self.old.values) name (link_name before) }
+        ensures afters { afters_of self.new.values ≡ afters_of self.old.values }
+    {
+        let Some(name) = name else {
+            return;
+        };
+        self.node_mut(name).before = before;
     }
 
     /// No node is left.

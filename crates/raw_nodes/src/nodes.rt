@@ -1,6 +1,6 @@
 ghost use Rattle.raw_nodes.specs.Chain.{room_in, rooms_for};
 ghost use Rattle.raw_nodes.specs.Links.{link_name};
-ghost use Rattle.raw_nodes.specs.Records.{blank, is_used, line_in, nones, record_in};
+ghost use Rattle.raw_nodes.specs.Records.{blank, is_used, line_in, nones, record_in, slot_in, with_slot};
 ghost use Rattle.std.specs.Prelude.{◌≡◌, ◌+◌, ◌<◌, ◌≤◌, None, count_by, is_some, length, map, slice_index_or, true};
 ghost use Rattle.std.specs.Prelude.{vec_capacity};
 ghost use Rattle.toggle_sums.specs.Counts.{no_text};
@@ -18,22 +18,22 @@ pub struct Room {
     pub sum: Sums<WORDS>,
 }
 
-/// What a node is.
+/// What a node is, with its slot number in its parent; of a spare that is the number of spares behind it. The number
+/// stands in each variant, since there it lies beside the enum's tag and takes no bytes of its own.
 #[derive(Drop)]
 pub enum Held {
-    Spare,
-    Line(Line),
-    Inner(Branch),
+    Spare(u32),
+    Line(u32, Line),
+    Inner(u32, Branch),
 }
 
-/// A node, as it lies in memory, with its number among all, and a link to the one before it. A spare's parent is the
-/// next spare, and its slot the number of those behind it.
+/// A node, as it lies in memory, with links to the ones before and after it in the row of all nodes. A spare's parent
+/// is the next spare.
 #[derive(Drop)]
 pub struct Node {
     pub parent: Link,
     pub before: Link,
-    pub slot: u32,
-    pub number: u32,
+    pub after: Link,
     pub held: Held,
 }
 
@@ -72,17 +72,35 @@ impl Held {
     pub fn is_line(&self) -> bool
         ensures { result ≡ is_some (line_in self.now) }
     {
-        matches!(self, Held::Line(_))
+        matches!(self, Held::Line(..))
+    }
+
+    pub fn slot(&self) -> u32
+        ensures { result ≡ slot_in self.now }
+    {
+        match self {
+            Held::Spare(slot) | Held::Line(slot, _) | Held::Inner(slot, _) => *slot,
+        }
+    }
+
+    pub fn set_slot(&mut self, slot: u32)
+        ensures { self.new ≡ with_slot self.old slot }
+    {
+        match self {
+            Held::Spare(old) => *old = slot,
+            Held::Line(old, _) => *old = slot,
+            Held::Inner(old, _) => *old = slot,
+        }
     }
 
     /// The line that a node is.
     pub fn line_mut(&mut self) -> &mut Line
         requires { IsLine self.old }
         ensures* writes_back { sem 𝓛 (LendsText self.entry result) }
-        ensures value { self.old ≡ held.Line result.now }
+        ensures value { self.old ≡ held.Line (slot_in self.old) result.now }
     {
         match self {
-            Held::Line(line) => line,
+            Held::Line(_, line) => line,
             _ => unreachable!(),
         }
     }
@@ -91,10 +109,10 @@ impl Held {
     pub fn branch_mut(&mut self) -> &mut Branch
         requires { IsRoom self.old }
         ensures* writes_back { sem 𝓛 (LendsBranch self.entry result) }
-        ensures value { self.old ≡ held.Inner result.now }
+        ensures value { self.old ≡ held.Inner (slot_in self.old) result.now }
     {
         match self {
-            Held::Inner(branch) => branch,
+            Held::Inner(_, branch) => branch,
             _ => unreachable!(),
         }
     }
@@ -116,15 +134,15 @@ fn take_room(rooms: &mut Vec<Box<Room>>) -> Box<Room>
 /// What a new node is: this line, or an inner node in one of the free rooms.
 pub fn hold(rooms: &mut Vec<Box<Room>>, line: Option<Line>) -> Held
     requires { rooms_for line ≤ length rooms.old.items }
-    ensures says { record_in result None 0 ≡ blank line }
+    ensures says { record_in result None ≡ blank line }
     ensures used { is_used result ≡ true }
     ensures room { room_in result ≡ rooms_for line }
     ensures rooms { length rooms.new.items + rooms_for line ≡ length rooms.old.items }
     ensures capacity { vec_capacity rooms.new ≡ vec_capacity rooms.old }
 {
     match line {
-        Some(line) => Held::Line(line),
-        None => Held::Inner(Branch::of(take_room(rooms))),
+        Some(line) => Held::Line(0, line),
+        None => Held::Inner(0, Branch::of(take_room(rooms))),
     }
 }
 
@@ -136,11 +154,23 @@ pub fn put_back(rooms: &mut Vec<Box<Room>>, held: Held) -> Option<Line>
     ensures capacity { vec_capacity rooms.new ≡ vec_capacity rooms.old }
 {
     match held {
-        Held::Line(line) => Some(line),
-        Held::Inner(branch) => {
+        Held::Line(_, line) => Some(line),
+        Held::Inner(_, branch) => {
             rooms.push_reserved(branch.into_room());
             None
         }
-        Held::Spare => None,
+        Held::Spare(_) => None,
+    }
+}
+
+/// Gives back room of the list of free rooms, where it has more than for twice so many and a little: for so many it
+/// stays.
+pub fn trim_rooms(rooms: &mut Vec<Box<Room>>, count: usize)
+    requires { count ≤ vec_capacity rooms.old }
+    ensures rooms { length rooms.new.items ≡ length rooms.old.items }
+    ensures capacity { count ≤ vec_capacity rooms.new }
+{
+    if rooms.capacity() > count.saturating_mul(2).saturating_add(8) {
+        rooms.shrink_to(count);
     }
 }

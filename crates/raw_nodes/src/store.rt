@@ -1,15 +1,16 @@
-ghost use Rattle.raw_nodes.specs.Chain.{IsChain, befores_of, flag_of, marks_of, nexts_of, numbers_of, room_of};
+ghost use Rattle.raw_nodes.specs.Cells.{AreApart, IsPlace, ats, number_in};
+ghost use Rattle.raw_nodes.specs.Chain as chain;
+ghost use Rattle.raw_nodes.specs.Chain.{IsChain, afters_of, befores_of, behind, flag_of, marks_of, nexts_of, room_of};
 ghost use Rattle.raw_nodes.specs.Chain.{rooms_for};
 ghost use Rattle.std.specs.FinMap as finite;
 ghost use Rattle.std.specs.FinSet as set;
-ghost use Rattle.std.specs.List.{range_with_len};
 ghost use Rattle.std.specs.Prelude.{◌≡◌, ◌≢◌, ◌+◌, ◌^◌, ◌<◌, ◌≤◌, [], ◌∷◌, ◌++◌, IfSome, None, Some, OnErr, OnOk};
-ghost use Rattle.std.specs.Prelude.{count_by, false, is_some, length, map, max, option_map, slice_index_or, sum_by};
+ghost use Rattle.std.specs.Prelude.{count_by, false, is_some, length, map, max, min, option_map, slice_index_or, sum_by};
 ghost use Rattle.std.specs.Prelude.{true, vec_capacity};
 
 use crate::heap::Heap;
 use crate::names::{Link, NodePtr};
-use crate::nodes::{Held, Node, Room, hold, put_back};
+use crate::nodes::{Held, Node, Room, hold, put_back, trim_rooms};
 use crate::parts::Parts;
 use crate::ticks::Ticks;
 use segments::Line;
@@ -36,7 +37,8 @@ pub struct NodeStore<C: Ticks> {
     ghost small: { count < 2 ^ 32 },
     ghost chained: { ∥ IsChain heap.places (marks_of heap.values) (nexts_of heap.values) spares first_spare ∥₁ },
     ghost counted: { spares ≡ sum_by flag_of heap.values },
-    ghost numbered: { numbers_of heap.values ≡ range_with_len 0 (length heap.values) },
+    ghost followed: { afters_of heap.values ≡ behind heap.places },
+    ghost apart: { ∥ AreApart (ats heap.places) ∥₁ },
     ghost roomed: { length rooms.items + sum_by room_of heap.values ≡ room_count },
     ghost fitting: { room_count ≤ vec_capacity rooms },
 }
@@ -75,7 +77,7 @@ impl<C: Ticks> NodeStore<C> {
         requires { IsName self.now name }
         ensures { IfSome (entry self.now name) (λ r. result ≡ r.slot) }
     {
-        self.heap.node(name).slot as usize
+        self.heap.node(name).held.slot() as usize
     }
 
     /// A node's parent.
@@ -97,7 +99,7 @@ impl<C: Ticks> NodeStore<C> {
     {
         ticks.tick();
         match &self.heap.node(name).held {
-            Held::Inner(branch) => branch.room.child(i),
+            Held::Inner(_, branch) => branch.room.child(i),
             _ => None,
         }
     }
@@ -110,9 +112,9 @@ impl<C: Ticks> NodeStore<C> {
     {
         ticks.tick();
         match &self.heap.node(name).held {
-            Held::Line(line) => line.sum(),
-            Held::Inner(branch) => branch.room.sum,
-            Held::Spare => Sums::counting(0, 0, 0),
+            Held::Line(_, line) => line.sum(),
+            Held::Inner(_, branch) => branch.room.sum,
+            Held::Spare(_) => Sums::counting(0, 0, 0),
         }
     }
 
@@ -124,9 +126,9 @@ impl<C: Ticks> NodeStore<C> {
     {
         ticks.tick();
         match &self.heap.node(name).held {
-            Held::Line(_) => 1,
-            Held::Inner(branch) => branch.lines,
-            Held::Spare => 0,
+            Held::Line(..) => 1,
+            Held::Inner(_, branch) => branch.lines,
+            Held::Spare(_) => 0,
         }
     }
 
@@ -138,9 +140,9 @@ impl<C: Ticks> NodeStore<C> {
     {
         ticks.tick();
         match &self.heap.node(name).held {
-            Held::Line(line) => (1, line.len()),
-            Held::Inner(branch) => (branch.lines, branch.characters),
-            Held::Spare => (0, 0),
+            Held::Line(_, line) => (1, line.len()),
+            Held::Inner(_, branch) => (branch.lines, branch.characters),
+            Held::Spare(_) => (0, 0),
         }
     }
 
@@ -153,9 +155,9 @@ impl<C: Ticks> NodeStore<C> {
     {
         ticks.tick();
         match &self.heap.node(name).held {
-            Held::Line(line) => line.has_toggle(slot),
-            Held::Inner(branch) => branch.room.sum.has(slot),
-            Held::Spare => false,
+            Held::Line(_, line) => line.has_toggle(slot),
+            Held::Inner(_, branch) => branch.room.sum.has(slot),
+            Held::Spare(_) => false,
         }
     }
 
@@ -167,9 +169,9 @@ impl<C: Ticks> NodeStore<C> {
     {
         ticks.tick();
         match &self.heap.node(name).held {
-            Held::Line(line) => line.turn_odd_slots(slots),
-            Held::Inner(branch) => branch.room.sum.turn_odd_slots(slots),
-            Held::Spare => {}
+            Held::Line(_, line) => line.turn_odd_slots(slots),
+            Held::Inner(_, branch) => branch.room.sum.turn_odd_slots(slots),
+            Held::Spare(_) => {}
         }
     }
 
@@ -182,9 +184,9 @@ impl<C: Ticks> NodeStore<C> {
     {
         ticks.tick();
         match &self.heap.node(name).held {
-            Held::Line(line) => line.add_to(sum),
-            Held::Inner(branch) => sum.add(&branch.room.sum),
-            Held::Spare => {}
+            Held::Line(_, line) => line.add_to(sum),
+            Held::Inner(_, branch) => sum.add(&branch.room.sum),
+            Held::Spare(_) => {}
         }
     }
 
@@ -197,9 +199,9 @@ impl<C: Ticks> NodeStore<C> {
     {
         ticks.tick();
         match &self.heap.node(name).held {
-            Held::Line(line) => line.sum().is_bare(),
-            Held::Inner(branch) => branch.room.sum.is_bare(),
-            Held::Spare => false,
+            Held::Line(_, line) => line.sum().is_bare(),
+            Held::Inner(_, branch) => branch.room.sum.is_bare(),
+            Held::Spare(_) => false,
         }
     }
 
@@ -211,9 +213,9 @@ impl<C: Ticks> NodeStore<C> {
     {
         ticks.tick();
         match &self.heap.node(name).held {
-            Held::Line(line) => line.marks(),
-            Held::Inner(branch) => branch.room.sum.marks(),
-            Held::Spare => 0,
+            Held::Line(_, line) => line.marks(),
+            Held::Inner(_, branch) => branch.room.sum.marks(),
+            Held::Spare(_) => 0,
         }
     }
 
@@ -223,18 +225,32 @@ impl<C: Ticks> NodeStore<C> {
         ensures { IfSome (entry self.now name) (λ r. result ≡ count_by is_some r.children) }
     {
         match &self.heap.node(name).held {
-            Held::Inner(branch) => branch.room.count(),
+            Held::Inner(_, branch) => branch.room.count(),
             _ => 0,
         }
     }
 
-    /// Whether two names are one.
+    /// Whether two names are one. Links can't be compared, so this takes a step for each node made before these.
     pub fn same(&self, a: NodePtr, b: NodePtr) -> bool
         requires names { IsName self.now a × IsName self.now b }
         ensures yes { result ≡ true → a ≡ b }
         ensures no { result ≡ false → a ≢ b }
     {
-        self.heap.node(a).number == self.heap.node(b).number
+        self.place(a) == self.place(b)
+    }
+
+    /// How many nodes stand before one in the row.
+    fn place(&self, name: NodePtr) -> usize
+        requires { IsPlace self.now.heap.places name }
+        ensures { result ≡ number_in self.now.heap.places name }
+    {
+        let mut at = name;
+        let mut steps = 0;
+        while let Some(before) = self.heap.node(at).before.name() {
+            at = before;
+            steps += 1;
+        }
+        steps
     }
 
     /// A node's line, if it is one.
@@ -243,7 +259,7 @@ impl<C: Ticks> NodeStore<C> {
         ensures { IfSome (entry self.now name) (λ r. option_map (λ x. x.now) result ≡ r.line) }
     {
         match &self.heap.node(name).held {
-            Held::Line(line) => Some(line),
+            Held::Line(_, line) => Some(line),
             _ => None,
         }
     }
@@ -318,7 +334,7 @@ impl<C: Ticks> NodeStore<C> {
     {
         let node = self.heap.node_mut(name);
         node.parent = Link::of(parent);
-        node.slot = slot;
+        node.held.set_slot(slot);
     }
 
     /// Puts a child, or none, into a slot of an inner node.
@@ -362,6 +378,55 @@ impl<C: Ticks> NodeStore<C> {
         Ok(())
     }
 
+    /// Frees spares, and rooms beside them, until there are at most so many of each. It can't fail.
+    pub fn free_spares(&mut self, most_spares: usize, most_rooms: usize)
+        ensures records { records self.new ≡ records self.old }
+        ensures spares { spares self.new ≡ min (spares self.old) most_spares }
+        ensures rooms { rooms self.new ≡ min (rooms self.old) most_rooms }
+    {
+        self.free_rooms(most_rooms);
+        while self.spares() > most_spares {
+            self.free_spare();
+        }
+    }
+
+    /// Frees the first spare. Its neighbours in the row are linked to each other.
+    fn free_spare(&mut self)
+        requires { 0 < spares self.old }
+        ensures spares { spares self.new + 1 ≡ spares self.old }
+        ensures records { records self.new ≡ records self.old }
+        ensures rooms { rooms self.new ≡ rooms self.old }
+    {
+        let name = self.first_spare.unwrap();
+        let spare = self.heap.node(name);
+        let before = spare.before;
+        let after = spare.after;
+        let previous = before.name();
+        let next = after.name();
+        self.heap.link_after(previous, after);
+        self.heap.link_before(next, before);
+        self.last = last_left(self.last, previous, next);
+        let spare = self.heap.release(name, self.alloc).into_box();
+        self.first_spare = spare.parent.name();
+        self.count -= 1;
+        self.spares -= 1;
+    }
+
+    /// Frees free rooms until there are at most so many, and room in their list.
+    fn free_rooms(&mut self, most: usize)
+        ensures records { records self.new ≡ records self.old }
+        ensures spares { spares self.new ≡ spares self.old }
+        ensures rooms { rooms self.new ≡ min (rooms self.old) most }
+    {
+        let count = self.rooms.len();
+        if count <= most {
+            return;
+        }
+        self.rooms.truncate(most);
+        self.room_count -= count - most;
+        trim_rooms(&mut self.rooms, self.room_count);
+    }
+
     /// How many spares there are.
     pub fn spares(&self) -> usize
         ensures { result ≡ spares self.now }
@@ -382,12 +447,12 @@ impl<C: Ticks> NodeStore<C> {
         let node = Node {
             parent: Link::of(self.first_spare),
             before: Link::of(self.last),
-            slot: self.spares,
-            number: self.count,
-            held: Held::Spare,
+            after: Link::none(),
+            held: Held::Spare(self.spares),
         };
         let place = Box::new(self.alloc, node)?;
         let name = self.heap.adopt(Parts::of(place));
+        self.heap.link_after(self.last, Link::of(Some(name)));
         self.last = Some(name);
         self.count += 1;
         self.first_spare = Some(name);
@@ -425,7 +490,6 @@ impl<C: Ticks> NodeStore<C> {
         self.first_spare = node.parent.name();
         self.spares -= 1;
         node.parent = Link::none();
-        node.slot = 0;
         node.held = held;
         name
     }
@@ -440,12 +504,25 @@ impl<C: Ticks> NodeStore<C> {
         ensures total { nodes self.new ≡ nodes self.old }
     {
         let node = self.heap.node_mut(name);
-        let held = std::mem::replace(&mut node.held, Held::Spare);
-        node.slot = self.spares;
+        let held = std::mem::replace(&mut node.held, Held::Spare(self.spares));
         node.parent = Link::of(self.first_spare);
         self.first_spare = Some(name);
         self.spares += 1;
         put_back(&mut self.rooms, held)
+    }
+}
+
+/// The last node once one has left that stands between these two.
+fn last_left(
+    last: Option<NodePtr>,
+    before: Option<NodePtr>,
+    after: Option<NodePtr>,
+) -> Option<NodePtr>
+    ensures { result ≡ chain.last_left last before after }
+{
+    match after {
+        Some(_) => last,
+        None => before,
     }
 }
 

@@ -3,16 +3,16 @@ use Rattle.line_lists.specs.Pieces.{CanPlace, freed, named, numbers_in, piece_li
 use Rattle.line_lists.proofs.StoreLaws.{all-names, below-lines}
 use Rattle.line_lists.proofs.store.LineStoreTextStore.prepare.Goals as goal
 
-pub returns-clause-ready : goal.returns-clause-ready
-returns-clause-ready g c =
+pub returns-in-Ok-clause-ready : goal.returns-in-Ok-clause-ready
+returns-in-Ok-clause-ready g c =
     let change = c.in_ok-change.change in
     let pieces = change.pieces.items in
     let made = c.in_ok-change.ensures in
     record {
       can = subst (λ lines. CanPlace pieces (freed (named change.taken.items) lines))
-          (sym c.in_ok-reserve.ensures.same) made.can;
-      few = omega (arith, made.count, c.in_ok-reserve.ensures.room);
-      below = below-lines change.bound (g.L.LineList.mark_room c.reserve.new.self) c.in_ok-reserve.ensures.numbers
+          (sym c.in-Ok.ensures.same) made.can;
+      few = omega (arith, made.count, c.in-Ok.ensures.room);
+      below = below-lines change.bound (g.L.LineList.mark_room c.reserve.new.self) c.in-Ok.ensures.numbers
           (piece_lines pieces)
           (all-names (λ n. n < change.bound) (numbers_in (piece_lines pieces)) made.below);
     }

@@ -1,4 +1,4 @@
--- `release` moves what the heap owns of its last node into parts.
+-- `release` moves what the heap owns of a node into parts.
 use Rattle.raw_nodes.proofs.WalkSteps.{◌≡◌, List, [], ◌∷◌, refl, sym, ap, ◌∙◌, ftrue, flft, named, arith, fact, id⊢}
 use Rattle.raw_nodes.proofs.WalkSteps.{tables, ‵, raw, ◌⊛◌, ◌$◌, ◌∵◌, !, qed, move, keep, use1, split, join, fsplit}
 use Rattle.raw_nodes.proofs.WalkSteps.{fsplit3, fjoin, feq_i, feq_l, suffices, rewrite, group, enter, of_opd, stop, fld}
@@ -16,8 +16,7 @@ use mathlib.Core.List.{◌++◌}
 use mathlib.Core.Path.{subst}
 use mir.Val.{Val, vptr}
 use denote.Laws.{Typed}
-use lib.ListN.{length, length-append}
-use Rattle.std.proofs.lemmas.List.{length-map, map-append}
+use lib.ListN.{get_or}
 use denote.RawPtr.{block_ptr, null_ptr, ptr_val, in_a_block}
 use denote.Signature.{type_at}
 use denote.Struct.Laws.{vals, tells, lawful}
@@ -26,12 +25,13 @@ use Rattle.std.proofs.alloc.Calls.{handle_tells}
 use Rattle.std.proofs.BoxSteps.Form.{D, word, box_typed}
 use Rattle.std.proofs.BoxSteps.Steps.{box_in}
 use Rattle.raw_nodes.proofs.AsBox.{E, Handle}
-use Rattle.raw_nodes.specs.Cells.{IsLast, ats, node_right, node_owns, nodes_own}
+use Rattle.raw_nodes.specs.Cells.{IsPlace, ats, node_right, node_owns, nodes_own, number_in, without}
 use Rattle.raw_nodes.specs.contracts.names.NodePtr as P
 use Rattle.raw_nodes.proofs.names.NodePtr.TheLaws as P-laws
-use Rattle.raw_nodes.specs.contracts.nodes.Node.{the_row as N}
 use Rattle.raw_nodes.specs.contracts.heap.Heap.{the_row as R}
-use Rattle.raw_nodes.proofs.HeapSteps.{both_shorter, unsnoc, last_out}
+use Rattle.raw_nodes.proofs.HeapSteps.{any_default, both_without, one_out, uncons}
+use Rattle.raw_nodes.proofs.PlaceLaws.{ptr_at_number, within_ats}
+use Rattle.raw_nodes.proofs.WithoutLaws.{map-without}
 use Rattle.raw_nodes.specs.contracts.heap.Heap.release as f
 use Rattle.raw_nodes.proofs.heap.Heap.release.Statement.{statement}
 use Rattle.raw_nodes.proofs.heap.Heap.release.Code as code
@@ -60,21 +60,23 @@ release_spec 𝓤 𝓛 𝓜 𝓡 wired =
     let us = vals P.the_type P-laws.the_laws name in
     qed 𝓛 (((‵ (flft κ q) ⊛ ‵ ftrue) ⊛ ‵ ((MutRef (named 0) κ R).own_val self z.0.4.0) ⊛ ‵
     (P.the_row.own_val name z.0.4.1.0) ⊛ ‵ (E.al.row.own_val alloc z.0.4.1.1.0) ⊛ ‵ ftrue)
-    ∷ raw (fact 𝓤 (IsLast h.places name)) ∷ []) ∵
+    ∷ raw (fact 𝓤 (IsPlace h.places name)) ∷ []) ∵
     move ! (1 ∷ []) $ heard ! _ (λ asked. split ! $ split ! $ move ! (2 ∷ []) $ split ! $ move ! (1 ∷ []) $ split ! $
     move ! (1 ∷ []) $ split ! $ keep ! (0 ∷ 3 ∷ 4 ∷ []) $
     handle_tells E.al ! alloc z.0.4.1.1.0 (λ hv eh fa.
     move ! (1 ∷ []) $ fsplit3 ! $ feq_l ! (λ em. keep ! (0 ∷ 1 ∷ 3 ∷ 2 ∷ []) $
-    let qs = asked.0 in let p = name.at in let paired = h.paired in let long = ap length asked.1 in
-    let more = length-append qs (name ∷ []) in
-    let last = unsnoc h.values (omega arith) in let ys = last.0 in let x = last.1 in
+    let i = number_in h.places name in let ps = ats h.places in let paired = h.paired in
+    let inside = within_ats h.places name asked in
+    let d = (uncons h.values (omega arith)).0 in let x = get_or h.values i d in let p = get_or ps i null_ptr in
+    let here : name.at ≡ p = sym (ptr_at_number h.places name null_ptr asked) in
     let good = subst (Typed P.the_row.mir) told ((lawful P.the_type P-laws.the_laws 𝓛).typed name z.0.4.1.0 are.1.0) in
-    let even : length (qs ++ name ∷ []) ≡ length (ys ++ x ∷ []) = sym long ∙ paired ∙ ap length last.2 in
-    let level = both_shorter qs ys name x even in let rest = ats qs in
-    let all : ats h.places ≡ rest ++ p ∷ [] = ap ats asked.1
-    ∙ map-append (λ (r : P.the_row.Denot). r.at) qs (name ∷ []) in
-    let fewer : length rest ≡ length ys = length-map qs (λ (r : P.the_row.Denot). r.at) ∙ level in
-    let new : R.Denot = record { places = qs; values = ys; paired = level } in
+    let rest = without ps i in let ys = without h.values i in
+    let all : rest ≡ ats (without h.places i) = sym (map-without (λ (r : P.the_row.Denot). r.at) h.places i) in
+    let new : R.Denot = record {
+      places = without h.places i;
+      values = ys;
+      paired = both_without h.places h.values i paired;
+    } in
     suffices ! (Run (vptr b o ∷ (us ++ hv ∷ [])))
     (subst (λ (vs : List Val × List Val × List Val).
     ent 𝓤 (Run (vptr b o ∷ (us ++ hv ∷ []))) (Run (vs.0 ++ (vs.1 ++ (vs.2 ++ []))))) (λ j.
@@ -82,15 +84,14 @@ release_spec 𝓤 𝓛 𝓜 𝓡 wired =
     enter ! 𝓣.C 𝓣.Λ code.function (vptr b o ∷ (us ++ hv ∷ [])) (W.post z) $ alloc_all ! (λ l.
     pass_all ! refl ((tt, tt), (good.0, (fa, tt))) $
     opens ! tt R b o (λ vs. move ! (1 ∷ []) $ fsplit ! $ move ! (1 ∷ []) $
-    rewrite ! 0 (λ (ps : List Ptr). ‵ (nodes_own ps h.values)) all refl $ rewrite ! 0
-    (λ (xs : List N.Denot). ‵ (nodes_own (rest ++ p ∷ []) xs)) last.2 refl $
-    use1 𝓛 (‵ (node_owns p x) ⊛ ‵ (nodes_own rest ys)) (last_out 𝓛 rest p ys x fewer) $ split ! $
+    use1 𝓛 (‵ (node_owns p x) ⊛ ‵ (nodes_own rest ys)) (one_out 𝓛 ps h.values i d inside (omega (arith, asked))) $ split !
+    $ move ! (1 ∷ 0 ∷ []) $ rewrite ! 0 (λ (qs : List Ptr). ‵ (nodes_own qs ys)) all refl $ move ! (1 ∷ 0 ∷ []) $
     in_a_block ! p (λ r. node_owns r x) (fst∗ 𝓤 (never 𝓤) (sem 𝓛 (node_right null_ptr))) (λ pb po e.
     fsplit ! $ move ! (1 ∷ []) $ fpick ! (λ by_handle. move ! (1 ∷ 0 ∷ []) $
     let v : D E = record { ptr = block_ptr pb po; alloc = alloc; value = x } in
     let made : To.Denot = record { ptr = block_ptr pb po; alloc = alloc; value = x } in
     -- [the node; the token; the others; the fields; the cell; the open borrow; obs; auth; the handle]
-    sets ! (is ! (of_opd ! (get_in ! (fld ! refl (stop !)) (sub ! 0 refl (whole !)))) (ap ptr_val e)) refl (tt, tt) $
+    sets ! (is ! (of_opd ! (get_in ! (fld ! refl (stop !)) (sub ! 0 refl (whole !)))) (ap ptr_val (here ∙ e))) refl (tt, tt) $
     sets ! (agg ! (and_then ! (get ! refl) (and_then ! (get ! refl) (no_more !)))) refl (box_typed E hv pb po fa) $
     move ! (0 ∷ 1 ∷ 8 ∷ []) $ box_in E ! v pb po x refl refl $ use1 𝓛 (‵ (To.own_val made (word E hv pb po ∷ [])))
     (id⊢ 𝓤 _) $
@@ -99,8 +100,11 @@ release_spec 𝓤 𝓛 𝓜 𝓡 wired =
     returns ! (look_at ! 0 refl) $ free_all ! refl $ keep ! (0 ∷ 1 ∷ 2 ∷ 3 ∷ 4 ∷ []) $
     group ! 3 $ nothing ! $ nothing ! $ fjoin ! $ nothing ! $ fjoin ! $ move ! (1 ∷ 0 ∷ []) $ join ! $ nothing ! $ move
     ! (2 ∷ 0 ∷ []) $ join ! $
-    use0 𝓛 (raw (fact 𝓤 (h.values ≡ new.values ++ x ∷ []))) (fact_i 𝓤 _ (emp 𝓤) last.2) $ use0 𝓛
-    (raw (fact 𝓤 (h.places ≡ new.places ++ name ∷ []))) (fact_i 𝓤 _ (emp 𝓤) asked.1) $ join ! $
+    use0 𝓛 (raw (fact 𝓤 (x ≡ get_or h.values i x))) (fact_i 𝓤 _ (emp 𝓤) (any_default h.values i d x (omega (
+      arith,
+      asked,
+    )))) $ use0 𝓛 (raw (fact 𝓤 (new.values ≡ without h.values i))) (fact_i 𝓤 _ (emp 𝓤) refl) $ join ! $ use0 𝓛
+    (raw (fact 𝓤 (new.places ≡ without h.places i))) (fact_i 𝓤 _ (emp 𝓤) refl) $ join ! $
     move ! (1 ∷ 2 ∷ 3 ∷ 0 ∷ []) $ by ! (leaves 𝓛 f.ended stayed c z (word E hv pb po) made (new, (tt, (tt, tt))) (
       tt,
       (tt, (tt, tt)),

@@ -2,7 +2,7 @@ use Rattle.std.proofs.Common.{◌≡◌, ap, sym, refl, subst}
 use Rattle.raw_nodes.specs.Chain.{room_in}
 use Rattle.raw_nodes.specs.Names.{records}
 use Rattle.raw_nodes.specs.Records.{record_in, with_sum}
-use Rattle.raw_nodes.proofs.NameLaws.{listed_kept, whole_kept, chain_kept, count_kept, in_use, name_place, numbers_kept}
+use Rattle.raw_nodes.proofs.NameLaws.{followed_kept, listed_kept, whole_kept, chain_kept, count_kept, in_use, name_place}
 use Rattle.raw_nodes.proofs.NameLaws.{rewritten, recounted, room_if, rooms_kept, told_entry}
 use Rattle.raw_nodes.specs.Links.{link_name}
 use Rattle.toggle_sums.specs.Counts.{CountsFit, plus}
@@ -18,7 +18,7 @@ unfolding records
 branch_mut-branch-requires g c =
     let h = c.args.self.now.heap in let p = c.args.name in let x = c.node_mut.result.now in
     let e = c.node_mut.ensures.value in
-    room_if x.held _ x.slot (in_use h.places h.values p x h.paired c.requires.name.0 e)
+    room_if x.held _ (in_use h.places h.values p x h.paired c.requires.name.0 e)
     (told_entry h.places h.values p x h.paired c.requires.name.0 e (λ r. r.line ≡ _) c.requires.name.1)
 
 pub invariant_of-self : goal.invariant_of-self
@@ -32,7 +32,8 @@ invariant_of-self g c =
       small = a.small;
       chained = chain_kept h.places h.values p x _ h.paired named e refl a.spares a.first_spare a.chained;
       counted = count_kept h.places h.values p x _ h.paired named e refl a.spares a.counted;
-      numbered = numbers_kept h.places h.values p x _ h.paired named e refl refl a.numbered;
+      followed = followed_kept h.places h.values p x _ h.paired named e refl refl a.followed;
+      apart = a.apart;
       roomed = rooms_kept h.places h.values p x _ h.paired named e refl _ a.room_count
           (sym (ap room_in c.branch_mut-branch.ensures.value)) a.roomed;
       fitting = a.fitting;
@@ -45,7 +46,7 @@ returns-clause-records g c =
     let x = c.node_mut.result.now in let e = c.node_mut.ensures.value in
     let more = c.args.more.now in
     rewritten h.places h.values p x _ h.paired named e refl (λ r. with_sum r (plus r.sum more))
-    (recounted x.held c.branch_mut-branch.result.now c.add_sum.new.self _ x.slot (λ s. plus s more)
+    (recounted x.held c.branch_mut-branch.result.now c.add_sum.new.self _ (λ s. plus s more)
     c.branch_mut-branch.ensures.value c.add_sum.ensures)
 
 pub add_sum-requires : goal.add_sum-requires
@@ -53,5 +54,5 @@ unfolding records
 add_sum-requires g c =
     let h = c.args.self.now.heap in let p = c.args.name in let x = c.node_mut.result.now in
     let e = c.node_mut.ensures.value in let more = c.args.more.now in
-    subst (λ k. CountsFit (record_in k (link_name x.parent) x.slot).sum more) c.branch_mut-branch.ensures.value
+    subst (λ k. CountsFit (record_in k (link_name x.parent)).sum more) c.branch_mut-branch.ensures.value
     (told_entry h.places h.values p x h.paired c.requires.name.0 e (λ r. CountsFit r.sum more) c.requires.fits)

@@ -17,7 +17,7 @@ returns-in-Line-clause-value g c =
     let h = c.args.self.now.heap in let p = c.args.name in let x = c.node.result.now in let e = c.node.ensures in
     let old = c.args.sum.now in
     read_entry h.places h.values p x h.paired c.requires.name e (λ r. c.add_to.new.sum ≡ plus old r.sum)
-    (c.add_to.ensures ∙ ap (plus old) (sym (ap (λ k. (record_in k (link_name x.parent) x.slot).sum) c.in-Line.is)))
+    (c.add_to.ensures ∙ ap (plus old) (sym (ap (λ k. (record_in k (link_name x.parent)).sum) c.in-Line.is)))
 
 pub returns-in-Inner-clause-value : goal.returns-in-Inner-clause-value
 unfolding records
@@ -26,7 +26,7 @@ returns-in-Inner-clause-value g c =
     let old = c.args.sum.now in
     read_entry h.places h.values p x h.paired c.requires.name e (λ r. c.add.new.self ≡ plus old r.sum)
     (c.add.ensures ∙ ap (plus old) (ap (λ z. z.sum) c.deref.ensures
-    ∙ sym (ap (λ k. (record_in k (link_name x.parent) x.slot).sum) c.in-Inner.is)))
+    ∙ sym (ap (λ k. (record_in k (link_name x.parent)).sum) c.in-Inner.is)))
 
 pub returns-in-Spare-clause-value : goal.returns-in-Spare-clause-value
 unfolding records
@@ -41,7 +41,7 @@ unfolding records
 add_to-requires g c =
     let h = c.args.self.now.heap in let p = c.args.name in let x = c.node.result.now in let e = c.node.ensures in
     let old = c.args.sum.now in
-    subst (CountsFit old) (ap (λ k. (record_in k (link_name x.parent) x.slot).sum) c.in-Line.is)
+    subst (CountsFit old) (ap (λ k. (record_in k (link_name x.parent)).sum) c.in-Line.is)
     (told_entry h.places h.values p x h.paired c.requires.name e (λ r. CountsFit old r.sum) c.requires.fits)
 
 pub add-requires : goal.add-requires
@@ -50,7 +50,7 @@ add-requires g c =
     let h = c.args.self.now.heap in let p = c.args.name in let x = c.node.result.now in let e = c.node.ensures in
     let old = c.args.sum.now in (
       omega arith,
-      subst (CountsFit old) (ap (λ k. (record_in k (link_name x.parent) x.slot).sum) c.in-Inner.is
+      subst (CountsFit old) (ap (λ k. (record_in k (link_name x.parent)).sum) c.in-Inner.is
           ∙ sym (ap (λ z. z.sum) c.deref.ensures))
           (told_entry h.places h.values p x h.paired c.requires.name e (λ r. CountsFit old r.sum) c.requires.fits),
     )

@@ -17,7 +17,7 @@ returns-in-Inner-clause-value g c =
     let used = in_use h.places h.values p x h.paired c.requires.name e in
     read_entry h.places h.values p x h.paired c.requires.name e (λ r. c.child.result ≡ get_or r.children c.args.i None)
     (c.child.ensures ∙ ap (λ (z : Room). get_or (map link_name z.children) c.args.i None) c.deref.ensures
-    ∙ sym (ap (λ k. get_or (record_in k (link_name x.parent) x.slot).children c.args.i None) c.in-Inner.is))
+    ∙ sym (ap (λ k. get_or (record_in k (link_name x.parent)).children c.args.i None) c.in-Inner.is))
 
 pub returns-in_default : goal.returns-in_default
 unfolding records
@@ -27,6 +27,6 @@ returns-in_default g c =
     record {
       value = read_entry h.places h.values p x h.paired c.requires.name e (λ r. None
           ≡ get_or r.children c.args.i None)
-          (none_at _ c.args.i (childless x.held _ x.slot used c.in_default.not-Inner));
+          (none_at _ c.args.i (childless x.held _ used c.in_default.not-Inner));
       tick = c.tick.ensures;
     }

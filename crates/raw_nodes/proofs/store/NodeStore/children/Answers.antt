@@ -16,7 +16,7 @@ returns-in-Inner g c =
     let h = c.args.self.now.heap in let p = c.args.name in let x = c.node.result.now in let e = c.node.ensures in
     read_entry h.places h.values p x h.paired c.requires e (λ r. c.count.result ≡ count_by is_some r.children)
     (c.count.ensures ∙ ap (λ (z : Room). count_by is_some (map link_name z.children)) c.deref.ensures
-    ∙ sym (ap (λ k. count_by is_some (record_in k (link_name x.parent) x.slot).children) c.in-Inner.is))
+    ∙ sym (ap (λ k. count_by is_some (record_in k (link_name x.parent)).children) c.in-Inner.is))
 
 pub returns-in_default : goal.returns-in_default
 unfolding records
@@ -25,4 +25,4 @@ returns-in_default g c =
     let used = in_use h.places h.values p x h.paired c.requires e in
     read_entry h.places h.values p x h.paired c.requires e (λ r. 0
     ≡ count_by is_some r.children)
-    (sym (ap (count_by is_some) (childless x.held _ x.slot used c.in_default.not-Inner)))
+    (sym (ap (count_by is_some) (childless x.held _ used c.in_default.not-Inner)))

@@ -3,9 +3,9 @@ use lib.ListN.{length-set}
 use Rattle.raw_nodes.specs.Cells.{number_in}
 use Rattle.raw_nodes.specs.Chain.{room_in}
 use Rattle.raw_nodes.specs.Names.{records}
-use Rattle.raw_nodes.specs.Records.{is_used, line_in, records_in}
+use Rattle.raw_nodes.specs.Records.{is_used, line_in, records_in, slot_in}
 use Rattle.raw_nodes.specs.declared.nodes.Node.{Node}
-use Rattle.raw_nodes.proofs.ChainLaws.{count-le, given_chain, given_count, listed_set, numbered_set, room_moved}
+use Rattle.raw_nodes.proofs.ChainLaws.{count-le, followed_set, given_chain, given_count, listed_set, room_moved}
 use Rattle.raw_nodes.proofs.MapLaws.{len_given}
 use Rattle.raw_nodes.proofs.NameLaws.{in_use, line_said, name_place, place_within, read_entry, removed_records}
 use Rattle.raw_nodes.proofs.store.NodeStore.give_back.Goals as goal
@@ -26,8 +26,7 @@ overflow_add-self g c =
     let w : Node = record {
       parent = c.of-node.result;
       before = x.before;
-      slot = a.spares;
-      number = x.number;
+      after = x.after;
       held = c.replace-held.new.dest;
     } in
     let more = given_count h.values i x w a.spares within e used (ap is_used c.replace-held.ensures.after) a.counted in
@@ -46,8 +45,7 @@ put_back-requires g c =
     let w : Node = record {
       parent = c.of-node.result;
       before = x.before;
-      slot = a.spares;
-      number = x.number;
+      after = x.after;
       held = c.replace-held.new.dest;
     } in
     let moved = room_moved h.values i x w within e in let none = ap room_in c.replace-held.ensures.after in
@@ -65,8 +63,7 @@ invariant_of-self g c =
     let w : Node = record {
       parent = c.of-node.result;
       before = x.before;
-      slot = a.spares;
-      number = x.number;
+      after = x.after;
       held = c.replace-held.new.dest;
     } in
     let free = ap is_used c.replace-held.ensures.after in
@@ -78,10 +75,11 @@ invariant_of-self g c =
       listed = listed_set h.places h.values i x w a.last e refl a.listed;
       whole = a.whole ∙ sym (length-set h.values i w);
       small = a.small;
-      chained = given_chain h.places h.values a.spares a.first_spare p x w place h.paired e used free refl
-          c.of-node.ensures a.chained;
+      chained = given_chain h.places h.values a.spares a.first_spare p x w place h.paired e used free
+          (ap slot_in c.replace-held.ensures.after) c.of-node.ensures a.chained;
       counted = given_count h.values i x w a.spares within e used free a.counted;
-      numbered = numbered_set h.values i x w e refl a.numbered;
+      followed = followed_set h.places h.values i x w e refl a.followed;
+      apart = a.apart;
       roomed = omega (arith, moved, none, held, more, roomed);
       fitting = omega (arith, fitting, capacity);
     }
@@ -95,7 +93,7 @@ returns-clause-line g c =
     let within = place_within h.places h.values p h.paired place in
     let used = in_use h.places h.values p x h.paired c.requires e in
     read_entry h.places h.values p x h.paired c.requires e (λ r. c.put_back.result ≡ r.line)
-    (c.put_back.ensures.line ∙ ap line_in c.replace-held.ensures.value ∙ sym (line_said x.held _ x.slot used))
+    (c.put_back.ensures.line ∙ ap line_in c.replace-held.ensures.value ∙ sym (line_said x.held _ used))
 
 pub returns-clause-records : goal.returns-clause-records
 unfolding records
@@ -108,8 +106,7 @@ returns-clause-records g c =
     let w : Node = record {
       parent = c.of-node.result;
       before = x.before;
-      slot = a.spares;
-      number = x.number;
+      after = x.after;
       held = c.replace-held.new.dest;
     } in
     let free = ap is_used c.replace-held.ensures.after in
@@ -126,8 +123,7 @@ returns-clause-total g c =
     let w : Node = record {
       parent = c.of-node.result;
       before = x.before;
-      slot = a.spares;
-      number = x.number;
+      after = x.after;
       held = c.replace-held.new.dest;
     } in
     let free = ap is_used c.replace-held.ensures.after in

@@ -18,7 +18,7 @@ returns-in-Line-clause-value g c =
     let used = in_use h.places h.values p x h.paired c.requires.name e in
     read_entry h.places h.values p x h.paired c.requires.name e (λ r. c.has_toggle.result
     ≡ set.contains r.sum.presence c.args.slot.0) (c.has_toggle.ensures
-    ∙ sym (ap (λ k. set.contains (record_in k (link_name x.parent) x.slot).sum.presence c.args.slot.0)
+    ∙ sym (ap (λ k. set.contains (record_in k (link_name x.parent)).sum.presence c.args.slot.0)
     c.in-Line.is))
 
 pub returns-in-Inner-clause-value : goal.returns-in-Inner-clause-value
@@ -29,7 +29,7 @@ returns-in-Inner-clause-value g c =
     read_entry h.places h.values p x h.paired c.requires.name e (λ r. c.has.result
     ≡ set.contains r.sum.presence c.args.slot.0) (c.has.ensures
     ∙ ap (λ z. set.contains z.sum.presence c.args.slot.0) c.deref.ensures
-    ∙ sym (ap (λ k. set.contains (record_in k (link_name x.parent) x.slot).sum.presence c.args.slot.0)
+    ∙ sym (ap (λ k. set.contains (record_in k (link_name x.parent)).sum.presence c.args.slot.0)
     c.in-Inner.is))
 
 pub returns-in-Spare-clause-value : goal.returns-in-Spare-clause-value

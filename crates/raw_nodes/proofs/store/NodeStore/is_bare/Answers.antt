@@ -16,7 +16,7 @@ unfolding records
 returns-in-Line-clause-yes g c =
     let h = c.args.self.now.heap in let p = c.args.name in let x = c.node.result.now in let e = c.node.ensures in
     read_entry h.places h.values p x h.paired c.requires e (λ r. c.is_bare.result ≡ true → IsBare r.sum) (λ yes.
-    subst IsBare (c.sum.ensures ∙ sym (ap (λ k. (record_in k (link_name x.parent) x.slot).sum) c.in-Line.is))
+    subst IsBare (c.sum.ensures ∙ sym (ap (λ k. (record_in k (link_name x.parent)).sum) c.in-Line.is))
     (c.is_bare.ensures.yes yes))
 
 pub returns-in-Inner-clause-yes : goal.returns-in-Inner-clause-yes
@@ -25,14 +25,14 @@ returns-in-Inner-clause-yes g c =
     let h = c.args.self.now.heap in let p = c.args.name in let x = c.node.result.now in let e = c.node.ensures in
     read_entry h.places h.values p x h.paired c.requires e (λ r. c.is_bare-in-Inner.result ≡ true → IsBare r.sum) (λ yes.
     subst IsBare (ap (λ z. z.sum) c.deref.ensures
-    ∙ sym (ap (λ k. (record_in k (link_name x.parent) x.slot).sum) c.in-Inner.is)) (c.is_bare-in-Inner.ensures.yes yes))
+    ∙ sym (ap (λ k. (record_in k (link_name x.parent)).sum) c.in-Inner.is)) (c.is_bare-in-Inner.ensures.yes yes))
 
 pub returns-in-Line-clause-no : goal.returns-in-Line-clause-no
 unfolding records
 returns-in-Line-clause-no g c =
     let h = c.args.self.now.heap in let p = c.args.name in let x = c.node.result.now in let e = c.node.ensures in
     read_entry h.places h.values p x h.paired c.requires e (λ r. IsBare r.sum → c.is_bare.result ≡ true) (λ bare.
-    c.is_bare.ensures.no (subst IsBare (ap (λ k. (record_in k (link_name x.parent) x.slot).sum) c.in-Line.is
+    c.is_bare.ensures.no (subst IsBare (ap (λ k. (record_in k (link_name x.parent)).sum) c.in-Line.is
     ∙ sym c.sum.ensures) bare))
 
 pub returns-in-Inner-clause-no : goal.returns-in-Inner-clause-no
@@ -41,7 +41,7 @@ returns-in-Inner-clause-no g c =
     let h = c.args.self.now.heap in let p = c.args.name in let x = c.node.result.now in let e = c.node.ensures in
     read_entry h.places h.values p x h.paired c.requires e (λ r. IsBare r.sum → c.is_bare-in-Inner.result ≡ true) (λ bare.
     c.is_bare-in-Inner.ensures.no
-    (subst IsBare (ap (λ k. (record_in k (link_name x.parent) x.slot).sum) c.in-Inner.is
+    (subst IsBare (ap (λ k. (record_in k (link_name x.parent)).sum) c.in-Inner.is
     ∙ sym (ap (λ z. z.sum) c.deref.ensures)) bare))
 
 pub returns-in-Spare-clause-no : goal.returns-in-Spare-clause-no

@@ -15,7 +15,7 @@ returns-in-Line g c =
     let h = c.args.self.now.heap in let p = c.args.name in let x = c.node.result.now in let e = c.node.ensures in
     let used = in_use h.places h.values p x h.paired c.requires e in
     read_entry h.places h.values p x h.paired c.requires e (λ r. _
-    ≡ r.line) (sym (ap (λ k. (record_in k (link_name x.parent) x.slot).line) c.in-Line.is))
+    ≡ r.line) (sym (ap (λ k. (record_in k (link_name x.parent)).line) c.in-Line.is))
 
 pub returns-in_default : goal.returns-in_default
 unfolding records
@@ -23,4 +23,4 @@ returns-in_default g c =
     let h = c.args.self.now.heap in let p = c.args.name in let x = c.node.result.now in let e = c.node.ensures in
     let used = in_use h.places h.values p x h.paired c.requires e in
     read_entry h.places h.values p x h.paired c.requires e (λ r. _
-    ≡ r.line) (sym (line_said x.held _ x.slot used ∙ line_off x.held c.in_default.not-Line))
+    ≡ r.line) (sym (line_said x.held _ used ∙ line_off x.held c.in_default.not-Line))

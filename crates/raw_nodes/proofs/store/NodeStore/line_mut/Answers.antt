@@ -5,8 +5,8 @@ use Rattle.std.specs.Prelude.{is_some}
 use Rattle.raw_nodes.specs.Names.{records}
 use Rattle.raw_nodes.specs.declared.nodes.Node.{Node}
 use Rattle.raw_nodes.specs.Records.{line_in, record_in, with_line}
-use Rattle.raw_nodes.proofs.NameLaws.{listed_kept, whole_kept, chain_kept, count_kept, in_use, line_if, line_said}
-use Rattle.raw_nodes.proofs.NameLaws.{lined, name_place, name_within, no_line, numbers_kept, read_entry, rewritten}
+use Rattle.raw_nodes.proofs.NameLaws.{followed_kept, listed_kept, whole_kept, chain_kept, count_kept, in_use, line_if, line_said}
+use Rattle.raw_nodes.proofs.NameLaws.{lined, name_place, name_within, no_line, read_entry, rewritten}
 use Rattle.raw_nodes.proofs.NameLaws.{rooms_kept, same_node}
 use Rattle.raw_nodes.proofs.store.NodeStore.line_mut.Goals as goal
 
@@ -27,7 +27,7 @@ returns-then-not-is_line g c =
       record {
         writes_back = tt;
         value = read_entry h.places h.values p x h.paired c.requires e (λ r. None ≡ r.line)
-            (sym (line_said x.held _ x.slot used ∙ no_line x.held (sym c.if-not-is_line.ensures)));
+            (sym (line_said x.held _ used ∙ no_line x.held (sym c.if-not-is_line.ensures)));
       },
     )
 
@@ -55,11 +55,14 @@ invariant_of-self-lent g c = λ w.
             (
               count_kept h.places h.values p x _ h.paired c.requires e refl a.spares a.counted,
               (
-                numbers_kept h.places h.values p x _ h.paired c.requires e refl refl a.numbered,
+                followed_kept h.places h.values p x _ h.paired c.requires e refl refl a.followed,
                 (
-                  rooms_kept h.places h.values p x _ h.paired c.requires e refl _ a.room_count
-                      (sym (ap room_in c.line_mut.ensures.value)) a.roomed,
-                  (a.fitting, tt),
+                  a.apart,
+                  (
+                    rooms_kept h.places h.values p x _ h.paired c.requires e refl _ a.room_count
+                        (sym (ap room_in c.line_mut.ensures.value)) a.roomed,
+                    (a.fitting, tt),
+                  ),
                 ),
               ),
             ),
@@ -77,7 +80,7 @@ returns g c =
         refl,
         (λ w. record {
           records = rewritten h.places h.values p x _ h.paired c.requires e refl (λ r. with_line r w)
-              (lined x.held _ w _ x.slot c.line_mut.ensures.value);
+              (lined x.held _ w _ c.line_mut.ensures.value);
           spares = refl;
           rooms = refl;
         }),
@@ -86,6 +89,6 @@ returns g c =
       record {
         writes_back = tt;
         value = read_entry h.places h.values p x h.paired c.requires e (λ r. Some c.line_mut.result.now
-            ≡ r.line) (sym (ap (λ k. (record_in k (link_name x.parent) x.slot).line) c.line_mut.ensures.value));
+            ≡ r.line) (sym (ap (λ k. (record_in k (link_name x.parent)).line) c.line_mut.ensures.value));
       },
     )

@@ -7,7 +7,7 @@ use Rattle.raw_nodes.specs.Names.{records}
 use Rattle.raw_nodes.specs.Records.{blank, record_in, records_in}
 use Rattle.raw_nodes.specs.declared.names.NodePtr.{NodePtr}
 use Rattle.raw_nodes.specs.declared.nodes.Node.{Node}
-use Rattle.raw_nodes.proofs.ChainLaws.{chain_head, is_spare, listed_set, made_chain, made_count, numbered_set}
+use Rattle.raw_nodes.proofs.ChainLaws.{chain_head, followed_set, is_spare, listed_set, made_chain, made_count}
 use Rattle.raw_nodes.proofs.ChainLaws.{room_moved}
 use Rattle.raw_nodes.proofs.MapLaws.{len_made}
 use Rattle.raw_nodes.proofs.NameLaws.{entry_none, place_within, spare_room, written_records}
@@ -31,8 +31,7 @@ invariant_of-self g c =
     let w : Node = record {
       parent = c.none-node.result;
       before = x.before;
-      slot = 0;
-      number = x.number;
+      after = x.after;
       held = c.hold-held.result;
     } in
     let moved = room_moved h.values i x w within e in let none = spare_room x.held free in
@@ -47,7 +46,8 @@ invariant_of-self g c =
           (sym c.name-self.ensures)
           (made_chain h.places h.values a.spares p x w within e c.requires.spare head);
       counted = made_count h.values i x w a.spares within e free c.hold-held.ensures.used a.counted;
-      numbered = numbered_set h.values i x w e refl a.numbered;
+      followed = followed_set h.places h.values i x w e refl a.followed;
+      apart = a.apart;
       roomed = omega (arith, moved, none, held, left, roomed);
       fitting = omega (arith, fitting, capacity);
     }
@@ -63,8 +63,7 @@ returns-clause-fresh g c =
     let w : Node = record {
       parent = c.none-node.result;
       before = x.before;
-      slot = 0;
-      number = x.number;
+      after = x.after;
       held = c.hold-held.result;
     } in
     entry_none h.places h.values p x h.paired within e free
@@ -80,12 +79,11 @@ returns-clause-records g c =
     let w : Node = record {
       parent = c.none-node.result;
       before = x.before;
-      slot = 0;
-      number = x.number;
+      after = x.after;
       held = c.hold-held.result;
     } in
     written_records h.places h.values p w h.paired head.place c.hold-held.ensures.used
-    ∙ ap (finite.insert (records_in h.places h.values) p) (ap (λ o. record_in w.held o 0) c.none-node.ensures
+    ∙ ap (finite.insert (records_in h.places h.values) p) (ap (record_in w.held) c.none-node.ensures
     ∙ c.hold-held.ensures.says)
 
 pub returns-clause-total : goal.returns-clause-total
@@ -99,14 +97,13 @@ returns-clause-total g c =
     let w : Node = record {
       parent = c.none-node.result;
       before = x.before;
-      slot = 0;
-      number = x.number;
+      after = x.after;
       held = c.hold-held.result;
     } in
     let some = c.requires.spare in let less : (a.spares - 1) + 1 ≡ a.spares = omega (arith, some) in
     len_made (records_in h.places h.values) _ p (blank c.args.line) a.spares (a.spares - 1)
     (entry_none h.places h.values p x h.paired within e free)
     (written_records h.places h.values p w h.paired head.place c.hold-held.ensures.used
-    ∙ ap (finite.insert (records_in h.places h.values) p) (ap (λ o. record_in w.held o 0) c.none-node.ensures
+    ∙ ap (finite.insert (records_in h.places h.values) p) (ap (record_in w.held) c.none-node.ensures
     ∙ c.hold-held.ensures.says))
     less

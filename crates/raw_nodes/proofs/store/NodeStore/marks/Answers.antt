@@ -16,7 +16,7 @@ returns-in-Line-clause-value g c =
     let h = c.args.self.now.heap in let p = c.args.name in let x = c.node.result.now in let e = c.node.ensures in
     let used = in_use h.places h.values p x h.paired c.requires e in
     read_entry h.places h.values p x h.paired c.requires e (λ r. c.marks.result ≡ r.sum.marks) (c.marks.ensures
-    ∙ sym (ap (λ k. (record_in k (link_name x.parent) x.slot).sum.marks) c.in-Line.is))
+    ∙ sym (ap (λ k. (record_in k (link_name x.parent)).sum.marks) c.in-Line.is))
 
 pub returns-in-Inner-clause-value : goal.returns-in-Inner-clause-value
 unfolding records
@@ -25,7 +25,7 @@ returns-in-Inner-clause-value g c =
     let used = in_use h.places h.values p x h.paired c.requires e in
     read_entry h.places h.values p x h.paired c.requires e (λ r. c.marks-in-Inner.result
     ≡ r.sum.marks) (c.marks-in-Inner.ensures ∙ ap (λ z. z.sum.marks) c.deref.ensures
-    ∙ sym (ap (λ k. (record_in k (link_name x.parent) x.slot).sum.marks) c.in-Inner.is))
+    ∙ sym (ap (λ k. (record_in k (link_name x.parent)).sum.marks) c.in-Inner.is))
 
 pub returns-in-Spare-clause-value : goal.returns-in-Spare-clause-value
 unfolding records

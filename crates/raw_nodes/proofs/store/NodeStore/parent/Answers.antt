@@ -13,4 +13,4 @@ returns-clause-value g c =
     let h = c.args.self.now.heap in let p = c.args.name in let x = c.node.result.now in let e = c.node.ensures in
     let used = in_use h.places h.values p x h.paired c.requires e in
     read_entry h.places h.values p x h.paired c.requires e (λ r. c.name.result ≡ r.parent) (c.name.ensures
-    ∙ parent_said x.held _ x.slot used)
+    ∙ parent_said x.held _ used)

@@ -1,8 +1,10 @@
 use Rattle.std.proofs.Common.{ap, refl, ◌∙◌}
 use Rattle.raw_nodes.specs.Names.{records}
-use Rattle.raw_nodes.specs.Records.{record_in, with_parent}
-use Rattle.raw_nodes.proofs.NameLaws.{listed_kept, whole_kept, chain_kept, count_kept, in_use, name_place, numbers_kept}
-use Rattle.raw_nodes.proofs.NameLaws.{parented, rewritten, rooms_kept}
+use Rattle.raw_nodes.specs.Chain.{room_in}
+use Rattle.raw_nodes.specs.Links.{link_name}
+use Rattle.raw_nodes.specs.Records.{is_used, record_in, with_parent, with_slot}
+use Rattle.raw_nodes.proofs.NameLaws.{followed_kept, listed_kept, whole_kept, chain_kept, count_kept, in_use, name_place}
+use Rattle.raw_nodes.proofs.NameLaws.{parented, rewritten, room_slot, rooms_kept, used_slot}
 use Rattle.raw_nodes.proofs.store.NodeStore.set_parent.Goals as goal
 
 pub node_mut-node-requires : goal.node_mut-node-requires
@@ -16,14 +18,17 @@ invariant_of-self g c =
     let a = c.args.self.now in let h = a.heap in let p = c.args.name in let x = c.node_mut-node.result.now in
     let e = c.node_mut-node.ensures.value in
     let used = in_use h.places h.values p x h.paired c.requires e in
+    let kept = ap is_used c.set_slot.ensures ∙ used_slot x.held c.args.slot ∙ used in
     record {
-      listed = listed_kept h.places h.values p x _ h.paired c.requires e used a.last refl a.listed;
-      whole = whole_kept h.places h.values p x _ h.paired c.requires e used a.count a.whole;
+      listed = listed_kept h.places h.values p x _ h.paired c.requires e kept a.last refl a.listed;
+      whole = whole_kept h.places h.values p x _ h.paired c.requires e kept a.count a.whole;
       small = a.small;
-      chained = chain_kept h.places h.values p x _ h.paired c.requires e used a.spares a.first_spare a.chained;
-      counted = count_kept h.places h.values p x _ h.paired c.requires e used a.spares a.counted;
-      numbered = numbers_kept h.places h.values p x _ h.paired c.requires e used refl a.numbered;
-      roomed = rooms_kept h.places h.values p x _ h.paired c.requires e used _ a.room_count refl a.roomed;
+      chained = chain_kept h.places h.values p x _ h.paired c.requires e kept a.spares a.first_spare a.chained;
+      counted = count_kept h.places h.values p x _ h.paired c.requires e kept a.spares a.counted;
+      followed = followed_kept h.places h.values p x _ h.paired c.requires e kept refl a.followed;
+      apart = a.apart;
+      roomed = rooms_kept h.places h.values p x _ h.paired c.requires e kept _ a.room_count
+          (ap room_in c.set_slot.ensures ∙ room_slot x.held c.args.slot) a.roomed;
       fitting = a.fitting;
     }
 
@@ -33,6 +38,7 @@ returns-clause-records g c =
     let a = c.args.self.now in let h = a.heap in let p = c.args.name in let x = c.node_mut-node.result.now in
     let e = c.node_mut-node.ensures.value in
     let used = in_use h.places h.values p x h.paired c.requires e in
-    rewritten h.places h.values p x _ h.paired c.requires e used (λ r. with_parent r c.args.parent c.args.slot)
-    (ap (λ o. record_in x.held o c.args.slot) c.of-node.ensures
-    ∙ parented x.held _ c.args.parent x.slot c.args.slot used)
+    let kept = ap is_used c.set_slot.ensures ∙ used_slot x.held c.args.slot ∙ used in
+    rewritten h.places h.values p x _ h.paired c.requires e kept (λ r. with_parent r c.args.parent c.args.slot)
+    (ap (λ k. record_in k (link_name c.of-node.result)) c.set_slot.ensures
+    ∙ ap (record_in (with_slot x.held c.args.slot)) c.of-node.ensures ∙ parented x.held _ c.args.parent c.args.slot used)

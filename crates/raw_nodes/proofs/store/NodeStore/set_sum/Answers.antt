@@ -2,7 +2,7 @@ use Rattle.std.proofs.Common.{◌≡◌, ap, sym, refl}
 use Rattle.raw_nodes.specs.Chain.{room_in}
 use Rattle.raw_nodes.specs.Names.{records}
 use Rattle.raw_nodes.specs.Records.{with_sum}
-use Rattle.raw_nodes.proofs.NameLaws.{listed_kept, whole_kept, chain_kept, count_kept, in_use, name_place, numbers_kept}
+use Rattle.raw_nodes.proofs.NameLaws.{followed_kept, listed_kept, whole_kept, chain_kept, count_kept, in_use, name_place}
 use Rattle.raw_nodes.proofs.NameLaws.{rewritten, room_if, rooms_kept, told_entry, summed}
 use Rattle.raw_nodes.proofs.store.NodeStore.set_sum.Goals as goal
 
@@ -15,7 +15,7 @@ unfolding records
 branch_mut-requires g c =
     let h = c.args.self.now.heap in let p = c.args.name in let x = c.node_mut.result.now in
     let e = c.node_mut.ensures.value in
-    room_if x.held _ x.slot (in_use h.places h.values p x h.paired c.requires.0 e)
+    room_if x.held _ (in_use h.places h.values p x h.paired c.requires.0 e)
     (told_entry h.places h.values p x h.paired c.requires.0 e (λ r. r.line ≡ _) c.requires.1)
 
 pub invariant_of-self : goal.invariant_of-self
@@ -29,7 +29,8 @@ invariant_of-self g c =
       small = a.small;
       chained = chain_kept h.places h.values p x _ h.paired named e refl a.spares a.first_spare a.chained;
       counted = count_kept h.places h.values p x _ h.paired named e refl a.spares a.counted;
-      numbered = numbers_kept h.places h.values p x _ h.paired named e refl refl a.numbered;
+      followed = followed_kept h.places h.values p x _ h.paired named e refl refl a.followed;
+      apart = a.apart;
       roomed = rooms_kept h.places h.values p x _ h.paired named e refl _ a.room_count
           (sym (ap room_in c.branch_mut.ensures.value)) a.roomed;
       fitting = a.fitting;
@@ -41,5 +42,5 @@ returns-clause-records g c =
     let a = c.args.self.now in let h = a.heap in let p = c.args.name in let named = c.requires.0 in
     let x = c.node_mut.result.now in let e = c.node_mut.ensures.value in
     rewritten h.places h.values p x _ h.paired named e refl (λ r. with_sum r c.args.sum.now)
-    (summed x.held c.branch_mut.result.now c.set_sum.new.self _ x.slot c.args.sum.now c.branch_mut.ensures.value
+    (summed x.held c.branch_mut.result.now c.set_sum.new.self _ c.args.sum.now c.branch_mut.ensures.value
     c.set_sum.ensures)

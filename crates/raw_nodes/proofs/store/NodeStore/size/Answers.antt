@@ -21,7 +21,7 @@ returns-in-Line-clause-value g c =
     let used = in_use h.places h.values p x h.paired c.requires e in
     read_entry h.places h.values p x h.paired c.requires e (λ r. (1, c.len.result)
     ≡ (r.sum.lines, r.sum.characters)) ((λ i. (1, c.len.ensures i))
-    ∙ sym (ap (λ k. counts (record_in k (link_name x.parent) x.slot)) c.in-Line.is))
+    ∙ sym (ap (λ k. counts (record_in k (link_name x.parent))) c.in-Line.is))
 
 pub returns-in-Inner-clause-value : goal.returns-in-Inner-clause-value
 unfolding records
@@ -30,7 +30,7 @@ returns-in-Inner-clause-value g c =
     let used = in_use h.places h.values p x h.paired c.requires e in
     read_entry h.places h.values p x h.paired c.requires e (λ r. (c.in-Inner.branch.lines, c.in-Inner.branch.characters)
     ≡ (r.sum.lines, r.sum.characters)) ((λ i. (c.in-Inner.branch.lines_told i, c.in-Inner.branch.characters_told i))
-    ∙ sym (ap (λ k. counts (record_in k (link_name x.parent) x.slot)) c.in-Inner.is))
+    ∙ sym (ap (λ k. counts (record_in k (link_name x.parent))) c.in-Inner.is))
 
 pub returns-in-Spare-clause-value : goal.returns-in-Spare-clause-value
 unfolding records

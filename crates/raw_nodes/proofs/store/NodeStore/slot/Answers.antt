@@ -1,4 +1,4 @@
-use Rattle.std.proofs.Common.{◌≡◌}
+use Rattle.std.proofs.Common.{◌≡◌, ◌∙◌}
 use Rattle.raw_nodes.specs.Names.{records}
 use Rattle.raw_nodes.proofs.NameLaws.{in_use, name_place, read_entry, slot_said}
 use Rattle.raw_nodes.proofs.store.NodeStore.slot.Goals as goal
@@ -12,4 +12,5 @@ unfolding records
 returns g c =
     let h = c.args.self.now.heap in let p = c.args.name in let x = c.node.result.now in let e = c.node.ensures in
     let used = in_use h.places h.values p x h.paired c.requires e in
-    read_entry h.places h.values p x h.paired c.requires e (λ r. x.slot ≡ r.slot) (slot_said x.held _ x.slot used)
+    read_entry h.places h.values p x h.paired c.requires e (λ r. c.slot.result ≡ r.slot)
+    (c.slot.ensures ∙ slot_said x.held _ used)

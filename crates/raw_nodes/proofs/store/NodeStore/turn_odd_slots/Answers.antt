@@ -18,7 +18,7 @@ returns-in-Line-clause-value g c =
     let old = c.args.slots.now in
     read_entry h.places h.values p x h.paired c.requires e (λ r. c.turn_odd_slots.new.slots ≡ differing old r.sum.parity)
     (c.turn_odd_slots.ensures
-    ∙ sym (ap (λ k. differing old (record_in k (link_name x.parent) x.slot).sum.parity) c.in-Line.is))
+    ∙ sym (ap (λ k. differing old (record_in k (link_name x.parent)).sum.parity) c.in-Line.is))
 
 pub returns-in-Inner-clause-value : goal.returns-in-Inner-clause-value
 unfolding records
@@ -28,7 +28,7 @@ returns-in-Inner-clause-value g c =
     read_entry h.places h.values p x h.paired c.requires e
     (λ r. c.turn_odd_slots-in-Inner.new.slots ≡ differing old r.sum.parity)
     (c.turn_odd_slots-in-Inner.ensures ∙ ap (λ z. differing old z.sum.parity) c.deref.ensures
-    ∙ sym (ap (λ k. differing old (record_in k (link_name x.parent) x.slot).sum.parity) c.in-Inner.is))
+    ∙ sym (ap (λ k. differing old (record_in k (link_name x.parent)).sum.parity) c.in-Inner.is))
 
 pub returns-in-Spare-clause-value : goal.returns-in-Spare-clause-value
 unfolding records
