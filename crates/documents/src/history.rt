@@ -41,6 +41,7 @@ impl<S: TextStore> Document<S> {
         ensures { Does limits.now self.old self.new (Ok result) (edit_reset self.old) }
     {
         self.text.history.reset();
+        self.text.history.give_back_room();
         Answer::Empty
     }
 }

@@ -2,7 +2,7 @@ use mark_table::MarkTable;
 use std::alloc::Global;
 use std::process::Abort;
 use std::test::Fail;
-use text_model::{Limits, MarkNo};
+use text_model::{Gravity, Limits, MarkNo};
 
 // What is done to a table of marks, and what holds then.
 enum MarkStep {
@@ -27,6 +27,7 @@ fn is_last(marks: &MarkTable, name: &str, number: MarkNo) -> bool {
         && marks.number(len - 1) == number
         && marks.find(name) == Some(number)
         && marks.place(number) == Some(len - 1)
+        && marks.gravity(name) == Ok(Gravity::Right)
 }
 
 fn carry_out(
@@ -69,6 +70,46 @@ fn numbers_are_taken_again(rt: HostRuntime) -> Result<(), Fail> {
     let limits = Limits::new(10, 10, 10, 10, 10).ok_or("small numbers")?;
     let mut marks = MarkTable::new(rt.alloc(), &limits)?;
     for step in &STEPS {
+        carry_out(&rt, rt.alloc(), &mut marks, step)?;
+    }
+    Ok(())
+}
+
+fn name_of(alloc: Global, number: u16) -> Result<String, Fail> {
+    Ok(format!(in alloc; "mark {number}")?)
+}
+
+fn create_many(rt: &impl Abort, alloc: Global, marks: &mut MarkTable) -> Result<(), Fail> {
+    for number in 0..MANY {
+        creates(rt, alloc, marks, name_of(alloc, number)?.as_str())?;
+    }
+    Ok(())
+}
+
+fn unset_many(alloc: Global, marks: &mut MarkTable) -> Result<(), Fail> {
+    for number in 0..MANY {
+        marks.unset(name_of(alloc, number)?.as_str());
+    }
+    Ok(())
+}
+
+const MANY: u16 = 1_000;
+
+static AFTER_MANY: [MarkStep; 5] = [
+    MarkStep::Create("a"),
+    MarkStep::HasNumber("a", 128),
+    MarkStep::Create("b"),
+    MarkStep::HasNumber("b", 129),
+    MarkStep::IsNoNumber(130),
+];
+
+#[test]
+fn many_marks_come_and_go(rt: HostRuntime) -> Result<(), Fail> {
+    let limits = Limits::new(10, 10, MANY, 10, 10).ok_or("numbers in their bounds")?;
+    let mut marks = MarkTable::new(rt.alloc(), &limits)?;
+    create_many(&rt, rt.alloc(), &mut marks)?;
+    unset_many(rt.alloc(), &mut marks)?;
+    for step in &AFTER_MANY {
         carry_out(&rt, rt.alloc(), &mut marks, step)?;
     }
     Ok(())

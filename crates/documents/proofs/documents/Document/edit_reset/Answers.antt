@@ -1,3 +1,4 @@
+use Rattle.std.proofs.Common.{◌∙◌}
 use Rattle.documents.specs.Documents.{parts_of}
 use Rattle.documents.specs.Kept.{Stands}
 use Rattle.documents.proofs.JournalLaws.{leaves-reset}
@@ -9,8 +10,10 @@ invariant_of-self g c =
     let parts = parts_of old.seats old.tags old.marks old.settings old.disabled.items old.text.anchors.items old.text.history
     (g.S.TextStore.content old.text.store) in
     let stands : Stands parts c.args.self.now = record { sound = c.self.invariant; is = c.self.view_is } in
-    (leaves-reset c.args.limits.now parts old.text.history c.reset.new.self c.args.self.now stands c.reset.ensures.history
-    c.reset.ensures.modified c.reset.ensures.most).sound
+    (leaves-reset c.args.limits.now parts old.text.history c.give_back_room.new.self c.args.self.now stands
+    (c.give_back_room.ensures.history ∙ c.reset.ensures.history)
+    (c.give_back_room.ensures.modified ∙ c.reset.ensures.modified)
+    (c.give_back_room.ensures.most ∙ c.reset.ensures.most)).sound
 
 pub returns : goal.returns
 returns g c =
@@ -18,5 +21,7 @@ returns g c =
     let parts = parts_of old.seats old.tags old.marks old.settings old.disabled.items old.text.anchors.items old.text.history
     (g.S.TextStore.content old.text.store) in
     let stands : Stands parts c.args.self.now = record { sound = c.self.invariant; is = c.self.view_is } in
-    (leaves-reset c.args.limits.now parts old.text.history c.reset.new.self c.args.self.now stands c.reset.ensures.history
-    c.reset.ensures.modified c.reset.ensures.most).does
+    (leaves-reset c.args.limits.now parts old.text.history c.give_back_room.new.self c.args.self.now stands
+    (c.give_back_room.ensures.history ∙ c.reset.ensures.history)
+    (c.give_back_room.ensures.modified ∙ c.reset.ensures.modified)
+    (c.give_back_room.ensures.most ∙ c.reset.ensures.most)).does
