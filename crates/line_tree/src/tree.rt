@@ -54,7 +54,7 @@ impl<C: Ticks> Model for LineTree<C> {
 }
 
 impl<C: Ticks> LineTree<C> {
-    ghost use Rattle.std.specs.Prelude.{◌≡◌, ℕ, ◌+◌, ◌-◌, ◌*◌, ◌^◌, ◌≤◌, ◌<◌, OnOk, IfOk, IfSome};
+    ghost use Rattle.std.specs.Prelude.{◌≡◌, ℕ, ◌+◌, ◌-◌, ◌*◌, ◌/◌, ◌^◌, ◌≤◌, ◌<◌, OnOk, IfOk, IfSome};
     ghost use Rattle.std.specs.Prelude.{[], ◌∷◌, Some, length, option_map, slice_get, take};
     ghost use Rattle.std.specs.List.{insert, remove};
     ghost use Rattle.toggle_sums.specs.Counts.{plus};
@@ -121,6 +121,49 @@ impl<C: Ticks> LineTree<C> {
         }
         self.store.reserve(rooms)?;
         self.store.reserve_lines(rooms + count)
+    }
+
+    /// Gives back spares and rooms that aren't needed: at most a quarter of the lines and 64 spares stay, and a
+    /// sixteenth and 16 rooms.
+    pub fn free_spares(&mut self)
+        ensures lines { self.new.lines ≡ self.old.lines }
+        ensures height { self.new.height ≡ self.old.height }
+        ensures spares { self.new.spares ≤ length self.new.lines / 4 + 64 }
+        ensures rooms { self.new.rooms ≤ length self.new.lines / 16 + 16 }
+    {
+        self.give_back_spares();
+        self.give_back_rooms();
+    }
+
+    /// Gives back spares where there are more than a quarter of the lines and 64, as after many lines left. Far fewer
+    /// stay then, so that edits by which lines come and go don't give back and reserve by turns.
+    fn give_back_spares(&mut self)
+        ensures lines { self.new.lines ≡ self.old.lines }
+        ensures height { self.new.height ≡ self.old.height }
+        ensures spares { self.new.spares ≤ length self.new.lines / 4 + 64 }
+    {
+        if self.store.spares() <= self.count / 4 + 64 {
+            return;
+        }
+        let spares = self.count / 64 + 16;
+        let rooms = self.count / 256 + 8;
+        self.store.free_spares(spares, rooms);
+    }
+
+    /// Gives back rooms where there are more than a sixteenth of the lines and 16. So many stay: whoever puts in many
+    /// lines piece by piece reserves for each piece far more than it takes.
+    fn give_back_rooms(&mut self)
+        ensures lines { self.new.lines ≡ self.old.lines }
+        ensures height { self.new.height ≡ self.old.height }
+        ensures spares { self.new.spares ≡ self.old.spares }
+        ensures rooms { self.new.rooms ≤ length self.new.lines / 16 + 16 }
+    {
+        let rooms = self.count / 16 + 16;
+        if self.store.rooms() <= rooms {
+            return;
+        }
+        let spares = self.store.spares();
+        self.store.free_spares(spares, rooms);
     }
 
     /// How many nodes and spares there are at most, once so many more are reserved, if that can be counted.

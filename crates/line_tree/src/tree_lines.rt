@@ -163,6 +163,10 @@ impl LineList for TreeLines {
         grow(&mut self.names, numbers)
     }
 
+    fn free_room(&mut self) {
+        self.tree.free_spares();
+    }
+
     fn take_mark(&mut self, number: MarkNo) {
         if let Some(name) = name_of(&self.names, number) {
             self.tree.take_mark_named(name, number, &mut Steps::new());

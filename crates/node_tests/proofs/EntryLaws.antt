@@ -31,3 +31,7 @@ inner n p r there none = (named n p r there, subst (λ o. IfSome o (λ (r : Reco
 
 pub at : (n : Records) (p : NodePtr) (r : Record) (P : Record → Type 0) → get n p ≡ Some r → P r → IfSome (get n p) P
 at n p r P there holds = subst (λ o. IfSome o P) (sym there) holds
+
+-- where no record changed
+pub still-same : (m n : Records) (p : NodePtr) → n ≡ m → IsSome (get m p) → IsSome (get n p)
+still-same m n p is s = subst (λ (k : Records). IsSome (get k p)) (sym is) s

@@ -2,8 +2,9 @@
 --     number_at           where the place of a number stands: no place stands twice
 --     chain_without       the spares after one that is none of them has left
 --     before_number       a link back leads to the place before, and one that is none stands at the row's beginning
---     behind_less, listed_less     the links after a node has left, whose neighbours were linked to each other
---     content_ ..         what doesn't follow the links in the row
+--     relinked_less, listed_less   the links once a node has left whose neighbours were linked to each other
+--     content_ .., same_ ..        what doesn't follow the links in the row
+--     left_ ..            all that is kept of the nodes, once such a node has left
 use Rattle.std.proofs.Common.{◌≡◌, ℕ, ◌<◌, ◌≤◌, ◌+◌, Bool, true, false, cond, List, [], ◌∷◌, ◌++◌, length, get_or, set}
 use Rattle.std.proofs.Common.{map, refl, sym, ap, ◌∙◌, subst, arith}
 use Prim.Native.Nat.{zero, suc, ◌-◌}

@@ -5,8 +5,8 @@ ghost use Rattle.raw_nodes.specs.Chain.{rooms_for};
 ghost use Rattle.std.specs.FinMap as finite;
 ghost use Rattle.std.specs.FinSet as set;
 ghost use Rattle.std.specs.Prelude.{◌≡◌, ◌≢◌, ◌+◌, ◌^◌, ◌<◌, ◌≤◌, [], ◌∷◌, ◌++◌, IfSome, None, Some, OnErr, OnOk};
-ghost use Rattle.std.specs.Prelude.{count_by, false, is_some, length, map, max, min, option_map, slice_index_or, sum_by};
-ghost use Rattle.std.specs.Prelude.{true, vec_capacity};
+ghost use Rattle.std.specs.Prelude.{count_by, false, is_some, length, map, max, min, option_map, slice_index_or};
+ghost use Rattle.std.specs.Prelude.{sum_by, true, vec_capacity};
 
 use crate::heap::Heap;
 use crate::names::{Link, NodePtr};
@@ -432,6 +432,13 @@ impl<C: Ticks> NodeStore<C> {
         ensures { result ≡ spares self.now }
     {
         self.spares as usize
+    }
+
+    /// How many rooms there are beside them.
+    pub fn rooms(&self) -> usize
+        ensures { result ≡ rooms self.now }
+    {
+        self.rooms.len()
     }
 
     /// One more spare.
