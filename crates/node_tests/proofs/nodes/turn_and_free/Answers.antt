@@ -19,7 +19,7 @@ pub give_back-requires-3 : goal.give_back-requires-3
 give_back-requires-3 c =
     let first = named-made _ _ _ _ c.make-first.ensures.records in
     let later = still-made _ _ _ _ _ c.make-second.ensures.records first in
-    still-given _ _ _ _ c.give_back-2.ensures.records (fresh-other _ _ _ c.make-third.ensures.fresh later)
+    still-given _ _ _ _ c.give_back-3.ensures.records (fresh-other _ _ _ c.make-third.ensures.fresh later)
     (still-same _ _ _ c.free_spares.ensures.records
     (still-given _ _ _ _ c.give_back.ensures.records (fresh-other _ _ _ c.make-second.ensures.fresh first)
     (still-made _ _ _ _ _ c.make-third.ensures.records later)))
