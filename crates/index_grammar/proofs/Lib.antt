@@ -1,3 +1,4 @@
+pub mod BoundLaws
 pub mod CharLaws
 pub mod FindLaws
 pub mod FrontLaws

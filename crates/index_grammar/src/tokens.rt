@@ -1,7 +1,7 @@
 ghost use Rattle.std.specs.Prelude.{◌≡◌, ◌<◌, ◌≤◌, ◌+◌, not, drop, length, position, IfSome};
 ghost use Rattle.std.specs.List.{prefix_len};
 ghost use Rattle.std.specs.Char.{is_ascii_digit};
-ghost use Rattle.index_grammar.specs.Characters.{is_blank, is_sign, is_break};
+ghost use Rattle.index_grammar.specs.Characters.{is_blank, is_sign, is_break, closes};
 ghost use Rattle.index_grammar.specs.Grammar.{tokens_of};
 ghost use Rattle.index_grammar.specs.Pieces.{before_rest, piece_len};
 
@@ -33,6 +33,16 @@ pub(crate) fn is_break(byte: u8) -> bool
     ensures { result ≡ is_break byte }
 {
     is_blank(byte) || is_sign(byte)
+}
+
+/// Whether what stands before a text is closed: the text is empty, or begins with a blank, `+` or `-`.
+pub(crate) fn closes(text: &[u8]) -> bool
+    ensures { result ≡ closes text.now }
+{
+    match text.first() {
+        Some(byte) => is_break(*byte),
+        None => true,
+    }
 }
 
 /// Where the first byte stands that is no blank.

@@ -28,7 +28,7 @@ loop-base-preserved c =
     let breaks = c.in-Some-last_break.ensures {u = tt} in
     step-front (named c.args.form c.args.names.now) c.args.word.now c.loop-base.end c.in-Some-last_break.at c.utf8.word
     c.loop-base.invariant
-    (ap (λ text. named c.args.form c.args.names.now (chars text)) (sym front) ∙ sym c.find.ensures.value
+    (ap (λ text. named c.args.form c.args.names.now (chars text)) (sym front) ∙ sym c.find_within.ensures.value
     ∙ c.in_default.is)
     (omega (arith, breaks.0, ap length bytes))
     (ap (λ text. is_break (get_or text c.in-Some-last_break.at 0)) (sym bytes) ∙ breaks.1)
@@ -40,6 +40,6 @@ returns-in-None-clause-value c =
     ∙ range-front c.args.word.now c.loop-base.end in
     let bytes : c.as_bytes.result.now ≡ take c.loop-base.end c.args.word.now = c.as_bytes.ensures.value ∙ front in
     no-front (named c.args.form c.args.names.now) c.args.word.now c.loop-base.end c.utf8.word c.loop-base.invariant
-    (ap (λ text. named c.args.form c.args.names.now (chars text)) (sym front) ∙ sym c.find.ensures.value
+    (ap (λ text. named c.args.form c.args.names.now (chars text)) (sym front) ∙ sym c.find_within.ensures.value
     ∙ c.in_default.is)
     (ap (list_all inside) (sym bytes) ∙ c.in-None.ensures {u = tt})
