@@ -18,7 +18,7 @@ invariant_of-self g c =
     let a = c.args.self.now in let h = a.heap in let p = c.args.name in let x = c.node_mut-node.result.now in
     let e = c.node_mut-node.ensures.value in
     let used = in_use h.places h.values p x h.paired c.requires e in
-    let kept = ap is_used c.set_slot.ensures ∙ used_slot x.held c.args.slot ∙ used in
+    let kept = ap is_used c.set_slot.ensures ∙ used_slot x.held _ ∙ used in
     record {
       listed = listed_kept h.places h.values p x _ h.paired c.requires e kept a.last refl a.listed;
       whole = whole_kept h.places h.values p x _ h.paired c.requires e kept a.count a.whole;
@@ -28,7 +28,7 @@ invariant_of-self g c =
       followed = followed_kept h.places h.values p x _ h.paired c.requires e kept refl a.followed;
       apart = a.apart;
       roomed = rooms_kept h.places h.values p x _ h.paired c.requires e kept _ a.room_count
-          (ap room_in c.set_slot.ensures ∙ room_slot x.held c.args.slot) a.roomed;
+          (ap room_in c.set_slot.ensures ∙ room_slot x.held _) a.roomed;
       fitting = a.fitting;
     }
 
@@ -38,7 +38,7 @@ returns-clause-records g c =
     let a = c.args.self.now in let h = a.heap in let p = c.args.name in let x = c.node_mut-node.result.now in
     let e = c.node_mut-node.ensures.value in
     let used = in_use h.places h.values p x h.paired c.requires e in
-    let kept = ap is_used c.set_slot.ensures ∙ used_slot x.held c.args.slot ∙ used in
+    let kept = ap is_used c.set_slot.ensures ∙ used_slot x.held _ ∙ used in
     rewritten h.places h.values p x _ h.paired c.requires e kept (λ r. with_parent r c.args.parent c.args.slot)
     (ap (λ k. record_in k (link_name c.of-node.result)) c.set_slot.ensures
     ∙ ap (record_in (with_slot x.held c.args.slot)) c.of-node.ensures ∙ parented x.held _ c.args.parent c.args.slot used)
