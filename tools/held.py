@@ -24,6 +24,7 @@ MOST_PER_BYTE = 3
 MOST_PER_LINE = 300
 # How many lines a text of many lines has, and what stands in each.
 LINES = 4_000
+MANY_LINES = 10_000
 WORDS = "some words of a line"
 # A text of few long lines: how many, and how long the longest of them is at any time.
 LONG_LINES = 100
@@ -162,7 +163,7 @@ KINDS = [
         for_lines(f".t insert {{line}}.5 {LONG}", ".t delete {line}.5 {line}.end"),
     ),
     Kind("toggles that go", [LETTERS] * 20, toggled, runs=(1, 2)),
-    Kind("marks of a line that are unset", [WORDS] * 100, marked, runs=(2, 20)),
+    Kind("marks of a line that are unset", [WORDS] * LINES, marked, runs=(2, 20)),
     Kind(
         "lines joined and split again", [WORDS] * 1_000,
         rounds(*[".t delete 1.end"] * 999, *[f".t insert 1.{len(WORDS) * line} {{\n}}" for line in range(999, 0, -1)]),
@@ -181,15 +182,16 @@ KINDS = [
         "refused commands of a megabyte", [WORDS] * 100,
         rounds(f".t insert nowhere {{{MEGABYTE}}}", f".t mark gravity {{{MEGABYTE}}}", f"{{{MEGABYTE}}}"), runs=(1, 20),
     ),
-    Kind("documents that are destroyed", [WORDS] * 100, documents, runs=(10, 1_000)),
+    Kind("documents that are destroyed", [WORDS] * LINES, documents, runs=(10, 1_000)),
     Kind(
         "a text deleted and brought back", [WORDS] * LINES,
         rounds(".t configure -undo 1", ".t delete 1.0 end", ".t edit undo", ".t edit reset", ".t configure -undo 0"),
         runs=(1, 10),
     ),
-    Kind("edits that can't be undone any more", [WORDS] * 100, undoable, runs=(100, 10_000)),
-    Kind("marks that are unset", [WORDS] * 100, named(".t mark set {name} 1.0", ".t mark unset"), runs=(30, 3_000)),
-    Kind("tags that are deleted", [WORDS] * 100, named(".t tag add {name} 1.0", ".t tag delete"), runs=(30, 900)),
+    Kind("edits that can't be undone any more", [WORDS] * LINES, undoable, runs=(100, 10_000)),
+    # A table of lines by the numbers of marks stays: 16 bytes for each number that a mark had.
+    Kind("marks that are unset", [WORDS] * MANY_LINES, named(".t mark set {name} 1.0", ".t mark unset"), runs=(30, 3_000)),
+    Kind("tags that are deleted", [WORDS] * LINES, named(".t tag add {name} 1.0", ".t tag delete"), runs=(30, 900)),
 ]
 
 

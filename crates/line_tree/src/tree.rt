@@ -123,13 +123,13 @@ impl<C: Ticks> LineTree<C> {
         self.store.reserve_lines(rooms + count)
     }
 
-    /// Gives back spares and rooms that aren't needed: at most a quarter of the lines and 64 spares stay, and a
-    /// sixteenth and 16 rooms.
+    /// Gives back spares and rooms that aren't needed: at most a quarter of the lines and 64 spares stay, and a fifth
+    /// and 32 rooms.
     pub fn free_spares(&mut self)
         ensures lines { self.new.lines ≡ self.old.lines }
         ensures height { self.new.height ≡ self.old.height }
         ensures spares { self.new.spares ≤ length self.new.lines / 4 + 64 }
-        ensures rooms { self.new.rooms ≤ length self.new.lines / 16 + 16 }
+        ensures rooms { self.new.rooms ≤ length self.new.lines / 5 + 32 }
     {
         self.give_back_spares();
         self.give_back_rooms();
@@ -150,15 +150,15 @@ impl<C: Ticks> LineTree<C> {
         self.store.free_spares(spares, rooms);
     }
 
-    /// Gives back rooms where there are more than a sixteenth of the lines and 16. So many stay: whoever puts in many
-    /// lines piece by piece reserves for each piece far more than it takes.
+    /// Gives back rooms where there are more than a fifth of the lines and 32. So many stay, which is what `reserve_for`
+    /// asks for at most: whoever puts in many lines piece by piece reserves for each piece far more than it takes.
     fn give_back_rooms(&mut self)
         ensures lines { self.new.lines ≡ self.old.lines }
         ensures height { self.new.height ≡ self.old.height }
         ensures spares { self.new.spares ≡ self.old.spares }
-        ensures rooms { self.new.rooms ≤ length self.new.lines / 16 + 16 }
+        ensures rooms { self.new.rooms ≤ length self.new.lines / 5 + 32 }
     {
-        let rooms = self.count / 16 + 16;
+        let rooms = self.count / 5 + 32;
         if self.store.rooms() <= rooms {
             return;
         }
