@@ -57,7 +57,7 @@ one-at : (slot : ℕ) (on : Bool) (span : Span) (cells : List Cell) (k : ℕ) (d
 one-at slot on span cells k d fits = elim (cases_lt k span.from) [
   | inl before ↦
       get_or-changed_before (with_slot slot on) span.from span.to cells k d
-          (let a = fits.ordered in let b = fits.within in omega (arith, a, b)) before
+      (let a = fits.ordered in let b = fits.within in omega (arith, a, b)) before
       ∙ sym (ap (λ here. painted slot on here (get_or cells k d)) (inside-before span k before))
   | inr above ↦ elim (cases_lt k span.to) [
     | inl below ↦
@@ -65,7 +65,7 @@ one-at slot on span cells k d fits = elim (cases_lt k span.from) [
         ∙ sym (ap (λ here. painted slot on here (get_or cells k d)) (inside-is span k (omega (arith, above)) below))
     | inr behind ↦
         get_or-changed_behind (with_slot slot on) span.from span.to cells k d fits.ordered fits.within
-            (omega (arith, behind))
+        (omega (arith, behind))
         ∙ sym (ap (λ here. painted slot on here (get_or cells k d)) (inside-behind span k (omega (arith, behind))))
   ]
 ]

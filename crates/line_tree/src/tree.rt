@@ -150,8 +150,8 @@ impl<C: Ticks> LineTree<C> {
         self.store.free_spares(spares, rooms);
     }
 
-    /// Gives back rooms where there are more than a fifth of the lines and 32. So many stay, which is what `reserve_for`
-    /// asks for at most: whoever puts in many lines piece by piece reserves for each piece far more than it takes.
+    /// Gives back rooms where there are more than a fifth of the lines and 32. So many stay, the most that `reserve_for`
+    /// asks for: whoever puts in many lines piece by piece reserves for each piece far more than it takes.
     fn give_back_rooms(&mut self)
         ensures lines { self.new.lines ≡ self.old.lines }
         ensures height { self.new.height ≡ self.old.height }

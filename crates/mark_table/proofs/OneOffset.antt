@@ -147,10 +147,14 @@ none-behind at numbers from len place count past none = λ other low stands.
 pub first-here : (at : List MarkNo) (numbers : List ℕ) (from place : ℕ) → from ≤ place →
     ((other : ℕ) → from ≤ other → other < place → ¬ IsAt at numbers other) → IsAt at numbers place
     → IsFirstAt at numbers from (Some place)
-first-here at numbers from place low none here = (low, here, λ other above stands. elim (cases_lt other place) [
-  | inl below ↦ absurd (none other above below stands)
-  | inr behind ↦ behind
-])
+first-here at numbers from place low none here = (
+  low,
+  here,
+  λ other above stands. elim (cases_lt other place) [
+    | inl below ↦ absurd (none other above below stands)
+    | inr behind ↦ behind
+  ],
+)
 
 pub last-here : (at : List MarkNo) (numbers : List ℕ) (near place upto : ℕ) → near ≡ place + 1 → near ≤ upto →
     ((other : ℕ) → near ≤ other → other < upto → ¬ IsAt at numbers other) → IsAt at numbers place

@@ -23,8 +23,10 @@ returns c =
     (runs-fit c.args.len found
     (c.in_ok-runs.ensures.apart c.args.len (λ k d within. (c.requires.spans k d within).within))) in
     IfOk-weaker c.span_steps-2.result _ _ (λ steps made content long.
-    let makes = made content long in
-    (makes.0, makes.1 ∙ tagged-same slot on runs spans content
-    (subst (λ n. All (SpanFits n) runs) (sym long) fit) (subst (λ n. All (SpanFits n) spans) (sym long) c.requires.spans)
-    (λ offset. ap (λ all. in_spans all offset) is ∙ in-reversed found offset ∙ c.in_ok-runs.ensures.covers offset)))
+    let makes = made content long in (
+      makes.0,
+      makes.1 ∙ tagged-same slot on runs spans content
+          (subst (λ n. All (SpanFits n) runs) (sym long) fit) (subst (λ n. All (SpanFits n) spans) (sym long) c.requires.spans)
+          (λ offset. ap (λ all. in_spans all offset) is ∙ in-reversed found offset ∙ c.in_ok-runs.ensures.covers offset),
+    ))
     c.span_steps-2.ensures
