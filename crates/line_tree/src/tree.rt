@@ -150,7 +150,7 @@ impl<C: Ticks> LineTree<C> {
         self.store.free_spares(spares, rooms);
     }
 
-    /// Gives back rooms where there are more than a fifth of the lines and 32. So many stay, the most that `reserve_for`
+    /// Gives back rooms where there are more than a fifth of the lines and 32. So many stay, the most that an insertion
     /// asks for: whoever puts in many lines piece by piece reserves for each piece far more than it takes.
     fn give_back_rooms(&mut self)
         ensures lines { self.new.lines ≡ self.old.lines }
