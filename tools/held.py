@@ -34,8 +34,8 @@ MEGABYTE = "some letters and spaces, " * 40_000
 
 
 class Kind(NamedTuple):
-    """What is weighed: its name, the lines of its text, the commands of a run of a given length, what was done to each line
-    before that, and the lengths of the two runs; without these, they go through a tenth of the lines and through all."""
+    """What is weighed: its name, the lines of its text, the commands of a run of a given length, what was done to each
+    line before that, and the lengths of the two runs: where none are given, a tenth of the lines and all."""
 
     name: str
     lines: list
@@ -116,6 +116,11 @@ def marked(count):
     return [command for line in lines for command in line + [unset]]
 
 
+def empty_documents(count):
+    """So many documents, which stay."""
+    return [f"text .d{number}" for number in range(count)]
+
+
 def documents(count):
     """Documents are made, written to and destroyed."""
     forms = ("text .d{number}", ".d{number} insert 1.0 words", "destroy .d{number}")
@@ -140,8 +145,8 @@ KINDS = [
     Kind(
         "a tag that is on already", [WORDS] * LINES,
         for_lines(
-            ".t tag add a {line}.0 {line}.end", ".t tag add a {line}.2 {line}.end", ".t tag remove a {line}.2 {line}.end",
-            ".t tag remove a {line}.0 {line}.end",
+            ".t tag add a {line}.0 {line}.end", ".t tag add a {line}.2 {line}.end",
+            ".t tag remove a {line}.2 {line}.end", ".t tag remove a {line}.0 {line}.end",
         ),
     ),
     Kind(
@@ -182,6 +187,8 @@ KINDS = [
         "refused commands of a megabyte", [WORDS] * 100,
         rounds(f".t insert nowhere {{{MEGABYTE}}}", f".t mark gravity {{{MEGABYTE}}}", f"{{{MEGABYTE}}}"), runs=(1, 20),
     ),
+    # What a document holds without a text, and without marks.
+    Kind("documents without a text", [WORDS], empty_documents, runs=(60, 60)),
     Kind("documents that are destroyed", [WORDS] * LINES, documents, runs=(10, 1_000)),
     Kind(
         "a text deleted and brought back", [WORDS] * LINES,
@@ -190,7 +197,9 @@ KINDS = [
     ),
     Kind("edits that can't be undone any more", [WORDS] * LINES, undoable, runs=(100, 10_000)),
     # A table of lines by the numbers of marks stays: 16 bytes for each number that a mark had.
-    Kind("marks that are unset", [WORDS] * MANY_LINES, named(".t mark set {name} 1.0", ".t mark unset"), runs=(30, 3_000)),
+    Kind(
+        "marks that are unset", [WORDS] * MANY_LINES, named(".t mark set {name} 1.0", ".t mark unset"), runs=(30, 3_000)
+    ),
     Kind("tags that are deleted", [WORDS] * LINES, named(".t tag add {name} 1.0", ".t tag delete"), runs=(30, 900)),
 ]
 
@@ -207,7 +216,9 @@ def weigh(options, text, folder):
     """The bytes in use when the program reads the end of a script."""
     report = os.path.join(folder, "weight.txt")
     environment = dict(os.environ, LD_PRELOAD=os.path.abspath(options.shim), WEIGHT_REPORT=report)
-    ended = subprocess.run([options.program], input=text.encode(), env=environment, stdout=subprocess.DEVNULL, check=False)
+    ended = subprocess.run(
+        [options.program], input=text.encode(), env=environment, stdout=subprocess.DEVNULL, check=False
+    )
     # 1 says that a command was refused.
     if ended.returncode not in (0, 1):
         sys.exit(f"the program ended by {ended.returncode}")
@@ -221,7 +232,8 @@ def checks(kind, options, folder):
     little, much = (weigh(options, script(kind, length), folder) for length in runs)
     text = sum(len(line) + 1 for line in kind.lines)
     bound = MOST_PER_BYTE * text + MOST_PER_LINE * len(kind.lines) + FIXED_BYTES
-    yield much <= MOST_GROWTH * little, f"{kind.name}: {much:,} bytes are held after the longer run, {little:,} after the other"
+    held = f"{much:,} bytes are held after the longer run, {little:,} after the other"
+    yield much <= MOST_GROWTH * little, f"{kind.name}: {held}"
     yield much <= bound, f"{kind.name}: {much:,} bytes are held, at most {bound:,}"
 
 
