@@ -13,6 +13,8 @@
 #              a command through the library, into docs/bench_library.txt
 # make versus  the program beside real Tk on the workloads of tools/workloads.py, into docs/performance.md; it needs Tk
 # make counts  the instructions of a command on texts of two sizes, into docs/bench_counts.txt; it needs valgrind
+# make orders  by which power of each of its sizes a command's cost grows, into docs/bench_orders.txt; it needs valgrind,
+#              and shows real Tk's beside it where that is installed
 # make gains   what the program takes beside docs/gains.txt, which it may not pass by more than a twentieth; UPDATE=1
 #              writes that file. It needs valgrind
 
@@ -113,6 +115,9 @@ gains: $(SCRIPT_BENCH) $(PROGRAM) $(WEIGH)
 	python3 tools/gains.py --bench $(SCRIPT_BENCH) --program $(PROGRAM) --shim $(WEIGH) --file docs/gains.txt \
 	  $(if $(UPDATE),--update)
 
+orders: $(PROGRAM)
+	python3 tools/orders.py --program $(PROGRAM) --out docs/bench_orders.txt
+
 counts: $(PROGRAM)
 	python3 tools/bench_counts.py --program $(PROGRAM) --out docs/bench_counts.txt
 
@@ -123,4 +128,4 @@ tk: $(PROGRAM)
 	python3 tools/tk.py --program $(PROGRAM)
 	python3 tools/tk.py --program $(PROGRAM) --scripts $(SEEDS) --first $(FIRST)
 
-.PHONY: try run build lib examples test fuzz fuzz-library bench versus counts gains gate tk
+.PHONY: try run build lib examples test fuzz fuzz-library bench versus orders counts gains gate tk
