@@ -24,8 +24,9 @@ from typing import NamedTuple
 import tk_orders
 
 MOST_ORDER = 1.15
-# Where a command takes less than this, what it takes beside the work is more than the work.
-LEAST_INSTRUCTIONS = 20_000
+# A command that takes less than this at the greatest size doesn't grow by it: some 20 instructions for each of its
+# thousands would be more. What swings there are the allocator's lists.
+LEAST_INSTRUCTIONS = 400_000
 COLLECTED = re.compile(r"Collected : (\d+)")
 WORDS = "some words of a line"
 FOUR = (1, 2, 4, 8)
@@ -340,7 +341,7 @@ def main():
         found = list(pool.map(lambda row: measure(row, options, folder), rows))
     orders = [order_of(costs) for costs in found]
     tk = tk_orders.orders(rows, FOUR)
-    form = "{:<52}{:<32}{:>7}{:>12}{:>12}{:>8}{:>8}"
+    form = "{:<52}{:<32}{:>7}{:>14}{:>14}{:>8}{:>8}"
     text = [form.format("form", "size", "least", "at least", "at most", "order", "Tk")]
     failed = 0
     for row, costs, order, theirs in zip(rows, found, orders, tk):
