@@ -83,6 +83,7 @@ def long_front(count):
 
 # Toggles at eight places, which go with what is behind the words of a line; the tag that it keeps has two.
 TAGGED_END = " ".join(["x a y {{}}"] * 4)
+MANY_TAGGED = " ".join(["x a y {{}}"] * 100)
 
 
 def rounds(*commands):
@@ -160,6 +161,11 @@ KINDS = [
             f".t insert {{line}}.end {TAGGED_END}", f".t delete {{line}}.{len(WORDS)} {{line}}.end",
             ".t tag remove a {line}.0 {line}.end",
         ),
+        before=(".t tag add k {line}.0 {line}.4",),
+    ),
+    Kind(
+        "two of two hundred toggles are kept", [WORDS] * (LINES // 10),
+        for_lines(f".t insert {{line}}.end {MANY_TAGGED}", f".t delete {{line}}.{len(WORDS)} {{line}}.end"),
         before=(".t tag add k {line}.0 {line}.4",),
     ),
     Kind("newlines in front of a long line", ["x" * 1_000_000], long_front, runs=(20, 200)),

@@ -3,11 +3,11 @@
 
     python3 tools/orders.py --program PATH --out FILE [--only WORD] [--jobs N]
 
-Needs valgrind, whose callgrind counts instructions. Each row is a form of a command, given after a state of a size n, or
-over words of that size, at n, 2n, 4n and 8n; what the state takes by itself is counted by a run without the command and
-taken off. The order is the power of the last doubling: 1 where twice the size costs twice as much. It may be 1.15 at most;
-a row above that needs a reason in REASONS, or the exit status is 1. Beside it stands the order of real Tk, by its clock,
-where Tk is installed (`wish` and Xvfb).
+Needs valgrind, whose callgrind counts instructions. Each row is a form of a command, given after a state of a size n,
+or over words of that size, at n, 2n, 4n and 8n; what the state takes by itself is counted by a run without the command
+and taken off. The order is the power of the last doubling: 1 where twice the size costs twice as much. It may be 1.15
+at most; a row above that needs a reason in REASONS, or the exit status is 1. Beside it stands the order of real Tk, by
+its clock, where Tk is installed (`wish` and Xvfb).
 """
 
 import argparse
@@ -33,8 +33,8 @@ FOUR = (1, 2, 4, 8)
 
 
 class Row(NamedTuple):
-    """What is counted: the form, the size that grows, the least of its four values, and for a value what stands before the
-    commands, and the commands."""
+    """What is counted: the form, the size that grows, the least of its four values, and for a value what stands before
+    the commands, and the commands."""
 
     form: str
     size: str
@@ -88,9 +88,16 @@ def put_in(order, numbers):
 
 def ranges(command, form, order=None):
     """One command with a range for each number."""
-    return lambda count: [
-        f"{command} " + " ".join(form.format(i=i, next=i + 1, n=count) for i in put_in(order, list(range(1, count + 1))))
-    ]
+    def commands(count):
+        numbers = put_in(order, list(range(1, count + 1)))
+        return [f"{command} " + " ".join(form.format(i=i, next=i + 1, n=count) for i in numbers)]
+
+    return commands
+
+
+def with_word(form):
+    """One command, made by a function of the size."""
+    return lambda count: [form(count)]
 
 
 def joined(*parts):
@@ -128,174 +135,268 @@ def both_ends(count):
     return [f".t delete {'1.0' if number % 2 else f'{count}.0'}" for number in range(count)]
 
 
-ROWS = [
-    # The lines of a text.
-    *[
-        Row(form, "lines", 2_000, lines, once(command))
-        for form, command in (
-            ("insert a character", ".t insert {half}.3 x"), ("insert a line", ".t insert {half}.3 {{x\n}}"),
-            ("delete a character", ".t delete {half}.3"), ("delete a line", ".t delete {half}.0 {half}.end+1c"),
-            ("delete half of it", ".t delete 1.0 {half}.0"), ("replace a word", ".t replace {half}.0 {half}.4 that"),
-            ("get a line", ".t get {half}.0 {half}.end"), ("get all", ".t get 1.0 end"),
-            ("index by line", ".t index {half}.5"), ("index by characters", ".t index 1.0+{n}c"),
-            ("index by lines", ".t index 1.0+{half}lines"), ("index lineend", ".t index {half}.0lineend"),
-            ("index wordend", ".t index {{{half}.0 wordend}}"), ("mark set", ".t mark set m {half}.3"),
-            ("mark next with none", ".t mark next 1.0"), ("tag add", ".t tag add a {half}.0 {half}.4"),
-            ("tag add to all", ".t tag add a 1.0 end"), ("tag nextrange with none", ".t tag nextrange a 1.0"),
-            ("count", ".t count -chars 1.0 {half}.0"), ("count lines", ".t count -lines 1.0 end"),
-            ("compare", ".t compare {half}.0 < end"), ("dump a line", ".t dump {half}.0 {half}.end"),
-            ("dump all", ".t dump 1.0 end"), ("search without a match", ".t search zebra 1.0"),
-            ("search -backwards", ".t search -backwards zebra end"), ("search -all", ".t search -all words 1.0"),
-            ("search -nocase", ".t search -nocase ZEBRA 1.0"), ("peer create", ".t peer create .p"), ("destroy", "destroy .t"),
-        )
-    ],
-    Row("insert lines", "lines of the text put in", 2_000, once("text .t"), lambda count: lines(count)[1:]),
-    Row("edit undo of a load", "lines", 2_000, joined(once("text .t -undo 1"), lambda n: lines(n)[1:]), once(".t edit undo")),
-    # The length of a line.
-    *[
-        Row(form, "length of a line", 20_000, line, once(command))
-        for form, command in (
-            ("insert in front", ".t insert 1.0 x"), ("insert at the end", ".t insert 1.end x"),
-            ("insert a newline in the middle", ".t insert 1.{half} {{\n}}"), ("delete a character", ".t delete 1.{half}"),
-            ("delete half of it", ".t delete 1.0 1.{half}"), ("get all", ".t get 1.0 1.end"), ("index", ".t index 1.{half}"),
-            ("index wordstart", ".t index {{1.{half} wordstart}}"), ("index lineend", ".t index {{1.0 lineend}}"),
-            ("search without a match", ".t search zebra 1.0"), ("search -all", ".t search -all word 1.0"),
-            ("tag add", ".t tag add a 1.{half} 1.end"), ("mark set", ".t mark set m 1.{half}"), ("dump", ".t dump 1.0 end"),
-        )
-    ],
-    Row("index wordend", "length of a word", 20_000, word, once(".t index {{1.0 wordend}}")),
-    Row("index wordstart", "length of a word", 20_000, word, once(".t index {{1.{half} wordstart}}")),
+def rows_of(size, least, before, *forms):
+    """A row for each form: its name, and one command."""
+    return [Row(name, size, least, before, once(command)) for name, command in forms]
+
+
+def few_lines(_):
+    """A text of a few lines, whatever the size."""
+    return lines(10)
+
+
+all_tagged = joined(lines, once(".t tag add a 1.0 end"))
+separated = each(".t insert {i}.0 x\n.t edit separator")
+with_groups = joined(lines, undoing, separated)
+
+OF_LINES = rows_of(
+    "lines", 2_000, lines,
+    ("insert a character", ".t insert {half}.3 x"),
+    ("insert a line", ".t insert {half}.3 {{x\n}}"),
+    ("delete a character", ".t delete {half}.3"),
+    ("delete a line", ".t delete {half}.0 {half}.end+1c"),
+    ("delete half of it", ".t delete 1.0 {half}.0"),
+    ("replace a word", ".t replace {half}.0 {half}.4 that"),
+    ("get a line", ".t get {half}.0 {half}.end"),
+    ("get all", ".t get 1.0 end"),
+    ("index by line", ".t index {half}.5"),
+    ("index by characters", ".t index 1.0+{n}c"),
+    ("index by lines", ".t index 1.0+{half}lines"),
+    ("index lineend", ".t index {half}.0lineend"),
+    ("index wordend", ".t index {{{half}.0 wordend}}"),
+    ("mark set", ".t mark set m {half}.3"),
+    ("mark next with none", ".t mark next 1.0"),
+    ("tag add", ".t tag add a {half}.0 {half}.4"),
+    ("tag add to all", ".t tag add a 1.0 end"),
+    ("tag nextrange with none", ".t tag nextrange a 1.0"),
+    ("count", ".t count -chars 1.0 {half}.0"),
+    ("count lines", ".t count -lines 1.0 end"),
+    ("compare", ".t compare {half}.0 < end"),
+    ("dump a line", ".t dump {half}.0 {half}.end"),
+    ("dump all", ".t dump 1.0 end"),
+    ("search without a match", ".t search zebra 1.0"),
+    ("search -backwards", ".t search -backwards zebra end"),
+    ("search -all", ".t search -all words 1.0"),
+    ("search -nocase", ".t search -nocase ZEBRA 1.0"),
+    ("peer create", ".t peer create .p"),
+    ("destroy", "destroy .t"),
+) + [
+    Row("insert lines", "lines put in", 2_000, once("text .t"), lambda count: lines(count)[1:]),
+    Row(
+        "edit undo of a load", "lines", 2_000, joined(once("text .t -undo 1"), lambda count: lines(count)[1:]),
+        once(".t edit undo"),
+    ),
+]
+
+OF_ONE_LINE = rows_of(
+    "length of a line", 20_000, line,
+    ("insert in front", ".t insert 1.0 x"),
+    ("insert at the end", ".t insert 1.end x"),
+    ("insert a newline in the middle", ".t insert 1.{half} {{\n}}"),
+    ("delete a character", ".t delete 1.{half}"),
+    ("delete half of it", ".t delete 1.0 1.{half}"),
+    ("get all", ".t get 1.0 1.end"),
+    ("index", ".t index 1.{half}"),
+    ("index wordstart", ".t index {{1.{half} wordstart}}"),
+    ("index lineend", ".t index {{1.0 lineend}}"),
+    ("search without a match", ".t search zebra 1.0"),
+    ("search -all", ".t search -all word 1.0"),
+    ("tag add", ".t tag add a 1.{half} 1.end"),
+    ("mark set", ".t mark set m 1.{half}"),
+    ("dump", ".t dump 1.0 end"),
+) + rows_of(
+    "length of a word", 20_000, word,
+    ("index wordend", ".t index {{1.0 wordend}}"),
+    ("index wordstart", ".t index {{1.{half} wordstart}}"),
+) + [
     Row("insert one by one at the end", "characters of a line", 500, once("text .t"), each(".t insert 1.end x")),
-    # Words of a command.
-    *[
-        Row(f"tag {verb} with ranges, {order or 'rising'}", "ranges", 500, before, ranges(f".t tag {verb} a", "{i}.2 {i}.6", order))
-        for verb, before in (("add", lines), ("remove", joined(lines, once(".t tag add a 1.0 end"))))
-        for order in (None, "falling", "shuffled")
-    ],
-    *[
-        Row(f"tag {verb} with ranges that {name}", "ranges", 500, before, ranges(f".t tag {verb} a", form))
-        for verb, before in (("add", lines), ("remove", joined(lines, once(".t tag add a 1.0 end"))))
-        for name, form in (("begin at one place", "1.2 {next}.2"), ("end at one place", "{i}.2 end"), ("are one", "1.2 2.3"))
-    ],
-    *[
-        Row(f"delete with ranges, {order or 'rising'}", "ranges", 500, lines, ranges(".t delete", "{i}.2 {i}.6", order))
-        for order in (None, "falling", "shuffled")
-    ],
-    Row("delete with ranges that begin at one place", "ranges", 500, lines, ranges(".t delete", "1.2 {next}.2")),
-    Row("tag add with ranges of one line", "ranges", 500, lambda n: word(2 * n + 1), ranges(".t tag add a", "1.{i} 1.{next}")),
+]
+
+OF_RANGES = [
+    Row(f"{verb} with ranges, {order or 'rising'}", "ranges", 500, before, ranges(f".t {verb}", "{i}.2 {i}.6", order))
+    for verb, before in (("tag add a", lines), ("tag remove a", all_tagged), ("delete", lines))
+    for order in (None, "falling", "shuffled")
+] + [
+    Row(f"{verb} with ranges that {name}", "ranges", 500, before, ranges(f".t {verb}", form))
+    for verb, before in (("tag add a", lines), ("tag remove a", all_tagged), ("delete", lines))
+    for name, form in (
+        ("begin at one place", "1.2 {next}.2"), ("end at one place", "{i}.2 end"), ("are one", "1.2 2.3"),
+    )
+] + [
+    Row(
+        "tag add with ranges of one line", "ranges", 500, lambda count: word(2 * count + 1),
+        ranges(".t tag add a", "1.{i} 1.{next}"),
+    ),
+]
+
+OF_WORDS = [
     Row("insert with pieces of one line", "pieces", 500, once("text .t"), ranges(".t insert end", "x a y {{}}")),
-    Row("insert with pieces of lines", "pieces", 500, once("text .t"), ranges(".t insert end", "{{x\n}} a {{y\n}} {{}}")),
-    Row("replace with pieces", "pieces", 500, lambda _: lines(10), ranges(".t replace 2.0 4.0", "{{x\n}} a {{y\n}} {{}}")),
-    Row("index with +1c", "modifiers", 2_000, lambda _: lines(10), lambda n: [".t index 1.0" + "+1c" * n]),
     Row(
-        "index with +1c behind a mark", "modifiers", 2_000, after(lambda _: lines(10), ".t mark set q 1.0"),
-        lambda n: [".t index q" + "+1c" * n],
+        "insert with pieces of lines", "pieces", 500, once("text .t"),
+        ranges(".t insert end", "{{x\n}} a {{y\n}} {{}}"),
+    ),
+    Row("replace with pieces", "pieces", 500, few_lines, ranges(".t replace 2.0 4.0", "{{x\n}} a {{y\n}} {{}}")),
+    Row("index with +1c", "modifiers", 2_000, few_lines, with_word(lambda n: ".t index 1.0" + "+1c" * n)),
+    Row(
+        "index with +1c behind a mark", "modifiers", 2_000, after(few_lines, ".t mark set q 1.0"),
+        with_word(lambda n: ".t index q" + "+1c" * n),
     ),
     Row(
-        "index with +1c behind a tag", "modifiers", 2_000, after(lambda _: lines(10), ".t tag add q 1.0"),
-        lambda n: [".t index q.first" + "+1c" * n],
+        "index with +1c behind a tag", "modifiers", 2_000, after(few_lines, ".t tag add q 1.0"),
+        with_word(lambda n: ".t index q.first" + "+1c" * n),
     ),
-    Row("index with spaces", "modifiers", 2_000, lambda _: lines(10), lambda n: [".t index {1.0" + " + 1 chars" * n + "}"]),
-    Row("index of no name", "words of the index", 500, lambda _: lines(10), lambda n: [".t index {" + "some words " * n + "}"]),
+    Row(
+        "index with spaces", "modifiers", 2_000, few_lines,
+        with_word(lambda n: ".t index {1.0" + " + 1 chars" * n + "}"),
+    ),
+    Row(
+        "index of no name", "words of the index", 500, few_lines,
+        with_word(lambda n: ".t index {" + "some words " * n + "}"),
+    ),
     Row("mark unset", "names", 500, over_lines, ranges(".t mark unset", "m{i}")),
     Row("mark unset, falling", "names", 500, over_lines, ranges(".t mark unset", "m{i}", "falling")),
     Row("tag delete", "names", 100, joined(lines, each(".t tag add t{i} {i}.0")), ranges(".t tag delete", "t{i}")),
-    Row("insert with tags", "tags of a piece", 100, lambda _: lines(10), lambda n: [
-        ".t insert 1.0 x {" + " ".join(f"t{i}" for i in range(n)) + "}"
-    ]),
-    Row("a long word", "bytes", 20_000, lambda _: lines(1), lambda n: [".t insert end {" + "x" * n + "}"]),
-    Row("a quoted word", "bytes", 20_000, lambda _: lines(1), lambda n: ['.t insert end "' + "x\\n" * (n // 3) + '"']),
-    Row("braces in braces", "depth", 2_000, lambda _: lines(1), lambda n: [".t insert end " + "{" * n + "}" * n]),
-    Row("a list of lists", "depth", 2_000, lambda _: lines(1), lambda n: [".t insert end x {" + "{" * n + "}" * n + "}"]),
-    Row("a word of brackets", "depth", 2_000, lambda _: lines(1), lambda n: [".t insert end {" + "[" * n + "]" * n + "}"]),
-    Row("short commands", "commands", 500, lambda _: lines(10), each(".t index 1.0")),
-    # Marks.
-    *[
-        Row(form, f"marks {name}", 500, before, commands)
-        for name, before in (("at one place", at_one_place), ("in one line", in_one_line), ("over lines", over_lines))
-        for form, commands in (
-            ("dump -text", once(".t dump -text 1.0 end")), ("dump -mark", once(".t dump -mark 1.0 end")),
-            ("mark next, a walk", each(".t mark next m{i}")), ("mark previous, a walk", each(".t mark previous m{i}")),
-            ("mark next, once", once(".t mark next m1")), ("mark previous, once", once(".t mark previous m{half}")),
-            ("mark set, one more", once(".t mark set more 1.2")), ("mark set, all again", each(".t mark set m{i} 1.1")),
-            ("mark names", once(".t mark names")), ("insert in front", once(".t insert 1.0 x")),
-            ("delete all", once(".t delete 1.0 end")), ("index by a mark", each(".t index m{i}")),
-        )
-    ],
-    Row("mark set", "names alike but for their ends", 500, lambda _: lines(10), each(f".t mark set {'x' * 200}{{i}} 1.0")),
-    Row("tag add", "names alike but for their ends", 100, lambda _: lines(10), each(f".t tag add {'x' * 200}{{i}} 1.0")),
-    # Tags and toggles.
-    *[
-        Row(form, "tags of a character", 100, tags_here, once(command))
-        for form, command in (
-            ("tag names", ".t tag names 1.0"), ("tag names, all", ".t tag names"), ("insert between", ".t insert 1.2 x"),
-            ("dump", ".t dump 1.0 1.end"), ("tag add, one more", ".t tag add more 1.0"), ("delete", ".t delete 1.0 1.2"),
-            ("tag raise", ".t tag raise t1"), ("tag lower", ".t tag lower t{n}"), ("tag delete", ".t tag delete t{half}"),
-            ("get", ".t get 1.0 end"), ("tag ranges", ".t tag ranges t1"),
-        )
-    ],
-    *[
-        Row(form, "toggles of a line", 500, toggles, commands)
-        for form, commands in (
-            ("tag nextrange, once", once(".t tag nextrange a 1.{half}")), ("tag ranges", once(".t tag ranges a")),
-            ("tag add at the front", once(".t tag add b 1.1")), ("tag remove", once(".t tag remove a 1.0 end")),
-            ("tag delete", once(".t tag delete a")), ("insert in front", once(".t insert 1.0 x")),
-            ("delete half of it", once(".t delete 1.0 1.{n}")), ("dump", once(".t dump 1.0 end")),
-            ("tag nextrange, a walk", each(".t tag nextrange a 1.{i}")),
-            ("tag prevrange, a walk", each(".t tag prevrange a 1.{i}")), ("tag names, each", each(".t tag names 1.{i}")),
-        )
-    ],
-    *[
-        Row(form, "ranges of a tag", 500, tagged_lines, commands)
-        for form, commands in (
-            ("tag ranges", once(".t tag ranges a")), ("tag nextrange, a walk", each(".t tag nextrange a {i}.7")),
-            ("tag prevrange, a walk", each(".t tag prevrange a {i}.7")), ("tag remove", once(".t tag remove a 1.0 end")),
-            ("tag delete", once(".t tag delete a")), ("dump", once(".t dump 1.0 end")),
-            ("index by tag.last", once(".t index a.last")), ("tag nextrange, last", once(".t tag nextrange a {n}.7")),
-        )
-    ],
-    # Widgets and documents.
-    *[
-        Row(form, "peers", 7, peers, once(command))
-        for form, command in (
-            ("insert", ".t insert 1.0 x"), ("delete", ".t delete 1.0 2.0"), ("dump -mark", ".t dump -mark 1.0 end"),
-            ("mark names", ".t mark names"), ("peer names", ".t peer names"), ("tag add sel", ".t tag add sel 1.0 2.0"),
-        )
-    ],
-    Row("text", "documents", 500, lambda _: [], each("text .d{i}")),
-    Row("insert in each", "documents", 500, each("text .d{i}"), each(".d{i} insert 1.0 x")),
-    Row("destroy", "documents", 500, each("text .d{i}"), each("destroy .d{i}")),
-    # The history.
-    Row("insert", "groups of the history", 500, joined(lambda _: lines(10), undoing, each(".t insert 1.0 x\n.t edit separator")),
-        once(".t insert 2.0 x")),
-    Row("edit undo, all", "groups of the history", 500,
-        joined(lines, undoing, each(".t insert {i}.0 x\n.t edit separator")), each(".t edit undo")),
-    Row("edit undo and redo, all", "groups of the history", 500,
-        joined(lines, undoing, each(".t insert {i}.0 x\n.t edit separator")), joined(each(".t edit undo"), each(".t edit redo"))),
-    Row("edit reset", "groups of the history", 500,
-        joined(lines, undoing, each(".t insert {i}.0 x\n.t edit separator")), once(".t edit reset")),
-    *[
-        Row(f"edit undo of {name}, {order or 'rising'}", "edits of a group", 500, one_group(form, order), once(".t edit undo"))
-        for name, form in (
-            ("insertions", ".t insert {i}.3 x"), ("deletions", ".t delete {i}.3 {i}.5"),
-            ("replacements", ".t replace {i}.0 {i}.4 that"),
-        )
-        for order in (None, "falling", "shuffled")
-    ],
-    Row("edit undo of deletions at both ends by turns", "edits of a group", 500,
-        joined(lines, undoing, once(".t configure -autoseparators 0"), both_ends), once(".t edit undo")),
-    Row("edit undo of insertions at one place", "edits of a group", 500, one_group(".t insert 1.0 x"), once(".t edit undo")),
-    # Searches.
-    Row("search in letters that are alike", "length of the pattern", 500, lambda n: word(8 * n), lambda n: [
-        ".t search {" + "x" * n + "y} 1.0"
-    ]),
-    Row("search -nocase in letters that are alike", "length of the pattern", 500, lambda n: word(8 * n), lambda n: [
-        ".t search -nocase {" + "x" * n + "y} 1.0"
-    ]),
-    Row("search over lines that are alike", "lines of the pattern", 250,
-        lambda n: ["text .t", ".t insert end {" + "x\n" * (8 * n) + "}"], lambda n: [".t search {" + "x\n" * n + "y} 1.0"]),
+    Row(
+        "insert with tags", "tags of a piece", 100, few_lines,
+        with_word(lambda n: ".t insert 1.0 x {" + " ".join(f"t{i}" for i in range(n)) + "}"),
+    ),
+    Row("a long word", "bytes", 20_000, few_lines, with_word(lambda n: ".t insert end {" + "x" * n + "}")),
+    Row("a quoted word", "bytes", 20_000, few_lines, with_word(lambda n: '.t insert end "' + "x\\n" * (n // 3) + '"')),
+    Row("braces in braces", "depth", 2_000, few_lines, with_word(lambda n: ".t insert end " + "{" * n + "}" * n)),
+    Row(
+        "a list of lists", "depth", 2_000, few_lines,
+        with_word(lambda n: ".t insert end x {" + "{" * n + "}" * n + "}"),
+    ),
+    Row("brackets", "depth", 2_000, few_lines, with_word(lambda n: ".t insert end {" + "[" * n + "]" * n + "}")),
+    Row("short commands", "commands", 500, few_lines, each(".t index 1.0")),
+]
+
+OF_MARKS = [
+    Row(form, f"marks {name}", 500, before, commands)
+    for name, before in (("at one place", at_one_place), ("in one line", in_one_line), ("over lines", over_lines))
+    for form, commands in (
+        ("dump -text", once(".t dump -text 1.0 end")),
+        ("dump -mark", once(".t dump -mark 1.0 end")),
+        ("mark next, a walk", each(".t mark next m{i}")),
+        ("mark previous, a walk", each(".t mark previous m{i}")),
+        ("mark next, once", once(".t mark next m1")),
+        ("mark previous, once", once(".t mark previous m{half}")),
+        ("mark set, one more", once(".t mark set more 1.2")),
+        ("mark set, all again", each(".t mark set m{i} 1.1")),
+        ("mark names", once(".t mark names")),
+        ("insert in front", once(".t insert 1.0 x")),
+        ("delete all", once(".t delete 1.0 end")),
+        ("index by a mark", each(".t index m{i}")),
+    )
+] + [
+    Row(f"{verb}", "names alike but for their ends", least, few_lines, each(f".t {verb} {'x' * 200}{{i}} {{i}}.0"))
+    for verb, least in (("mark set", 500), ("tag add", 100))
+]
+
+OF_TAGS = rows_of(
+    "tags of a character", 100, tags_here,
+    ("tag names", ".t tag names 1.0"),
+    ("tag names, all", ".t tag names"),
+    ("insert between", ".t insert 1.2 x"),
+    ("dump", ".t dump 1.0 1.end"),
+    ("tag add, one more", ".t tag add more 1.0"),
+    ("delete", ".t delete 1.0 1.2"),
+    ("tag raise", ".t tag raise t1"),
+    ("tag lower", ".t tag lower t{n}"),
+    ("tag delete", ".t tag delete t{half}"),
+    ("get", ".t get 1.0 end"),
+    ("tag ranges", ".t tag ranges t1"),
+) + [
+    Row(form, "toggles of a line", 500, toggles, commands)
+    for form, commands in (
+        ("tag nextrange, once", once(".t tag nextrange a 1.{half}")),
+        ("tag ranges", once(".t tag ranges a")),
+        ("tag add at the front", once(".t tag add b 1.1")),
+        ("tag remove", once(".t tag remove a 1.0 end")),
+        ("tag delete", once(".t tag delete a")),
+        ("insert in front", once(".t insert 1.0 x")),
+        ("delete half of it", once(".t delete 1.0 1.{n}")),
+        ("dump", once(".t dump 1.0 end")),
+        ("tag nextrange, a walk", each(".t tag nextrange a 1.{i}")),
+        ("tag prevrange, a walk", each(".t tag prevrange a 1.{i}")),
+        ("tag names, each", each(".t tag names 1.{i}")),
+    )
+] + [
+    Row(form, "ranges of a tag", 500, tagged_lines, commands)
+    for form, commands in (
+        ("tag ranges", once(".t tag ranges a")),
+        ("tag nextrange, a walk", each(".t tag nextrange a {i}.7")),
+        ("tag prevrange, a walk", each(".t tag prevrange a {i}.7")),
+        ("tag remove", once(".t tag remove a 1.0 end")),
+        ("tag delete", once(".t tag delete a")),
+        ("dump", once(".t dump 1.0 end")),
+        ("index by tag.last", once(".t index a.last")),
+        ("tag nextrange, last", once(".t tag nextrange a {n}.7")),
+    )
+]
+
+OF_WIDGETS = rows_of(
+    "peers", 7, peers,
+    ("insert", ".t insert 1.0 x"),
+    ("delete", ".t delete 1.0 2.0"),
+    ("dump -mark", ".t dump -mark 1.0 end"),
+    ("mark names", ".t mark names"),
+    ("peer names", ".t peer names"),
+    ("tag add sel", ".t tag add sel 1.0 2.0"),
+) + [
+    Row("text", "documents", 7, lambda _: [], each("text .d{i}")),
+    Row("insert in each", "documents", 7, each("text .d{i}"), each(".d{i} insert 1.0 x")),
+    Row("destroy", "documents", 7, each("text .d{i}"), each("destroy .d{i}")),
+]
+
+OF_HISTORY = [
+    Row("insert", "groups of the history", 500, with_groups, once(".t insert 2.0 x")),
+    Row("edit undo, all", "groups of the history", 500, with_groups, each(".t edit undo")),
+    Row(
+        "edit undo and redo, all", "groups of the history", 500, with_groups,
+        joined(each(".t edit undo"), each(".t edit redo")),
+    ),
+    Row("edit reset", "groups of the history", 500, with_groups, once(".t edit reset")),
+] + [
+    Row(
+        f"edit undo of {name}, {order or 'rising'}", "edits of a group", 500, one_group(form, order),
+        once(".t edit undo"),
+    )
+    for name, form in (
+        ("insertions", ".t insert {i}.3 x"),
+        ("deletions", ".t delete {i}.3 {i}.5"),
+        ("replacements", ".t replace {i}.0 {i}.4 that"),
+    )
+    for order in (None, "falling", "shuffled")
+] + [
+    Row(
+        "edit undo of deletions at both ends by turns", "edits of a group", 500,
+        joined(lines, undoing, once(".t configure -autoseparators 0"), both_ends), once(".t edit undo"),
+    ),
+    Row(
+        "edit undo of insertions at one place", "edits of a group", 500, one_group(".t insert 1.0 x"),
+        once(".t edit undo"),
+    ),
+]
+
+OF_SEARCHES = [
+    Row(
+        f"search{option} in letters that are alike", "length of the pattern", 500, lambda n: word(8 * n),
+        with_word(lambda n, option=option: f".t search{option} {{{'x' * n}y}} 1.0"),
+    )
+    for option in ("", " -nocase", " -backwards")
+] + [
+    Row(
+        "search over lines that are alike", "lines of the pattern", 250,
+        lambda n: ["text .t", ".t insert end {" + "x\n" * (8 * n) + "}"],
+        with_word(lambda n: ".t search {" + "x\n" * n + "y} 1.0"),
+    ),
     Row("search -all of one letter", "matches", 2_000, word, once(".t search -all x 1.0")),
     Row("search -all -overlap", "matches", 2_000, word, once(".t search -all -overlap xx 1.0")),
+]
+
+ROWS = [
+    *OF_LINES, *OF_ONE_LINE, *OF_RANGES, *OF_WORDS, *OF_MARKS, *OF_TAGS, *OF_WIDGETS, *OF_HISTORY, *OF_SEARCHES,
 ]
 
 
