@@ -110,11 +110,10 @@ def toggled(count):
 
 
 def marked(count):
-    """Lines get a thousand marks each, which are unset."""
+    """A thousand marks go from line to line, and are unset in the end."""
     marks = range(1_000)
-    unset = ".t mark unset " + " ".join(f"m{mark}" for mark in marks)
-    lines = [[f".t mark set m{mark} {line}.{mark % 20}" for mark in marks] for line in range(1, count + 1)]
-    return [command for line in lines for command in line + [unset]]
+    moves = [f".t mark set m{mark} {line}.{mark % 20}" for line in range(1, count + 1) for mark in marks]
+    return moves + [".t mark unset " + " ".join(f"m{mark}" for mark in marks)]
 
 
 def empty_documents(count):
@@ -174,7 +173,7 @@ KINDS = [
         for_lines(f".t insert {{line}}.5 {LONG}", ".t delete {line}.5 {line}.end"),
     ),
     Kind("toggles that go", [LETTERS] * 20, toggled, runs=(1, 2)),
-    Kind("marks of a line that are unset", [WORDS] * LINES, marked, runs=(2, 20)),
+    Kind("marks that go from line to line", [WORDS] * LINES, marked, runs=(2, 20)),
     Kind(
         "lines joined and split again", [WORDS] * 1_000,
         rounds(*[".t delete 1.end"] * 999, *[f".t insert 1.{len(WORDS) * line} {{\n}}" for line in range(999, 0, -1)]),
