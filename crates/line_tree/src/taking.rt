@@ -21,7 +21,6 @@ fn take_off<C: Ticks>(store: &mut NodeStore<C>, name: NodePtr, number: MarkNo) -
     let line = store.line_mut(name).unwrap();
     let gone = usize::from(line.mark_place(number).is_some());
     line.take_mark(number);
-    line.trim();
     gone
 }
 

@@ -13,12 +13,11 @@ use Rattle.line_tree.proofs.taking.take_off.Goals as goal
 pub returns-clause-takes : goal.returns-clause-takes
 returns-clause-takes g c =
     let m = records c.args.store.now in let p = c.args.name in let number = c.args.number.0 in
-    let old = c.unwrap-line.result.now in let new = c.trim.new.self in
+    let old = c.unwrap-line.result.now in let new = c.take_mark.new.self in
     let wrote = subst (λ o. OnSome o (WroteLine c.args.store.now (c.line_mut.follows.lender new) p new))
     c.unwrap-line.ensures (c.line_mut.follows.holds new) in
-    let taken : c.take_mark.new.self ≡ without_mark number old = λ i.
+    let without : new ≡ without_mark number old = λ i.
     record { columns = c.take_mark.ensures.columns i; marks = c.take_mark.ensures.marks i } in
-    let without : new ≡ without_mark number old = c.trim.ensures ∙ taken in
     record {
       line = old;
       was = ap line_of c.requires.line.is
@@ -32,12 +31,12 @@ returns-clause-takes g c =
 
 pub returns-clause-spares : goal.returns-clause-spares
 returns-clause-spares g c =
-    let new = c.trim.new.self in
+    let new = c.take_mark.new.self in
     (subst (λ o. OnSome o (WroteLine c.args.store.now (c.line_mut.follows.lender new) c.args.name new))
     c.unwrap-line.ensures (c.line_mut.follows.holds new)).spares
 
 pub returns-clause-rooms : goal.returns-clause-rooms
 returns-clause-rooms g c =
-    let new = c.trim.new.self in
+    let new = c.take_mark.new.self in
     (subst (λ o. OnSome o (WroteLine c.args.store.now (c.line_mut.follows.lender new) c.args.name new))
     c.unwrap-line.ensures (c.line_mut.follows.holds new)).rooms
