@@ -2,6 +2,7 @@ pub mod Anchors
 pub mod Deletions
 pub mod Insertions
 pub mod Keeping
+pub mod Orders
 pub mod Plans
 pub mod Removals
 pub mod Replays

@@ -17,7 +17,7 @@ use undo_stack::Action;
 /// to be noted.
 #[derive(Drop)]
 pub struct Draft {
-    alloc: Global,
+    pub alloc: Global,
     pub steps: StepList,
     pub anchors: Vec<Anchors>,
     pub actions: VecDeque<Action>,

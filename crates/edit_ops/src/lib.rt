@@ -8,6 +8,7 @@ mod drafts;
 mod faults;
 mod insertions;
 pub mod laws;
+mod orders;
 mod pieces;
 mod plans;
 mod replacements;

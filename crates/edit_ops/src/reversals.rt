@@ -16,6 +16,7 @@ ghost use Rattle.undo_stack.specs.Fits.{repeated_group, FitsText};
 use crate::drafts::Draft;
 use crate::faults::EditFault;
 use crate::insertions::count_of;
+use crate::orders::put_in_order;
 use crate::plans::{Notes, Plan, prepare_steps};
 use crate::texts::EditedText;
 use std::alloc::{AllocError, Global};
@@ -260,7 +261,13 @@ fn plan_reversal<S: TextStore>(
         state_of (S.outcome text.new.store plan.prepared) plan.anchors.items log
         ≡ drawn_up draft (S.content text.old.store) log) }
 {
-    let Draft { steps, anchors, .. } = draft;
+    let Draft {
+        alloc,
+        steps,
+        anchors,
+        ..
+    } = draft;
+    let steps = put_in_order(alloc, steps)?;
     Ok(prepare_steps(text, steps, anchors, notes)?)
 }
 
