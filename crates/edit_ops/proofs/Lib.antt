@@ -12,3 +12,4 @@ pub mod ReversalLaws
 pub mod RunLaws
 pub mod StartLaws
 pub mod CoverLaws
+pub mod OrderLaws

@@ -1,5 +1,5 @@
 -- Steps in another order that make the same.
-use Rattle.std.specs.Prelude.{◌≡◌, ◌×◌, ◌+◌, ◌<◌, ◌≤◌, List, [], ◌∷◌, ◌++◌, ⊤, ⊥, map, Option, IfSome}
+use Rattle.std.specs.Prelude.{ℕ, ◌≡◌, ◌+◌, ◌<◌, ◌≤◌, List, [], ◌∷◌, ◌++◌, ⊤, map, IfSome}
 use Rattle.text_model.specs.declared.edits.Step.{Step}
 use Rattle.text_model.specs.declared.edits.Step.TheVariants.{Remove, Insert, SetTag, ClearTags, ClearSlot, PutMark}
 use Rattle.text_model.specs.declared.edits.Step.TheVariants.{TakeMark}
@@ -52,3 +52,8 @@ steps_in watched = map (λ (one : Watched). one.step) watched
 abbrev pub AreWatched : List Watched → Type 0
 AreWatched [] = ⊤
 AreWatched (one ∷ rest) = IfSome one.reach (LetsPass (one.step ∷ steps_in rest)) × AreWatched rest
+
+-- the first of the steps that are made behind others may be made before them, where it acts at other offsets
+abbrev pub Passes : Span → List Step → List Step → Type 0
+Passes span steps [] = ⊥
+Passes span steps (step ∷ rest) = AreAlike (steps ++ step ∷ rest) (at_span step span ∷ steps ++ rest)

@@ -1,6 +1,7 @@
-ghost use Rattle.std.specs.Prelude.{◌≡◌, ◌∷◌, [], ◌++◌, IfOk, IfSome, OnOk, Some, None, length};
-ghost use Rattle.std.specs.VecDeque.{deque_len};
-ghost use Rattle.edit_ops.specs.Orders.{AreAlike, AreWatched, IsBefore, IsLowered, LetsPass, at_span, steps_in};
+ghost use Rattle.std.specs.Prelude.{◌≡◌, ◌+◌, ◌<◌, ◌∷◌, [], ◌++◌, List, IfOk, IfSome, OnOk, Some, None, length};
+ghost use Rattle.text_model.specs.declared.edits.Step.{Step};
+ghost use Rattle.edit_ops.specs.Orders.{AreAlike, AreWatched, IsBefore, IsLowered, LetsPass, Passes, at_span};
+ghost use Rattle.edit_ops.specs.Orders.{steps_in};
 
 use crate::insertions::count_of;
 use crate::spans::Span;
@@ -140,9 +141,14 @@ fn watch(alloc: Global, steps: VecDeque<Step>) -> Result<VecDeque<Watched>, Allo
     Ok(watched)
 }
 
-/// Where a step acts before others, if it may be made before them.
-fn passing(watched: Option<&Watched>, step: Option<&Step>) -> Option<Span> {
-    watched?.reach?.lowered(step?)
+/// Where the first step of a row acts before the steps of another row, behind which it is made, if it may be made before
+/// them.
+fn passing(first: &VecDeque<Watched>, second: &VecDeque<Step>) -> Option<Span>
+    requires { AreWatched first.now.items }
+    ensures { IfSome result (λ span. Passes span (steps_in first.now.items) second.now.items) }
+{
+    let reach = first.front()?.reach?;
+    reach.lowered(second.front()?)
 }
 
 /// Takes out what is made first of two rows of steps, of which the second is made behind the first: a step of the second
@@ -152,9 +158,11 @@ fn take_next(first: &mut VecDeque<Watched>, second: &mut VecDeque<Step>) -> Opti
     ensures watched { AreWatched first.new.items }
     ensures next { IfSome result (λ step. AreAlike (steps_in first.old.items ++ second.old.items)
         (step ∷ steps_in first.new.items ++ second.new.items)) }
+    ensures fewer { IfSome result (λ _. length first.new.items + length second.new.items
+        < length first.old.items + length second.old.items) }
     ensures last { result ≡ None → steps_in first.old.items ++ second.old.items ≡ [] }
 {
-    if let Some(span) = passing(first.front(), second.front()) {
+    if let Some(span) = passing(first, second) {
         let step = second.pop_front()?;
         return Some(at_span(step, span));
     }
@@ -193,7 +201,7 @@ fn sorted(alloc: Global, steps: VecDeque<Step>) -> Result<VecDeque<Step>, AllocE
     let second = first.split_off(first.len() / 2)?;
     let first = sorted(alloc, first)?;
     let second = sorted(alloc, second)?;
-    merged(alloc, first, second)
+    Ok(merged(alloc, first, second)?)
 }
 
 /// The place of a step that puts in or takes out.
