@@ -1,21 +1,19 @@
 -- Steps that stand apart may be made in either order.
-use Rattle.std.proofs.Common.{◌≡◌, ℕ, zero, suc, ◌+◌, ◌-◌, ◌<◌, ◌≤◌, ◌==◌, ◌||◌, ◌&&◌, Bool, true, false, List, [], ◌∷◌}
-use Rattle.std.proofs.Common.{◌++◌, length, map, take, drop, Option, Some, None, refl, sym, ap, ap₂, ◌∙◌, arith, subst, inl}
+use Rattle.std.proofs.Common.{◌≡◌, ℕ, ◌+◌, ◌-◌, ◌<◌, ◌≤◌, ◌==◌, ◌||◌, ◌&&◌, Bool, true, false, List, [], ◌∷◌}
+use Rattle.std.proofs.Common.{◌++◌, length, take, drop, Option, Some, None, refl, sym, ap, ap₂, ◌∙◌, arith, subst, inl}
 use Rattle.std.proofs.Common.{inr, get_or, take-append-drop}
 use Rattle.std.specs.Prelude.{option_map, if◌then◌else◌, min, nat_lt, IfSome}
 use Rattle.std.specs.FinMap as finite
 use Rattle.std.proofs.lemmas.List.{append_assoc, append-nil, length-take-le}
 use Rattle.std.proofs.lemmas.Bool.{cases_lt}
 use Rattle.std.proofs.lemmas.Bool.Decides.{nat_tests}
-use Rattle.text_model.specs.declared.cells.Cell.{Cell}
 use Rattle.text_model.specs.declared.edits.Step.{Step}
 use Rattle.text_model.specs.declared.edits.Step.TheVariants.{Remove, Insert, SetTag, ClearTags, ClearSlot, PutMark}
 use Rattle.text_model.specs.declared.edits.Step.TheVariants.{TakeMark}
-use Rattle.text_model.specs.declared.places.Gravity.{Gravity}
 use Rattle.text_model.specs.declared.places.Place.{Place}
 use Rattle.text_model.specs.Content.{Content, Marks, Slots, map_marks}
 use Rattle.text_model.specs.Splices.{inserted, removed, goes_behind, is_right, moved, drawn}
-use Rattle.text_model.specs.Steps.{cells_of, StepFits, Fits, after, after_step}
+use Rattle.text_model.specs.Steps.{cells_of, Fits, after, after_step}
 use Rattle.text_model.proofs.PlaceLaws.{get-map_marks, same_marks}
 use Rattle.text_model.proofs.SpliceLaws.{inserted-append_left, inserted-append_right, removed-append_left}
 use Rattle.text_model.proofs.SpliceLaws.{removed-append_right, length-cells_inserted, length-removed, length-inserted}
@@ -24,7 +22,7 @@ use Rattle.text_model.proofs.StepLaws.{after-append, Fits-append, moved_le}
 use Rattle.edit_ops.specs.declared.orders.Reach.{Reach}
 use Rattle.edit_ops.specs.declared.orders.Watched.{Watched}
 use Rattle.edit_ops.specs.declared.spans.Span.{Span}
-use Rattle.edit_ops.specs.Orders.{AreAlike, at_span, IsBefore, IsLowered, LetsPass, steps_in, AreWatched, Passes}
+use Rattle.edit_ops.specs.Orders.{AreAlike, at_span, IsLowered, LetsPass, steps_in, AreWatched, Passes}
 
 -- ---- steps that make the same
 
@@ -51,8 +49,7 @@ fits-back (step ∷ steps) others content fits = fits-back steps others (after_s
 
 pub alike-behind : (steps one two : List Step) → AreAlike one two → AreAlike (steps ++ one) (steps ++ two)
 alike-behind steps one two alike content fits =
-    let rest = alike (after steps content) (fits-back steps one content fits) in
-    (
+    let rest = alike (after steps content) (fits-back steps one content fits) in (
       Fits-append steps two content (fits-front steps one content fits) rest.0,
       after-append steps two content ∙ rest.1 ∙ sym (after-append steps one content),
     )
@@ -60,8 +57,7 @@ alike-behind steps one two alike content fits =
 pub alike-before : (steps one two : List Step) → AreAlike one two → AreAlike (one ++ steps) (two ++ steps)
 alike-before steps one two alike content fits =
     let front = alike content (fits-front one steps content fits) in
-    let back = fits-back one steps content fits in
-    (
+    let back = fits-back one steps content fits in (
       Fits-append two steps content front.0 (subst (Fits steps) (sym front.1) back),
       after-append two steps content ∙ ap (after steps) front.1 ∙ sym (after-append one steps content),
     )
@@ -323,8 +319,7 @@ insert-remove a k l i j text slots apart ordered is ends content fits =
     (inserted a (cells_of text slots) zs)) (sym split)
     ∙ insert-remove-parts a 0 (l - k) k l (cells_of text slots) (take k cells) (drop k cells)
     (omega (arith, front, apart)) (omega (arith, front)) (omega (arith, front, ordered))
-    ∙ ap (λ zs. inserted a (cells_of text slots) (removed k l zs)) split in
-    (
+    ∙ ap (λ zs. inserted a (cells_of text slots) (removed k l zs)) split in (
       ((ordered, within), (omega (arith, apart, within, ordered, shorter), tt)),
       sym (λ i. record { cells = same i; marks = marks i }),
     )
@@ -346,8 +341,7 @@ remove-insert f t k j other others ordered apart is content fits =
     ap (λ zs. inserted j (cells_of other others) (removed f t zs)) (sym split)
     ∙ remove-insert-parts f t 0 k j (cells_of other others) (take k cells) (drop k cells) ordered
     (omega (arith, front, apart)) (omega (arith, front)) is
-    ∙ ap (λ zs. removed f t (inserted k (cells_of other others) zs)) split in
-    (
+    ∙ ap (λ zs. removed f t (inserted k (cells_of other others) zs)) split in (
       (within, ((ordered, omega (arith, inside, longer)), tt)),
       sym (λ i. record { cells = same i; marks = marks i }),
     )
@@ -368,8 +362,7 @@ remove-remove f t k l i j ordered apart behind is ends content fits =
     ap (λ zs. removed i j (removed f t zs)) (sym split)
     ∙ remove-remove-parts f t 0 (l - k) k l i j (take k cells) (drop k cells) ordered (omega (arith, front, apart))
     (omega (arith, front)) (omega (arith, front, behind)) is ends
-    ∙ ap (λ zs. removed f t (removed k l zs)) split in
-    (
+    ∙ ap (λ zs. removed f t (removed k l zs)) split in (
       ((behind, within), ((ordered, omega (arith, apart, behind, within, shorter)), tt)),
       sym (λ i. record { cells = same i; marks = marks i }),
     )
@@ -401,8 +394,7 @@ over-insert reach new a text slots first rest added taken steps passes (Remove f
     let ends = low.2 in
     let lower : Span = record { from = span.from + length text; to = span.to + length text } in
     over-one (Insert a text slots) (Remove from to) (Remove lower.from lower.to) (Remove span.from span.to) steps
-    (passes (Remove from to) lower
-    (
+    (passes (Remove from to) lower (
       ordered,
       (omega (arith, begins.0, added, taken), omega (arith, begins.1, rest)),
       (omega (arith, ends.0, added, taken), omega (arith, ends.1, rest)),
@@ -431,8 +423,7 @@ over-remove reach new f t count ordered counted first rest added taken steps pas
     let ends = low.2 in
     let lower : Span = record { from = span.from - count; to = span.to - count } in
     over-one (Remove f t) (Remove from to) (Remove lower.from lower.to) (Remove span.from span.to) steps
-    (passes (Remove from to) lower
-    (
+    (passes (Remove from to) lower (
       low.0,
       (omega (arith, begins.0, begins.1, added, taken, first, counted), omega (arith, begins.1, rest)),
       (omega (arith, ends.0, ends.1, added, taken, first, counted), omega (arith, ends.1, rest)),
@@ -448,19 +439,6 @@ over-remove reach new f t count ordered counted first rest added taken steps pas
     absurd low
 over-remove reach new f t count ordered counted first rest added taken steps passes (TakeMark number) span low =
     absurd low
-
--- before no steps each step is where it is
-pub over-none : (reach : Reach) → reach.added ≡ 0 → reach.taken ≡ 0 → LetsPass [] reach
-over-none reach added taken (Insert at text slots) span low = alike-is _ _ (ap (λ n. Insert n text slots ∷ [])
-    (let same : at ≡ span.from = omega (arith, low.0, added, taken) in same))
-over-none reach added taken (Remove from to) span low = alike-is _ _ (ap₂ (λ n m. Remove n m ∷ [])
-    (let same : from ≡ span.from = omega (arith, low.1.0, added, taken) in same)
-    (let same : to ≡ span.to = omega (arith, low.2.0, added, taken) in same))
-over-none reach added taken (SetTag from to slot on) span low = absurd low
-over-none reach added taken (ClearTags at) span low = absurd low
-over-none reach added taken (ClearSlot slot) span low = absurd low
-over-none reach added taken (PutMark number place) span low = absurd low
-over-none reach added taken (TakeMark number) span low = absurd low
 
 -- a step that may pass, from behind a row with others behind it
 pub passed : (steps rest : List Step) (reach : Reach) (step : Step) (span : Span) → LetsPass steps reach →

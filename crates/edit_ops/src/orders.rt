@@ -141,8 +141,8 @@ fn watch(alloc: Global, steps: VecDeque<Step>) -> Result<VecDeque<Watched>, Allo
     Ok(watched)
 }
 
-/// Where the first step of a row acts before the steps of another row, behind which it is made, if it may be made before
-/// them.
+/// Where the first step of a row acts before the steps of another row, behind which it is made, if it may be made
+/// before them.
 fn passing(first: &VecDeque<Watched>, second: &VecDeque<Step>) -> Option<Span>
     requires { AreWatched first.now.items }
     ensures { IfSome result (λ span. Passes span (steps_in first.now.items) second.now.items) }
@@ -151,8 +151,8 @@ fn passing(first: &VecDeque<Watched>, second: &VecDeque<Step>) -> Option<Span>
     reach.lowered(second.front()?)
 }
 
-/// Takes out what is made first of two rows of steps, of which the second is made behind the first: a step of the second
-/// that stands above all of the first, or else one of the first.
+/// Takes out what is to be made first of two rows of steps, of which the second is made behind the first: a step of the
+/// second that acts above all of the first, or else one of the first.
 fn take_next(first: &mut VecDeque<Watched>, second: &mut VecDeque<Step>) -> Option<Step>
     requires { AreWatched first.old.items }
     ensures watched { AreWatched first.new.items }

@@ -1,5 +1,4 @@
 use Rattle.std.proofs.Common.{◌+◌, ◌++◌, length}
-use Rattle.std.specs.VecDeque.{deque_len}
 use Rattle.edit_ops.specs.Orders.{AreAlike, AreWatched, steps_in}
 use Rattle.edit_ops.proofs.orders.merged.Given as goal
 

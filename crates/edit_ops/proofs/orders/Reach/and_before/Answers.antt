@@ -1,4 +1,4 @@
-use Rattle.std.proofs.Common.{◌≡◌, ◌∷◌, refl, sym, subst, arith}
+use Rattle.std.proofs.Common.{◌∷◌, refl, sym, subst, arith}
 use Rattle.text_model.specs.declared.edits.Step.{Step}
 use Rattle.edit_ops.specs.declared.orders.Reach.{Reach}
 use Rattle.edit_ops.specs.Orders.{LetsPass}
