@@ -9,8 +9,11 @@ use std::alloc::{AllocError, Global};
 use std::collections::VecDeque;
 use text_model::{Step, StepList};
 
-/// How often the places of steps may turn from rising to falling or back before it pays to put them in order.
-const FEW_TURNS: usize = 32;
+/// How often steps may go over the part of a text in which they act before it pays to put them in order.
+const FEW_PASSES: usize = 16;
+
+/// How many characters steps may go, one with another, from place to place before it pays to put them in order.
+const NEAR: usize = 256;
 
 /// How far up in a text steps reach that are made in a row: none of them acts above an offset, which goes with what the
 /// steps before it put in and take out.
@@ -213,20 +216,22 @@ fn place_of(step: &Step) -> Option<usize> {
     }
 }
 
-/// Whether the places of steps turn often.
+/// Whether steps go to and fro so often and so far that it pays to put them in order: not where their places rise or
+/// fall, nor where they stand near each other.
 fn are_scattered(steps: &[Step]) -> bool {
-    let mut turns = 0usize;
-    let mut rises = false;
-    let mut last = usize::MAX;
+    let mut low = usize::MAX;
+    let mut high = 0usize;
+    let mut last = None;
+    let mut way = 0usize;
     for step in steps {
-        let place = place_of(step).unwrap_or(last);
-        if place != last && (last < place) != rises {
-            rises = !rises;
-            turns = turns.saturating_add(1);
+        if let Some(place) = place_of(step) {
+            low = low.min(place);
+            high = high.max(place);
+            way = way.saturating_add(place.abs_diff(last.unwrap_or(place)));
+            last = Some(place);
         }
-        last = place;
     }
-    turns > FEW_TURNS
+    way / FEW_PASSES > high.saturating_sub(low) && way / NEAR > steps.len()
 }
 
 /// Steps that make the same, in an order in which a store goes through the text few times.
