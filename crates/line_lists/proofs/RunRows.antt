@@ -1,11 +1,12 @@
 -- Runs of characters that pass a test which no newline passes: each lies in one line.
-use Rattle.std.proofs.Common.{◌≡◌, ℕ, zero, suc, ◌+◌, ◌-◌, ◌<◌, ◌≤◌, Bool, true, false, cond, List, [], ◌∷◌, ◌++◌, length}
-use Rattle.std.proofs.Common.{take, drop, refl, sym, ap, ap₂, ◌∙◌, arith}
+use Rattle.std.proofs.Common.{◌≡◌, ℕ, zero, suc, ◌+◌, ◌-◌, ◌<◌, ◌≤◌, Bool, true, false, cond, List, [], ◌∷◌, ◌++◌}
+use Rattle.std.proofs.Common.{length, take, drop, refl, sym, ap, ap₂, ◌∙◌, arith}
 use Rattle.std.specs.Prelude.{slice_get, reverse, Some}
 use Rattle.std.specs.List.{prefix_len, suffix_len}
 use Rattle.std.proofs.Math.Seq.{drop-append-add, take-append-add}
 use Rattle.std.proofs.lemmas.Bool.{eqb-true}
-use Rattle.std.proofs.lemmas.List.{drop-append-le, length-map, length-reverse, map-append, reverse-append, take-append-le}
+use Rattle.std.proofs.lemmas.List.{drop-append-le, length-map, length-reverse, map-append, reverse-append}
+use Rattle.std.proofs.lemmas.List.{take-append-le}
 use Rattle.text_model.specs.Content.{characters as cell_characters}
 use Rattle.text_model.specs.Documents.{ends_in_newline}
 use Rattle.text_model.proofs.RunLaws.{run_start-le}

@@ -156,7 +156,8 @@ pub fn mark_place<L: LineList>(list: &L, number: MarkNo) -> Option<Place>
 /// Where the run of characters from an offset on that pass a test ends.
 pub fn run_end<L: LineList, T: CharacterTest>(list: &L, offset: usize) -> usize
     requires { offset < length (content_of (L.lines list.now)).cells }
-    ensures value { result ≡ offset + prefix_len T.test (drop offset (characters (content_of (L.lines list.now)).cells)) }
+    ensures value { result ≡ offset
+        + prefix_len T.test (drop offset (characters (content_of (L.lines list.now)).cells)) }
     ensures bound { result ≤ length (content_of (L.lines list.now)).cells }
 {
     let (_, column, line) = list.line_at(offset);

@@ -1,6 +1,6 @@
-ghost use Rattle.std.specs.Prelude.{◌≡◌, ℕ, ◌+◌, ◌-◌, ◌++◌, ◌<◌, ◌≤◌, ◌^◌, Bool, false, true, length, map, take, slice_get};
-ghost use Rattle.std.specs.Prelude.{slice_range, Some, IfSome, IfOk, IfErr, OnOk, OnErr, chars, string_bytes};
-ghost use Rattle.std.specs.Prelude.{drop, nat_lt, option_map, vec_capacity, vec_len};
+ghost use Rattle.std.specs.Prelude.{◌≡◌, ℕ, ◌+◌, ◌-◌, ◌++◌, ◌<◌, ◌≤◌, ◌^◌, Bool, false, true, length, map, take};
+ghost use Rattle.std.specs.Prelude.{slice_get, slice_range, Some, IfSome, IfOk, IfErr, OnOk, OnErr, chars};
+ghost use Rattle.std.specs.Prelude.{string_bytes, drop, nat_lt, option_map, vec_capacity, vec_len};
 ghost use Rattle.std.specs.FinMap as finite;
 ghost use Rattle.std.specs.FinSet as set;
 ghost use Rattle.std.specs.List.{prefix_len, suffix_len};

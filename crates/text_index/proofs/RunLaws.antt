@@ -1,5 +1,5 @@
 -- Runs of characters of a text, in the part of it that a view shows.
-use Rattle.std.proofs.Common.{◌≡◌, ℕ, zero, suc, ◌+◌, ◌-◌, ◌<◌, ◌≤◌, min, Bool, true, false, cond, List, [], ◌∷◌, ◌++◌}
+use Rattle.std.proofs.Common.{◌≡◌, ℕ, zero, suc, ◌+◌, ◌-◌, ◌≤◌, min, Bool, true, false, cond, List, [], ◌∷◌, ◌++◌}
 use Rattle.std.proofs.Common.{length, take, drop, refl, sym, ap, ◌∙◌, arith, drop-drop, length-drop}
 use Rattle.std.specs.Prelude.{reverse, slice_range}
 use Rattle.std.specs.List.{prefix_len, suffix_len}

@@ -1,4 +1,4 @@
-use Rattle.std.proofs.Common.{◌-◌, ap, ◌∙◌}
+use Rattle.std.proofs.Common.{◌∙◌}
 use Rattle.text_model.specs.Content.{characters}
 use Rattle.text_index.specs.Words.{is_word}
 use Rattle.text_index.proofs.RunLaws.{run_start-part}
