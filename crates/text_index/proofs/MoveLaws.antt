@@ -52,22 +52,22 @@ pub moves : (text : List ℕ) (place value found : ℕ) → (place ≡ length te
 moves text place value found other is = is ∙ sym (inside text place value other)
 
 -- the run that ends behind the character of a place begins there at most, or behind it where that makes no word
-pub front-of-run : (test : ℕ → Bool) (text : List ℕ) (place start : ℕ) → place < length text →
-    start ≡ (place + 1) - suffix_len test (take (place + 1) text) → min start place ≡ word_front test text place
-front-of-run test text place start within is = which (test (slice_index text place)) refl where
+pub front-of-run : (test : ℕ → Bool) (text : List ℕ) (place next start : ℕ) → place < length text →
+    start ≡ next - suffix_len test (take next text) → next ≡ place + 1 → min start place ≡ word_front test text place
+front-of-run test text place next start within is next_is = which (test (slice_index text place)) refl where
   which : (b : Bool) → test (slice_index text place) ≡ b → min start place ≡ word_front test text place
   which true met =
-      let back : (place + 1) - 1 ≡ place = omega arith in
-      let one = suffix_len-take_yes test text (place + 1) 0 (omega arith) (omega arith)
+      let back : next - 1 ≡ place = omega (arith, next_is) in
+      let one = suffix_len-take_yes test text next 0 (omega (arith, next_is)) (omega (arith, next_is))
       (ap (λ n. test (slice_index text n)) back ∙ met) in
       let here = ap (λ n. suffix_len test (take n text)) back in
-      let found : min start place ≡ place - suffix_len test (take place text) = omega (arith, is, one, here) in
+      let found : min start place ≡ place - suffix_len test (take place text) = omega (arith, is, one, here, next_is) in
       found ∙ sym (ap (λ b. if b then place - suffix_len test (take place text) else place) met)
   which false unmet =
-      let back : (place + 1) - 1 ≡ place = omega arith in
-      let none = suffix_len-take_no test text (place + 1) 0 (omega arith) (omega arith)
+      let back : next - 1 ≡ place = omega (arith, next_is) in
+      let none = suffix_len-take_no test text next 0 (omega (arith, next_is)) (omega (arith, next_is))
       (ap (λ n. test (slice_index text n)) back ∙ unmet) in
-      let found : min start place ≡ place = omega (arith, is, none) in
+      let found : min start place ≡ place = omega (arith, is, none, next_is) in
       found ∙ sym (ap (λ b. if b then place - suffix_len test (take place text) else place) unmet)
 
 -- the end of a word, from a place that isn't the last

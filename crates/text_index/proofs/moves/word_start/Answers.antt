@@ -26,4 +26,5 @@ returns-clause-value g c =
     ) in
     moves text c.args.place (word_front is_word text c.args.place) c.min.result (λ same.
     c.if-place-len.false (same ∙ sym c.len.ensures))
-    (c.min.ensures ∙ front-of-run is_word text c.args.place c.run_begin.result within c.run_begin.ensures.value)
+    (c.min.ensures
+    ∙ front-of-run is_word text c.args.place _ c.run_begin.result within c.run_begin.ensures.value (omega arith))
