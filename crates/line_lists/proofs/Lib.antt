@@ -27,6 +27,7 @@ pub mod PieceLaws
 pub mod PlaceRows
 pub mod RemovalLaws
 pub mod RowLaws
+pub mod RunRows
 pub mod SearchRows
 pub mod SlotLaws
 pub mod StandLaws

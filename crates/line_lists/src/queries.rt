@@ -1,8 +1,9 @@
 //! The queries of a text over any list of its lines: sums say where a line stands, the rest is asked of that line.
 
-ghost use Rattle.std.specs.Prelude.{◌≡◌, ◌+◌, ◌<◌, ◌≤◌, length, slice_get, slice_range, Some, IfSome, IfOk};
-ghost use Rattle.std.specs.Prelude.{chars, string_bytes};
+ghost use Rattle.std.specs.Prelude.{◌≡◌, ◌+◌, ◌-◌, ◌<◌, ◌≤◌, length, slice_get, slice_range, Some, IfSome, IfOk};
+ghost use Rattle.std.specs.Prelude.{chars, drop, string_bytes, take};
 ghost use Rattle.std.specs.FinMap as finite;
+ghost use Rattle.std.specs.List.{prefix_len, suffix_len};
 ghost use Rattle.text_model.specs.Changes.{next_change, previous_change};
 ghost use Rattle.text_model.specs.Content.{characters, flags, slot_sets, slots_behind};
 ghost use Rattle.text_model.specs.Lines.{IsLineOf, lines, line_of, line_start};
@@ -14,7 +15,7 @@ ghost use Rattle.line_lists.specs.Texts.{content_of};
 use crate::lists::LineList;
 use segments::Line;
 use std::alloc::AllocError;
-use text_model::{LineSpan, MarkNo, Place, TagSet, TagSlot};
+use text_model::{CharacterTest, LineSpan, MarkNo, Place, TagSet, TagSlot};
 
 /// How many characters the text has.
 pub fn len<L: LineList>(list: &L) -> usize
@@ -150,6 +151,28 @@ pub fn mark_place<L: LineList>(list: &L, number: MarkNo) -> Option<Place>
         offset: start + place.offset,
         gravity: place.gravity,
     })
+}
+
+/// Where the run of characters from an offset on that pass a test ends.
+pub fn run_end<L: LineList, T: CharacterTest>(list: &L, offset: usize) -> usize
+    requires { offset < length (content_of (L.lines list.now)).cells }
+    ensures value { result ≡ offset
+        + prefix_len T.test (drop offset (characters (content_of (L.lines list.now)).cells)) }
+    ensures bound { result ≤ length (content_of (L.lines list.now)).cells }
+{
+    let (_, column, line) = list.line_at(offset);
+    offset - column + line.run_end::<T>(column)
+}
+
+/// Where the run of characters before an offset that pass a test begins.
+pub fn run_start<L: LineList, T: CharacterTest>(list: &L, offset: usize) -> usize
+    requires { offset ≤ length (content_of (L.lines list.now)).cells }
+    ensures value { result ≡ offset
+        - suffix_len T.test (take offset (characters (content_of (L.lines list.now)).cells)) }
+    ensures bound { result ≤ offset }
+{
+    let (_, column, line) = place_of(list, offset);
+    offset - column + line.run_start::<T>(column)
 }
 
 /// The least offset at or above this one at which a mark stands.

@@ -9,7 +9,7 @@ use crate::lists::LineList;
 use crate::pieces::{Piece, bound_of, place, take_marks};
 use crate::queries;
 use std::alloc::{AllocError, Global};
-use text_model::{Edit, LineSpan, MarkNo, Place, TagSet, TagSlot, TextStore};
+use text_model::{CharacterTest, Edit, LineSpan, MarkNo, Place, TagSet, TagSlot, TextStore};
 
 /// A text that is kept as a list of lines.
 #[derive(Drop)]
@@ -125,6 +125,14 @@ impl<L: LineList> TextStore for LineStore<L> {
 
     fn char_at(&self, offset: usize) -> char {
         queries::char_at(&self.list, offset)
+    }
+
+    fn run_end<T: CharacterTest>(&self, offset: usize) -> usize {
+        queries::run_end::<L, T>(&self.list, offset)
+    }
+
+    fn run_start<T: CharacterTest>(&self, offset: usize) -> usize {
+        queries::run_start::<L, T>(&self.list, offset)
     }
 
     fn has_tag(&self, offset: usize, slot: TagSlot) -> bool {

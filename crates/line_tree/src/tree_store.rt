@@ -8,7 +8,7 @@ use crate::tree_lines::TreeLines;
 use line_lists::LineStore;
 use raw_nodes::Steps;
 use std::alloc::{AllocError, Global};
-use text_model::{Edit, LineSpan, MarkNo, Place, TagSet, TagSlot, TextStore};
+use text_model::{CharacterTest, Edit, LineSpan, MarkNo, Place, TagSet, TagSlot, TextStore};
 
 /// A text that is kept as a balanced tree of its lines, and as nothing else.
 #[derive(Drop)]
@@ -67,6 +67,14 @@ impl TextStore for TreeStore {
 
     fn char_at(&self, offset: usize) -> char {
         self.lines.char_at(offset)
+    }
+
+    fn run_end<T: CharacterTest>(&self, offset: usize) -> usize {
+        self.lines.run_end::<T>(offset)
+    }
+
+    fn run_start<T: CharacterTest>(&self, offset: usize) -> usize {
+        self.lines.run_start::<T>(offset)
     }
 
     fn has_tag(&self, offset: usize, slot: TagSlot) -> bool {

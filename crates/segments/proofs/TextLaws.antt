@@ -8,13 +8,26 @@ use Rattle.std.specs.Str.{IsAscii, IsCharBoundary}
 use Rattle.text_model.specs.Splices.{inserted, removed}
 use Rattle.std.proofs.lemmas.Bool.Decides.{nat_tests}
 use Rattle.std.proofs.lemmas.List.{append_cancel_right}
-use Rattle.std.proofs.lemmas.Str.{chars-append, chars-nil, chars_past_char, drop_past_char, encode_ascii, encodes-chars}
+use Rattle.std.proofs.lemmas.Str.{chars-append, chars_from_encodes, chars-nil, chars_past_char, drop_past_char}
+use Rattle.std.proofs.lemmas.Str.{encode_ascii, encodes-append, encodes-chars}
 use Rattle.std.proofs.lemmas.Str.{IsCharBoundary-past_char, IsUtf8-append, IsUtf8-drop, IsUtf8-nil, IsUtf8-take}
 use Rattle.std.proofs.lemmas.Str.{length-encode, length-le-encodes, len_utf8_bounds}
 
 pub some_bytes : (bytes : List ℕ) → 0 < length (chars bytes) → 0 < length bytes
 some_bytes [] some = absurd (omega (arith, ap length chars-nil))
 some_bytes (byte ∷ bytes) some = omega arith
+
+pub no_characters : (bytes : List ℕ) → length bytes ≡ 0 → chars bytes ≡ []
+no_characters [] none = chars-nil
+no_characters (byte ∷ bytes) none = absurd (omega arith)
+
+-- a text whose last character is known
+pub chars-behind : (text front : List ℕ) (c : ℕ) → IsUtf8 text → IsUtf8 front → text ≡ front ++ encode_utf8 c →
+    chars text ≡ chars front ++ c ∷ []
+chars-behind text front c utf8 also is =
+    sym (chars_from_encodes (chars front ++ c ∷ []) text utf8
+    (encodes-append (chars front) (c ∷ []) ∙ ap (λ bytes. bytes ++ (encode_utf8 c ++ [])) (encodes-chars front also)
+    ∙ ap (λ bytes. front ++ bytes) (append-nil (encode_utf8 c)) ∙ sym is))
 
 -- a column further on, past a character
 pub column_on : (text rest : List ℕ) (byte column c : ℕ) → IsUtf8 text → IsCharBoundary text byte →

@@ -1,12 +1,14 @@
-ghost use Rattle.std.specs.Prelude.{◌≡◌, ◌+◌, ◌<◌, ◌≤◌, ◌^◌, [], ◌++◌, ℕ, List, encode_utf8, length, take, drop, chars};
-ghost use Rattle.std.specs.Prelude.{string_bytes, slice_range, slice_get, Some, IfOk, OnOk, OnErr};
+ghost use Rattle.std.specs.Prelude.{◌≡◌, ◌+◌, ◌<◌, ◌≤◌, ◌^◌, [], ◌∷◌, ◌++◌, ℕ, List, encode_utf8, length, take, drop};
+ghost use Rattle.std.specs.Prelude.{chars, string_bytes, slice_range, slice_get, None, Some, IfOk, IfSome, OnOk, OnErr};
 ghost use Rattle.std.specs.Prelude.{◌-◌, nat_lt, string_capacity, string_len};
+ghost use Rattle.std.specs.List.{prefix_len, suffix_len};
 ghost use Rattle.std.specs.Str.{IsCharBoundary};
 ghost use Rattle.text_model.specs.Splices.{inserted, removed};
 
 use crate::beginnings::{count_beginnings, find_beginning};
 use std::alloc::{AllocError, Global};
 use std::marker::Model;
+use text_model::CharacterTest;
 
 /// Some characters, with their number beside them: where each takes one byte, a column is found at once.
 #[derive(Drop)]
@@ -70,6 +72,56 @@ fn first_character(text: &str) -> char
     text.chars().next().unwrap()
 }
 
+/// The first character of a text, with what stands behind it, if there is one.
+fn split_first(text: &str) -> Option<(char, &str)>
+    ensures none { result ≡ None → chars text.now ≡ [] }
+    ensures some { IfSome result (λ split. chars text.now ≡ split.0 ∷ chars split.1.now) }
+{
+    let mut characters = text.chars();
+    let first = characters.next()?;
+    Some((first, characters.as_str()))
+}
+
+/// The last character of a text, with what stands before it, if there is one.
+fn split_last(text: &str) -> Option<(char, &str)>
+    ensures none { result ≡ None → chars text.now ≡ [] }
+    ensures some { IfSome result (λ split. chars text.now ≡ chars split.1.now ++ split.0 ∷ []) }
+{
+    let mut characters = text.chars();
+    let last = characters.next_back()?;
+    Some((last, characters.as_str()))
+}
+
+/// How many characters from the first on pass a test, in a text of so many.
+fn passing_from_first<T: CharacterTest>(text: &str, count: usize) -> usize
+    requires { count ≡ length (chars text.now) }
+    ensures { result ≡ prefix_len T.test (chars text.now) }
+{
+    let mut rest = text;
+    for passed in 0..count {
+        match split_first(rest) {
+            Some((first, behind)) if T::passes(first) => rest = behind,
+            _ => return passed,
+        }
+    }
+    count
+}
+
+/// How many characters from the last back pass a test, in a text of so many.
+fn passing_from_last<T: CharacterTest>(text: &str, count: usize) -> usize
+    requires { count ≡ length (chars text.now) }
+    ensures { result ≡ suffix_len T.test (chars text.now) }
+{
+    let mut rest = text;
+    for passed in 0..count {
+        match split_last(rest) {
+            Some((last, before)) if T::passes(last) => rest = before,
+            _ => return passed,
+        }
+    }
+    count
+}
+
 /// How many bytes so many characters at the front of a text take.
 fn front_bytes(text: &str, column: usize) -> usize
     requires { column ≤ length (chars text.now) }
@@ -130,6 +182,28 @@ impl Characters {
     {
         let text = self.text.as_str();
         first_character(&text[byte_of(text, self.count, column)..])
+    }
+
+    /// Where the run of characters from a column on that pass a test ends.
+    pub fn run_end<T: CharacterTest>(&self, column: usize) -> usize
+        requires { column ≤ length self.now }
+        ensures value { result ≡ column + prefix_len T.test (drop column self.now) }
+        ensures bound { result ≤ length self.now }
+    {
+        let text = self.text.as_str();
+        let rest = &text[byte_of(text, self.count, column)..];
+        column + passing_from_first::<T>(rest, self.count - column)
+    }
+
+    /// Where the run of characters before a column that pass a test begins.
+    pub fn run_start<T: CharacterTest>(&self, column: usize) -> usize
+        requires { column ≤ length self.now }
+        ensures value { result ≡ column - suffix_len T.test (take column self.now) }
+        ensures bound { result ≤ column }
+    {
+        let text = self.text.as_str();
+        let front = &text[..byte_of(text, self.count, column)];
+        column - passing_from_last::<T>(front, column)
     }
 
     /// The characters from one column to another, lent. All of them are no search for columns.

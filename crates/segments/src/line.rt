@@ -1,8 +1,9 @@
-ghost use Rattle.std.specs.Prelude.{◌≡◌, ℕ, ◌+◌, ◌++◌, ◌<◌, ◌≤◌, Bool, false, length, map, take, slice_get};
+ghost use Rattle.std.specs.Prelude.{◌≡◌, ℕ, ◌+◌, ◌-◌, ◌++◌, ◌<◌, ◌≤◌, Bool, false, length, map, take, slice_get};
 ghost use Rattle.std.specs.Prelude.{slice_range, Some, IfSome, IfOk, IfErr, OnOk, OnErr, chars, string_bytes};
-ghost use Rattle.std.specs.Prelude.{option_map};
+ghost use Rattle.std.specs.Prelude.{drop, option_map};
 ghost use Rattle.std.specs.FinMap as finite;
 ghost use Rattle.std.specs.FinSet as set;
+ghost use Rattle.std.specs.List.{prefix_len, suffix_len};
 ghost use Rattle.text_model.specs.declared.places.MarkNo.{MarkNo};
 ghost use Rattle.text_model.specs.MarkOrder.{marks_at, next_mark, previous_mark};
 ghost use Rattle.text_model.specs.SlotSets.{differing};
@@ -18,7 +19,7 @@ use crate::characters::Characters;
 use crate::form::Form;
 use std::alloc::{AllocError, AllocFailed, Global};
 use std::marker::Model;
-use text_model::{MarkNo, Place, TagSet, TagSlot, WORDS};
+use text_model::{CharacterTest, MarkNo, Place, TagSet, TagSlot, WORDS};
 use toggle_sums::Sums;
 
 /// A line of text: its characters, the slots that are toggled before each of them, and the marks in it, whose places
@@ -79,6 +80,30 @@ impl Line {
         match &self.form {
             Form::Plain(text) => text.at(column),
             Form::Rich(line) => line.char_at(column),
+        }
+    }
+
+    /// Where the run of characters from a column on that pass a test ends.
+    pub fn run_end<T: CharacterTest>(&self, column: usize) -> usize
+        requires { column ≤ length self.now.columns }
+        ensures value { result ≡ column + prefix_len T.test (drop column (characters self.now.columns)) }
+        ensures bound { result ≤ length self.now.columns }
+    {
+        match &self.form {
+            Form::Plain(text) => text.run_end::<T>(column),
+            Form::Rich(line) => line.run_end::<T>(column),
+        }
+    }
+
+    /// Where the run of characters before a column that pass a test begins.
+    pub fn run_start<T: CharacterTest>(&self, column: usize) -> usize
+        requires { column ≤ length self.now.columns }
+        ensures value { result ≡ column - suffix_len T.test (take column (characters self.now.columns)) }
+        ensures bound { result ≤ column }
+    {
+        match &self.form {
+            Form::Plain(text) => text.run_start::<T>(column),
+            Form::Rich(line) => line.run_start::<T>(column),
         }
     }
 

@@ -1,8 +1,9 @@
-ghost use Rattle.std.specs.Prelude.{◌≡◌, ℕ, ◌+◌, ◌++◌, ◌<◌, ◌≤◌, ◌^◌, Bool, false, true, length, map, take, slice_get};
-ghost use Rattle.std.specs.Prelude.{slice_range, Some, IfSome, IfOk, IfErr, OnOk, OnErr, chars, string_bytes};
-ghost use Rattle.std.specs.Prelude.{nat_lt, option_map, vec_capacity, vec_len};
+ghost use Rattle.std.specs.Prelude.{◌≡◌, ℕ, ◌+◌, ◌-◌, ◌++◌, ◌<◌, ◌≤◌, ◌^◌, Bool, false, true, length, map, take};
+ghost use Rattle.std.specs.Prelude.{slice_get, slice_range, Some, IfSome, IfOk, IfErr, OnOk, OnErr, chars};
+ghost use Rattle.std.specs.Prelude.{string_bytes, drop, nat_lt, option_map, vec_capacity, vec_len};
 ghost use Rattle.std.specs.FinMap as finite;
 ghost use Rattle.std.specs.FinSet as set;
+ghost use Rattle.std.specs.List.{prefix_len, suffix_len};
 ghost use Rattle.text_model.specs.declared.places.MarkNo.{MarkNo};
 ghost use Rattle.text_model.specs.MarkOrder.{marks_at, next_mark, previous_mark};
 ghost use Rattle.text_model.specs.SlotSets.{differing};
@@ -25,7 +26,7 @@ use crate::toggles::{
 };
 use std::alloc::{AllocError, AllocFailed, Global};
 use std::marker::Model;
-use text_model::{MarkNo, Place, TagSet, TagSlot, WORDS};
+use text_model::{CharacterTest, MarkNo, Place, TagSet, TagSlot, WORDS};
 use toggle_sums::Sums;
 
 /// Whether a list has room for more.
@@ -142,6 +143,24 @@ impl RichLine {
         ensures { slice_get (characters self.now.columns) column ≡ Some result }
     {
         self.text.at(column)
+    }
+
+    /// Where the run of characters from a column on that pass a test ends.
+    pub fn run_end<T: CharacterTest>(&self, column: usize) -> usize
+        requires { column ≤ length self.now.columns }
+        ensures value { result ≡ column + prefix_len T.test (drop column (characters self.now.columns)) }
+        ensures bound { result ≤ length self.now.columns }
+    {
+        self.text.run_end::<T>(column)
+    }
+
+    /// Where the run of characters before a column that pass a test begins.
+    pub fn run_start<T: CharacterTest>(&self, column: usize) -> usize
+        requires { column ≤ length self.now.columns }
+        ensures value { result ≡ column - suffix_len T.test (take column (characters self.now.columns)) }
+        ensures bound { result ≤ column }
+    {
+        self.text.run_start::<T>(column)
     }
 
     /// The slots that are toggled an odd number of times before the character at a column; at the end of the line those

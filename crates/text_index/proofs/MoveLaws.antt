@@ -1,9 +1,11 @@
 -- What a move comes to, by the test that it takes.
 use Rattle.std.proofs.Common.{◌≡◌, ℕ, suc, ◌+◌, ◌-◌, ◌<◌, ◌≤◌, ◌==◌, Bool, true, false, List, length, take, drop, refl}
-use Rattle.std.proofs.Common.{sym, ap, ◌∙◌, arith, ne_eqb}
+use Rattle.std.proofs.Common.{min, max, sym, ap, ◌∙◌, arith, ne_eqb}
 use Rattle.std.specs.Prelude.{slice_index, if◌then◌else◌}
 use Rattle.std.specs.List.{prefix_len, suffix_len}
 use Rattle.std.proofs.lemmas.Bool.Decides.{nat_tests, Decides-eqb}
+use Rattle.std.proofs.lemmas.List.Sums.{prefix_len-drop_yes, prefix_len-drop_no}
+use Rattle.std.proofs.lemmas.List.Sums.{suffix_len-take_yes, suffix_len-take_no}
 use Rattle.text_model.specs.Lines.{lines, line_of}
 use Rattle.text_index.specs.Values.{in_line, column_of, lines_back, unless_end, word_front, word_behind, word_end}
 use Rattle.text_index.proofs.ViewLaws.{line_of-within}
@@ -49,16 +51,24 @@ pub moves : (text : List ℕ) (place value found : ℕ) → (place ≡ length te
     found ≡ unless_end text place value
 moves text place value found other is = is ∙ sym (inside text place value other)
 
-pub front-of-word : (test : ℕ → Bool) (text : List ℕ) (place found : ℕ) (is : Bool) →
-    is ≡ test (slice_index text place) → is ≡ true → found ≡ place - suffix_len test (take place text)
-    → found ≡ word_front test text place
-front-of-word test text place found is value met found_is =
-    found_is ∙ sym (ap (λ b. if b then place - suffix_len test (take place text) else place) (sym value ∙ met))
-
-pub front-of-other : (test : ℕ → Bool) (text : List ℕ) (place : ℕ) (is : Bool) → is ≡ test (slice_index text place) →
-    is ≡ false → place ≡ word_front test text place
-front-of-other test text place is value unmet =
-    sym (ap (λ b. if b then place - suffix_len test (take place text) else place) (sym value ∙ unmet))
+-- the run that ends behind the character of a place begins there at most, or behind it where that makes no word
+pub front-of-run : (test : ℕ → Bool) (text : List ℕ) (place next start : ℕ) → place < length text →
+    start ≡ next - suffix_len test (take next text) → next ≡ place + 1 → min start place ≡ word_front test text place
+front-of-run test text place next start within is next_is = which (test (slice_index text place)) refl where
+  which : (b : Bool) → test (slice_index text place) ≡ b → min start place ≡ word_front test text place
+  which true met =
+      let back : next - 1 ≡ place = omega (arith, next_is) in
+      let one = suffix_len-take_yes test text next 0 (omega (arith, next_is)) (omega (arith, next_is))
+      (ap (λ n. test (slice_index text n)) back ∙ met) in
+      let here = ap (λ n. suffix_len test (take n text)) back in
+      let found : min start place ≡ place - suffix_len test (take place text) = omega (arith, is, one, here, next_is) in
+      found ∙ sym (ap (λ b. if b then place - suffix_len test (take place text) else place) met)
+  which false unmet =
+      let back : next - 1 ≡ place = omega (arith, next_is) in
+      let none = suffix_len-take_no test text next 0 (omega (arith, next_is)) (omega (arith, next_is))
+      (ap (λ n. test (slice_index text n)) back ∙ unmet) in
+      let found : min start place ≡ place = omega (arith, is, none, next_is) in
+      found ∙ sym (ap (λ b. if b then place - suffix_len test (take place text) else place) unmet)
 
 -- the end of a word, from a place that isn't the last
 behind : (test : ℕ → Bool) (text : List ℕ) (place found : ℕ) → 1 < length text - place →
@@ -68,19 +78,20 @@ behind test text place found more is =
     (is ∙ sym (ap (λ b. if b then place else word_behind test text place)
     (ne_eqb (suc place) (length text) (λ same. omega (arith, same, more)))))
 
-pub end-of-word : (test : ℕ → Bool) (text : List ℕ) (place found : ℕ) (is : Bool) → 1 < length text - place →
-    is ≡ test (slice_index text place) → is ≡ true
-    → found ≡ place + prefix_len test (drop place text) → found ≡ unless_end text place (word_end test text place)
-end-of-word test text place found is more value met found_is =
-    behind test text place found more (found_is
-    ∙ sym (ap (λ b. if b then place + prefix_len test (drop place text) else place + 1) (sym value ∙ met)))
-
-pub end-of-other : (test : ℕ → Bool) (text : List ℕ) (place : ℕ) (is : Bool) → 1 < length text - place →
-    is ≡ test (slice_index text place) → is ≡ false
-    → place + 1 ≡ unless_end text place (word_end test text place)
-end-of-other test text place is more value unmet =
-    behind test text place (place + 1) more
-    (sym (ap (λ b. if b then place + prefix_len test (drop place text) else place + 1) (sym value ∙ unmet)))
+pub end-of-run : (test : ℕ → Bool) (text : List ℕ) (place end : ℕ) → 1 < length text - place →
+    end ≡ place + prefix_len test (drop place text)
+    → max end (place + 1) ≡ unless_end text place (word_end test text place)
+end-of-run test text place end more is =
+    behind test text place (max end (place + 1)) more (which (test (slice_index text place)) refl) where
+      which : (b : Bool) → test (slice_index text place) ≡ b → max end (place + 1) ≡ word_behind test text place
+      which true met =
+          let one = prefix_len-drop_yes test text place 0 (omega arith) met in
+          let found : max end (place + 1) ≡ place + prefix_len test (drop place text) = omega (arith, is, one) in
+          found ∙ sym (ap (λ b. if b then place + prefix_len test (drop place text) else place + 1) met)
+      which false unmet =
+          let none = prefix_len-drop_no test text place 0 (omega arith) unmet in
+          let found : max end (place + 1) ≡ place + 1 = omega (arith, is, none) in
+          found ∙ sym (ap (λ b. if b then place + prefix_len test (drop place text) else place + 1) unmet)
 
 -- the last place stays, and so does the end
 pub end-of-last : (test : ℕ → Bool) (text : List ℕ) (place : ℕ) → place ≤ length text → length text - place ≤ 1 →

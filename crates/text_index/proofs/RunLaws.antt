@@ -1,74 +1,73 @@
--- How a run of word characters goes on, in both directions.
-use Rattle.std.proofs.Common.{◌≡◌, ℕ, ◌+◌, ◌-◌, ◌<◌, ◌≤◌, Bool, true, false, cond, List, [], ◌∷◌, ◌++◌, length, take}
-use Rattle.std.proofs.Common.{drop, sym, ap, ◌∙◌, arith}
-use Rattle.std.specs.Prelude.{slice_index}
+-- Runs of characters of a text, in the part of it that a view shows.
+use Rattle.std.proofs.Common.{◌≡◌, ℕ, zero, suc, ◌+◌, ◌-◌, ◌≤◌, min, Bool, true, false, cond, List, [], ◌∷◌, ◌++◌}
+use Rattle.std.proofs.Common.{length, take, drop, refl, sym, ap, ◌∙◌, arith, drop-drop, length-drop}
+use Rattle.std.specs.Prelude.{reverse, slice_range}
 use Rattle.std.specs.List.{prefix_len, suffix_len}
-use Rattle.std.proofs.lemmas.List.{take_more, drop_more, reverse-append}
-use Rattle.std.proofs.lemmas.List.Sums.{prefix_len-drop_all}
+use Rattle.std.proofs.lemmas.List.{length-reverse, length-take-le, reverse-append, take-take}
+use Rattle.text_index.proofs.ViewLaws.{take-apart}
 
-suffix-one : (test : ℕ → Bool) (xs : List ℕ) (x : ℕ) → suffix_len test (xs ++ x ∷ [])
-    ≡ cond (test x) (1 + suffix_len test xs) 0
-suffix-one test xs x = ap (prefix_len test) (reverse-append xs (x ∷ []))
+-- a front of a text ends its run
+prefix-front : (test : ℕ → Bool) (n : ℕ) (text : List ℕ) → prefix_len test (take n text) ≡ min n (prefix_len test text)
+prefix-front test zero text = omega arith
+prefix-front test (suc n) [] = omega arith
+prefix-front test (suc n) (c ∷ text) = by (test c) (prefix-front test n text) where
+  by : (b : Bool) → prefix_len test (take n text) ≡ min n (prefix_len test text) →
+      cond b (1 + prefix_len test (take n text)) 0 ≡ min (suc n) (cond b (1 + prefix_len test text) 0)
+  by true is = ap (λ k. 1 + k) is ∙ omega arith
+  by false is = omega arith
 
--- one character more to the front
-suffix-next : (test : ℕ → Bool) (text : List ℕ) (at : ℕ) → at < length text →
-    suffix_len test (take (at + 1) text) ≡ cond (test (slice_index text at)) (1 + suffix_len test (take at text)) 0
-suffix-next test text at within =
-    ap (suffix_len test) (take_more text at 0 within) ∙ suffix-one test (take at text) (slice_index text at)
+take-nil : (n : ℕ) → take {A = ℕ} n [] ≡ []
+take-nil zero = refl
+take-nil (suc n) = refl
 
--- and one more behind
-prefix-next : (test : ℕ → Bool) (text : List ℕ) (at : ℕ) → at < length text →
-    prefix_len test (drop at text) ≡ cond (test (slice_index text at)) (1 + prefix_len test (drop (at + 1) text)) 0
-prefix-next test text at within = ap (prefix_len test) (drop_more text at 0 within)
+-- so many characters on in a front
+drop-front : (n k : ℕ) (text : List ℕ) → drop k (take n text) ≡ take (n - k) (drop k text)
+drop-front n zero text = ap (λ m. take m text) (let same : n ≡ n - 0 = omega arith in same)
+drop-front zero (suc k) text = ap (λ m. take m (drop (suc k) text)) (let none : 0 ≡ 0 - suc k = omega arith in none)
+drop-front (suc n) (suc k) [] = sym (take-nil (suc n - suc k))
+drop-front (suc n) (suc k) (c ∷ text) =
+    drop-front n k text ∙ ap (λ m. take m (drop k text)) (let same : n - k ≡ suc n - suc k = omega arith in same)
 
--- ---- where a run from a place on ends: `run` characters of it stand from there on
+-- the run from a place on ends where that of the text does, or with the part
+pub run_end-part : (test : ℕ → Bool) (text : List ℕ) (s e place found : ℕ) → s + place ≤ e →
+    found ≡ (s + place) + prefix_len test (drop (s + place) text)
+    → min found e - s ≡ place + prefix_len test (drop place (slice_range text s e))
+run_end-part test text s e place found within is =
+    let run : prefix_len test (drop place (slice_range text s e))
+    ≡ min ((e - s) - place) (prefix_len test (drop (s + place) text)) =
+    ap (prefix_len test) (drop-front (e - s) place (drop s text)
+    ∙ ap (take ((e - s) - place)) (drop-drop place s text))
+    ∙ prefix-front test ((e - s) - place) (drop (s + place) text) in
+    omega (arith, run, is, within)
 
-pub run-on : (test : ℕ → Bool) (text : List ℕ) (place at run : ℕ) (is : Bool) → at < length text →
-    is ≡ test (slice_index text at) → is ≡ true
-    → place + run ≡ at + prefix_len test (drop at text) → place + run ≡ at + 1 + prefix_len test (drop (at + 1) text)
-run-on test text place at run is within value met so_far =
-    let next = prefix-next test text at within
-    ∙ ap (λ b. cond b (1 + prefix_len test (drop (at + 1) text)) 0) (sym value ∙ met) in
-    omega (arith, so_far, next)
+-- what goes on in front of a text makes its run no shorter
+prefix-rest : (test : ℕ → Bool) (text rest : List ℕ) → length text - prefix_len test text
+    ≡ length text - prefix_len test (text ++ rest)
+prefix-rest test [] rest = omega arith
+prefix-rest test (c ∷ text) rest = by (test c) (prefix-rest test text rest) where
+  by : (b : Bool) → length text - prefix_len test text ≡ length text - prefix_len test (text ++ rest) →
+      suc (length text) - cond b (1 + prefix_len test text) 0
+      ≡ suc (length text) - cond b (1 + prefix_len test (text ++ rest)) 0
+  by true is = omega (arith, is)
+  by false is = refl
 
-pub run-ends : (test : ℕ → Bool) (text : List ℕ) (place at run : ℕ) (is : Bool) → at < length text →
-    is ≡ test (slice_index text at) → is ≡ false
-    → place + run ≡ at + prefix_len test (drop at text) → at ≡ place + run
-run-ends test text place at run is within value unmet so_far =
-    let next = prefix-next test text at within
-    ∙ ap (λ b. cond b (1 + prefix_len test (drop (at + 1) text)) 0) (sym value ∙ unmet) in
-    omega (arith, so_far, next)
+suffix-rest : (test : ℕ → Bool) (front text : List ℕ) → length text - suffix_len test text
+    ≡ length text - suffix_len test (front ++ text)
+suffix-rest test front text =
+    let back = prefix-rest test (reverse text) (reverse front) in
+    let same : suffix_len test (front ++ text) ≡ prefix_len test (reverse text ++ reverse front) =
+    ap (prefix_len test) (reverse-append front text) in
+    omega (arith, back, same, length-reverse text)
 
-pub run-to-end : (test : ℕ → Bool) (text : List ℕ) (place at run end : ℕ) → length text ≤ at → at ≤ end →
-    end ≡ length text
-    → place + run ≡ at + prefix_len test (drop at text) → end ≡ place + run
-run-to-end test text place at run end behind below is so_far =
-    let none = prefix_len-drop_all test text at behind in
-    omega (arith, so_far, none, behind, below, is)
-
--- ---- where the run before a place begins: it has `run` characters, and so many of them were passed
-
-pub run-back : (test : ℕ → Bool) (text : List ℕ) (place passed run : ℕ) (is : Bool) → passed < place →
-    place ≤ length text → is ≡ test (slice_index text (place - passed - 1)) → is ≡ true
-    → run ≡ passed + suffix_len test (take (place - passed) text) →
-    run ≡ passed + 1 + suffix_len test (take (place - (passed + 1)) text)
-run-back test text place passed run is below within value met so_far =
-    let at = place - passed - 1 in
-    let whole : at + 1 ≡ place - passed = omega arith in
-    let left : at ≡ place - (passed + 1) = omega arith in
-    let next = suffix-next test text at (omega arith)
-    ∙ ap (λ b. cond b (1 + suffix_len test (take at text)) 0) (sym value ∙ met) in
-    let before = ap (λ n. suffix_len test (take n text)) whole in
-    let behind = ap (λ n. suffix_len test (take n text)) left in
-    omega (arith, so_far, next, before, behind)
-
-pub run-begins : (test : ℕ → Bool) (text : List ℕ) (place passed run : ℕ) (is : Bool) → passed < place →
-    place ≤ length text → is ≡ test (slice_index text (place - passed - 1)) → is ≡ false
-    → run ≡ passed + suffix_len test (take (place - passed) text) → place - passed ≡ place - run
-run-begins test text place passed run is below within value unmet so_far =
-    let at = place - passed - 1 in
-    let whole : at + 1 ≡ place - passed = omega arith in
-    let next = suffix-next test text at (omega arith)
-    ∙ ap (λ b. cond b (1 + suffix_len test (take at text)) 0) (sym value ∙ unmet) in
-    let before = ap (λ n. suffix_len test (take n text)) whole in
-    omega (arith, so_far, next, before)
+-- and the run before a place begins where that of the text does, or with the part
+pub run_start-part : (test : ℕ → Bool) (text : List ℕ) (s e place found : ℕ) → s + place ≤ e → e ≤ length text →
+    found ≡ (s + place) - suffix_len test (take (s + place) text)
+    → found - s ≡ place - suffix_len test (take place (slice_range text s e))
+run_start-part test text s e place found within all is =
+    let part = take place (drop s text) in
+    let same : suffix_len test (take place (slice_range text s e)) ≡ suffix_len test part =
+    ap (suffix_len test) (take-take place (e - s) (drop s text) (omega arith)) in
+    let whole : suffix_len test (take (s + place) text) ≡ suffix_len test (take s text ++ part) =
+    ap (suffix_len test) (take-apart s place text) in
+    let long : length part ≡ place = length-take-le place (drop s text) (omega (arith, length-drop s text)) in
+    omega (arith, is, same, whole, long, suffix-rest test (take s text) part)

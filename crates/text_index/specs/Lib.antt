@@ -3,4 +3,5 @@ pub mod Positions
 pub mod Ranges
 pub mod Values
 pub mod Views
+pub mod WordRows
 pub mod Words

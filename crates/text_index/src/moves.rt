@@ -7,7 +7,7 @@ ghost use Rattle.text_index.specs.Words.{is_word};
 ghost use Rattle.index_grammar.specs.declared.indices.Modifier.TheVariants as modifier;
 
 use crate::views::View;
-use crate::words::is_word;
+use crate::words::WordTest;
 use index_grammar::Direction;
 use text_model::TextStore;
 
@@ -112,10 +112,11 @@ pub fn word_start<S: TextStore>(view: &View<'_, S>, place: usize) -> usize
         modifier.WordStart }
     ensures bound { view.now.s + result ≤ view.now.e }
 {
-    if place == view.len() || !is_word(view.char_at(place)) {
+    if place == view.len() {
         return place;
     }
-    run_begin(view, place)
+    // Of a character that makes no words the run begins behind it.
+    run_begin(view, place + 1).min(place)
 }
 
 /// The place behind the word of a place; but the last place stays, and so does the end.
@@ -128,12 +129,9 @@ pub fn word_end<S: TextStore>(view: &View<'_, S>, place: usize) -> usize
 {
     let left = view.len() - place;
     if left <= 1 {
-        place
-    } else if is_word(view.char_at(place)) {
-        run_end(view, place)
-    } else {
-        place + 1
+        return place;
     }
+    run_end(view, place).max(place + 1)
 }
 
 /// Where the run of word characters before a place begins.
@@ -144,12 +142,8 @@ fn run_begin<S: TextStore>(view: &View<'_, S>, place: usize) -> usize
         (take place (shown (S.content view.now.store.now) view.now.s view.now.e)) }
     ensures bound { view.now.s + result ≤ view.now.e }
 {
-    for passed in 0..place {
-        if !is_word(view.char_at(place - passed - 1)) {
-            return place - passed;
-        }
-    }
-    0
+    let start = view.store.run_start::<WordTest>(view.s + place);
+    start.saturating_sub(view.s)
 }
 
 /// Where the run of word characters from a place on ends.
@@ -160,12 +154,11 @@ fn run_end<S: TextStore>(view: &View<'_, S>, place: usize) -> usize
         (drop place (shown (S.content view.now.store.now) view.now.s view.now.e)) }
     ensures bound { view.now.s + result ≤ view.now.e }
 {
-    for at in place..view.len() {
-        if !is_word(view.char_at(at)) {
-            return at;
-        }
+    if place == view.len() {
+        return place;
     }
-    view.len()
+    let end = view.store.run_end::<WordTest>(view.s + place);
+    end.min(view.e) - view.s
 }
 
 /// The first place of a place's line. The end stays.

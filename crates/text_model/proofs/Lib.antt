@@ -7,6 +7,7 @@ pub mod MarkOrderLaws
 pub mod OneWordSteps
 pub mod PlaceLaws
 pub mod PlainLaws
+pub mod RunLaws
 pub mod SpliceLaws
 pub mod StepLaws
 pub mod TagSteps

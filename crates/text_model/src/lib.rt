@@ -2,6 +2,7 @@
 #![tactic(auto)]
 
 mod cells;
+mod character_test;
 mod edits;
 mod limits;
 mod places;
@@ -12,6 +13,7 @@ mod tag_set;
 mod texts;
 
 pub use cells::Cell;
+pub use character_test::CharacterTest;
 pub use edits::{Edit, Step, StepList};
 pub use limits::Limits;
 pub use places::{Gravity, LineSpan, MarkNo, Place, TagSlot};

@@ -12,6 +12,7 @@ ghost use Rattle.text_model.specs.TagBits.{slot_count};
 ghost use Rattle.std.specs.FinMap as finite;
 
 use crate::cells::Cell;
+use crate::character_test::CharacterTest;
 use crate::edits::{Edit, Step};
 use crate::places::{LineSpan, MarkNo, Place, TagSlot};
 use crate::store::TextStore;
@@ -92,6 +93,29 @@ fn alike_from_last(cells: &[Cell], slot: TagSlot, is_on: bool) -> usize
 {
     let mut start = cells.len();
     while start > 0 && cells[start - 1].tags.has(slot) == is_on {
+        start -= 1;
+    }
+    cells.len() - start
+}
+
+/// How many cells from the first on have characters that pass a test.
+fn passing_from_first<T: CharacterTest>(cells: &[Cell]) -> usize
+    ensures { result ≡ prefix_len T.test (characters cells.now) }
+{
+    for (count, cell) in cells.iter().enumerate() {
+        if !T::passes(cell.character) {
+            return count;
+        }
+    }
+    cells.len()
+}
+
+/// How many cells from the last back have characters that pass a test.
+fn passing_from_last<T: CharacterTest>(cells: &[Cell]) -> usize
+    ensures { result ≡ suffix_len T.test (characters cells.now) }
+{
+    let mut start = cells.len();
+    while start > 0 && T::passes(cells[start - 1].character) {
         start -= 1;
     }
     cells.len() - start
@@ -401,6 +425,14 @@ impl TextStore for PlainStore {
 
     fn char_at(&self, offset: usize) -> char {
         self.cells[offset].character
+    }
+
+    fn run_end<T: CharacterTest>(&self, offset: usize) -> usize {
+        offset + passing_from_first::<T>(&self.cells[offset..])
+    }
+
+    fn run_start<T: CharacterTest>(&self, offset: usize) -> usize {
+        offset - passing_from_last::<T>(&self.cells[..offset])
     }
 
     fn has_tag(&self, offset: usize, slot: TagSlot) -> bool {

@@ -1,6 +1,7 @@
 ghost use Rattle.std.specs.Prelude.{◌≡◌, ◌+◌, ◌-◌, ◌<◌, ◌≤◌, length, slice_range, slice_get, Some, IfOk, IfSome, chars};
-ghost use Rattle.std.specs.Prelude.{string_bytes};
+ghost use Rattle.std.specs.Prelude.{drop, string_bytes, take};
 ghost use Rattle.std.specs.FinMap as finite;
+ghost use Rattle.std.specs.List.{prefix_len, suffix_len};
 ghost use Rattle.text_model.specs.Changes.{next_change, previous_change};
 ghost use Rattle.text_model.specs.Content.{Content, characters, flags, new_content, slot_sets, slots_behind};
 ghost use Rattle.text_model.specs.Lines.{IsLineOf, lines, line_of, line_start};
@@ -8,6 +9,7 @@ ghost use Rattle.text_model.specs.MarkOrder.{marks_at, next_mark, previous_mark}
 ghost use Rattle.text_model.specs.Steps.{Fits, after};
 ghost use Rattle.text_model.specs.TagBits.{slot_count};
 
+use crate::character_test::CharacterTest;
 use crate::edits::Edit;
 use crate::places::{LineSpan, MarkNo, Place, TagSlot};
 use crate::tag_set::TagSet;
@@ -71,6 +73,18 @@ pub trait TextStore: Drop {
     fn char_at(&self, offset: usize) -> char
         requires { offset < length (content self.now).cells }
         ensures { slice_get (characters (content self.now).cells) offset ≡ Some result };
+
+    /// Where the run of characters from an offset on that pass a test ends.
+    fn run_end<T: CharacterTest>(&self, offset: usize) -> usize
+        requires { offset < length (content self.now).cells }
+        ensures value { result ≡ offset + prefix_len T.test (drop offset (characters (content self.now).cells)) }
+        ensures bound { result ≤ length (content self.now).cells };
+
+    /// Where the run of characters before an offset that pass a test begins.
+    fn run_start<T: CharacterTest>(&self, offset: usize) -> usize
+        requires { offset ≤ length (content self.now).cells }
+        ensures value { result ≡ offset - suffix_len T.test (take offset (characters (content self.now).cells)) }
+        ensures bound { result ≤ offset };
 
     /// Whether the character at an offset has a tag.
     fn has_tag(&self, offset: usize, slot: TagSlot) -> bool

@@ -1,4 +1,4 @@
-ghost use Rattle.std.specs.Prelude.{◌<◌};
+ghost use Rattle.std.specs.Prelude.{◌<◌, ◌==◌, ◌&&◌, not, refl};
 
 use crate::stores::{MARKS, PlainStep, SLOTS, length_after, make, step_of};
 use line_lists::{LineStore, LineVec};
@@ -6,7 +6,9 @@ use line_tree::TreeStore;
 use std::alloc::{AllocError, Global};
 use std::process::Abort;
 use std::test::Fail;
-use text_model::{Edit, Gravity, MarkNo, Place, PlainStore, StepList, TagSet, TagSlot, TextStore};
+use text_model::{
+    CharacterTest, Edit, Gravity, MarkNo, Place, PlainStore, StepList, TagSet, TagSlot, TextStore,
+};
 
 /// Texts of no newline to three, with characters of one byte to four.
 static TEXTS: [&str; 8] = ["", "a", "\n", "xyz", "é\n", "€b\n𐍈\n", "ü\n\nab\n𐍈", "1\n2"];
@@ -18,6 +20,19 @@ static SETS: [&[u16]; 4] = [&[], &[0], &[63, 64], &[0, 63, 64, 1023]];
 static LINES: &str = "one\nñandú\n\n€ 4\nfive and six\n\n\n𐍈\n\
     nine\nten\néleven\n12\n\n\nfifteen\n16\n\
     a\nb\nc\nd\ne\nf\ng\nh";
+
+/// A run ends at a newline, and at an `n`.
+struct RunTest;
+
+impl CharacterTest for RunTest {
+    ghost test = { λ c. not (c == 10) && not (c == 110) };
+
+    fn passes(character: char) -> bool {
+        character != '\n' && character != 'n'
+    }
+
+    ghost stops_at_newline = { refl };
+}
 
 /// Numbers that look random.
 #[derive(Drop)]
@@ -147,6 +162,15 @@ fn has_character<S: TextStore>(stores: &Stores<S>, offset: usize) -> bool {
         && plain.line_of(offset) == other.line_of(offset)
 }
 
+/// Whether the run from a character on ends in the same place, and the run up to it begins in the same place.
+fn has_runs<S: TextStore>(stores: &Stores<S>, offset: usize) -> bool {
+    let Stores { plain, other } = stores;
+    offset < plain.len()
+        && offset < other.len()
+        && plain.run_end::<RunTest>(offset) == other.run_end::<RunTest>(offset)
+        && plain.run_start::<RunTest>(offset + 1) == other.run_start::<RunTest>(offset + 1)
+}
+
 /// Whether a slot changes in the same places around the character at an offset.
 fn has_changes<S: TextStore>(stores: &Stores<S>, offset: usize, slot: TagSlot) -> bool {
     let Stores { plain, other } = stores;
@@ -209,6 +233,7 @@ fn check_places<S: TextStore>(rt: &impl Abort, stores: &Stores<S>, numbers: &mut
     for _ in 0..12 {
         let offset = numbers.below(len.max(1));
         assert!(rt; has_character(stores, offset), "at {offset}");
+        assert!(rt; has_runs(stores, offset), "at {offset}");
         assert!(rt; has_changes(stores, offset, numbers.slot()), "at {offset}");
         assert!(rt; has_marks(stores, offset), "at {offset}");
     }

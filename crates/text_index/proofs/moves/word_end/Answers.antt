@@ -1,8 +1,8 @@
-use Rattle.std.proofs.Common.{◌<◌, ◌≤◌, ◌-◌, length, ap, ◌∙◌, arith}
+use Rattle.std.proofs.Common.{◌<◌, ◌≤◌, ◌-◌, length, ◌∙◌, arith}
 use Rattle.text_index.specs.Views.{shown}
 use Rattle.text_index.specs.Words.{is_word}
 use Rattle.text_index.proofs.ViewLaws.{length-shown}
-use Rattle.text_index.proofs.MoveLaws.{end-of-word, end-of-other, end-of-last}
+use Rattle.text_index.proofs.MoveLaws.{end-of-last, end-of-run}
 use Rattle.text_index.proofs.moves.word_end.Goals as goal
 
 pub returns-then-left-le1-clause-value : goal.returns-then-left-le1-clause-value
@@ -17,18 +17,9 @@ returns-then-left-le1-clause-value g c =
     ) in
     end-of-last is_word text c.args.place within (omega (arith, c.if-left-le1.true, c.len.ensures))
 
-pub returns-then-is_word-clause-value : goal.returns-then-is_word-clause-value
-returns-then-is_word-clause-value g c =
+pub returns-clause-value : goal.returns-clause-value
+returns-clause-value g c =
     let view = c.args.view.now in
     let text = shown (g.S.TextStore.content view.store.now) view.s view.e in
     let more : 1 < length text - c.args.place = omega (arith, c.if-left-le1.false, c.len.ensures) in
-    end-of-word is_word text c.args.place c.run_end.result c.is_word.result more (c.is_word.ensures
-    ∙ ap is_word c.char_at.ensures) c.if-is_word.true c.run_end.ensures.value
-
-pub returns-else-is_word-clause-value : goal.returns-else-is_word-clause-value
-returns-else-is_word-clause-value g c =
-    let view = c.args.view.now in
-    let text = shown (g.S.TextStore.content view.store.now) view.s view.e in
-    let more : 1 < length text - c.args.place = omega (arith, c.if-left-le1.false, c.len.ensures) in
-    end-of-other is_word text c.args.place c.is_word.result more (c.is_word.ensures
-    ∙ ap is_word c.char_at.ensures) c.if-is_word.false
+    c.max.ensures ∙ end-of-run is_word text c.args.place c.run_end.result more c.run_end.ensures.value

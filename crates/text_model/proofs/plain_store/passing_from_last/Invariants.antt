@@ -1,0 +1,14 @@
+use Rattle.std.proofs.Common.{◌≡◌, ◌+◌, ◌≤◌, length, take}
+use Rattle.std.specs.List.{suffix_len}
+use Rattle.text_model.specs.Content.{characters}
+use Rattle.text_model.proofs.plain_store.passing_from_last.Given as goal
+
+abbrev pub invariant-loop-start : goal.invariant-loop-start
+invariant-loop-start g l = record {
+  within : l.start ≤ length l.cells;
+  rest : l.start + suffix_len g.T.CharacterTest.test (characters l.cells)
+      ≡ length l.cells + suffix_len g.T.CharacterTest.test (take l.start (characters l.cells));
+}
+
+abbrev pub decreases-loop-start : goal.decreases-loop-start
+decreases-loop-start g l = l.start
