@@ -1,5 +1,6 @@
 pub mod PieceLaws
 pub mod RunLaws
+mod SameLaws
 pub mod SendingLaws
 pub mod ToldLaws
 pub mod TurnLaws

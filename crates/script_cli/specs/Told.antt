@@ -6,6 +6,7 @@ use Rattle.tcl_words.specs.ScriptGrammar.{ReadsScript, ReadsFront}
 use Rattle.tcl_words.specs.declared.fault.ScriptFault.{ScriptFault}
 use Rattle.script_cli.specs.declared.summary.RunSummary.{RunSummary}
 use Rattle.devices.specs.Devices.{Appends}
+use Rattle.script_cli.specs.PlainRun.{IsPlainUpToRefusal}
 use Rattle.script_cli.specs.Run.{no_documents, RunsTo}
 
 -- From old to new the run of a script was written, of which this is the summary.
@@ -33,3 +34,10 @@ WritesFrontOfRead limits script (Some unread) old new =
     × (front : List ℕ) × (back : List ℕ)
     × ReadsFront read commands fault × RunsTo (no_documents limits) commands fault out refused
     × (encode_utf8_all out ≡ front ++ back) × Appends old new front
+
+-- These bytes are what a run of a script writes in which memory is refused to a command.
+abbrev pub WantsMemory : LimitTable → List ℕ → List ℕ → Type 0
+WantsMemory limits script bytes =
+    (commands : List (List (List ℕ))) × (fault : Option ScriptFault) × (out : List ℕ)
+    × ReadsScript script commands fault × IsPlainUpToRefusal (no_documents limits) commands out
+    × (bytes ≡ encode_utf8_all out)

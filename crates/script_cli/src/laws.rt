@@ -1,13 +1,13 @@
 //! Laws of whole runs, each the contract of a function that does nothing.
 
-ghost use Rattle.std.specs.Prelude.{◌≡◌, ◌⊎◌, List, ℕ, Option, IfSome};
+ghost use Rattle.std.specs.Prelude.{◌≡◌, ◌⊎◌, List, [], ℕ, Option, Some, IfSome};
 ghost use Rattle.text_model.specs.LimitTable.{LimitTable};
 ghost use Rattle.tcl_words.specs.declared.fault.ScriptFault.{ScriptFault};
 ghost use Rattle.peers.specs.World.{World};
 ghost use Rattle.script_cli.specs.declared.summary.RunSummary.{RunSummary};
 ghost use Rattle.devices.specs.Devices.{ReadLog, WriteLog};
 ghost use Rattle.script_cli.specs.Run.{RunsTo, run_output, refused_count, WritesRun, WritesFront};
-ghost use Rattle.script_cli.specs.Told.{WritesRunOf, WritesFrontOf, WritesFrontOfRead};
+ghost use Rattle.script_cli.specs.Told.{WritesRunOf, WritesFrontOf, WritesFrontOfRead, WantsMemory};
 ghost use Rattle.script_cli.specs.PlainRun.{IsPlain, IsPlainUpToRefusal};
 
 /// What a run prints is what the run without refusals for memory prints, up to the first command that is refused for
@@ -39,4 +39,14 @@ pub fn told_bytes()
     ensures front_of_read { (limits : LimitTable) (source_old source_new : ReadLog) (sink_old sink_new : WriteLog) →
         WritesFront limits source_old source_new sink_old sink_new → source_new.ends ≡ source_old.ends →
         IfSome source_old.left (λ script. WritesFrontOfRead limits script source_new.left sink_old.held sink_new.held) }
+{}
+
+/// Two runs of one script with the same limits, each over a store of any kind, write the same bytes, but where memory
+/// is refused to a command of one of them: the store over the tree of lines writes what the plain one writes. For what
+/// a run promises names no store.
+pub fn same_bytes()
+    ensures { (limits : LimitTable) (script one other : List ℕ) (summary another : RunSummary) →
+        WritesRunOf limits script (Some []) (Some one) summary →
+        WritesRunOf limits script (Some []) (Some other) another →
+        (one ≡ other) ⊎ (WantsMemory limits script one ⊎ WantsMemory limits script other) }
 {}

@@ -1,0 +1,164 @@
+ghost use Rattle.std.specs.Prelude.{◌≡◌, IfOk, OnOk};
+ghost use Rattle.edit_ops.specs.Keeping.{IsKept};
+ghost use Rattle.edit_ops.specs.States.{state_in};
+ghost use Rattle.undo_stack.specs.History.{no_history};
+ghost use Rattle.view_tests.specs.declared.plans.TheConstants.{RECORDING};
+ghost use Rattle.text_model.specs.contracts.plain_store.PlainStoreTextStore as plain;
+
+use crate::scenes::store_of;
+use edit_ops::{
+    EditFault, EditRules, EditedText, Piece, Recording, Span, Target, anchors_stand, commit,
+    plan_clear, plan_delete, plan_insert, plan_redo, plan_replace, plan_tag, plan_undo,
+};
+use std::alloc::{AllocError, Global};
+use std::process::Abort;
+use std::test::Fail;
+use text_model::{Limits, MarkNo, PlainStore, TagSlot, Text, TextStore};
+use undo_stack::UndoStack;
+
+const RECORDING: Recording = Recording {
+    undo: true,
+    separators: true,
+};
+
+// The slot that is set.
+const SLOT: TagSlot = TagSlot(70);
+
+type Edited = EditedText<PlainStore>;
+
+// `one two`, without a history, which no widget shows a part of.
+fn edited(alloc: Global) -> Result<Edited, AllocError>
+    ensures { IfOk result (λ text. text.history.history ≡ no_history) }
+{
+    Ok(EditedText {
+        store: store_of(alloc, "one two")?,
+        history: UndoStack::new(alloc),
+        anchors: Vec::new(alloc),
+    })
+}
+
+// A text that gets the slots of those on both sides.
+fn piece(alloc: Global, text: &str) -> Result<Vec<Piece>, AllocError> {
+    let mut pieces = Vec::new(alloc);
+    pieces.push(Piece {
+        text: Text::new(String::from_str(alloc, text)?),
+        slots: None,
+    })?;
+    Ok(pieces)
+}
+
+fn holds(rt: &impl Abort, text: &Edited, wanted: &str) -> Result<(), Fail> {
+    let found = text.store.copy_text(0, text.store.len())?;
+    assert!(rt; found.as_str() == wanted, "{found}");
+    Ok(())
+}
+
+// Puts a text in before `two`.
+fn insert(rt: &impl Abort, alloc: Global, limits: &Limits, text: &mut Edited) -> Result<(), Fail>
+    ensures { OnOk result (IsKept limits.now.chars RECORDING (state_in plain.content text.old) →
+        IsKept limits.now.chars RECORDING (state_in plain.content text.new)) }
+{
+    assert!(rt; 4 < text.store.len() && anchors_stand(&text.anchors, text.store.len()));
+    let rules = EditRules {
+        alloc,
+        limits,
+        recording: RECORDING,
+    };
+    let plan = plan_insert(&rules, text, 4, piece(alloc, "x ")?)?;
+    commit(plan, text);
+    Ok(())
+}
+
+#[test]
+fn a_text_is_put_in(rt: HostRuntime) -> Result<(), Fail> {
+    let limits = Limits::new(100, 10, 10, 10, 10).ok_or("small numbers")?;
+    let mut text = edited(rt.alloc())?;
+    insert(&rt, rt.alloc(), &limits, &mut text)?;
+    holds(&rt, &text, "one x two\n")
+}
+
+#[test]
+fn spans_are_taken_out(rt: HostRuntime) -> Result<(), Fail> {
+    let mut text = edited(rt.alloc())?;
+    let end = text.store.len();
+    assert!(rt; 8 <= end);
+    let spans = [Span { from: 4, to: 8 }, Span { from: 0, to: 1 }];
+    let plan = plan_delete(rt.alloc(), &mut text, 0, end, &spans, RECORDING)?;
+    commit(plan, &mut text);
+    holds(&rt, &text, "ne \n")
+}
+
+#[test]
+fn a_text_comes_in_the_place_of_another(rt: HostRuntime) -> Result<(), Fail> {
+    let limits = Limits::new(100, 10, 10, 10, 10).ok_or("small numbers")?;
+    let mut text = edited(rt.alloc())?;
+    assert!(rt; 7 < text.store.len() && anchors_stand(&text.anchors, text.store.len()));
+    let rules = EditRules {
+        alloc: rt.alloc(),
+        limits: &limits,
+        recording: RECORDING,
+    };
+    let target = Target {
+        last: 7,
+        from: 0,
+        to: 3,
+        mark: MarkNo(0),
+    };
+    let plan = plan_replace(&rules, &mut text, target, piece(rt.alloc(), "1")?)?;
+    commit(plan, &mut text);
+    holds(&rt, &text, "1 two\n")
+}
+
+// Whether the first character has the tag, and the last one.
+fn tagged(rt: &impl Abort, text: &Edited) -> (bool, bool) {
+    assert!(rt; 8 <= text.store.len());
+    (text.store.has_tag(0, SLOT), text.store.has_tag(7, SLOT))
+}
+
+#[test]
+fn a_tag_is_put_on_and_cleared(rt: HostRuntime) -> Result<(), Fail> {
+    let mut text = edited(rt.alloc())?;
+    assert!(rt; 8 <= text.store.len());
+    let spans = [Span { from: 5, to: 8 }];
+    let plan = plan_tag(rt.alloc(), &mut text, &spans, SLOT, true)?;
+    commit(plan, &mut text);
+    assert!(rt; tagged(&rt, &text) == (false, true));
+    let plan = plan_clear(rt.alloc(), &mut text, &[SLOT])?;
+    commit(plan, &mut text);
+    assert!(rt; tagged(&rt, &text) == (false, false));
+    Ok(())
+}
+
+// Reverts the last group; a mark that isn't there stays away.
+fn undo(rt: &impl Abort, alloc: Global, limits: &Limits, text: &mut Edited) -> Result<(), Fail>
+    requires { IsKept limits.now.chars RECORDING (state_in plain.content text.old) }
+    ensures { OnOk result (IsKept limits.now.chars RECORDING (state_in plain.content text.new)) }
+{
+    assert!(rt; anchors_stand(&text.anchors, text.store.len()));
+    let plan = plan_undo(alloc, limits, text, MarkNo(0))?;
+    commit(plan, text);
+    Ok(())
+}
+
+// Makes the group that was undone last once more.
+fn redo(rt: &impl Abort, alloc: Global, limits: &Limits, text: &mut Edited) -> Result<(), Fail>
+    requires { IsKept limits.now.chars RECORDING (state_in plain.content text.old) }
+    ensures { OnOk result (IsKept limits.now.chars RECORDING (state_in plain.content text.new)) }
+{
+    assert!(rt; anchors_stand(&text.anchors, text.store.len()));
+    let plan = plan_redo(alloc, limits, text, MarkNo(0))?;
+    commit(plan, text);
+    Ok(())
+}
+
+#[test]
+fn an_edit_is_undone_and_redone(rt: HostRuntime) -> Result<(), Fail> {
+    let limits = Limits::new(100, 10, 10, 10, 10).ok_or("small numbers")?;
+    let mut text = edited(rt.alloc())?;
+    assert!(rt; text.store.len() <= limits.chars());
+    insert(&rt, rt.alloc(), &limits, &mut text)?;
+    undo(&rt, rt.alloc(), &limits, &mut text)?;
+    holds(&rt, &text, "one two\n")?;
+    redo(&rt, rt.alloc(), &limits, &mut text)?;
+    holds(&rt, &text, "one x two\n")
+}

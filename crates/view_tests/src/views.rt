@@ -1,0 +1,109 @@
+use crate::scenes::{Scene, two_lines};
+use index_grammar::Direction;
+use search_dump::{Counted, Listed, SearchSwitches, Wanted, count, dump, search};
+use std::alloc::Global;
+use std::process::Abort;
+use std::test::Fail;
+use text_index::{Names, View, parse, push_index, resolve};
+use text_model::{TagSlot, TextStore};
+
+// An index, and the place that it stands for as an index is printed.
+struct Indexed {
+    word: &'static str,
+    place: &'static str,
+}
+
+static INDEXED: [Indexed; 5] = [
+    Indexed {
+        word: "1.4",
+        place: "1.4",
+    },
+    Indexed {
+        word: "2.0 - 1 chars",
+        place: "1.7",
+    },
+    Indexed {
+        word: "1.5 + 1 lines lineend",
+        place: "2.5",
+    },
+    Indexed {
+        word: "1.5 wordstart",
+        place: "1.4",
+    },
+    Indexed {
+        word: "end",
+        place: "3.0",
+    },
+];
+
+fn names_of(scene: &Scene) -> Names<'_>
+    ensures { result.widget ≡ TagSlot 0 }
+{
+    Names {
+        tags: &scene.tags,
+        marks: &scene.marks,
+        widget: TagSlot(0),
+    }
+}
+
+fn check_index(rt: &impl Abort, alloc: Global, scene: &Scene, row: &Indexed) -> Result<(), Fail> {
+    let view = View::new(&scene.store, 0, scene.store.len());
+    assert!(rt; view.shows_lines());
+    let index = parse(alloc, row.word, &names_of(scene))?;
+    let place = resolve(&index, &view)?;
+    let mut text = String::new(alloc);
+    push_index(&mut text, &view, place)?;
+    assert!(rt; text.as_str() == row.place, "{text}");
+    Ok(())
+}
+
+#[test]
+fn indices_stand_for_places(rt: HostRuntime) -> Result<(), Fail> {
+    let scene = two_lines(rt.alloc())?;
+    for row in &INDEXED {
+        check_index(&rt, rt.alloc(), &scene, row)?;
+    }
+    Ok(())
+}
+
+#[test]
+fn a_pattern_is_found(rt: HostRuntime) -> Result<(), Fail> {
+    let scene = two_lines(rt.alloc())?;
+    let view = View::new(&scene.store, 0, scene.store.len());
+    assert!(rt; view.shows_lines());
+    let switches = SearchSwitches {
+        direction: Direction::Forward,
+        wanted: Wanted::Apart,
+        ignores_case: false,
+        is_strict: false,
+    };
+    let found = search(rt.alloc(), &view, switches, "e", 0, None)?;
+    assert!(rt; found.as_str() == "1.2 2.3 2.4", "{found}");
+    Ok(())
+}
+
+#[test]
+fn characters_and_lines_are_counted(rt: HostRuntime) -> Result<(), Fail> {
+    let scene = two_lines(rt.alloc())?;
+    let view = View::new(&scene.store, 0, scene.store.len());
+    assert!(rt; view.shows_lines() && 9 <= view.len());
+    let options = [Counted::Characters, Counted::Lines];
+    let counts = count(rt.alloc(), &view, &options, 1, 9)?;
+    assert!(rt; counts.as_str() == "8 1", "{counts}");
+    Ok(())
+}
+
+#[test]
+fn a_text_is_dumped(rt: HostRuntime) -> Result<(), Fail> {
+    let scene = two_lines(rt.alloc())?;
+    let view = View::new(&scene.store, 0, scene.store.len());
+    assert!(rt; view.shows_lines() && 9 <= view.len());
+    let listed = Listed {
+        tags: true,
+        marks: true,
+        text: true,
+    };
+    let list = dump(rt.alloc(), &view, &names_of(&scene), listed, 4, 9)?;
+    assert!(rt; list.as_str() == "text {two\n} 1.4 text t 2.0", "{list}");
+    Ok(())
+}
