@@ -81,6 +81,7 @@ impl Cursor {
     {
         // Read, so that the prover sees its range.
         let _len = self.len;
+        self.behind.make_room()?;
         let Some(part) = self.front.pop() else {
             return Ok(());
         };
@@ -101,6 +102,7 @@ impl Cursor {
     {
         // Read, so that the prover sees its range.
         let _len = self.len;
+        self.front.make_room()?;
         let Some(part) = self.behind.pop() else {
             return Ok(());
         };
@@ -216,8 +218,6 @@ impl Cursor {
         ensures less { OnOk result (self.new.len < self.old.len) }
         ensures bound { OnOk result (self.old.len ≤ self.new.len + most) }
     {
-        // Read, so that the prover sees its range.
-        let _len = self.len;
         let Some(part) = self.behind.pop() else {
             return Ok(());
         };
@@ -259,6 +259,7 @@ impl Cursor {
         if count == 0 {
             return Ok(());
         }
+        self.front.make_room()?;
         let from = self.fresh.len();
         push_chars(&mut self.fresh, text.as_str())?;
         self.front.push(Part {

@@ -60,9 +60,9 @@ impl Side {
         self.near = block.into_parts(self.turned);
     }
 
-    /// Leaves room for a near part.
-    fn make_room(&mut self) -> Result<(), AllocError>
-        requires fits { parts_len (side_parts self.old) < 2 ^ 64 }
+    /// Makes a block of the half of the near parts that is farther off, where another part would be too many.
+    pub fn make_room(&mut self) -> Result<(), AllocError>
+        requires { parts_len (side_parts self.old) < 2 ^ 64 }
         ensures { OnOk result (StaysSide self.old self.new) }
     {
         if self.near.len() >= NEAR {
@@ -73,12 +73,10 @@ impl Side {
 
     /// Adds a part that is the nearest.
     pub fn push(&mut self, part: Part) -> Result<(), AllocError>
-        requires fits { parts_len (side_parts self.old) < 2 ^ 64 }
         ensures turned { OnOk result (self.new.turned ≡ self.old.turned) }
         ensures items { OnOk result (side_parts self.new ≡ side_parts self.old ++ part ∷ []) }
     {
         let Part { from, to, slots } = part;
-        self.make_room()?;
         self.near.push(Part { from, to, slots })?;
         Ok(())
     }
