@@ -23,7 +23,8 @@ use Rattle.text_cursor.specs.Around.{next_line}
 use Rattle.text_cursor.specs.Parts.{parts_len, turned_if}
 use Rattle.text_cursor.specs.Sides.{block_parts, side_parts}
 use Rattle.text_cursor.specs.Cursors.{cells_between, part_cells, front_cells, behind_cells, cursor_cells, source_len}
-use Rattle.text_cursor.specs.Cursors.{slots_in, last_line, front_text, behind_text, PartFits, IsCursor, IsSecond}
+use Rattle.text_cursor.specs.Cursors.{slots_in, last_line, front_text, behind_text, PartFits, IsCursor}
+use Rattle.text_cursor.specs.Cursors.{IsLastLine, IsSecond}
 use Rattle.text_cursor.specs.Around.{shared_slots}
 use Rattle.text_cursor.specs.declared.blocks.Block.{Block}
 use Rattle.text_cursor.proofs.SideLaws.{len-append, len-cons, turned-len, block-push}
@@ -226,40 +227,40 @@ first-bound part old new fits =
 
 -- ---- back over the parts before the place
 
-pub record LineSoFar (old : List Cell) (new : List ℕ) (parts : List Part) (left end : ℕ) : Type 0 where
+pub record LineSoFar (old : List Cell) (new : List ℕ) (parts : List Part) (from left end : ℕ) : Type 0 where
   pub within : left ≤ length parts
-  pub place : end ≡ parts_len (take left parts)
-  pub same : last_line (characters (front_cells old new parts))
-      ≡ last_line (characters (front_cells old new (take left parts)))
+  pub place : end ≡ from + parts_len (take left parts)
+  pub same : last_line (front_text old new parts) ≡ last_line (front_text old new (take left parts))
 
 -- a part more: where it stands, and what its last line says
-pub record LineStep (old : List Cell) (new : List ℕ) (parts : List Part) (left end : ℕ) (part : Part) : Type 0 where
+pub record LineStep (old : List Cell) (new : List ℕ) (parts : List Part) (from left end : ℕ)
+    (part : Part) : Type 0 where
   pub fits : PartFits (length old) (length new) part
   pub below : part.to - part.from ≤ end
   pub none : last_line (characters (part_cells old new part)) ≡ 0 →
-      LineSoFar old new parts (left - 1) (end - (part.to - part.from))
+      LineSoFar old new parts from (left - 1) (end - (part.to - part.from))
   pub some : 0 < last_line (characters (part_cells old new part)) →
-      last_line (characters (front_cells old new parts))
-      ≡ end - (part.to - part.from) + last_line (characters (part_cells old new part))
+      IsLastLine (front_text old new parts) from
+      (end - (part.to - part.from) + last_line (characters (part_cells old new part)))
 
-pub line-step : (old : List Cell) (new : List ℕ) (parts : List Part) (left end : ℕ) (part : Part) →
-    All (PartFits (length old) (length new)) parts → LineSoFar old new parts left end → 0 < left
-    → part ≡ get_or parts (left - 1) part → LineStep old new parts left end part
-line-step old new parts left end part fit so_far some is =
+pub line-step : (old : List Cell) (new : List ℕ) (parts : List Part) (from left end : ℕ) (part : Part) →
+    All (PartFits (length old) (length new)) parts → LineSoFar old new parts from left end → 0 < left
+    → part ≡ get_or parts (left - 1) part → LineStep old new parts from left end part
+line-step old new parts from left end part fit so_far some is =
     let P = PartFits (length old) (length new) in
     let within = so_far.within in
     let place = so_far.place in
     let front = take (left - 1) parts in
+    let text = characters (part_cells old new part) in
     let split : take left parts ≡ front ++ part ∷ [] =
     ap (λ n. take n parts) (let e : left ≡ left - 1 + 1 = omega (arith, some) in e)
     ∙ take_more parts (left - 1) part (omega (arith, some, within)) ∙ ap (λ p. front ++ p ∷ []) (sym is) in
     let counted : parts_len (take left parts) ≡ parts_len front + (part.to - part.from) = ap parts_len split
     ∙ len-push front part in
-    let cells : characters (front_cells old new (take left parts))
-    ≡ characters (front_cells old new front) ++ characters (part_cells old new part) =
-    ap (λ ps. characters (front_cells old new ps)) split ∙ ap characters (front-push old new front part)
+    let cells : front_text old new (take left parts) ≡ front_text old new front ++ text =
+    ap (front_text old new) split ∙ ap characters (front-push old new front part)
     ∙ map-append (λ (cell : Cell). cell.character) (front_cells old new front) (part_cells old new part) in
-    let long : length (characters (front_cells old new front))
+    let long : length (front_text old new front)
     ≡ parts_len front = length-characters (front_cells old new front)
     ∙ front-length old new front (All-take P (left - 1) parts fit) in
     record {
@@ -268,12 +269,12 @@ line-step old new parts left end part fit so_far some is =
       none = λ none. record {
         within = omega (arith, within);
         place = omega (arith, place, counted);
-        same = so_far.same ∙ ap last_line cells
-            ∙ last-none (characters (front_cells old new front)) (characters (part_cells old new part)) none;
+        same = so_far.same ∙ ap last_line cells ∙ last-none (front_text old new front) text none;
       };
-      some = λ above. so_far.same ∙ ap last_line cells
-          ∙ last-some (characters (front_cells old new front)) (characters (part_cells old new part)) above
-          ∙ omega (arith, long, place, counted);
+      some = λ above.
+          let whole : last_line (front_text old new parts) ≡ length (front_text old new front) + last_line text =
+          so_far.same ∙ ap last_line cells ∙ last-some (front_text old new front) text above in
+          record { some = omega (arith, whole, above); is = omega (arith, whole, long, place, counted) };
     }
 
 -- the line of the place is the last one before it
@@ -322,20 +323,19 @@ behind-text-length : (old : List Cell) (new : List ℕ) (parts : List Part) →
 behind-text-length old new parts fit =
     length-characters (behind_cells old new parts) ∙ behind-length old new parts fit
 
-last-within : (old : List Cell) (new : List ℕ) (parts : List Part) →
-    All (PartFits (length old) (length new)) parts → (count : ℕ) → parts_len parts ≡ count →
-    last_line (front_text old new parts) ≤ count
-last-within old new parts fit count is =
-    let h = line_start-le (front_text old new parts) (lines (front_text old new parts)) in
-    let k = front-text-length old new parts fit in
-    omega (arith, h, k, is)
-
 -- the same parts and characters, read by other names
 pub fit-both : (old : ℕ) (new new' : List ℕ) (parts parts' : List Part) → new' ≡ new → parts' ≡ parts →
     All (PartFits old (length new)) parts → All (PartFits old (length new')) parts'
 fit-both old new new' parts parts' new_is parts_is fit =
     subst (λ (xs : List ℕ). All (PartFits old (length xs)) parts') (sym new_is)
     (All-same (PartFits old (length new)) parts' parts parts_is fit)
+
+pub last-same : (old : List Cell) (new new' : List ℕ) (parts parts' : List Part) (end line : ℕ) → new' ≡ new →
+    parts' ≡ parts → IsLastLine (front_text old new' parts') (end - parts_len parts') line →
+    IsLastLine (front_text old new parts) (end - parts_len parts) line
+last-same old new new' parts parts' end line new_is parts_is last =
+    subst (λ n. IsLastLine (front_text old new parts) (end - n) line) (ap parts_len parts_is)
+    (subst (λ text. IsLastLine text (end - parts_len parts') line) (ap₂ (front_text old) new_is parts_is) last)
 
 pub second-same : (old : List Cell) (new new' : List ℕ) (parts parts' : List Part) (n : ℕ) → new' ≡ new →
     parts' ≡ parts → IsSecond (front_text old new' parts') n → IsSecond (front_text old new parts) n
@@ -499,12 +499,10 @@ pub record FarLineStep (old : List Cell) (new : List ℕ) (blocks : List Block) 
     (block : Block) : Type 0 where
   pub fit : All (PartFits (length old) (length new)) block.parts.items
   pub below : block.count ≤ end
-  pub within : last_line (front_text old new block.parts.items) ≤ block.count
   pub none : last_line (front_text old new block.parts.items) ≡ 0 →
       FarLine old new blocks (left - 1) (end - block.count)
-  pub some : 0 < last_line (front_text old new block.parts.items) →
-      last_line (front_text old new (block_parts false blocks))
-      ≡ end - block.count + last_line (front_text old new block.parts.items)
+  pub some : (line : ℕ) → IsLastLine (front_text old new block.parts.items) (end - block.count) line →
+      line ≡ last_line (front_text old new (block_parts false blocks))
 
 pub far-line-step : (old : List Cell) (new : List ℕ) (blocks : List Block) (left end : ℕ) (block : Block) →
     All (PartFits (length old) (length new)) (block_parts false blocks) → FarLine old new blocks left end → 0 < left
@@ -534,32 +532,31 @@ far-line-step old new blocks left end block fit so_far some is =
     record {
       fit = (split-fit P parts rest split.1).0;
       below = omega (arith, sum, counted);
-      within = last-within old new parts (split-fit P parts rest split.1).0 block.count (sym counted);
       none = λ none. record {
         within = omega (arith, within);
         place = omega (arith, sum, counted);
         same = so_far.same ∙ ap last_line text
             ∙ last-none (front_text old new front) (front_text old new parts) none;
       };
-      some = λ above. so_far.same ∙ ap last_line text
-          ∙ last-some (front_text old new front) (front_text old new parts) above
-          ∙ omega (arith, long, sum, counted);
+      some = λ line last.
+          let above = last.some in let is = last.is in
+          let found = so_far.same ∙ ap last_line text
+          ∙ last-some (front_text old new front) (front_text old new parts) above in
+          omega (arith, is, found, long, sum, counted);
     }
 
 -- the line of the place is in the near parts, or in the blocks
 pub record NearLine (old : List Cell) (cursor : Cursor) : Type 0 where
   pub fit : All (PartFits (length old) (length cursor.fresh.items)) cursor.front.near.items
   pub below : parts_len cursor.front.near.items ≤ cursor.at
-  pub within : last_line (front_text old cursor.fresh.items cursor.front.near.items)
-      ≤ parts_len cursor.front.near.items
   pub far : cursor.at - parts_len cursor.front.near.items ≡ parts_len (block_parts false cursor.front.far.items)
-  pub some : 0 < last_line (front_text old cursor.fresh.items cursor.front.near.items)
-      → line_start (line_of (characters (cursor_cells old cursor)) cursor.at) (characters (cursor_cells old cursor))
-      ≡ cursor.at - parts_len cursor.front.near.items
-      + last_line (front_text old cursor.fresh.items cursor.front.near.items)
+  pub some : (line : ℕ) → IsLastLine (front_text old cursor.fresh.items cursor.front.near.items)
+      (cursor.at - parts_len cursor.front.near.items) line
+      → line
+      ≡ line_start (line_of (characters (cursor_cells old cursor)) cursor.at) (characters (cursor_cells old cursor))
   pub none : last_line (front_text old cursor.fresh.items cursor.front.near.items) ≡ 0
-      → line_start (line_of (characters (cursor_cells old cursor)) cursor.at) (characters (cursor_cells old cursor))
-      ≡ last_line (front_text old cursor.fresh.items (block_parts false cursor.front.far.items))
+      → last_line (front_text old cursor.fresh.items (block_parts false cursor.front.far.items))
+      ≡ line_start (line_of (characters (cursor_cells old cursor)) cursor.at) (characters (cursor_cells old cursor))
 
 pub far-fit : (cursor : Cursor) (old : List Cell) → IsCursor cursor → length old ≡ cursor.old_len →
     All (PartFits (length old) (length cursor.fresh.items)) (block_parts false cursor.front.far.items)
@@ -595,11 +592,12 @@ near-line cursor old is long =
     record {
       fit = near_fit;
       below = omega (arith, sum);
-      within = last-within old new near near_fit (parts_len near) refl;
       far = omega (arith, sum);
-      some = λ above. text ∙ last-some (front_text old new far) (front_text old new near) above
-          ∙ omega (arith, sum, counted);
-      none = λ none. text ∙ last-none (front_text old new far) (front_text old new near) none;
+      some = λ line last.
+          let above = last.some in let is = last.is in
+          let found = text ∙ last-some (front_text old new far) (front_text old new near) above in
+          omega (arith, is, found, sum, counted);
+      none = λ none. sym (text ∙ last-none (front_text old new far) (front_text old new near) none);
     }
 
 pub far-small : (cursor : Cursor) → IsCursor cursor →

@@ -94,6 +94,11 @@ front_text old new parts = characters (front_cells old new parts)
 abbrev pub behind_text : List Cell → List ℕ → List Part → List ℕ
 behind_text old new parts = characters (behind_cells old new parts)
 
+-- where the last line of a text begins that has more than one, from where the text begins at some offset
+pub record IsLastLine (text : List ℕ) (from start : ℕ) : Type 0 where
+  pub some : 0 < last_line text
+  pub is : start ≡ from + last_line text
+
 -- where the second line of a text begins, which has one
 pub record IsSecond (text : List ℕ) (start : ℕ) : Type 0 where
   pub some : 0 < lines text

@@ -8,7 +8,7 @@ ghost use Rattle.std.specs.List.{All};
 ghost use Rattle.text_cursor.specs.Parts.{parts_len};
 ghost use Rattle.text_cursor.specs.Sides.{block_parts};
 ghost use Rattle.text_cursor.specs.Cursors.{cursor_cells, behind_cells, part_cells, source_len, slots_in, last_line};
-ghost use Rattle.text_cursor.specs.Cursors.{front_text, behind_text, IsSecond, PartFits, IsCursor, Moves, Takes, Puts};
+ghost use Rattle.text_cursor.specs.Cursors.{front_text, behind_text, IsLastLine, IsSecond, PartFits, IsCursor, Moves, Takes, Puts};
 ghost use Rattle.text_cursor.specs.Around.{shared_slots};
 ghost use Rattle.text_model.specs.Content.{characters};
 ghost use Rattle.text_model.specs.Lines.{lines, line_of, line_start};
@@ -343,24 +343,32 @@ fn next_line_in<S: TextStore>(store: &S, fresh: &[char], part: &Part) -> usize
     }
 }
 
-/// Where the last line of some parts of so many characters begins, in characters from their start.
-fn last_line_of<S: TextStore>(store: &S, fresh: &[char], parts: &[Part], count: usize) -> usize
+/// Where the last line of some parts begins that begins behind a newline of theirs, if they have one, and end at an
+/// offset.
+fn last_line_of<S: TextStore>(
+    store: &S,
+    fresh: &[char],
+    parts: &[Part],
+    end: usize,
+) -> Option<usize>
     requires fit { All (PartFits (length (S.content store.now).cells) (length fresh.now)) parts.now }
-    requires count { count ≡ parts_len parts.now }
-    ensures { result ≡ last_line (front_text (S.content store.now).cells fresh.now parts.now) }
+    requires below { parts_len parts.now ≤ end }
+    ensures some { IfSome result (IsLastLine (front_text (S.content store.now).cells fresh.now parts.now)
+        (end - parts_len parts.now)) }
+    ensures none { IfNone result (last_line (front_text (S.content store.now).cells fresh.now parts.now) ≡ 0) }
 {
     let mut left = parts.len();
-    let mut end = count;
+    let mut end = end;
     while left > 0 {
         left -= 1;
         let part = &parts[left];
         end -= part.to - part.from;
         let line = last_line_in(store, fresh, part);
         if line > 0 {
-            return end + line;
+            return Some(end + line);
         }
     }
-    0
+    None
 }
 
 /// Where the second line of some parts begins, in characters from their start, if they have one.
@@ -432,10 +440,9 @@ impl Cursor {
         while left > 0 {
             left -= 1;
             let block = &self.front.far[left];
-            end -= block.count;
-            let line = last_line_of(store, &self.fresh, &block.parts, block.count);
-            if line > 0 {
-                return end + line;
+            match last_line_of(store, &self.fresh, &block.parts, end) {
+                Some(line) => return line,
+                None => end -= block.count,
             }
         }
         0
@@ -448,13 +455,10 @@ impl Cursor {
         ensures { let text = characters (cursor_cells (S.content store.now).cells self.now) in
             result ≡ line_start (line_of text self.now.at) text }
     {
-        let count = count_parts(&self.front.near);
-        let line = last_line_of(store, &self.fresh, &self.front.near, count);
-        let end = self.at - count;
-        if line > 0 {
-            return end + line;
+        match last_line_of(store, &self.fresh, &self.front.near, self.at) {
+            Some(line) => line,
+            None => self.far_line(store, self.at - count_parts(&self.front.near)),
         }
-        self.far_line(store, end)
     }
 
     /// Where the second line of the blocks behind the place begins, or they end.
