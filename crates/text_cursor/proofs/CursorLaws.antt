@@ -6,8 +6,8 @@ use Rattle.std.specs.List.{All}
 use Rattle.std.proofs.lemmas.List.{append-nil, map-append, length-map, length-take-le, drop-drop, drop-append-le}
 use Rattle.std.proofs.lemmas.List.{reverse-append, reverse-reverse}
 use Rattle.std.proofs.lemmas.List.{take-append-le, take-append-drop, take_all, take_at, drop_at, nil_from_length}
-use Rattle.std.proofs.lemmas.List.Elements.{All-nil, All-cons, All-append, All-push, All-head, All-tail, All-pop, All-same}
-use Rattle.std.proofs.lemmas.List.Elements.{All-weaker}
+use Rattle.std.proofs.lemmas.List.Elements.{All-nil, All-cons, All-append, All-push, All-head, All-tail, All-pop}
+use Rattle.std.proofs.lemmas.List.Elements.{All-same, All-weaker}
 use Rattle.std.proofs.lemmas.List.Sums.{sum_by-append, sum_by-cons}
 use Rattle.std.proofs.Math.Seq.{take-add}
 use Rattle.text_model.specs.declared.cells.Cell.{Cell}
@@ -135,7 +135,8 @@ popped : (P : Part → Type 0) (all rest : List Part) (part : Part) → all ≡ 
 popped P all rest part is fit = All-pop P all rest (Some part) is fit
 
 pub moves-back : (before now : Cursor) (part : Part) → IsCursor before → SameWays before now →
-    (side_parts before.front) ≡ (side_parts now.front) ++ part ∷ [] → (side_parts now.behind) ≡ (side_parts before.behind) ++ part ∷ []
+    side_parts before.front ≡ side_parts now.front ++ part ∷ []
+    → side_parts now.behind ≡ side_parts before.behind ++ part ∷ []
     → now.fresh.items ≡ before.fresh.items → now.old_len ≡ before.old_len → now.len ≡ before.len →
     now.at ≡ before.at - (part.to - part.from) → Moves before now
 moves-back before now part is ways front behind fresh old_len len at =
@@ -152,7 +153,7 @@ moves-back before now part is ways front behind fresh old_len len at =
       is = record {
         front = subst (λ (Q : Part → Type 0). All Q (side_parts now.front)) (sym fits_same) parts.0;
         behind = subst (λ (Q : Part → Type 0). All Q (side_parts now.behind)) (sym fits_same)
-            (All-same P (side_parts now.behind) ((side_parts before.behind) ++ part ∷ []) behind
+            (All-same P (side_parts now.behind) (side_parts before.behind ++ part ∷ []) behind
             (All-push P (side_parts before.behind) part is.behind parts.1));
         place = omega (arith, front_len, place, at);
         whole = omega (arith, front_len, behind_len, place, whole, at, len);
@@ -169,7 +170,8 @@ moves-back before now part is ways front behind fresh old_len len at =
     }
 
 pub moves-over : (before now : Cursor) (part : Part) → IsCursor before → SameWays before now →
-    (side_parts before.behind) ≡ (side_parts now.behind) ++ part ∷ [] → (side_parts now.front) ≡ (side_parts before.front) ++ part ∷ []
+    side_parts before.behind ≡ side_parts now.behind ++ part ∷ []
+    → side_parts now.front ≡ side_parts before.front ++ part ∷ []
     → now.fresh.items ≡ before.fresh.items → now.old_len ≡ before.old_len → now.len ≡ before.len →
     now.at ≡ before.at + (part.to - part.from) → Moves before now
 moves-over before now part is ways behind front fresh old_len len at =
@@ -185,7 +187,7 @@ moves-over before now part is ways behind front fresh old_len len at =
     record {
       is = record {
         front = subst (λ (Q : Part → Type 0). All Q (side_parts now.front)) (sym fits_same)
-            (All-same P (side_parts now.front) ((side_parts before.front) ++ part ∷ []) front
+            (All-same P (side_parts now.front) (side_parts before.front ++ part ∷ []) front
             (All-push P (side_parts before.front) part is.front parts.1));
         behind = subst (λ (Q : Part → Type 0). All Q (side_parts now.behind)) (sym fits_same) parts.0;
         place = omega (arith, front_len, place, at);
@@ -202,10 +204,11 @@ moves-over before now part is ways behind front fresh old_len len at =
           ++ behind_cells old before.fresh.items parts) (sym behind);
     }
 
-pub moves-in : (before now : Cursor) (part : Part) (rest : List Part) (most : ℕ) → IsCursor before → SameWays before now →
-    (side_parts before.behind) ≡ rest ++ part ∷ [] → 0 < most → most < part.to - part.from
-    → (side_parts now.behind) ≡ rest ++ record part { from = part.from + most } ∷ [] →
-    (side_parts now.front) ≡ (side_parts before.front) ++ record part { to = part.from + most } ∷ []
+pub moves-in : (before now : Cursor) (part : Part) (rest : List Part) (most : ℕ) → IsCursor before →
+    SameWays before now →
+    side_parts before.behind ≡ rest ++ part ∷ [] → 0 < most → most < part.to - part.from
+    → side_parts now.behind ≡ rest ++ record part { from = part.from + most } ∷ [] →
+    side_parts now.front ≡ side_parts before.front ++ record part { to = part.from + most } ∷ []
     → now.fresh.items ≡ before.fresh.items → now.old_len ≡ before.old_len → now.len ≡ before.len →
     now.at ≡ before.at + most → Moves before now
 moves-in before now part rest most is ways behind some short behind_is front_is fresh old_len len at =
@@ -226,7 +229,7 @@ moves-in before now part rest most is ways behind some short behind_is front_is 
     record {
       is = record {
         front = subst (λ (Q : Part → Type 0). All Q (side_parts now.front)) (sym fits_same)
-            (All-same P (side_parts now.front) ((side_parts before.front) ++ first ∷ []) front_is
+            (All-same P (side_parts now.front) (side_parts before.front ++ first ∷ []) front_is
             (All-push P (side_parts before.front) first is.front
             (record { some = omega (arith, some); within = omega (arith, short, within) })));
         behind = subst (λ (Q : Part → Type 0). All Q (side_parts now.behind)) (sym fits_same)
@@ -241,7 +244,7 @@ moves-in before now part rest most is ways behind some short behind_is front_is 
       len = len;
       cells = λ old.
           ap₂ (λ new parts. front_cells old new parts ++ behind_cells old new (side_parts now.behind)) fresh front_is
-          ∙ ap (λ parts. front_cells old before.fresh.items ((side_parts before.front) ++ first ∷ [])
+          ∙ ap (λ parts. front_cells old before.fresh.items (side_parts before.front ++ first ∷ [])
           ++ behind_cells old before.fresh.items parts) behind_is
           ∙ cells-in old before.fresh.items (side_parts before.front) rest part (part.from + most) (omega arith)
           (omega (arith, short))
@@ -521,7 +524,8 @@ takes-both first before now is one two =
     }
 
 pub takes-part : (before now : Cursor) (part : Part) → IsCursor before → SameWays before now →
-    (side_parts before.behind) ≡ (side_parts now.behind) ++ part ∷ [] → (side_parts now.front) ≡ (side_parts before.front) →
+    side_parts before.behind ≡ side_parts now.behind ++ part ∷ []
+    → side_parts now.front ≡ side_parts before.front →
     now.fresh.items ≡ before.fresh.items
     → now.old_len ≡ before.old_len → now.at ≡ before.at → now.len ≡ before.len - (part.to - part.from) →
     Takes before now
@@ -554,13 +558,16 @@ takes-part before now part is ways behind front fresh old_len at len =
           (part-length old new part (subst (λ n. PartFits n (length new) part) (sym long) parts.1)
           ∙ omega (arith, behind_len, whole, len))
           ∙ ap (λ cells. removed before.at (before.at + (before.len - now.len))
-          (front_cells old new (side_parts before.front) ++ cells)) (sym (behind-push old new (side_parts now.behind) part)
+          (front_cells old new (side_parts before.front) ++ cells))
+          (sym (behind-push old new (side_parts now.behind) part)
           ∙ ap (behind_cells old new) (sym behind));
     }
 
-pub takes-some : (before now : Cursor) (part : Part) (rest : List Part) (most : ℕ) → IsCursor before → SameWays before now →
-    (side_parts before.behind) ≡ rest ++ part ∷ [] → most < part.to - part.from
-    → (side_parts now.behind) ≡ rest ++ record part { from = part.from + most } ∷ [] → (side_parts now.front) ≡ (side_parts before.front) →
+pub takes-some : (before now : Cursor) (part : Part) (rest : List Part) (most : ℕ) → IsCursor before →
+    SameWays before now →
+    side_parts before.behind ≡ rest ++ part ∷ [] → most < part.to - part.from
+    → side_parts now.behind ≡ rest ++ record part { from = part.from + most } ∷ [] →
+    side_parts now.front ≡ side_parts before.front →
     now.fresh.items ≡ before.fresh.items
     → now.old_len ≡ before.old_len → now.at ≡ before.at → now.len ≡ before.len - most → Takes before now
 takes-some before now part rest most is ways behind short behind_is front fresh old_len at len =
@@ -672,14 +679,16 @@ puts-none text slots before is none = record {
       ∙ take-append-drop before.at (cursor_cells old before));
 }
 
-pub puts-some : (text : List ℕ) (slots : Slots) (before now : Cursor) → IsCursor before → 0 < length text → SameWays before now →
+pub puts-some : (text : List ℕ) (slots : Slots) (before now : Cursor) → IsCursor before → 0 < length text →
+    SameWays before now →
     now.fresh.items ≡ before.fresh.items ++ text
-    → (side_parts now.front) ≡ (side_parts before.front) ++ record {
+    → side_parts now.front ≡ side_parts before.front ++ record {
       from = length before.fresh.items;
       to = length now.fresh.items;
       slots = Some slots;
     } ∷ []
-    → (side_parts now.behind) ≡ (side_parts before.behind) → now.old_len ≡ before.old_len → now.at ≡ before.at + length text →
+    → side_parts now.behind ≡ side_parts before.behind → now.old_len ≡ before.old_len →
+    now.at ≡ before.at + length text →
     now.len ≡ before.len + length text → Puts text slots before now
 puts-some text slots before now is some ways fresh front behind old_len at len =
     let new = before.fresh.items in
@@ -699,8 +708,9 @@ puts-some text slots before now is some ways fresh front behind old_len at len =
     record {
       is = record {
         front = subst (λ (Q : Part → Type 0). All Q (side_parts now.front)) (sym fits_same)
-            (All-same P (side_parts now.front) ((side_parts before.front) ++ part ∷ []) front
-            (All-push P (side_parts before.front) part (fit-more before.old_len new text (side_parts before.front) is.front) fits));
+            (All-same P (side_parts now.front) (side_parts before.front ++ part ∷ []) front
+            (All-push P (side_parts before.front) part
+            (fit-more before.old_len new text (side_parts before.front) is.front) fits));
         behind = subst (λ (Q : Part → Type 0). All Q (side_parts now.behind)) (sym fits_same)
             (All-same P (side_parts now.behind) (side_parts before.behind) behind
             (fit-more before.old_len new text (side_parts before.behind) is.behind));
@@ -715,7 +725,7 @@ puts-some text slots before now is some ways fresh front behind old_len at len =
           let f = same-fit before old (side_parts before.front) long is.front in
           let b = same-fit before old (side_parts before.behind) long is.behind in
           ap₂ (λ fs ps. front_cells old fs ps ++ behind_cells old fs (side_parts now.behind)) fresh front
-          ∙ ap (λ ps. front_cells old (new ++ text) ((side_parts before.front) ++ part ∷ [])
+          ∙ ap (λ ps. front_cells old (new ++ text) (side_parts before.front ++ part ∷ [])
           ++ behind_cells old (new ++ text) ps) behind
           ∙ ap₂ (λ a c. a ++ c)
           (front-push old (new ++ text) (side_parts before.front) part

@@ -7,7 +7,8 @@ use Rattle.std.specs.Prelude.{slice_range, min, reverse, if◌then◌else◌}
 use Rattle.std.specs.FinSet as set
 use Rattle.std.specs.List.{All}
 use Rattle.std.proofs.lemmas.List.{append-nil, map-append, length-take-le, take-append-drop, take_all, take_at, drop_at}
-use Rattle.std.proofs.lemmas.List.{take_more, drop_more, reverse-reverse, get_or_append_left, get_or-append-add, get_or-take, get_or-drop}
+use Rattle.std.proofs.lemmas.List.{take_more, drop_more, reverse-reverse, get_or_append_left, get_or-append-add}
+use Rattle.std.proofs.lemmas.List.{get_or-take, get_or-drop}
 use Rattle.std.proofs.lemmas.List.{get_or-map}
 use Rattle.std.proofs.lemmas.List.Elements.{All-take, All-drop, All-same, All-pop}
 use Rattle.std.proofs.lemmas.List.Folds.{drop_split}
@@ -762,7 +763,7 @@ last-read parts part n counted some is =
 
 pub shared-is : (cursor : Cursor) (old : List Cell) (fronts behinds : List Part) (before behind : Part) →
     IsCursor cursor → length old ≡ cursor.old_len
-    → (side_parts cursor.front) ≡ fronts ++ before ∷ [] → (side_parts cursor.behind) ≡ behinds ++ behind ∷ []
+    → side_parts cursor.front ≡ fronts ++ before ∷ [] → side_parts cursor.behind ≡ behinds ++ behind ∷ []
     → set.intersection (slots_in before.slots old (before.to - 1)) (slots_in behind.slots old behind.from)
     ≡ shared_slots cursor.at (cursor_cells old cursor)
 shared-is cursor old fronts behinds before behind is long front_is behind_is =

@@ -1,9 +1,9 @@
 -- The parts on one side of a place stay the same when blocks are made of them, or taken apart.
-use Rattle.std.proofs.Common.{◌≡◌, ℕ, zero, suc, ◌+◌, ◌-◌, ◌<◌, ◌≤◌, Bool, true, false, List, [], ◌∷◌, ◌++◌, Option}
+use Rattle.std.proofs.Common.{◌≡◌, ℕ, ◌+◌, ◌-◌, ◌<◌, Bool, true, false, List, [], ◌∷◌, ◌++◌, Option}
 use Rattle.std.proofs.Common.{Some, None}
 use Rattle.std.proofs.Common.{length, take, drop, get_or, refl, sym, ap, ap₂, ◌∙◌, arith, subst, append_assoc}
 use Rattle.std.proofs.Common.{length-append}
-use Rattle.std.specs.Prelude.{reverse, option_to_list, IfSome, if◌then◌else◌}
+use Rattle.std.specs.Prelude.{reverse, option_to_list, IfSome}
 use Rattle.std.proofs.lemmas.List.{append-nil, reverse-append, reverse-reverse, length-reverse, take-append-drop}
 use Rattle.std.proofs.lemmas.List.{take_at, take_all, take_more, nil_from_length}
 use Rattle.std.proofs.lemmas.List.Sums.{sum_by-append, sum_by-cons}
@@ -53,7 +53,8 @@ turned-length true xs = length-reverse xs
 
 pub ends-is : (all rest : List Part) (part : Part) → all ≡ rest ++ part ∷ [] → EndsWith all part
 ends-is all rest part is =
-    let long : length all - 1 ≡ length rest = let h = ap length is ∙ length-append rest (part ∷ []) in omega (arith, h) in
+    let counted = ap length is ∙ length-append rest (part ∷ []) in
+    let long : length all - 1 ≡ length rest = omega (arith, counted) in
     is ∙ ap (λ parts. parts ++ part ∷ []) (sym (ap₂ take long is ∙ take_at rest (part ∷ []) (length rest) refl))
 
 pub ends-behind : (xs ys : List Part) (part : Part) → EndsWith ys part → EndsWith (xs ++ ys) part
@@ -107,7 +108,8 @@ side-near side near is = ap (λ parts. block_parts side.turned side.far.items ++
 
 -- a side whose near parts are none is its blocks
 none-near : (side : Side) → length side.near.items ≡ 0 → side_parts side ≡ block_parts side.turned side.far.items
-none-near side none = ap (λ parts. block_parts side.turned side.far.items ++ parts) (nil_from_length side.near.items none)
+none-near side none =
+    ap (λ parts. block_parts side.turned side.far.items ++ parts) (nil_from_length side.near.items none)
     ∙ append-nil (block_parts side.turned side.far.items)
 
 -- the nearest block, where no part stands nearer

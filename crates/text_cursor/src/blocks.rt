@@ -10,12 +10,13 @@ pub fn count_parts(parts: &[Part]) -> usize
 {
     let mut count = 0;
     for part in parts {
+        // No part ends before it begins, so the difference is never cut.
         count += part.to.saturating_sub(part.from);
     }
     count
 }
 
-/// Turns parts round, where they stand the other way.
+/// Puts the last part first, and so on, where that is wanted.
 fn turn(parts: &mut Vec<Part>, turned: bool)
     ensures { parts.new.items ≡ turned_if turned parts.old.items }
 {
@@ -64,7 +65,8 @@ impl Block {
         &self.parts[index]
     }
 
-    /// Whether so many characters are those of more than half of the parts, from the last one on, or from the first one.
+    /// Whether so many characters are those of more than half of the parts: from the last one back, or from the first
+    /// one on, where they are turned.
     fn is_half_passed(&self, most: usize, turned: bool) -> bool {
         let count = self.count;
         let first = count_parts(&self.parts[..self.parts.len() / 2]);
@@ -75,8 +77,8 @@ impl Block {
         }
     }
 
-    /// Whether the block is passed by who goes so far: if it isn't longer, or if it may be passed and the way from there
-    /// is over fewer parts than the way to there.
+    /// Whether who goes so far passes the whole block: if it isn't longer, or, beyond the place, if fewer parts lead back
+    /// from its far end than up to the place.
     pub fn is_passed(&self, most: usize, beyond: bool, turned: bool) -> bool
         ensures { result ≡ true → beyond ≡ false → self.now.count ≤ most }
     {

@@ -8,7 +8,8 @@ ghost use Rattle.std.specs.List.{All};
 ghost use Rattle.text_cursor.specs.Parts.{parts_len};
 ghost use Rattle.text_cursor.specs.Sides.{block_parts};
 ghost use Rattle.text_cursor.specs.Cursors.{cursor_cells, behind_cells, part_cells, source_len, slots_in, last_line};
-ghost use Rattle.text_cursor.specs.Cursors.{front_text, behind_text, IsLastLine, IsSecond, PartFits, IsCursor, Moves, Takes, Puts};
+ghost use Rattle.text_cursor.specs.Cursors.{front_text, behind_text, IsLastLine, IsSecond, PartFits, IsCursor};
+ghost use Rattle.text_cursor.specs.Cursors.{Moves, Takes, Puts};
 ghost use Rattle.text_cursor.specs.Around.{shared_slots};
 ghost use Rattle.text_model.specs.Content.{characters};
 ghost use Rattle.text_model.specs.Lines.{lines, line_of, line_start};
@@ -127,7 +128,7 @@ impl Cursor {
         Ok(())
     }
 
-    /// Goes back over the block before the place, to go so far, if it is passed (`Side::pop_block`). Whether it was.
+    /// Goes back over the block before the place, if who goes back so far passes it. Whether it was passed.
     fn leap_back(&mut self, most: usize) -> Result<bool, AllocError>
         requires cursor { IsCursor self.old }
         ensures moves { OnOk result (Moves self.old self.new) }
@@ -145,7 +146,7 @@ impl Cursor {
         Ok(true)
     }
 
-    /// Goes on over the block behind the place, to go so far, if it is passed. Whether it was.
+    /// Goes on over the block behind the place, if who goes on so far passes it. Whether it was passed.
     fn leap_on(&mut self, most: usize, beyond: bool) -> Result<bool, AllocError>
         requires cursor { IsCursor self.old }
         ensures moves { OnOk result (Moves self.old self.new) }
@@ -164,7 +165,7 @@ impl Cursor {
         Ok(true)
     }
 
-    /// Goes back to an offset or beyond it.
+    /// Goes back to an offset, or beyond it, by less than a part or by a block.
     fn seek_back(&mut self, place: usize) -> Result<(), AllocError>
         requires cursor { IsCursor self.old }
         ensures moves { OnOk result (Moves self.old self.new) }
@@ -179,7 +180,7 @@ impl Cursor {
         Ok(())
     }
 
-    /// Goes on to an offset, or beyond it where blocks may be passed.
+    /// Goes on to an offset, or beyond it by a block, where that may be.
     fn seek_on(&mut self, place: usize, beyond: bool) -> Result<(), AllocError>
         requires cursor { IsCursor self.old }
         requires within { place ≤ self.old.len }
@@ -196,7 +197,8 @@ impl Cursor {
         Ok(())
     }
 
-    /// Goes to an offset. A block that it stands in is left by the end that fewer parts are away from there.
+    /// Goes to an offset: over whole blocks first, then over parts, from that end of the last block to which there are
+    /// fewer of them.
     pub fn seek(&mut self, place: usize) -> Result<(), AllocError>
         requires cursor { IsCursor self.old }
         requires within { place ≤ self.old.len }
@@ -343,8 +345,7 @@ fn next_line_in<S: TextStore>(store: &S, fresh: &[char], part: &Part) -> usize
     }
 }
 
-/// Where the last line of some parts begins that begins behind a newline of theirs, if they have one, and end at an
-/// offset.
+/// Where the last line begins of some parts that end at an offset, if they have a newline.
 fn last_line_of<S: TextStore>(
     store: &S,
     fresh: &[char],

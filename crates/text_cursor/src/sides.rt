@@ -1,4 +1,5 @@
-ghost use Rattle.std.specs.Prelude.{◌≡◌, ◌<◌, ◌≤◌, ◌^◌, ◌++◌, ◌∷◌, [], length, drop, option_to_list, OnOk, IfSome, IfNone, false};
+ghost use Rattle.std.specs.Prelude.{◌≡◌, ◌<◌, ◌≤◌, ◌^◌, ◌++◌, ◌∷◌, [], length, drop, option_to_list, OnOk};
+ghost use Rattle.std.specs.Prelude.{IfSome, IfNone, false};
 ghost use Rattle.text_cursor.specs.Parts.{parts_len, turned_if, EndsWith};
 ghost use Rattle.text_cursor.specs.Sides.{side_parts, StaysSide};
 
@@ -10,8 +11,9 @@ use std::mem;
 /// How many parts stand near at most. Where there would be more, the half that is farther off becomes a block.
 pub const NEAR: usize = 64;
 
-/// The parts on one side of a place, the nearest last: those far off in blocks, which stand in the order of the text,
-/// and the near ones. Behind the place the parts of each block are turned, so that the nearest is the last one there too.
+/// The parts on one side of a place, the nearest last: those far off in blocks, so that one that goes far moves whole
+/// blocks, and then the near ones, each by itself. A block has its parts in the order of the text, so behind the place
+/// they are turned where it is opened.
 #[derive(Drop)]
 pub struct Side {
     pub turned: bool,
@@ -20,7 +22,7 @@ pub struct Side {
 }
 
 impl Side {
-    /// Of near parts alone.
+    /// Of near parts alone; turned, where it is the side behind the place.
     pub fn new(alloc: Global, turned: bool, near: Vec<Part>) -> Side
         ensures turned { result.turned ≡ turned }
         ensures parts { side_parts result ≡ near.items }
@@ -116,8 +118,7 @@ impl Side {
         Ok(())
     }
 
-    /// Takes the nearest block, where no part stands nearer, to pass it: if it has at most so many characters, or if it
-    /// has more, but may be passed, and so many of them are those of more than the nearer half of its parts.
+    /// Takes the nearest block, where no part stands nearer, if who goes so far passes it (`Block::is_passed`).
     pub fn pop_block(&mut self, most: usize, beyond: bool) -> Option<Block>
         ensures turned { self.new.turned ≡ self.old.turned }
         ensures items { IfSome result (λ block. side_parts self.old

@@ -1,4 +1,4 @@
-use Rattle.std.proofs.Common.{◌≡◌, ◌+◌, ◌-◌, ◌<◌, sym, subst, ◌∙◌, arith}
+use Rattle.std.proofs.Common.{◌+◌, ◌-◌, ◌<◌, sym, subst, ◌∙◌, arith}
 use Rattle.text_cursor.specs.Cursors.{IsLastLine, front_text}
 use Rattle.text_cursor.specs.Parts.{parts_len}
 use Rattle.text_cursor.proofs.LookLaws.{line-step}

@@ -1,4 +1,4 @@
-use Rattle.std.proofs.Common.{◌≡◌, ◌+◌, ◌<◌, length, ap, ap₂, sym, subst, ◌∙◌, arith}
+use Rattle.std.proofs.Common.{◌≡◌, length, ap, ap₂, sym, subst, ◌∙◌, arith}
 use Rattle.text_model.specs.Lines.{lines}
 use Rattle.text_cursor.specs.Cursors.{front_text}
 use Rattle.text_cursor.specs.Parts.{parts_len}

@@ -1,4 +1,4 @@
-use Rattle.std.proofs.Common.{◌≡◌, length, ap, ap₂, sym, ◌∙◌, arith}
+use Rattle.std.proofs.Common.{length, ap, ap₂, sym, ◌∙◌, arith}
 use Rattle.text_cursor.specs.Cursors.{front_text, last_line}
 use Rattle.text_cursor.specs.Parts.{parts_len}
 use Rattle.text_cursor.proofs.LookLaws.{near-line, fit-both, last-same}
@@ -33,5 +33,6 @@ returns-in-None g c =
     let cells = (g.S.TextStore.content c.args.store.now).cells in
     let own = c.args.self.now in
     let near = near-line own cells c.requires.cursor (sym c.requires.old) in
-    c.far_line.ensures ∙ near.none (ap₂ (λ new parts. last_line (front_text cells new parts)) (sym c.deref.ensures.value)
+    c.far_line.ensures
+    ∙ near.none (ap₂ (λ new parts. last_line (front_text cells new parts)) (sym c.deref.ensures.value)
     (sym c.deref-2.ensures.value) ∙ c.in-None.ensures.none)

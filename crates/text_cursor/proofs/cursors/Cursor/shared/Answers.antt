@@ -1,7 +1,7 @@
-use Rattle.std.proofs.Common.{◌-◌, ◌<◌, length, take, ap₂, sym, ◌∙◌, arith}
+use Rattle.std.proofs.Common.{◌-◌, length, take, ap₂, sym, ◌∙◌}
 use Rattle.std.specs.FinSet as set
 use Rattle.text_cursor.specs.Sides.{side_parts}
-use Rattle.text_cursor.proofs.LookLaws.{shared-is, some-parts}
+use Rattle.text_cursor.proofs.LookLaws.{shared-is}
 use Rattle.text_cursor.proofs.cursors.Cursor.shared.Goals as goal
 
 pub returns : goal.returns
