@@ -17,7 +17,7 @@ ghost use Rattle.text_model.specs.Lines.{lines, line_of, line_start};
 use crate::blocks::count_parts;
 use crate::lines::{line_at, line_behind};
 use crate::parts::Part;
-use crate::sides::{NEAR, Side};
+use crate::sides::{Side, least_in_block};
 use std::alloc::{AllocError, Global};
 use text_model::{TagSet, Text, TextStore};
 
@@ -60,14 +60,15 @@ impl Cursor {
         ensures len { IfOk result (λ cursor. cursor.len ≡ len) }
         ensures cells { IfOk result (λ cursor. (old : List Cell) → length old ≡ len → cursor_cells old cursor ≡ old) }
     {
-        let near = room.min(NEAR);
+        let least = least_in_block(room);
+        let near = room.min(least);
         let front = Vec::with_capacity(alloc, near)?;
         let behind = whole(alloc, len, near)?;
         Ok(Cursor {
             old_len: len,
             fresh: Vec::new(alloc),
-            front: Side::new(alloc, false, front),
-            behind: Side::new(alloc, true, behind),
+            front: Side::new(alloc, false, least, front),
+            behind: Side::new(alloc, true, least, behind),
             at: 0,
             len,
         })

@@ -8,27 +8,37 @@ use crate::parts::Part;
 use std::alloc::{AllocError, Global};
 use std::mem;
 
-/// How many parts stand near at most. Where there would be more, the half that is farther off becomes a block.
-pub const NEAR: usize = 64;
+// Up to how many parts blocks don't grow with their number, and how many parts a block then has at least.
+const FEW: usize = 16_384;
+
+const LEAST: usize = 32;
+
+/// How many parts a block has at least, where so many are expected: one that goes from end to end passes as many
+/// blocks as the root of their number, but for a factor.
+pub fn least_in_block(room: usize) -> usize {
+    if room > FEW { room.isqrt() / 4 } else { LEAST }
+}
 
 /// The parts on one side of a place, the nearest last: those far off in blocks, so that one that goes far moves whole
-/// blocks, and then the near ones, each by itself. A block has its parts in the order of the text, so behind the place
-/// they are turned where it is opened.
+/// blocks, and then the near ones, each by itself. More than twice as many near parts as a block has at least are too
+/// many. A block has its parts in the order of the text, so behind the place they are turned where it is opened.
 #[derive(Drop)]
 pub struct Side {
     pub turned: bool,
+    pub least: usize,
     pub far: Vec<Block>,
     pub near: Vec<Part>,
 }
 
 impl Side {
-    /// Of near parts alone; turned, where it is the side behind the place.
-    pub fn new(alloc: Global, turned: bool, near: Vec<Part>) -> Side
+    /// Of near parts alone; turned, where it is the side behind the place. A block has so many parts at least.
+    pub fn new(alloc: Global, turned: bool, least: usize, near: Vec<Part>) -> Side
         ensures turned { result.turned ≡ turned }
         ensures parts { side_parts result ≡ near.items }
     {
         Side {
             turned,
+            least,
             far: Vec::new(alloc),
             near,
         }
@@ -62,13 +72,14 @@ impl Side {
         self.near = block.into_parts(self.turned);
     }
 
-    /// Makes a block of the half of the near parts that is farther off, where another part would be too many.
+    /// Makes a block of the half of the near parts that is farther off, where these are many.
     pub fn make_room(&mut self) -> Result<(), AllocError>
         requires { parts_len (side_parts self.old) < 2 ^ 64 }
         ensures { OnOk result (StaysSide self.old self.new) }
     {
-        if self.near.len() >= NEAR {
-            self.shut(NEAR / 2)?;
+        let half = self.near.len() / 2;
+        if half > self.least {
+            self.shut(half)?;
         }
         Ok(())
     }
