@@ -1,11 +1,13 @@
 -- A cursor goes through the parts of a text.
 use Rattle.std.proofs.Common.{◌≡◌, ℕ, ◌+◌, ◌-◌, ◌<◌, ◌≤◌, List, [], ◌∷◌, ◌++◌, Option, Some, None, map, length, take}
 use Rattle.std.proofs.Common.{drop, refl, sym, ap, ap₂, ◌∙◌, arith, subst, append_assoc, length-append, length-drop}
-use Rattle.std.specs.Prelude.{slice_range, sum_by}
+use Rattle.std.specs.Prelude.{Bool, true, false, reverse, slice_range, sum_by}
 use Rattle.std.specs.List.{All}
 use Rattle.std.proofs.lemmas.List.{append-nil, map-append, length-map, length-take-le, drop-drop, drop-append-le}
+use Rattle.std.proofs.lemmas.List.{reverse-append, reverse-reverse}
 use Rattle.std.proofs.lemmas.List.{take-append-le, take-append-drop, take_all, take_at, drop_at, nil_from_length}
-use Rattle.std.proofs.lemmas.List.Elements.{All-push, All-head, All-tail, All-pop, All-same, All-weaker}
+use Rattle.std.proofs.lemmas.List.Elements.{All-nil, All-cons, All-append, All-push, All-head, All-tail, All-pop}
+use Rattle.std.proofs.lemmas.List.Elements.{All-same, All-weaker}
 use Rattle.std.proofs.lemmas.List.Sums.{sum_by-append, sum_by-cons}
 use Rattle.std.proofs.Math.Seq.{take-add}
 use Rattle.text_model.specs.declared.cells.Cell.{Cell}
@@ -14,8 +16,12 @@ use Rattle.text_model.specs.Steps.{cells_of}
 use Rattle.text_model.specs.Splices.{inserted, removed}
 use Rattle.text_model.proofs.SpliceLaws.{take-removed, drop-removed}
 use Rattle.text_cursor.specs.declared.cursors.Cursor.{Cursor}
-use Rattle.text_cursor.specs.declared.cursors.Part.{Part}
-use Rattle.text_cursor.specs.Cursors.{cells_between, part_cells, front_cells, behind_cells, source_len, parts_len}
+use Rattle.text_cursor.specs.declared.parts.Part.{Part}
+use Rattle.text_cursor.specs.Parts.{parts_len, turned_if}
+use Rattle.text_cursor.specs.Sides.{side_parts}
+use Rattle.text_cursor.specs.declared.blocks.Block.{Block}
+use Rattle.text_cursor.specs.Cursors.{cells_between, part_cells, front_cells, behind_cells, source_len}
+use Rattle.text_cursor.proofs.SideLaws.{len-append, len-cons, turned-len, turned-length}
 use Rattle.text_cursor.specs.Cursors.{cursor_cells, PartFits, IsCursor, Moves, Takes, Puts}
 
 slice-length : {A : Type 0} (from to : ℕ) (xs : List A) → from ≤ to → to ≤ length xs →
@@ -119,116 +125,306 @@ cells-in old new front behind part middle above below =
     ∙ ap (λ cells. cells ++ behind_cells old new behind) (part-join old new part middle above below)
     ∙ sym (behind-push old new behind part))
 
+-- the parts of both sides stand as they stood
+pub record SameWays (before now : Cursor) : Type 0 where
+  pub ahead : now.front.turned ≡ before.front.turned
+  pub turned : now.behind.turned ≡ before.behind.turned
+
 popped : (P : Part → Type 0) (all rest : List Part) (part : Part) → all ≡ rest ++ part ∷ [] → All P all →
     All P rest × P part
 popped P all rest part is fit = All-pop P all rest (Some part) is fit
 
-pub moves-back : (before now : Cursor) (part : Part) → IsCursor before →
-    before.front.items ≡ now.front.items ++ part ∷ [] → now.behind.items ≡ before.behind.items ++ part ∷ []
+pub moves-back : (before now : Cursor) (part : Part) → IsCursor before → SameWays before now →
+    side_parts before.front ≡ side_parts now.front ++ part ∷ []
+    → side_parts now.behind ≡ side_parts before.behind ++ part ∷ []
     → now.fresh.items ≡ before.fresh.items → now.old_len ≡ before.old_len → now.len ≡ before.len →
     now.at ≡ before.at - (part.to - part.from) → Moves before now
-moves-back before now part is front behind fresh old_len len at =
+moves-back before now part is ways front behind fresh old_len len at =
     let P = PartFits before.old_len (length before.fresh.items) in
-    let parts = popped P before.front.items now.front.items part front is.front in
+    let parts = popped P (side_parts before.front) (side_parts now.front) part front is.front in
     let fits_same : PartFits now.old_len (length now.fresh.items)
     ≡ P = ap₂ (λ n xs. PartFits n (length xs)) old_len fresh in
-    let front_len : parts_len before.front.items ≡ parts_len now.front.items
-    + (part.to - part.from) = ap parts_len front ∙ len-push now.front.items part in
-    let behind_len : parts_len now.behind.items ≡ parts_len before.behind.items
-    + (part.to - part.from) = ap parts_len behind ∙ len-push before.behind.items part in
+    let front_len : parts_len (side_parts before.front) ≡ parts_len (side_parts now.front)
+    + (part.to - part.from) = ap parts_len front ∙ len-push (side_parts now.front) part in
+    let behind_len : parts_len (side_parts now.behind) ≡ parts_len (side_parts before.behind)
+    + (part.to - part.from) = ap parts_len behind ∙ len-push (side_parts before.behind) part in
     let place = is.place in let whole = is.whole in
     record {
       is = record {
-        front = subst (λ (Q : Part → Type 0). All Q now.front.items) (sym fits_same) parts.0;
-        behind = subst (λ (Q : Part → Type 0). All Q now.behind.items) (sym fits_same)
-            (All-same P now.behind.items (before.behind.items ++ part ∷ []) behind
-            (All-push P before.behind.items part is.behind parts.1));
+        front = subst (λ (Q : Part → Type 0). All Q (side_parts now.front)) (sym fits_same) parts.0;
+        behind = subst (λ (Q : Part → Type 0). All Q (side_parts now.behind)) (sym fits_same)
+            (All-same P (side_parts now.behind) (side_parts before.behind ++ part ∷ []) behind
+            (All-push P (side_parts before.behind) part is.behind parts.1));
         place = omega (arith, front_len, place, at);
         whole = omega (arith, front_len, behind_len, place, whole, at, len);
+        ahead = ways.ahead ∙ is.ahead;
+        turned = ways.turned ∙ is.turned;
       };
       old_len = old_len;
       len = len;
       cells = λ old.
-          ap₂ (λ new parts. front_cells old new now.front.items ++ behind_cells old new parts) fresh behind
-          ∙ sym (cells-over old before.fresh.items now.front.items before.behind.items part)
+          ap₂ (λ new parts. front_cells old new (side_parts now.front) ++ behind_cells old new parts) fresh behind
+          ∙ sym (cells-over old before.fresh.items (side_parts now.front) (side_parts before.behind) part)
           ∙ ap (λ parts. front_cells old before.fresh.items parts
-          ++ behind_cells old before.fresh.items before.behind.items) (sym front);
+          ++ behind_cells old before.fresh.items (side_parts before.behind)) (sym front);
     }
 
-pub moves-over : (before now : Cursor) (part : Part) → IsCursor before →
-    before.behind.items ≡ now.behind.items ++ part ∷ [] → now.front.items ≡ before.front.items ++ part ∷ []
+pub moves-over : (before now : Cursor) (part : Part) → IsCursor before → SameWays before now →
+    side_parts before.behind ≡ side_parts now.behind ++ part ∷ []
+    → side_parts now.front ≡ side_parts before.front ++ part ∷ []
     → now.fresh.items ≡ before.fresh.items → now.old_len ≡ before.old_len → now.len ≡ before.len →
     now.at ≡ before.at + (part.to - part.from) → Moves before now
-moves-over before now part is behind front fresh old_len len at =
+moves-over before now part is ways behind front fresh old_len len at =
     let P = PartFits before.old_len (length before.fresh.items) in
-    let parts = popped P before.behind.items now.behind.items part behind is.behind in
+    let parts = popped P (side_parts before.behind) (side_parts now.behind) part behind is.behind in
     let fits_same : PartFits now.old_len (length now.fresh.items)
     ≡ P = ap₂ (λ n xs. PartFits n (length xs)) old_len fresh in
-    let front_len : parts_len now.front.items ≡ parts_len before.front.items
-    + (part.to - part.from) = ap parts_len front ∙ len-push before.front.items part in
-    let behind_len : parts_len before.behind.items ≡ parts_len now.behind.items
-    + (part.to - part.from) = ap parts_len behind ∙ len-push now.behind.items part in
+    let front_len : parts_len (side_parts now.front) ≡ parts_len (side_parts before.front)
+    + (part.to - part.from) = ap parts_len front ∙ len-push (side_parts before.front) part in
+    let behind_len : parts_len (side_parts before.behind) ≡ parts_len (side_parts now.behind)
+    + (part.to - part.from) = ap parts_len behind ∙ len-push (side_parts now.behind) part in
     let place = is.place in let whole = is.whole in
     record {
       is = record {
-        front = subst (λ (Q : Part → Type 0). All Q now.front.items) (sym fits_same)
-            (All-same P now.front.items (before.front.items ++ part ∷ []) front
-            (All-push P before.front.items part is.front parts.1));
-        behind = subst (λ (Q : Part → Type 0). All Q now.behind.items) (sym fits_same) parts.0;
+        front = subst (λ (Q : Part → Type 0). All Q (side_parts now.front)) (sym fits_same)
+            (All-same P (side_parts now.front) (side_parts before.front ++ part ∷ []) front
+            (All-push P (side_parts before.front) part is.front parts.1));
+        behind = subst (λ (Q : Part → Type 0). All Q (side_parts now.behind)) (sym fits_same) parts.0;
         place = omega (arith, front_len, place, at);
         whole = omega (arith, behind_len, whole, at, len);
+        ahead = ways.ahead ∙ is.ahead;
+        turned = ways.turned ∙ is.turned;
       };
       old_len = old_len;
       len = len;
       cells = λ old.
-          ap₂ (λ new parts. front_cells old new parts ++ behind_cells old new now.behind.items) fresh front
-          ∙ cells-over old before.fresh.items before.front.items now.behind.items part
-          ∙ ap (λ parts. front_cells old before.fresh.items before.front.items
+          ap₂ (λ new parts. front_cells old new parts ++ behind_cells old new (side_parts now.behind)) fresh front
+          ∙ cells-over old before.fresh.items (side_parts before.front) (side_parts now.behind) part
+          ∙ ap (λ parts. front_cells old before.fresh.items (side_parts before.front)
           ++ behind_cells old before.fresh.items parts) (sym behind);
     }
 
 pub moves-in : (before now : Cursor) (part : Part) (rest : List Part) (most : ℕ) → IsCursor before →
-    before.behind.items ≡ rest ++ part ∷ [] → 0 < most → most < part.to - part.from
-    → now.behind.items ≡ rest ++ record part { from = part.from + most } ∷ [] →
-    now.front.items ≡ before.front.items ++ record part { to = part.from + most } ∷ []
+    SameWays before now →
+    side_parts before.behind ≡ rest ++ part ∷ [] → 0 < most → most < part.to - part.from
+    → side_parts now.behind ≡ rest ++ record part { from = part.from + most } ∷ [] →
+    side_parts now.front ≡ side_parts before.front ++ record part { to = part.from + most } ∷ []
     → now.fresh.items ≡ before.fresh.items → now.old_len ≡ before.old_len → now.len ≡ before.len →
     now.at ≡ before.at + most → Moves before now
-moves-in before now part rest most is behind some short behind_is front_is fresh old_len len at =
+moves-in before now part rest most is ways behind some short behind_is front_is fresh old_len len at =
     let P = PartFits before.old_len (length before.fresh.items) in
-    let parts = popped P before.behind.items rest part behind is.behind in
+    let parts = popped P (side_parts before.behind) rest part behind is.behind in
     let fits = parts.1 in let within = fits.within in
     let first : Part = record part { to = part.from + most } in
     let last : Part = record part { from = part.from + most } in
     let fits_same : PartFits now.old_len (length now.fresh.items)
     ≡ P = ap₂ (λ n xs. PartFits n (length xs)) old_len fresh in
-    let front_len : parts_len now.front.items ≡ parts_len before.front.items
-    + (part.from + most - part.from) = ap parts_len front_is ∙ len-push before.front.items first in
-    let old_behind : parts_len before.behind.items ≡ parts_len rest + (part.to - part.from) = ap parts_len behind
+    let front_len : parts_len (side_parts now.front) ≡ parts_len (side_parts before.front)
+    + (part.from + most - part.from) = ap parts_len front_is ∙ len-push (side_parts before.front) first in
+    let old_behind : parts_len (side_parts before.behind) ≡ parts_len rest + (part.to - part.from) = ap parts_len behind
     ∙ len-push rest part in
-    let behind_len : parts_len now.behind.items ≡ parts_len rest
+    let behind_len : parts_len (side_parts now.behind) ≡ parts_len rest
     + (part.to - (part.from + most)) = ap parts_len behind_is ∙ len-push rest last in
     let place = is.place in let whole = is.whole in
     record {
       is = record {
-        front = subst (λ (Q : Part → Type 0). All Q now.front.items) (sym fits_same)
-            (All-same P now.front.items (before.front.items ++ first ∷ []) front_is
-            (All-push P before.front.items first is.front
+        front = subst (λ (Q : Part → Type 0). All Q (side_parts now.front)) (sym fits_same)
+            (All-same P (side_parts now.front) (side_parts before.front ++ first ∷ []) front_is
+            (All-push P (side_parts before.front) first is.front
             (record { some = omega (arith, some); within = omega (arith, short, within) })));
-        behind = subst (λ (Q : Part → Type 0). All Q now.behind.items) (sym fits_same)
-            (All-same P now.behind.items (rest ++ last ∷ []) behind_is
+        behind = subst (λ (Q : Part → Type 0). All Q (side_parts now.behind)) (sym fits_same)
+            (All-same P (side_parts now.behind) (rest ++ last ∷ []) behind_is
             (All-push P rest last parts.0 (record { some = omega (arith, short); within = within })));
         place = omega (arith, front_len, place, at);
         whole = omega (arith, old_behind, behind_len, whole, at, len, short);
+        ahead = ways.ahead ∙ is.ahead;
+        turned = ways.turned ∙ is.turned;
       };
       old_len = old_len;
       len = len;
       cells = λ old.
-          ap₂ (λ new parts. front_cells old new parts ++ behind_cells old new now.behind.items) fresh front_is
-          ∙ ap (λ parts. front_cells old before.fresh.items (before.front.items ++ first ∷ [])
+          ap₂ (λ new parts. front_cells old new parts ++ behind_cells old new (side_parts now.behind)) fresh front_is
+          ∙ ap (λ parts. front_cells old before.fresh.items (side_parts before.front ++ first ∷ [])
           ++ behind_cells old before.fresh.items parts) behind_is
-          ∙ cells-in old before.fresh.items before.front.items rest part (part.from + most) (omega arith)
+          ∙ cells-in old before.fresh.items (side_parts before.front) rest part (part.from + most) (omega arith)
           (omega (arith, short))
-          ∙ ap (λ parts. front_cells old before.fresh.items before.front.items
+          ∙ ap (λ parts. front_cells old before.fresh.items (side_parts before.front)
+          ++ behind_cells old before.fresh.items parts) (sym behind);
+    }
+
+-- ---- a block before the place goes behind it, or the other way round
+
+pub front-append : (old : List Cell) (new : List ℕ) (xs ys : List Part) →
+    front_cells old new (xs ++ ys) ≡ front_cells old new xs ++ front_cells old new ys
+front-append old new [] ys = refl
+front-append old new (x ∷ xs) ys =
+    ap (λ cells. part_cells old new x ++ cells) (front-append old new xs ys)
+    ∙ sym (append_assoc (part_cells old new x) (front_cells old new xs) (front_cells old new ys))
+
+pub behind-append : (old : List Cell) (new : List ℕ) (xs ys : List Part) →
+    behind_cells old new (xs ++ ys) ≡ behind_cells old new ys ++ behind_cells old new xs
+behind-append old new [] ys = sym (append-nil (behind_cells old new ys))
+behind-append old new (x ∷ xs) ys =
+    ap (λ cells. cells ++ part_cells old new x) (behind-append old new xs ys)
+    ∙ append_assoc (behind_cells old new ys) (behind_cells old new xs) (part_cells old new x)
+
+pub behind-reverse : (old : List Cell) (new : List ℕ) (xs : List Part) →
+    behind_cells old new (reverse xs) ≡ front_cells old new xs
+behind-reverse old new [] = refl
+behind-reverse old new (x ∷ xs) =
+    ap (behind_cells old new) (reverse-append (x ∷ []) xs) ∙ behind-push old new (reverse xs) x
+    ∙ ap (λ cells. part_cells old new x ++ cells) (behind-reverse old new xs)
+
+-- parts go from one side to the other, turned
+cells-across : (old : List Cell) (new : List ℕ) (front behind parts : List Part)
+    → front_cells old new (front ++ parts) ++ behind_cells old new behind
+    ≡ front_cells old new front ++ behind_cells old new (behind ++ reverse parts)
+cells-across old new front behind parts =
+    ap (λ cells. cells ++ behind_cells old new behind) (front-append old new front parts)
+    ∙ append_assoc (front_cells old new front) (front_cells old new parts) (behind_cells old new behind)
+    ∙ ap (λ cells. front_cells old new front ++ cells)
+    (ap (λ cells. cells ++ behind_cells old new behind) (sym (behind-reverse old new parts))
+    ∙ sym (behind-append old new behind (reverse parts)))
+
+pub reverse-fit : (P : Part → Type 0) (parts : List Part) → All P parts → All P (reverse parts)
+reverse-fit P [] fit = fit
+reverse-fit P (x ∷ xs) fit = All-same P (reverse (x ∷ xs)) (reverse xs ++ x ∷ []) (reverse-append (x ∷ []) xs)
+    (All-push P (reverse xs) x (reverse-fit P xs (All-tail P x xs fit)) (All-head P x xs fit))
+
+pub split-fit : (P : Part → Type 0) (xs ys : List Part) → All P (xs ++ ys) → All P xs × All P ys
+split-fit P [] ys fit = (All-nil P, fit)
+split-fit P (x ∷ xs) ys fit =
+    let rest = split-fit P xs ys (All-tail P x (xs ++ ys) fit) in
+    (All-cons P x xs (All-head P x (xs ++ ys) fit) rest.0, rest.1)
+
+-- a block on the side before the place, and on the one behind it
+ahead-parts : (turned : Bool) (parts : List Part) → turned ≡ false → turned_if turned parts ≡ parts
+ahead-parts turned parts is = ap (λ t. turned_if t parts) is
+
+behind-parts : (turned : Bool) (parts : List Part) → turned ≡ true → turned_if turned parts ≡ reverse parts
+behind-parts turned parts is = ap (λ t. turned_if t parts) is
+
+some-len : (old new : ℕ) (parts : List Part) → All (PartFits old new) parts → 0 < length parts → 0 < parts_len parts
+some-len old new [] fit some = absurd (omega (arith, some))
+some-len old new (part ∷ parts) fit some =
+    let one = (All-head (PartFits old new) part parts fit).some in
+    let sum = len-cons part parts in
+    omega (arith, one, sum)
+
+-- a block on the end of a side has characters, and no more than the side
+block-fits : (old new : ℕ) (all rest : List Part) (turned : Bool) (block : Block) → All (PartFits old new) all →
+    all ≡ rest ++ turned_if turned block.parts.items
+    → (0 < block.count) × (parts_len rest + block.count ≡ parts_len all)
+block-fits old new all rest turned block fit is =
+    let P = PartFits old new in
+    let parts = turned_if turned block.parts.items in
+    let split = split-fit P rest parts (All-same P (rest ++ parts) all (sym is) fit) in
+    let some = block.some in let counted = block.counted in
+    let long = turned-length turned block.parts.items in
+    let above = some-len old new parts split.1 (omega (arith, some, long)) in
+    let len = turned-len turned block.parts.items in
+    let sum = ap parts_len is ∙ len-append rest parts in
+    (omega (arith, above, len, counted), omega (arith, sum, len, counted))
+
+pub front-block : (cursor : Cursor) (rest : List Part) (block : Block) → IsCursor cursor
+    → side_parts cursor.front ≡ rest ++ turned_if cursor.front.turned block.parts.items →
+    (0 < block.count) × (block.count ≤ cursor.at)
+front-block cursor rest block is front =
+    let fits = block-fits cursor.old_len (length cursor.fresh.items) (side_parts cursor.front) rest
+    cursor.front.turned block is.front front in
+    let sum = fits.1 in let place = is.place in
+    (fits.0, omega (arith, sum, place))
+
+pub behind-block : (cursor : Cursor) (rest : List Part) (block : Block) → IsCursor cursor
+    → side_parts cursor.behind ≡ rest ++ turned_if cursor.behind.turned block.parts.items →
+    (0 < block.count) × (cursor.at + block.count ≤ cursor.len)
+behind-block cursor rest block is behind =
+    let fits = block-fits cursor.old_len (length cursor.fresh.items) (side_parts cursor.behind) rest
+    cursor.behind.turned block is.behind behind in
+    let sum = fits.1 in let whole = is.whole in
+    (fits.0, omega (arith, sum, whole))
+
+pub leaps-back : (before now : Cursor) (block : Block) → IsCursor before → SameWays before now
+    → side_parts before.front ≡ side_parts now.front ++ turned_if before.front.turned block.parts.items
+    → side_parts now.behind ≡ side_parts before.behind ++ turned_if before.behind.turned block.parts.items
+    → now.fresh.items ≡ before.fresh.items → now.old_len ≡ before.old_len → now.len ≡ before.len →
+    now.at ≡ before.at - block.count → Moves before now
+leaps-back before now block is ways front_has behind_has fresh old_len len at =
+    let P = PartFits before.old_len (length before.fresh.items) in
+    let parts = block.parts.items in
+    let front = front_has ∙ ap (λ ps. side_parts now.front ++ ps) (ahead-parts before.front.turned parts is.ahead) in
+    let behind = behind_has
+    ∙ ap (λ ps. side_parts before.behind ++ ps) (behind-parts before.behind.turned parts is.turned) in
+    let split = split-fit P (side_parts now.front) parts (All-same P (side_parts now.front ++ parts)
+    (side_parts before.front) (sym front) is.front) in
+    let fits_same : PartFits now.old_len (length now.fresh.items)
+    ≡ P = ap₂ (λ n xs. PartFits n (length xs)) old_len fresh in
+    let front_len : parts_len (side_parts before.front) ≡ parts_len (side_parts now.front) + parts_len parts =
+    ap parts_len front ∙ len-append (side_parts now.front) parts in
+    let behind_len : parts_len (side_parts now.behind) ≡ parts_len (side_parts before.behind) + parts_len parts =
+    ap parts_len behind ∙ len-append (side_parts before.behind) (reverse parts)
+    ∙ ap (λ n. parts_len (side_parts before.behind) + n) (turned-len true parts) in
+    let place = is.place in let whole = is.whole in let counted = block.counted in
+    record {
+      is = record {
+        front = subst (λ (Q : Part → Type 0). All Q (side_parts now.front)) (sym fits_same) split.0;
+        behind = subst (λ (Q : Part → Type 0). All Q (side_parts now.behind)) (sym fits_same)
+            (All-same P (side_parts now.behind) (side_parts before.behind ++ reverse parts) behind
+            (All-append P (side_parts before.behind) (reverse parts) is.behind (reverse-fit P parts split.1)));
+        place = omega (arith, front_len, place, at, counted);
+        whole = omega (arith, front_len, behind_len, place, whole, at, len, counted);
+        ahead = ways.ahead ∙ is.ahead;
+        turned = ways.turned ∙ is.turned;
+      };
+      old_len = old_len;
+      len = len;
+      cells = λ old.
+          ap₂ (λ new parts. front_cells old new (side_parts now.front) ++ behind_cells old new parts) fresh behind
+          ∙ sym (cells-across old before.fresh.items (side_parts now.front) (side_parts before.behind) parts)
+          ∙ ap (λ parts. front_cells old before.fresh.items parts
+          ++ behind_cells old before.fresh.items (side_parts before.behind)) (sym front);
+    }
+
+pub leaps-on : (before now : Cursor) (block : Block) → IsCursor before → SameWays before now
+    → side_parts before.behind ≡ side_parts now.behind ++ turned_if before.behind.turned block.parts.items
+    → side_parts now.front ≡ side_parts before.front ++ turned_if before.front.turned block.parts.items
+    → now.fresh.items ≡ before.fresh.items → now.old_len ≡ before.old_len → now.len ≡ before.len →
+    now.at ≡ before.at + block.count → Moves before now
+leaps-on before now block is ways behind_has front_has fresh old_len len at =
+    let P = PartFits before.old_len (length before.fresh.items) in
+    let parts = block.parts.items in
+    let front = front_has
+    ∙ ap (λ ps. side_parts before.front ++ ps) (ahead-parts before.front.turned parts is.ahead) in
+    let behind = behind_has
+    ∙ ap (λ ps. side_parts now.behind ++ ps) (behind-parts before.behind.turned parts is.turned) in
+    let split = split-fit P (side_parts now.behind) (reverse parts)
+    (All-same P (side_parts now.behind ++ reverse parts) (side_parts before.behind) (sym behind) is.behind) in
+    let fits_same : PartFits now.old_len (length now.fresh.items)
+    ≡ P = ap₂ (λ n xs. PartFits n (length xs)) old_len fresh in
+    let front_len : parts_len (side_parts now.front) ≡ parts_len (side_parts before.front) + parts_len parts =
+    ap parts_len front ∙ len-append (side_parts before.front) parts in
+    let behind_len : parts_len (side_parts before.behind) ≡ parts_len (side_parts now.behind) + parts_len parts =
+    ap parts_len behind ∙ len-append (side_parts now.behind) (reverse parts)
+    ∙ ap (λ n. parts_len (side_parts now.behind) + n) (turned-len true parts) in
+    let place = is.place in let whole = is.whole in let counted = block.counted in
+    record {
+      is = record {
+        front = subst (λ (Q : Part → Type 0). All Q (side_parts now.front)) (sym fits_same)
+            (All-same P (side_parts now.front) (side_parts before.front ++ parts) front
+            (All-append P (side_parts before.front) parts is.front (All-same P parts (reverse (reverse parts))
+            (sym (reverse-reverse parts)) (reverse-fit P (reverse parts) split.1))));
+        behind = subst (λ (Q : Part → Type 0). All Q (side_parts now.behind)) (sym fits_same) split.0;
+        place = omega (arith, front_len, place, at, counted);
+        whole = omega (arith, behind_len, place, whole, at, len, counted);
+        ahead = ways.ahead ∙ is.ahead;
+        turned = ways.turned ∙ is.turned;
+      };
+      old_len = old_len;
+      len = len;
+      cells = λ old.
+          ap₂ (λ new parts. front_cells old new parts ++ behind_cells old new (side_parts now.behind)) fresh front
+          ∙ cells-across old before.fresh.items (side_parts before.front) (side_parts now.behind) parts
+          ∙ ap (λ parts. front_cells old before.fresh.items (side_parts before.front)
           ++ behind_cells old before.fresh.items parts) (sym behind);
     }
 
@@ -262,18 +458,18 @@ pub same-fit : (cursor : Cursor) (old : List Cell) (parts : List Part) → lengt
 same-fit cursor old parts long fit = subst (λ n. All (PartFits n (length cursor.fresh.items)) parts) (sym long) fit
 
 pub place-is : (cursor : Cursor) (old : List Cell) → IsCursor cursor → length old ≡ cursor.old_len →
-    length (front_cells old cursor.fresh.items cursor.front.items) ≡ cursor.at
-place-is cursor old is long = front-length old cursor.fresh.items cursor.front.items
-    (same-fit cursor old cursor.front.items long is.front) ∙ is.place
+    length (front_cells old cursor.fresh.items (side_parts cursor.front)) ≡ cursor.at
+place-is cursor old is long = front-length old cursor.fresh.items (side_parts cursor.front)
+    (same-fit cursor old (side_parts cursor.front) long is.front) ∙ is.place
 
 pub whole-is : (cursor : Cursor) (old : List Cell) → IsCursor cursor → length old ≡ cursor.old_len →
     length (cursor_cells old cursor) ≡ cursor.len
 whole-is cursor old is long =
-    length-append (front_cells old cursor.fresh.items cursor.front.items)
-    (behind_cells old cursor.fresh.items cursor.behind.items)
+    length-append (front_cells old cursor.fresh.items (side_parts cursor.front))
+    (behind_cells old cursor.fresh.items (side_parts cursor.behind))
     ∙ ap₂ (λ m n. m + n) (place-is cursor old is long)
-    (behind-length old cursor.fresh.items cursor.behind.items
-    (same-fit cursor old cursor.behind.items long is.behind))
+    (behind-length old cursor.fresh.items (side_parts cursor.behind)
+    (same-fit cursor old (side_parts cursor.behind) long is.behind))
     ∙ is.whole
 
 -- ---- what is behind the place is taken out
@@ -327,69 +523,77 @@ takes-both first before now is one two =
           e);
     }
 
-pub takes-part : (before now : Cursor) (part : Part) → IsCursor before →
-    before.behind.items ≡ now.behind.items ++ part ∷ [] → now.front.items ≡ before.front.items →
+pub takes-part : (before now : Cursor) (part : Part) → IsCursor before → SameWays before now →
+    side_parts before.behind ≡ side_parts now.behind ++ part ∷ []
+    → side_parts now.front ≡ side_parts before.front →
     now.fresh.items ≡ before.fresh.items
     → now.old_len ≡ before.old_len → now.at ≡ before.at → now.len ≡ before.len - (part.to - part.from) →
     Takes before now
-takes-part before now part is behind front fresh old_len at len =
+takes-part before now part is ways behind front fresh old_len at len =
     let P = PartFits before.old_len (length before.fresh.items) in
-    let parts = popped P before.behind.items now.behind.items part behind is.behind in
+    let parts = popped P (side_parts before.behind) (side_parts now.behind) part behind is.behind in
     let fits_same : PartFits now.old_len (length now.fresh.items)
     ≡ P = ap₂ (λ n xs. PartFits n (length xs)) old_len fresh in
-    let behind_len : parts_len before.behind.items ≡ parts_len now.behind.items
-    + (part.to - part.from) = ap parts_len behind ∙ len-push now.behind.items part in
+    let behind_len : parts_len (side_parts before.behind) ≡ parts_len (side_parts now.behind)
+    + (part.to - part.from) = ap parts_len behind ∙ len-push (side_parts now.behind) part in
     let whole = is.whole in
     record {
       is = record {
-        front = subst (λ (Q : Part → Type 0). All Q now.front.items) (sym fits_same)
-            (All-same P now.front.items before.front.items front is.front);
-        behind = subst (λ (Q : Part → Type 0). All Q now.behind.items) (sym fits_same) parts.0;
+        front = subst (λ (Q : Part → Type 0). All Q (side_parts now.front)) (sym fits_same)
+            (All-same P (side_parts now.front) (side_parts before.front) front is.front);
+        behind = subst (λ (Q : Part → Type 0). All Q (side_parts now.behind)) (sym fits_same) parts.0;
         place = ap parts_len front ∙ is.place ∙ sym at;
         whole = omega (arith, behind_len, whole, at, len);
+        ahead = ways.ahead ∙ is.ahead;
+        turned = ways.turned ∙ is.turned;
       };
       old_len = old_len;
       at = at;
       fewer = omega (arith, len);
       cells = λ old long.
           let new = before.fresh.items in
-          ap₂ (λ fs ps. front_cells old fs ps ++ behind_cells old fs now.behind.items) fresh front
-          ∙ removed-behind (front_cells old new before.front.items) (part_cells old new part)
-          (behind_cells old new now.behind.items) before.at (before.len - now.len) (place-is before old is long)
+          ap₂ (λ fs ps. front_cells old fs ps ++ behind_cells old fs (side_parts now.behind)) fresh front
+          ∙ removed-behind (front_cells old new (side_parts before.front)) (part_cells old new part)
+          (behind_cells old new (side_parts now.behind)) before.at (before.len - now.len) (place-is before old is long)
           (part-length old new part (subst (λ n. PartFits n (length new) part) (sym long) parts.1)
           ∙ omega (arith, behind_len, whole, len))
           ∙ ap (λ cells. removed before.at (before.at + (before.len - now.len))
-          (front_cells old new before.front.items ++ cells)) (sym (behind-push old new now.behind.items part)
+          (front_cells old new (side_parts before.front) ++ cells))
+          (sym (behind-push old new (side_parts now.behind) part)
           ∙ ap (behind_cells old new) (sym behind));
     }
 
 pub takes-some : (before now : Cursor) (part : Part) (rest : List Part) (most : ℕ) → IsCursor before →
-    before.behind.items ≡ rest ++ part ∷ [] → most < part.to - part.from
-    → now.behind.items ≡ rest ++ record part { from = part.from + most } ∷ [] → now.front.items ≡ before.front.items →
+    SameWays before now →
+    side_parts before.behind ≡ rest ++ part ∷ [] → most < part.to - part.from
+    → side_parts now.behind ≡ rest ++ record part { from = part.from + most } ∷ [] →
+    side_parts now.front ≡ side_parts before.front →
     now.fresh.items ≡ before.fresh.items
     → now.old_len ≡ before.old_len → now.at ≡ before.at → now.len ≡ before.len - most → Takes before now
-takes-some before now part rest most is behind short behind_is front fresh old_len at len =
+takes-some before now part rest most is ways behind short behind_is front fresh old_len at len =
     let P = PartFits before.old_len (length before.fresh.items) in
-    let parts = popped P before.behind.items rest part behind is.behind in
+    let parts = popped P (side_parts before.behind) rest part behind is.behind in
     let fits = parts.1 in let within = fits.within in
     let first : Part = record part { to = part.from + most } in
     let last : Part = record part { from = part.from + most } in
     let fits_same : PartFits now.old_len (length now.fresh.items)
     ≡ P = ap₂ (λ n xs. PartFits n (length xs)) old_len fresh in
-    let old_behind : parts_len before.behind.items ≡ parts_len rest + (part.to - part.from) = ap parts_len behind
+    let old_behind : parts_len (side_parts before.behind) ≡ parts_len rest + (part.to - part.from) = ap parts_len behind
     ∙ len-push rest part in
-    let behind_len : parts_len now.behind.items ≡ parts_len rest
+    let behind_len : parts_len (side_parts now.behind) ≡ parts_len rest
     + (part.to - (part.from + most)) = ap parts_len behind_is ∙ len-push rest last in
     let whole = is.whole in
     record {
       is = record {
-        front = subst (λ (Q : Part → Type 0). All Q now.front.items) (sym fits_same)
-            (All-same P now.front.items before.front.items front is.front);
-        behind = subst (λ (Q : Part → Type 0). All Q now.behind.items) (sym fits_same)
-            (All-same P now.behind.items (rest ++ last ∷ []) behind_is
+        front = subst (λ (Q : Part → Type 0). All Q (side_parts now.front)) (sym fits_same)
+            (All-same P (side_parts now.front) (side_parts before.front) front is.front);
+        behind = subst (λ (Q : Part → Type 0). All Q (side_parts now.behind)) (sym fits_same)
+            (All-same P (side_parts now.behind) (rest ++ last ∷ []) behind_is
             (All-push P rest last parts.0 (record { some = omega (arith, short); within = within })));
         place = ap parts_len front ∙ is.place ∙ sym at;
         whole = omega (arith, old_behind, behind_len, whole, at, len, short);
+        ahead = ways.ahead ∙ is.ahead;
+        turned = ways.turned ∙ is.turned;
       };
       old_len = old_len;
       at = at;
@@ -402,14 +606,14 @@ takes-some before now part rest most is behind short behind_is front fresh old_l
           let gone : length (part_cells old new first) ≡ before.len - now.len =
           between-length part.slots old new part.from (part.from + most) (omega arith) (omega (arith, short, inside))
           ∙ omega (arith, whole, old_behind, len, short) in
-          ap₂ (λ fs ps. front_cells old fs ps ++ behind_cells old fs now.behind.items) fresh front
-          ∙ ap (λ cells. front_cells old new before.front.items ++ cells) (ap (behind_cells old new) behind_is
+          ap₂ (λ fs ps. front_cells old fs ps ++ behind_cells old fs (side_parts now.behind)) fresh front
+          ∙ ap (λ cells. front_cells old new (side_parts before.front) ++ cells) (ap (behind_cells old new) behind_is
           ∙ behind-push old new rest last)
-          ∙ removed-behind (front_cells old new before.front.items) (part_cells old new first)
+          ∙ removed-behind (front_cells old new (side_parts before.front)) (part_cells old new first)
           (part_cells old new last ++ behind_cells old new rest) before.at (before.len - now.len)
           (place-is before old is long) gone
           ∙ ap (λ cells. removed before.at (before.at + (before.len - now.len))
-          (front_cells old new before.front.items ++ cells))
+          (front_cells old new (side_parts before.front) ++ cells))
           (sym (append_assoc (part_cells old new first) (part_cells old new last) (behind_cells old new rest))
           ∙ ap (λ cells. cells ++ behind_cells old new rest)
           (part-join old new part (part.from + most) (omega arith) (omega (arith, short)))
@@ -476,15 +680,17 @@ puts-none text slots before is none = record {
 }
 
 pub puts-some : (text : List ℕ) (slots : Slots) (before now : Cursor) → IsCursor before → 0 < length text →
+    SameWays before now →
     now.fresh.items ≡ before.fresh.items ++ text
-    → now.front.items ≡ before.front.items ++ record {
+    → side_parts now.front ≡ side_parts before.front ++ record {
       from = length before.fresh.items;
       to = length now.fresh.items;
       slots = Some slots;
     } ∷ []
-    → now.behind.items ≡ before.behind.items → now.old_len ≡ before.old_len → now.at ≡ before.at + length text →
+    → side_parts now.behind ≡ side_parts before.behind → now.old_len ≡ before.old_len →
+    now.at ≡ before.at + length text →
     now.len ≡ before.len + length text → Puts text slots before now
-puts-some text slots before now is some fresh front behind old_len at len =
+puts-some text slots before now is some ways fresh front behind old_len at len =
     let new = before.fresh.items in
     let longer : length now.fresh.items ≡ length new + length text = ap length fresh ∙ length-append new text in
     let part : Part = record { from = length new; to = length now.fresh.items; slots = Some slots } in
@@ -496,33 +702,36 @@ puts-some text slots before now is some fresh front behind old_len at len =
       within = let h = length-append new text in
           omega (arith, longer, h);
     } in
-    let front_len : parts_len now.front.items ≡ parts_len before.front.items
-    + (length now.fresh.items - length new) = ap parts_len front ∙ len-push before.front.items part in
+    let front_len : parts_len (side_parts now.front) ≡ parts_len (side_parts before.front)
+    + (length now.fresh.items - length new) = ap parts_len front ∙ len-push (side_parts before.front) part in
     let place = is.place in let whole = is.whole in
     record {
       is = record {
-        front = subst (λ (Q : Part → Type 0). All Q now.front.items) (sym fits_same)
-            (All-same P now.front.items (before.front.items ++ part ∷ []) front
-            (All-push P before.front.items part (fit-more before.old_len new text before.front.items is.front) fits));
-        behind = subst (λ (Q : Part → Type 0). All Q now.behind.items) (sym fits_same)
-            (All-same P now.behind.items before.behind.items behind
-            (fit-more before.old_len new text before.behind.items is.behind));
+        front = subst (λ (Q : Part → Type 0). All Q (side_parts now.front)) (sym fits_same)
+            (All-same P (side_parts now.front) (side_parts before.front ++ part ∷ []) front
+            (All-push P (side_parts before.front) part
+            (fit-more before.old_len new text (side_parts before.front) is.front) fits));
+        behind = subst (λ (Q : Part → Type 0). All Q (side_parts now.behind)) (sym fits_same)
+            (All-same P (side_parts now.behind) (side_parts before.behind) behind
+            (fit-more before.old_len new text (side_parts before.behind) is.behind));
         place = omega (arith, front_len, place, at, longer);
         whole = let same = ap parts_len behind in omega (arith, same, whole, at, len);
+        ahead = ways.ahead ∙ is.ahead;
+        turned = ways.turned ∙ is.turned;
       };
       old_len = old_len;
       len = len;
       cells = λ old long.
-          let f = same-fit before old before.front.items long is.front in
-          let b = same-fit before old before.behind.items long is.behind in
-          ap₂ (λ fs ps. front_cells old fs ps ++ behind_cells old fs now.behind.items) fresh front
-          ∙ ap (λ ps. front_cells old (new ++ text) (before.front.items ++ part ∷ [])
+          let f = same-fit before old (side_parts before.front) long is.front in
+          let b = same-fit before old (side_parts before.behind) long is.behind in
+          ap₂ (λ fs ps. front_cells old fs ps ++ behind_cells old fs (side_parts now.behind)) fresh front
+          ∙ ap (λ ps. front_cells old (new ++ text) (side_parts before.front ++ part ∷ [])
           ++ behind_cells old (new ++ text) ps) behind
           ∙ ap₂ (λ a c. a ++ c)
-          (front-push old (new ++ text) before.front.items part
-          ∙ ap₂ (λ a c. a ++ c) (front-more old new text before.front.items f)
+          (front-push old (new ++ text) (side_parts before.front) part
+          ∙ ap₂ (λ a c. a ++ c) (front-more old new text (side_parts before.front) f)
           (ap (λ ts. cells_of ts slots) (ap (slice_range (new ++ text) (length new)) longer ∙ slice-last new text)))
-          (behind-more old new text before.behind.items b)
-          ∙ put-in (front_cells old new before.front.items) (cells_of text slots)
-          (behind_cells old new before.behind.items) before.at (place-is before old is long);
+          (behind-more old new text (side_parts before.behind) b)
+          ∙ put-in (front_cells old new (side_parts before.front)) (cells_of text slots)
+          (behind_cells old new (side_parts before.behind)) before.at (place-is before old is long);
     }

@@ -1,3 +1,4 @@
 pub mod AroundLaws
 pub mod CursorLaws
 pub mod LookLaws
+pub mod SideLaws

@@ -2,13 +2,15 @@
 use Rattle.std.proofs.Common.{◌≡◌, ℕ, zero, suc, ◌+◌, ◌-◌, ◌<◌, ◌≤◌, Bool, true, false, cond, List, [], ◌∷◌, ◌++◌}
 use Rattle.std.proofs.Common.{Option, Some, None, length, get_or, take, drop, refl, sym, ap, ap₂, ◌∙◌, arith, subst}
 use Rattle.std.proofs.Common.{length-append, length-drop, ne_eqb}
-use Rattle.std.specs.Prelude.{slice_range, min, if◌then◌else◌}
+use Rattle.std.proofs.Common.{append_assoc}
+use Rattle.std.specs.Prelude.{slice_range, min, reverse, if◌then◌else◌}
 use Rattle.std.specs.FinSet as set
 use Rattle.std.specs.List.{All}
 use Rattle.std.proofs.lemmas.List.{append-nil, map-append, length-take-le, take-append-drop, take_all, take_at, drop_at}
-use Rattle.std.proofs.lemmas.List.{take_more, get_or_append_left, get_or-append-add, get_or-take, get_or-drop}
+use Rattle.std.proofs.lemmas.List.{take_more, drop_more, reverse-reverse, get_or_append_left, get_or-append-add}
+use Rattle.std.proofs.lemmas.List.{get_or-take, get_or-drop}
 use Rattle.std.proofs.lemmas.List.{get_or-map}
-use Rattle.std.proofs.lemmas.List.Elements.{All-take, All-pop}
+use Rattle.std.proofs.lemmas.List.Elements.{All-take, All-drop, All-same, All-pop}
 use Rattle.std.proofs.lemmas.List.Folds.{drop_split}
 use Rattle.std.proofs.Math.Seq.{take-add}
 use Rattle.text_model.specs.declared.cells.Cell.{Cell}
@@ -17,13 +19,19 @@ use Rattle.text_model.specs.Lines.{is_newline, lines, line_of, line_start}
 use Rattle.text_model.proofs.LineLaws.{lines-cons, lines-append, line_start-le}
 use Rattle.text_model.proofs.SpliceLaws.{map-map, map-slice_range}
 use Rattle.text_cursor.specs.declared.cursors.Cursor.{Cursor}
-use Rattle.text_cursor.specs.declared.cursors.Part.{Part}
+use Rattle.text_cursor.specs.declared.parts.Part.{Part}
 use Rattle.text_cursor.specs.Around.{next_line}
+use Rattle.text_cursor.specs.Parts.{parts_len, turned_if}
+use Rattle.text_cursor.specs.Sides.{block_parts, side_parts}
 use Rattle.text_cursor.specs.Cursors.{cells_between, part_cells, front_cells, behind_cells, cursor_cells, source_len}
-use Rattle.text_cursor.specs.Cursors.{slots_in, last_line, parts_len, PartFits, IsCursor}
+use Rattle.text_cursor.specs.Cursors.{slots_in, last_line, front_text, behind_text, PartFits, IsCursor}
+use Rattle.text_cursor.specs.Cursors.{IsLastLine, IsSecond}
 use Rattle.text_cursor.specs.Around.{shared_slots}
+use Rattle.text_cursor.specs.declared.blocks.Block.{Block}
+use Rattle.text_cursor.proofs.SideLaws.{len-append, len-cons, turned-len, block-push}
 use Rattle.text_cursor.proofs.CursorLaws.{part-length, front-push, behind-push, len-push, front-length, place-is}
-use Rattle.text_cursor.proofs.CursorLaws.{same-fit}
+use Rattle.text_cursor.proofs.CursorLaws.{behind-length, front-append, behind-append, behind-reverse, split-fit}
+use Rattle.text_cursor.proofs.CursorLaws.{reverse-fit, same-fit}
 use Rattle.text_cursor.proofs.AroundLaws.{length-slot_sets, characters-of, length-characters, line-append-same}
 use Rattle.text_cursor.proofs.AroundLaws.{line_start-past, next_line-is}
 
@@ -220,40 +228,40 @@ first-bound part old new fits =
 
 -- ---- back over the parts before the place
 
-pub record LineSoFar (old : List Cell) (new : List ℕ) (parts : List Part) (left end : ℕ) : Type 0 where
+pub record LineSoFar (old : List Cell) (new : List ℕ) (parts : List Part) (from left end : ℕ) : Type 0 where
   pub within : left ≤ length parts
-  pub place : end ≡ parts_len (take left parts)
-  pub same : last_line (characters (front_cells old new parts))
-      ≡ last_line (characters (front_cells old new (take left parts)))
+  pub place : end ≡ from + parts_len (take left parts)
+  pub same : last_line (front_text old new parts) ≡ last_line (front_text old new (take left parts))
 
 -- a part more: where it stands, and what its last line says
-pub record LineStep (old : List Cell) (new : List ℕ) (parts : List Part) (left end : ℕ) (part : Part) : Type 0 where
+pub record LineStep (old : List Cell) (new : List ℕ) (parts : List Part) (from left end : ℕ)
+    (part : Part) : Type 0 where
   pub fits : PartFits (length old) (length new) part
   pub below : part.to - part.from ≤ end
   pub none : last_line (characters (part_cells old new part)) ≡ 0 →
-      LineSoFar old new parts (left - 1) (end - (part.to - part.from))
+      LineSoFar old new parts from (left - 1) (end - (part.to - part.from))
   pub some : 0 < last_line (characters (part_cells old new part)) →
-      last_line (characters (front_cells old new parts))
-      ≡ end - (part.to - part.from) + last_line (characters (part_cells old new part))
+      IsLastLine (front_text old new parts) from
+      (end - (part.to - part.from) + last_line (characters (part_cells old new part)))
 
-pub line-step : (old : List Cell) (new : List ℕ) (parts : List Part) (left end : ℕ) (part : Part) →
-    All (PartFits (length old) (length new)) parts → LineSoFar old new parts left end → 0 < left
-    → part ≡ get_or parts (left - 1) part → LineStep old new parts left end part
-line-step old new parts left end part fit so_far some is =
+pub line-step : (old : List Cell) (new : List ℕ) (parts : List Part) (from left end : ℕ) (part : Part) →
+    All (PartFits (length old) (length new)) parts → LineSoFar old new parts from left end → 0 < left
+    → part ≡ get_or parts (left - 1) part → LineStep old new parts from left end part
+line-step old new parts from left end part fit so_far some is =
     let P = PartFits (length old) (length new) in
     let within = so_far.within in
     let place = so_far.place in
     let front = take (left - 1) parts in
+    let text = characters (part_cells old new part) in
     let split : take left parts ≡ front ++ part ∷ [] =
     ap (λ n. take n parts) (let e : left ≡ left - 1 + 1 = omega (arith, some) in e)
     ∙ take_more parts (left - 1) part (omega (arith, some, within)) ∙ ap (λ p. front ++ p ∷ []) (sym is) in
     let counted : parts_len (take left parts) ≡ parts_len front + (part.to - part.from) = ap parts_len split
     ∙ len-push front part in
-    let cells : characters (front_cells old new (take left parts))
-    ≡ characters (front_cells old new front) ++ characters (part_cells old new part) =
-    ap (λ ps. characters (front_cells old new ps)) split ∙ ap characters (front-push old new front part)
+    let cells : front_text old new (take left parts) ≡ front_text old new front ++ text =
+    ap (front_text old new) split ∙ ap characters (front-push old new front part)
     ∙ map-append (λ (cell : Cell). cell.character) (front_cells old new front) (part_cells old new part) in
-    let long : length (characters (front_cells old new front))
+    let long : length (front_text old new front)
     ≡ parts_len front = length-characters (front_cells old new front)
     ∙ front-length old new front (All-take P (left - 1) parts fit) in
     record {
@@ -262,21 +270,21 @@ line-step old new parts left end part fit so_far some is =
       none = λ none. record {
         within = omega (arith, within);
         place = omega (arith, place, counted);
-        same = so_far.same ∙ ap last_line cells
-            ∙ last-none (characters (front_cells old new front)) (characters (part_cells old new part)) none;
+        same = so_far.same ∙ ap last_line cells ∙ last-none (front_text old new front) text none;
       };
-      some = λ above. so_far.same ∙ ap last_line cells
-          ∙ last-some (characters (front_cells old new front)) (characters (part_cells old new part)) above
-          ∙ omega (arith, long, place, counted);
+      some = λ above.
+          let whole : last_line (front_text old new parts) ≡ length (front_text old new front) + last_line text =
+          so_far.same ∙ ap last_line cells ∙ last-some (front_text old new front) text above in
+          record { some = omega (arith, whole, above); is = omega (arith, whole, long, place, counted) };
     }
 
 -- the line of the place is the last one before it
 pub place-line : (cursor : Cursor) (old : List Cell) → IsCursor cursor → length old ≡ cursor.old_len
     → line_start (line_of (characters (cursor_cells old cursor)) cursor.at) (characters (cursor_cells old cursor))
-    ≡ last_line (characters (front_cells old cursor.fresh.items cursor.front.items))
+    ≡ last_line (characters (front_cells old cursor.fresh.items (side_parts cursor.front)))
 place-line cursor old is long =
-    let front = front_cells old cursor.fresh.items cursor.front.items in
-    let behind = behind_cells old cursor.fresh.items cursor.behind.items in
+    let front = front_cells old cursor.fresh.items (side_parts cursor.front) in
+    let behind = behind_cells old cursor.fresh.items (side_parts cursor.behind) in
     front-line (characters (front ++ behind)) cursor.at
     ∙ ap (λ xs. last_line (take cursor.at xs)) (map-append (λ (cell : Cell). cell.character) front behind)
     ∙ ap last_line (take_at (characters front) (characters behind) cursor.at (length-characters front
@@ -284,61 +292,448 @@ place-line cursor old is long =
 
 -- ---- on over the parts behind it
 
-pub record NextSoFar (old : List Cell) (new : List ℕ) (parts : List Part) (left far : ℕ) : Type 0 where
-  pub within : left ≤ length parts
-  pub sum : far + parts_len (take left parts) ≡ parts_len parts
-  pub same : line_start 1 (characters (behind_cells old new parts))
-      ≡ far + line_start 1 (characters (behind_cells old new (take left parts)))
+-- the second line of a text behind one that has none
+second-behind : (xs ys zs : List ℕ) (n : ℕ) → lines xs ≡ 0 → IsSecond ys n →
+    IsSecond (xs ++ (ys ++ zs)) (length xs + n)
+second-behind xs ys zs n none second =
+    let some = second.some in
+    record {
+      some = let h = lines-append xs (ys ++ zs) in let k = lines-append ys zs in omega (arith, h, k, some);
+      is = ap (λ k. length xs + k) (second.is ∙ sym (first-some ys zs some)) ∙ sym (first-none xs (ys ++ zs) none);
+    }
 
-pub record NextStep (old : List Cell) (new : List ℕ) (parts : List Part) (left far : ℕ) (part : Part) : Type 0 where
+none-both : (xs ys : List ℕ) → lines xs ≡ 0 → lines ys ≡ 0 → lines (xs ++ ys) ≡ 0
+none-both xs ys none nothing = let h = lines-append xs ys in omega (arith, h, none, nothing)
+
+front-both : (old : List Cell) (new : List ℕ) (xs ys : List Part) →
+    front_text old new (xs ++ ys) ≡ front_text old new xs ++ front_text old new ys
+front-both old new xs ys = ap characters (front-append old new xs ys)
+    ∙ map-append (λ (cell : Cell). cell.character) (front_cells old new xs) (front_cells old new ys)
+
+behind-both : (old : List Cell) (new : List ℕ) (xs ys : List Part) →
+    behind_text old new (xs ++ ys) ≡ behind_text old new ys ++ behind_text old new xs
+behind-both old new xs ys = ap characters (behind-append old new xs ys)
+    ∙ map-append (λ (cell : Cell). cell.character) (behind_cells old new ys) (behind_cells old new xs)
+
+front-text-length : (old : List Cell) (new : List ℕ) (parts : List Part) →
+    All (PartFits (length old) (length new)) parts → length (front_text old new parts) ≡ parts_len parts
+front-text-length old new parts fit = length-characters (front_cells old new parts) ∙ front-length old new parts fit
+
+behind-text-length : (old : List Cell) (new : List ℕ) (parts : List Part) →
+    All (PartFits (length old) (length new)) parts → length (behind_text old new parts) ≡ parts_len parts
+behind-text-length old new parts fit =
+    length-characters (behind_cells old new parts) ∙ behind-length old new parts fit
+
+-- the same parts and characters, read by other names
+pub fit-both : (old : ℕ) (new new' : List ℕ) (parts parts' : List Part) → new' ≡ new → parts' ≡ parts →
+    All (PartFits old (length new)) parts → All (PartFits old (length new')) parts'
+fit-both old new new' parts parts' new_is parts_is fit =
+    subst (λ (xs : List ℕ). All (PartFits old (length xs)) parts') (sym new_is)
+    (All-same (PartFits old (length new)) parts' parts parts_is fit)
+
+pub last-same : (old : List Cell) (new new' : List ℕ) (parts parts' : List Part) (end line : ℕ) → new' ≡ new →
+    parts' ≡ parts → IsLastLine (front_text old new' parts') (end - parts_len parts') line →
+    IsLastLine (front_text old new parts) (end - parts_len parts) line
+last-same old new new' parts parts' end line new_is parts_is last =
+    subst (λ n. IsLastLine (front_text old new parts) (end - n) line) (ap parts_len parts_is)
+    (subst (λ text. IsLastLine text (end - parts_len parts') line) (ap₂ (front_text old) new_is parts_is) last)
+
+pub second-same : (old : List Cell) (new new' : List ℕ) (parts parts' : List Part) (n : ℕ) → new' ≡ new →
+    parts' ≡ parts → IsSecond (front_text old new' parts') n → IsSecond (front_text old new parts) n
+second-same old new new' parts parts' n new_is parts_is second =
+    subst (λ text. IsSecond text n) (ap₂ (front_text old) new_is parts_is) second
+
+pub second-same-back : (old : List Cell) (new new' : List ℕ) (parts parts' : List Part) (n : ℕ) → new' ≡ new →
+    parts' ≡ parts → IsSecond (behind_text old new' parts') n → IsSecond (behind_text old new parts) n
+second-same-back old new new' parts parts' n new_is parts_is second =
+    subst (λ text. IsSecond text n) (ap₂ (behind_text old) new_is parts_is) second
+
+one-text : (old : List Cell) (new : List ℕ) (part : Part) →
+    front_text old new (part ∷ []) ≡ characters (part_cells old new part)
+one-text old new part = ap characters (append-nil (part_cells old new part))
+
+-- a list around an item
+around : {A : Type 0} (xs : List A) (x : A) (index : ℕ) → index < length xs → x ≡ get_or xs index x →
+    xs ≡ take index xs ++ (x ∷ drop (index + 1) xs)
+around xs x index within is =
+    sym (take-append-drop index xs)
+    ∙ ap (λ ys. take index xs ++ ys) (drop_more xs index x within
+    ∙ ap (λ y. y ∷ drop (index + 1) xs) (sym is))
+
+-- over parts in the order of the text, of which none before an index has a newline
+pub record PassedOn (old : List Cell) (new : List ℕ) (parts : List Part) (index far : ℕ) : Type 0 where
+  pub far_is : far ≡ parts_len (take index parts)
+  pub none : lines (front_text old new (take index parts)) ≡ 0
+
+pub record OnStep (old : List Cell) (new : List ℕ) (parts : List Part) (index far : ℕ) (part : Part) : Type 0 where
   pub fits : PartFits (length old) (length new) part
   pub bound : far + (part.to - part.from) ≤ parts_len parts
   pub none : last_line (characters (part_cells old new part)) ≡ 0 →
-      NextSoFar old new parts (left - 1) (far + (part.to - part.from))
+      PassedOn old new parts (index + 1) (far + (part.to - part.from))
   pub some : 0 < last_line (characters (part_cells old new part)) →
-      line_start 1 (characters (behind_cells old new parts)) ≡ far + line_start 1 (characters (part_cells old new part))
+      IsSecond (front_text old new parts) (far + line_start 1 (characters (part_cells old new part)))
 
-pub next-step : (old : List Cell) (new : List ℕ) (parts : List Part) (left far : ℕ) (part : Part) →
-    All (PartFits (length old) (length new)) parts → NextSoFar old new parts left far → 0 < left
-    → part ≡ get_or parts (left - 1) part → NextStep old new parts left far part
-next-step old new parts left far part fit so_far some is =
+pub on-step : (old : List Cell) (new : List ℕ) (parts : List Part) (index far : ℕ) (part : Part) →
+    All (PartFits (length old) (length new)) parts → PassedOn old new parts index far → index < length parts
+    → part ≡ get_or parts index part → OnStep old new parts index far part
+on-step old new parts index far part fit passed within is =
     let P = PartFits (length old) (length new) in
-    let within = so_far.within in
-    let sum = so_far.sum in
-    let others = take (left - 1) parts in
-    let split : take left parts ≡ others ++ part ∷ [] =
-    ap (λ n. take n parts) (let e : left ≡ left - 1 + 1 = omega (arith, some) in e)
-    ∙ take_more parts (left - 1) part (omega (arith, some, within)) ∙ ap (λ p. others ++ p ∷ []) (sym is) in
-    let counted : parts_len (take left parts) ≡ parts_len others + (part.to - part.from) = ap parts_len split
-    ∙ len-push others part in
-    let xs = characters (part_cells old new part) in let ys = characters (behind_cells old new others) in
-    let cells : characters (behind_cells old new (take left parts)) ≡ xs ++ ys =
-    ap (λ ps. characters (behind_cells old new ps)) split ∙ ap characters (behind-push old new others part)
-    ∙ map-append (λ (cell : Cell). cell.character) (part_cells old new part) (behind_cells old new others) in
-    let fits = subst P (sym is) (fit (left - 1) part (omega (arith, some, within))) in
-    let long = part-text-length part old new fits in
+    let front = take index parts in let rest = drop (index + 1) parts in
+    let text = characters (part_cells old new part) in
+    let far_is = passed.far_is in
+    let split : parts ≡ front ++ (part ∷ rest) = around parts part index within is in
+    let more : take (index + 1) parts ≡ front ++ part ∷ [] =
+    take_more parts index part within ∙ ap (λ p. front ++ p ∷ []) (sym is) in
+    let long : length (front_text old new front) ≡ far =
+    front-text-length old new front (All-take P index parts fit) ∙ sym far_is in
+    let counted : parts_len parts ≡ far + ((part.to - part.from) + parts_len rest) =
+    ap parts_len split ∙ len-append front (part ∷ rest)
+    ∙ ap₂ (λ m n. m + n) (sym far_is) (len-cons part rest) in
     record {
-      fits = fits;
-      bound = omega (arith, sum, counted);
+      fits = subst P (sym is) (fit index part within);
+      bound = omega (arith, counted);
+      none = λ none. record {
+        far_is = sym (ap parts_len more ∙ len-push front part ∙ ap (λ n. n + (part.to - part.from)) (sym far_is));
+        none = ap (λ ps. lines (front_text old new ps)) more
+            ∙ ap lines (front-both old new front (part ∷ []) ∙ ap (λ t. front_text old new front ++ t)
+            (one-text old new part))
+            ∙ none-both (front_text old new front) text passed.none (no-lines text none);
+      };
+      some = λ above.
+          let second : IsSecond text (line_start 1 text) = record { some = some-lines text above; is = refl } in
+          let whole : front_text old new parts ≡ front_text old new front ++ (text ++ front_text old new rest) =
+          ap (front_text old new) split ∙ front-both old new front (part ∷ rest)
+          ∙ ap (λ t. front_text old new front ++ t)
+          (map-append (λ (cell : Cell). cell.character) (part_cells old new part) (front_cells old new rest)) in
+          subst (λ n. IsSecond (front_text old new parts) (n + line_start 1 text)) long
+          (subst (λ t. IsSecond t (length (front_text old new front) + line_start 1 text)) (sym whole)
+          (second-behind (front_text old new front) text (front_text old new rest) (line_start 1 text) passed.none
+          second));
+    }
+
+-- over parts that are turned, from the last one on
+pub record PassedBack (old : List Cell) (new : List ℕ) (parts : List Part) (left far : ℕ) : Type 0 where
+  pub within : left ≤ length parts
+  pub far_is : far ≡ parts_len (drop left parts)
+  pub none : lines (behind_text old new (drop left parts)) ≡ 0
+
+pub record BackStep (old : List Cell) (new : List ℕ) (parts : List Part) (left far : ℕ) (part : Part) : Type 0 where
+  pub fits : PartFits (length old) (length new) part
+  pub bound : far + (part.to - part.from) ≤ parts_len parts
+  pub none : last_line (characters (part_cells old new part)) ≡ 0 →
+      PassedBack old new parts (left - 1) (far + (part.to - part.from))
+  pub some : 0 < last_line (characters (part_cells old new part)) →
+      IsSecond (behind_text old new parts) (far + line_start 1 (characters (part_cells old new part)))
+
+pub back-step : (old : List Cell) (new : List ℕ) (parts : List Part) (left far : ℕ) (part : Part) →
+    All (PartFits (length old) (length new)) parts → PassedBack old new parts left far → 0 < left
+    → part ≡ get_or parts (left - 1) part → BackStep old new parts left far part
+back-step old new parts left far part fit passed some is =
+    let P = PartFits (length old) (length new) in
+    let within = passed.within in
+    let far_is = passed.far_is in
+    let front = take (left - 1) parts in let rest = drop left parts in
+    let text = characters (part_cells old new part) in
+    let here : left - 1 < length parts = omega (arith, some, within) in
+    let number : left - 1 + 1 ≡ left = omega (arith, some) in
+    let split : parts ≡ front ++ (part ∷ rest) =
+    around parts part (left - 1) here is ∙ ap (λ n. front ++ (part ∷ drop n parts)) number in
+    let more : drop (left - 1) parts ≡ part ∷ rest =
+    drop_more parts (left - 1) part here ∙ ap₂ (λ p n. p ∷ drop n parts) (sym is) number in
+    let long : length (behind_text old new rest) ≡ far =
+    behind-text-length old new rest (All-drop P left parts fit) ∙ sym far_is in
+    let counted : parts_len parts ≡ parts_len front + ((part.to - part.from) + far) =
+    ap parts_len split ∙ len-append front (part ∷ rest)
+    ∙ ap (λ n. parts_len front + n) (len-cons part rest ∙ ap (λ n. (part.to - part.from) + n) (sym far_is)) in
+    let joined : behind_text old new (part ∷ rest) ≡ behind_text old new rest ++ text =
+    map-append (λ (cell : Cell). cell.character) (behind_cells old new rest) (part_cells old new part) in
+    record {
+      fits = subst P (sym is) (fit (left - 1) part here);
+      bound = omega (arith, counted);
       none = λ none. record {
         within = omega (arith, within);
-        sum = omega (arith, sum, counted);
-        same = so_far.same ∙ ap (λ ts. far + line_start 1 ts) cells
-            ∙ ap (λ n. far + n) (first-none xs ys (no-lines xs none)) ∙ omega (arith, long);
+        far_is = sym (ap parts_len more ∙ len-cons part rest ∙ ap (λ n. (part.to - part.from) + n) (sym far_is)
+            ∙ omega arith);
+        none = ap (λ ps. lines (behind_text old new ps)) more ∙ ap lines joined
+            ∙ none-both (behind_text old new rest) text passed.none (no-lines text none);
       };
-      some = λ above. so_far.same ∙ ap (λ ts. far + line_start 1 ts) cells
-          ∙ ap (λ n. far + n) (first-some xs ys (some-lines xs above));
+      some = λ above.
+          let second : IsSecond text (line_start 1 text) = record { some = some-lines text above; is = refl } in
+          let whole : behind_text old new parts
+          ≡ behind_text old new rest ++ (text ++ behind_text old new front) =
+          ap (behind_text old new) split ∙ behind-both old new front (part ∷ rest)
+          ∙ ap (λ t. t ++ behind_text old new front) joined
+          ∙ append_assoc (behind_text old new rest) text (behind_text old new front) in
+          subst (λ n. IsSecond (behind_text old new parts) (n + line_start 1 text)) long
+          (subst (λ t. IsSecond t (length (behind_text old new rest) + line_start 1 text)) (sym whole)
+          (second-behind (behind_text old new rest) text (behind_text old new front) (line_start 1 text) passed.none
+          second));
     }
 
 pub place-next : (cursor : Cursor) (old : List Cell) → IsCursor cursor → length old ≡ cursor.old_len
     → line_start 1 (drop cursor.at (characters (cursor_cells old cursor)))
-    ≡ line_start 1 (characters (behind_cells old cursor.fresh.items cursor.behind.items))
+    ≡ line_start 1 (characters (behind_cells old cursor.fresh.items (side_parts cursor.behind)))
 place-next cursor old is long =
-    let front = front_cells old cursor.fresh.items cursor.front.items in
-    let behind = behind_cells old cursor.fresh.items cursor.behind.items in
+    let front = front_cells old cursor.fresh.items (side_parts cursor.front) in
+    let behind = behind_cells old cursor.fresh.items (side_parts cursor.behind) in
     ap (λ xs. line_start 1 (drop cursor.at xs)) (map-append (λ (cell : Cell). cell.character) front behind)
     ∙ ap (line_start 1) (drop_at (characters front) (characters behind) cursor.at (length-characters front
     ∙ place-is cursor old is long))
+
+-- ---- the same over blocks
+
+blocks-append : (turned : Bool) (xs ys : List Block) →
+    block_parts turned (xs ++ ys) ≡ block_parts turned xs ++ block_parts turned ys
+blocks-append turned [] ys = refl
+blocks-append turned (x ∷ xs) ys =
+    ap (λ parts. turned_if turned x.parts.items ++ parts) (blocks-append turned xs ys)
+    ∙ sym (append_assoc (turned_if turned x.parts.items) (block_parts turned xs) (block_parts turned ys))
+
+-- back over the blocks before the place
+pub record FarLine (old : List Cell) (new : List ℕ) (blocks : List Block) (left end : ℕ) : Type 0 where
+  pub within : left ≤ length blocks
+  pub place : end ≡ parts_len (block_parts false (take left blocks))
+  pub same : last_line (front_text old new (block_parts false blocks))
+      ≡ last_line (front_text old new (block_parts false (take left blocks)))
+
+pub record FarLineStep (old : List Cell) (new : List ℕ) (blocks : List Block) (left end : ℕ)
+    (block : Block) : Type 0 where
+  pub fit : All (PartFits (length old) (length new)) block.parts.items
+  pub below : block.count ≤ end
+  pub none : last_line (front_text old new block.parts.items) ≡ 0 →
+      FarLine old new blocks (left - 1) (end - block.count)
+  pub some : (line : ℕ) → IsLastLine (front_text old new block.parts.items) (end - block.count) line →
+      line ≡ last_line (front_text old new (block_parts false blocks))
+
+pub far-line-step : (old : List Cell) (new : List ℕ) (blocks : List Block) (left end : ℕ) (block : Block) →
+    All (PartFits (length old) (length new)) (block_parts false blocks) → FarLine old new blocks left end → 0 < left
+    → block ≡ get_or blocks (left - 1) block → FarLineStep old new blocks left end block
+far-line-step old new blocks left end block fit so_far some is =
+    let P = PartFits (length old) (length new) in
+    let within = so_far.within in let place = so_far.place in let counted = block.counted in
+    let parts = block.parts.items in
+    let here : left - 1 < length blocks = omega (arith, some, within) in
+    let front = block_parts false (take (left - 1) blocks) in
+    let rest = block_parts false (drop (left - 1 + 1) blocks) in
+    let upto : block_parts false (take left blocks) ≡ front ++ parts =
+    ap (λ n. block_parts false (take n blocks)) (let e : left ≡ left - 1 + 1 = omega (arith, some) in e)
+    ∙ ap (block_parts false) (take_more blocks (left - 1) block here
+    ∙ ap (λ b. take (left - 1) blocks ++ b ∷ []) (sym is))
+    ∙ block-push false (take (left - 1) blocks) block in
+    let whole : block_parts false blocks ≡ front ++ (parts ++ rest) =
+    ap (block_parts false) (around blocks block (left - 1) here is)
+    ∙ blocks-append false (take (left - 1) blocks) (block ∷ drop (left - 1 + 1) blocks) in
+    let split = split-fit P front (parts ++ rest)
+    (All-same P (front ++ (parts ++ rest)) (block_parts false blocks) (sym whole) fit) in
+    let long = front-text-length old new front split.0 in
+    let sum : end ≡ parts_len front + parts_len parts = place ∙ ap parts_len upto ∙ len-append front parts in
+    let text : front_text old new (block_parts false (take left blocks))
+    ≡ front_text old new front ++ front_text old new parts = ap (front_text old new) upto
+    ∙ front-both old new front parts in
+    record {
+      fit = (split-fit P parts rest split.1).0;
+      below = omega (arith, sum, counted);
+      none = λ none. record {
+        within = omega (arith, within);
+        place = omega (arith, sum, counted);
+        same = so_far.same ∙ ap last_line text
+            ∙ last-none (front_text old new front) (front_text old new parts) none;
+      };
+      some = λ line last.
+          let above = last.some in let is = last.is in
+          let found = so_far.same ∙ ap last_line text
+          ∙ last-some (front_text old new front) (front_text old new parts) above in
+          omega (arith, is, found, long, sum, counted);
+    }
+
+-- the line of the place is in the near parts, or in the blocks
+pub record NearLine (old : List Cell) (cursor : Cursor) : Type 0 where
+  pub fit : All (PartFits (length old) (length cursor.fresh.items)) cursor.front.near.items
+  pub below : parts_len cursor.front.near.items ≤ cursor.at
+  pub far : cursor.at - parts_len cursor.front.near.items ≡ parts_len (block_parts false cursor.front.far.items)
+  pub some : (line : ℕ) → IsLastLine (front_text old cursor.fresh.items cursor.front.near.items)
+      (cursor.at - parts_len cursor.front.near.items) line
+      → line
+      ≡ line_start (line_of (characters (cursor_cells old cursor)) cursor.at) (characters (cursor_cells old cursor))
+  pub none : last_line (front_text old cursor.fresh.items cursor.front.near.items) ≡ 0
+      → last_line (front_text old cursor.fresh.items (block_parts false cursor.front.far.items))
+      ≡ line_start (line_of (characters (cursor_cells old cursor)) cursor.at) (characters (cursor_cells old cursor))
+
+pub far-fit : (cursor : Cursor) (old : List Cell) → IsCursor cursor → length old ≡ cursor.old_len →
+    All (PartFits (length old) (length cursor.fresh.items)) (block_parts false cursor.front.far.items)
+far-fit cursor old is long =
+    let P = PartFits (length old) (length cursor.fresh.items) in
+    subst (λ t. All P (block_parts t cursor.front.far.items)) is.ahead
+    (split-fit P (block_parts cursor.front.turned cursor.front.far.items) cursor.front.near.items
+    (same-fit cursor old (side_parts cursor.front) long is.front)).0
+
+pub far-behind-fit : (cursor : Cursor) (old : List Cell) → IsCursor cursor → length old ≡ cursor.old_len →
+    All (PartFits (length old) (length cursor.fresh.items)) (block_parts true cursor.behind.far.items)
+far-behind-fit cursor old is long =
+    let P = PartFits (length old) (length cursor.fresh.items) in
+    subst (λ t. All P (block_parts t cursor.behind.far.items)) is.turned
+    (split-fit P (block_parts cursor.behind.turned cursor.behind.far.items) cursor.behind.near.items
+    (same-fit cursor old (side_parts cursor.behind) long is.behind)).0
+
+pub near-line : (cursor : Cursor) (old : List Cell) → IsCursor cursor → length old ≡ cursor.old_len →
+    NearLine old cursor
+near-line cursor old is long =
+    let new = cursor.fresh.items in
+    let P = PartFits (length old) (length new) in
+    let near = cursor.front.near.items in
+    let far = block_parts false cursor.front.far.items in
+    let parts : side_parts cursor.front ≡ far ++ near =
+    ap (λ t. block_parts t cursor.front.far.items ++ near) is.ahead in
+    let near_fit = (split-fit P (block_parts cursor.front.turned cursor.front.far.items) near
+    (same-fit cursor old (side_parts cursor.front) long is.front)).1 in
+    let sum : cursor.at ≡ parts_len far + parts_len near = sym is.place ∙ ap parts_len parts ∙ len-append far near in
+    let counted = front-text-length old new far (far-fit cursor old is long) in
+    let text = place-line cursor old is long
+    ∙ ap (λ ps. last_line (front_text old new ps)) parts ∙ ap last_line (front-both old new far near) in
+    record {
+      fit = near_fit;
+      below = omega (arith, sum);
+      far = omega (arith, sum);
+      some = λ line last.
+          let above = last.some in let is = last.is in
+          let found = text ∙ last-some (front_text old new far) (front_text old new near) above in
+          omega (arith, is, found, sum, counted);
+      none = λ none. sym (text ∙ last-none (front_text old new far) (front_text old new near) none);
+    }
+
+pub far-small : (cursor : Cursor) → IsCursor cursor →
+    parts_len (block_parts true cursor.behind.far.items) ≤ cursor.len
+far-small cursor is =
+    let sum = ap (λ t. parts_len (block_parts t cursor.behind.far.items ++ cursor.behind.near.items)) is.turned
+    ∙ len-append (block_parts true cursor.behind.far.items) cursor.behind.near.items in
+    let whole = is.whole in
+    omega (arith, sum, whole)
+
+-- on over the blocks behind it
+pub record FarPassed (old : List Cell) (new : List ℕ) (blocks : List Block) (left far : ℕ) : Type 0 where
+  pub within : left ≤ length blocks
+  pub far_is : far ≡ parts_len (block_parts true (drop left blocks))
+  pub none : lines (behind_text old new (block_parts true (drop left blocks))) ≡ 0
+
+pub record FarStep (old : List Cell) (new : List ℕ) (blocks : List Block) (left far : ℕ) (block : Block) : Type 0 where
+  pub fit : All (PartFits (length old) (length new)) block.parts.items
+  pub bound : far + block.count ≤ parts_len (block_parts true blocks)
+  pub none : lines (front_text old new block.parts.items) ≡ 0 →
+      FarPassed old new blocks (left - 1) (far + block.count)
+  pub some : (n : ℕ) → IsSecond (front_text old new block.parts.items) n →
+      far + n ≡ line_start 1 (behind_text old new (block_parts true blocks))
+  pub within : (n : ℕ) → IsSecond (front_text old new block.parts.items) n → n ≤ block.count
+
+turned-text : (old : List Cell) (new : List ℕ) (parts : List Part) →
+    behind_text old new (reverse parts) ≡ front_text old new parts
+turned-text old new parts = ap characters (behind-reverse old new parts)
+
+pub far-step : (old : List Cell) (new : List ℕ) (blocks : List Block) (left far : ℕ) (block : Block) →
+    All (PartFits (length old) (length new)) (block_parts true blocks) → FarPassed old new blocks left far → 0 < left
+    → block ≡ get_or blocks (left - 1) block → FarStep old new blocks left far block
+far-step old new blocks left far block fit passed some is =
+    let P = PartFits (length old) (length new) in
+    let within = passed.within in let far_is = passed.far_is in let counted = block.counted in
+    let parts = block.parts.items in
+    let here : left - 1 < length blocks = omega (arith, some, within) in
+    let number : left - 1 + 1 ≡ left = omega (arith, some) in
+    let front = block_parts true (take (left - 1) blocks) in
+    let rest = block_parts true (drop left blocks) in
+    let more : block_parts true (drop (left - 1) blocks) ≡ reverse parts ++ rest =
+    ap (block_parts true) (drop_more blocks (left - 1) block here
+    ∙ ap₂ (λ b n. b ∷ drop n blocks) (sym is) number) in
+    let whole : block_parts true blocks ≡ front ++ (reverse parts ++ rest) =
+    ap (block_parts true) (around blocks block (left - 1) here is)
+    ∙ blocks-append true (take (left - 1) blocks) (block ∷ drop (left - 1 + 1) blocks)
+    ∙ ap (λ n. front ++ (reverse parts ++ block_parts true (drop n blocks))) number in
+    let split = split-fit P front (reverse parts ++ rest)
+    (All-same P (front ++ (reverse parts ++ rest)) (block_parts true blocks) (sym whole) fit) in
+    let both = split-fit P (reverse parts) rest split.1 in
+    let parts_fit = All-same P parts (reverse (reverse parts)) (sym (reverse-reverse parts))
+    (reverse-fit P (reverse parts) both.0) in
+    let long : length (behind_text old new rest) ≡ far =
+    behind-text-length old new rest both.1 ∙ sym far_is in
+    let turned = turned-len true parts in
+    let pair = len-append (reverse parts) rest in
+    let all = ap parts_len whole ∙ len-append front (reverse parts ++ rest) in
+    let joined : behind_text old new (reverse parts ++ rest) ≡ behind_text old new rest ++ front_text old new parts =
+    behind-both old new (reverse parts) rest ∙ ap (λ t. behind_text old new rest ++ t) (turned-text old new parts) in
+    record {
+      fit = parts_fit;
+      bound = omega (arith, turned, pair, all, far_is, counted);
+      none = λ none. record {
+        within = omega (arith, within);
+        far_is = sym (ap parts_len more ∙ omega (arith, pair, turned, far_is, counted));
+        none = ap (λ ps. lines (behind_text old new ps)) more ∙ ap lines joined
+            ∙ none-both (behind_text old new rest) (front_text old new parts) passed.none none;
+      };
+      some = λ n second.
+          let found : IsSecond (behind_text old new rest ++ (front_text old new parts ++ behind_text old new front))
+          (length (behind_text old new rest) + n) =
+          second-behind (behind_text old new rest) (front_text old new parts) (behind_text old new front) n
+          passed.none second in
+          ap (λ m. m + n) (sym long) ∙ found.is
+          ∙ sym (ap (λ ps. line_start 1 (behind_text old new ps)) whole
+          ∙ ap (line_start 1) (behind-both old new front (reverse parts ++ rest)
+          ∙ ap (λ t. t ++ behind_text old new front) joined
+          ∙ append_assoc (behind_text old new rest) (front_text old new parts) (behind_text old new front)));
+      within = λ n second.
+          let n_is = second.is in let bound = line_start-le (front_text old new parts) 1 in
+          let length_is = front-text-length old new parts parts_fit in
+          omega (arith, n_is, bound, length_is, counted);
+    }
+
+-- no line begins behind the first one, in no block
+pub far-none : (old : List Cell) (new : List ℕ) (blocks : List Block) (far : ℕ) →
+    All (PartFits (length old) (length new)) (block_parts true blocks) → FarPassed old new blocks 0 far →
+    far ≡ line_start 1 (behind_text old new (block_parts true blocks))
+far-none old new blocks far fit passed =
+    let none = passed.none in
+    passed.far_is ∙ sym (behind-text-length old new (block_parts true blocks) fit)
+    ∙ sym (line_start-past (behind_text old new (block_parts true blocks)) 1 (omega (arith, none)))
+
+-- the next line begins in the near parts, or in the blocks
+pub record NearNext (old : List Cell) (cursor : Cursor) : Type 0 where
+  pub fit : All (PartFits (length old) (length cursor.fresh.items)) cursor.behind.near.items
+  pub below : cursor.at + parts_len cursor.behind.near.items ≤ cursor.len
+  pub some : (n : ℕ) → IsSecond (behind_text old cursor.fresh.items cursor.behind.near.items) n →
+      n ≡ line_start 1 (drop cursor.at (characters (cursor_cells old cursor)))
+  pub none : lines (behind_text old cursor.fresh.items cursor.behind.near.items) ≡ 0
+      → parts_len cursor.behind.near.items
+      + line_start 1 (behind_text old cursor.fresh.items (block_parts true cursor.behind.far.items))
+      ≡ line_start 1 (drop cursor.at (characters (cursor_cells old cursor)))
+  pub bound : cursor.at + line_start 1 (drop cursor.at (characters (cursor_cells old cursor))) ≤ cursor.len
+
+pub near-next : (cursor : Cursor) (old : List Cell) → IsCursor cursor → length old ≡ cursor.old_len →
+    NearNext old cursor
+near-next cursor old is long =
+    let new = cursor.fresh.items in
+    let P = PartFits (length old) (length new) in
+    let near = cursor.behind.near.items in
+    let far = block_parts true cursor.behind.far.items in
+    let parts : side_parts cursor.behind ≡ far ++ near =
+    ap (λ t. block_parts t cursor.behind.far.items ++ near) is.turned in
+    let fit = same-fit cursor old (side_parts cursor.behind) long is.behind in
+    let near_fit = (split-fit P (block_parts cursor.behind.turned cursor.behind.far.items) near fit).1 in
+    let whole = is.whole in
+    let sum : parts_len (side_parts cursor.behind) ≡ parts_len far + parts_len near =
+    ap parts_len parts ∙ len-append far near in
+    let counted = behind-text-length old new near near_fit in
+    let place = place-next cursor old is long in
+    let text : line_start 1 (drop cursor.at (characters (cursor_cells old cursor)))
+    ≡ line_start 1 (behind_text old new near ++ behind_text old new far) = place
+    ∙ ap (λ ps. line_start 1 (behind_text old new ps)) parts ∙ ap (line_start 1) (behind-both old new far near) in
+    let bound = line_start-le (behind_text old new (side_parts cursor.behind)) 1 in
+    let length_is = behind-text-length old new (side_parts cursor.behind) fit in
+    record {
+      fit = near_fit;
+      below = omega (arith, sum, whole);
+      some = λ n second. second.is
+          ∙ sym (text ∙ first-some (behind_text old new near) (behind_text old new far) second.some);
+      none = λ none. ap (λ n. n + line_start 1 (behind_text old new far)) (sym counted)
+          ∙ sym (text ∙ first-none (behind_text old new near) (behind_text old new far) none);
+      bound = omega (arith, place, bound, length_is, whole);
+    }
 
 -- ---- the slots on both sides of the place
 
@@ -368,22 +763,22 @@ last-read parts part n counted some is =
 
 pub shared-is : (cursor : Cursor) (old : List Cell) (fronts behinds : List Part) (before behind : Part) →
     IsCursor cursor → length old ≡ cursor.old_len
-    → cursor.front.items ≡ fronts ++ before ∷ [] → cursor.behind.items ≡ behinds ++ behind ∷ []
+    → side_parts cursor.front ≡ fronts ++ before ∷ [] → side_parts cursor.behind ≡ behinds ++ behind ∷ []
     → set.intersection (slots_in before.slots old (before.to - 1)) (slots_in behind.slots old behind.from)
     ≡ shared_slots cursor.at (cursor_cells old cursor)
 shared-is cursor old fronts behinds before behind is long front_is behind_is =
     let new = cursor.fresh.items in
     let P = PartFits (length old) (length new) in
-    let front_fit = All-pop P cursor.front.items fronts (Some before) front_is
-    (same-fit cursor old cursor.front.items long is.front) in
-    let behind_fit = All-pop P cursor.behind.items behinds (Some behind) behind_is
-    (same-fit cursor old cursor.behind.items long is.behind) in
+    let front_fit = All-pop P (side_parts cursor.front) fronts (Some before) front_is
+    (same-fit cursor old (side_parts cursor.front) long is.front) in
+    let behind_fit = All-pop P (side_parts cursor.behind) behinds (Some behind) behind_is
+    (same-fit cursor old (side_parts cursor.behind) long is.behind) in
     let one = front_fit.1 in let two = behind_fit.1 in let some = one.some in let more = two.some in
     let fs = slot_sets (front_cells old new fronts) in let p = slot_sets (part_cells old new before) in
     let q = slot_sets (part_cells old new behind) in let bs = slot_sets (behind_cells old new behinds) in
     let tags = λ (cell : Cell). cell.tags in
     let sets : slot_sets (cursor_cells old cursor) ≡ (fs ++ p) ++ (q ++ bs) =
-    map-append tags (front_cells old new cursor.front.items) (behind_cells old new cursor.behind.items)
+    map-append tags (front_cells old new (side_parts cursor.front)) (behind_cells old new (side_parts cursor.behind))
     ∙ ap₂ (λ a b. slot_sets a ++ slot_sets b) (ap (front_cells old new) front_is
     ∙ front-push old new fronts before) (ap (behind_cells old new) behind_is ∙ behind-push old new behinds behind)
     ∙ ap₂ (λ a b. a ++ b) (map-append tags (front_cells old new fronts) (part_cells old new before))

@@ -1,15 +1,17 @@
 -- A text on the way from an old one: parts of that and texts that were put in, around a place.
-use Rattle.std.specs.Prelude.{◌≡◌, ℕ, ◌+◌, ◌-◌, ◌<◌, ◌≤◌, List, [], ◌∷◌, ◌++◌, length, slice_range, sum_by, get_or}
-use Rattle.std.specs.Prelude.{Option, None, Some}
+use Rattle.std.specs.Prelude.{◌≡◌, ℕ, ◌+◌, ◌-◌, ◌<◌, ◌≤◌, List, [], ◌∷◌, ◌++◌, length, slice_range, get_or}
+use Rattle.std.specs.Prelude.{Option, None, Some, true, false}
 use Rattle.std.specs.List.{All}
 use Rattle.text_model.specs.declared.cells.Cell.{Cell}
 use Rattle.std.specs.FinSet as set
-use Rattle.text_model.specs.Content.{Slots, slot_sets}
+use Rattle.text_model.specs.Content.{Slots, characters, slot_sets}
 use Rattle.text_model.specs.Lines.{lines, line_start}
 use Rattle.text_model.specs.Splices.{inserted, removed}
 use Rattle.text_model.specs.Steps.{cells_of}
 use Rattle.text_cursor.specs.declared.cursors.Cursor.{Cursor}
-use Rattle.text_cursor.specs.declared.cursors.Part.{Part}
+use Rattle.text_cursor.specs.declared.parts.Part.{Part}
+use Rattle.text_cursor.specs.Parts.{parts_len}
+use Rattle.text_cursor.specs.Sides.{side_parts}
 
 -- the cells of the old text from one offset to another, or those that new characters make with some slots
 abbrev pub cells_between : Option Slots → List Cell → List ℕ → ℕ → ℕ → List Cell
@@ -31,10 +33,8 @@ behind_cells old new (part ∷ parts) = behind_cells old new parts ++ part_cells
 
 abbrev pub cursor_cells : List Cell → Cursor → List Cell
 cursor_cells old cursor =
-    front_cells old cursor.fresh.items cursor.front.items ++ behind_cells old cursor.fresh.items cursor.behind.items
-
-abbrev pub parts_len : List Part → ℕ
-parts_len parts = sum_by (λ (part : Part). part.to - part.from) parts
+    front_cells old cursor.fresh.items (side_parts cursor.front)
+    ++ behind_cells old cursor.fresh.items (side_parts cursor.behind)
 
 abbrev pub source_len : Option Slots → ℕ → ℕ → ℕ
 source_len None old new = old
@@ -45,12 +45,14 @@ pub record PartFits (old new : ℕ) (part : Part) : Type 0 where
   pub some : part.from < part.to
   pub within : part.to ≤ source_len part.slots old new
 
--- the parts fit, and the place and the length are those of the parts
+-- the parts fit, the place and the length are those of the parts, and only those behind the place stand turned
 pub record IsCursor (cursor : Cursor) : Type 0 where
-  pub front : All (PartFits cursor.old_len (length cursor.fresh.items)) cursor.front.items
-  pub behind : All (PartFits cursor.old_len (length cursor.fresh.items)) cursor.behind.items
-  pub place : parts_len cursor.front.items ≡ cursor.at
-  pub whole : cursor.at + parts_len cursor.behind.items ≡ cursor.len
+  pub front : All (PartFits cursor.old_len (length cursor.fresh.items)) (side_parts cursor.front)
+  pub behind : All (PartFits cursor.old_len (length cursor.fresh.items)) (side_parts cursor.behind)
+  pub place : parts_len (side_parts cursor.front) ≡ cursor.at
+  pub whole : cursor.at + parts_len (side_parts cursor.behind) ≡ cursor.len
+  pub ahead : cursor.front.turned ≡ false
+  pub turned : cursor.behind.turned ≡ true
 
 -- a cursor goes elsewhere in the same text
 pub record Moves (before now : Cursor) : Type 0 where
@@ -84,3 +86,20 @@ slots_in (Some slots) old offset = slots
 -- where the last line of a text begins, that behind its last newline
 abbrev pub last_line : List ℕ → ℕ
 last_line text = line_start (lines text) text
+
+-- the characters of parts before a place, and of parts behind it
+abbrev pub front_text : List Cell → List ℕ → List Part → List ℕ
+front_text old new parts = characters (front_cells old new parts)
+
+abbrev pub behind_text : List Cell → List ℕ → List Part → List ℕ
+behind_text old new parts = characters (behind_cells old new parts)
+
+-- where the last line of a text begins that has more than one, from where the text begins at some offset
+pub record IsLastLine (text : List ℕ) (from start : ℕ) : Type 0 where
+  pub some : 0 < last_line text
+  pub is : start ≡ from + last_line text
+
+-- where the second line of a text begins, which has one
+pub record IsSecond (text : List ℕ) (start : ℕ) : Type 0 where
+  pub some : 0 < lines text
+  pub is : start ≡ line_start 1 text

@@ -1,2 +1,4 @@
 pub mod Around
 pub mod Cursors
+pub mod Parts
+pub mod Sides

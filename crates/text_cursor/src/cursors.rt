@@ -2,34 +2,33 @@
 //! texts that were put in, around a place.
 
 ghost use Rattle.std.specs.Prelude.{◌≡◌, ℕ, ◌+◌, ◌-◌, ◌<◌, ◌≤◌, ◌^◌, ◌++◌, List, length, drop, chars, IfOk, OnOk};
+ghost use Rattle.std.specs.Prelude.{true, false, IfSome, IfNone};
 ghost use Rattle.text_model.specs.declared.cells.Cell.{Cell};
 ghost use Rattle.std.specs.List.{All};
-ghost use Rattle.text_cursor.specs.Cursors.{cursor_cells, behind_cells, parts_len, part_cells, source_len, slots_in};
-ghost use Rattle.text_cursor.specs.Cursors.{last_line, PartFits, IsCursor, Moves, Takes, Puts};
+ghost use Rattle.text_cursor.specs.Parts.{parts_len};
+ghost use Rattle.text_cursor.specs.Sides.{block_parts};
+ghost use Rattle.text_cursor.specs.Cursors.{cursor_cells, behind_cells, part_cells, source_len, slots_in, last_line};
+ghost use Rattle.text_cursor.specs.Cursors.{front_text, behind_text, IsLastLine, IsSecond, PartFits, IsCursor};
+ghost use Rattle.text_cursor.specs.Cursors.{Moves, Takes, Puts};
 ghost use Rattle.text_cursor.specs.Around.{shared_slots};
 ghost use Rattle.text_model.specs.Content.{characters};
-ghost use Rattle.text_model.specs.Lines.{line_of, line_start};
+ghost use Rattle.text_model.specs.Lines.{lines, line_of, line_start};
 
+use crate::blocks::count_parts;
 use crate::lines::{line_at, line_behind};
+use crate::parts::Part;
+use crate::sides::{Side, least_in_block};
 use std::alloc::{AllocError, Global};
 use text_model::{TagSet, Text, TextStore};
 
-/// The characters from one offset to another of an old text, or of those that were put in, which have the slots.
-#[derive(Clone, Copy)]
-struct Part {
-    from: usize,
-    to: usize,
-    slots: Option<TagSet>,
-}
-
 /// A place in a text of so many characters, of which the old text had `old_len`: the parts before it and those behind
-/// it, the nearest part of each last.
+/// it.
 #[derive(Drop)]
 pub struct Cursor {
     pub old_len: usize,
     fresh: Vec<char>,
-    front: Vec<Part>,
-    behind: Vec<Part>,
+    front: Side,
+    behind: Side,
     pub at: usize,
     pub len: usize,
 }
@@ -61,11 +60,15 @@ impl Cursor {
         ensures len { IfOk result (λ cursor. cursor.len ≡ len) }
         ensures cells { IfOk result (λ cursor. (old : List Cell) → length old ≡ len → cursor_cells old cursor ≡ old) }
     {
+        let least = least_in_block(room);
+        let near = room.min(least);
+        let front = Vec::with_capacity(alloc, near)?;
+        let behind = whole(alloc, len, near)?;
         Ok(Cursor {
             old_len: len,
             fresh: Vec::new(alloc),
-            front: Vec::with_capacity(alloc, room)?,
-            behind: whole(alloc, len, room)?,
+            front: Side::new(alloc, false, least, front),
+            behind: Side::new(alloc, true, least, behind),
             at: 0,
             len,
         })
@@ -78,6 +81,9 @@ impl Cursor {
         ensures moves { OnOk result (Moves self.old self.new) }
         ensures back { OnOk result (self.new.at < self.old.at) }
     {
+        // Read, so that the prover sees its range.
+        let _len = self.len;
+        self.behind.make_room()?;
         let Some(part) = self.front.pop() else {
             return Ok(());
         };
@@ -96,6 +102,9 @@ impl Cursor {
         ensures on { OnOk result (self.old.at < self.new.at) }
         ensures bound { OnOk result (self.new.at ≤ self.old.at + most) }
     {
+        // Read, so that the prover sees its range.
+        let _len = self.len;
+        self.front.make_room()?;
         let Some(part) = self.behind.pop() else {
             return Ok(());
         };
@@ -120,19 +129,86 @@ impl Cursor {
         Ok(())
     }
 
-    /// Goes to an offset.
+    /// Goes back over the block before the place, if who goes back so far passes it. Whether it was passed.
+    fn leap_back(&mut self, most: usize) -> Result<bool, AllocError>
+        requires cursor { IsCursor self.old }
+        ensures moves { OnOk result (Moves self.old self.new) }
+        ensures back { IfOk result (λ leapt. leapt ≡ true → self.new.at < self.old.at) }
+        ensures stays { IfOk result (λ leapt. leapt ≡ false → self.new.at ≡ self.old.at) }
+    {
+        // Read, so that the prover sees its range.
+        let _len = self.len;
+        let Some(block) = self.front.pop_block(most, true) else {
+            return Ok(false);
+        };
+        let count = block.count;
+        self.behind.push_block(block)?;
+        self.at -= count;
+        Ok(true)
+    }
+
+    /// Goes on over the block behind the place, if who goes on so far passes it. Whether it was passed.
+    fn leap_on(&mut self, most: usize, beyond: bool) -> Result<bool, AllocError>
+        requires cursor { IsCursor self.old }
+        ensures moves { OnOk result (Moves self.old self.new) }
+        ensures on { IfOk result (λ leapt. leapt ≡ true → self.old.at < self.new.at) }
+        ensures bound { OnOk result (beyond ≡ false → self.new.at ≤ self.old.at + most) }
+        ensures stays { IfOk result (λ leapt. leapt ≡ false → self.new.at ≡ self.old.at) }
+    {
+        // Read, so that the prover sees its range.
+        let _len = self.len;
+        let Some(block) = self.behind.pop_block(most, beyond) else {
+            return Ok(false);
+        };
+        let count = block.count;
+        self.front.push_block(block)?;
+        self.at += count;
+        Ok(true)
+    }
+
+    /// Goes back to an offset, or beyond it, by less than a part or by a block.
+    fn seek_back(&mut self, place: usize) -> Result<(), AllocError>
+        requires cursor { IsCursor self.old }
+        ensures moves { OnOk result (Moves self.old self.new) }
+        ensures before { OnOk result (self.new.at ≤ place) }
+    {
+        while self.at > place {
+            let leapt = self.leap_back(self.at - place)?;
+            if !leapt {
+                self.step_back()?;
+            }
+        }
+        Ok(())
+    }
+
+    /// Goes on to an offset, or beyond it by a block, where that may be.
+    fn seek_on(&mut self, place: usize, beyond: bool) -> Result<(), AllocError>
+        requires cursor { IsCursor self.old }
+        requires within { place ≤ self.old.len }
+        ensures moves { OnOk result (Moves self.old self.new) }
+        ensures there { OnOk result (beyond ≡ false → self.old.at ≤ place → self.new.at ≡ place) }
+    {
+        while self.at < place {
+            let most = place - self.at;
+            let leapt = self.leap_on(most, beyond)?;
+            if !leapt {
+                self.step_on(most)?;
+            }
+        }
+        Ok(())
+    }
+
+    /// Goes to an offset: over whole blocks first, then over parts, from that end of the last block to which there are
+    /// fewer of them.
     pub fn seek(&mut self, place: usize) -> Result<(), AllocError>
         requires cursor { IsCursor self.old }
         requires within { place ≤ self.old.len }
         ensures moves { OnOk result (Moves self.old self.new) }
         ensures there { OnOk result (self.new.at ≡ place) }
     {
-        while self.at > place {
-            self.step_back()?;
-        }
-        while self.at < place {
-            self.step_on(place - self.at)?;
-        }
+        self.seek_on(place, true)?;
+        self.seek_back(place)?;
+        self.seek_on(place, false)?;
         Ok(())
     }
 
@@ -186,6 +262,7 @@ impl Cursor {
         if count == 0 {
             return Ok(());
         }
+        self.front.make_room()?;
         let from = self.fresh.len();
         push_chars(&mut self.fresh, text.as_str())?;
         self.front.push(Part {
@@ -269,6 +346,71 @@ fn next_line_in<S: TextStore>(store: &S, fresh: &[char], part: &Part) -> usize
     }
 }
 
+/// Where the last line begins of some parts that end at an offset, if they have a newline.
+fn last_line_of<S: TextStore>(
+    store: &S,
+    fresh: &[char],
+    parts: &[Part],
+    end: usize,
+) -> Option<usize>
+    requires fit { All (PartFits (length (S.content store.now).cells) (length fresh.now)) parts.now }
+    requires below { parts_len parts.now ≤ end }
+    ensures some { IfSome result (IsLastLine (front_text (S.content store.now).cells fresh.now parts.now)
+        (end - parts_len parts.now)) }
+    ensures none { IfNone result (last_line (front_text (S.content store.now).cells fresh.now parts.now) ≡ 0) }
+{
+    let mut left = parts.len();
+    let mut end = end;
+    while left > 0 {
+        left -= 1;
+        let part = &parts[left];
+        end -= part.to - part.from;
+        let line = last_line_in(store, fresh, part);
+        if line > 0 {
+            return Some(end + line);
+        }
+    }
+    None
+}
+
+/// Where the second line of some parts begins, in characters from their start, if they have one.
+fn next_line_of<S: TextStore>(store: &S, fresh: &[char], parts: &[Part]) -> Option<usize>
+    requires fit { All (PartFits (length (S.content store.now).cells) (length fresh.now)) parts.now }
+    requires small { parts_len parts.now < 2 ^ 64 }
+    ensures some { IfSome result (IsSecond (front_text (S.content store.now).cells fresh.now parts.now)) }
+    ensures none { IfNone result (lines (front_text (S.content store.now).cells fresh.now parts.now) ≡ 0) }
+{
+    let mut far = 0;
+    for part in parts {
+        if last_line_in(store, fresh, part) > 0 {
+            return Some(far + next_line_in(store, fresh, part));
+        }
+        let count = part.to - part.from;
+        far += count;
+    }
+    None
+}
+
+/// The same of parts that are turned, the first one last.
+fn next_line_back<S: TextStore>(store: &S, fresh: &[char], parts: &[Part]) -> Option<usize>
+    requires fit { All (PartFits (length (S.content store.now).cells) (length fresh.now)) parts.now }
+    requires small { parts_len parts.now < 2 ^ 64 }
+    ensures some { IfSome result (IsSecond (behind_text (S.content store.now).cells fresh.now parts.now)) }
+    ensures none { IfNone result (lines (behind_text (S.content store.now).cells fresh.now parts.now) ≡ 0) }
+{
+    let mut left = parts.len();
+    let mut far = 0;
+    while left > 0 {
+        left -= 1;
+        let part = &parts[left];
+        if last_line_in(store, fresh, part) > 0 {
+            return Some(far + next_line_in(store, fresh, part));
+        }
+        far += part.to - part.from;
+    }
+    None
+}
+
 impl Cursor {
     /// The slots that the characters on both sides of the place share, in what a store's text became; none at the
     /// start.
@@ -281,10 +423,31 @@ impl Cursor {
         if self.at == 0 {
             return TagSet::empty();
         }
-        let before = &self.front[self.front.len() - 1];
+        let before = self.front.last();
         let slots = tags_in(store, before.slots, before.to - 1);
-        let behind = &self.behind[self.behind.len() - 1];
+        let behind = self.behind.last();
         slots.common(&tags_in(store, behind.slots, behind.from))
+    }
+
+    /// Where the last line of the blocks before the place begins, which have so many characters.
+    fn far_line<S: TextStore>(&self, store: &S, count: usize) -> usize
+        requires cursor { IsCursor self.now }
+        requires old { self.now.old_len ≡ length (S.content store.now).cells }
+        requires count { count ≡ parts_len (block_parts false self.now.front.far.items) }
+        ensures { result ≡ last_line (front_text (S.content store.now).cells self.now.fresh.items
+            (block_parts false self.now.front.far.items)) }
+    {
+        let mut left = self.front.far.len();
+        let mut end = count;
+        while left > 0 {
+            left -= 1;
+            let block = &self.front.far[left];
+            match last_line_of(store, &self.fresh, &block.parts, end) {
+                Some(line) => return line,
+                None => end -= block.count,
+            }
+        }
+        0
     }
 
     /// Where the line of the place begins.
@@ -294,18 +457,32 @@ impl Cursor {
         ensures { let text = characters (cursor_cells (S.content store.now).cells self.now) in
             result ≡ line_start (line_of text self.now.at) text }
     {
-        let mut left = self.front.len();
-        let mut end = self.at;
+        match last_line_of(store, &self.fresh, &self.front.near, self.at) {
+            Some(line) => line,
+            None => self.far_line(store, self.at - count_parts(&self.front.near)),
+        }
+    }
+
+    /// Where the second line of the blocks behind the place begins, or they end.
+    fn far_next<S: TextStore>(&self, store: &S) -> usize
+        requires cursor { IsCursor self.now }
+        requires old { self.now.old_len ≡ length (S.content store.now).cells }
+        ensures { result ≡ line_start 1 (behind_text (S.content store.now).cells self.now.fresh.items
+            (block_parts true self.now.behind.far.items)) }
+    {
+        // Read, so that the prover sees its range.
+        let _len = self.len;
+        let mut left = self.behind.far.len();
+        let mut far = 0;
         while left > 0 {
             left -= 1;
-            let part = &self.front[left];
-            end -= part.to - part.from;
-            let line = last_line_in(store, &self.fresh, part);
-            if line > 0 {
-                return end + line;
+            let block = &self.behind.far[left];
+            match next_line_of(store, &self.fresh, &block.parts) {
+                Some(next) => return far + next,
+                None => far += block.count,
             }
         }
-        0
+        far
     }
 
     /// How far behind the place the next line begins, or the text ends.
@@ -316,16 +493,9 @@ impl Cursor {
             ≡ line_start 1 (drop self.now.at (characters (cursor_cells (S.content store.now).cells self.now))) }
         ensures bound { self.now.at + result ≤ self.now.len }
     {
-        let mut left = self.behind.len();
-        let mut far = 0;
-        while left > 0 {
-            left -= 1;
-            let part = &self.behind[left];
-            if last_line_in(store, &self.fresh, part) > 0 {
-                return far + next_line_in(store, &self.fresh, part);
-            }
-            far += part.to - part.from;
+        match next_line_back(store, &self.fresh, &self.behind.near) {
+            Some(next) => next,
+            None => count_parts(&self.behind.near) + self.far_next(store),
         }
-        far
     }
 }

@@ -2,8 +2,11 @@
 //! Between the steps of an edit it answers which slots both sides of the place share, and where lines begin.
 #![tactic(auto)]
 
+mod blocks;
 mod cursors;
 mod lines;
+mod parts;
+mod sides;
 
 pub use cursors::Cursor;
 pub use lines::{line_at, line_behind};

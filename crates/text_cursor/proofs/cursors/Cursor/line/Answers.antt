@@ -1,36 +1,38 @@
-use Rattle.std.proofs.Common.{◌≡◌, ◌+◌, ◌-◌, ◌<◌, take, ap, sym, subst, ◌∙◌, arith}
-use Rattle.text_model.specs.Content.{characters}
-use Rattle.text_cursor.specs.Cursors.{front_cells, last_line}
-use Rattle.text_cursor.proofs.CursorLaws.{same-fit}
-use Rattle.text_cursor.proofs.LookLaws.{line-step, place-line}
+use Rattle.std.proofs.Common.{length, ap, ap₂, sym, ◌∙◌, arith}
+use Rattle.text_cursor.specs.Cursors.{front_text, last_line}
+use Rattle.text_cursor.specs.Parts.{parts_len}
+use Rattle.text_cursor.proofs.LookLaws.{near-line, fit-both, last-same}
 use Rattle.text_cursor.proofs.cursors.Cursor.line.Goals as goal
 
-pub returns-then-line-gt0 : goal.returns-then-line-gt0
-returns-then-line-gt0 g c =
+pub last_line_of-requires-clause-fit : goal.last_line_of-requires-clause-fit
+last_line_of-requires-clause-fit g c =
     let cells = (g.S.TextStore.content c.args.store.now).cells in
     let own = c.args.self.now in
-    let step = line-step cells own.fresh.items own.front.items c.loop-left.left c.loop-left.end c.index-part.result.now
-    (same-fit own cells own.front.items (sym c.requires.old) c.requires.cursor.front)
-    c.loop-left.invariant c.loop-left-test.true c.index-part.ensures in
-    let found = rw c.deref.ensures.value at c.last_line_in-line.ensures.value in
-    ap (λ n. c.loop-left.end - (c.index-part.result.now.to - c.index-part.result.now.from) + n) found
-    ∙ sym (step.some (subst (λ n. 0 < n) found c.if-line-gt0.true))
-    ∙ sym (place-line own cells c.requires.cursor (sym c.requires.old))
+    let near = near-line own cells c.requires.cursor (sym c.requires.old) in
+    fit-both (length cells) own.fresh.items c.deref.result.now own.front.near.items
+    c.deref-2.result.now c.deref.ensures.value c.deref-2.ensures.value near.fit
 
-pub loop-left-preserved : goal.loop-left-preserved
-loop-left-preserved g c =
+pub last_line_of-requires-clause-below : goal.last_line_of-requires-clause-below
+last_line_of-requires-clause-below g c =
     let cells = (g.S.TextStore.content c.args.store.now).cells in
     let own = c.args.self.now in
-    let step = line-step cells own.fresh.items own.front.items c.loop-left.left c.loop-left.end c.index-part.result.now
-    (same-fit own cells own.front.items (sym c.requires.old) c.requires.cursor.front)
-    c.loop-left.invariant c.loop-left-test.true c.index-part.ensures in
-    let found = rw c.deref.ensures.value at c.last_line_in-line.ensures.value in
-    step.none (sym found ∙ omega arith)
+    let near = near-line own cells c.requires.cursor (sym c.requires.old) in
+    let below = near.below in let same = ap parts_len c.deref-2.ensures.value in
+    omega (arith, below, same)
 
-pub returns : goal.returns
-returns g c =
+pub returns-in-Some : goal.returns-in-Some
+returns-in-Some g c =
     let cells = (g.S.TextStore.content c.args.store.now).cells in
     let own = c.args.self.now in
-    let none : c.loop-left.left ≡ 0 = omega arith in
-    sym (place-line own cells c.requires.cursor (sym c.requires.old) ∙ c.loop-left.invariant.same
-    ∙ ap (λ n. last_line (characters (front_cells cells own.fresh.items (take n own.front.items)))) none)
+    let near = near-line own cells c.requires.cursor (sym c.requires.old) in
+    near.some c.in-Some.line (last-same cells own.fresh.items c.deref.result.now own.front.near.items
+    c.deref-2.result.now own.at c.in-Some.line c.deref.ensures.value c.deref-2.ensures.value c.in-Some.ensures.some)
+
+pub returns-in-None : goal.returns-in-None
+returns-in-None g c =
+    let cells = (g.S.TextStore.content c.args.store.now).cells in
+    let own = c.args.self.now in
+    let near = near-line own cells c.requires.cursor (sym c.requires.old) in
+    c.far_line.ensures
+    ∙ near.none (ap₂ (λ new parts. last_line (front_text cells new parts)) (sym c.deref.ensures.value)
+    (sym c.deref-2.ensures.value) ∙ c.in-None.ensures.none)

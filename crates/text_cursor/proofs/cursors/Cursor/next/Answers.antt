@@ -1,39 +1,81 @@
-use Rattle.std.proofs.Common.{◌≡◌, ◌+◌, ◌<◌, take, ap, sym, subst, ◌∙◌, arith}
+use Rattle.std.proofs.Common.{◌≡◌, ◌+◌, length, drop, ap, ap₂, sym, ◌∙◌, arith}
 use Rattle.text_model.specs.Content.{characters}
-use Rattle.text_model.specs.Lines.{line_start}
-use Rattle.text_cursor.specs.Cursors.{behind_cells}
-use Rattle.text_cursor.proofs.CursorLaws.{same-fit}
-use Rattle.text_cursor.proofs.LookLaws.{next-step, place-next}
+use Rattle.text_model.specs.Lines.{lines, line_start}
+use Rattle.text_cursor.specs.Cursors.{behind_text, cursor_cells}
+use Rattle.text_cursor.specs.Parts.{parts_len}
+use Rattle.text_cursor.proofs.LookLaws.{fit-both, near-next, second-same-back}
 use Rattle.text_cursor.proofs.cursors.Cursor.next.Goals as goal
 
-pub returns-then-last_line_in-gt0-clause-value : goal.returns-then-last_line_in-gt0-clause-value
-returns-then-last_line_in-gt0-clause-value g c =
+pub next_line_back-requires-clause-fit : goal.next_line_back-requires-clause-fit
+next_line_back-requires-clause-fit g c =
     let cells = (g.S.TextStore.content c.args.store.now).cells in
     let own = c.args.self.now in
-    let step = next-step cells own.fresh.items own.behind.items c.loop-left.left c.loop-left.far c.index-part.result.now
-    (same-fit own cells own.behind.items (sym c.requires.old) c.requires.cursor.behind)
-    c.loop-left.invariant c.loop-left-test.true c.index-part.ensures in
-    let found = rw c.deref.ensures.value at c.last_line_in.ensures.value in
-    let first = rw c.deref-then-last_line_in-gt0.ensures.value at c.next_line_in.ensures.value in
-    ap (λ n. c.loop-left.far + n) first
-    ∙ sym (step.some (subst (λ n. 0 < n) found c.if-last_line_in-gt0.true))
-    ∙ sym (place-next own cells c.requires.cursor (sym c.requires.old))
+    let near = near-next own cells c.requires.cursor (sym c.requires.old) in
+    fit-both (length cells) own.fresh.items c.deref.result.now own.behind.near.items c.deref-2.result.now
+    c.deref.ensures.value c.deref-2.ensures.value near.fit
 
-pub loop-left-preserved : goal.loop-left-preserved
-loop-left-preserved g c =
+pub overflow_add-result : goal.overflow_add-result
+overflow_add-result g c =
     let cells = (g.S.TextStore.content c.args.store.now).cells in
     let own = c.args.self.now in
-    let step = next-step cells own.fresh.items own.behind.items c.loop-left.left c.loop-left.far c.index-part.result.now
-    (same-fit own cells own.behind.items (sym c.requires.old) c.requires.cursor.behind)
-    c.loop-left.invariant c.loop-left-test.true c.index-part.ensures in
-    let found = rw c.deref.ensures.value at c.last_line_in.ensures.value in
-    step.none (sym found ∙ omega arith)
+    let near = near-next own cells c.requires.cursor (sym c.requires.old) in
+    let counted : c.count_parts.result ≡ parts_len own.behind.near.items =
+    c.count_parts.ensures ∙ ap parts_len c.deref-in-None.ensures.value in
+    let none : lines (behind_text cells own.fresh.items own.behind.near.items) ≡ 0 =
+    ap₂ (λ new parts. lines (behind_text cells new parts)) (sym c.deref.ensures.value)
+    (sym c.deref-2.ensures.value) ∙ c.in-None.ensures.none in
+    let sum : c.count_parts.result + c.far_next.result
+    ≡ line_start 1 (drop own.at (characters (cursor_cells cells own))) =
+    ap₂ (λ m n. m + n) counted c.far_next.ensures ∙ near.none none in
+    let bound = near.bound in
+    omega (arith, sum, bound)
 
-pub returns-clause-value : goal.returns-clause-value
-returns-clause-value g c =
+pub returns-in-Some-clause-value : goal.returns-in-Some-clause-value
+returns-in-Some-clause-value g c =
     let cells = (g.S.TextStore.content c.args.store.now).cells in
     let own = c.args.self.now in
-    let none : c.loop-left.left ≡ 0 = omega arith in
-    sym (place-next own cells c.requires.cursor (sym c.requires.old) ∙ c.loop-left.invariant.same
-    ∙ ap (λ n. c.loop-left.far + line_start 1
-    (characters (behind_cells cells own.fresh.items (take n own.behind.items)))) none ∙ omega arith)
+    let near = near-next own cells c.requires.cursor (sym c.requires.old) in
+    let second = second-same-back cells own.fresh.items c.deref.result.now own.behind.near.items c.deref-2.result.now
+    c.in-Some.next c.deref.ensures.value c.deref-2.ensures.value c.in-Some.ensures.some in
+    near.some c.in-Some.next second
+
+pub returns-in-Some-clause-bound : goal.returns-in-Some-clause-bound
+returns-in-Some-clause-bound g c =
+    let cells = (g.S.TextStore.content c.args.store.now).cells in
+    let own = c.args.self.now in
+    let near = near-next own cells c.requires.cursor (sym c.requires.old) in
+    let second = second-same-back cells own.fresh.items c.deref.result.now own.behind.near.items c.deref-2.result.now
+    c.in-Some.next c.deref.ensures.value c.deref-2.ensures.value c.in-Some.ensures.some in
+    let bound = near.bound in let is = near.some c.in-Some.next second in
+    omega (arith, bound, is)
+
+pub returns-in-None-clause-value : goal.returns-in-None-clause-value
+returns-in-None-clause-value g c =
+    let cells = (g.S.TextStore.content c.args.store.now).cells in
+    let own = c.args.self.now in
+    let near = near-next own cells c.requires.cursor (sym c.requires.old) in
+    let counted : c.count_parts.result ≡ parts_len own.behind.near.items =
+    c.count_parts.ensures ∙ ap parts_len c.deref-in-None.ensures.value in
+    let none : lines (behind_text cells own.fresh.items own.behind.near.items) ≡ 0 =
+    ap₂ (λ new parts. lines (behind_text cells new parts)) (sym c.deref.ensures.value)
+    (sym c.deref-2.ensures.value) ∙ c.in-None.ensures.none in
+    let sum : c.count_parts.result + c.far_next.result
+    ≡ line_start 1 (drop own.at (characters (cursor_cells cells own))) =
+    ap₂ (λ m n. m + n) counted c.far_next.ensures ∙ near.none none in
+    sum
+
+pub returns-in-None-clause-bound : goal.returns-in-None-clause-bound
+returns-in-None-clause-bound g c =
+    let cells = (g.S.TextStore.content c.args.store.now).cells in
+    let own = c.args.self.now in
+    let near = near-next own cells c.requires.cursor (sym c.requires.old) in
+    let counted : c.count_parts.result ≡ parts_len own.behind.near.items =
+    c.count_parts.ensures ∙ ap parts_len c.deref-in-None.ensures.value in
+    let none : lines (behind_text cells own.fresh.items own.behind.near.items) ≡ 0 =
+    ap₂ (λ new parts. lines (behind_text cells new parts)) (sym c.deref.ensures.value)
+    (sym c.deref-2.ensures.value) ∙ c.in-None.ensures.none in
+    let sum : c.count_parts.result + c.far_next.result
+    ≡ line_start 1 (drop own.at (characters (cursor_cells cells own))) =
+    ap₂ (λ m n. m + n) counted c.far_next.ensures ∙ near.none none in
+    let bound = near.bound in
+    omega (arith, sum, bound)

@@ -1,9 +1,0 @@
-use Rattle.text_cursor.proofs.LookLaws.{LineSoFar}
-use Rattle.text_cursor.proofs.cursors.Cursor.line.Given as goal
-
-abbrev pub invariant-loop-left : goal.invariant-loop-left
-invariant-loop-left g l =
-    LineSoFar (g.S.TextStore.content l.store).cells l.self.fresh.items l.self.front.items l.left l.end
-
-abbrev pub decreases-loop-left : goal.decreases-loop-left
-decreases-loop-left g l = l.left

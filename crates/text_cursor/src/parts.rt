@@ -1,0 +1,9 @@
+use text_model::TagSet;
+
+/// The characters from one offset to another of an old text, or of those that were put in, which have the slots.
+#[derive(Clone, Copy)]
+pub struct Part {
+    pub from: usize,
+    pub to: usize,
+    pub slots: Option<TagSet>,
+}
