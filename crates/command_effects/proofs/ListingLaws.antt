@@ -1,7 +1,7 @@
 -- Lists of elements as they are written.
-use Rattle.std.proofs.Common.{◌≡◌, ℕ, zero, suc, ◌+◌, Bool, true, false, List, [], ◌∷◌, ◌++◌, chars, length, refl, sym}
+use Rattle.std.proofs.Common.{◌≡◌, ℕ, zero, suc, ◌+◌, ◌-◌, ◌<◌, ◌≤◌, Option, Bool, true, false, List, [], ◌∷◌, ◌++◌, chars, length, refl, sym}
 use Rattle.std.proofs.Common.{ap, subst, ◌∙◌, arith}
-use Rattle.std.specs.Prelude.{Some, slice_get, take, filter, if◌then◌else◌}
+use Rattle.std.specs.Prelude.{None, Some, IfSome, slice_get, take, filter, if◌then◌else◌}
 use Rattle.std.proofs.lemmas.Option.{none-some, same_Some}
 use Rattle.std.proofs.lemmas.Str.{chars-nil}
 use Rattle.tag_table.specs.Tags.{Tag, names_of, slots_of}
@@ -21,26 +21,49 @@ range_words-append text [] more = refl
 range_words-append text (range ∷ ranges) more =
     ap (λ ws. position_text text range.start ∷ position_text text range.end ∷ ws) (range_words-append text ranges more)
 
--- The ranges before a place are listed.
-pub record IsListed (text : List ℕ) (flags : List Bool) (old new : List ℕ) (place : ℕ) : Type 0 where
+-- The ranges before one, if there is one, are listed.
+pub record IsListed (text : List ℕ) (flags : List Bool) (old new : List ℕ) (next : Option TagRange) : Type 0 where
   pub done : List TagRange
-  pub ranges : tag_ranges flags ≡ done ++ ranges_from flags place
+  pub ranges : tag_ranges flags ≡ done ++ and_later flags next
   pub goes : Goes old new (range_words text done)
 
-pub listed-none : (text : List ℕ) (flags : List Bool) (bytes : List ℕ) → IsListed text flags bytes bytes 0
-listed-none text flags bytes = record { done = []; ranges = sym (ranges_from-first flags); goes = goes_nowhere bytes }
+pub listed-none : (text : List ℕ) (flags : List Bool) (bytes : List ℕ) (next : Option TagRange) →
+    ranges_from flags 0 ≡ and_later flags next → IsListed text flags bytes bytes next
+listed-none text flags bytes next later =
+    record { done = []; ranges = sym (ranges_from-first flags) ∙ later; goes = goes_nowhere bytes }
 
-pub listed-more : (text : List ℕ) (flags : List Bool) (old between new : List ℕ) (place : ℕ) (range : TagRange) →
-    IsListed text flags old between place
-    → ranges_from flags place ≡ and_later flags (Some range) → Goes between new (range_words text (range ∷ [])) →
-    IsListed text flags old new range.end
-listed-more text flags old between new place range listed later goes = record {
+pub listed-more : (text : List ℕ) (flags : List Bool) (old between new : List ℕ) (found : Option TagRange)
+    (range : TagRange) (next : Option TagRange) → IsListed text flags old between found → found ≡ Some range →
+    ranges_from flags range.end ≡ and_later flags next → Goes between new (range_words text (range ∷ [])) →
+    IsListed text flags old new next
+listed-more text flags old between new found range next listed is later goes = record {
   done = listed.done ++ range ∷ [];
-  ranges = listed.ranges ∙ ap (λ rs. listed.done ++ rs) later
-      ∙ sym (append_assoc listed.done (range ∷ []) (ranges_from flags range.end));
+  ranges = listed.ranges ∙ ap (λ r. listed.done ++ and_later flags r) is
+      ∙ ap (λ rs. listed.done ++ range ∷ rs) later
+      ∙ sym (append_assoc listed.done (range ∷ []) (and_later flags next));
   goes = subst (Goes old new) (sym (range_words-append text listed.done (range ∷ [])))
       (goes_on old between new (range_words text listed.done) _ listed.goes goes);
 }
+
+pub listed-all : (text : List ℕ) (flags : List Bool) (old new : List ℕ) (found : Option TagRange) →
+    IsListed text flags old new found → found ≡ None → Goes old new (range_words text (tag_ranges flags))
+listed-all text flags old new found listed is =
+    subst (λ ranges. Goes old new (range_words text ranges))
+    (sym (listed.ranges ∙ ap (λ r. listed.done ++ and_later flags r) is ∙ append-nil listed.done)) listed.goes
+
+-- How far the first of the ranges that aren't listed begins before the end of a view: its columns go from one to another.
+abbrev pub left_of : ℕ → ℕ → Option TagRange → ℕ
+left_of first end None = 0
+left_of first end (Some range) = suc (end - (first + range.start))
+
+pub left-less : (first end : ℕ) (found : Option TagRange) (range : TagRange) (next : Option TagRange) →
+    found ≡ Some range → range.start < range.end → first + range.end ≤ end →
+    IfSome next (λ later. range.end ≤ later.start) → left_of first end next < left_of first end found
+left-less first end found range None is some within behind =
+    subst (λ r. 0 < left_of first end r) (sym is) (let e : 0 < suc (end - (first + range.start)) = omega arith in e)
+left-less first end found range (Some later) is some within behind =
+    subst (λ r. left_of first end (Some later) < left_of first end r) (sym is)
+    (let e : suc (end - (first + later.start)) < suc (end - (first + range.start)) = omega (arith, some, within, behind) in e)
 
 -- a name more
 pub goes_name : (old between new : List ℕ) (names : List (List ℕ)) (at : ℕ) (name : List ℕ) →

@@ -18,7 +18,7 @@ use mark_table::MarkTable;
 use std::alloc::AllocError;
 use tag_table::TagTable;
 use tcl_words::push_element;
-use text_index::{TagRange, View, next_range, previous_range, push_index};
+use text_index::{TagRange, View, next_range, previous_range, push_index, range_behind};
 use text_model::{TagSet, TagSlot, Text, TextStore};
 
 /// Appends a place as an element of a list; its text is made in `word`, whatever stands there.
@@ -68,10 +68,10 @@ pub fn push_ranges<S: TextStore>(
         (tag_ranges (shown_flags slot.0 (S.content view.now.store.now) view.now.s view.now.e)))) }
 {
     let mut word = String::new(*list.allocator());
-    let mut place = 0;
-    while let Some(range) = next_range(view, slot, place) {
+    let mut next = next_range(view, slot, 0);
+    while let Some(range) = next {
         push_range(list, &mut word, view, range)?;
-        place = range.end;
+        next = range_behind(view, slot, range.end);
     }
     Ok(())
 }

@@ -218,6 +218,17 @@ next_column slot at text entries lie within =
     (position (λ (column : Column). finset.contains column.toggled slot) columns))
     (ap (λ n. columns_from n (drop at text) entries) from ∙ sym (drop-columns at 0 text entries))
 
+-- the entries before the column say nothing
+pub next_behind : (slot at from count : ℕ) (entries : List Toggled) → RiseIn from (WORDS * at) (take count entries) →
+    next_entry slot at (drop count entries) ≡ next_entry slot at entries
+next_behind slot at from zero entries rise = refl
+next_behind slot at from (suc count) [] rise = refl
+next_behind slot at from (suc count) (entry ∷ entries) rise =
+    let below : entry.column < at = omega (arith, rise.1) in
+    let test : (nat_le at entry.column && finset.contains entry.slots slot) ≡ false = grind (arith, nat_tests, below) in
+    next_behind slot at (suc (place_of entry)) count entries rise.3
+    ∙ sym (ap (λ b. if b then Some entry.column else next_entry slot at entries) test)
+
 pub next_above : (slot at : ℕ) (entries : List Toggled) → IfSome (next_entry slot at entries) (λ next. at ≤ next)
 next_above slot at [] = tt
 next_above slot at (entry ∷ entries) =

@@ -204,7 +204,8 @@ impl RichLine {
         ensures above { IfSome result (λ next. column ≤ next) }
         ensures bound { IfSome result (λ next. next < length self.now.columns) }
     {
-        next_toggle(&self.toggles, column, slot)
+        let start = count_before(&self.toggles, column);
+        next_toggle(&self.toggles[start..], column, slot)
     }
 
     /// The last column below one before which a slot is toggled.

@@ -1,7 +1,7 @@
 -- The ranges of flags: what walks over them, place by place.
 use Rattle.std.proofs.Common.{◌≡◌, ℕ, zero, suc, ◌+◌, ◌-◌, ◌<◌, ◌≤◌, Bool, true, false, cond, not, ◌&&◌, List, [], ◌∷◌}
-use Rattle.std.proofs.Common.{Option, Some, None, length, drop, refl, sym, ap, ap₂, ◌∙◌, arith, lt-ltb, le-ltb}
-use Rattle.std.specs.Prelude.{nat_le, filter, find}
+use Rattle.std.proofs.Common.{Option, Some, None, length, drop, refl, sym, subst, ap, ap₂, ◌∙◌, arith, lt-ltb, le-ltb}
+use Rattle.std.specs.Prelude.{nat_le, filter, find, IfSome}
 use Rattle.std.specs.List.{prefix_len, last_or}
 use Rattle.std.proofs.lemmas.Bool.{le-leb, lt-leb, leb-true}
 use Rattle.text_model.specs.Changes.{is_alike, flag_at, next_change}
@@ -303,3 +303,41 @@ ranges_from-step flags place =
 
 pub ranges_from-first : (flags : List Bool) → ranges_from flags 0 ≡ tag_ranges flags
 ranges_from-first flags = from-all false 0 0 flags (omega arith)
+
+-- ---- the character behind a range hasn't the tag
+
+run-unset : (flags : List Bool) → flag_at flags (prefix_len is_set flags) ≡ false
+run-unset [] = refl
+run-unset (false ∷ flags) = refl
+run-unset (true ∷ flags) =
+    let next : 1 + prefix_len is_set flags ≡ suc (prefix_len is_set flags) = omega arith in
+    ap (flag_at (true ∷ flags)) next ∙ run-unset flags
+
+found-unset : (all : List Bool) (before : Bool) (at place : ℕ) (flags : List Bool) →
+    ((k : ℕ) → flag_at all (at + k) ≡ flag_at flags k) →
+    IfSome (find (begins_from place) (ranges_behind before at flags)) (λ range. flag_at all range.end ≡ false)
+found-unset all before at place [] same = tt
+found-unset all before at place (false ∷ flags) same =
+    found-unset all false (suc at) place flags (λ k.
+    let next : suc at + k ≡ at + suc k = omega arith in ap (flag_at all) next ∙ same (suc k))
+found-unset all true at place (true ∷ flags) same =
+    found-unset all true (suc at) place flags (λ k.
+    let next : suc at + k ≡ at + suc k = omega arith in ap (flag_at all) next ∙ same (suc k))
+found-unset all false at place (true ∷ flags) same =
+    let run = prefix_len is_set flags in
+    elim (nat_le place at) as (λ b.
+    IfSome (cond b (Some (record { start = at; end = suc at + run }))
+    (find (begins_from place) (ranges_behind true (suc at) flags))) (λ range. flag_at all range.end ≡ false)) [
+      | true ↦
+          let next : suc at + run ≡ at + suc run = omega arith in
+          ap (flag_at all) next ∙ same (suc run) ∙ run-unset flags
+      | false ↦ found-unset all true (suc at) place flags (λ k.
+          let next : suc at + k ≡ at + suc k = omega arith in ap (flag_at all) next ∙ same (suc k))
+    ]
+
+-- For who goes on at a range's end.
+pub range-unset : (flags : List Bool) (place : ℕ) (found : Option TagRange) → found ≡ next_range flags place →
+    IfSome found (λ range. flag_at flags range.end ≡ false)
+range-unset flags place found is =
+    subst (λ r. IfSome r (λ range. flag_at flags range.end ≡ false)) (sym is)
+    (found-unset flags false 0 place flags (λ k. let same : 0 + k ≡ k = omega arith in ap (flag_at flags) same))

@@ -74,6 +74,26 @@ fn behind_range<S: TextStore>(view: &View<'_, S>, slot: TagSlot, place: usize) -
     change_behind(view, slot, place - 1)
 }
 
+/// The first place from a place on at which a range begins, where the character at the place hasn't the tag or the view
+/// ends; the end of the view where there is none.
+fn start_behind<S: TextStore>(view: &View<'_, S>, slot: TagSlot, place: usize) -> usize
+    requires view { IsView (S.content view.now.store.now) view.now.s view.now.e }
+    requires slot { slot.0 < slot_count }
+    requires within { view.now.s + place ≤ view.now.e }
+    requires unset { flag_at (shown_flags slot.0 (S.content view.now.store.now) view.now.s view.now.e) place ≡ false }
+    ensures passed { (k : ℕ) → place ≤ k → k < result →
+        begins (shown_flags slot.0 (S.content view.now.store.now) view.now.s view.now.e) k ≡ false }
+    ensures here { view.now.s + result < view.now.e →
+        begins (shown_flags slot.0 (S.content view.now.store.now) view.now.s view.now.e) result ≡ true }
+    ensures above { place ≤ result }
+    ensures bound { view.now.s + result ≤ view.now.e }
+{
+    if place == view.len() {
+        return place;
+    }
+    change_behind(view, slot, place)
+}
+
 /// The first place from a place on at which a range begins; the end of the view where there is none.
 fn next_start<S: TextStore>(view: &View<'_, S>, slot: TagSlot, place: usize) -> usize
     requires view { IsView (S.content view.now.store.now) view.now.s view.now.e }
@@ -90,13 +110,13 @@ fn next_start<S: TextStore>(view: &View<'_, S>, slot: TagSlot, place: usize) -> 
         return place;
     }
     if !is_tagged(view, slot, place) {
-        return change_behind(view, slot, place);
+        return start_behind(view, slot, place);
     }
     let from = behind_range(view, slot, place);
-    if from == place || from == view.len() {
+    if from == place {
         return from;
     }
-    change_behind(view, slot, from)
+    start_behind(view, slot, from)
 }
 
 /// The place behind the last character before a place that has the tag of a slot; 0 where there is none.
@@ -116,6 +136,27 @@ fn behind_tagged<S: TextStore>(view: &View<'_, S>, slot: TagSlot, place: usize) 
     change_before(view, slot, place)
 }
 
+/// The range of a tag that begins at a place; none where the place is the end of the view.
+fn range_at<S: TextStore>(view: &View<'_, S>, slot: TagSlot, start: usize) -> Option<TagRange>
+    requires view { IsView (S.content view.now.store.now) view.now.s view.now.e }
+    requires slot { slot.0 < slot_count }
+    requires within { view.now.s + start ≤ view.now.e }
+    requires here { view.now.s + start < view.now.e →
+        begins (shown_flags slot.0 (S.content view.now.store.now) view.now.s view.now.e) start ≡ true }
+    ensures value { (place : ℕ) → place ≤ start → ((k : ℕ) → place ≤ k → k < start →
+        begins (shown_flags slot.0 (S.content view.now.store.now) view.now.s view.now.e) k ≡ false) →
+        result ≡ next_range (shown_flags slot.0 (S.content view.now.store.now) view.now.s view.now.e) place }
+    ensures there { IfSome result (λ range. range.start ≡ start) }
+    ensures some { IfSome result (λ range. range.start < range.end) }
+    ensures bound { IfSome result (λ range. view.now.s + range.end ≤ view.now.e) }
+{
+    if start == view.len() {
+        return None;
+    }
+    let end = change_behind(view, slot, start);
+    Some(TagRange { start, end })
+}
+
 /// The first range of a tag that begins at a place or behind it (text(n), "tag nextrange"). It takes no memory.
 ///
 /// Who walks over all ranges begins at 0, and goes on at the end of each.
@@ -132,11 +173,33 @@ pub fn next_range<S: TextStore>(view: &View<'_, S>, slot: TagSlot, place: usize)
     ensures bound { IfSome result (λ range. view.now.s + range.end ≤ view.now.e) }
 {
     let start = next_start(view, slot, place);
-    if start == view.len() {
-        return None;
-    }
-    let end = change_behind(view, slot, start);
-    Some(TagRange { start, end })
+    range_at(view, slot, start)
+}
+
+/// The first range of a tag that begins at a place or behind it, where the character at the place hasn't the tag, or
+/// the view ends. It takes no memory.
+///
+/// That is so at the end of each range. It is `next_range`, but needn't ask whether the place has the tag, which
+/// costs by how often tags begin and end before it on its line.
+pub fn range_behind<S: TextStore>(
+    view: &View<'_, S>,
+    slot: TagSlot,
+    place: usize,
+) -> Option<TagRange>
+    requires view { IsView (S.content view.now.store.now) view.now.s view.now.e }
+    requires slot { slot.0 < slot_count }
+    requires within { view.now.s + place ≤ view.now.e }
+    requires unset { flag_at (shown_flags slot.0 (S.content view.now.store.now) view.now.s view.now.e) place ≡ false }
+    ensures value { result ≡ next_range (shown_flags slot.0 (S.content view.now.store.now) view.now.s view.now.e)
+        place }
+    ensures later { ranges_from (shown_flags slot.0 (S.content view.now.store.now) view.now.s view.now.e) place
+        ≡ and_later (shown_flags slot.0 (S.content view.now.store.now) view.now.s view.now.e) result }
+    ensures behind { IfSome result (λ range. place ≤ range.start) }
+    ensures some { IfSome result (λ range. range.start < range.end) }
+    ensures bound { IfSome result (λ range. view.now.s + range.end ≤ view.now.e) }
+{
+    let start = start_behind(view, slot, place);
+    range_at(view, slot, start)
 }
 
 /// The last range of a tag that begins before a place (text(n), "tag prevrange"); it may end behind it. It takes no

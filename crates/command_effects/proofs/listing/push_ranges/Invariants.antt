@@ -1,16 +1,20 @@
-use Rattle.std.proofs.Common.{◌≤◌, ◌+◌, ◌-◌}
-use Rattle.std.specs.Prelude.{string_bytes}
+use Rattle.std.proofs.Common.{◌≡◌, ◌<◌, ◌≤◌, ◌+◌, false}
+use Rattle.std.specs.Prelude.{string_bytes, IfSome}
+use Rattle.text_model.specs.Changes.{flag_at}
 use Rattle.text_index.specs.Views.{shown, shown_flags}
-use Rattle.command_effects.proofs.ListingLaws.{IsListed}
+use Rattle.command_effects.proofs.ListingLaws.{IsListed, left_of}
 use Rattle.command_effects.proofs.listing.push_ranges.Given as goal
 
 abbrev pub invariant-loop-range : goal.invariant-loop-range
 invariant-loop-range g l = record {
-  within : l.view.s + l.place ≤ l.view.e;
+  some : IfSome l.next (λ range. range.start < range.end);
+  within : IfSome l.next (λ range. l.view.s + range.end ≤ l.view.e);
+  unset : IfSome l.next (λ range. flag_at (shown_flags l.slot.0 (g.S.TextStore.content l.view.store.now) l.view.s
+      l.view.e) range.end ≡ false);
   listed : IsListed (shown (g.S.TextStore.content l.view.store.now) l.view.s l.view.e)
       (shown_flags l.slot.0 (g.S.TextStore.content l.view.store.now) l.view.s l.view.e) (string_bytes l.fn.list)
-      (string_bytes l.list) l.place;
+      (string_bytes l.list) l.next;
 }
 
 abbrev pub decreases-loop-range : goal.decreases-loop-range
-decreases-loop-range g l = l.view.e - (l.view.s + l.place)
+decreases-loop-range g l = left_of l.view.s l.view.e l.next

@@ -1,10 +1,26 @@
-use Rattle.std.proofs.Common.{◌≡◌, ◌<◌, ◌≤◌, length, sym, ap, subst, ◌∙◌, arith}
+use Rattle.std.proofs.Common.{◌≡◌, ◌*◌, ◌<◌, ◌≤◌, length, drop, sym, ap, subst, ◌∙◌, arith}
+use Rattle.std.proofs.lemmas.List.{take_rest}
 use Rattle.std.specs.Prelude.{IfSome}
+use Rattle.text_model.specs.declared.tag_set.TheConstants.{WORDS}
 use Rattle.segments.specs.Columns.{LineContent, next_toggle}
 use Rattle.segments.specs.Entries.{next_entry}
 use Rattle.segments.proofs.ColumnLaws.{length-columns}
-use Rattle.segments.proofs.NextLaws.{next_above, next_below, next_column}
+use Rattle.segments.proofs.NextLaws.{next_above, next_behind, next_below, next_column}
 use Rattle.segments.proofs.rich.RichLine.next_toggle.Goals as goal
+use Rattle.segments.proofs.rich.RichLine.next_toggle.Goals.{After-next_toggle}
+
+-- what is found from the column on is found among all
+among_all : (c : After-next_toggle) →
+    c.next_toggle.result ≡ next_entry c.args.slot.0 c.args.column c.self.inside.toggles.items
+among_all c =
+    let slot = c.args.slot.0 in
+    let entries = c.self.inside.toggles.items in
+    let start = c.count_before-start.result in
+    let before = rw c.deref.ensures.value at (c.count_before-start.ensures.before 0 (length c.self.inside.text)) in
+    c.next_toggle.ensures
+    ∙ ap (next_entry slot c.args.column) (take_rest c.deref-2.result.now start)
+    ∙ ap (λ es. next_entry slot c.args.column (drop start es)) c.deref-2.ensures.value
+    ∙ next_behind slot c.args.column (WORDS * 0) start entries (before c.self.invariant.0)
 
 pub returns-clause-value : goal.returns-clause-value
 returns-clause-value c =
@@ -16,15 +32,14 @@ returns-clause-value c =
       ap (λ (line : LineContent). length line.columns) c.self.view_is,
       length-columns 0 text entries,
     ) in
-    c.next_toggle.ensures
-    ∙ ap (next_entry c.args.slot.0 c.args.column) c.deref.ensures.value
+    among_all c
     ∙ next_column c.args.slot.0 c.args.column text entries c.self.invariant.0 within
     ∙ ap (λ (line : LineContent). next_toggle c.args.slot.0 c.args.column line.columns) c.self.view_is
 
 pub returns-clause-above : goal.returns-clause-above
 returns-clause-above c =
-    subst (λ r. IfSome r (λ next. c.args.column ≤ next)) (sym c.next_toggle.ensures)
-    (next_above c.args.slot.0 c.args.column c.deref.result.now)
+    subst (λ r. IfSome r (λ next. c.args.column ≤ next)) (sym (among_all c))
+    (next_above c.args.slot.0 c.args.column c.self.inside.toggles.items)
 
 pub returns-clause-bound : goal.returns-clause-bound
 returns-clause-bound c =
@@ -33,6 +48,5 @@ returns-clause-bound c =
     let long : length text ≡ length c.args.self.now.columns = sym (length-columns 0 text entries)
     ∙ ap (λ (line : LineContent). length line.columns) c.self.view_is in
     subst (λ n. IfSome c.next_toggle.result (λ next. next < n)) long
-    (subst (λ r. IfSome r (λ next. next < length text))
-    (sym (c.next_toggle.ensures ∙ ap (next_entry c.args.slot.0 c.args.column) c.deref.ensures.value))
+    (subst (λ r. IfSome r (λ next. next < length text)) (sym (among_all c))
     (next_below c.args.slot.0 c.args.column 0 (length text) entries c.self.invariant.0))

@@ -1,0 +1,17 @@
+use Rattle.std.proofs.Common.{sym, ap, ◌∙◌}
+use Rattle.text_index.specs.Ranges.{and_later}
+use Rattle.text_index.specs.Views.{shown_flags}
+use Rattle.text_index.proofs.RangeLaws.{ranges_from-step}
+use Rattle.text_index.proofs.ranges.range_behind.Goals as goal
+
+pub returns-clause-value : goal.returns-clause-value
+returns-clause-value g c =
+    c.range_at.ensures.value c.args.place c.start_behind-start.ensures.above c.start_behind-start.ensures.passed
+
+pub returns-clause-later : goal.returns-clause-later
+returns-clause-later g c =
+    let view = c.args.view.now in
+    let shown = shown_flags c.args.slot.0 (g.S.TextStore.content view.store.now) view.s view.e in
+    ranges_from-step shown c.args.place
+    ∙ ap (and_later shown) (sym (c.range_at.ensures.value c.args.place c.start_behind-start.ensures.above
+    c.start_behind-start.ensures.passed))
