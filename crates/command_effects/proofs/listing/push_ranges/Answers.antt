@@ -1,26 +1,35 @@
-use Rattle.std.proofs.Common.{arith}
 use Rattle.std.specs.Prelude.{string_bytes}
 use Rattle.text_index.specs.Views.{shown, shown_flags}
+use Rattle.text_index.proofs.RangeLaws.{range-unset}
 use Rattle.command_effects.proofs.ListingLaws.{listed-none, listed-more}
 use Rattle.command_effects.proofs.listing.push_ranges.Goals as goal
 
-pub loop-range-init : goal.loop-range-init
-loop-range-init g c =
-    let content = g.S.TextStore.content c.args.view.now.store.now in
+pub loop-next-init : goal.loop-next-init
+loop-next-init g c =
+    let view = c.args.view.now in
+    let content = g.S.TextStore.content view.store.now in
+    let flags = shown_flags c.args.slot.0 content view.s view.e in
+    let next = c.next_range-next.result in
     record {
-      within = omega (arith, c.requires.view.ordered);
-      listed = listed-none (shown content c.args.view.now.s c.args.view.now.e)
-          (shown_flags c.args.slot.0 content c.args.view.now.s c.args.view.now.e) (string_bytes c.args.list.now);
+      some = c.next_range-next.ensures.some;
+      within = c.next_range-next.ensures.bound;
+      unset = range-unset flags 0 next c.next_range-next.ensures.value;
+      listed = listed-none (shown content view.s view.e) flags (string_bytes c.args.list.now) next
+          c.next_range-next.ensures.later;
     }
 
-pub loop-range-preserved : goal.loop-range-preserved
-loop-range-preserved g c =
-    let content = g.S.TextStore.content c.args.view.now.store.now in
-    let flags = shown_flags c.args.slot.0 content c.args.view.now.s c.args.view.now.e in
+pub loop-next-preserved : goal.loop-next-preserved
+loop-next-preserved g c =
+    let view = c.args.view.now in
+    let content = g.S.TextStore.content view.store.now in
+    let flags = shown_flags c.args.slot.0 content view.s view.e in
+    let range = c.in-Some.range in
+    let next = c.range_behind-next.result in
     record {
-      within = c.in-Some.ensures.bound;
-      listed = listed-more (shown content c.args.view.now.s c.args.view.now.e) flags (string_bytes c.args.list.now)
-          (string_bytes c.loop-range.list) (string_bytes c.push_range.new.list) c.loop-range.place c.in-Some.range
-          c.loop-range.invariant.listed
-          c.in-Some.ensures.later c.in_ok-push_range.ensures;
+      some = c.range_behind-next.ensures.some;
+      within = c.range_behind-next.ensures.bound;
+      unset = range-unset flags range.end next c.range_behind-next.ensures.value;
+      listed = listed-more (shown content view.s view.e) flags (string_bytes c.args.list.now)
+          (string_bytes c.loop-next.list) (string_bytes c.push_range.new.list) c.loop-next.next range next
+          c.loop-next.invariant.listed c.in-Some.is c.range_behind-next.ensures.later c.in_ok-push_range.ensures;
     }

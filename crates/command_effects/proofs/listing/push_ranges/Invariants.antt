@@ -5,8 +5,8 @@ use Rattle.text_index.specs.Views.{shown, shown_flags}
 use Rattle.command_effects.proofs.ListingLaws.{IsListed, left_of}
 use Rattle.command_effects.proofs.listing.push_ranges.Given as goal
 
-abbrev pub invariant-loop-range : goal.invariant-loop-range
-invariant-loop-range g l = record {
+abbrev pub invariant-loop-next : goal.invariant-loop-next
+invariant-loop-next g l = record {
   some : IfSome l.next (λ range. range.start < range.end);
   within : IfSome l.next (λ range. l.view.s + range.end ≤ l.view.e);
   unset : IfSome l.next (λ range. flag_at (shown_flags l.slot.0 (g.S.TextStore.content l.view.store.now) l.view.s
@@ -16,5 +16,5 @@ invariant-loop-range g l = record {
       (string_bytes l.list) l.next;
 }
 
-abbrev pub decreases-loop-range : goal.decreases-loop-range
-decreases-loop-range g l = left_of l.view.s l.view.e l.next
+abbrev pub decreases-loop-next : goal.decreases-loop-next
+decreases-loop-next g l = left_of l.view.s l.view.e l.next
