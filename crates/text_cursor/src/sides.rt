@@ -9,14 +9,14 @@ use std::alloc::{AllocError, Global};
 use std::mem;
 
 // Up to how many parts blocks don't grow with their number, and how many parts a block then has at least.
-const FEW: usize = 16_384;
+const FEW: usize = 4_096;
 
 const LEAST: usize = 32;
 
 /// How many parts a block has at least, where so many are expected: one that goes from end to end passes as many
 /// blocks as the root of their number, but for a factor.
 pub fn least_in_block(room: usize) -> usize {
-    if room > FEW { room.isqrt() / 4 } else { LEAST }
+    if room > FEW { room.isqrt() / 2 } else { LEAST }
 }
 
 /// The parts on one side of a place, the nearest last: those far off in blocks, so that one that goes far moves whole
