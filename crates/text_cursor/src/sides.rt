@@ -9,14 +9,14 @@ use std::alloc::{AllocError, Global};
 use std::mem;
 
 // Where no more parts than these are expected, a block has so few.
-const FEW: usize = 4_096;
+const FEW: usize = 16_384;
 
 const LEAST: usize = 32;
 
 /// How many parts go into a block at least, where so many are expected. As it grows with the root of their number, who
 /// goes from end to end passes about as many blocks as one block has parts.
 pub fn least_in_block(room: usize) -> usize {
-    if room > FEW { room.isqrt() / 2 } else { LEAST }
+    if room > FEW { room.isqrt() / 4 } else { LEAST }
 }
 
 /// The parts on one side of a place, the nearest last: those far off in blocks, so that one that goes far moves whole
