@@ -13,8 +13,8 @@ const FEW: usize = 16_384;
 
 const LEAST: usize = 32;
 
-/// How many parts go into a block at least, where so many are expected. As it grows with the root of their number, who
-/// goes from end to end passes about as many blocks as one block has parts.
+/// How many parts go into a block at least, where so many are expected. As it grows with the root of their number, so
+/// does the number of the blocks, which who goes from end to end passes.
 pub fn least_in_block(room: usize) -> usize {
     if room > FEW { room.isqrt() / 4 } else { LEAST }
 }
