@@ -77,8 +77,8 @@ impl Block {
         }
     }
 
-    /// Whether who goes so far passes the whole block: if it isn't longer, or, beyond the place, if fewer parts lead back
-    /// from its far end than up to the place.
+    /// Whether who goes so far passes the whole block: if it isn't longer, or, beyond the place, if fewer parts lead
+    /// back from its far end than up to the place.
     pub fn is_passed(&self, most: usize, beyond: bool, turned: bool) -> bool
         ensures { result ≡ true → beyond ≡ false → self.now.count ≤ most }
     {

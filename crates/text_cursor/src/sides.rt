@@ -8,20 +8,21 @@ use crate::parts::Part;
 use std::alloc::{AllocError, Global};
 use std::mem;
 
-// Up to how many parts blocks don't grow with their number, and how many parts a block then has at least.
+// Where no more parts than these are expected, a block has so few.
 const FEW: usize = 16_384;
 
 const LEAST: usize = 32;
 
-/// How many parts a block has at least, where so many are expected: one that goes from end to end passes as many
-/// blocks as the root of their number, but for a factor.
+/// How many parts go into a block at least, where so many are expected. As it grows with the root of their number, so
+/// does the number of the blocks, which who goes from end to end passes.
 pub fn least_in_block(room: usize) -> usize {
     if room > FEW { room.isqrt() / 4 } else { LEAST }
 }
 
 /// The parts on one side of a place, the nearest last: those far off in blocks, so that one that goes far moves whole
-/// blocks, and then the near ones, each by itself. More than twice as many near parts as a block has at least are too
-/// many. A block has its parts in the order of the text, so behind the place they are turned where it is opened.
+/// blocks, and then the near ones, each by itself. A block has its parts in the order of the text, so behind the place
+/// they are turned where it is made and where it is opened. It is made of no fewer than `least` parts, unless all near
+/// ones have to go into it.
 #[derive(Drop)]
 pub struct Side {
     pub turned: bool,
@@ -31,7 +32,7 @@ pub struct Side {
 }
 
 impl Side {
-    /// Of near parts alone; turned, where it is the side behind the place. A block has so many parts at least.
+    /// Of near parts alone; turned, where it is the side behind the place.
     pub fn new(alloc: Global, turned: bool, least: usize, near: Vec<Part>) -> Side
         ensures turned { result.turned ≡ turned }
         ensures parts { side_parts result ≡ near.items }
@@ -72,7 +73,7 @@ impl Side {
         self.near = block.into_parts(self.turned);
     }
 
-    /// Makes a block of the half of the near parts that is farther off, where these are many.
+    /// Makes a block of the half of the near parts that is farther off, where that is enough for one.
     pub fn make_room(&mut self) -> Result<(), AllocError>
         requires { parts_len (side_parts self.old) < 2 ^ 64 }
         ensures { OnOk result (StaysSide self.old self.new) }
