@@ -24,9 +24,9 @@ plain_or_wanting limits script bytes summary writes =
     let commands = writes.0 in let fault = writes.1 in let out = writes.2 in
     let told = same_Some writes.5 in
     elim (plain_up_to_refusal commands (no_documents limits) fault out summary.refused writes.4) as
-        (λ _. IsPlainBytes limits script bytes ⊎ WantsMemory limits script bytes) [
-      inl plain ↦ inl (commands, fault, writes.3, told ∙ ap encode_utf8_all plain.0),
-      inr refused ↦ inr (commands, fault, out, writes.3, refused, told),
+    (λ _. IsPlainBytes limits script bytes ⊎ WantsMemory limits script bytes) [
+      | inl plain ↦ inl (commands, fault, writes.3, told ∙ ap encode_utf8_all plain.0)
+      | inr refused ↦ inr (commands, fault, out, writes.3, refused, told)
     ]
 
 same_plain : (limits : LimitTable) (script one other : List ℕ) → IsPlainBytes limits script one →
@@ -40,11 +40,11 @@ pub same_or_wanting : (limits : LimitTable) (script one other : List ℕ) (summa
     (one ≡ other) ⊎ (WantsMemory limits script one ⊎ WantsMemory limits script other)
 same_or_wanting limits script one other summary another writes writes_too =
     elim (plain_or_wanting limits script one summary writes) as
-        (λ _. (one ≡ other) ⊎ (WantsMemory limits script one ⊎ WantsMemory limits script other)) [
-      inl first ↦ elim (plain_or_wanting limits script other another writes_too) as
+    (λ _. (one ≡ other) ⊎ (WantsMemory limits script one ⊎ WantsMemory limits script other)) [
+      | inl first ↦ elim (plain_or_wanting limits script other another writes_too) as
           (λ _. (one ≡ other) ⊎ (WantsMemory limits script one ⊎ WantsMemory limits script other)) [
-        inl second ↦ inl (same_plain limits script one other first second),
-        inr wanting ↦ inr (inr wanting),
-      ],
-      inr wanting ↦ inr (inl wanting),
+            | inl second ↦ inl (same_plain limits script one other first second)
+            | inr wanting ↦ inr (inr wanting)
+          ]
+      | inr wanting ↦ inr (inl wanting)
     ]

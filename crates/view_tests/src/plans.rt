@@ -1,9 +1,8 @@
-ghost use Rattle.std.specs.Prelude.{◌≡◌, IfOk, OnOk};
+ghost use Rattle.std.specs.Prelude.{◌≡◌, ◌<◌, length, IfOk, OnOk};
 ghost use Rattle.edit_ops.specs.Keeping.{IsKept};
 ghost use Rattle.edit_ops.specs.States.{state_in};
 ghost use Rattle.undo_stack.specs.History.{no_history};
 ghost use Rattle.view_tests.specs.declared.plans.TheConstants.{RECORDING};
-ghost use Rattle.text_model.specs.contracts.plain_store.PlainStoreTextStore as plain;
 
 use crate::scenes::store_of;
 use edit_ops::{
@@ -24,10 +23,8 @@ const RECORDING: Recording = Recording {
 // The slot that is set.
 const SLOT: TagSlot = TagSlot(70);
 
-type Edited = EditedText<PlainStore>;
-
 // `one two`, without a history, which no widget shows a part of.
-fn edited(alloc: Global) -> Result<Edited, AllocError>
+fn edited<S: TextStore>(alloc: Global) -> Result<EditedText<S>, AllocError>
     ensures { IfOk result (λ text. text.history.history ≡ no_history) }
 {
     Ok(EditedText {
@@ -47,18 +44,24 @@ fn piece(alloc: Global, text: &str) -> Result<Vec<Piece>, AllocError> {
     Ok(pieces)
 }
 
-fn holds(rt: &impl Abort, text: &Edited, wanted: &str) -> Result<(), Fail> {
+fn holds<S: TextStore>(rt: &impl Abort, text: &EditedText<S>, wanted: &str) -> Result<(), Fail> {
     let found = text.store.copy_text(0, text.store.len())?;
     assert!(rt; found.as_str() == wanted, "{found}");
     Ok(())
 }
 
 // Puts a text in before `two`.
-fn insert(rt: &impl Abort, alloc: Global, limits: &Limits, text: &mut Edited) -> Result<(), Fail>
-    ensures { OnOk result (IsKept limits.now.chars RECORDING (state_in plain.content text.old) →
-        IsKept limits.now.chars RECORDING (state_in plain.content text.new)) }
+fn insert<S: TextStore>(
+    rt: &impl Abort,
+    alloc: Global,
+    limits: &Limits,
+    text: &mut EditedText<S>,
+) -> Result<(), Fail>
+    requires { 4 < length (S.content text.old.store).cells }
+    ensures { OnOk result (IsKept limits.now.chars RECORDING (state_in S.content text.old) →
+        IsKept limits.now.chars RECORDING (state_in S.content text.new)) }
 {
-    assert!(rt; 4 < text.store.len() && anchors_stand(&text.anchors, text.store.len()));
+    assert!(rt; anchors_stand(&text.anchors, text.store.len()));
     let rules = EditRules {
         alloc,
         limits,
@@ -72,14 +75,15 @@ fn insert(rt: &impl Abort, alloc: Global, limits: &Limits, text: &mut Edited) ->
 #[test]
 fn a_text_is_put_in(rt: HostRuntime) -> Result<(), Fail> {
     let limits = Limits::new(100, 10, 10, 10, 10).ok_or("small numbers")?;
-    let mut text = edited(rt.alloc())?;
+    let mut text = edited::<PlainStore>(rt.alloc())?;
+    assert!(rt; 4 < text.store.len());
     insert(&rt, rt.alloc(), &limits, &mut text)?;
     holds(&rt, &text, "one x two\n")
 }
 
 #[test]
 fn spans_are_taken_out(rt: HostRuntime) -> Result<(), Fail> {
-    let mut text = edited(rt.alloc())?;
+    let mut text = edited::<PlainStore>(rt.alloc())?;
     let end = text.store.len();
     assert!(rt; 8 <= end);
     let spans = [Span { from: 4, to: 8 }, Span { from: 0, to: 1 }];
@@ -91,7 +95,7 @@ fn spans_are_taken_out(rt: HostRuntime) -> Result<(), Fail> {
 #[test]
 fn a_text_comes_in_the_place_of_another(rt: HostRuntime) -> Result<(), Fail> {
     let limits = Limits::new(100, 10, 10, 10, 10).ok_or("small numbers")?;
-    let mut text = edited(rt.alloc())?;
+    let mut text = edited::<PlainStore>(rt.alloc())?;
     assert!(rt; 7 < text.store.len() && anchors_stand(&text.anchors, text.store.len()));
     let rules = EditRules {
         alloc: rt.alloc(),
@@ -110,14 +114,14 @@ fn a_text_comes_in_the_place_of_another(rt: HostRuntime) -> Result<(), Fail> {
 }
 
 // Whether the first character has the tag, and the last one.
-fn tagged(rt: &impl Abort, text: &Edited) -> (bool, bool) {
+fn tagged<S: TextStore>(rt: &impl Abort, text: &EditedText<S>) -> (bool, bool) {
     assert!(rt; 8 <= text.store.len());
     (text.store.has_tag(0, SLOT), text.store.has_tag(7, SLOT))
 }
 
 #[test]
 fn a_tag_is_put_on_and_cleared(rt: HostRuntime) -> Result<(), Fail> {
-    let mut text = edited(rt.alloc())?;
+    let mut text = edited::<PlainStore>(rt.alloc())?;
     assert!(rt; 8 <= text.store.len());
     let spans = [Span { from: 5, to: 8 }];
     let plan = plan_tag(rt.alloc(), &mut text, &spans, SLOT, true)?;
@@ -130,9 +134,14 @@ fn a_tag_is_put_on_and_cleared(rt: HostRuntime) -> Result<(), Fail> {
 }
 
 // Reverts the last group; a mark that isn't there stays away.
-fn undo(rt: &impl Abort, alloc: Global, limits: &Limits, text: &mut Edited) -> Result<(), Fail>
-    requires { IsKept limits.now.chars RECORDING (state_in plain.content text.old) }
-    ensures { OnOk result (IsKept limits.now.chars RECORDING (state_in plain.content text.new)) }
+fn undo<S: TextStore>(
+    rt: &impl Abort,
+    alloc: Global,
+    limits: &Limits,
+    text: &mut EditedText<S>,
+) -> Result<(), Fail>
+    requires { IsKept limits.now.chars RECORDING (state_in S.content text.old) }
+    ensures { OnOk result (IsKept limits.now.chars RECORDING (state_in S.content text.new)) }
 {
     assert!(rt; anchors_stand(&text.anchors, text.store.len()));
     let plan = plan_undo(alloc, limits, text, MarkNo(0))?;
@@ -141,9 +150,14 @@ fn undo(rt: &impl Abort, alloc: Global, limits: &Limits, text: &mut Edited) -> R
 }
 
 // Makes the group that was undone last once more.
-fn redo(rt: &impl Abort, alloc: Global, limits: &Limits, text: &mut Edited) -> Result<(), Fail>
-    requires { IsKept limits.now.chars RECORDING (state_in plain.content text.old) }
-    ensures { OnOk result (IsKept limits.now.chars RECORDING (state_in plain.content text.new)) }
+fn redo<S: TextStore>(
+    rt: &impl Abort,
+    alloc: Global,
+    limits: &Limits,
+    text: &mut EditedText<S>,
+) -> Result<(), Fail>
+    requires { IsKept limits.now.chars RECORDING (state_in S.content text.old) }
+    ensures { OnOk result (IsKept limits.now.chars RECORDING (state_in S.content text.new)) }
 {
     assert!(rt; anchors_stand(&text.anchors, text.store.len()));
     let plan = plan_redo(alloc, limits, text, MarkNo(0))?;
@@ -154,8 +168,8 @@ fn redo(rt: &impl Abort, alloc: Global, limits: &Limits, text: &mut Edited) -> R
 #[test]
 fn an_edit_is_undone_and_redone(rt: HostRuntime) -> Result<(), Fail> {
     let limits = Limits::new(100, 10, 10, 10, 10).ok_or("small numbers")?;
-    let mut text = edited(rt.alloc())?;
-    assert!(rt; text.store.len() <= limits.chars());
+    let mut text = edited::<PlainStore>(rt.alloc())?;
+    assert!(rt; 4 < text.store.len() && text.store.len() <= limits.chars());
     insert(&rt, rt.alloc(), &limits, &mut text)?;
     undo(&rt, rt.alloc(), &limits, &mut text)?;
     holds(&rt, &text, "one two\n")?;

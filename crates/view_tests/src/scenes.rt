@@ -13,8 +13,8 @@ pub struct Scene {
 }
 
 /// A store of a text, with the newline behind it.
-pub fn store_of(alloc: Global, text: &str) -> Result<PlainStore, AllocError> {
-    let mut store = PlainStore::new(alloc)?;
+pub fn store_of<S: TextStore>(alloc: Global, text: &str) -> Result<S, AllocError> {
+    let mut store = S::new(alloc)?;
     let mut steps = StepList::new(alloc);
     let text = Text::new(String::from_str(alloc, text)?);
     steps.push(Step::Insert(0, text, TagSet::empty()))?;

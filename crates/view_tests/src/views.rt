@@ -1,3 +1,5 @@
+ghost use Rattle.std.specs.Prelude.{◌≡◌};
+
 use crate::scenes::{Scene, two_lines};
 use index_grammar::Direction;
 use search_dump::{Counted, Listed, SearchSwitches, Wanted, count, dump, search};
@@ -37,7 +39,7 @@ static INDEXED: [Indexed; 5] = [
 ];
 
 fn names_of(scene: &Scene) -> Names<'_>
-    ensures { result.widget ≡ TagSlot 0 }
+    ensures { result.widget.0 ≡ 0 }
 {
     Names {
         tags: &scene.tags,
