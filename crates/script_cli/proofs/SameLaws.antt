@@ -12,7 +12,7 @@ use Rattle.script_cli.specs.Told.{WritesRunOf, WantsMemory}
 use Rattle.script_cli.proofs.RunLaws.{plain_up_to_refusal}
 
 -- the plain run of a script, as bytes
-IsPlainBytes : LimitTable → List ℕ → List ℕ → Type 0
+abbrev IsPlainBytes : LimitTable → List ℕ → List ℕ → Type 0
 IsPlainBytes limits script bytes =
     (commands : List (List (List ℕ))) × (fault : Option ScriptFault) × ReadsScript script commands fault
     × (bytes ≡ encode_utf8_all (run_output (no_documents limits) commands fault))
@@ -22,7 +22,7 @@ plain_or_wanting : (limits : LimitTable) (script bytes : List ℕ) (summary : Ru
     IsPlainBytes limits script bytes ⊎ WantsMemory limits script bytes
 plain_or_wanting limits script bytes summary writes =
     let commands = writes.0 in let fault = writes.1 in let out = writes.2 in
-    let told = same_Some writes.5 in
+    let told = same_Some bytes (encode_utf8_all out) writes.5 in
     elim (plain_up_to_refusal commands (no_documents limits) fault out summary.refused writes.4) as
     (λ _. IsPlainBytes limits script bytes ⊎ WantsMemory limits script bytes) [
       | inl plain ↦ inl (commands, fault, writes.3, told ∙ ap encode_utf8_all plain.0)
