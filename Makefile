@@ -2,7 +2,9 @@
 # make run     the same by the proved program, which is proved and built first where it isn't yet
 # make build   the proved program alone: crates/tktext/out/tktext
 # make lib     the library for C, Python and Tcl: out/libtktext.a and out/libtktext.so, proved where it isn't yet
-# make examples  its examples in C, Python and Tcl, and what is missing for one that can't be run
+# make try-lib  the same before anything is proved, in two or three minutes: out/try/libtktext.a and out/try/libtktext.so
+# make examples  its examples in C, Python and Tcl, and what is missing for one that can't be run; TRY=1 runs them by the
+#              library of make try-lib
 # make test    the gate, and then the checks that the gate can't do; the last line counts them
 # make fuzz    the program against the plain model on random scripts: SEEDS=300 of them, FIRST=0 on
 # make fuzz-library  random calls of the library under sanitizers, for SECONDS=600, from the seed FIRST=0 on
@@ -25,6 +27,9 @@ TREE_BENCH = crates/tree_bench/out/tree_bench
 NODE_MEMORY = crates/node_memory/out/node_memory
 SCRIPT_BENCH = crates/script_bench/out/script_bench
 LIBRARY = out/libtktext.a
+# What is built before anything is proved.
+TRIED = out/try/tktext
+TRIED_LIBRARY = out/try/libtktext.a
 SHIM = out/refuse.so
 WEIGH = out/weigh.so
 SEEDS ?= 300
@@ -32,8 +37,18 @@ FIRST ?= 0
 SECONDS ?= 600
 SOURCES = crates.txt $(shell find crates -name '*.rt' -o -name '*.antt' | grep -v /out/)
 
-try:
+try: $(TRIED)
 	@python3 tools/try.py examples/first.tcl $(SCRIPT)
+
+$(TRIED): $(SOURCES) tools/try.py tools/unproved.py
+	@python3 tools/try.py --build
+	@touch $@
+
+try-lib: $(TRIED_LIBRARY)
+
+$(TRIED_LIBRARY): $(SOURCES) tools/try_library.py tools/unproved.py tools/build_library.py
+	@python3 tools/try_library.py
+	@touch $@
 
 run: $(PROGRAM)
 	@sh tools/run.sh $(PROGRAM) examples/first.tcl $(SCRIPT)
@@ -50,8 +65,8 @@ $(LIBRARY): $(SOURCES)
 	@python3 tools/build_library.py
 	@touch $@
 
-examples: $(LIBRARY)
-	@python3 tools/examples.py
+examples: $(if $(TRY),$(TRIED_LIBRARY),$(LIBRARY))
+	@python3 tools/examples.py $(if $(TRY),--try)
 
 $(SHIM): tools/refuse.c
 	mkdir -p out
@@ -128,4 +143,4 @@ tk: $(PROGRAM)
 	python3 tools/tk.py --program $(PROGRAM)
 	python3 tools/tk.py --program $(PROGRAM) --scripts $(SEEDS) --first $(FIRST)
 
-.PHONY: try run build lib examples test fuzz fuzz-library bench versus orders counts gains gate tk
+.PHONY: try try-lib run build lib examples test fuzz fuzz-library bench versus orders counts gains gate tk

@@ -556,7 +556,7 @@ def check_examples(has_tcl, tally):
     for words in commands:
         world, text, _ = model.piece(world, words, False)
         answers.append(text)
-    given = {name: run_it() for name, can_run, run_it, _ in examples.EXAMPLES if can_run()}
+    given = {name: run_it(examples.PROVED) for name, can_run, run_it, _ in examples.EXAMPLES if can_run()}
     tally.check(given["examples/peers.c"] == ("".join(answers), 0), f"the example in C: {given['examples/peers.c']!r}")
     entries = [(name, list(zip(*[iter(model.split_list(answer[:-1]))] * 3))) for name, answer in zip((".a", ".b"), answers[5:7])]
     fault = answers[7].removeprefix("error: ")
