@@ -5,6 +5,11 @@
 # make try-lib  the same before anything is proved, in two or three minutes: out/try/libtktext.a and out/try/libtktext.so
 # make examples  its examples in C, Python and Tcl, and what is missing for one that can't be run; TRY=1 runs them by the
 #              library of make try-lib
+# make tcl     the Tcl package of the library alone: out/tktext.so, or out/try/tktext.so with TRY=1
+# make man     the manual pages as roff: out/man/tktext.1 and out/man/tktext.3; they want pandoc
+# make install puts the program, the library, the Tcl package and the manual pages below PREFIX=/usr/local, and that below
+#              DESTDIR; TRY=1 puts those there that aren't proved
+# make uninstall  takes them away again
 # make test    the gate, and then the checks that the gate can't do; the last line counts them
 # make fuzz    the program against the plain model on random scripts: SEEDS=300 of them, FIRST=0 on
 # make fuzz-library  random calls of the library under sanitizers, for SECONDS=600, from the seed FIRST=0 on
@@ -67,6 +72,26 @@ $(LIBRARY): $(SOURCES)
 
 examples: $(if $(TRY),$(TRIED_LIBRARY),$(LIBRARY))
 	@python3 tools/examples.py $(if $(TRY),--try)
+
+# Where the library stands by which examples run, and that is installed.
+OUT = $(if $(TRY),out/try,out)
+PREFIX ?= /usr/local
+
+tcl: $(OUT)/tktext.so
+
+$(OUT)/tktext.so: $(OUT)/libtktext.a tcl/tktext.c tcl/pkgIndex.tcl include/tktext.h
+	@python3 tools/examples.py --extension $(if $(TRY),--try)
+
+man: out/man/tktext.1
+
+out/man/tktext.1: docs/tktext.1.md include/tktext.h tools/manpages.py
+	@python3 tools/manpages.py out/man
+
+install: $(if $(TRY),$(TRIED),$(PROGRAM)) $(OUT)/libtktext.a tcl man
+	@python3 tools/install.py --prefix '$(PREFIX)' --destdir '$(DESTDIR)' $(if $(TRY),--try)
+
+uninstall:
+	@python3 tools/install.py --prefix '$(PREFIX)' --destdir '$(DESTDIR)' --uninstall
 
 $(SHIM): tools/refuse.c
 	mkdir -p out
@@ -143,4 +168,4 @@ tk: $(PROGRAM)
 	python3 tools/tk.py --program $(PROGRAM)
 	python3 tools/tk.py --program $(PROGRAM) --scripts $(SEEDS) --first $(FIRST)
 
-.PHONY: try try-lib run build lib examples test fuzz fuzz-library bench versus orders counts gains gate tk
+.PHONY: tcl man install uninstall try try-lib run build lib examples test fuzz fuzz-library bench versus orders counts gains gate tk

@@ -2,9 +2,11 @@
 """Builds and runs the examples of the library in C, Python and Tcl: what `make examples` calls, after `make lib`.
 
     python3 tools/examples.py [--try]
+    python3 tools/examples.py --extension [--try]
 
-With `--try` they run by the library of `make try-lib`, before anything is proved.  Says what to install where something is
-missing, and goes on.  The exit status is 1 if an example failed, or none was run.
+The second builds the Tcl extension alone, as `make tcl` does.  With `--try` both go by the library of `make try-lib`,
+before anything is proved.  Says what to install where something is missing, and goes on.  The exit status is 1 if an
+example failed, or none was run.
 """
 
 import os
@@ -39,7 +41,8 @@ def has_tcl():
 def build_extension(out):
     """Makes the Tcl extension of its glue and the library, with the file beside it by which Tcl finds it."""
     words = ["cc", "-O2", "-shared", "-fPIC", "-DUSE_TCL_STUBS", "-Iinclude", "-I" + TCL_INCLUDE, "tcl/tktext.c"]
-    words += [f"{out}/libtktext.a", "-ltclstub8.6", "-o", f"{out}/tktext.so"]
+    # Of the library's names none is seen from outside.
+    words += [f"{out}/libtktext.a", "-ltclstub8.6", "-Wl,--exclude-libs,ALL", "-o", f"{out}/tktext.so"]
     shutil.copy(os.path.join(TOP, "tcl", "pkgIndex.tcl"), os.path.join(TOP, out))
     return run(words)
 
@@ -49,18 +52,29 @@ def run_tcl(out):
     return run(["tclsh8.6", "examples/peers.tcl"], TCLLIBPATH=out)
 
 
+TCL_WANTED = "tclsh8.6 and its headers (Debian: apt-get install tcl8.6 tcl8.6-dev)"
 EXAMPLES = (
     ("examples/peers.c", lambda: shutil.which("cc") is not None, run_c, "a C compiler (Debian: apt-get install gcc)"),
     ("examples/peers.py", lambda: True, run_python, "Python 3"),
-    ("examples/peers.tcl", has_tcl, run_tcl, "tclsh8.6 and its headers (Debian: apt-get install tcl8.6 tcl8.6-dev)"),
+    ("examples/peers.tcl", has_tcl, run_tcl, TCL_WANTED),
 )
 
 
+def build_alone(out):
+    """Builds the Tcl extension, or says what it wants."""
+    if not has_tcl():
+        print(f"the Tcl package isn't built: it wants {TCL_WANTED}", file=sys.stderr)
+        return 0
+    return build_extension(out)[1]
+
+
 def main():
-    if sys.argv[1:] not in ([], ["--try"]):
+    if not set(sys.argv[1:]) <= {"--try", "--extension"}:
         print(__doc__)
         return 2
     out = TRIED if "--try" in sys.argv else PROVED
+    if "--extension" in sys.argv:
+        return build_alone(out)
     failed = False
     for name, can_run, run_it, missing in EXAMPLES:
         print(f"== {name}")
