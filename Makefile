@@ -7,8 +7,8 @@
 #              library of make try-lib
 # make tcl     the Tcl package of the library alone: out/tktext.so, or out/try/tktext.so with TRY=1
 # make man     the manual pages as roff: out/man/tktext.1 and out/man/tktext.3; they want pandoc
-# make install puts the program, the library, the Tcl package and the manual pages below PREFIX=/usr/local, and that below
-#              DESTDIR; TRY=1 puts those there that aren't proved
+# make install  puts the program, the library, the Tcl package and the manual pages below PREFIX=/usr/local, and all of
+#              that below DESTDIR; TRY=1 puts those there that aren't proved
 # make uninstall  takes them away again
 # make test    the gate, and then the checks that the gate can't do; the last line counts them
 # make fuzz    the program against the plain model on random scripts: SEEDS=300 of them, FIRST=0 on
@@ -122,6 +122,7 @@ test: $(SHIM) $(WEIGH)
 	  'python3 tools/tk.py --program $(PROGRAM)' \
 	  'python3 tools/editor_test.py --program $(PROGRAM)' \
 	  'python3 tools/library.py --build' \
+	  'python3 tools/install_test.py' \
 	  'python3 tools/fuzz_library.py'
 
 fuzz: $(PROGRAM)
@@ -168,4 +169,5 @@ tk: $(PROGRAM)
 	python3 tools/tk.py --program $(PROGRAM)
 	python3 tools/tk.py --program $(PROGRAM) --scripts $(SEEDS) --first $(FIRST)
 
-.PHONY: tcl man install uninstall try try-lib run build lib examples test fuzz fuzz-library bench versus orders counts gains gate tk
+.PHONY: try try-lib run build lib tcl man install uninstall examples test fuzz fuzz-library bench versus orders counts \
+  gains gate tk
