@@ -1,3 +1,4 @@
+# make help    these lines
 # make try     a script before anything is proved: standard input, SCRIPT=file, or with neither examples/first.tcl
 # make run     the same by the proved program, which is proved and built first where it isn't yet
 # make build   the proved program alone: crates/tktext/out/tktext
@@ -25,6 +26,7 @@
 # make gains   what the program takes beside docs/gains.txt, which it may not pass by more than a twentieth; UPDATE=1
 #              writes that file. It needs valgrind
 
+.DEFAULT_GOAL = try
 PROGRAM = crates/tktext/out/tktext
 ROWS = crates/rows/out/rows
 LINE_BENCH = crates/line_bench/out/line_bench
@@ -41,6 +43,9 @@ SEEDS ?= 300
 FIRST ?= 0
 SECONDS ?= 600
 SOURCES = crates.txt $(shell find crates -name '*.rt' -o -name '*.antt' | grep -v /out/)
+
+help:
+	@sed -n 's/^# \{0,1\}//p; /^$$/q' Makefile
 
 try: $(TRIED)
 	@python3 tools/try.py examples/first.tcl $(SCRIPT)
@@ -169,5 +174,5 @@ tk: $(PROGRAM)
 	python3 tools/tk.py --program $(PROGRAM)
 	python3 tools/tk.py --program $(PROGRAM) --scripts $(SEEDS) --first $(FIRST)
 
-.PHONY: try try-lib run build lib tcl man install uninstall examples test fuzz fuzz-library bench versus orders counts \
+.PHONY: help try try-lib run build lib tcl man install uninstall examples test fuzz fuzz-library bench versus orders counts \
   gains gate tk
