@@ -14,7 +14,8 @@
 # make test    the gate, and then the checks that the gate can't do; the last line counts them
 # make fuzz    the program against the plain model on random scripts: SEEDS=300 of them, FIRST=0 on
 # make fuzz-library  random calls of the library under sanitizers, for SECONDS=600, from the seed FIRST=0 on
-# make tk      the program against real Tk, where that is installed: the rows of docs/differences.md, and random scripts
+# make tk      the program against real Tk, where that is installed: the rows of docs/differences.md, the grammar of an
+#              index crossed, and random scripts
 # make gate    the gate alone, and its processor time over that of `rt selftest`; with nothing beside it
 # make bench   the program's time per command as the text grows, and its memory as the script does, into docs/bench.txt;
 #              what is done to one long line, into docs/bench_lines.txt; lines in the tree, into docs/bench_tree.txt; and
@@ -172,6 +173,7 @@ gate:
 
 tk: $(PROGRAM)
 	python3 tools/tk.py --program $(PROGRAM)
+	python3 tools/tk.py --program $(PROGRAM) --indices
 	python3 tools/tk.py --program $(PROGRAM) --scripts $(SEEDS) --first $(FIRST)
 
 .PHONY: help try try-lib run build lib tcl man install uninstall examples test fuzz fuzz-library bench versus orders counts \
