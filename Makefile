@@ -11,6 +11,8 @@
 # make install  puts the program, the library, the Tcl package and the manual pages below PREFIX=/usr/local, and all of
 #              that below DESTDIR; TRY=1 puts those there that aren't proved
 # make uninstall  takes them away again
+# make dist    a release in out/dist: a tarball and a Debian package of what `make install` puts down, each with what
+#              was proved (docs/release.md); TRY=1 makes one of what isn't
 # make test    the gate, and then the checks that the gate can't do; the last line counts them
 # make fuzz    the program against the plain model on random scripts: SEEDS=300 of them, FIRST=0 on
 # make fuzz-library  random calls of the library under sanitizers, for SECONDS=600, from the seed FIRST=0 on
@@ -96,6 +98,10 @@ out/man/tktext.1: docs/tktext.1.md include/tktext.h tools/manpages.py
 install: $(if $(TRY),$(TRIED),$(PROGRAM)) $(OUT)/libtktext.a tcl man
 	@python3 tools/install.py --prefix '$(PREFIX)' --destdir '$(DESTDIR)' $(if $(TRY),--try)
 
+# A release may say that it is proved, or that it isn't; the gate is no part of it.
+dist: $(if $(TRY),$(TRIED),$(PROGRAM)) $(OUT)/libtktext.a tcl man
+	@python3 tools/dist.py $(if $(TRY),--try)
+
 uninstall:
 	@python3 tools/install.py --prefix '$(PREFIX)' --destdir '$(DESTDIR)' --uninstall
 
@@ -176,5 +182,5 @@ tk: $(PROGRAM)
 	python3 tools/tk.py --program $(PROGRAM) --indices
 	python3 tools/tk.py --program $(PROGRAM) --scripts $(SEEDS) --first $(FIRST)
 
-.PHONY: help try try-lib run build lib tcl man install uninstall examples test fuzz fuzz-library bench versus orders counts \
-  gains gate tk
+.PHONY: help try try-lib run build lib tcl man install uninstall dist examples test fuzz \
+  fuzz-library bench versus orders counts gains gate tk

@@ -81,12 +81,16 @@ def put(path, mode, write):
         os.remove(path)
     write(path)
     os.chmod(path, mode)
-    print(path)
 
 
-def write_description(path, prefix, is_tried):
+def write_text(path, text):
     with open(path, "w", encoding="utf-8") as file:
-        file.write(PKG_CONFIG.format(prefix=prefix, version=version(), note=UNPROVED if is_tried else ""))
+        file.write(text)
+
+
+def description(prefix, is_tried):
+    """What pkg-config reads."""
+    return PKG_CONFIG.format(prefix=prefix, version=version(), note=UNPROVED if is_tried else "")
 
 
 def install(root, prefix, is_tried):
@@ -98,12 +102,11 @@ def install(root, prefix, is_tried):
             put(os.path.join(root, item.place), item.mode, lambda path, source=source: shutil.copyfile(source, path))
         else:
             missing.append(item.source)
-    put(os.path.join(root, DESCRIPTION), 0o644, lambda path: write_description(path, prefix, is_tried))
+    put(os.path.join(root, DESCRIPTION), 0o644, lambda path: write_text(path, description(prefix, is_tried)))
     link = os.path.join(root, LINK)
     if os.path.lexists(link):
         os.remove(link)
     os.symlink(SONAME, link)
-    print(link)
     return missing
 
 
@@ -113,7 +116,6 @@ def uninstall(root):
         path = os.path.join(root, place)
         if os.path.lexists(path):
             os.remove(path)
-            print(f"removed {path}")
     folder = os.path.join(root, tcl_folder())
     if os.path.isdir(folder) and not os.listdir(folder):
         os.rmdir(folder)
@@ -154,8 +156,11 @@ def main():
     root = os.path.join(options.destdir, prefix.lstrip("/")) if options.destdir else prefix
     if options.uninstall:
         uninstall(root)
+        print(f"uninstalled below {root}")
         return 0
-    for source in install(root, prefix, options.is_tried):
+    missing = install(root, prefix, options.is_tried)
+    print(f"installed below {root}")
+    for source in missing:
         print(f"not installed, since it isn't built: {source}", file=sys.stderr)
     if not options.destdir:
         tell_linker(prefix)

@@ -6,7 +6,8 @@
 Takes what is proved, or else what `make try` and `make try-lib` built, and says which.  From the scratch prefix alone, with
 no folder of this repository in a path: the three examples are built and run, in C by pkg-config and with each library;
 the program answers; the library shows the names of include/tktext.h and no others; the manual pages are found.  Then
-nothing is left after `make uninstall`.  The same files go below a DESTDIR.  A part that wants a package that isn't there
+nothing is left after `make uninstall`.  The same files go below a DESTDIR, and into the tarball and the Debian package
+of a release, whose checksums hold.  A part that wants a package that isn't there
 says so, and is skipped.  Ends in a line `N passed, M failed`; the exit status is 1 if anything failed.
 """
 
@@ -17,6 +18,7 @@ import subprocess
 import sys
 import tempfile
 
+import dist
 import examples
 import install
 import library
@@ -121,6 +123,36 @@ def check_program(prefix, folder, tally):
     tally.check(given == (PROGRAM_PRINTS, 0), f"the program: {given!r}")
 
 
+def listed(words, folder, top):
+    """The files that a release lists, without the folder that they all stand in."""
+    lines = [line.split(" -> ")[0] for line in run(words, folder)[0].decode("utf-8").splitlines()]
+    return {line.split()[-1].removeprefix(top) for line in lines if not line.endswith("/")}
+
+
+def check_release(places, is_tried, folder, tally):
+    """A release has the same files and the one that says what was proved, and its checksums are right."""
+    if any(not os.path.exists(os.path.join(TOP, item.source)) for item in install.items(is_tried)):
+        print("skipped: a release wants the Tcl package and the manual pages")
+        return
+    out, wanted = os.path.join(folder, "dist"), places | {dist.NOTE}
+    tarball, *package = dist.make(out, is_tried)
+    name = os.path.basename(tarball).removesuffix(".tar.gz")
+    given = listed(["tar", "tzf", tarball], folder, f"{name}/")
+    tally.check(given == wanted, f"the tarball lists {sorted(given ^ wanted)}")
+    tally.check(run(["sha256sum", "-c", "SHA256SUMS"], out)[1] == 0, "the checksums of the release")
+    run(["tar", "xzf", tarball], folder)
+    note = os.path.join(folder, name, dist.NOTE)
+    with open(note, "rb") as file:
+        sums = file.read().partition(b"SHA-256 of each file:\n")[2]
+    holds = sums and run(["sha256sum", "-c"], os.path.join(folder, name), sums)[1] == 0
+    tally.check(holds, "the checksums of its files")
+    if package:
+        given = listed(["dpkg-deb", "-c", *package], folder, "./usr/")
+        tally.check(given == wanted, f"the Debian package lists {sorted(given ^ wanted)}")
+    else:
+        print("skipped: dpkg-deb isn't installed")
+
+
 def check_all(flags, is_tried, folder, tally):
     """Installs, tries everything, and uninstalls."""
     prefix, root, work = (os.path.join(folder, name) for name in ("prefix", "root", "work"))
@@ -142,6 +174,7 @@ def check_all(flags, is_tried, folder, tally):
     tally.check(files_below(os.path.join(root, "usr")) == places, "the same files stand below a DESTDIR")
     with open(os.path.join(root, "usr", install.DESCRIPTION), encoding="utf-8") as file:
         tally.check(file.read().startswith("prefix=/usr\n"), "the description doesn't name the DESTDIR")
+    check_release(places, is_tried, folder, tally)
 
 
 def main():
