@@ -3,9 +3,9 @@
 # make run     the same by the proved program, which is proved and built first where it isn't yet
 # make build   the proved program alone: crates/tktext/out/tktext
 # make lib     the library for C, Python and Tcl: out/libtktext.a and out/libtktext.so, proved where it isn't yet
-# make try-lib  the same before anything is proved, in two or three minutes: out/try/libtktext.a and out/try/libtktext.so
-# make examples  its examples in C, Python and Tcl, and what is missing for one that can't be run; TRY=1 runs them by the
-#              library of make try-lib
+# make try-lib  the same before anything is proved, in two or three minutes: libtktext.a and libtktext.so of out/try
+# make examples  its examples in C, Python and Tcl, and what is missing for one that can't be run; TRY=1 runs them by
+#              the library of make try-lib
 # make tcl     the Tcl package of the library alone: out/tktext.so, or out/try/tktext.so with TRY=1
 # make man     the manual pages as roff: out/man/tktext.1 and out/man/tktext.3; they want pandoc
 # make install  puts the program, the library, the Tcl package and the manual pages below PREFIX=/usr/local, and all of

@@ -6,8 +6,8 @@ both leave everything as it was.
 
 Threads may share a world and its widgets: one call is carried out at a time.
 
-The library is looked for in the file that TKTEXT_LIBRARY names, in out/ and in out/try/ of this repository, and then where
-the system looks.
+The library is looked for in the file that TKTEXT_LIBRARY names, in out/ and in out/try/ of this repository, and then
+where the system looks.
 """
 
 import ctypes

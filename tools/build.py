@@ -119,7 +119,8 @@ class Progress:
             time.sleep(BEAT)
             with self.lock:
                 if self.running:
-                    text = f"[{self.done}/{self.total}] {' '.join(self.running)}, {self.seconds():.0f} s{self.remains()}"
+                    so_far = f"{self.seconds():.0f} s{self.remains()}"
+                    text = f"[{self.done}/{self.total}] {' '.join(self.running)}, {so_far}"
                     print(f"\r\033[K{text[:79]}", end="", file=sys.stderr, flush=True)
 
     def start(self, name):
@@ -133,7 +134,8 @@ class Progress:
             self.left -= self.costs[name]
             self.proved += self.costs[name] if seconds > KEPT_SECONDS else 0
             word = "proved" if is_proved else "NOT PROVED"
-            self.say(f"[{self.done}/{self.total}] {name} {word} in {seconds:.0f} s, {self.seconds():.0f} s in all{self.remains()}")
+            so_far = f"{self.seconds():.0f} s in all{self.remains()}"
+            self.say(f"[{self.done}/{self.total}] {name} {word} in {seconds:.0f} s, {so_far}")
 
 
 def prove(name, runs, share, progress, log):

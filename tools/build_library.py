@@ -3,13 +3,13 @@
 
     python3 tools/build_library.py
 
-The crate `tktext_c` is proved and built over those that it stands on.  Mostly this is what tools/build.py does: what has
-changed since it was proved is proved.  A gate leaves the crates below as it proved them, but without the stamps by which
-`rt` knows them, so that `rt` would prove them all again; there the compiler of the kit is called over them, and proves and
-builds the one crate.
+The crate `tktext_c` is proved and built over those that it stands on.  Mostly this is what tools/build.py does: what
+has changed since it was proved is proved.  A gate leaves the crates below as it proved them, but without the stamps by
+which `rt` knows them, so that `rt` would prove them all again; there the compiler of the kit is called over them, and
+proves and builds the one crate.
 
-libtktext.a is this crate and the kit's few lines of C by which it asks for memory; libtktext.so.1 the same, which shows the
-names of tktext.h alone, and libtktext.so a link to it.
+libtktext.a is this crate and the kit's few lines of C by which it asks for memory; libtktext.so.1 the same, which shows
+the names of tktext.h alone, and libtktext.so a link to it.
 """
 
 import os
@@ -23,7 +23,8 @@ import build
 CRATE = "tktext_c"
 OUT = os.path.join(build.TOP, "out")
 MADE = os.path.join(build.TOP, "crates", CRATE, "out", f"lib{CRATE}.a")
-# The name by which a program that was linked with the library looks for it; the number grows with what such a program sees.
+# The name by which a program that was linked with the library looks for it; the number grows with what such a program
+# sees.
 SONAME = "libtktext.so.1"
 NAMES = "{ global: tktext_*; local: *; };\n"
 

@@ -8,8 +8,8 @@
 - SHA256SUMS: the checksums of both
 
 Both have the file share/doc/tktext/PROVED, which says what was proved: the commit, the toolchain, the last line of the
-gate where it was run on that commit, and the checksum of each file.  With `--try` they are made of what isn't proved, and
-say so.  Made twice of one commit and one build they are the same bytes.
+gate where it was run on that commit, and the checksum of each file.  With `--try` they are made of what isn't proved,
+and say so.  Made twice of one commit and one build they are the same bytes.
 """
 
 import argparse
@@ -36,7 +36,7 @@ Toolchain: {toolchain}
 The gate: {gate}
 
 What is proved, what is only tested and what is trusted stands in docs/theorems.md of that commit.
-`git checkout COMMIT && make test` proves it again; docs/release.md says how these files are compared with what comes of it.
+`git checkout COMMIT && make test` proves it again; docs/release.md says more.
 
 SHA-256 of each file:
 """
@@ -88,9 +88,10 @@ def proved_words(is_tried):
 
 def what_is_proved(root, is_tried):
     """The text of PROVED over what stands below a root."""
+    commit = gate.commit()
     head = WHAT.format(
-        version=install.version(), proved=proved_words(is_tried), commit=gate.commit(), toolchain=said(["rt", "version"], "unknown"),
-        gate=gate.last_line_of(gate.commit()) or "not run on this commit here",
+        version=install.version(), proved=proved_words(is_tried), commit=commit,
+        toolchain=said(["rt", "version"], "unknown"), gate=gate.last_line_of(commit) or "not run on this commit here",
     )
     return head + checksums(root, files_below(root))
 
@@ -146,7 +147,8 @@ def make_package(folder, out, is_tried):
     write_control(package, machine, is_tried)
     path = os.path.join(out, f"tktext_{install.version()}_{machine}.deb")
     words = ["dpkg-deb", "--root-owner-group", "--build", package, path]
-    subprocess.run(words, check=True, stdout=subprocess.DEVNULL, env={**os.environ, "SOURCE_DATE_EPOCH": seconds_of_commit()})
+    environment = {**os.environ, "SOURCE_DATE_EPOCH": seconds_of_commit()}
+    subprocess.run(words, check=True, stdout=subprocess.DEVNULL, env=environment)
     return path
 
 

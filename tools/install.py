@@ -4,9 +4,10 @@
     python3 tools/install.py [--prefix /usr/local] [--destdir FOLDER] [--try]
     python3 tools/install.py [--prefix /usr/local] [--destdir FOLDER] --uninstall
 
-The program, the header, the library with its file for pkg-config, the manual pages and the Tcl package go below the prefix,
-and all of that below FOLDER, as where a package is made.  With `--try` those are taken that aren't proved.  What wasn't
-built is left out, and what the system needs to find the rest is said.  Nothing is built here, nor written into out/.
+The program, the header, the library with its file for pkg-config, the manual pages and the Tcl package go below the
+prefix, and all of that below FOLDER, as where a package is made.  With `--try` those are taken that aren't proved.
+What wasn't built is left out, and what the system needs to find the rest is said.  Nothing is built here, nor written
+into out/.
 """
 
 import argparse
@@ -130,7 +131,7 @@ def asked(words, given=""):
 
 def wants(prefix):
     """What is to be set so that the system finds what stands below a prefix, line by line."""
-    library, packages, scripts = (os.path.join(prefix, *names) for names in (["lib"], ["lib", "pkgconfig"], ["lib", "tcltk"]))
+    library, packages, scripts = (os.path.join(prefix, place) for place in ("lib", "lib/pkgconfig", "lib/tcltk"))
     if prefix not in LINKED_PREFIXES:
         yield f"LD_LIBRARY_PATH={library} for programs that are linked with libtktext.so, or -Wl,-rpath,{library}"
     if packages not in asked(["pkg-config", "--variable", "pc_path", "pkg-config"]).strip().split(":"):

@@ -3,12 +3,12 @@
 
     python3 tools/install_test.py
 
-Takes what is proved, or else what `make try` and `make try-lib` built, and says which.  From the scratch prefix alone, with
-no folder of this repository in a path: the three examples are built and run, in C by pkg-config and with each library;
-the program answers; the library shows the names of include/tktext.h and no others; the manual pages are found.  Then
-nothing is left after `make uninstall`.  The same files go below a DESTDIR, and into the tarball and the Debian package
-of a release, whose checksums hold.  A part that wants a package that isn't there
-says so, and is skipped.  Ends in a line `N passed, M failed`; the exit status is 1 if anything failed.
+Takes what is proved, or else what `make try` and `make try-lib` built, and says which.  From the scratch prefix alone,
+with no folder of this repository in a path: the three examples are built and run, in C by pkg-config and with each
+library; the program answers; the library shows the names of include/tktext.h and no others; the manual pages are found.
+Then nothing is left after `make uninstall`.  The same files go below a DESTDIR, and into the tarball and the Debian
+package of a release, whose checksums hold.  A part that wants a package that isn't there says so, and is skipped.  Ends
+in a line `N passed, M failed`; the exit status is 1 if anything failed.
 """
 
 import os
@@ -68,7 +68,8 @@ def check_c(prefix, folder, wanted, tally):
     if shutil.which("pkg-config") is None:
         print("skipped: pkg-config isn't installed")
     else:
-        flags, _ = run(["pkg-config", "--cflags", "--libs", "tktext"], folder, PKG_CONFIG_PATH=f"{prefix}/lib/pkgconfig")
+        described = f"{prefix}/lib/pkgconfig"
+        flags, _ = run(["pkg-config", "--cflags", "--libs", "tktext"], folder, PKG_CONFIG_PATH=described)
         run(["cc", "peers.c", *flags.decode().split(), "-o", "shared"], folder)
         given = run(["./shared"], folder, LD_LIBRARY_PATH=f"{prefix}/lib")
         tally.check(given == (wanted, 0), f"peers.c by pkg-config: {flags!r}, {given!r}")

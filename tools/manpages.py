@@ -3,8 +3,8 @@
 
     python3 tools/manpages.py FOLDER
 
-The first is docs/tktext.1.md, the second the comments and calls of include/tktext.h; pandoc turns both into roff.  Where it
-isn't installed that is said, and nothing is written.
+The first is docs/tktext.1.md, the second the comments and calls of include/tktext.h; pandoc turns both into roff.
+Where it isn't installed that is said, and nothing is written.
 """
 
 import os
@@ -65,8 +65,8 @@ def calls_page():
 
 def write_page(markdown, path):
     """A manual page of roff, from one of markdown whose title is its name and section."""
-    words = ["pandoc", "-f", "gfm", "-t", "man", "-s", "--shift-heading-level-by=-1", "-o", path]
-    subprocess.run([*words, "-V", "header=Riavolth", "-M", "hyphenate=false"], input=markdown.encode("utf-8"), check=True)
+    words = ["pandoc", "-f", "gfm", "-t", "man", "-s", "--shift-heading-level-by=-1", "-V", "header=Riavolth"]
+    subprocess.run([*words, "-M", "hyphenate=false", "-o", path], input=markdown.encode("utf-8"), check=True)
 
 
 def main(words):

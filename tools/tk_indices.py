@@ -9,7 +9,8 @@ from collections import Counter
 from harness import ask_program
 
 SETUP = (
-    "text .t", '.t insert 1.0 "ab cd\\nefg hi\\njk\\n"', ".t mark set m 2.1", ".t mark set m2 2.3", ".t tag add x 1.1 2.2",
+    "text .t", '.t insert 1.0 "ab cd\\nefg hi\\njk\\n"', ".t mark set m 2.1", ".t mark set m2 2.3",
+    ".t tag add x 1.1 2.2",
 )
 NUMBERS = ("1.0", "1.2", "01.0", "-1.0", "1.-1", "1.+1", "+1.0", "0.0", "0.5", "1.99", "99.0", "0x1.0", "1 .0", "1. 0")
 ENDS = ("1.end", "1.e", "1.en", "1.endx", "end", "e", "en", "END", "endx")
@@ -25,12 +26,12 @@ UNITS = (
     "display indices", "display lines", "displaylines",
 )
 PLACES = (
-    "linestart", "lineend", "wordstart", "wordend", "lines", "linee", "words", "worde", "line", "word", "w", "l", "LINEEND",
-    "lineendx", "display linestart", "displaylineend", "display wordend", "any lineend", "anywordstart",
+    "linestart", "lineend", "wordstart", "wordend", "lines", "linee", "words", "worde", "line", "word", "w", "l",
+    "LINEEND", "lineendx", "display linestart", "displaylineend", "display wordend", "any lineend", "anywordstart",
 )
 CHAINS = (
-    "+1c+1c", "+1c -1l", "+1c lineend", "+1clineend", "lineend+1c", "lineend wordstart", "lineendwordstart", "+1c 1c", "+",
-    "+2147483647c", "-2147483647 lines", "+99999999999 chars", "-99999999999l",
+    "+1c+1c", "+1c -1l", "+1c lineend", "+1clineend", "lineend+1c", "lineend wordstart", "lineendwordstart", "+1c 1c",
+    "+", "+2147483647c", "-2147483647 lines", "+99999999999 chars", "-99999999999l",
 )
 # Rows of the page, each with the words that it speaks of.
 KINDS = (

@@ -3,10 +3,10 @@
 
     python3 tools/try_library.py
 
-`rt try` compiles programs alone.  So a copy of the crate `tktext_c` gets a `main` that makes each call once, and is tried;
-what its compiler was given is compiled once more as tools/unproved.py does it, with the names of include/tktext.h and as
-if each check held, which is what a proof gives.  Where one doesn't hold it does anything at all: this library is for a
-first look, and for trying what stands around it.
+`rt try` compiles programs alone.  So a copy of the crate `tktext_c` gets a `main` that makes each call once, and is
+tried; what its compiler was given is compiled once more as tools/unproved.py does it, with the names of
+include/tktext.h and as if each check held, which is what a proof gives.  Where one doesn't hold it does anything at
+all: this library is for a first look, and for trying what stands around it.
 """
 
 import os
@@ -112,7 +112,7 @@ def main(words):
     except (OSError, subprocess.CalledProcessError) as error:
         print(f"the library isn't made: {error}; this wants the Rattle kit (`rt`) and a C compiler", file=sys.stderr)
         return 1
-    print("out/try/libtktext.a and out/try/libtktext.so are made; they are NOT PROVED: `make lib` proves", file=sys.stderr)
+    print("out/try/libtktext.a and out/try/libtktext.so are NOT PROVED: `make lib` makes proved ones", file=sys.stderr)
     return 0
 
 
