@@ -22,7 +22,8 @@
 # make bench   the program's time per command as the text grows, and its memory as the script does, into docs/bench.txt;
 #              what is done to one long line, into docs/bench_lines.txt; lines in the tree, into docs/bench_tree.txt; and
 #              a command through the library, into docs/bench_library.txt
-# make versus  the program beside real Tk on the workloads of tools/workloads.py, into docs/performance.md; it needs Tk
+# make versus  the program beside real Tk on the workloads of tools/workloads.py, into docs/performance.md and its two
+#              pictures; it needs Tk
 # make counts  the instructions of a command on texts of two sizes, into docs/bench_counts.txt; it needs valgrind
 # make orders  by which power of each of its sizes a command's cost grows, into docs/bench_orders.txt; it needs valgrind,
 #              and shows real Tk's beside it where that is installed
