@@ -60,7 +60,8 @@ $(TRIED): $(SOURCES) tools/try.py tools/unproved.py
 
 try-lib: $(TRIED_LIBRARY)
 
-$(TRIED_LIBRARY): $(SOURCES) tools/try_library.py tools/unproved.py tools/build_library.py
+$(TRIED_LIBRARY): $(SOURCES) tools/try_library.py tools/unproved.py tools/build_library.py \
+  include/version.c include/tktext.h
 	@python3 tools/try_library.py
 	@touch $@
 
@@ -75,7 +76,7 @@ $(PROGRAM): $(SOURCES)
 
 lib: $(LIBRARY)
 
-$(LIBRARY): $(SOURCES)
+$(LIBRARY): $(SOURCES) include/version.c include/tktext.h
 	@python3 tools/build_library.py
 	@touch $@
 

@@ -8,8 +8,8 @@ has changed since it was proved is proved.  A gate leaves the crates below as it
 which `rt` knows them, so that `rt` would prove them all again; there the compiler of the kit is called over them, and
 proves and builds the one crate.
 
-libtktext.a is this crate and the kit's few lines of C by which it asks for memory; libtktext.so.1 the same, which shows
-the names of tktext.h alone, and libtktext.so a link to it.
+libtktext.a is this crate, the kit's few lines of C by which it asks for memory, and include/version.c; libtktext.so.1
+the same, which shows the names of tktext.h alone, and libtktext.so a link to it.
 """
 
 import os
@@ -103,8 +103,11 @@ def unpack(archive, folder):
     subprocess.run(["ar", "x", archive], cwd=folder, check=True)
 
 
-def pack(objects, out):
-    """Makes both libraries of the objects in a folder, in the folder `out`."""
+def pack(objects, out, proved):
+    """Makes both libraries of the objects in a folder, and of the call that says whether they are proved, in `out`."""
+    version = os.path.join(build.TOP, "include", "version.c")
+    flags = ["-O2", "-fPIC", f'-DTKTEXT_PROVED="{proved}"']
+    subprocess.run(["cc", *flags, "-c", version, "-o", os.path.join(objects, "version.o")], check=True)
     files = sorted(os.path.join(objects, name) for name in os.listdir(objects))
     os.makedirs(out, exist_ok=True)
     with tempfile.TemporaryDirectory() as folder:
@@ -133,7 +136,7 @@ def main(words):
         with tempfile.TemporaryDirectory() as folder:
             unpack(MADE, folder)
             unpack(os.path.join(kit, "c", "liblibc_c.a"), folder)
-            pack(folder, OUT)
+            pack(folder, OUT, "proved")
     except (OSError, subprocess.CalledProcessError) as error:
         print(f"the library isn't made: {error}; this wants the Rattle kit (`rt`) and a C compiler", file=sys.stderr)
         return 1

@@ -12,7 +12,6 @@ in a line `N passed, M failed`; the exit status is 1 if anything failed.
 """
 
 import os
-import re
 import shutil
 import subprocess
 import sys
@@ -78,6 +77,22 @@ def check_c(prefix, folder, wanted, tally):
     tally.check(given == (wanted, 0), f"peers.c with the archive: {given!r}")
 
 
+VERSION_PROGRAM = """#include <tktext.h>
+#include <stdio.h>
+int main(void) { return puts(tktext_version()) < 0; }
+"""
+
+
+def check_version(prefix, is_tried, folder, tally):
+    """The library says its version, and whether it was proved."""
+    with open(os.path.join(folder, "version.c"), "w", encoding="utf-8") as file:
+        file.write(VERSION_PROGRAM)
+    run(["cc", "version.c", f"-I{prefix}/include", f"{prefix}/lib/libtktext.a", "-o", "version"], folder)
+    given = run(["./version"], folder)
+    wanted = f"{install.version()}, {'not proved' if is_tried else 'proved'}\n"
+    tally.check(given == (wanted.encode(), 0), f"the version: {given!r}")
+
+
 def check_python(prefix, folder, wanted, tally):
     """The example in Python, whose module looks for the library where the system does."""
     shutil.copy(os.path.join(TOP, "examples", "peers.py"), folder)
@@ -99,7 +114,7 @@ def check_tcl(prefix, folder, wanted, tally):
 def check_names(prefix, folder, tally):
     """The shared library shows the calls of its header, and says by which name it is looked for."""
     with open(os.path.join(TOP, "include", "tktext.h"), encoding="utf-8") as file:
-        calls = set(re.findall(r"^\w+ (tktext_\w+)\(", file.read(), re.MULTILINE))
+        calls = set(manpages.DECLARED.findall(file.read()))
     shown, _ = run(["nm", "-D", "--defined-only", f"{prefix}/lib/{SONAME}"], folder)
     tally.check({line.split()[-1] for line in shown.decode().splitlines()} == calls, f"names that are shown: {shown!r}")
     told, _ = run(["readelf", "-d", f"{prefix}/lib/libtktext.so"], folder)
@@ -164,6 +179,7 @@ def check_all(flags, is_tried, folder, tally):
     tally.check(files_below(prefix) == places, f"installed: {sorted(files_below(prefix) ^ places)}")
     check_program(prefix, work, tally)
     check_c(prefix, work, wanted["examples/peers.c"], tally)
+    check_version(prefix, is_tried, work, tally)
     check_python(prefix, work, wanted["examples/peers.py"], tally)
     check_tcl(prefix, work, wanted["examples/peers.tcl"], tally)
     check_names(prefix, work, tally)

@@ -16,8 +16,9 @@ import sys
 TOP = os.path.dirname(os.path.dirname(os.path.abspath(__file__)))
 MISSING = "the manual pages aren't made: they want pandoc (Debian: apt-get install pandoc)"
 # A comment with the call behind it, one with several lines of types or names, and a code with its words.
-CALL = re.compile(r"/\* ((?:(?!\*/).)*?) \*/\n((?:int32_t|size_t|void) (tktext_\w+)\([^;]*\);)", re.DOTALL)
+CALL = re.compile(r"/\* ((?:(?!\*/).)*?) \*/\n(\w[\w ]*[ *](tktext_\w+)\([^;]*\);)", re.DOTALL)
 CODE = re.compile(r"^    (TKTEXT_\w+) = (\d+),?\s*/\* (.*) \*/$", re.MULTILINE)
+DECLARED = re.compile(r"^\w[\w ]*[ *](tktext_\w+)\(", re.MULTILINE)
 TYPES, ENUM = "/* Where a world is kept", "enum {"
 AFFIXES = re.compile(r"/\* ([^*]*) \*/\n((?:#define TKTEXT_\w+ .*\n)+)")
 
@@ -42,7 +43,7 @@ def calls_page():
     head = paragraphs(re.match(r"/\* (.*?) *\*/", header, re.DOTALL)[1]).replace("docs/tktext.1.md", "tktext(1)")
     title, _, words = head.partition("\n\n")
     calls = CALL.findall(header)
-    missing = set(re.findall(r"^\w+ (tktext_\w+)\(", header, re.MULTILINE)) - {name for _, _, name in calls}
+    missing = set(DECLARED.findall(header)) - {name for _, _, name in calls}
     if missing:
         sys.exit(f"include/tktext.h says nothing of {' '.join(sorted(missing))}")
     affixes = AFFIXES.search(header)

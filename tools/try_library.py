@@ -98,7 +98,7 @@ def compile_library(kit, folder):
     flags = ["-fPIC" if flag == "-fPIE" else flag for flag in unproved.COMPILED]
     subprocess.run([f"{tools}/clang", *flags, named, "-o", os.path.join(objects, "tktext.o")], check=True)
     build_library.unpack(os.path.join(kit, "c", "liblibc_c.a"), objects)
-    build_library.pack(objects, OUT)
+    build_library.pack(objects, OUT, "not proved")
 
 
 def main(words):
