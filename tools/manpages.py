@@ -15,12 +15,13 @@ import sys
 
 TOP = os.path.dirname(os.path.dirname(os.path.abspath(__file__)))
 MISSING = "the manual pages aren't made: they want pandoc (Debian: apt-get install pandoc)"
-# A comment with the call behind it, one with several lines of types or names, and a code with its words.
+# A comment with the call behind it; a code with its words; a call; where the types begin and end; and a comment with the
+# names behind it that the preprocessor knows.
 CALL = re.compile(r"/\* ((?:(?!\*/).)*?) \*/\n(\w[\w ]*[ *](tktext_\w+)\([^;]*\);)", re.DOTALL)
 CODE = re.compile(r"^    (TKTEXT_\w+) = (\d+),?\s*/\* (.*) \*/$", re.MULTILINE)
 DECLARED = re.compile(r"^\w[\w ]*[ *](tktext_\w+)\(", re.MULTILINE)
 TYPES, ENUM = "/* Where a world is kept", "enum {"
-AFFIXES = re.compile(r"/\* ([^*]*) \*/\n((?:#define TKTEXT_\w+ .*\n)+)")
+NAMED = re.compile(r"/\* ([^*]*) \*/\n((?:#define TKTEXT_\w+ .*\n)+)")
 
 
 def text_of(*names):
@@ -46,7 +47,6 @@ def calls_page():
     missing = set(DECLARED.findall(header)) - {name for _, _, name in calls}
     if missing:
         sys.exit(f"include/tktext.h says nothing of {' '.join(sorted(missing))}")
-    affixes = AFFIXES.search(header)
     prototypes = "".join(prototype + "\n" for _, prototype, _ in calls)
     parts = [
         "# tktext(3)\n",
@@ -56,7 +56,7 @@ def calls_page():
         "## DESCRIPTION\n", f"{words}\n",
         "## TYPES\n", code(header[header.index(TYPES) : header.index(ENUM)]),
         "## CODES\n", *(f"- `{name}`, {number}: {said}" for name, number, said in CODE.findall(header)),
-        f"\n{affixes[1]}\n", code(affixes[2]),
+        "", *(f"{said}\n\n{code(lines)}" for said, lines in NAMED.findall(header)),
         "## CALLS\n",
         *(f"{code(prototype)}\n{paragraphs(said)}\n" for said, prototype, _ in calls),
         "## SEE ALSO\n", "tktext(1)\n",
