@@ -15,7 +15,7 @@ import sys
 
 TOP = os.path.dirname(os.path.dirname(os.path.abspath(__file__)))
 MISSING = "the manual pages aren't made: they want pandoc (Debian: apt-get install pandoc)"
-# A comment with the call behind it; a code with its words; a call; where the types begin and end; and a comment with the
+# A comment with the call behind it; a code with its words; a call; where the types begin and end; a comment with the
 # names behind it that the preprocessor knows.
 CALL = re.compile(r"/\* ((?:(?!\*/).)*?) \*/\n(\w[\w ]*[ *](tktext_\w+)\([^;]*\);)", re.DOTALL)
 CODE = re.compile(r"^    (TKTEXT_\w+) = (\d+),?\s*/\* (.*) \*/$", re.MULTILINE)
