@@ -109,13 +109,19 @@ def working_folder(number):
         return ""
 
 
+def asked_of_git(*words):
+    """What git answers, or nothing where there is none."""
+    try:
+        done = subprocess.run(["git", *words], cwd=TOP, capture_output=True, text=True, check=False)
+    except OSError:
+        return ""
+    return done.stdout.strip()
+
+
 def commit():
     """The commit that is checked out, and whether files differ from it."""
-    found = [
-        subprocess.run(["git", *words], cwd=TOP, capture_output=True, text=True, check=False).stdout.strip()
-        for words in (["rev-parse", "HEAD"], ["status", "--porcelain"])
-    ]
-    return (found[0] or "unknown") + (", with changes" if found[1] else "")
+    changes = asked_of_git("status", "--porcelain")
+    return (asked_of_git("rev-parse", "HEAD") or "unknown") + (", with changes" if changes else "")
 
 
 def keep_last_line(of_commit, line):
