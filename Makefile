@@ -1,23 +1,36 @@
+# make help    these lines
 # make try     a script before anything is proved: standard input, SCRIPT=file, or with neither examples/first.tcl
 # make run     the same by the proved program, which is proved and built first where it isn't yet
 # make build   the proved program alone: crates/tktext/out/tktext
 # make lib     the library for C, Python and Tcl: out/libtktext.a and out/libtktext.so, proved where it isn't yet
-# make examples  its examples in C, Python and Tcl, and what is missing for one that can't be run
+# make try-lib  the same before anything is proved, in two or three minutes: libtktext.a and libtktext.so of out/try
+# make examples  its examples in C, Python and Tcl, and what is missing for one that can't be run; TRY=1 runs them by
+#              the library of make try-lib
+# make tcl     the Tcl package of the library alone: out/tktext.so, or out/try/tktext.so with TRY=1
+# make man     the manual pages as roff: out/man/tktext.1 and out/man/tktext.3; they want pandoc
+# make install  puts the program, the library, the Tcl package and the manual pages below PREFIX=/usr/local, and all of
+#              that below DESTDIR; TRY=1 puts those there that aren't proved
+# make uninstall  takes them away again
+# make dist    a release in out/dist: a tarball and a Debian package of what `make install` puts down, each with what
+#              was proved (docs/release.md); TRY=1 makes one of what isn't
 # make test    the gate, and then the checks that the gate can't do; the last line counts them
 # make fuzz    the program against the plain model on random scripts: SEEDS=300 of them, FIRST=0 on
 # make fuzz-library  random calls of the library under sanitizers, for SECONDS=600, from the seed FIRST=0 on
-# make tk      the program against real Tk, where that is installed: the rows of docs/differences.md, and random scripts
+# make tk      the program against real Tk, where that is installed: the rows of docs/differences.md, the grammar of an
+#              index crossed, and random scripts
 # make gate    the gate alone, and its processor time over that of `rt selftest`; with nothing beside it
 # make bench   the program's time per command as the text grows, and its memory as the script does, into docs/bench.txt;
 #              what is done to one long line, into docs/bench_lines.txt; lines in the tree, into docs/bench_tree.txt; and
 #              a command through the library, into docs/bench_library.txt
-# make versus  the program beside real Tk on the workloads of tools/workloads.py, into docs/performance.md; it needs Tk
+# make versus  the program beside real Tk on the workloads of tools/workloads.py, into docs/performance.md and its two
+#              pictures; it needs Tk
 # make counts  the instructions of a command on texts of two sizes, into docs/bench_counts.txt; it needs valgrind
 # make orders  by which power of each of its sizes a command's cost grows, into docs/bench_orders.txt; it needs valgrind,
 #              and shows real Tk's beside it where that is installed
 # make gains   what the program takes beside docs/gains.txt, which it may not pass by more than a twentieth; UPDATE=1
 #              writes that file. It needs valgrind
 
+.DEFAULT_GOAL = try
 PROGRAM = crates/tktext/out/tktext
 ROWS = crates/rows/out/rows
 LINE_BENCH = crates/line_bench/out/line_bench
@@ -25,6 +38,9 @@ TREE_BENCH = crates/tree_bench/out/tree_bench
 NODE_MEMORY = crates/node_memory/out/node_memory
 SCRIPT_BENCH = crates/script_bench/out/script_bench
 LIBRARY = out/libtktext.a
+# What is built before anything is proved.
+TRIED = out/try/tktext
+TRIED_LIBRARY = out/try/libtktext.a
 SHIM = out/refuse.so
 WEIGH = out/weigh.so
 SEEDS ?= 300
@@ -32,8 +48,22 @@ FIRST ?= 0
 SECONDS ?= 600
 SOURCES = crates.txt $(shell find crates -name '*.rt' -o -name '*.antt' | grep -v /out/)
 
-try:
+help:
+	@sed -n 's/^# \{0,1\}//p; /^$$/q' Makefile
+
+try: $(TRIED)
 	@python3 tools/try.py examples/first.tcl $(SCRIPT)
+
+$(TRIED): $(SOURCES) tools/try.py tools/unproved.py
+	@python3 tools/try.py --build
+	@touch $@
+
+try-lib: $(TRIED_LIBRARY)
+
+$(TRIED_LIBRARY): $(SOURCES) tools/try_library.py tools/unproved.py tools/build_library.py \
+  include/version.c include/tktext.h
+	@python3 tools/try_library.py
+	@touch $@
 
 run: $(PROGRAM)
 	@sh tools/run.sh $(PROGRAM) examples/first.tcl $(SCRIPT)
@@ -46,12 +76,36 @@ $(PROGRAM): $(SOURCES)
 
 lib: $(LIBRARY)
 
-$(LIBRARY): $(SOURCES)
+$(LIBRARY): $(SOURCES) include/version.c include/tktext.h
 	@python3 tools/build_library.py
 	@touch $@
 
-examples: $(LIBRARY)
-	@python3 tools/examples.py
+examples: $(if $(TRY),$(TRIED_LIBRARY),$(LIBRARY))
+	@python3 tools/examples.py $(if $(TRY),--try)
+
+# Where the library stands by which examples run, and that is installed.
+OUT = $(if $(TRY),out/try,out)
+PREFIX ?= /usr/local
+
+tcl: $(OUT)/tktext.so
+
+$(OUT)/tktext.so: $(OUT)/libtktext.a tcl/tktext.c tcl/pkgIndex.tcl include/tktext.h
+	@python3 tools/examples.py --extension $(if $(TRY),--try)
+
+man: out/man/tktext.1
+
+out/man/tktext.1: docs/tktext.1.md include/tktext.h tools/manpages.py
+	@python3 tools/manpages.py out/man
+
+install: $(if $(TRY),$(TRIED),$(PROGRAM)) $(OUT)/libtktext.a tcl man
+	@python3 tools/install.py --prefix '$(PREFIX)' --destdir '$(DESTDIR)' $(if $(TRY),--try)
+
+# A release may say that it is proved, or that it isn't; the gate is no part of it.
+dist: $(if $(TRY),$(TRIED),$(PROGRAM)) $(OUT)/libtktext.a tcl man
+	@python3 tools/dist.py $(if $(TRY),--try)
+
+uninstall:
+	@python3 tools/install.py --prefix '$(PREFIX)' --destdir '$(DESTDIR)' --uninstall
 
 $(SHIM): tools/refuse.c
 	mkdir -p out
@@ -82,6 +136,7 @@ test: $(SHIM) $(WEIGH)
 	  'python3 tools/tk.py --program $(PROGRAM)' \
 	  'python3 tools/editor_test.py --program $(PROGRAM)' \
 	  'python3 tools/library.py --build' \
+	  'python3 tools/install_test.py' \
 	  'python3 tools/fuzz_library.py'
 
 fuzz: $(PROGRAM)
@@ -126,6 +181,8 @@ gate:
 
 tk: $(PROGRAM)
 	python3 tools/tk.py --program $(PROGRAM)
+	python3 tools/tk.py --program $(PROGRAM) --indices
 	python3 tools/tk.py --program $(PROGRAM) --scripts $(SEEDS) --first $(FIRST)
 
-.PHONY: try run build lib examples test fuzz fuzz-library bench versus orders counts gains gate tk
+.PHONY: help try try-lib run build lib tcl man install uninstall dist examples test fuzz \
+  fuzz-library bench versus orders counts gains gate tk

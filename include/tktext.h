@@ -27,6 +27,9 @@
 extern "C" {
 #endif
 
+/* The version of this header. */
+#define TKTEXT_VERSION "1.0"
+
 /* Where a world is kept: nothing, or one world.  The caller reads `full` alone. */
 struct tktext_kept {
     void *at;
@@ -92,6 +95,9 @@ int32_t tktext_status(tktext *handle);
 
 /* Drops the world, if there is one, and leaves the handle empty. */
 void tktext_drop(tktext *handle);
+
+/* The version of the library, and whether it was proved: "1.0, proved" or "1.0, not proved". */
+const char *tktext_version(void);
 
 #ifdef __cplusplus
 }

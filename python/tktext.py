@@ -6,8 +6,8 @@ both leave everything as it was.
 
 Threads may share a world and its widgets: one call is carried out at a time.
 
-The library is looked for in the file that TKTEXT_LIBRARY names, in out/ of this repository, and then where the system
-looks.
+The library is looked for in the file that TKTEXT_LIBRARY names, in out/ and in out/try/ of this repository, and then
+where the system looks.
 """
 
 import ctypes
@@ -46,8 +46,9 @@ class _Handle(ctypes.Structure):
 
 
 def _library_path():
-    built = os.path.join(os.path.dirname(os.path.abspath(__file__)), "..", "out", "libtktext.so")
-    return os.environ.get("TKTEXT_LIBRARY") or (built if os.path.exists(built) else "libtktext.so")
+    top = os.path.join(os.path.dirname(os.path.abspath(__file__)), "..")
+    built = [os.path.join(top, *out, "libtktext.so") for out in (["out"], ["out", "try"])]
+    return os.environ.get("TKTEXT_LIBRARY") or next(filter(os.path.exists, built), "libtktext.so.1")
 
 
 def _load():

@@ -5,12 +5,14 @@
 
 Proves the crates that the program (or another crate) stands on, lowest first, and it last, each over what earlier runs kept.
 Crates that share no crate below are proved side by side, since the kit's `rt` lets one run at a time work in a folder;
-what is left is proved one crate after the other, each by as many processes as there are cores.  What `rt` says is kept
-in out/build.log, and shown where a crate fails; the exit status is then 1.
+what is left is proved one crate after the other, each by as many processes as there are cores.  About how long the rest
+takes is reckoned from the table of docs/working.md, scaled by what the first crates took.  What `rt` says is kept in
+out/build.log, and shown where a crate fails; the exit status is then 1.
 """
 
 import argparse
 import os
+import re
 import subprocess
 import sys
 import threading
@@ -19,6 +21,11 @@ from concurrent.futures import ThreadPoolExecutor
 
 TOP = os.path.dirname(os.path.dirname(os.path.abspath(__file__)))
 LOG = os.path.join(TOP, "out", "build.log")
+# The page that says what the check of a crate takes, in seconds of processor, and one of its rows.
+COSTS_PAGE = os.path.join(TOP, "docs", "working.md")
+COST_ROW = re.compile(r"^\| `(\w+)` \| ([\d,]+) \|", re.MULTILINE)
+# What a crate is reckoned to take that isn't in the table; one that was ready within so many seconds was kept before.
+SOME_COST, KEPT_SECONDS = 60, 5
 CORES = len(os.sched_getaffinity(0))
 # With up to so many cores `rt` chooses its processes by itself, and looks at the memory that is free.
 CHOSEN_CORES, MOST_JOBS = 4, 8
@@ -69,12 +76,23 @@ def rt_words(runs, share):
     return ["rt", "run" if runs else "lib", *jobs]
 
 
+def read_costs():
+    """What each crate's check takes, by the table."""
+    with open(COSTS_PAGE, encoding="utf-8") as file:
+        return {name: int(cost.replace(",", "")) for name, cost in COST_ROW.findall(file.read())}
+
+
 class Progress:
     """Counts the crates that are done, and shows it: on a terminal in one line that changes."""
 
-    def __init__(self, total):
-        self.total = total
+    def __init__(self, names):
+        costs = read_costs()
+        self.costs = {name: costs.get(name, SOME_COST) for name in names}
+        self.total = len(names)
         self.done = 0
+        # The costs of the crates that are still to do, and of those that were proved in this run.
+        self.left = sum(self.costs.values())
+        self.proved = 0
         self.running = []
         self.began = time.monotonic()
         self.lock = threading.Lock()
@@ -82,6 +100,13 @@ class Progress:
 
     def seconds(self):
         return time.monotonic() - self.began
+
+    def remains(self):
+        """About how long the rest takes, in words; nothing before a crate was proved."""
+        if not self.proved or not self.left:
+            return ""
+        minutes = self.seconds() * self.left / self.proved / 60
+        return f", about {minutes:.0f} min to go" if minutes >= 1 else ", about a minute to go"
 
     def say(self, text):
         """A line that stays."""
@@ -94,7 +119,8 @@ class Progress:
             time.sleep(BEAT)
             with self.lock:
                 if self.running:
-                    text = f"[{self.done}/{self.total}] {' '.join(self.running)}, {self.seconds():.0f} s"
+                    so_far = f"{self.seconds():.0f} s{self.remains()}"
+                    text = f"[{self.done}/{self.total}] {' '.join(self.running)}, {so_far}"
                     print(f"\r\033[K{text[:79]}", end="", file=sys.stderr, flush=True)
 
     def start(self, name):
@@ -105,8 +131,11 @@ class Progress:
         with self.lock:
             self.running.remove(name)
             self.done += is_proved
+            self.left -= self.costs[name]
+            self.proved += self.costs[name] if seconds > KEPT_SECONDS else 0
             word = "proved" if is_proved else "NOT PROVED"
-            self.say(f"[{self.done}/{self.total}] {name} {word} in {seconds:.0f} s, {self.seconds():.0f} s in all")
+            so_far = f"{self.seconds():.0f} s in all{self.remains()}"
+            self.say(f"[{self.done}/{self.total}] {name} {word} in {seconds:.0f} s, {so_far}")
 
 
 def prove(name, runs, share, progress, log):
@@ -147,7 +176,7 @@ def main():
     parser.add_argument("--crate", default="tktext")
     program = parser.parse_args().crate
     groups = plan(read_crates(os.path.join(TOP, "crates.txt")), program)
-    progress = Progress(sum(len(group) for group in groups))
+    progress = Progress([name for group in groups for name in group])
     progress.say(f"proving {progress.total} crates from what was kept; nothing kept, this takes many minutes")
     threading.Thread(target=progress.tell, daemon=True).start()
     os.makedirs(os.path.dirname(LOG), exist_ok=True)

@@ -3,13 +3,13 @@
 
     python3 tools/build_library.py
 
-The crate `tktext_c` is proved and built over those that it stands on.  Mostly this is what tools/build.py does: what has
-changed since it was proved is proved.  A gate leaves the crates below as it proved them, but without the stamps by which
-`rt` knows them, so that `rt` would prove them all again; there the compiler of the kit is called over them, and proves and
-builds the one crate.
+The crate `tktext_c` is proved and built over those that it stands on.  Mostly this is what tools/build.py does: what
+has changed since it was proved is proved.  A gate leaves the crates below as it proved them, but without the stamps by
+which `rt` knows them, so that `rt` would prove them all again; there the compiler of the kit is called over them, and
+proves and builds the one crate.
 
-libtktext.a is this crate and the kit's few lines of C by which it asks for memory; libtktext.so the same, which shows the
-names of tktext.h alone.
+libtktext.a is this crate, the kit's few lines of C by which it asks for memory, and include/version.c; libtktext.so.1
+the same, which shows the names of tktext.h alone, and libtktext.so a link to it.
 """
 
 import os
@@ -23,8 +23,9 @@ import build
 CRATE = "tktext_c"
 OUT = os.path.join(build.TOP, "out")
 MADE = os.path.join(build.TOP, "crates", CRATE, "out", f"lib{CRATE}.a")
-ARCHIVE = os.path.join(OUT, "libtktext.a")
-SHARED = os.path.join(OUT, "libtktext.so")
+# The name by which a program that was linked with the library looks for it; the number grows with what such a program
+# sees.
+SONAME = "libtktext.so.1"
 NAMES = "{ global: tktext_*; local: *; };\n"
 
 
@@ -97,19 +98,31 @@ def prove(kit):
     return done.returncode == 0
 
 
-def pack(kit):
-    """Makes both libraries of the crate's archive and the kit's lines of C."""
+def unpack(archive, folder):
+    """The objects of an archive, in a folder."""
+    subprocess.run(["ar", "x", archive], cwd=folder, check=True)
+
+
+def pack(objects, out, proved):
+    """Makes both libraries of the objects in a folder, and of the call that says whether they are proved, in `out`."""
+    version = os.path.join(build.TOP, "include", "version.c")
+    flags = ["-O2", "-fPIC", f'-DTKTEXT_PROVED="{proved}"']
+    subprocess.run(["cc", *flags, "-c", version, "-o", os.path.join(objects, "version.o")], check=True)
+    files = sorted(os.path.join(objects, name) for name in os.listdir(objects))
+    os.makedirs(out, exist_ok=True)
     with tempfile.TemporaryDirectory() as folder:
-        for archive in (MADE, os.path.join(kit, "c", "liblibc_c.a")):
-            subprocess.run(["ar", "x", archive], cwd=folder, check=True)
-        objects = sorted(os.path.join(folder, name) for name in os.listdir(folder))
-        made, names = os.path.join(folder, "libtktext.a"), os.path.join(folder, "names")
-        subprocess.run(["ar", "rcs", made, *objects], check=True)
+        archive, shared, names = (os.path.join(folder, name) for name in ("libtktext.a", SONAME, "names"))
         with open(names, "w", encoding="ascii") as file:
             file.write(NAMES)
-        os.makedirs(OUT, exist_ok=True)
-        shutil.copyfile(made, ARCHIVE)
-        subprocess.run(["cc", "-shared", "-o", SHARED, f"-Wl,--version-script={names}", *objects], check=True)
+        subprocess.run(["ar", "rcs", archive, *files], check=True)
+        linked = ["-shared", f"-Wl,-soname,{SONAME}", f"-Wl,--version-script={names}"]
+        subprocess.run(["cc", *linked, "-o", shared, *files], check=True)
+        for made in (archive, shared):
+            shutil.move(made, os.path.join(out, os.path.basename(made)))
+    link = os.path.join(out, "libtktext.so")
+    if os.path.lexists(link):
+        os.remove(link)
+    os.symlink(SONAME, link)
 
 
 def main(words):
@@ -120,7 +133,10 @@ def main(words):
         kit = kit_folder()
         if not prove(kit):
             return 1
-        pack(kit)
+        with tempfile.TemporaryDirectory() as folder:
+            unpack(MADE, folder)
+            unpack(os.path.join(kit, "c", "liblibc_c.a"), folder)
+            pack(folder, OUT, "proved")
     except (OSError, subprocess.CalledProcessError) as error:
         print(f"the library isn't made: {error}; this wants the Rattle kit (`rt`) and a C compiler", file=sys.stderr)
         return 1

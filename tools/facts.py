@@ -24,7 +24,7 @@ MOST_CHARACTERS = 120
 # A line of a proof that `rt fmt` joins again may be longer.
 MOST_IN_PROOFS = 160
 # A longer line is the output of a program, as it is.
-OUTPUTS = {os.path.join("docs", "tour.md")}
+OUTPUTS = {os.path.join("docs", name) for name in ("tour.md", "performance.svg", "memory.svg")}
 LITERAL = re.compile(r'literal "([^"]*)"')
 # What stands for two or more words at the end of a command's form in docs/model.md.
 COUNTS = {"any number": (0, None), **{f"{count} and more": (count, None) for count in range(1, 4)}}

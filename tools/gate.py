@@ -7,7 +7,8 @@ Each line of `rt ci` is shown with the time (minutes and seconds from the start)
 table: for each crate the seconds of processor (user) that its check, its tests and its must-fail edits took, the
 dearest crate first. With `--ratio`, `rt selftest` runs before, and the last line of the table is the measure of the
 gate: the processor time of `rt ci` over that of `rt selftest` on this machine, which is to be run with nothing
-beside it. The last line of all is that of `rt ci`, and so is the exit status.
+beside it. The last line of all is that of `rt ci`, and so is the exit status. For which commit it was printed is
+kept in out/gate.txt, which a release shows (tools/dist.py).
 
 `rt ci` tells what became of the edits at its end, all at once, so the times are read off the prover's processes while
 they run. What they took between the last reading and their end is missing, some tenths of a second each; the
@@ -23,6 +24,8 @@ import time
 from collections import defaultdict
 from typing import NamedTuple
 
+TOP = os.path.dirname(os.path.dirname(os.path.abspath(__file__)))
+NOTE = os.path.join(TOP, "out", "gate.txt")
 PAUSE_SECONDS = 0.2
 TICKS_PER_SECOND = os.sysconf("SC_CLK_TCK")
 KINDS = ("check", "tests", "edits")
@@ -106,6 +109,37 @@ def working_folder(number):
         return ""
 
 
+def asked_of_git(*words):
+    """What git answers, or nothing where there is none."""
+    try:
+        done = subprocess.run(["git", *words], cwd=TOP, capture_output=True, text=True, check=False)
+    except OSError:
+        return ""
+    return done.stdout.strip()
+
+
+def commit():
+    """The commit that is checked out, and whether files differ from it."""
+    changes = asked_of_git("status", "--porcelain")
+    return (asked_of_git("rev-parse", "HEAD") or "unknown") + (", with changes" if changes else "")
+
+
+def keep_last_line(of_commit, line):
+    """Keeps what a gate said of a commit."""
+    os.makedirs(os.path.dirname(NOTE), exist_ok=True)
+    with open(NOTE, "w", encoding="utf-8") as file:
+        file.write(f"{of_commit}\n{line}\n")
+
+
+def last_line_of(of_commit):
+    """What the last gate here said of a commit, or nothing where it was one of another."""
+    if not os.path.exists(NOTE):
+        return ""
+    with open(NOTE, encoding="utf-8") as file:
+        about, line = file.read().splitlines()
+    return line if about == of_commit else ""
+
+
 def user_seconds_of_children():
     return resource.getrusage(resource.RUSAGE_CHILDREN).ru_utime
 
@@ -146,12 +180,13 @@ def main():
         return 2
     if measures:
         subprocess.run(["rt", "selftest"], check=True)
-    unit = user_seconds_of_children()
+    unit, of_commit = user_seconds_of_children(), commit()
     last_line, status, table, whole = run_gate()
     print("seconds of processor (user):")
     print_table(table, whole)
     if measures:
         print(f"over {unit:.0f} s of rt selftest: {whole / unit:.0f}")
+    keep_last_line(of_commit, last_line)
     print(last_line)
     return status
 

@@ -1,5 +1,6 @@
 """What the tools share: running the program, its answers, the memory that it takes, and counting what passed."""
 
+import fcntl
 import subprocess
 import sys
 from typing import NamedTuple
@@ -9,6 +10,8 @@ TIMEOUT_SECONDS = 60
 LONG_TIMEOUT_SECONDS = 300
 # By how many kB the resident size may differ among scripts of several lengths.
 SIZE_MARGIN = 256
+# The least that a pipe can hold, in bytes.
+PIPE_SIZE = 4096
 # The stores on which `rows` runs a script that is on its standard input.
 STORES = ("PlainStore", "LineVec", "TreeStore")
 
@@ -41,21 +44,27 @@ def resident_size(pid):
     sys.exit("no greatest resident size is told here")
 
 
-def measure_size(program, first, command, length):
-    """The greatest resident size, in kB, over a script of a first command and then a short one, so many bytes long.
+def size_over(program, script):
+    """The greatest resident size, in kB, over a script.
 
-    It is looked at when all but what a pipe holds was read, since it is gone with the process.
+    It is looked at when all but what a pipe holds was read, since it is gone with the process; what the system tells
+    then is no less than the size of this one.
     """
-    script = first + command * (length // len(command))
     with subprocess.Popen([program], stdin=subprocess.PIPE, stdout=subprocess.DEVNULL) as process:
+        fcntl.fcntl(process.stdin, fcntl.F_SETPIPE_SZ, PIPE_SIZE)
         process.stdin.write(script)
         process.stdin.flush()
         size = resident_size(process.pid)
         process.stdin.close()
         status = process.wait(timeout=LONG_TIMEOUT_SECONDS)
     if status != 0:
-        sys.exit(f"status {status} for a script of {length} bytes: this isn't measured")
+        sys.exit(f"status {status} for a script of {len(script)} bytes: this isn't measured")
     return size
+
+
+def measure_size(program, first, command, length):
+    """The same over a script of a first command and then a short one, so many bytes long."""
+    return size_over(program, first + command * (length // len(command)))
 
 
 class Tally:

@@ -549,22 +549,31 @@ text .a -undo 1
 """
 
 
-def check_examples(has_tcl, tally):
-    """Each example prints what the model says, in its own way."""
+def wanted_of_examples():
+    """What each example prints, by what the model says, in its own way."""
     commands, _ = model.reads_script(EXAMPLE.encode())
     world, answers = model.World(), []
     for words in commands:
         world, text, _ = model.piece(world, words, False)
         answers.append(text)
-    given = {name: run_it() for name, can_run, run_it, _ in examples.EXAMPLES if can_run()}
-    tally.check(given["examples/peers.c"] == ("".join(answers), 0), f"the example in C: {given['examples/peers.c']!r}")
-    entries = [(name, list(zip(*[iter(model.split_list(answer[:-1]))] * 3))) for name, answer in zip((".a", ".b"), answers[5:7])]
     fault = answers[7].removeprefix("error: ")
-    wanted = "".join(name + "\n" + "".join(f"  {it!r}\n" for it in listed) for name, listed in entries) + fault
-    tally.check(given["examples/peers.py"] == (wanted, 0), f"the example in Python: {given['examples/peers.py']!r}")
-    if has_tcl:
-        wanted = "".join(name + "\n" + "".join(f"  {it[2]} {it[0]} {model.element_text(it[1])}\n" for it in listed) for name, listed in entries) + fault
-        tally.check(given["examples/peers.tcl"] == (wanted, 0), f"the example in Tcl: {given['examples/peers.tcl']!r}")
+    dumps = [list(zip(*[iter(model.split_list(answer[:-1]))] * 3)) for answer in answers[5:7]]
+    in_python = ["".join(f"  {it!r}\n" for it in dump) for dump in dumps]
+    in_tcl = ["".join(f"  {it[2]} {it[0]} {model.element_text(it[1])}\n" for it in dump) for dump in dumps]
+    return {
+        "examples/peers.c": "".join(answers),
+        "examples/peers.py": f".a\n{in_python[0]}.b\n{in_python[1]}{fault}",
+        "examples/peers.tcl": f".a\n{in_tcl[0]}.b\n{in_tcl[1]}{fault}",
+    }
+
+
+def check_examples(tally):
+    """Each example prints what the model says."""
+    wanted = wanted_of_examples()
+    for name, can_run, run_it, _ in examples.EXAMPLES:
+        if can_run():
+            given = run_it(examples.PROVED)
+            tally.check(given == (wanted[name], 0), f"{name}: {given!r}")
 
 
 # ---------------------------------------------------------------------------------------------------
@@ -642,7 +651,7 @@ def main():
         return tally.close()
     has_tcl = examples.has_tcl()
     compile_all(has_tcl)
-    check_examples(has_tcl, tally)
+    check_examples(tally)
     with tempfile.TemporaryDirectory() as folder:
         check_shown(has_tcl, folder, tally)
     check_uses(tally)

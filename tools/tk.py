@@ -3,6 +3,7 @@
 
     python3 tools/tk.py --program PATH                     every row, in the program and in Tk
     python3 tools/tk.py --program PATH --scripts N [--first K]     random scripts in both
+    python3 tools/tk.py --program PATH --indices           the grammar of an index, crossed (tk_indices.py)
 
 Where Tk isn't installed (`apt-get install xvfb tk8.6`) the rows are run in the program alone, and random scripts not at
 all; both is said.  Ends in a line `N passed, M failed`; the exit status is 1 if anything failed.
@@ -14,6 +15,7 @@ import re
 import sys
 from typing import NamedTuple
 
+import tk_indices
 import tk_real
 import tk_scripts
 from harness import Tally, ask_program
@@ -125,20 +127,32 @@ def check_scripts(program, tk, seeds, tally):
         tally.failed(f"no difference of the page is called {rule}")
 
 
+def check_indices(program, tk, tally):
+    """Each index of the grammar gives the same in both, or is one of those of which a row speaks."""
+    met = tk_indices.compare(program, tk, tally)
+    names = {row.name for row in read_rows(TABLE)}
+    for kind, count in sorted(met.items()):
+        tally.check(kind in names, f"no difference of the page is called {kind}")
+        print(f"{count} indices are answered otherwise by {kind}")
+
+
 def main():
     parser = argparse.ArgumentParser(description="compares the program with real Tk")
     parser.add_argument("--program", required=True)
     parser.add_argument("--scripts", type=int, default=0)
     parser.add_argument("--first", type=int, default=0)
+    parser.add_argument("--indices", action="store_true")
     options = parser.parse_args()
     tally = Tally()
     tk, version = tk_real.open_tk()
-    if options.scripts and tk is None:
-        print(f"random scripts are not run: {version}\n0 passed, 0 failed")
+    if (options.scripts or options.indices) and tk is None:
+        print(f"random scripts and indices are not run: {version}\n0 passed, 0 failed")
         return 0
     try:
         if options.scripts:
             check_scripts(options.program, tk, range(options.first, options.first + options.scripts), tally)
+        elif options.indices:
+            check_indices(options.program, tk, tally)
         else:
             check_rows(options.program, tk, version, tally)
     finally:

@@ -1,28 +1,40 @@
 #!/usr/bin/env python3
-"""Runs a script before anything is proved: what `make try` calls.
+"""Builds the program before anything is proved, and runs a script by it: what `make try` calls.
 
+    python3 tools/try.py --build
     python3 tools/try.py EXAMPLE [SCRIPT]
 
-The script is the file SCRIPT, or else what standard input brings, or else EXAMPLE.  The kit's `rt try` runs it by its
-interpreter and once more compiled with checks; the answers alone come on standard output.  What the kit tells of the
-two runs is left out, unless they differ or one of them met a fault.  The exit status is the program's, or else that
-of `rt try`: 3 for a limit, 4 for a fault, 5 where the two runs differ, 6 for no answer.
+The first keeps what the kit's `rt try` compiles of the program, with its checks at run time and clang's sanitizer, as
+out/try/tktext.  The second runs it: the script is the file SCRIPT, or else what standard input brings, or else EXAMPLE.
+The answers come on standard output; the exit status is the program's, as docs/tktext.1.md gives it, and 4 where a check
+found a fault.
 """
 
 import os
-import re
+import shutil
 import stat
 import subprocess
 import sys
+import tempfile
+
+import unproved
 
 TOP = os.path.dirname(os.path.dirname(os.path.abspath(__file__)))
 CRATE = os.path.join(TOP, "crates", "tktext")
-NOTE = "make try: unproved and slow, a few seconds to a minute; `make run` is the proved program, and proves it first"
-# The last line of `rt try` where a run came to its end.
-ENDED = re.compile(rb"run=ended status=\d+ ")
-NO_ANSWER = "make try: no whole answer: `rt try` stops at 1 MB of output and at a minute; `make run` doesn't"
-# How the kit shows a part of the program's own output, and how much of a line of its own is worth a look.
-QUOTED, LINE_SIZE = "| ", 300
+PROGRAM = os.path.join(TOP, "out", "try", "tktext")
+BUILDS = "make try: builds the program without a proof, in a minute or two; it is kept for the next script"
+NOTE = "make try: unproved, and slow by its checks; `make run` is the proved program, and proves it first"
+FAULT, FAULT_STATUS = "make try: a check failed: `rt try` in crates/tktext says which", 4
+
+
+def build():
+    """Makes the program."""
+    print(BUILDS, file=sys.stderr, flush=True)
+    os.makedirs(os.path.dirname(PROGRAM), exist_ok=True)
+    with tempfile.TemporaryDirectory() as folder:
+        kept = unproved.keep_try(unproved.kit_folder(), folder, CRATE)
+        shutil.copy(unproved.kept_files(kept, "ld.lld", "made")[0], PROGRAM)
+    return 0
 
 
 def is_given(file):
@@ -41,19 +53,9 @@ def script_bytes(example, path):
         return file.read()
 
 
-def run_unproved(script):
-    """The answers, what the kit said, and the exit status of `rt try`."""
-    done = subprocess.run(["rt", "try"], cwd=CRATE, input=script, capture_output=True)
-    return done.stdout, done.stderr, done.returncode
-
-
-def kit_lines(said):
-    """What the kit says of the two runs, without the parts of the output that it quotes."""
-    lines = said.decode("utf-8", "replace").splitlines()
-    return [line[:LINE_SIZE] for line in lines if not line.startswith(QUOTED)]
-
-
 def main(arguments):
+    if arguments == ["--build"]:
+        return build()
     example, path = (arguments + [""])[:2]
     try:
         script = script_bytes(example, path)
@@ -61,19 +63,17 @@ def main(arguments):
         print(f"make try: {error.filename}: {error.strerror}", file=sys.stderr)
         return 2
     print(NOTE, file=sys.stderr, flush=True)
-    try:
-        answers, said, status = run_unproved(script)
-    except OSError:
-        print("make try: there is no `rt` on the path: this wants the Rattle kit", file=sys.stderr)
-        return 2
-    except KeyboardInterrupt:
-        return 130
-    sys.stdout.buffer.write(answers)
-    sys.stdout.flush()
-    if not ENDED.search(said):
-        print(*kit_lines(said), NO_ANSWER, sep="\n", file=sys.stderr)
+    status = subprocess.run([PROGRAM], input=script).returncode
+    if status < 0:
+        print(FAULT, file=sys.stderr)
+        return FAULT_STATUS
+    if status:
+        print(f"status {status}", file=sys.stderr)
     return status
 
 
 if __name__ == "__main__":
-    sys.exit(main(sys.argv[1:]))
+    try:
+        sys.exit(main(sys.argv[1:]))
+    except KeyboardInterrupt:
+        sys.exit(130)

@@ -7,10 +7,10 @@ Needs `Xvfb`, `wish` 8.6 and `valgrind` (on Debian `apt-get install xvfb tk8.6 v
 the answers are the same bytes; the instructions of both by callgrind, Tk's without those of a script without commands,
 and what ours are spent on; the least time of both, Tk's by its own clock from the first command to the last answer,
 ours of the whole process; then the greatest resident size, long texts, and what a command costs before it does
-anything.  The tables are written to FILE between its two marks.  --quick leaves out the instructions of Tk, which take
-most of the time; --kept names a file in which they are kept from one run to the next.  --ours needs valgrind alone: it
-counts our instructions anew, and leaves what FILE says of Tk and of the times of both.  The exit status is 1 if answers
-differ.
+anything.  The tables are written to FILE between its last two marks, and then its head and its pictures (plots.py).
+--quick leaves out the instructions of Tk, which take most of the time; --kept names a file in which they are kept from
+one run to the next.  --ours needs valgrind alone: it counts our instructions anew, and leaves what FILE says of Tk and
+of the times of both.  The exit status is 1 if answers differ.
 """
 
 import argparse
@@ -26,13 +26,12 @@ import time
 from itertools import zip_longest
 from typing import NamedTuple
 
+import plots
 import workloads
-from harness import measure_size
+from harness import measure_size, size_over
+from plots import GOAL, MEMORY_GOAL, UNDO_GOAL
 from tk_real import Display, find_wish
 
-# At most so much of Tk's instructions and time; of undo, of the widget's own part in Tk, which moves its view there.
-GOAL, UNDO_GOAL = 1 / 3, 1 / 3 * 0.15
-MEMORY_GOAL = 2 / 3
 BEGIN, END = "<!-- versus: begin -->", "<!-- versus: end -->"
 COLLECTED = re.compile(r"Collected : (\d+)")
 CALLGRIND = ["valgrind", "--tool=callgrind"]
@@ -49,8 +48,7 @@ PARTS = {
     "tree": ("line_tree", "raw_nodes", "toggle_sums"),
 }
 MEMORY = re.compile(r"malloc|free|alloc_|_alloc|dealloc")
-# What the page says of Tk's size, and what the last cell of a workload is.
-TOLD_SIZE = re.compile(r"resident size over `load-100000`: Tk (\d+) MB")
+# What the last cell of a workload is.
 VERDICTS = ("met", "missed", "answers differ")
 # The place that Tk tells for the end of any line that is longer.
 LONGEST = re.compile(rb"(\d+)\.1000000")
@@ -63,8 +61,11 @@ fconfigure $answers -encoding utf-8 -translation lf -buffersize 65536
 text .warm; .warm insert 1.0 x; destroy .warm
 set begin [clock microseconds]
 """
+# Behind it: the microseconds, and the greatest resident size so far, which the system doesn't tell so well at its end.
 TCL_TAIL = """flush $answers
 puts [expr {[clock microseconds] - $begin}]
+regexp {VmHWM:\\s+(\\d+)} [read [open /proc/self/status]] all size
+puts $size
 exit 0
 """
 
@@ -155,9 +156,10 @@ class Tk:
         """The seconds between the first command and the last answer, and the greatest resident size of it all."""
         told = os.path.join(self.folder, "told")
         with open(told, "wb") as file:
-            _, size = run_timed(self.command(path, answers), subprocess.DEVNULL, file, self.environment)
+            run_timed(self.command(path, answers), subprocess.DEVNULL, file, self.environment)
         with open(told, encoding="ascii") as file:
-            return int(file.read()) / 1e6, size
+            microseconds, size = map(int, file.read().split())
+        return microseconds / 1e6, size
 
     def counted(self, commands):
         """The instructions of a run of the commands."""
@@ -180,9 +182,14 @@ class Tk:
 
 
 def time_ours(program, script, answers):
-    """The seconds of the whole process, and its greatest resident size."""
+    """The seconds of the whole process, and its greatest resident size, or that of this one where that is more."""
     with open(script, "rb") as given, open(answers, "wb") as taken:
         return run_timed([program], given, taken)
+
+
+def cost_of_ours(program, script, seconds, profile):
+    """What a script costs, that was timed before."""
+    return Cost(count_instructions([program], script, profile=profile), seconds, size_over(program, read(script)))
 
 
 def read(path):
@@ -210,14 +217,14 @@ def measure(program, tk, workload, folder, repeat, is_quick):
         file.write("\n".join(commands) + "\n")
     path = tk.wrapped(commands)
     runs = [(tk.time(path, tk_answers), time_ours(program, script, answers)) for _ in range(repeat)]
-    (tk_seconds, tk_size), (seconds, size) = (map(min, zip(*side)) for side in zip(*runs))
+    (tk_seconds, tk_size), (seconds, _) = (map(min, zip(*side)) for side in zip(*runs))
     is_same = are_same(read(tk_answers), read(answers))
     profile = os.path.join(folder, "profile")
     return Line(
         workload,
         len(commands),
         Cost(None if is_quick else tk.count(workload.name, commands), tk_seconds, tk_size),
-        Cost(count_instructions([program], script, profile=profile), seconds, size),
+        cost_of_ours(program, script, seconds, profile),
         is_same,
         parts_of(profile),
     )
@@ -232,13 +239,15 @@ def told_of_tk(path):
     """What a page says of Tk and of the times of both, by workload: Tk's cost, our seconds, and whether it was whole."""
     with open(path, encoding="utf-8") as file:
         text = file.read()
-    size = int(TOLD_SIZE.search(text).group(1)) * 1024
+    sizes = {name: tk * 1024 for name, (tk, _) in plots.sizes_of(text).items()}
     cells = [[cell.strip() for cell in line.split("|")[1:-1]] for line in text.splitlines() if line.startswith("| `")]
+    told = {row[0].strip("`"): row for row in cells if row[8:] and row[8].strip("*") in VERDICTS}
     return {
-        row[0].strip("`"): (
-            Cost(number(row[2]) * 1e6, number(row[5]) / 1e3, size), number(row[6]) / 1e3, "differ" not in row[8]
+        name: (
+            Cost(number(row[2]) * 1e6, number(row[5]) / 1e3, sizes.get(name, 0)), number(row[6]) / 1e3,
+            "differ" not in row[8],
         )
-        for row in cells if row[8:] and row[8].strip("*") in VERDICTS
+        for name, row in told.items()
     }
 
 
@@ -249,9 +258,8 @@ def measure_ours(program, told, workload, folder):
     with open(script, "w", encoding="utf-8", newline="\n") as file:
         file.write("\n".join(commands) + "\n")
     tk, seconds, is_same = told[workload.name]
-    instructions = count_instructions([program], script, profile=profile)
-    _, size = time_ours(program, script, os.devnull)
-    return Line(workload, len(commands), tk, Cost(instructions, seconds, size), is_same, parts_of(profile))
+    ours = cost_of_ours(program, script, seconds, profile)
+    return Line(workload, len(commands), tk, ours, is_same, parts_of(profile))
 
 
 def part(ours, theirs):
@@ -297,6 +305,14 @@ WORKLOAD_HEAD = [
     "Workload", "Commands", "Tk, M instr.", "`tktext`, M instr.", "part", "Tk, ms", "`tktext`, ms", "part", "A third?",
     "Mostly",
 ]
+
+
+def memory_rows(lines):
+    """The greatest resident size of each workload; Tk's with all that it has before the first command."""
+    for line in lines:
+        if line.tk.size:
+            theirs, ours = line.tk.size / 1024, line.ours.size / 1024
+            yield [f"`{line.workload.name}`", f"{theirs:.1f}", f"{ours:.1f}", f"{part(ours, theirs):.2f}"]
 
 
 def growth_rows(lines):
@@ -408,6 +424,7 @@ def memory_row(lines):
 def page(lines, program, folder, is_whole):
     """What stands between the two marks."""
     said = [f"Measured on {machine()}.", "", *table([WORKLOAD_HEAD, *map(workload_row, lines)]), *memory_row(lines)]
+    said += ["", *table([["Greatest resident size", "Tk, MB", "`tktext`, MB", "part"], *memory_rows(lines)])]
     said += ["", *table([["A command's cost grows, from .. to ..", "in Tk", "in `tktext`"], *growth_rows(lines)])]
     said += ["", *table([["Spent on, in percent", *PARTS, "memory", "rest"], *spent_rows(lines)])]
     if is_whole:
@@ -482,6 +499,7 @@ def main():
         said = page(lines, options.program, folder, options.out is not None)
     if options.out:
         write_page(options.out, said)
+        plots.retell(options.out)
     return 0 if all(line.is_same for line in lines) else 1
 
 

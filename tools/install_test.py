@@ -1,0 +1,213 @@
+#!/usr/bin/env python3
+"""Installs into a scratch folder, and tries what stands there as a user would.
+
+    python3 tools/install_test.py
+
+Takes what is proved, or else what `make try` and `make try-lib` built, and says which.  From the scratch prefix alone,
+with no folder of this repository in a path: the three examples are built and run, in C by pkg-config and with each
+library; the program answers; the library shows the names of include/tktext.h and no others; the manual pages are found.
+Then nothing is left after `make uninstall`.  The same files go below a DESTDIR, and into the tarball and the Debian
+package of a release, whose checksums hold.  A part that wants a package that isn't there says so, and is skipped.  Ends
+in a line `N passed, M failed`; the exit status is 1 if anything failed.
+"""
+
+import os
+import shutil
+import subprocess
+import sys
+import tempfile
+
+import dist
+import examples
+import install
+import library
+import manpages
+from build_library import SONAME
+from harness import Tally
+
+TOP = install.TOP
+TIMEOUT_SECONDS = 60
+PROGRAM_SCRIPT, PROGRAM_PRINTS = b"text .t\n.t insert 1.0 abc\n.t index end-1c\n", b".t\n\n1.3\n"
+
+
+def is_built(is_tried):
+    """Whether a program and a library stand there to be installed."""
+    return all(os.path.exists(os.path.join(TOP, item.source)) for item in install.items(is_tried)[:4])
+
+
+def run(words, folder, given=b"", **more):
+    """Runs a command in a scratch folder, with nothing set but what is given.  What it printed, and its status."""
+    environment = {"PATH": os.environ["PATH"], "HOME": folder, "LC_ALL": "C.UTF-8", **more}
+    done = subprocess.run(words, input=given, capture_output=True, cwd=folder, env=environment, timeout=TIMEOUT_SECONDS)
+    if done.returncode:
+        print(done.stderr.decode("utf-8", "replace")[-1000:])
+    return done.stdout, done.returncode
+
+
+def call_install(*words):
+    """Runs tools/install.py, and tells whether it ended well."""
+    done = subprocess.run([sys.executable, os.path.join(TOP, "tools", "install.py"), *words], capture_output=True)
+    return done.returncode == 0
+
+
+def files_below(folder):
+    """The places of all files and links below a folder."""
+    return {os.path.relpath(os.path.join(at, name), folder) for at, _, names in os.walk(folder) for name in names}
+
+
+def wanted_places(is_tried):
+    """What has to stand below the prefix, by what was built."""
+    places = {item.place for item in install.items(is_tried) if os.path.exists(os.path.join(TOP, item.source))}
+    return places | {install.LINK, install.DESCRIPTION}
+
+
+def check_c(prefix, folder, wanted, tally):
+    """The example in C, with the shared library as pkg-config says, and with the archive."""
+    shutil.copy(os.path.join(TOP, "examples", "peers.c"), folder)
+    if shutil.which("pkg-config") is None:
+        print("skipped: pkg-config isn't installed")
+    else:
+        described = f"{prefix}/lib/pkgconfig"
+        flags, _ = run(["pkg-config", "--cflags", "--libs", "tktext"], folder, PKG_CONFIG_PATH=described)
+        run(["cc", "peers.c", *flags.decode().split(), "-o", "shared"], folder)
+        given = run(["./shared"], folder, LD_LIBRARY_PATH=f"{prefix}/lib")
+        tally.check(given == (wanted, 0), f"peers.c by pkg-config: {flags!r}, {given!r}")
+    run(["cc", "peers.c", f"-I{prefix}/include", f"{prefix}/lib/libtktext.a", "-o", "static"], folder)
+    given = run(["./static"], folder)
+    tally.check(given == (wanted, 0), f"peers.c with the archive: {given!r}")
+
+
+VERSION_PROGRAM = """#include <tktext.h>
+#include <stdio.h>
+int main(void) { return puts(tktext_version()) < 0; }
+"""
+
+
+def check_version(prefix, is_tried, folder, tally):
+    """The library says its version, and whether it was proved."""
+    with open(os.path.join(folder, "version.c"), "w", encoding="utf-8") as file:
+        file.write(VERSION_PROGRAM)
+    run(["cc", "version.c", f"-I{prefix}/include", f"{prefix}/lib/libtktext.a", "-o", "version"], folder)
+    given = run(["./version"], folder)
+    wanted = f"{install.version()}, {'not proved' if is_tried else 'proved'}\n"
+    tally.check(given == (wanted.encode(), 0), f"the version: {given!r}")
+
+
+def check_python(prefix, folder, wanted, tally):
+    """The example in Python, whose module looks for the library where the system does."""
+    shutil.copy(os.path.join(TOP, "examples", "peers.py"), folder)
+    shutil.copy(os.path.join(TOP, "python", "tktext.py"), folder)
+    given = run([sys.executable, "peers.py"], folder, LD_LIBRARY_PATH=f"{prefix}/lib")
+    tally.check(given == (wanted, 0), f"peers.py: {given!r}")
+
+
+def check_tcl(prefix, folder, wanted, tally):
+    """The example in Tcl."""
+    if not os.path.exists(os.path.join(prefix, install.tcl_folder())):
+        print(f"skipped: the Tcl package isn't built, which wants {examples.TCL_WANTED}")
+        return
+    shutil.copy(os.path.join(TOP, "examples", "peers.tcl"), folder)
+    given = run(["tclsh8.6", "peers.tcl"], folder, TCLLIBPATH=f"{prefix}/lib/tcltk")
+    tally.check(given == (wanted, 0), f"peers.tcl: {given!r}")
+
+
+def check_names(prefix, folder, tally):
+    """The shared library shows the calls of its header, and says by which name it is looked for."""
+    with open(os.path.join(TOP, "include", "tktext.h"), encoding="utf-8") as file:
+        calls = set(manpages.DECLARED.findall(file.read()))
+    shown, _ = run(["nm", "-D", "--defined-only", f"{prefix}/lib/{SONAME}"], folder)
+    tally.check({line.split()[-1] for line in shown.decode().splitlines()} == calls, f"names that are shown: {shown!r}")
+    told, _ = run(["readelf", "-d", f"{prefix}/lib/libtktext.so"], folder)
+    tally.check(f"soname: [{SONAME}]".encode() in told, f"the library's own name: {told!r}")
+
+
+def check_pages(prefix, folder, tally):
+    """`man` finds both pages, and shows the name of each."""
+    for section in ("1", "3"):
+        if not os.path.exists(f"{prefix}/share/man/man{section}/tktext.{section}"):
+            print(f"skipped: tktext({section}) isn't made, which wants pandoc")
+        elif shutil.which("man") is None:
+            print("skipped: man isn't installed")
+        else:
+            shown, status = run(["man", "-M", f"{prefix}/share/man", section, "tktext"], folder, MANPAGER="cat")
+            is_shown = status == 0 and f"tktext({section})".encode() in shown and b"NAME" in shown
+            tally.check(is_shown, f"tktext({section}): {shown[:300]!r}")
+
+
+def check_program(prefix, folder, tally):
+    given = run([f"{prefix}/bin/tktext"], folder, PROGRAM_SCRIPT)
+    tally.check(given == (PROGRAM_PRINTS, 0), f"the program: {given!r}")
+
+
+def listed(words, folder, top):
+    """The files that a release lists, without the folder that they all stand in."""
+    lines = [line.split(" -> ")[0] for line in run(words, folder)[0].decode("utf-8").splitlines()]
+    return {line.split()[-1].removeprefix(top) for line in lines if not line.endswith("/")}
+
+
+def check_release(places, is_tried, folder, tally):
+    """A release has the same files and the one that says what was proved, and its checksums are right."""
+    if any(not os.path.exists(os.path.join(TOP, item.source)) for item in install.items(is_tried)):
+        print("skipped: a release wants the Tcl package and the manual pages")
+        return
+    out, wanted = os.path.join(folder, "dist"), places | {dist.NOTE}
+    tarball, *package = dist.make(out, is_tried)
+    name = os.path.basename(tarball).removesuffix(".tar.gz")
+    given = listed(["tar", "tzf", tarball], folder, f"{name}/")
+    tally.check(given == wanted, f"the tarball lists {sorted(given ^ wanted)}")
+    tally.check(run(["sha256sum", "-c", "SHA256SUMS"], out)[1] == 0, "the checksums of the release")
+    run(["tar", "xzf", tarball], folder)
+    note = os.path.join(folder, name, dist.NOTE)
+    with open(note, "rb") as file:
+        sums = file.read().partition(b"SHA-256 of each file:\n")[2]
+    holds = sums and run(["sha256sum", "-c"], os.path.join(folder, name), sums)[1] == 0
+    tally.check(holds, "the checksums of its files")
+    if package:
+        given = listed(["dpkg-deb", "-c", *package], folder, "./usr/")
+        tally.check(given == wanted, f"the Debian package lists {sorted(given ^ wanted)}")
+    else:
+        print("skipped: dpkg-deb isn't installed")
+
+
+def check_all(flags, is_tried, folder, tally):
+    """Installs, tries everything, and uninstalls."""
+    prefix, root, work = (os.path.join(folder, name) for name in ("prefix", "root", "work"))
+    os.makedirs(work)
+    wanted = {name: text.encode("utf-8") for name, text in library.wanted_of_examples().items()}
+    tally.check(call_install("--prefix", prefix, *flags), "it is installed")
+    places = wanted_places(is_tried)
+    tally.check(files_below(prefix) == places, f"installed: {sorted(files_below(prefix) ^ places)}")
+    check_program(prefix, work, tally)
+    check_c(prefix, work, wanted["examples/peers.c"], tally)
+    check_version(prefix, is_tried, work, tally)
+    check_python(prefix, work, wanted["examples/peers.py"], tally)
+    check_tcl(prefix, work, wanted["examples/peers.tcl"], tally)
+    check_names(prefix, work, tally)
+    check_pages(prefix, work, tally)
+    tally.check(call_install("--prefix", prefix, *flags), "it is installed once more")
+    tally.check(call_install("--prefix", prefix, "--uninstall"), "it is uninstalled")
+    tally.check(not files_below(prefix), f"left behind: {files_below(prefix)}")
+    tally.check(call_install("--prefix", "/usr", "--destdir", root, *flags), "it is installed below a DESTDIR")
+    tally.check(files_below(os.path.join(root, "usr")) == places, "the same files stand below a DESTDIR")
+    with open(os.path.join(root, "usr", install.DESCRIPTION), encoding="utf-8") as file:
+        tally.check(file.read().startswith("prefix=/usr\n"), "the description doesn't name the DESTDIR")
+    check_release(places, is_tried, folder, tally)
+
+
+def main():
+    tally = Tally()
+    is_tried = not is_built(False)
+    if shutil.which("cc") is None or is_tried and not is_built(True):
+        print("nothing is tried: this wants a C compiler, and what `make build lib` or `make try try-lib` builds")
+        return tally.close()
+    out = examples.TRIED if is_tried else examples.PROVED
+    print(f"from {out}, which is {'NOT proved' if is_tried else 'proved'}")
+    examples.build_alone(out)
+    manpages.main([os.path.join(TOP, "out", "man")])
+    with tempfile.TemporaryDirectory() as folder:
+        check_all(["--try"] if is_tried else [], is_tried, folder, tally)
+    return tally.close()
+
+
+if __name__ == "__main__":
+    sys.exit(main())
