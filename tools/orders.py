@@ -44,7 +44,33 @@ class Row(NamedTuple):
 
 
 # Why a row may be above the bound, by its form and its size.
-REASONS = {}
+MARKS_BY_NUMBER = "a line has its marks in the order of their numbers, so each stop goes over all of them"
+COPIES_MARKS = "each command copies the line that gets the mark, with all marks in it"
+ADDED_UP = "a walk, asked for step by step: the tags at a place are added up over the toggles before it in its line"
+REASONS = {
+    ("insert with pieces of one line", "pieces"):
+        "the tags before a piece are added up over the toggles of its line, for each piece",
+    ("mark unset", "names"): "a draft's copies are searched for each mark, of which a text has 4,096 at most",
+    ("tag delete", "names"): "each tag is looked for between the lines that are copied; a text has 960 at most",
+    ("insert with tags", "tags of a piece"): "the tables of names grow by doubling, up to 960 tags",
+    ("mark set, one more", "marks at one place"): "linear but for the allocator: the line is copied with its marks",
+    ("mark set, one more", "marks in one line"): "linear but for the allocator: the line is copied with its marks",
+    ("mark set, all again", "marks at one place"): COPIES_MARKS,
+    ("mark set, all again", "marks in one line"): COPIES_MARKS,
+    ("mark set, all again", "marks over lines"): COPIES_MARKS,
+    ("mark set", "names with one beginning"): COPIES_MARKS,
+    ("dump -text", "marks in one line"): MARKS_BY_NUMBER,
+    ("dump -mark", "marks in one line"): MARKS_BY_NUMBER,
+    ("mark next, a walk", "marks in one line"): MARKS_BY_NUMBER,
+    ("mark previous, a walk", "marks in one line"): MARKS_BY_NUMBER,
+    ("delete all", "marks over lines"): "each line that is joined merges its marks into those of the lines before it",
+    ("tag nextrange, a walk", "toggles of a line"): ADDED_UP,
+    ("tag prevrange, a walk", "toggles of a line"): ADDED_UP,
+    ("tag names, each", "toggles of a line"): ADDED_UP,
+    ("destroy", "documents"): "each command looks at every document, of which there are 64 at most",
+    ("edit undo of insertions at one place", "edits of a group"):
+        "each removal moves up the characters behind it in its line",
+}
 
 
 def lines(count):
@@ -289,7 +315,7 @@ OF_MARKS = [
         ("index by a mark", each(".t index m{i}")),
     )
 ] + [
-    Row(f"{verb}", "names alike but for their ends", least, few_lines, each(f".t {verb} {'x' * 200}{{i}} {{i}}.0"))
+    Row(f"{verb}", "names with one beginning", least, few_lines, each(f".t {verb} {'x' * 200}{{i}} {{i}}.0"))
     for verb, least in (("mark set", 500), ("tag add", 100))
 ]
 
@@ -442,7 +468,7 @@ def main():
         found = list(pool.map(lambda row: measure(row, options, folder), rows))
     orders = [order_of(costs) for costs in found]
     tk = tk_orders.orders(rows, FOUR)
-    form = "{:<52}{:<32}{:>7}{:>14}{:>14}{:>8}{:>8}"
+    form = "{:<49}{:<25}{:>7}{:>13}{:>14}{:>6}{:>6}"
     text = [form.format("form", "size", "least", "at least", "at most", "order", "Tk")]
     failed = 0
     for row, costs, order, theirs in zip(rows, found, orders, tk):
