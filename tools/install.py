@@ -67,7 +67,7 @@ def items(is_tried):
         Item("share/man/man1/tktext.1", "out/man/tktext.1"),
         Item("share/man/man3/tktext.3", "out/man/tktext.3"),
         Item(f"{tcl_folder()}/tktext.so", f"{out}/tktext.so"),
-        Item(f"{tcl_folder()}/pkgIndex.tcl", "tcl/pkgIndex.tcl"),
+        Item(f"{tcl_folder()}/pkgIndex.tcl", f"{out}/pkgIndex.tcl"),
     ]
 
 

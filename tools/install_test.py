@@ -103,7 +103,7 @@ def check_python(prefix, folder, wanted, tally):
 
 def check_tcl(prefix, folder, wanted, tally):
     """The example in Tcl."""
-    if not os.path.exists(os.path.join(prefix, install.tcl_folder())):
+    if not examples.has_tcl() or not os.path.exists(os.path.join(prefix, install.tcl_folder(), "tktext.so")):
         print(f"skipped: the Tcl package isn't built, which wants {examples.TCL_WANTED}")
         return
     shutil.copy(os.path.join(TOP, "examples", "peers.tcl"), folder)
