@@ -28,7 +28,7 @@ MOST_GROWTH = 1.05
 # The sizes of docs/PERF.md's table of instructions, with the bench's seed.
 BENCH_SIZES = {"console": 20_000, "typing": 20_000, "coloring": 2_000, "views": 6_000, "file": 20_000, "long_line": 3_000}
 BENCH_SEED = 1
-WORKLOADS = ("marks-2000", "dump-500", "search-5000", "undo-500")
+WORKLOADS = ("marks-2000", "dump-500", "search-5000", "undo-500", "scattered-2000", "along-4000")
 LOAD = "load-100000"
 # How many functions a row keeps in the file, and how many are shown of those that grew.
 KEPT_FUNCTIONS, SHOWN_FUNCTIONS = 40, 6

@@ -326,8 +326,27 @@ def markwalk(chance, size):
     yield from (f".t mark previous {name}" for name in walk[:0:-1])
 
 
+def scattered(chance, size):
+    """So many edits in shuffled lines as one group; undone, redone, undone."""
+    forms = (".t insert {0}.3 xx", ".t delete {0}.2 {0}.5", ".t replace {0}.3 {0}.6 abc")
+    yield from ("text .t -undo 1 -autoseparators 0", inserted(["some words of a line"] * size), ".t edit reset")
+    for line in chance.sample(range(1, size + 1), size):
+        yield chance.choice(forms).format(line)
+    for command in ("undo", "redo", "undo"):
+        yield f".t edit {command}"
+
+
+def along(chance, size):
+    """A line of one word of so many letters, of which half have a tag one by one: its ends, and its ranges."""
+    yield from ("text .t", f".t insert end {'x' * size}")
+    yield ".t tag add a " + " ".join(f"1.{column} 1.{column + 1}" for column in range(0, size, 2))
+    for _ in range(20):
+        yield from (f".t index {{1.{chance.randrange(size)} {end}}}" for end in ("wordstart", "wordend"))
+    yield ".t tag ranges a"
+
+
 KINDS = {kind.__name__: kind for kind in (
-    log, edit, load, syntax, search, peers, undo, marks, longline, dump, markwalk,
+    log, edit, load, syntax, search, peers, undo, marks, longline, dump, markwalk, scattered, along,
 )}
 
 
