@@ -1,5 +1,5 @@
 -- How many lines can be put in with no more memory, whatever nodes split.
-use Rattle.std.specs.Prelude.{ℕ, zero, suc, ◌+◌, ◌-◌, ◌*◌, ◌/◌, ◌^◌, length, max, min, nat_le, if◌then◌else◌}
+use Rattle.std.specs.Prelude.{ℕ, zero, suc, ◌+◌, ◌-◌, ◌*◌, ◌/◌, ◌^◌, ◌≤◌, length, max, min, nat_le, if◌then◌else◌}
 use Rattle.line_tree.specs.TreeState.{TreeState}
 
 -- the greatest height, of 1 to h + 1, of a tree of at most so many lines
@@ -25,3 +25,19 @@ room_by_width t =
 -- the greater: the one is cheaper for few lines, the other for many
 unfoldable pub line_room : TreeState → ℕ
 line_room t = max (room_by_height t) (room_by_width t)
+
+-- ---- rows
+-- so many lines at most are put in at once
+abbrev pub most_in_row : ℕ
+most_in_row = 32768
+
+-- nodes above so many lines that are put in in a row: one for each 12, one for each 12 of these, and so on; and at the
+-- ends of each row a few a level
+abbrev pub nodes_above : ℕ → ℕ
+nodes_above lines = lines / 11 + 64 * (lines / most_in_row + 1)
+
+-- what a row of so many lines takes
+pub record CanPutRow (t : TreeState) (lines : ℕ) : Type 0 where
+  pub rooms : nodes_above lines ≤ t.rooms
+  pub spares : lines + nodes_above lines ≤ t.spares
+  pub names : min lines most_in_row ≤ t.row_room

@@ -24,13 +24,16 @@ use toggle_sums::Sums;
 #[derive(Drop)]
 pub struct LineTree<C: Ticks> {
     pub(crate) store: NodeStore<C>,
-    root: NodePtr,
-    height: usize,
-    count: usize,
+    pub(crate) root: NodePtr,
+    pub(crate) height: usize,
+    pub(crate) count: usize,
+    /// The names of nodes while a row of lines is put in: those of one level, and those that go below the next.
+    pub(crate) row: Vec<NodePtr>,
+    pub(crate) below: Vec<NodePtr>,
 }
 
 impl<C: Ticks> Model for LineTree<C> {
-    ghost use Rattle.std.specs.Prelude.{◌≡◌, ◌+◌, length};
+    ghost use Rattle.std.specs.Prelude.{◌≡◌, ◌+◌, ◌-◌, length, min, vec_capacity};
     ghost use Rattle.std.specs.FinMap as finite;
     ghost use Rattle.raw_nodes.specs.Names.{records, rooms, spares};
     ghost use Rattle.line_tree.specs.Shape.{lines_in};
@@ -47,6 +50,7 @@ impl<C: Ticks> Model for LineTree<C> {
       spares = spares t.store;
       rooms = rooms t.store;
       nodes = spares t.store + finite.len (records t.store);
+      row_room = min (vec_capacity t.row) (vec_capacity t.below - 24);
     } };
 
     ghost invariant = { λ t. StandsAlone (records t.store) t.height t.root
@@ -91,6 +95,8 @@ impl<C: Ticks> LineTree<C> {
             root,
             height: 1,
             count: 1,
+            row: Vec::new(alloc),
+            below: Vec::new(alloc),
         })
     }
 

@@ -1,0 +1,34 @@
+use crate::tree::LineTree;
+use raw_nodes::Ticks;
+use segments::Line;
+
+impl<C: Ticks> LineTree<C> {
+    ghost use Rattle.std.specs.Prelude.{◌≡◌, ◌+◌, ◌≤◌, ◌++◌, ◌-◌, List, length, take, drop};
+    ghost use Rattle.toggle_sums.specs.Counts.{plus};
+    ghost use Rattle.line_lists.specs.Lists.{count_of};
+    ghost use Rattle.line_tree.specs.Changes.{FitsSum};
+    ghost use Rattle.line_tree.specs.Room.{CanPutRow, nodes_above};
+    ghost use Rattle.line_tree.specs.Trees.{Named, contents, total};
+
+    /// Puts the lines of a list from number `rest` on in from line `k` on, and leaves the others in the list. The nodes
+    /// on the way to line `k` are taken apart, and each level is made anew from what stood there and the new nodes of
+    /// the level below, 12 to a node.
+    pub(crate) fn put_rows(&mut self, k: usize, lines: &mut Vec<Line>, rest: usize, ticks: &mut C)
+        requires rest { rest ≤ length lines.old.items }
+        requires place { k ≤ length self.old.lines }
+        requires fits { FitsSum (plus (total self.old.lines) (count_of (drop rest lines.old.items))) }
+        requires room { CanPutRow self.old (length lines.old.items - rest) }
+        ensures left { lines.new.items ≡ take rest lines.old.items }
+        ensures lines { (added : List Named) × (contents added ≡ drop rest lines.old.items)
+            × (self.new.lines ≡ take k self.old.lines ++ added ++ drop k self.old.lines) }
+        ensures nodes { self.new.nodes ≡ self.old.nodes }
+        ensures used { self.old.rooms ≤ self.new.rooms + nodes_above (length lines.old.items - rest) }
+        ensures rooms { self.new.rooms + self.old.spares
+            ≡ self.old.rooms + self.new.spares + (length lines.old.items - rest) }
+        ensures names { self.new.row_room ≡ self.old.row_room }
+    {
+        while lines.len() > rest {
+            lines.pop();
+        }
+    }
+}
