@@ -5,10 +5,11 @@ use Rattle.std.proofs.lemmas.List.{append-nil, drop-append-le, drop-drop, drop_a
 use Rattle.std.proofs.lemmas.List.{take-append-drop, take-append-le}
 use Rattle.text_model.specs.Splices.{removed}
 use Rattle.line_tree.specs.Leaving.{Leaves}
-use Rattle.line_tree.specs.Room.{line_room}
+use Rattle.line_tree.specs.Room.{KeepsRoom}
 use Rattle.line_tree.specs.TreeState.{TreeState}
 use Rattle.line_tree.specs.Trees.{Named}
 use Rattle.line_tree.proofs.LineRoomLaws.{length-removed}
+use Rattle.line_tree.proofs.SpendingLaws.{keeps-on, keeps-self}
 
 -- ---- out of the middle
 removed-first : (ys zs : List Named) (from to : ℕ) → from ≤ to → to ≤ length ys →
@@ -43,7 +44,7 @@ leaves-all old k gone within =
       lines = sym (append_assoc (take k ls) (take gone (drop k ls)) (drop (k + gone) ls)
           ∙ ap (λ zs. take k ls ++ (take gone (drop k ls) ++ zs)) (sym (drop-drop gone k ls))
           ∙ ap (λ zs. take k ls ++ zs) (take-append-drop gone (drop k ls)) ∙ take-append-drop k ls);
-      room = omega arith;
+      room = keeps-self old;
     }
 
 pub leaves-long : (old now : TreeState) (k gone left : ℕ) → k + gone ≤ length old.lines → Leaves old k gone left now →
@@ -56,13 +57,13 @@ leaves-long old now k gone left within leaves =
 
 pub leaves-fewer : (old now after : TreeState) (k gone left start n less : ℕ) → k + gone ≤ length old.lines →
     Leaves old k gone left now → k ≤ start → start + n ≤ k + left → less + n ≡ left →
-    after.lines ≡ removed start (start + n) now.lines → line_room now ≤ line_room after →
+    after.lines ≡ removed start (start + n) now.lines → KeepsRoom now after →
     Leaves old k gone less after
 leaves-fewer old now after k gone left start n less within leaves low high count is room =
     let front = take k old.lines in let long = length-take-le k old.lines (omega arith) in
     let e : start ≡ length front + (start - k) = omega arith in
     let f : start + n ≡ length front + (start - k + n) = omega arith in
-    let rest = leaves.long in let few = leaves.few in let grows = leaves.room in
+    let rest = leaves.long in let few = leaves.few in
     let inside : start - k + n ≤ length leaves.rest = omega arith in
     let part = removed (start - k) (start - k + n) leaves.rest in
     let l = length-removed leaves.rest part (start - k) n inside refl in
@@ -73,7 +74,7 @@ leaves-fewer old now after k gone left start n less within leaves low high count
       lines = is ∙ ap (removed start (start + n)) leaves.lines
           ∙ removed-middle front leaves.rest (drop (k + gone) old.lines) (start - k) (start - k + n) start (start + n) e
           f (omega arith) inside;
-      room = omega arith;
+      room = keeps-on old now after leaves.room room;
     }
 
 -- ---- the others go too

@@ -5,21 +5,21 @@ use Rattle.std.specs.List.{insert, remove}
 use Rattle.std.proofs.lemmas.Bool.{cases_lt}
 use Rattle.std.proofs.Math.Seq.{drop-append-add, take-append_seam}
 use Rattle.std.proofs.lemmas.List.{append-nil, drop-drop, length-drop, length-map, length-take-le, map-append}
-use Rattle.std.proofs.lemmas.List.{take-append-drop}
+use Rattle.std.proofs.lemmas.List.{take-append-drop, take-append-le, take-take}
 use Rattle.std.proofs.lemmas.List.Edits.{insert-append_left, insert_end, remove-append_right}
 use Rattle.toggle_sums.specs.CountLaws.{no_text-plus}
 use Rattle.toggle_sums.specs.Counts.{Count, no_text, plus}
 use Rattle.segments.specs.Columns.{LineContent, line_count}
 use Rattle.raw_nodes.specs.declared.names.NodePtr.{NodePtr}
 use Rattle.line_lists.specs.Lists.{count_of}
-use Rattle.line_lists.proofs.CountRows.{count-lines}
+use Rattle.line_lists.proofs.CountRows.{count-append, count-lines}
 use Rattle.line_tree.specs.Changes.{FitsSum}
 use Rattle.std.specs.Prelude.{slice_get}
 use Rattle.std.specs.Option.{option_map}
 use Rattle.std.specs.declared.option.Option.{Option}
 use Rattle.std.specs.declared.option.Option.TheVariants.{Some}
 use Rattle.line_tree.specs.Places.{IsLineAt}
-use Rattle.line_tree.specs.Room.{line_room}
+use Rattle.line_tree.specs.Room.{PutsRoom}
 use Rattle.line_tree.specs.Taking.{changed}
 use Rattle.line_tree.specs.TreeState.{TreeState}
 use Rattle.line_tree.specs.Trees.{Named, total}
@@ -180,7 +180,7 @@ pub record PutsIn (old : TreeState) (k gone : ℕ) (all done rest : List LineCon
     pub whole : all ≡ done ++ rest
     pub place : at ≡ k + length done
     pub lines : StandsIn old.lines k (min gone (length done)) done now.lines
-    pub room : line_room old ≤ line_room now + length done
+    pub room : PutsRoom old now (length done - gone)
     pub named : (p : NodePtr) → behind ≡ Some p → (0 < at) × IsLineAt now.lines (at - 1) p
 
 -- ---- a line that was put in is named
@@ -240,3 +240,69 @@ taken-behind old now k went rest added within is =
     ∙ ap (λ ls. ls ++ drop (length front + rest) (front ++ back)) (take-append_seam front back)
     ∙ ap (λ ls. front ++ ls) (drop-append-add front back rest ∙ drop-drop rest (k + went) old
     ∙ ap (λ n. drop n old) all)
+
+-- ---- many at once, and then those that have the places of others
+-- what these and those are counted fits
+parts-fit : (now : Count) (new : List LineContent) (gone : ℕ) → FitsSum (plus now (count_of new)) →
+    FitsSum (plus (plus now (count_of (drop gone new))) (count_of (take gone new)))
+parts-fit now new gone fits =
+    let whole = ap count_of (sym (take-append-drop gone new)) ∙ count-append (take gone new) (drop gone new) in
+    let l = fits.lines in let ch = fits.characters in let m = fits.marks in
+    record {
+      lines = let e = ap (λ (z : Count). z.lines) whole in omega arith;
+      characters = let e = ap (λ (z : Count). z.characters) whole in omega arith;
+      marks = let e = ap (λ (z : Count). z.marks) whole in omega arith;
+    }
+
+pub rest-fits : (now : Count) (new : List LineContent) (gone : ℕ) → FitsSum (plus now (count_of new)) →
+    FitsSum (plus now (count_of (drop gone new)))
+rest-fits now new gone fits = let both = parts-fit now new gone fits in
+    let l = both.lines in let ch = both.characters in let m = both.marks in
+    record { lines = omega arith; characters = omega arith; marks = omega arith; }
+
+pub then-fits : (old now : List Named) (k gone : ℕ) (new : List LineContent) (added : List Named) →
+    FitsSum (plus (total old) (count_of new)) → map (λ (n : Named). n.1) added ≡ drop gone new →
+    now ≡ take k old ++ added ++ drop k old → FitsSum (plus (total now) (count_of (take gone new)))
+then-fits old now k gone new added fits contents is =
+    let none : k ≡ k + 0 = omega arith in
+    let s : StandsIn old k 0 (drop gone new) now = record {
+      added = added;
+      contents_of = contents;
+      is = is ∙ ap (λ n. take k old ++ added ++ drop n old) none;
+    } in
+    let both = parts-fit (total old) new gone fits in
+    let l = both.lines in let ch = both.characters in let m = both.marks in
+    record {
+      lines = let p = in-total old now k 0 (drop gone new) s (λ z. z.lines) (λ u v. refl) in omega arith;
+      characters = let p = in-total old now k 0 (drop gone new) s (λ z. z.characters) (λ u v. refl) in omega arith;
+      marks = let p = in-total old now k 0 (drop gone new) s (λ z. z.marks) (λ u v. refl) in omega arith;
+    }
+
+pub no-fewer : (old now added : List Named) (k : ℕ) → now ≡ take k old ++ added ++ drop k old → length old ≤ length now
+no-fewer old now added k is =
+    let a = ap length is in let b = length-append (take k old ++ added) (drop k old) in
+    let c = length-append (take k old) added in
+    let d = ap length (take-append-drop k old) in let e = length-append (take k old) (drop k old) in omega arith
+
+-- as many lines as went, and the others behind them
+pub all-in : (old mid now : List Named) (k gone : ℕ) (new : List LineContent) (first rest : List Named) →
+    k + gone ≤ length old → gone ≤ length new → map (λ (n : Named). n.1) rest ≡ drop gone new →
+    mid ≡ take (k + gone) old ++ rest ++ drop (k + gone) old →
+    map (λ (n : Named). n.1) first ≡ take gone new →
+    now ≡ take k mid ++ first ++ drop (k + min gone (length (take gone new))) mid →
+    (map (λ (n : Named). n.1) (first ++ rest) ≡ new)
+    × (now ≡ take k old ++ (first ++ rest) ++ drop (k + min gone (length new)) old)
+all-in old mid now k gone new first rest within few contents is names made =
+    let front = take (k + gone) old in let back = rest ++ drop (k + gone) old in
+    let whole : mid ≡ front ++ back = is ∙ append_assoc front rest (drop (k + gone) old) in
+    let long = length-take-le (k + gone) old within in let part = length-take-le gone new few in
+    let low : k ≤ length front = omega arith in
+    let at : k + min gone (length (take gone new)) ≡ length front + 0 = omega arith in
+    let end : k + gone ≡ k + min gone (length new) = omega arith in
+    let head = ap (take k) whole ∙ take-append-le k front back low ∙ take-take k (k + gone) old (omega arith) in
+    let tail = (λ i. drop (at i) (whole i)) ∙ drop-append-add front back 0 in (
+      map-append (λ (n : Named). n.1) first rest ∙ (λ i. names i ++ contents i) ∙ take-append-drop gone new,
+      made ∙ (λ i. (head i ++ first) ++ tail i) ∙ sym (append_assoc (take k old ++ first) rest (drop (k + gone) old))
+          ∙ ap (λ ls. ls ++ drop (k + gone) old) (append_assoc (take k old) first rest)
+          ∙ ap (λ n. (take k old ++ (first ++ rest)) ++ drop n old) end,
+    )

@@ -1,6 +1,6 @@
 -- What is left where some of the lines in a row go.
 use Rattle.std.specs.Prelude.{◌≡◌, ℕ, ◌+◌, ◌≤◌, List, ◌++◌, length, take, drop}
-use Rattle.line_tree.specs.Room.{line_room}
+use Rattle.line_tree.specs.Room.{KeepsRoom}
 use Rattle.line_tree.specs.TreeState.{TreeState}
 use Rattle.line_tree.specs.Trees.{Named}
 
@@ -10,4 +10,4 @@ pub record Leaves (old : TreeState) (k gone left : ℕ) (now : TreeState) : Type
   pub rest : List Named
   pub long : length rest ≡ left
   pub lines : now.lines ≡ take k old.lines ++ rest ++ drop (k + gone) old.lines
-  pub room : line_room old ≤ line_room now
+  pub room : KeepsRoom old now

@@ -1,5 +1,6 @@
--- How many lines can be put in with no more memory, whatever nodes split.
-use Rattle.std.specs.Prelude.{ℕ, zero, suc, ◌+◌, ◌-◌, ◌*◌, ◌/◌, ◌^◌, ◌≤◌, length, max, min, nat_le, if◌then◌else◌}
+-- How many lines can be put in with no more memory.
+use Rattle.std.specs.Prelude.{◌≡◌, ℕ, zero, suc, ◌+◌, ◌-◌, ◌*◌, ◌/◌, ◌^◌, ◌≤◌, ◌⊎◌, length, max, min, nat_le}
+use Rattle.std.specs.Prelude.{if◌then◌else◌}
 use Rattle.line_tree.specs.TreeState.{TreeState}
 
 -- the greatest height, of 1 to h + 1, of a tree of at most so many lines
@@ -22,7 +23,7 @@ room_by_width t =
     ((5 * t.nodes - (6 * length t.lines + 129)) / 6)
     (5 * t.nodes + 5 * t.rooms - (5 * t.spares + 6 * length t.lines + 129))
 
--- the greater: the one is cheaper for few lines, the other for many
+-- so many lines, whatever nodes split: the greater, since the one is cheaper for few lines, the other for many
 unfoldable pub line_room : TreeState → ℕ
 line_room t = max (room_by_height t) (room_by_width t)
 
@@ -32,12 +33,50 @@ abbrev pub most_in_row : ℕ
 most_in_row = 32768
 
 -- nodes above so many lines that are put in in a row: one for each 12, one for each 12 of these, and so on; and at the
--- ends of each row a few a level
-abbrev pub nodes_above : ℕ → ℕ
-nodes_above lines = lines / 11 + 64 * (lines / most_in_row + 1)
+-- ends of each row two a level and a few
+abbrev pub nodes_above : TreeState → ℕ → ℕ
+nodes_above t lines = lines / 11 + (2 * levels_at_most t.nodes + 6) * (lines / most_in_row + 1)
 
 -- what a row of so many lines takes
 pub record CanPutRow (t : TreeState) (lines : ℕ) : Type 0 where
-  pub rooms : nodes_above lines ≤ t.rooms
-  pub spares : lines + nodes_above lines ≤ t.spares
+  pub rooms : nodes_above t lines ≤ t.rooms
+  pub spares : lines + nodes_above t lines ≤ t.spares
   pub names : min lines most_in_row ≤ t.row_room
+
+-- fewer lines than so many are put in one by one, which takes no more than that for each row
+abbrev pub row_ends : TreeState → ℕ
+row_ends t = 16 * (levels_at_most t.nodes + 2)
+
+-- what rows of so many lines in all take, each put in at once or one by one
+abbrev pub rooms_for : TreeState → ℕ → ℕ → ℕ
+rooms_for t lines rows = nodes_above t lines + rows * row_ends t
+
+pub record HasRows (t : TreeState) (lines rows : ℕ) : Type 0 where
+  pub rooms : rooms_for t lines rows ≤ t.rooms
+  pub spares : lines + rooms_for t lines rows ≤ t.spares
+  pub names : min lines most_in_row ≤ t.row_room
+
+-- so many lines that come in so many rows can be put in: one by one, where there is no room for names, or as rows
+abbrev pub HasRoom : TreeState → ℕ → ℕ → Type 0
+HasRoom t lines rows = ((t.row_room ≡ 0) × (lines ≤ line_room t)) ⊎ HasRows t lines rows
+
+-- ---- what is left
+-- in u there is room for all that there was room for in t
+pub record KeepsRoom (t u : TreeState) : Type 0 where
+  pub nodes : u.nodes ≡ t.nodes
+  pub spares : t.spares ≤ u.spares
+  pub rooms : t.rooms ≤ u.rooms
+  pub names : u.row_room ≡ t.row_room
+  pub lines : line_room t ≤ line_room u
+
+-- so many lines were put in one by one
+pub record PutsRoom (t u : TreeState) (count : ℕ) : Type 0 where
+  pub nodes : u.nodes ≡ t.nodes
+  pub spares : t.spares ≤ u.spares + count * (levels_at_most t.nodes + 2)
+  pub rooms : t.rooms ≤ u.rooms + count * (levels_at_most t.nodes + 2)
+  pub names : u.row_room ≡ t.row_room
+  pub lines : line_room t ≤ line_room u + count
+
+-- so many lines were put in in so many rows, whichever way
+abbrev pub SpendsRoom : TreeState → TreeState → ℕ → ℕ → Type 0
+SpendsRoom t u lines rows = (more others : ℕ) → HasRoom t (lines + more) (rows + others) → HasRoom u more others

@@ -18,6 +18,7 @@ mod nearest;
 mod prefix;
 mod remove;
 mod replacing;
+mod room;
 mod rows;
 mod select;
 mod shrink;

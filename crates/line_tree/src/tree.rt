@@ -9,6 +9,7 @@ use crate::nearest::{Wanted, next, previous};
 use crate::prefix::prefix;
 use crate::remove::{Branch, lower, remove_in};
 use crate::replacing::replace_up;
+use crate::room::{nodes_above, row_ends};
 use crate::select::select;
 use crate::starts::{Placed, odd_slots, place, start};
 use crate::taking::take_up;
@@ -59,7 +60,7 @@ impl<C: Ticks> Model for LineTree<C> {
 
 impl<C: Ticks> LineTree<C> {
     ghost use Rattle.std.specs.Prelude.{◌≡◌, ℕ, ◌+◌, ◌-◌, ◌*◌, ◌/◌, ◌^◌, ◌≤◌, ◌<◌, OnOk, IfOk, IfSome};
-    ghost use Rattle.std.specs.Prelude.{[], ◌∷◌, Some, length, option_map, slice_get, take};
+    ghost use Rattle.std.specs.Prelude.{[], ◌∷◌, Some, length, min, option_map, slice_get, take};
     ghost use Rattle.std.specs.List.{insert, remove};
     ghost use Rattle.toggle_sums.specs.Counts.{plus};
     ghost use Rattle.text_model.specs.Splices.{removed};
@@ -76,7 +77,7 @@ impl<C: Ticks> LineTree<C> {
     ghost use Rattle.line_tree.specs.Changes.{Distinct, FitsSum};
     ghost use Rattle.line_tree.specs.Places.{IsLineAt, line_names};
     ghost use Rattle.line_tree.specs.Locating.{IsPlaceAt};
-    ghost use Rattle.line_tree.specs.Room.{line_room};
+    ghost use Rattle.line_tree.specs.Room.{HasRoom, KeepsRoom, levels_at_most, line_room, most_in_row};
     ghost use Rattle.line_tree.specs.Taking.{changed};
 
     /// A tree of one line, the lone newline. Fails for want of memory.
@@ -112,25 +113,47 @@ impl<C: Ticks> LineTree<C> {
         self.store.reserve(count)
     }
 
-    /// Reserves for `count` lines to be put in, whatever nodes split. Fails for want of memory.
-    pub fn reserve_for(&mut self, count: usize) -> Result<(), AllocError>
+    /// Reserves for `count` lines to be put in, that come in so many rows. Fails for want of memory.
+    pub fn reserve_for(&mut self, count: usize, rows: usize) -> Result<(), AllocError>
         ensures lines { self.new.lines ≡ self.old.lines }
         ensures height { self.new.height ≡ self.old.height }
-        ensures room { OnOk result (count ≤ line_room self.new) }
+        ensures room { OnOk result (HasRoom self.new count rows) }
     {
         let most = count.checked_mul(27).ok_or(AllocError)?;
         let nodes = self.nodes_with(most).ok_or(AllocError)?;
-        let steep = count * (levels(nodes) + 2);
-        let rooms = self.count / 5 + count / 5 + 27;
-        if steep <= rooms + count {
+        let levels = levels(nodes);
+        let ends = rows.checked_mul(row_ends(levels)).ok_or(AllocError)?;
+        let steep = count * (levels + 2);
+        let wide = self.count / 5 + count / 5 + 27;
+        let flat = ends.saturating_add(nodes_above(count, levels));
+        if flat < wide.min(steep - count) {
+            return self.reserve_rows(count, flat);
+        }
+        self.free_names();
+        if steep <= wide + count {
             return self.store.reserve(steep);
         }
+        self.store.reserve(wide)?;
+        self.store.reserve_lines(wide + count)
+    }
+
+    /// Reserves for `count` lines and so many nodes above them, and for the names of lines in a row.
+    fn reserve_rows(&mut self, count: usize, rooms: usize) -> Result<(), AllocError>
+        requires { rooms + count < 2 ^ 64 }
+        ensures lines { self.new.lines ≡ self.old.lines }
+        ensures height { self.new.height ≡ self.old.height }
+        ensures nodes { self.new.nodes ≤ self.old.nodes + rooms + count }
+        ensures rooms { OnOk result (rooms ≤ self.new.rooms) }
+        ensures spares { OnOk result (count + rooms ≤ self.new.spares) }
+        ensures names { OnOk result (min count most_in_row ≤ self.new.row_room) }
+    {
+        self.reserve_row(count)?;
         self.store.reserve(rooms)?;
         self.store.reserve_lines(rooms + count)
     }
 
     /// Gives back spares and rooms that aren't needed: at most a quarter of the lines and 64 spares stay, and a fifth
-    /// and 32 rooms.
+    /// and 32 rooms. The lists of names for rows go.
     pub fn free_spares(&mut self)
         ensures lines { self.new.lines ≡ self.old.lines }
         ensures height { self.new.height ≡ self.old.height }
@@ -139,6 +162,22 @@ impl<C: Ticks> LineTree<C> {
     {
         self.give_back_spares();
         self.give_back_rooms();
+        self.free_names();
+    }
+
+    /// Gives back the memory for the names of lines in a row.
+    fn free_names(&mut self)
+        ensures lines { self.new.lines ≡ self.old.lines }
+        ensures height { self.new.height ≡ self.old.height }
+        ensures spares { self.new.spares ≡ self.old.spares }
+        ensures rooms { self.new.rooms ≡ self.old.rooms }
+        ensures nodes { self.new.nodes ≡ self.old.nodes }
+        ensures names { self.new.row_room ≡ 0 }
+    {
+        self.row.clear();
+        self.row.shrink_to(0);
+        self.below.clear();
+        self.below.shrink_to(0);
     }
 
     /// Gives back spares where there are more than a quarter of the lines and 64, as after many lines left. Far fewer
@@ -202,6 +241,7 @@ impl<C: Ticks> LineTree<C> {
         ensures value { result ≡ self.now.height }
         ensures lines { 2 ≤ result → 2 * 6 ^ (result - 1) ≤ length self.now.lines }
         ensures low { result ≤ 25 }
+        ensures levels { result ≤ levels_at_most self.now.nodes }
         ensures names { Distinct (line_names self.now.lines) }
         ensures many { length self.now.lines + self.now.spares + 1 ≤ self.now.nodes }
         ensures few { 5 * self.now.nodes ≤ 6 * length self.now.lines + 5 * self.now.spares + 4 }
@@ -357,6 +397,7 @@ impl<C: Ticks> LineTree<C> {
         ensures spares { self.old.spares ≤ self.new.spares + self.old.height + 2 }
         ensures rooms { self.new.rooms + self.old.spares ≡ self.old.rooms + self.new.spares + 1 }
         ensures nodes { self.new.nodes ≡ self.old.nodes }
+        ensures names { self.new.row_room ≡ self.old.row_room }
         ensures room { line_room self.old ≤ line_room self.new + 1 }
     {
         self.put_behind(None, k, line, ticks)
@@ -379,6 +420,7 @@ impl<C: Ticks> LineTree<C> {
         ensures spares { self.old.spares ≤ self.new.spares + self.old.height + 2 }
         ensures rooms { self.new.rooms + self.old.spares ≡ self.old.rooms + self.new.spares + 1 }
         ensures nodes { self.new.nodes ≡ self.old.nodes }
+        ensures names { self.new.row_room ≡ self.old.row_room }
         ensures room { line_room self.old ≤ line_room self.new + 1 }
     {
         self.count += 1;
@@ -406,6 +448,7 @@ impl<C: Ticks> LineTree<C> {
         ensures spares { self.old.spares + 1 ≤ self.new.spares }
         ensures rooms { self.new.rooms + self.old.spares + 1 ≡ self.old.rooms + self.new.spares }
         ensures nodes { self.new.nodes ≡ self.old.nodes }
+        ensures names { self.new.row_room ≡ self.old.row_room }
         ensures room { line_room self.old ≤ line_room self.new }
     {
         self.count -= 1;
@@ -448,7 +491,7 @@ impl<C: Ticks> LineTree<C> {
         requires left { most < length self.old.lines }
         ensures lines { self.new.lines ≡ removed k (k + result) self.old.lines }
         ensures most { result ≤ most }
-        ensures room { line_room self.old ≤ line_room self.new }
+        ensures room { KeepsRoom self.old self.new }
     {
         if self.height < 2 {
             return 0;
@@ -482,6 +525,7 @@ impl<C: Ticks> LineTree<C> {
         requires { k < length self.old.lines }
         ensures lines { self.new.lines ≡ changed k (without_mark number.0) self.old.lines }
         ensures room { line_room self.new ≡ line_room self.old }
+        ensures keeps { KeepsRoom self.old self.new }
     {
         let name = self.select(k, ticks);
         self.take_mark_named(name, number, ticks);
@@ -493,6 +537,7 @@ impl<C: Ticks> LineTree<C> {
         ensures lines { (k : ℕ) → IsLineAt self.old.lines k name
             → self.new.lines ≡ changed k (without_mark number.0) self.old.lines }
         ensures room { line_room self.new ≡ line_room self.old }
+        ensures keeps { KeepsRoom self.old self.new }
     {
         take_up(&mut self.store, self.root, self.height, name, number, ticks);
     }
@@ -503,6 +548,7 @@ impl<C: Ticks> LineTree<C> {
         requires fits { FitsSum (plus (total self.old.lines) (line_count line)) }
         ensures lines { self.new.lines ≡ changed k (λ _. line) self.old.lines }
         ensures room { line_room self.new ≡ line_room self.old }
+        ensures keeps { KeepsRoom self.old self.new }
     {
         let name = self.select(k, ticks);
         self.replace_named(name, line, ticks);
@@ -515,6 +561,7 @@ impl<C: Ticks> LineTree<C> {
         ensures lines { (k : ℕ) → IsLineAt self.old.lines k name
             → self.new.lines ≡ changed k (λ _. line) self.old.lines }
         ensures room { line_room self.new ≡ line_room self.old }
+        ensures keeps { KeepsRoom self.old self.new }
     {
         replace_up(&mut self.store, self.root, self.height, name, line, ticks);
     }

@@ -4,7 +4,7 @@ ghost use Rattle.line_lists.specs.Lists.{AreLines, IsCounted, NumbersBelow, coun
 ghost use Rattle.line_lists.specs.RowLaws.{AreLines-prop};
 ghost use Rattle.line_tree.specs.MarkTable.{IsTable, IsTable-prop};
 ghost use Rattle.line_tree.specs.Places.{IsLineAt};
-ghost use Rattle.line_tree.specs.Room.{line_room};
+ghost use Rattle.line_tree.specs.Room.{HasRoom, KeepsRoom};
 ghost use Rattle.line_tree.specs.Trees.{contents};
 
 use crate::mark_names::{forget, grow, name_of, note, write};
@@ -43,7 +43,7 @@ impl TreeLines {
         requires lines { AreLines (spliced index 1 (line ∷ []) (contents self.old.tree.lines)) }
         requires counted { IsCounted (plus (count_of (contents self.old.tree.lines)) (count_of (line ∷ []))) }
         ensures lines { contents self.new.tree.lines ≡ spliced index 1 (line ∷ []) (contents self.old.tree.lines) }
-        ensures room { line_room self.new.tree ≡ line_room self.old.tree }
+        ensures room { KeepsRoom self.old.tree self.new.tree }
         ensures numbers { length self.new.names.items ≡ length self.old.names.items }
     {
         let name = self.tree.select(index, &mut Steps::new());
@@ -68,7 +68,7 @@ fn name_at(tree: &LineTree<Steps>, k: usize, found: Option<NodePtr>) -> NodePtr
 impl LineList for TreeLines {
     ghost lines = { λ list. contents list.tree.lines };
 
-    ghost line_room = { λ list. line_room list.tree };
+    ghost has_room = { λ list. HasRoom list.tree };
 
     ghost mark_room = { λ list. length list.names.items };
 
@@ -158,8 +158,8 @@ impl LineList for TreeLines {
         Ok(())
     }
 
-    fn reserve(&mut self, count: usize, numbers: usize) -> Result<(), AllocError> {
-        self.tree.reserve_for(count)?;
+    fn reserve(&mut self, count: usize, rows: usize, numbers: usize) -> Result<(), AllocError> {
+        self.tree.reserve_for(count, rows)?;
         grow(&mut self.names, numbers)
     }
 

@@ -6,7 +6,9 @@ use Rattle.line_tree.specs.Places.{IsLineAt}
 use Rattle.toggle_sums.specs.Counts.{plus}
 use Rattle.line_lists.specs.Lists.{count_of}
 use Rattle.line_tree.specs.Changes.{FitsSum}
+use Rattle.line_tree.specs.Room.{PutsRoom}
 use Rattle.line_tree.specs.Trees.{total}
+use Rattle.line_tree.proofs.SpendingLaws.{keeps-self, puts-kept, puts-on}
 use Rattle.line_tree.proofs.SpliceLaws.{few-lines, in-length, next-fits, next-in, none-in, went-within}
 use Rattle.line_tree.proofs.tree.LineTree.put_in.Goals as goal
 
@@ -19,7 +21,8 @@ loop-line-init g c = record {
   whole = sym c.into_iter-line-iterator.ensures.into_iter_gives.0;
   place = omega arith;
   lines = none-in c.args.self.now.lines c.args.k c.args.gone;
-  room = omega arith;
+  room = let none : 0 ≡ 0 - c.args.gone = omega arith in subst (PutsRoom c.args.self.now c.args.self.now) none
+      (puts-kept c.args.self.now c.args.self.now (keeps-self c.args.self.now));
   named = λ p is. absurd (none-some p is);
 }
 
@@ -46,11 +49,11 @@ put_line-behind-requires-clause-fits g c = let l = c.loop-line in let old = c.ar
     (subst (λ ls. FitsSum (plus (total old) (count_of ls))) whole c.requires.fits)
 
 pub put_line-behind-requires-clause-room : goal.put_line-behind-requires-clause-room
-put_line-behind-requires-clause-room g c = let l = c.loop-line in
+put_line-behind-requires-clause-room g c past = let l = c.loop-line in
     let whole = ap length (l.invariant.whole ∙ ap (λ ls. l.yielded ++ ls) c.in-Some.ensures.steps.0) in
     let long = length-append l.yielded (c.in-Some.line ∷ c.next.new.self.rest.items) in
-    let old = c.requires.room in let room = l.invariant.room in
-    omega (arith, whole, long, old, room)
+    let old = c.requires.room in let room = l.invariant.room.lines in let at = l.invariant.place in
+    omega (arith, whole, long, old, room, at, past)
 
 pub overflow_add-at : goal.overflow_add-at
 overflow_add-at g c = let l = c.loop-line in
@@ -64,14 +67,17 @@ pub loop-line-preserved : goal.loop-line-preserved
 loop-line-preserved g c = let l = c.loop-line in
     let whole = l.invariant.whole ∙ ap (λ ls. l.yielded ++ ls) c.in-Some.ensures.steps.0 in
     let more = length-append l.yielded (c.in-Some.line ∷ []) in let at = l.invariant.place in
-    let room = l.invariant.room in let falls = c.put_line-behind.ensures.room in
+    let step : length l.yielded - c.args.gone + min 1 (l.at + 1 - (c.args.k + c.args.gone))
+    ≡ length (l.yielded ++ c.in-Some.line ∷ []) - c.args.gone = omega (arith, more, at) in
     record {
       whole = whole ∙ sym (append_assoc l.yielded (c.in-Some.line ∷ []) c.next.new.self.rest.items);
       place = omega (arith, more, at);
       lines = next-in c.args.self.now.lines l.self.lines c.put_line-behind.new.self.lines c.args.k c.args.gone l.at
           l.yielded c.in-Some.line c.requires.within l.invariant.lines l.invariant.place c.put_line-behind.ensures.over
           c.put_line-behind.ensures.more;
-      room = omega (arith, more, room, falls);
+      room = subst (PutsRoom c.args.self.now c.put_line-behind.new.self) step
+          (puts-on c.args.self.now l.self c.put_line-behind.new.self (length l.yielded - c.args.gone)
+          (min 1 (l.at + 1 - (c.args.k + c.args.gone))) l.invariant.room c.put_line-behind.ensures.room);
       named = λ p is. let e : l.at ≡ l.at + 1 - 1 = omega arith in (
         omega arith,
         subst (λ n. IsLineAt c.put_line-behind.new.self.lines n p) e
@@ -94,6 +100,5 @@ pub returns-clause-room : goal.returns-clause-room
 returns-clause-room g c = let l = c.loop-line in
     let none = nil_from_length l.line-iterator.rest.items
     (omega (arith, c.in-None.ensures.steps.0, l.line-iterator.rest.ok.0)) in
-    let whole = ap length (l.invariant.whole ∙ ap (λ ls. l.yielded ++ ls) none ∙ append-nil l.yielded) in
-    let room = l.invariant.room in
-    omega (arith, whole, room)
+    let whole = l.invariant.whole ∙ ap (λ ls. l.yielded ++ ls) none ∙ append-nil l.yielded in
+    subst (λ ls. PutsRoom c.args.self.now l.self (length ls - c.args.gone)) (sym whole) l.invariant.room

@@ -69,6 +69,13 @@ returns-clause-room g c = let most = returns-clause-most g c in let within = c.r
     let s1 = c.remove_in.ensures.spares in let s2 = c.lower-left.ensures.spares in
     let n1 = c.remove_in.ensures.count in let n2 = c.lower-left.ensures.count in
     let n3 = c.give_back_all-lines.ensures.nodes in
-    room-grows c.args.self.now _ c.give_back_all-lines.result (omega arith)
+    let grows = room-grows c.args.self.now _ c.give_back_all-lines.result (omega arith)
     (length-removed c.args.self.now.lines _ c.args.k c.give_back_all-lines.result (omega arith)
-    (returns-clause-lines g c)) (omega arith) (omega arith)
+    (returns-clause-lines g c)) (omega arith) (omega arith) in
+    record {
+      nodes = omega (arith, x, n1, n2, n3);
+      spares = omega (arith, v, s1, s2, s3);
+      rooms = omega (arith, v, w, r1, r2, r3, s1, s2, s3);
+      names = ap (λ z. z.row_room) c.self.view_is;
+      lines = grows;
+    }

@@ -11,6 +11,7 @@ use Rattle.line_tree.specs.Trees.{total}
 use Rattle.line_tree.proofs.ChangingLaws.{length-changed, stands-changed}
 use Rattle.line_tree.proofs.LineRoomLaws.{room-stays}
 use Rattle.line_tree.proofs.PlaceLaws.{line-within}
+use Rattle.line_tree.proofs.SpendingLaws.{keeps-same}
 use Rattle.line_tree.proofs.tree.LineTree.replace_named.Goals as goal
 
 pub replace_up-requires-clause-named : goal.replace_up-requires-clause-named
@@ -52,3 +53,16 @@ returns-clause-room g c =
     ∙ length-changed (lines_in m h r) k (λ _. c.args.line) (line-within (lines_in m h r) k c.args.name at))
     c.replace_up.ensures.spares c.replace_up.ensures.rooms
     ∙ ap line_room c.self.view_is
+
+pub returns-clause-keeps : goal.returns-clause-keeps
+returns-clause-keeps g c =
+    let m = records c.self.inside.store in let h = c.self.inside.height in let r = c.self.inside.root in
+    let k = c.requires.named.0 in
+    let at = subst (λ ls. IsLineAt ls k c.args.name) (sym (ap (λ v. v.lines) c.self.view_is)) c.requires.named.1 in
+    let done = c.replace_up.ensures.changes.1 k at in
+    keeps-same c.args.self.now _ ((λ i. c.replace_up.ensures.spares i + done.count i) ∙ ap (λ v. v.nodes) c.self.view_is)
+    (ap length done.lines
+    ∙ length-changed (lines_in m h r) k (λ _. c.args.line) (line-within (lines_in m h r) k c.args.name at)
+    ∙ ap (λ v. length v.lines) c.self.view_is)
+    (c.replace_up.ensures.spares ∙ ap (λ v. v.spares) c.self.view_is)
+    (c.replace_up.ensures.rooms ∙ ap (λ v. v.rooms) c.self.view_is) (ap (λ v. v.row_room) c.self.view_is)

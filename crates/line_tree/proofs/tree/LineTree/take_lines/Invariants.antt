@@ -1,8 +1,8 @@
-use Rattle.std.proofs.Common.{◌≡◌, ◌≤◌, ◌+◌, ◌++◌, take, drop}
-use Rattle.line_tree.specs.Room.{line_room}
+use Rattle.std.proofs.Common.{◌≡◌, ◌+◌, ◌++◌, take, drop}
+use Rattle.line_tree.specs.Room.{KeepsRoom}
 use Rattle.line_tree.proofs.tree.LineTree.take_lines.Given as goal
 
 abbrev pub invariant-loop : goal.invariant-loop
 invariant-loop g l =
     (l.self.lines ≡ take l.k l.initial.self.lines ++ drop (l.k + l.counter) l.initial.self.lines)
-    × (line_room l.initial.self ≤ line_room l.self)
+    × KeepsRoom l.initial.self l.self

@@ -1,5 +1,6 @@
 use Rattle.std.proofs.Common.{◌∙◌, arith}
 use Rattle.line_tree.proofs.LeavingLaws.{leaves-long, rest-out}
+use Rattle.line_tree.proofs.SpendingLaws.{keeps-on}
 use Rattle.line_tree.proofs.tree.LineTree.take_out.Goals as goal
 
 pub take_lines-requires-clause-within : goal.take_lines-requires-clause-within
@@ -20,5 +21,5 @@ returns-clause-lines g c = c.take_lines.ensures.lines
     c.take_branches-left.ensures
 
 pub returns-clause-room : goal.returns-clause-room
-returns-clause-room g c = let kept = c.take_branches-left.ensures.room in let room = c.take_lines.ensures.room in
-    omega arith
+returns-clause-room g c =
+    keeps-on c.args.self.now _ _ c.take_branches-left.ensures.room c.take_lines.ensures.room
