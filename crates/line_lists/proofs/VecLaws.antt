@@ -25,21 +25,14 @@ pub counted-front : (n : ℕ) (xs : List LineContent) → IsCounted (count_of xs
 counted-front n xs all =
     counted-part (take n xs) (drop n xs) (subst (λ ys. IsCounted (count_of ys)) (sym (take-append-drop n xs)) all)
 
--- lines are put in, and those behind them taken out
-pub spliced-made : (from count n : ℕ) (new xs : List LineContent) → from ≤ length xs → n ≡ length new
-    → removed (from + n) ((from + n) + count) (inserted from new xs) ≡ spliced from count new xs
-spliced-made from count n new xs within is =
-    let front = take from xs ++ new in
-    let back = drop from xs in
-    let long : length front ≡ from + n = omega (
-      arith,
-      is,
-      length-append (take from xs) new,
-      length-take-le from xs within,
-    ) in
-    ap₂ (λ ys zs. ys ++ zs) (take_at front back (from + n) long)
-    (sym (drop-drop count (from + n) (front ++ back)) ∙ ap (drop count) (drop_at front back (from + n) long)
-    ∙ drop-drop count from xs)
+-- lines are taken out, and others put in where they stood
+pub spliced-made : (from count : ℕ) (new xs : List LineContent) → from ≤ length xs
+    → inserted from new (removed from (from + count) xs) ≡ spliced from count new xs
+spliced-made from count new xs within =
+    let front = take from xs in
+    let back = drop (from + count) xs in
+    let long = length-take-le from xs within in
+    ap₂ (λ ys zs. ys ++ new ++ zs) (take_at front back from long) (drop_at front back from long)
 
 -- one line that has its newline alone
 no_mark : (number : ℕ) (place : Place) → finite.get (plain_line (10 ∷ [])).marks number ≡ Some place → ⊥
