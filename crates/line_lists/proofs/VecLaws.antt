@@ -1,13 +1,13 @@
 -- What the list over a `Vec` makes of its lines is what a text may be.
 use Rattle.std.proofs.Common.{◌≡◌, ℕ, ◌+◌, ◌-◌, ◌<◌, ◌≤◌, Bool, true, false, cond, List, [], ◌∷◌, ◌++◌, Option, None}
 use Rattle.std.proofs.Common.{Some, get_or, length, map, take, drop, refl, set, sym, ap, ap₂, subst, ◌∙◌, arith}
-use Rattle.std.proofs.Common.{length-append, take-append-drop}
+use Rattle.std.proofs.Common.{take-append-drop}
 use Rattle.std.specs.Cmp.{nat_cmp_total}
 use Rattle.std.specs.FinMap as finite
 use Rattle.std.specs.Ordering.{eq_by_cmp, nat_cmp}
 use Rattle.std.specs.Prelude.{option_map}
 use Rattle.std.specs.Str.{chars}
-use Rattle.std.proofs.lemmas.List.{drop-drop, drop_at, length-map, length-take-le, take_at}
+use Rattle.std.proofs.lemmas.List.{drop_at, length-map, length-take-le, take_at}
 use Rattle.std.proofs.lemmas.List.Edits.{map_over_more}
 use Rattle.text_model.specs.declared.places.Place.{Place}
 use Rattle.text_model.specs.Content.{Marks}

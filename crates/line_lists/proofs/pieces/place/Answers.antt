@@ -17,9 +17,12 @@ splice-requires-clause-within g c =
 
 pub splice-requires-clause-room : goal.splice-requires-clause-room
 splice-requires-clause-room g c =
-    let pieces = c.pop.new.self.items in
-    (lines_more pieces, rows_more pieces, room_first (g.L.LineList.has_room c.loop-piece.list) pieces c.in-Some.piece
-    c.loop-piece.pieces.items c.in-Some.ensures.items c.loop-piece.invariant.2)
+    let pieces = c.pop.new.self.items in (
+      lines_more pieces,
+      rows_more pieces,
+      room_first (g.L.LineList.has_room c.loop-piece.list) pieces c.in-Some.piece
+          c.loop-piece.pieces.items c.in-Some.ensures.items c.loop-piece.invariant.2,
+    )
 
 pub splice-requires-clause-numbers : goal.splice-requires-clause-numbers
 splice-requires-clause-numbers g c =

@@ -1,4 +1,4 @@
-use Rattle.std.proofs.Common.{◌<◌, subst, subst₂, sym, arith}
+use Rattle.std.proofs.Common.{◌<◌, subst, subst₂, sym}
 use Rattle.line_lists.specs.Pieces.{CanPlace, freed, named, numbers_in, piece_lines}
 use Rattle.line_lists.proofs.StoreLaws.{all-names, below-lines}
 use Rattle.line_lists.proofs.store.LineStoreTextStore.prepare.Goals as goal
