@@ -7,7 +7,7 @@ ghost use Rattle.line_lists.specs.Lists.{IsCounted, NumbersBelow, count_of};
 ghost use Rattle.line_lists.specs.Pieces.{CanPlace, copied_lines, freed, lines_more, named, numbers_in, numbers_of};
 ghost use Rattle.line_lists.specs.Pieces.{piece_lines, placed, rows_more};
 
-use crate::drafts::{Copied, Draft};
+use crate::drafts::{Copied, Draft, Stop};
 use crate::lists::LineList;
 use segments::Line;
 use std::alloc::{AllocError, Global};
@@ -91,6 +91,33 @@ fn trimmed(mut line: Line) -> Line
     line
 }
 
+/// How many copies stand in each row of some, with no kept line between two of them.
+#[derive(Drop)]
+struct Rows {
+    /// Those of each row but the last.
+    before: Vec<usize>,
+    last: usize,
+}
+
+impl Rows {
+    fn of(alloc: Global, stops: &[Stop]) -> Result<Rows, AllocError> {
+        let mut before = Vec::new(alloc);
+        let mut last = 0;
+        for stop in stops {
+            if stop.copy.kept != 0 && last != 0 {
+                before.push(last)?;
+                last = 0;
+            }
+            last += 1;
+        }
+        Ok(Rows { before, last })
+    }
+
+    fn length(&self, index: usize) -> usize {
+        self.before.get(index).copied().unwrap_or(self.last)
+    }
+}
+
 /// A piece with the line of a copy behind its last.
 fn with_line(mut piece: Piece, copy: Copied) -> Result<Piece, AllocError>
     requires { piece.count + copy.gone < 2 ^ 64 }
@@ -103,13 +130,13 @@ fn with_line(mut piece: Piece, copy: Copied) -> Result<Piece, AllocError>
     Ok(piece)
 }
 
-/// A copy as a piece from a line on.
-fn piece_of(alloc: Global, from: usize, copy: Copied) -> Result<Piece, AllocError>
+/// A copy as a piece from a line on, with room for so many lines.
+fn piece_of(alloc: Global, from: usize, copy: Copied, room: usize) -> Result<Piece, AllocError>
     ensures from { IfOk result (λ piece. piece.from ≡ from) }
     ensures count { IfOk result (λ piece. piece.count ≡ copy.gone) }
     ensures lines { IfOk result (λ piece. piece.lines.items ≡ copy.line ∷ []) }
 {
-    let mut lines = Vec::with_capacity(alloc, 1)?;
+    let mut lines = Vec::with_capacity(alloc, room)?;
     lines.push(trimmed(copy.line))?;
     Ok(Piece {
         from,
@@ -203,6 +230,7 @@ impl<'a, L: LineList> Draft<'a, L> {
             × (placed pieces.items (L.lines self.entry.list.now)
             ≡ drafted_at (L.lines self.entry.list.now) self.entry.front.items [])) }
     {
+        let rows = Rows::of(alloc, &self.front)?;
         let mut pieces = Vec::new(alloc);
         for stop in self.front {
             let from = stop.reached.used + stop.copy.kept;
@@ -213,7 +241,7 @@ impl<'a, L: LineList> Draft<'a, L> {
             };
             let piece = match last {
                 Some(last) => with_line(last, stop.copy)?,
-                None => piece_of(alloc, from, stop.copy)?,
+                None => piece_of(alloc, from, stop.copy, rows.length(pieces.len()))?,
             };
             pieces.push(piece)?;
         }
