@@ -8,6 +8,7 @@ pub mod FindLaws
 pub mod FoundMarks
 pub mod FreedLaws
 pub mod GatherLaws
+pub mod GrowthLaws
 pub mod HeldLaws
 pub mod InsertionLaws
 pub mod JoinLaws

@@ -115,7 +115,8 @@ inserted-long at text old new len longer within is sum new_is =
       length-text at text old.columns (omega (arith, within, is)),
     )
 
-sum-there : {E : Type 0} (found : Option ℕ) (refused : E) (bound sum longer : ℕ) → SomeIff found (sum < bound) sum →
+-- a sum that could be counted
+pub sum-there : {E : Type 0} (found : Option ℕ) (refused : E) (bound sum longer : ℕ) → SomeIff found (sum < bound) sum →
     Ok longer ≡ ok_or found refused → (sum < bound) × (longer ≡ sum)
 sum-there {E = E} None refused bound sum longer some is = let no : ◌≡◌ {A = Result ℕ E} (Ok longer) (Err refused) = is
     in absurd (cc)

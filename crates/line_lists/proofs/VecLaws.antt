@@ -1,13 +1,13 @@
 -- What the list over a `Vec` makes of its lines is what a text may be.
 use Rattle.std.proofs.Common.{◌≡◌, ℕ, ◌+◌, ◌-◌, ◌<◌, ◌≤◌, Bool, true, false, cond, List, [], ◌∷◌, ◌++◌, Option, None}
 use Rattle.std.proofs.Common.{Some, get_or, length, map, take, drop, refl, set, sym, ap, ap₂, subst, ◌∙◌, arith}
-use Rattle.std.proofs.Common.{length-append, take-append-drop}
+use Rattle.std.proofs.Common.{take-append-drop}
 use Rattle.std.specs.Cmp.{nat_cmp_total}
 use Rattle.std.specs.FinMap as finite
 use Rattle.std.specs.Ordering.{eq_by_cmp, nat_cmp}
 use Rattle.std.specs.Prelude.{option_map}
 use Rattle.std.specs.Str.{chars}
-use Rattle.std.proofs.lemmas.List.{drop-drop, drop_at, length-map, length-take-le, take_at}
+use Rattle.std.proofs.lemmas.List.{drop_at, length-map, length-take-le, take_at}
 use Rattle.std.proofs.lemmas.List.Edits.{map_over_more}
 use Rattle.text_model.specs.declared.places.Place.{Place}
 use Rattle.text_model.specs.Content.{Marks}
@@ -25,21 +25,14 @@ pub counted-front : (n : ℕ) (xs : List LineContent) → IsCounted (count_of xs
 counted-front n xs all =
     counted-part (take n xs) (drop n xs) (subst (λ ys. IsCounted (count_of ys)) (sym (take-append-drop n xs)) all)
 
--- lines are put in, and those behind them taken out
-pub spliced-made : (from count n : ℕ) (new xs : List LineContent) → from ≤ length xs → n ≡ length new
-    → removed (from + n) ((from + n) + count) (inserted from new xs) ≡ spliced from count new xs
-spliced-made from count n new xs within is =
-    let front = take from xs ++ new in
-    let back = drop from xs in
-    let long : length front ≡ from + n = omega (
-      arith,
-      is,
-      length-append (take from xs) new,
-      length-take-le from xs within,
-    ) in
-    ap₂ (λ ys zs. ys ++ zs) (take_at front back (from + n) long)
-    (sym (drop-drop count (from + n) (front ++ back)) ∙ ap (drop count) (drop_at front back (from + n) long)
-    ∙ drop-drop count from xs)
+-- lines are taken out, and others put in where they stood
+pub spliced-made : (from count : ℕ) (new xs : List LineContent) → from ≤ length xs
+    → inserted from new (removed from (from + count) xs) ≡ spliced from count new xs
+spliced-made from count new xs within =
+    let front = take from xs in
+    let back = drop (from + count) xs in
+    let long = length-take-le from xs within in
+    ap₂ (λ ys zs. ys ++ new ++ zs) (take_at front back from long) (drop_at front back from long)
 
 -- one line that has its newline alone
 no_mark : (number : ℕ) (place : Place) → finite.get (plain_line (10 ∷ [])).marks number ≡ Some place → ⊥

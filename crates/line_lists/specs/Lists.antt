@@ -1,6 +1,6 @@
 -- The lists of lines that texts are kept as.
 use Rattle.std.specs.Prelude.{◌≡◌, ℕ, ◌+◌, ◌-◌, ◌<◌, ◌≤◌, ◌^◌, Bool, true, not, nat_lt, List, [], ◌∷◌, ◌++◌, ⊤, Option}
-use Rattle.std.specs.Prelude.{None, Some, IfSome, length, take, drop, slice_get, is_some, option_map, if◌then◌else◌}
+use Rattle.std.specs.Prelude.{None, Some, IfSome, length, min, take, drop, slice_get, is_some, option_map, if◌then◌else◌}
 use Rattle.std.specs.FinMap as finite
 use Rattle.std.specs.FinSet as set
 use Rattle.std.specs.List.{position, suffix_len}
@@ -92,6 +92,13 @@ pub record IsMarked (number : ℕ) (lines : List LineContent) (start : ℕ) (lin
 -- some lines from one on go, and others come in their place
 abbrev pub spliced : ℕ → ℕ → List LineContent → List LineContent → List LineContent
 spliced from count new lines = take from lines ++ new ++ drop (from + count) lines
+
+-- how many lines come beyond so many in whose place they come, and in how many rows these stand
+abbrev pub more_lines : ℕ → List LineContent → ℕ
+more_lines count new = length new - count
+
+abbrev pub row_of : ℕ → List LineContent → ℕ
+row_of count new = min 1 (length new - count)
 
 -- the number of each mark is below a bound
 abbrev pub NumbersBelow : ℕ → Marks → Type 0

@@ -9,7 +9,8 @@ use Rattle.segments.specs.Columns.{LineContent}
 use Rattle.line_lists.specs.declared.drafts.Copied.{Copied}
 use Rattle.line_lists.specs.declared.pieces.Piece.{Piece}
 use Rattle.line_lists.specs.Edits.{without_mark}
-use Rattle.line_lists.specs.Lists.{AreApart, AreLines, AreRows, IsCounted, NumbersBelow, count_of, spliced}
+use Rattle.line_lists.specs.Lists.{AreApart, AreLines, AreRows, IsCounted, NumbersBelow, count_of, more_lines, row_of}
+use Rattle.line_lists.specs.Lists.{spliced}
 use Rattle.line_lists.specs.Texts.{whole}
 
 -- the lines with each piece in its place, from the last to the first
@@ -33,6 +34,15 @@ CanPlace (piece ∷ pieces) lines = CanPlace pieces lines × FitsIn piece (place
 abbrev pub piece_lines : List Piece → List LineContent
 piece_lines [] = []
 piece_lines (piece ∷ pieces) = piece.lines.items ++ piece_lines pieces
+
+-- how many lines pieces bring beyond those in whose place they come, and in how many rows these stand
+abbrev pub lines_more : List Piece → ℕ
+lines_more [] = 0
+lines_more (piece ∷ pieces) = more_lines piece.count piece.lines.items + lines_more pieces
+
+abbrev pub rows_more : List Piece → ℕ
+rows_more [] = 0
+rows_more (piece ∷ pieces) = row_of piece.count piece.lines.items + rows_more pieces
 
 -- the numbers of the marks of a line, and of lines
 abbrev pub numbers_of : LineContent → List ℕ
@@ -65,8 +75,9 @@ pub record Covers (pieces : List Piece) (used : ℕ) (made base : List LineConte
   pub places : (rest : List LineContent) → placed pieces (take used base ++ rest) ≡ made ++ rest
   pub can : (rest : List LineContent) → Follows used made base sum rest → CanPlace pieces (take used base ++ rest)
 
--- a list with so much room takes pieces, once the marks of some numbers are taken off
-pub record IsReady (lines : List LineContent) (room bound : ℕ) (gone : List ℕ) (pieces : List Piece) : Type 0 where
+-- a list with such room takes pieces, once the marks of some numbers are taken off
+pub record IsReady (lines : List LineContent) (has_room : ℕ → ℕ → Type 0) (bound : ℕ) (gone : List ℕ)
+    (pieces : List Piece) : Type 0 where
   pub can : CanPlace pieces (freed gone lines)
-  pub few : length (piece_lines pieces) ≤ room
+  pub room : has_room (lines_more pieces) (rows_more pieces)
   pub below : All (λ (line : LineContent). NumbersBelow bound line.marks) (piece_lines pieces)

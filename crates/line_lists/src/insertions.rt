@@ -10,6 +10,19 @@ use crate::lists::LineList;
 use segments::Line;
 use std::alloc::AllocError;
 
+/// So many lines of a long text tell about how many there will be.
+const SAMPLE: usize = 512;
+
+/// A line is taken to have so many bytes at least, so that a text whose first lines are empty doesn't ask for many
+/// times what it needs.
+const SHORT: usize = 8;
+
+/// About how many lines so many bytes have that follow so many of the first lines, and a few more.
+fn lines_ahead(passed: usize, ahead: usize) -> usize {
+    let count = ahead / (passed / SAMPLE).max(SHORT);
+    count.saturating_add(count / 16)
+}
+
 /// The first line of a text with its newline, and the text behind it; nothing where there is no newline.
 fn cut_line(text: &str) -> Option<(&str, &str)>
     ensures line { IfSome result (λ parts. IsLine (plain_line (chars parts.0.now))) }
@@ -88,6 +101,18 @@ impl<'a, L: LineList> Draft<'a, L> {
         Ok(())
     }
 
+    /// Makes room for the lines of a long text behind the first of them, once these are there.
+    fn reserve_ahead(&mut self, count: usize, passed: usize, ahead: usize) -> Result<(), AllocError>
+        ensures list { self.new.list.now ≡ self.old.list.now }
+        ensures front { self.new.front.items ≡ self.old.front.items }
+        ensures back { self.new.back.items ≡ self.old.back.items }
+    {
+        if count == SAMPLE {
+            self.front.reserve_exact(lines_ahead(passed, ahead))?;
+        }
+        Ok(())
+    }
+
     /// Puts the lines of a text that end in a newline in at the place, and gives what is behind them.
     fn put_lines<'t>(&mut self, text: &'t str) -> Result<&'t str, AllocError>
         requires is { IsOpen (L.lines self.old.list.now) self.old.front.items self.old.back.items }
@@ -101,9 +126,12 @@ impl<'a, L: LineList> Draft<'a, L> {
         ensures free { IfOk result (λ rest. lines (chars rest.now) ≡ 0) }
     {
         let mut rest = text;
+        let mut count = 0;
         while let Some((line, behind)) = cut_line(rest) {
+            self.reserve_ahead(count, text.len() - rest.len(), rest.len())?;
             self.put_line(line)?;
             rest = behind;
+            count += 1;
         }
         Ok(rest)
     }

@@ -155,7 +155,7 @@ fn trim_lines(lines: &mut Vec<Line>)
 impl LineList for LineVec {
     ghost lines = { λ list. list.lines.items };
 
-    ghost line_room = { λ list. vec_capacity list.lines - vec_len list.lines };
+    ghost has_room = { λ list count rows. vec_len list.lines + count ≤ vec_capacity list.lines };
 
     ghost mark_room = { λ list. 2 ^ 64 };
 
@@ -224,7 +224,7 @@ impl LineList for LineVec {
         first_with_mark(&self.lines, number)
     }
 
-    fn reserve(&mut self, count: usize, numbers: usize) -> Result<(), AllocError> {
+    fn reserve(&mut self, count: usize, rows: usize, numbers: usize) -> Result<(), AllocError> {
         self.lines.reserve(count)?;
         Ok(())
     }
@@ -238,8 +238,8 @@ impl LineList for LineVec {
     }
 
     fn splice(&mut self, from: usize, count: usize, new: Vec<Line>) {
-        let start = from + new.len();
+        // The lines that go leave their room to those that come.
+        drop_lines(&mut self.lines, from, from + count);
         put_lines(&mut self.lines, from, new);
-        drop_lines(&mut self.lines, start, start + count);
     }
 }

@@ -6,7 +6,7 @@ ghost use Rattle.toggle_sums.specs.Counts.{plus};
 ghost use Rattle.segments.specs.Columns.{LineContent, characters, plain_line};
 ghost use Rattle.line_lists.specs.Edits.{without_mark};
 ghost use Rattle.line_lists.specs.Lists.{AreLines, Holds, IsCounted, IsMarked, NumbersBelow, count_of, has_mark};
-ghost use Rattle.line_lists.specs.Lists.{has_marks, has_toggle, next_line, previous_line, spliced};
+ghost use Rattle.line_lists.specs.Lists.{has_marks, has_toggle, more_lines, next_line, previous_line, row_of, spliced};
 ghost use Rattle.line_lists.specs.Texts.{whole};
 
 use segments::Line;
@@ -23,9 +23,11 @@ pub trait LineList: Drop {
     /// The lines, however they are kept.
     ghost lines: { Self → List LineContent };
 
-    /// How many lines can be put in, and the bound of the numbers of their marks, before more is reserved.
-    ghost line_room: { Self → ℕ };
+    /// Whether so many lines that come in so many rows, beyond those in whose place they come, can be put in before more
+    /// is reserved.
+    ghost has_room: { Self → ℕ → ℕ → Type 0 };
 
+    /// A bound of the numbers of marks that can be put in before more is reserved.
     ghost mark_room: { Self → ℕ };
 
     ghost are_lines: { (list : Self) → AreLines (lines list) };
@@ -135,10 +137,10 @@ pub trait LineList: Drop {
         Ok(())
     }
 
-    /// Reserves room for so many lines, and for marks with numbers below a bound.
-    fn reserve(&mut self, count: usize, numbers: usize) -> Result<(), AllocError>
+    /// Reserves room for so many lines that come in so many rows, and for marks with numbers below a bound.
+    fn reserve(&mut self, count: usize, rows: usize, numbers: usize) -> Result<(), AllocError>
         ensures same { lines self.new ≡ lines self.old }
-        ensures room { OnOk result (count ≤ line_room self.new) }
+        ensures room { OnOk result (has_room self.new count rows) }
         ensures numbers { OnOk result (numbers ≤ mark_room self.new) };
 
     /// Gives back room that was reserved for lines, or that lines left, beyond a part of what there is.
@@ -149,17 +151,19 @@ pub trait LineList: Drop {
     /// Takes the mark of a number away.
     fn take_mark(&mut self, number: MarkNo)
         ensures lines { lines self.new ≡ map (without_mark number.0) (lines self.old) }
-        ensures room { line_room self.old ≤ line_room self.new }
+        ensures room { (count rows : ℕ) → has_room self.old count rows → has_room self.new count rows }
         ensures numbers { mark_room self.old ≤ mark_room self.new };
 
-    /// Puts lines in the place of so many from one on.
+    /// Puts lines in the place of so many from one on: only those beyond these take room, in one row.
     fn splice(&mut self, from: usize, count: usize, new: Vec<Line>)
         requires within { from + count ≤ length (lines self.old) }
-        requires room { length new.items ≤ line_room self.old }
+        requires room { (c : ℕ) × (r : ℕ)
+            × has_room self.old (more_lines count new.items + c) (row_of count new.items + r) }
         requires numbers { All (λ (line : LineContent). NumbersBelow (mark_room self.old) line.marks) new.items }
         requires lines { AreLines (spliced from count new.items (lines self.old)) }
         requires counted { IsCounted (plus (count_of (lines self.old)) (count_of new.items)) }
         ensures lines { lines self.new ≡ spliced from count new.items (lines self.old) }
-        ensures room { line_room self.old ≤ line_room self.new + length new.items }
+        ensures room { (c r : ℕ) → has_room self.old (more_lines count new.items + c) (row_of count new.items + r)
+            → has_room self.new c r }
         ensures numbers { mark_room self.old ≤ mark_room self.new };
 }

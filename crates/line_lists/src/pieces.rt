@@ -1,13 +1,13 @@
-ghost use Rattle.std.specs.Prelude.{◌≡◌, ◌+◌, ◌<◌, ◌≤◌, ◌^◌, ◌++◌, ◌∷◌, [], IfOk, OnOk, length};
+ghost use Rattle.std.specs.Prelude.{◌≡◌, ℕ, ◌+◌, ◌<◌, ◌≤◌, ◌^◌, ◌++◌, ◌∷◌, [], IfOk, OnOk, length};
 ghost use Rattle.std.specs.List.{All};
 ghost use Rattle.toggle_sums.specs.Counts.{counting, plus};
 ghost use Rattle.segments.specs.Columns.{LineContent, line_count};
 ghost use Rattle.line_lists.specs.Drafts.{IsDraft, IsText, copies_of, drafted_at};
 ghost use Rattle.line_lists.specs.Lists.{IsCounted, NumbersBelow, count_of};
-ghost use Rattle.line_lists.specs.Pieces.{CanPlace, copied_lines, freed, named, numbers_in, numbers_of, piece_lines};
-ghost use Rattle.line_lists.specs.Pieces.{placed};
+ghost use Rattle.line_lists.specs.Pieces.{CanPlace, copied_lines, freed, lines_more, named, numbers_in, numbers_of};
+ghost use Rattle.line_lists.specs.Pieces.{piece_lines, placed, rows_more};
 
-use crate::drafts::{Copied, Draft};
+use crate::drafts::{Copied, Draft, Stop};
 use crate::lists::LineList;
 use segments::Line;
 use std::alloc::{AllocError, Global};
@@ -20,6 +20,28 @@ pub struct Piece {
     pub from: usize,
     pub count: usize,
     pub lines: Vec<Line>,
+}
+
+/// How many lines pieces bring beyond those in whose place they come, and in how many rows these stand.
+#[derive(Clone, Copy)]
+pub struct Growth {
+    pub lines: usize,
+    pub rows: usize,
+}
+
+/// What pieces bring. More than a number can count has no room in memory.
+pub fn growth_of(pieces: &[Piece]) -> Result<Growth, AllocError>
+    ensures lines { IfOk result (λ growth. growth.lines ≡ lines_more pieces.now) }
+    ensures rows { IfOk result (λ growth. growth.rows ≡ rows_more pieces.now) }
+{
+    let mut growth = Growth { lines: 0, rows: 0 };
+    for piece in pieces {
+        let more = piece.lines.len().saturating_sub(piece.count);
+        growth.lines = growth.lines.checked_add(more).ok_or(AllocError)?;
+        // Of rows there are no more than lines.
+        growth.rows += more.min(1);
+    }
+    Ok(growth)
 }
 
 /// Adds the numbers of the marks of a line.
@@ -69,6 +91,33 @@ fn trimmed(mut line: Line) -> Line
     line
 }
 
+/// How many copies stand in each row of some, with no kept line between two of them.
+#[derive(Drop)]
+struct Rows {
+    /// Those of each row but the last.
+    before: Vec<usize>,
+    last: usize,
+}
+
+impl Rows {
+    fn of(alloc: Global, stops: &[Stop]) -> Result<Rows, AllocError> {
+        let mut before = Vec::new(alloc);
+        let mut last = 0;
+        for stop in stops {
+            if stop.copy.kept != 0 && last != 0 {
+                before.push(last)?;
+                last = 0;
+            }
+            last += 1;
+        }
+        Ok(Rows { before, last })
+    }
+
+    fn length(&self, index: usize) -> usize {
+        self.before.get(index).copied().unwrap_or(self.last)
+    }
+}
+
 /// A piece with the line of a copy behind its last.
 fn with_line(mut piece: Piece, copy: Copied) -> Result<Piece, AllocError>
     requires { piece.count + copy.gone < 2 ^ 64 }
@@ -81,13 +130,13 @@ fn with_line(mut piece: Piece, copy: Copied) -> Result<Piece, AllocError>
     Ok(piece)
 }
 
-/// A copy as a piece from a line on.
-fn piece_of(alloc: Global, from: usize, copy: Copied) -> Result<Piece, AllocError>
+/// A copy as a piece from a line on, with room for so many lines.
+fn piece_of(alloc: Global, from: usize, copy: Copied, room: usize) -> Result<Piece, AllocError>
     ensures from { IfOk result (λ piece. piece.from ≡ from) }
     ensures count { IfOk result (λ piece. piece.count ≡ copy.gone) }
     ensures lines { IfOk result (λ piece. piece.lines.items ≡ copy.line ∷ []) }
 {
-    let mut lines = Vec::with_capacity(alloc, 1)?;
+    let mut lines = Vec::with_capacity(alloc, room)?;
     lines.push(trimmed(copy.line))?;
     Ok(Piece {
         from,
@@ -99,7 +148,7 @@ fn piece_of(alloc: Global, from: usize, copy: Copied) -> Result<Piece, AllocErro
 /// Takes the marks of some numbers off the lines of a list.
 pub fn take_marks<L: LineList>(list: &mut L, numbers: &[MarkNo])
     ensures lines { L.lines list.new ≡ freed (named numbers.now) (L.lines list.old) }
-    ensures room { L.line_room list.old ≤ L.line_room list.new }
+    ensures room { (count rows : ℕ) → L.has_room list.old count rows → L.has_room list.new count rows }
     ensures numbers { L.mark_room list.old ≤ L.mark_room list.new }
 {
     // Of a line's marks the last goes first: so none stands behind it, and none moves.
@@ -111,7 +160,7 @@ pub fn take_marks<L: LineList>(list: &mut L, numbers: &[MarkNo])
 /// Puts pieces in their places, from the last to the first.
 pub fn place<L: LineList>(list: &mut L, pieces: Vec<Piece>)
     requires can { CanPlace pieces.items (L.lines list.old) }
-    requires room { length (piece_lines pieces.items) ≤ L.line_room list.old }
+    requires room { L.has_room list.old (lines_more pieces.items) (rows_more pieces.items) }
     requires numbers { All (λ (line : LineContent). NumbersBelow (L.mark_room list.old) line.marks)
         (piece_lines pieces.items) }
     ensures { L.lines list.new ≡ placed pieces.items (L.lines list.old) }
@@ -181,6 +230,7 @@ impl<'a, L: LineList> Draft<'a, L> {
             × (placed pieces.items (L.lines self.entry.list.now)
             ≡ drafted_at (L.lines self.entry.list.now) self.entry.front.items [])) }
     {
+        let rows = Rows::of(alloc, &self.front)?;
         let mut pieces = Vec::new(alloc);
         for stop in self.front {
             let from = stop.reached.used + stop.copy.kept;
@@ -191,7 +241,7 @@ impl<'a, L: LineList> Draft<'a, L> {
             };
             let piece = match last {
                 Some(last) => with_line(last, stop.copy)?,
-                None => piece_of(alloc, from, stop.copy)?,
+                None => piece_of(alloc, from, stop.copy, rows.length(pieces.len()))?,
             };
             pieces.push(piece)?;
         }

@@ -1,12 +1,13 @@
 ghost use Rattle.std.specs.Prelude.{◌≡◌, ◌≢◌, ◌<◌, [], IfOk, length};
 ghost use Rattle.std.specs.List.{All};
 ghost use Rattle.text_model.specs.Steps.{Fits, after};
-ghost use Rattle.line_lists.specs.Pieces.{CanPlace, IsReady, freed, named, numbers_in, piece_lines, placed};
+ghost use Rattle.line_lists.specs.Pieces.{CanPlace, IsReady, freed, lines_more, named, numbers_in, piece_lines, placed};
+ghost use Rattle.line_lists.specs.Pieces.{rows_more};
 ghost use Rattle.line_lists.specs.Texts.{content_of};
 
 use crate::drafts::Draft;
 use crate::lists::LineList;
-use crate::pieces::{Piece, bound_of, place, take_marks};
+use crate::pieces::{Growth, Piece, bound_of, growth_of, place, take_marks};
 use crate::queries;
 use std::alloc::{AllocError, Global};
 use text_model::{CharacterTest, Edit, LineSpan, MarkNo, Place, TagSet, TagSlot, TextStore};
@@ -24,8 +25,8 @@ pub struct Change {
     /// The marks that are taken off the list before the pieces come in.
     taken: Vec<MarkNo>,
     pieces: Vec<Piece>,
-    /// How many lines the pieces bring.
-    count: usize,
+    /// What the pieces bring.
+    growth: Growth,
     /// A number above those of all marks in these lines.
     bound: usize,
 }
@@ -53,7 +54,8 @@ fn change_of<L: LineList>(alloc: Global, list: &L, edit: &Edit) -> Result<Change
         ≡ after edit.now.steps (content_of (L.lines list.now))) }
     ensures below { IfOk result (λ change.
         All (λ number. number < change.bound) (numbers_in (piece_lines change.pieces.items))) }
-    ensures count { IfOk result (λ change. change.count ≡ length (piece_lines change.pieces.items)) }
+    ensures lines { IfOk result (λ change. change.growth.lines ≡ lines_more change.pieces.items) }
+    ensures rows { IfOk result (λ change. change.growth.rows ≡ rows_more change.pieces.items) }
 {
     let mut draft = Draft::new(alloc, list);
     draft.make_steps(edit.steps.as_slice(), queries::len(list))?;
@@ -61,12 +63,12 @@ fn change_of<L: LineList>(alloc: Global, list: &L, edit: &Edit) -> Result<Change
     draft.count()?;
     let numbers = draft.numbers(alloc)?;
     let bound = bound_of(&numbers);
-    let count = draft.front.len();
     let pieces = draft.into_pieces(alloc)?;
+    let growth = growth_of(&pieces)?;
     Ok(Change {
         taken: taken_before(alloc, numbers, &pieces),
         pieces,
-        count,
+        growth,
         bound,
     })
 }
@@ -86,7 +88,7 @@ impl<L: LineList> TextStore for LineStore<L> {
     ghost content = { λ store. content_of (L.lines store.list) };
 
     ghost ready = { λ store change.
-        IsReady (L.lines store.list) (L.line_room store.list) (L.mark_room store.list)
+        IsReady (L.lines store.list) (L.has_room store.list) (L.mark_room store.list)
         (named change.taken.items) change.pieces.items };
 
     ghost outcome = { λ store change.
@@ -177,7 +179,8 @@ impl<L: LineList> TextStore for LineStore<L> {
 
     fn prepare(&mut self, edit: &Edit) -> Result<Change, AllocError> {
         let change = change_of(self.alloc, &self.list, edit)?;
-        match self.list.reserve(change.count, change.bound) {
+        let Growth { lines, rows } = change.growth;
+        match self.list.reserve(lines, rows, change.bound) {
             Ok(()) => Ok(change),
             Err(refused) => {
                 self.list.free_room();

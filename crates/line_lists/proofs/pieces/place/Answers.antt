@@ -1,10 +1,11 @@
-use Rattle.std.proofs.Common.{length, subst, sym, ap, ◌∙◌, arith, length-append}
+use Rattle.std.proofs.Common.{subst, sym, ap, ◌∙◌, arith}
 use Rattle.std.specs.List.{All}
 use Rattle.std.proofs.lemmas.List.Elements.{All-weaker}
 use Rattle.segments.specs.Columns.{LineContent}
 use Rattle.line_lists.specs.Lists.{NumbersBelow}
-use Rattle.line_lists.specs.Pieces.{CanPlace, piece_lines, placed}
-use Rattle.line_lists.proofs.GatherLaws.{all-pieces, piece_lines-snoc}
+use Rattle.line_lists.specs.Pieces.{CanPlace, lines_more, piece_lines, placed, rows_more}
+use Rattle.line_lists.proofs.GatherLaws.{all-pieces}
+use Rattle.line_lists.proofs.GrowthLaws.{room_first}
 use Rattle.line_lists.proofs.PieceLaws.{can-split, placed-snoc}
 use Rattle.line_lists.proofs.pieces.place.Goals as goal
 
@@ -16,10 +17,12 @@ splice-requires-clause-within g c =
 
 pub splice-requires-clause-room : goal.splice-requires-clause-room
 splice-requires-clause-room g c =
-    let all = ap (λ ps. length (piece_lines ps)) c.in-Some.ensures.items
-    ∙ ap length (piece_lines-snoc c.pop.new.self.items c.in-Some.piece)
-    ∙ length-append (piece_lines c.pop.new.self.items) c.in-Some.piece.lines.items in
-    omega (arith, all, c.loop-piece.invariant.2)
+    let pieces = c.pop.new.self.items in (
+      lines_more pieces,
+      rows_more pieces,
+      room_first (g.L.LineList.has_room c.loop-piece.list) pieces c.in-Some.piece
+          c.loop-piece.pieces.items c.in-Some.ensures.items c.loop-piece.invariant.2,
+    )
 
 pub splice-requires-clause-numbers : goal.splice-requires-clause-numbers
 splice-requires-clause-numbers g c =
@@ -45,8 +48,6 @@ loop-piece-preserved g c =
     let pieces = c.pop.new.self.items in
     let piece = c.in-Some.piece in
     let items = c.in-Some.ensures.items in
-    let long = ap (λ ps. length (piece_lines ps)) items ∙ ap length (piece_lines-snoc pieces piece)
-    ∙ length-append (piece_lines pieces) piece.lines.items in
     let old = λ (line : LineContent). NumbersBelow (g.L.LineList.mark_room c.loop-piece.list) line.marks in
     let new = λ (line : LineContent). NumbersBelow (g.L.LineList.mark_room c.splice.new.self) line.marks in
     let made = c.splice.ensures.lines in (
@@ -54,7 +55,9 @@ loop-piece-preserved g c =
           (subst (λ ps. CanPlace ps lines) items c.loop-piece.invariant.0)).0,
       ap (placed pieces) made ∙ sym (placed-snoc pieces piece lines) ∙ ap (λ ps. placed ps lines) (sym items)
           ∙ c.loop-piece.invariant.1,
-      omega (arith, long, c.loop-piece.invariant.2, c.splice.ensures.room),
+      c.splice.ensures.room (lines_more pieces) (rows_more pieces)
+          (room_first (g.L.LineList.has_room c.loop-piece.list) pieces piece c.loop-piece.pieces.items items
+          c.loop-piece.invariant.2),
       All-weaker old new (λ line below number place is. omega (arith, below number place is, c.splice.ensures.numbers))
           (piece_lines pieces)
           (all-pieces old pieces piece (subst (λ ps. All old (piece_lines ps)) items c.loop-piece.invariant.3)).0,

@@ -1,8 +1,8 @@
-use Rattle.std.proofs.Common.{◌≡◌, ◌≤◌, length}
+use Rattle.std.proofs.Common.{◌≡◌}
 use Rattle.std.specs.List.{All}
 use Rattle.segments.specs.Columns.{LineContent}
 use Rattle.line_lists.specs.Lists.{NumbersBelow}
-use Rattle.line_lists.specs.Pieces.{CanPlace, piece_lines, placed}
+use Rattle.line_lists.specs.Pieces.{CanPlace, lines_more, piece_lines, placed, rows_more}
 use Rattle.line_lists.proofs.pieces.place.Given as goal
 
 abbrev pub invariant-loop-piece : goal.invariant-loop-piece
@@ -10,7 +10,7 @@ invariant-loop-piece g l =
     CanPlace l.pieces.items (g.L.LineList.lines l.list)
     × (placed l.pieces.items (g.L.LineList.lines l.list)
     ≡ placed l.initial.pieces.items (g.L.LineList.lines l.initial.list))
-    × (length (piece_lines l.pieces.items) ≤ g.L.LineList.line_room l.list)
+    × g.L.LineList.has_room l.list (lines_more l.pieces.items) (rows_more l.pieces.items)
     × All (λ (line : LineContent). NumbersBelow (g.L.LineList.mark_room l.list) line.marks) (piece_lines l.pieces.items)
 
 abbrev pub decreases-loop-piece : goal.decreases-loop-piece

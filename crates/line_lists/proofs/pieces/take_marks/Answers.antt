@@ -8,6 +8,6 @@ loop-index-preserved g c = (
   c.take_mark.ensures.lines ∙ ap (map (without_mark _)) c.loop-index.invariant.0
       ∙ freed-before c.args.numbers.now c.loop-index.index _ (g.L.LineList.lines c.args.list.now)
       (omega (arith, c.loop-index-test.true)) c.loop-index.auto.index,
-  omega (arith, c.loop-index.invariant.1, c.take_mark.ensures.room),
+  λ count rows room. c.take_mark.ensures.room count rows (c.loop-index.invariant.1 count rows room),
   omega (arith, c.loop-index.invariant.2, c.take_mark.ensures.numbers),
 )

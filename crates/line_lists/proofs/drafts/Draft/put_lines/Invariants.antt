@@ -1,4 +1,4 @@
-use Rattle.std.proofs.Common.{◌≡◌, chars, length}
+use Rattle.std.proofs.Common.{◌≡◌, ◌+◌, ◌≤◌, chars, length}
 use denote.Text.{Utf8}
 use denote.Shadow.{shadow}
 use Rattle.line_lists.specs.Drafts.{text_at}
@@ -8,6 +8,7 @@ use Rattle.line_lists.proofs.drafts.Draft.put_lines.Given as goal
 abbrev pub invariant-loop-line : goal.invariant-loop-line
 invariant-loop-line g l =
     shadow (Utf8 l.rest)
+    × (l.count + length l.rest ≤ length l.text)
     × (l.self.list.now ≡ l.initial.self.list.now)
     × IsPartly (g.L.LineList.lines l.self.list.now) l.self.front.items l.self.back.items
     (place_at (g.L.LineList.lines l.initial.self.list.now) l.initial.self.front.items) (chars l.text) (chars l.rest)

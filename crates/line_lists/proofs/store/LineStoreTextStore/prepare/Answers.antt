@@ -1,4 +1,4 @@
-use Rattle.std.proofs.Common.{◌<◌, subst, sym, arith}
+use Rattle.std.proofs.Common.{◌<◌, subst, subst₂, sym}
 use Rattle.line_lists.specs.Pieces.{CanPlace, freed, named, numbers_in, piece_lines}
 use Rattle.line_lists.proofs.StoreLaws.{all-names, below-lines}
 use Rattle.line_lists.proofs.store.LineStoreTextStore.prepare.Goals as goal
@@ -11,7 +11,7 @@ returns-in-Ok-clause-ready g c =
     record {
       can = subst (λ lines. CanPlace pieces (freed (named change.taken.items) lines))
           (sym c.in-Ok.ensures.same) made.can;
-      few = omega (arith, made.count, c.in-Ok.ensures.room);
+      room = subst₂ (g.L.LineList.has_room c.reserve.new.self) made.lines made.rows c.in-Ok.ensures.room;
       below = below-lines change.bound (g.L.LineList.mark_room c.reserve.new.self) c.in-Ok.ensures.numbers
           (piece_lines pieces)
           (all-names (λ n. n < change.bound) (numbers_in (piece_lines pieces)) made.below);
