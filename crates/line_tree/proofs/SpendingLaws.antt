@@ -51,6 +51,16 @@ room-alone t n more rows has named = elim has [
   ]
 ]
 
+-- ---- what is reserved serves
+pub flat-room : (t : TreeState) (count rows levels flat : ℕ) → levels_at_most t.nodes ≤ levels →
+    flat ≡ rows * (16 * (levels + 2)) + (count / 11 + (2 * levels + 6) * (count / 32768 + 1)) → flat ≤ t.rooms →
+    count + flat ≤ t.spares → min count 32768 ≤ t.row_room → HasRoom t count rows
+flat-room t count rows levels flat high is rooms spares names =
+    let part = levels_at_most t.nodes in
+    let a = mul-le-mul_left {m = 16 * (part + 2)} {n = 16 * (levels + 2)} rows (omega arith) in
+    let b = mul-le-mul_right {m = 2 * part + 6} {n = 2 * levels + 6} (count / 32768 + 1) (omega arith) in
+    inr record { rooms = omega arith; spares = omega arith; names = names; }
+
 -- ---- what is left
 pub keeps-room : (t u : TreeState) (lines rows : ℕ) → KeepsRoom t u → HasRoom t lines rows → HasRoom u lines rows
 keeps-room t u lines rows keeps has = elim has [

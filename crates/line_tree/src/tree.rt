@@ -130,11 +130,27 @@ impl<C: Ticks> LineTree<C> {
             return self.reserve_rows(count, flat);
         }
         self.free_names();
-        if steep <= wide + count {
+        self.reserve_alone(count, levels)
+    }
+
+    /// Reserves for `count` lines to be put in one by one, whatever nodes split, in a tree of so many levels at most
+    /// then. Fails for want of memory.
+    fn reserve_alone(&mut self, count: usize, levels: usize) -> Result<(), AllocError>
+        requires few { count * 27 < 2 ^ 64 }
+        requires low { levels ≤ 25 }
+        requires levels { levels_at_most (self.old.nodes + count * 27) ≤ levels }
+        ensures lines { self.new.lines ≡ self.old.lines }
+        ensures height { self.new.height ≡ self.old.height }
+        ensures names { self.new.row_room ≡ self.old.row_room }
+        ensures room { OnOk result (count ≤ line_room self.new) }
+    {
+        let steep = count * (levels + 2);
+        let rooms = self.count / 5 + count / 5 + 27;
+        if steep <= rooms + count {
             return self.store.reserve(steep);
         }
-        self.store.reserve(wide)?;
-        self.store.reserve_lines(wide + count)
+        self.store.reserve(rooms)?;
+        self.store.reserve_lines(rooms + count)
     }
 
     /// Reserves for `count` lines and so many nodes above them, and for the names of lines in a row.

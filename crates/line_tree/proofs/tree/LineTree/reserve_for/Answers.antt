@@ -1,48 +1,46 @@
-use Rattle.std.proofs.Common.{◌≡◌, ◌≤◌, ◌<◌, ◌+◌, ◌*◌, ◌/◌, ◌^◌, length, ap, sym, ◌∙◌, subst, arith, rules}
-use Rattle.std.specs.FinMap as finite
+use Rattle.std.proofs.Common.{◌≡◌, ◌≤◌, ◌<◌, ◌+◌, ◌-◌, ◌*◌, ◌/◌, ◌^◌, min, inl, ap, sym, ◌∙◌, subst, arith, rules}
 use Rattle.std.proofs.Math.Nat.{mul-le-mul_left}
 use Rattle.std.proofs.lemmas.Result.{on_ok_weaker}
-use Rattle.raw_nodes.specs.Names.{records, spares}
-use Rattle.line_tree.specs.Growth.{Stands}
 use Rattle.line_tree.specs.Room.{levels_at_most}
-use Rattle.line_tree.specs.Shape.{lines_in}
-use Rattle.line_tree.proofs.LevelLaws.{many-records, more-lines}
-use Rattle.line_tree.proofs.LineRoomLaws.{on_ok_two, steep-room, wide-room}
+use Rattle.line_tree.proofs.LevelLaws.{more-lines}
+use Rattle.line_tree.proofs.LineRoomLaws.{on_ok_two}
+use Rattle.line_tree.proofs.SpendingLaws.{flat-room}
 use Rattle.line_tree.proofs.tree.LineTree.reserve_for.Goals as goal
 
 pub overflow_mul-steep : goal.overflow_mul-steep
 overflow_mul-steep g c =
     let is : c.in_ok-most.most ≡ c.args.count * 27 = search rules in
     let fits : c.in_ok-most.most < 2 ^ 64 = search rules in
-    let low = c.levels.ensures.low in
-    let less : c.args.count * (c.levels.result + 2) ≤ c.args.count * 27 = mul-le-mul_left c.args.count (omega arith) in
+    let low = c.levels-levels.ensures.low in
+    let less : c.args.count * (c.levels-levels.result + 2)
+    ≤ c.args.count * 27 = mul-le-mul_left c.args.count (omega arith) in
     omega (arith, is, fits, less)
 
-pub returns-then-steep-rooms-clause-room : goal.returns-then-steep-rooms-clause-room
-returns-then-steep-rooms-clause-room g c =
-    let new = c.reserve.new.self in
+pub returns-then-flat-min-clause-room : goal.returns-then-flat-min-clause-room
+returns-then-flat-min-clause-room g c =
+    let new = c.reserve_rows.new.self in let levels = c.levels-levels.result in let count = c.args.count in
+    let flat = c.saturating_add-flat.result in
+    let is : c.in_ok-most.most ≡ count * 27 = search rules in
+    let all : c.args.self.now.nodes + c.in_ok-most.most ≤ c.in_ok-nodes.nodes = search rules in
+    let were : c.in_ok-ends.ends ≡ c.args.rows * c.row_ends.result = search rules in
+    let ends = were ∙ ap (λ n. c.args.rows * n) c.row_ends.ensures in
+    let low = c.levels-levels.ensures.low in
+    let steep : count * (levels + 2) ≤ count * 27 = mul-le-mul_left count (omega arith) in
+    let more = c.reserve_rows.ensures.nodes in
+    let few : new.nodes ≤ c.in_ok-nodes.nodes = omega arith in
+    let high = subst (λ l. levels_at_most new.nodes ≤ l) (sym c.levels-levels.ensures.value) (more-lines _ _ few) in
+    let made : flat ≡ c.args.rows * (16 * (levels + 2))
+    + (count / 11 + (2 * levels + 6) * (count / 32768 + 1)) = omega arith in
+    let put = c.reserve_rows.ensures in
+    on_ok_two {P = (flat ≤ new.rooms) × (count + flat ≤ new.spares)} c.reserve_rows.result (λ rs n.
+    flat-room new count c.args.rows levels flat high made rs.0 rs.1 n)
+    (on_ok_two c.reserve_rows.result (λ r s. (r, s)) put.rooms put.spares) put.names
+
+pub reserve_alone-requires-clause-levels : goal.reserve_alone-requires-clause-levels
+reserve_alone-requires-clause-levels g c =
     let is : c.in_ok-most.most ≡ c.args.count * 27 = search rules in
     let all : c.args.self.now.nodes + c.in_ok-most.most ≤ c.in_ok-nodes.nodes = search rules in
-    let was = ap (λ v. v.nodes) c.self.view_is in
-    let same = ap finite.len c.reserve.ensures.records in
-    let low = c.levels.ensures.low in
-    let less : c.args.count * (c.levels.result + 2) ≤ c.args.count * 27 = mul-le-mul_left c.args.count (omega arith) in
-    let most = c.reserve.ensures.most in
-    let few : spares new + finite.len (records new)
-    ≤ c.in_ok-nodes.nodes = omega (arith, is, all, was, same, less, most) in
-    let high = subst (λ l. levels_at_most (spares new + finite.len (records new))
-    ≤ l) (sym c.levels.ensures.value) (more-lines _ _ few) in
-    on_ok_two c.reserve.result (λ s r. steep-room _ c.args.count c.levels.result high s r) c.reserve.ensures.spares
-    c.reserve.ensures.rooms
-
-pub returns-clause-room : goal.returns-clause-room
-returns-clause-room g c =
-    let m = records c.reserve_lines.new.self in let h = c.self.inside.height in let r = c.self.inside.root in
-    let same : m ≡ records c.self.inside.store = c.reserve_lines.ensures.records ∙ c.reserve-2.ensures.records in
-    let many = many-records m h r (subst (λ z. Stands z h r) (sym same) c.self.invariant.0.stands) in
-    let lines = c.self.invariant.1 ∙ ap (λ z. length (lines_in z h r)) (sym same) in
-    let inner = c.in_ok-reserve.ensures.rooms in let kept = c.reserve_lines.ensures.rooms in
-    on_ok_weaker c.reserve_lines.result
-    (λ s. wide-room _ c.args.count (c.self.inside.count / 5 + c.args.count / 5 + 27) c.self.inside.count lines
-    (omega arith) (omega (arith, inner, kept)) s (omega (arith, many)))
-    c.reserve_lines.ensures.spares
+    let same = c.free_names.ensures.nodes in
+    let few : c.free_names.new.self.nodes + c.args.count * 27 ≤ c.in_ok-nodes.nodes = omega (arith, is, all, same) in
+    subst (λ l. levels_at_most (c.free_names.new.self.nodes + c.args.count * 27) ≤ l)
+    (sym c.levels-levels.ensures.value) (more-lines _ _ few)

@@ -2,11 +2,13 @@ use Rattle.std.proofs.Common.{◌≡◌, ◌+◌, length, vec_len, subst, sym, a
 use Rattle.std.specs.List.{All}
 use Rattle.std.specs.Prelude.{slice_range}
 use Rattle.segments.specs.Columns.{LineContent}
-use Rattle.line_lists.specs.Lists.{AreLines, NumbersBelow}
+use Rattle.line_lists.specs.Lists.{AreLines, NumbersBelow, more_lines, row_of}
+use Rattle.line_tree.specs.Room.{HasRoom}
 use Rattle.line_tree.specs.MarkTable.{holder, lines_without}
 use Rattle.line_tree.specs.Trees.{contents}
 use Rattle.line_tree.proofs.ListedLaws.{Comes, comes-below, comes-contents, comes-long, comes-others, end-fits}
 use Rattle.line_tree.proofs.ListedLaws.{fits-counted, gone-fits, some-left}
+use Rattle.line_tree.proofs.SpendingLaws.{keeps-room}
 use Rattle.line_tree.proofs.tree_lines.TreeLinesLineList.splice.Goals as goal
 
 pub overflow_add-end : goal.overflow_add-end
@@ -104,3 +106,13 @@ returns-clause-lines c = let old = c.args.self.now.tree.lines in let now = c.spl
       is = made.2;
     } in
     comes-contents old c.args.from c.args.count c.args.new.items c.requires.within now comes
+
+pub returns-then-len-eq1-clause-room : goal.returns-then-len-eq1-clause-room
+returns-then-len-eq1-clause-room c more rows has =
+    let n = c.len.ensures in let ok = c.args.new.ok.0 in
+    let one : length c.args.new.items ≡ 1 = omega arith in
+    let none : more_lines c.args.count c.args.new.items + more ≡ more = omega arith in
+    let none_in : row_of c.args.count c.args.new.items + rows ≡ rows = omega arith in
+    keeps-room c.args.self.now.tree c.replace_line.new.self.tree more rows c.replace_line.ensures.room
+    (subst (λ m. HasRoom c.args.self.now.tree m rows) none
+    (subst (λ r. HasRoom c.args.self.now.tree (more_lines c.args.count c.args.new.items + more) r) none_in has))
