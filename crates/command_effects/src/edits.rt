@@ -29,7 +29,7 @@ fn make<S: TextStore>(store: &mut S, edit: Edit) -> Result<(), AllocError>
     ensures ok { OnOk result (S.content store.new ≡ after edit.steps (S.content store.old)) }
     ensures err { OnErr result (S.content store.new ≡ S.content store.old) }
 {
-    let prepared = store.prepare(&edit)?;
+    let prepared = store.prepare_owned(edit)?;
     store.commit(prepared);
     Ok(())
 }
@@ -133,7 +133,7 @@ pub fn prepare_drop<S: TextStore>(
         steps.push(Step::TakeMark(MarkNo(2 * slot.0)))?;
         steps.push(Step::TakeMark(MarkNo(2 * slot.0 + 1)))?;
     }
-    store.prepare(&Edit { steps })
+    store.prepare_owned(Edit { steps })
 }
 
 /// Puts texts in before the character at an offset, each behind the one before it.

@@ -88,7 +88,7 @@ pub fn prepare_steps<S: TextStore>(
     ensures anchors { IfOk result (λ plan. plan.anchors.items ≡ anchors.items) }
     ensures notes { IfOk result (λ plan. plan.notes ≡ notes) }
 {
-    let prepared = text.store.prepare(&Edit { steps })?;
+    let prepared = text.store.prepare_owned(Edit { steps })?;
     Ok(Plan {
         prepared,
         anchors,

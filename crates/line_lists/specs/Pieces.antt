@@ -1,17 +1,19 @@
 -- Pieces of a list of lines, in whose place others come.
-use Rattle.std.specs.Prelude.{◌≡◌, ℕ, ◌+◌, ◌≤◌, ◌++◌, List, [], ◌∷◌, ⊤, length, map, take}
+use Rattle.std.specs.Prelude.{◌≡◌, ℕ, ◌+◌, ◌<◌, ◌≤◌, ◌++◌, List, [], ◌∷◌, ⊤, length, map, take}
 use Rattle.std.specs.FinMap as finite
 use Rattle.std.specs.List.{All}
 use Rattle.text_model.specs.declared.places.MarkNo.{MarkNo}
 use Rattle.text_model.specs.declared.places.Place.{Place}
+use Rattle.text_model.specs.Content.{Content}
 use Rattle.toggle_sums.specs.Counts.{Count, plus}
 use Rattle.segments.specs.Columns.{LineContent}
 use Rattle.line_lists.specs.declared.drafts.Copied.{Copied}
 use Rattle.line_lists.specs.declared.pieces.Piece.{Piece}
+use Rattle.line_lists.specs.declared.store.Change.{Change}
 use Rattle.line_lists.specs.Edits.{without_mark}
 use Rattle.line_lists.specs.Lists.{AreApart, AreLines, AreRows, IsCounted, NumbersBelow, count_of, more_lines, row_of}
 use Rattle.line_lists.specs.Lists.{spliced}
-use Rattle.line_lists.specs.Texts.{whole}
+use Rattle.line_lists.specs.Texts.{content_of, whole}
 
 -- the lines with each piece in its place, from the last to the first
 abbrev pub placed : List Piece → List LineContent → List LineContent
@@ -74,6 +76,17 @@ pub record Follows (used : ℕ) (made base : List LineContent) (sum : Count) (re
 pub record Covers (pieces : List Piece) (used : ℕ) (made base : List LineContent) (sum : Count) : Type 0 where
   pub places : (rest : List LineContent) → placed pieces (take used base ++ rest) ≡ made ++ rest
   pub can : (rest : List LineContent) → Follows used made base sum rest → CanPlace pieces (take used base ++ rest)
+
+-- a change can be made of lines, and what it brings is counted
+pub record CanMake (base : List LineContent) (change : Change) : Type 0 where
+  pub can : CanPlace change.pieces.items (freed (named change.taken.items) base)
+  pub lines : change.growth.lines ≡ lines_more change.pieces.items
+  pub rows : change.growth.rows ≡ rows_more change.pieces.items
+  pub below : All (λ number. number < change.bound) (numbers_in (piece_lines change.pieces.items))
+
+-- what it makes of them
+abbrev pub content_made : Change → List LineContent → Content
+content_made change lines = content_of (placed change.pieces.items (freed (named change.taken.items) lines))
 
 -- a list with such room takes pieces, once the marks of some numbers are taken off
 pub record IsReady (lines : List LineContent) (has_room : ℕ → ℕ → Type 0) (bound : ℕ) (gone : List ℕ)

@@ -307,4 +307,26 @@ impl<'a, L: LineList> Draft<'a, L> {
         }
         Ok(())
     }
+
+    /// Makes the steps of an edit, each of which goes with its text once it is made.
+    pub fn make_owned_steps(&mut self, steps: Vec<Step>, len: usize) -> Result<(), AllocError>
+        requires is { IsText (L.lines self.old.list.now) self.old.front.items self.old.back.items }
+        requires len { len
+            ≡ length (text_at (L.lines self.old.list.now) self.old.front.items self.old.back.items).columns }
+        requires some { 0 < len }
+        requires fits { Fits steps.items
+            (text_of (text_at (L.lines self.old.list.now) self.old.front.items self.old.back.items)) }
+        ensures list { self.new.list.now ≡ self.old.list.now }
+        ensures is { OnOk result (IsText (L.lines self.new.list.now) self.new.front.items self.new.back.items) }
+        ensures new { OnOk result
+            (text_of (text_at (L.lines self.new.list.now) self.new.front.items self.new.back.items)
+            ≡ after steps.items
+            (text_of (text_at (L.lines self.old.list.now) self.old.front.items self.old.back.items))) }
+    {
+        let mut len = len;
+        for step in steps {
+            len = self.make_step(&step, len)?;
+        }
+        Ok(())
+    }
 }

@@ -1,16 +1,15 @@
-ghost use Rattle.std.specs.Prelude.{◌≡◌, ◌≢◌, ◌<◌, [], IfOk, length};
-ghost use Rattle.std.specs.List.{All};
+ghost use Rattle.std.specs.Prelude.{◌≡◌, ◌≢◌, [], IfOk, OnOk, length};
 ghost use Rattle.text_model.specs.Steps.{Fits, after};
-ghost use Rattle.line_lists.specs.Pieces.{CanPlace, IsReady, freed, lines_more, named, numbers_in, piece_lines, placed};
-ghost use Rattle.line_lists.specs.Pieces.{rows_more};
-ghost use Rattle.line_lists.specs.Texts.{content_of};
+ghost use Rattle.line_lists.specs.Drafts.{IsText, text_at};
+ghost use Rattle.line_lists.specs.Pieces.{CanMake, IsReady, content_made, named};
+ghost use Rattle.line_lists.specs.Texts.{content_of, text_of};
 
 use crate::drafts::Draft;
 use crate::lists::LineList;
 use crate::pieces::{Growth, Piece, bound_of, growth_of, place, take_marks};
 use crate::queries;
 use std::alloc::{AllocError, Global};
-use text_model::{CharacterTest, Edit, LineSpan, MarkNo, Place, TagSet, TagSlot, TextStore};
+use text_model::{CharacterTest, Edit, LineSpan, MarkNo, Place, Step, TagSet, TagSlot, TextStore};
 
 /// A text that is kept as a list of lines.
 #[derive(Drop)]
@@ -44,21 +43,15 @@ fn taken_before(alloc: Global, numbers: Vec<MarkNo>, pieces: &[Piece]) -> Vec<Ma
     }
 }
 
-/// What an edit makes of a list of lines, which stays as it is.
-fn change_of<L: LineList>(alloc: Global, list: &L, edit: &Edit) -> Result<Change, AllocError>
-    requires { Fits edit.now.steps (content_of (L.lines list.now)) }
-    ensures can { IfOk result (λ change.
-        CanPlace change.pieces.items (freed (named change.taken.items) (L.lines list.now))) }
-    ensures new { IfOk result (λ change.
-        content_of (placed change.pieces.items (freed (named change.taken.items) (L.lines list.now)))
-        ≡ after edit.now.steps (content_of (L.lines list.now))) }
-    ensures below { IfOk result (λ change.
-        All (λ number. number < change.bound) (numbers_in (piece_lines change.pieces.items))) }
-    ensures lines { IfOk result (λ change. change.growth.lines ≡ lines_more change.pieces.items) }
-    ensures rows { IfOk result (λ change. change.growth.rows ≡ rows_more change.pieces.items) }
+/// What a draft makes of its list.
+fn change_of<L: LineList>(draft: Draft<L>) -> Result<Change, AllocError>
+    requires is { IsText (L.lines draft.list.now) draft.front.items draft.back.items }
+    ensures can { IfOk result (CanMake (L.lines draft.entry.list.now)) }
+    ensures new { IfOk result (λ change. content_made change (L.lines draft.entry.list.now)
+        ≡ text_of (text_at (L.lines draft.entry.list.now) draft.entry.front.items draft.entry.back.items)) }
 {
-    let mut draft = Draft::new(alloc, list);
-    draft.make_steps(edit.steps.as_slice(), queries::len(list))?;
+    let mut draft = draft;
+    let alloc = draft.alloc;
     draft.forth_to_end()?;
     draft.count()?;
     let numbers = draft.numbers(alloc)?;
@@ -73,12 +66,57 @@ fn change_of<L: LineList>(alloc: Global, list: &L, edit: &Edit) -> Result<Change
     })
 }
 
+/// What steps make of a list of lines, which stays as it is.
+fn change_by<L: LineList>(alloc: Global, list: &L, steps: &[Step]) -> Result<Change, AllocError>
+    requires { Fits steps.now (content_of (L.lines list.now)) }
+    ensures can { IfOk result (CanMake (L.lines list.now)) }
+    ensures new { IfOk result (λ change. content_made change (L.lines list.now)
+        ≡ after steps.now (content_of (L.lines list.now))) }
+{
+    let mut draft = Draft::new(alloc, list);
+    draft.make_steps(steps, queries::len(list))?;
+    change_of(draft)
+}
+
+/// The same of steps that go as they are made.
+fn change_by_owned<L: LineList>(
+    alloc: Global,
+    list: &L,
+    steps: Vec<Step>,
+) -> Result<Change, AllocError>
+    requires { Fits steps.items (content_of (L.lines list.now)) }
+    ensures can { IfOk result (CanMake (L.lines list.now)) }
+    ensures new { IfOk result (λ change. content_made change (L.lines list.now)
+        ≡ after steps.items (content_of (L.lines list.now))) }
+{
+    let mut draft = Draft::new(alloc, list);
+    draft.make_owned_steps(steps, queries::len(list))?;
+    change_of(draft)
+}
+
 impl<L: LineList> LineStore<L> {
     /// The list of the lines, lent.
     pub fn list(&self) -> &L
         ensures lines { content_of (L.lines result.now) ≡ content_of (L.lines self.now.list) }
     {
         &self.list
+    }
+
+    /// Reserves what a change takes; where that is refused, all that was reserved goes back.
+    fn reserve(&mut self, change: &Change) -> Result<(), AllocError>
+        requires { CanMake (L.lines self.old.list) change.now }
+        ensures same { L.lines self.new.list ≡ L.lines self.old.list }
+        ensures ready { OnOk result (IsReady (L.lines self.new.list) (L.has_room self.new.list)
+            (L.mark_room self.new.list) (named change.now.taken.items) change.now.pieces.items) }
+    {
+        let Growth { lines, rows } = change.growth;
+        match self.list.reserve(lines, rows, change.bound) {
+            Ok(()) => Ok(()),
+            Err(refused) => {
+                self.list.free_room();
+                Err(refused)
+            }
+        }
     }
 }
 
@@ -91,8 +129,7 @@ impl<L: LineList> TextStore for LineStore<L> {
         IsReady (L.lines store.list) (L.has_room store.list) (L.mark_room store.list)
         (named change.taken.items) change.pieces.items };
 
-    ghost outcome = { λ store change.
-        content_of (placed change.pieces.items (freed (named change.taken.items) (L.lines store.list))) };
+    ghost outcome = { λ store change. content_made change (L.lines store.list) };
 
     fn new(alloc: Global) -> Result<LineStore<L>, AllocError> {
         Ok(LineStore {
@@ -178,15 +215,15 @@ impl<L: LineList> TextStore for LineStore<L> {
     }
 
     fn prepare(&mut self, edit: &Edit) -> Result<Change, AllocError> {
-        let change = change_of(self.alloc, &self.list, edit)?;
-        let Growth { lines, rows } = change.growth;
-        match self.list.reserve(lines, rows, change.bound) {
-            Ok(()) => Ok(change),
-            Err(refused) => {
-                self.list.free_room();
-                Err(refused)
-            }
-        }
+        let change = change_by(self.alloc, &self.list, edit.steps.as_slice())?;
+        self.reserve(&change)?;
+        Ok(change)
+    }
+
+    fn prepare_owned(&mut self, edit: Edit) -> Result<Change, AllocError> {
+        let change = change_by_owned(self.alloc, &self.list, edit.steps.into_vec())?;
+        self.reserve(&change)?;
+        Ok(change)
     }
 
     fn commit(&mut self, change: Change) {

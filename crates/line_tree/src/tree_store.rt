@@ -121,6 +121,10 @@ impl TextStore for TreeStore {
         self.lines.prepare(edit)
     }
 
+    fn prepare_owned(&mut self, edit: Edit) -> Result<Self::Prepared, AllocError> {
+        self.lines.prepare_owned(edit)
+    }
+
     fn commit(&mut self, change: Self::Prepared) {
         self.lines.commit(change);
     }

@@ -157,6 +157,17 @@ pub trait TextStore: Drop {
         ensures outcome { IfOk result (λ prepared.
             outcome self.new prepared ≡ after edit.now.steps (content self.old)) };
 
+    /// The same for an edit that isn't needed any more, so that its texts may go while memory is taken.
+    fn prepare_owned(&mut self, edit: Edit) -> Result<Self::Prepared, AllocError>
+        requires { Fits edit.steps (content self.old) }
+        ensures same { content self.new ≡ content self.old }
+        ensures ready { IfOk result (λ prepared. ready self.new prepared) }
+        ensures outcome { IfOk result (λ prepared.
+            outcome self.new prepared ≡ after edit.steps (content self.old)) }
+    {
+        self.prepare(&edit)
+    }
+
     /// Makes the steps of a prepared edit. It can't fail. The store has to be as that `prepare` left it.
     fn commit(&mut self, prepared: Self::Prepared)
         requires { ready self.old prepared }
