@@ -60,7 +60,7 @@ pub fn splice(
     if !can_splice(counted, k, gone, &lines, ticks) {
         return Ok(false);
     }
-    counted.tree.reserve_for(lines.len())?;
+    counted.tree.reserve_for(lines.len(), 1)?;
     counted.count = counted.count - gone + lines.len();
     counted.tree.splice(k, gone, lines, ticks);
     Ok(true)
@@ -68,7 +68,7 @@ pub fn splice(
 
 /// Reserves for so many lines to be put in.
 pub fn reserve(counted: &mut Counted, count: usize) -> Result<(), AllocError> {
-    counted.tree.reserve_for(count)
+    counted.tree.reserve_for(count, 1)
 }
 
 /// Puts in one line as number `k`, and says whether that was done.
@@ -81,8 +81,7 @@ pub fn insert(
     if counted.count < k || !fit(&whole(counted, ticks), &line.sum()) {
         return Ok(false);
     }
-    counted.tree.reserve_for(1)?;
-    prove!(counted.tree.height() <= 25);
+    counted.tree.reserve(counted.tree.height() + 2)?;
     counted.tree.insert(k, line, ticks);
     counted.count += 1;
     Ok(true)

@@ -137,7 +137,7 @@ pub fn splice(
         return Ok(false);
     }
     let mut rows = rows_of(alloc, &lines)?;
-    scene.tree.reserve_for(lines.len())?;
+    scene.tree.reserve_for(lines.len(), 1)?;
     replace(&mut scene.plain, k, gone, &mut rows)?;
     scene.tree.splice(k, gone, lines, ticks);
     Ok(true)
