@@ -119,6 +119,10 @@ impl<C: Ticks> LineTree<C> {
         ensures height { self.new.height ≡ self.old.height }
         ensures room { OnOk result (HasRoom self.new count rows) }
     {
+        if count == 0 {
+            self.free_names();
+            return Ok(());
+        }
         let most = count.checked_mul(27).ok_or(AllocError)?;
         let nodes = self.nodes_with(most).ok_or(AllocError)?;
         let levels = levels(nodes);

@@ -40,7 +40,7 @@ pub reserve_alone-requires-clause-levels : goal.reserve_alone-requires-clause-le
 reserve_alone-requires-clause-levels g c =
     let is : c.in_ok-most.most ≡ c.args.count * 27 = search rules in
     let all : c.args.self.now.nodes + c.in_ok-most.most ≤ c.in_ok-nodes.nodes = search rules in
-    let same = c.free_names.ensures.nodes in
-    let few : c.free_names.new.self.nodes + c.args.count * 27 ≤ c.in_ok-nodes.nodes = omega (arith, is, all, same) in
-    subst (λ l. levels_at_most (c.free_names.new.self.nodes + c.args.count * 27) ≤ l)
+    let same = c.free_names-2.ensures.nodes in
+    let few : c.free_names-2.new.self.nodes + c.args.count * 27 ≤ c.in_ok-nodes.nodes = omega (arith, is, all, same) in
+    subst (λ l. levels_at_most (c.free_names-2.new.self.nodes + c.args.count * 27) ≤ l)
     (sym c.levels-levels.ensures.value) (more-lines _ _ few)
