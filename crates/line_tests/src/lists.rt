@@ -44,7 +44,7 @@ fn worked_list<L: LineList>(alloc: Global) -> Result<L, AllocError>
 {
     let lines = two_lines(alloc)?;
     let mut list = L::new(alloc)?;
-    list.reserve(2, 4)?;
+    list.reserve(1, 1, 4)?;
     list.splice(0, 1, lines);
     Ok(list)
 }

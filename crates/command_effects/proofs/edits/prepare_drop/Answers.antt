@@ -6,8 +6,8 @@ use Rattle.text_model.specs.Steps.{Fits, after}
 use Rattle.command_effects.proofs.TakeLaws.{drops, drops-fit, drops-after, drops-more}
 use Rattle.command_effects.proofs.edits.prepare_drop.Goals as goal
 
-pub prepare-requires : goal.prepare-requires
-prepare-requires g c =
+pub prepare_owned-requires : goal.prepare_owned-requires
+prepare_owned-requires g c =
     let content = g.S.TextStore.content c.args.store.now in
     let steps : c.loop-slot.steps ≡ drops c.args.slots.now = c.loop-slot.invariant
     ∙ ap drops (take_all c.loop-slot.slot-index c.args.slots.now c.loop-slot-test.false) in
@@ -18,8 +18,8 @@ returns-clause-outcome g c =
     let content = g.S.TextStore.content c.args.store.now in
     let steps : c.loop-slot.steps ≡ drops c.args.slots.now = c.loop-slot.invariant
     ∙ ap drops (take_all c.loop-slot.slot-index c.args.slots.now c.loop-slot-test.false) in
-    subst (λ made. IfOk c.prepare.result (λ change. g.S.TextStore.outcome c.prepare.new.self change ≡ made))
-    (ap (λ ss. after ss content) steps ∙ drops-after c.args.slots.now content) c.prepare.ensures.outcome
+    subst (λ made. IfOk c.prepare_owned.result (λ change. g.S.TextStore.outcome c.prepare_owned.new.self change ≡ made))
+    (ap (λ ss. after ss content) steps ∙ drops-after c.args.slots.now content) c.prepare_owned.ensures.outcome
 
 pub loop-slot-preserved : goal.loop-slot-preserved
 loop-slot-preserved g c =

@@ -1,6 +1,6 @@
-use Rattle.std.proofs.Common.{length, subst, sym, ◌∙◌, ℕ, ◌<◌, get_or}
+use Rattle.std.proofs.Common.{length, subst, sym, ◌∙◌, ℕ, ◌+◌, ◌<◌, get_or}
 use Rattle.segments.specs.Columns.{LineContent}
-use Rattle.line_lists.specs.Lists.{NumbersBelow}
+use Rattle.line_lists.specs.Lists.{NumbersBelow, more_lines, row_of}
 use Rattle.line_tests.proofs.WorkedLaws.{counted-worked, numbers-worked, spliced-worked}
 use Rattle.line_tests.proofs.lists.worked_list.Goals as goal
 
@@ -20,3 +20,11 @@ pub splice-requires-clause-counted : goal.splice-requires-clause-counted
 splice-requires-clause-counted g c =
     counted-worked (g.L.LineList.lines c.reserve.new.self) c.in_ok-lines.lines.items (c.reserve.ensures.same
     ∙ c.in_ok-list.ensures) c.in_ok-lines.ensures
+
+pub splice-requires-clause-room : goal.splice-requires-clause-room
+splice-requires-clause-room g c = (
+  0,
+  0,
+  subst (λ items. g.L.LineList.has_room c.reserve.new.self (more_lines 1 items + 0) (row_of 1 items + 0))
+      (sym c.in_ok-lines.ensures) c.in_ok-reserve.ensures.room,
+)
