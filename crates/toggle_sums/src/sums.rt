@@ -156,10 +156,7 @@ impl<const K: usize> Sums<K> {
         requires { CountsFit self.old more.now }
         ensures { self.new ≡ plus self.old more.now }
     {
-        self.lines += more.lines;
-        self.characters += more.characters;
-        self.marks += more.marks;
-        self.toggles.add(&more.toggles);
+        self.add_parts(more.lines, more.characters, more.marks, &more.toggles);
     }
 
     /// Counts so many lines, characters and marks more, and these toggles.
