@@ -1,11 +1,12 @@
 -- What a name says of the node that it leads to, and what a change of the node does.
 use Rattle.std.proofs.Common.{◌≡◌, ℕ, ◌<◌, ◌+◌, true, false, List, [], ◌∷◌, ◌++◌, length, get_or, set, map, refl, sym}
-use Rattle.std.proofs.Common.{ap, ◌∙◌, subst, arith}
+use Rattle.std.proofs.Common.{ap, ap₂, ◌∙◌, subst, arith}
 use lib.ListN.{length-set}
 use mathlib.Core.Bool.{false≢true}
 use Rattle.std.specs.Prelude.{IfSome, IsSome, Option, None, Some, is_some}
 use Rattle.segments.specs.Columns.{LineContent}
-use Rattle.toggle_sums.specs.Counts.{Count}
+use Rattle.toggle_sums.specs.Counts.{Count, IsBare}
+use Rattle.toggle_sums.specs.ToggleSets.{AreBare, ToggleSets}
 use Rattle.std.specs.FinMap.{get, insert, remove}
 use Rattle.std.specs.List.{sum_by}
 use Rattle.std.proofs.lemmas.List.{map-append, map-set, length-map, get_or-map}
@@ -17,7 +18,7 @@ use Rattle.raw_nodes.specs.Links.{link_name}
 use Rattle.raw_nodes.specs.Records.{Record, cell_of, cells_of, if_used, inner_record, is_used, nones, line_in}
 use Rattle.raw_nodes.specs.Records.{record_in, record_of, records_in, records_of, update, updated, with_child}
 use Rattle.raw_nodes.specs.Records.{slot_in, with_line, with_parent, with_slot, with_sum}
-use Rattle.raw_nodes.specs.Rooms.{with_room_child, with_room_sum}
+use Rattle.raw_nodes.specs.Rooms.{branch_sum}
 use Rattle.raw_nodes.specs.declared.names.Link.{Link}
 use Rattle.raw_nodes.specs.declared.branch.Branch.{Branch}
 use Rattle.raw_nodes.specs.declared.names.NodePtr.{NodePtr}
@@ -164,33 +165,34 @@ parented (Spare m) parent new n u = absurd (false≢true u)
 parented (Line slot line) parent new n u = refl
 parented (Inner slot room) parent new n u = refl
 
--- the record of a branch is that of its room
-room_record : Option NodePtr → ℕ → Room → Record
-room_record parent slot room = inner_record parent slot (map link_name room.children) room.sum
+-- the record of a branch by its children and its sum
+said : Option NodePtr → ℕ → List Link → Count → Record
+said parent slot children sum = inner_record parent slot (map link_name children) sum
 
 pub summed : (h : Held) (old new : Branch) (parent : Option NodePtr) (sum : Count) → h ≡ Inner (slot_in h) old →
-    new.room.value ≡ with_room_sum old.room.value sum
+    new.room.value.children ≡ old.room.value.children → branch_sum new ≡ sum
     → record_in (Inner (slot_in h) new) parent ≡ with_sum (record_in h parent) sum
-unfolding room_record
-summed h old new parent sum e d =
-    ap (room_record parent (slot_in h)) d ∙ ap (λ k. with_sum (record_in k parent) sum) (sym e)
+unfolding said
+summed h old new parent sum e kept is =
+    ap₂ (said parent (slot_in h)) kept is ∙ ap (λ k. with_sum (record_in k parent) sum) (sym e)
 
 -- the sum becomes what is made of it
 pub recounted : (h : Held) (old new : Branch) (parent : Option NodePtr) (f : Count → Count) →
-    h ≡ Inner (slot_in h) old → new.room.value ≡ with_room_sum old.room.value (f old.room.value.sum)
+    h ≡ Inner (slot_in h) old → new.room.value.children ≡ old.room.value.children → branch_sum new ≡ f (branch_sum old)
     → record_in (Inner (slot_in h) new) parent ≡ with_sum (record_in h parent) (f (record_in h parent).sum)
-unfolding room_record
-recounted h old new parent f e d =
-    ap (room_record parent (slot_in h)) d
+unfolding said
+recounted h old new parent f e kept is =
+    ap₂ (said parent (slot_in h)) kept is
     ∙ ap (λ k. with_sum (record_in k parent) (f (record_in k parent).sum)) (sym e)
 
 pub lodged : (h : Held) (old new : Branch) (parent : Option NodePtr) (i : ℕ) (link : Link) (child : Option NodePtr)
-    → h ≡ Inner (slot_in h) old → new.room.value ≡ with_room_child old.room.value i link → link_name link ≡ child
+    → h ≡ Inner (slot_in h) old → new.room.value.children ≡ set old.room.value.children i link
+    → branch_sum new ≡ branch_sum old → link_name link ≡ child
     → record_in (Inner (slot_in h) new) parent ≡ with_child (record_in h parent) i child
-unfolding room_record
-lodged h old new parent i link child e d n =
-    ap (room_record parent (slot_in h)) d
-    ∙ ap (λ cs. inner_record parent (slot_in h) cs old.room.value.sum) (map-set link_name old.room.value.children i link
+unfolding said
+lodged h old new parent i link child e written kept n =
+    ap₂ (said parent (slot_in h)) written kept
+    ∙ ap (λ cs. inner_record parent (slot_in h) cs (branch_sum old)) (map-set link_name old.room.value.children i link
     ∙ ap (set (map link_name old.room.value.children) i) n)
     ∙ ap (λ k. with_child (record_in k parent) i child) (sym e)
 
@@ -256,3 +258,22 @@ pub spare_room : (h : Held) → is_used h ≡ false → room_in h ≡ 0
 spare_room (Spare m) u = refl
 spare_room (Line slot line) u = absurd (false≢true (sym u))
 spare_room (Inner slot room) u = absurd (false≢true (sym u))
+
+-- ---- the toggles of a branch are those of its room
+pub bare_branch : (branch : Branch) (room : Room) → room ≡ branch.room.value → AreBare room.toggles →
+    IsBare (branch_sum branch)
+bare_branch branch room is bare =
+    let same = ap (λ (z : Room). z.toggles) is in
+    record {
+      parity = ap (λ (t : ToggleSets). t.parity) (sym same) ∙ bare.parity;
+      presence = ap (λ (t : ToggleSets). t.presence) (sym same) ∙ bare.presence;
+    }
+
+pub bare_room : (branch : Branch) (room : Room) → room ≡ branch.room.value → IsBare (branch_sum branch) →
+    AreBare room.toggles
+bare_room branch room is bare =
+    let same = ap (λ (z : Room). z.toggles) is in
+    record {
+      parity = ap (λ (t : ToggleSets). t.parity) same ∙ bare.parity;
+      presence = ap (λ (t : ToggleSets). t.presence) same ∙ bare.presence;
+    }

@@ -5,6 +5,7 @@ use Rattle.segments.specs.Columns.{LineContent, line_count}
 use Rattle.toggle_sums.specs.Counts.{Count, no_text}
 use Rattle.raw_nodes.specs.Cells.{name_cmp}
 use Rattle.raw_nodes.specs.Links.{link_name}
+use Rattle.raw_nodes.specs.Rooms.{branch_sum}
 use Rattle.raw_nodes.specs.declared.names.NodePtr.{NodePtr}
 use Rattle.raw_nodes.specs.declared.nodes.Held.{Held}
 use Rattle.raw_nodes.specs.declared.nodes.Held.TheVariants.{Spare, Line, Inner}
@@ -86,7 +87,7 @@ abbrev pub record_in : Held → Option NodePtr → Record
 record_in (Spare n) parent = blank None
 record_in (Line slot line) parent = line_record parent slot line
 record_in (Inner slot branch) parent =
-    inner_record parent slot (map link_name branch.room.value.children) branch.room.value.sum
+    inner_record parent slot (map link_name branch.room.value.children) (branch_sum branch)
 
 abbrev pub record_of : Node → Record
 record_of x = record_in x.held (link_name x.parent)

@@ -1,11 +1,6 @@
--- What the setters of a room write.
-use Rattle.std.specs.Prelude.{ℕ, slice_set}
-use Rattle.toggle_sums.specs.Counts.{Count}
-use Rattle.raw_nodes.specs.declared.names.Link.{Link}
-use Rattle.raw_nodes.specs.declared.nodes.Room.{Room}
+-- What is counted of the text below an inner node: its numbers stand beside its room, its toggles in it.
+use Rattle.toggle_sums.specs.Counts.{Count, count_of}
+use Rattle.raw_nodes.specs.declared.branch.Branch.{Branch}
 
-abbrev pub with_room_sum : Room → Count → Room
-with_room_sum room sum = record room { sum = sum }
-
-abbrev pub with_room_child : Room → ℕ → Link → Room
-with_room_child room i child = record room { children = slice_set room.children i child }
+abbrev pub branch_sum : Branch → Count
+branch_sum branch = count_of branch.lines branch.characters branch.marks branch.room.value.toggles

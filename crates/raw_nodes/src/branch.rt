@@ -5,32 +5,34 @@ use crate::nodes::Room;
 use text_model::WORDS;
 use toggle_sums::{Exchange, Sums};
 
-/// An inner node: its room, and beside that how many lines and characters stand below, so that who looks for one among
-/// a node's children reads no room of theirs.
+/// An inner node: its room, and beside that how many lines, characters and marks stand below, so that who looks for one
+/// among a node's children reads no room of theirs.
 #[derive(Drop)]
 pub struct Branch {
     pub room: Box<Room>,
     pub lines: usize,
     pub characters: usize,
-    ghost lines_told: { lines ≡ room.value.sum.lines },
-    ghost characters_told: { characters ≡ room.value.sum.characters },
+    pub marks: usize,
 }
 
 impl Branch {
-    ghost use Rattle.raw_nodes.specs.Rooms.{with_room_child, with_room_sum};
-    ghost use Rattle.std.specs.Prelude.{◌<◌};
+    ghost use Rattle.raw_nodes.specs.Rooms.{branch_sum};
+    ghost use Rattle.std.specs.Prelude.{◌<◌, slice_set};
     ghost use Rattle.toggle_sums.specs.Counts.{CanExchange, CountsFit, HasCounts, counting, exchanged, less, no_text};
     ghost use Rattle.toggle_sums.specs.Counts.{plus};
+    ghost use Rattle.toggle_sums.specs.ToggleSets.{no_toggles};
 
-    /// Of a room without text below.
+    /// Of a room without toggles, with no text below.
     pub fn of(room: Box<Room>) -> Branch
-        requires { room.value.sum ≡ no_text }
-        ensures { result.room ≡ room }
+        requires { room.value.toggles ≡ no_toggles }
+        ensures room { result.room ≡ room }
+        ensures sum { branch_sum result ≡ no_text }
     {
         Branch {
             room,
             lines: 0,
             characters: 0,
+            marks: 0,
         }
     }
 
@@ -39,49 +41,83 @@ impl Branch {
         room
     }
 
+    /// What is counted of the text below.
+    pub fn sum(&self) -> Sums<WORDS>
+        ensures { result ≡ branch_sum self.now }
+    {
+        Sums::of(self.lines, self.characters, self.marks, &self.room.toggles)
+    }
+
+    /// Adds what is counted of the text below to a sum.
+    pub fn add_to(&self, sum: &mut Sums<WORDS>)
+        requires { CountsFit sum.old (branch_sum self.now) }
+        ensures { sum.new ≡ plus sum.old (branch_sum self.now) }
+    {
+        sum.add_parts(self.lines, self.characters, self.marks, &self.room.toggles);
+    }
+
+    /// Says what is counted of the text below.
     pub fn set_sum(&mut self, sum: &Sums<WORDS>)
-        ensures { self.new.room.value ≡ with_room_sum self.old.room.value sum.now }
+        ensures children { self.new.room.value.children ≡ self.old.room.value.children }
+        ensures sum { branch_sum self.new ≡ sum.now }
     {
         self.lines = sum.lines();
         self.characters = sum.characters();
-        self.room.sum = *sum;
+        self.marks = sum.marks();
+        self.room.toggles = *sum.toggles();
     }
 
-    /// The room's sum counts so much more.
+    /// Counts so much more.
     pub fn add_sum(&mut self, more: &Sums<WORDS>)
-        requires { CountsFit self.old.room.value.sum more.now }
-        ensures { self.new.room.value ≡ with_room_sum self.old.room.value (plus self.old.room.value.sum more.now) }
+        requires { CountsFit (branch_sum self.old) more.now }
+        ensures children { self.new.room.value.children ≡ self.old.room.value.children }
+        ensures sum { branch_sum self.new ≡ plus (branch_sum self.old) more.now }
     {
-        self.room.sum.add(more);
-        self.lines = self.room.sum.lines();
-        self.characters = self.room.sum.characters();
+        self.add_counts(more.lines(), more.characters(), more.marks());
+        self.room.toggles.add(more.toggles());
     }
 
-    /// The room's sum counts so much less. Its toggles aren't touched.
+    /// Counts so many lines, characters and marks more. The room isn't touched.
+    fn add_counts(&mut self, lines: usize, characters: usize, marks: usize)
+        requires { CountsFit (branch_sum self.old) (counting lines characters marks) }
+        ensures room { self.new.room.value ≡ self.old.room.value }
+        ensures sum { branch_sum self.new ≡ plus (branch_sum self.old) (counting lines characters marks) }
+    {
+        self.lines += lines;
+        self.characters += characters;
+        self.marks += marks;
+    }
+
+    /// Counts so many lines, characters and marks less. The room isn't touched.
     pub fn lose_counts(&mut self, lines: usize, characters: usize, marks: usize)
-        requires { HasCounts (counting lines characters marks) self.old.room.value.sum }
-        ensures { self.new.room.value ≡ with_room_sum self.old.room.value
-            (less lines characters marks self.old.room.value.sum) }
+        requires { HasCounts (counting lines characters marks) (branch_sum self.old) }
+        ensures room { self.new.room.value ≡ self.old.room.value }
+        ensures sum { branch_sum self.new ≡ less lines characters marks (branch_sum self.old) }
     {
         self.lines -= lines;
         self.characters -= characters;
-        self.room.sum.lose_counts(lines, characters, marks);
+        self.marks -= marks;
     }
 
-    /// The room's sum counts what comes more, and what goes less.
+    /// Counts what comes more, and what goes less.
     pub fn exchange(&mut self, exchange: &Exchange)
-        requires { CanExchange exchange.now.gone exchange.now.more exchange.now.is_level self.old.room.value.sum }
-        ensures { self.new.room.value ≡ with_room_sum self.old.room.value
-            (exchanged exchange.now.gone exchange.now.more self.old.room.value.sum) }
+        requires { CanExchange exchange.now.gone exchange.now.more exchange.now.is_level (branch_sum self.old) }
+        ensures children { self.new.room.value.children ≡ self.old.room.value.children }
+        ensures sum { branch_sum self.new ≡ exchanged exchange.now.gone exchange.now.more (branch_sum self.old) }
     {
-        self.room.sum.exchange(exchange);
-        self.lines = self.room.sum.lines();
-        self.characters = self.room.sum.characters();
+        let Exchange { gone, more, .. } = exchange;
+        self.add_counts(more.lines(), more.characters(), more.marks());
+        self.lose_counts(gone.lines(), gone.characters(), gone.marks());
+        if !exchange.is_level {
+            self.room.toggles.add(more.toggles());
+            self.room.toggles.lose(gone.toggles());
+        }
     }
 
     pub fn set_child(&mut self, i: usize, child: Link)
         requires { i < 12 }
-        ensures { self.new.room.value ≡ with_room_child self.old.room.value i child }
+        ensures children { self.new.room.value.children ≡ slice_set self.old.room.value.children i child }
+        ensures sum { branch_sum self.new ≡ branch_sum self.old }
     {
         self.room.children[i] = child;
     }

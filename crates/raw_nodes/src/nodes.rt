@@ -3,19 +3,19 @@ ghost use Rattle.raw_nodes.specs.Links.{link_name};
 ghost use Rattle.raw_nodes.specs.Records.{blank, is_used, line_in, nones, record_in, slot_in, with_slot};
 ghost use Rattle.std.specs.Prelude.{◌≡◌, ◌+◌, ◌<◌, ◌≤◌, None, count_by, is_some, length, map, slice_index_or, true};
 ghost use Rattle.std.specs.Prelude.{vec_capacity};
-ghost use Rattle.toggle_sums.specs.Counts.{no_text};
+ghost use Rattle.toggle_sums.specs.ToggleSets.{no_toggles};
 
 use crate::branch::Branch;
 use crate::names::{Link, NodePtr};
 use segments::Line;
 use text_model::WORDS;
-use toggle_sums::Sums;
+use toggle_sums::ToggleWords;
 
-/// The children of an inner node, and what is counted of the text below it.
+/// The children of an inner node, and which slots are toggled in the text below it.
 #[derive(Drop)]
 pub struct Room {
     pub children: [Link; 12],
-    pub sum: Sums<WORDS>,
+    pub toggles: ToggleWords<WORDS>,
 }
 
 /// What a node is, with its slot number in its parent; of a spare that is the number of spares behind it. The number
@@ -40,11 +40,11 @@ pub struct Node {
 impl Room {
     pub fn empty() -> Room
         ensures children { map link_name result.children ≡ nones }
-        ensures sum { result.sum ≡ no_text }
+        ensures toggles { result.toggles ≡ no_toggles }
     {
         Room {
             children: [Link::none(); 12],
-            sum: Sums::counting(0, 0, 0),
+            toggles: ToggleWords::none(),
         }
     }
 
@@ -122,7 +122,7 @@ impl Held {
 fn take_room(rooms: &mut Vec<Box<Room>>) -> Box<Room>
     requires { 1 ≤ length rooms.old.items }
     ensures children { map link_name result.value.children ≡ nones }
-    ensures sum { result.value.sum ≡ no_text }
+    ensures toggles { result.value.toggles ≡ no_toggles }
     ensures rooms { length rooms.new.items + 1 ≡ length rooms.old.items }
     ensures capacity { vec_capacity rooms.new ≡ vec_capacity rooms.old }
 {

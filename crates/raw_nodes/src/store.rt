@@ -113,7 +113,7 @@ impl<C: Ticks> NodeStore<C> {
         ticks.tick();
         match &self.heap.node(name).held {
             Held::Line(_, line) => line.sum(),
-            Held::Inner(_, branch) => branch.room.sum,
+            Held::Inner(_, branch) => branch.sum(),
             Held::Spare(_) => Sums::counting(0, 0, 0),
         }
     }
@@ -156,7 +156,7 @@ impl<C: Ticks> NodeStore<C> {
         ticks.tick();
         match &self.heap.node(name).held {
             Held::Line(_, line) => line.has_toggle(slot),
-            Held::Inner(_, branch) => branch.room.sum.has(slot),
+            Held::Inner(_, branch) => branch.room.toggles.has(slot),
             Held::Spare(_) => false,
         }
     }
@@ -170,7 +170,7 @@ impl<C: Ticks> NodeStore<C> {
         ticks.tick();
         match &self.heap.node(name).held {
             Held::Line(_, line) => line.turn_odd_slots(slots),
-            Held::Inner(_, branch) => branch.room.sum.turn_odd_slots(slots),
+            Held::Inner(_, branch) => branch.room.toggles.turn_odd_slots(slots),
             Held::Spare(_) => {}
         }
     }
@@ -185,7 +185,7 @@ impl<C: Ticks> NodeStore<C> {
         ticks.tick();
         match &self.heap.node(name).held {
             Held::Line(_, line) => line.add_to(sum),
-            Held::Inner(_, branch) => sum.add(&branch.room.sum),
+            Held::Inner(_, branch) => branch.add_to(sum),
             Held::Spare(_) => {}
         }
     }
@@ -200,7 +200,7 @@ impl<C: Ticks> NodeStore<C> {
         ticks.tick();
         match &self.heap.node(name).held {
             Held::Line(_, line) => line.sum().is_bare(),
-            Held::Inner(_, branch) => branch.room.sum.is_bare(),
+            Held::Inner(_, branch) => branch.room.toggles.is_bare(),
             Held::Spare(_) => false,
         }
     }
@@ -214,7 +214,7 @@ impl<C: Ticks> NodeStore<C> {
         ticks.tick();
         match &self.heap.node(name).held {
             Held::Line(_, line) => line.marks(),
-            Held::Inner(_, branch) => branch.room.sum.marks(),
+            Held::Inner(_, branch) => branch.marks,
             Held::Spare(_) => 0,
         }
     }
@@ -358,6 +358,8 @@ impl<C: Ticks> NodeStore<C> {
         ensures most { spares self.new ≤ max (spares self.old) count }
     {
         self.reserve_lines(count)?;
+        let missing = count.saturating_sub(self.rooms.len());
+        self.reserve_list(missing)?;
         while self.rooms.len() < count {
             self.grow_rooms()?;
         }
@@ -464,6 +466,22 @@ impl<C: Ticks> NodeStore<C> {
         self.count += 1;
         self.first_spare = Some(name);
         self.spares += 1;
+        Ok(())
+    }
+
+    /// Brings the list of free rooms to hold so many more besides all that there are. Many are reserved exactly; of few
+    /// an eighth is added, so that what comes one by one doesn't move the list each time.
+    fn reserve_list(&mut self, count: usize) -> Result<(), AllocError>
+        ensures records { records self.new ≡ records self.old }
+        ensures spares { spares self.new ≡ spares self.old }
+        ensures rooms { rooms self.new ≡ rooms self.old }
+    {
+        if self.rooms.capacity() >= self.room_count.saturating_add(count) {
+            return Ok(());
+        }
+        let used = self.room_count - self.rooms.len();
+        self.rooms
+            .reserve_exact(used.saturating_add(count.max(self.room_count / 8)))?;
         Ok(())
     }
 

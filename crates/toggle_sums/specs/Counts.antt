@@ -4,6 +4,7 @@ use Rattle.std.specs.Coded.{Coded, code_by, coded×, coded_ℕ}
 use Rattle.std.specs.FinSet as set
 use Rattle.text_model.specs.Content.{Slots}
 use Rattle.text_model.specs.SlotSets.{differing}
+use Rattle.toggle_sums.specs.ToggleSets.{ToggleSets}
 
 -- how many lines, characters and marks there are, the slots that are toggled an odd number of times, and those that
 -- are toggled at all
@@ -27,6 +28,20 @@ count_code =
 abbrev pub counting : ℕ → ℕ → ℕ → Count
 counting lines characters marks =
     record { lines = lines; characters = characters; marks = marks; parity = set.empty; presence = set.empty }
+
+-- so many lines, characters and marks, and these toggles
+abbrev pub count_of : ℕ → ℕ → ℕ → ToggleSets → Count
+count_of lines characters marks toggles = record {
+  lines = lines;
+  characters = characters;
+  marks = marks;
+  parity = toggles.parity;
+  presence = toggles.presence;
+}
+
+-- the toggles of a count
+abbrev pub toggles_of : Count → ToggleSets
+toggles_of count = record { parity = count.parity; presence = count.presence }
 
 abbrev pub no_text : Count
 no_text = counting 0 0 0

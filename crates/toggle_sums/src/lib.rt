@@ -5,7 +5,9 @@ mod exchange;
 pub mod laws;
 mod summary;
 mod sums;
+mod toggle_words;
 
 pub use exchange::Exchange;
 pub use summary::Summary;
 pub use sums::Sums;
+pub use toggle_words::ToggleWords;

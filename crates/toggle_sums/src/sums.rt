@@ -1,15 +1,13 @@
-ghost use Rattle.std.specs.Prelude.{◌≡◌, ◌+◌, ◌*◌, ◌^◌, ◌<◌, ◌≤◌, slice_index, bit_or, bit_xor, length};
-ghost use Rattle.std.specs.Prelude.{true};
+ghost use Rattle.std.specs.Prelude.{◌≡◌, ◌*◌, ◌<◌, ◌≤◌, true};
 ghost use Rattle.std.specs.FinSet as set;
 ghost use Rattle.text_model.specs.SlotSets.{differing};
-ghost use Rattle.text_model.specs.TagBits.{EndBy};
 ghost use Rattle.toggle_sums.specs.Counts.{CanExchange, CountsFit, HaveSameToggles, IsBare, IsWithin, counting, less};
-ghost use Rattle.toggle_sums.specs.Counts.{plus, toggled};
+ghost use Rattle.toggle_sums.specs.Counts.{count_of, plus, toggled, toggles_of};
 ghost use Rattle.toggle_sums.specs.Counts.{HasCounts, exchanged, with_toggles, without};
-ghost use Rattle.toggle_sums.specs.SlotWords.{last_used};
 
 use crate::exchange::Exchange;
 use crate::summary::Summary;
+use crate::toggle_words::ToggleWords;
 use std::marker::Model;
 use text_model::{SlotWord, TagSet, TagSlot, WORDS};
 
@@ -20,88 +18,24 @@ pub struct Sums<const K: usize> {
     lines: usize,
     characters: usize,
     marks: usize,
-    /// How many words there are up to the last one in which a bit is set.
-    used: usize,
-    parity: [u64; K],
-    presence: [u64; K],
+    toggles: ToggleWords<K>,
 }
 
 impl<const K: usize> Model for Sums<K> {
-    ghost use Rattle.toggle_sums.specs.Counts.{Count, count_code};
-    ghost use Rattle.toggle_sums.specs.SlotWords.{AreUsed, last_used, slots_of, words_of};
-    ghost use Rattle.toggle_sums.specs.SlotWordLaws.{used_of-slots_of, words_of-slots_of};
+    ghost use Rattle.toggle_sums.specs.Counts.{Count, count_code, count_of, toggles_of};
 
     ghost Value = { Count };
 
     ghost coded = { count_code };
 
-    ghost view = { λ a. record {
-      lines = a.lines;
-      characters = a.characters;
-      marks = a.marks;
-      parity = slots_of K a.parity;
-      presence = slots_of K a.presence;
-    } };
-
-    ghost invariant = { λ a. AreUsed K a.used a.parity a.presence };
+    ghost view = { λ a. count_of a.lines a.characters a.marks a.toggles };
 
     ghost inverse = { λ s. record {
       lines = s.lines;
       characters = s.characters;
       marks = s.marks;
-      used = last_used K (words_of K s.parity) (words_of K s.presence);
-      parity = words_of K s.parity;
-      presence = words_of K s.presence;
+      toggles = toggles_of s;
     } };
-
-    ghost inverse_ok = { λ a are i. record {
-      lines = a.lines;
-      characters = a.characters;
-      marks = a.marks;
-      used = used_of-slots_of K a.used a.parity a.presence are i;
-      parity = words_of-slots_of K a.parity are.parity i;
-      presence = words_of-slots_of K a.presence are.presence i;
-    } };
-}
-
-/// How many words there are up to the last one in which a bit of either list is set, where none is from `most` on.
-fn used_words<const K: usize>(parity: &[u64; K], presence: &[u64; K], most: usize) -> usize
-    requires most { most ≤ K }
-    requires parity { EndBy most parity.now }
-    requires presence { EndBy most presence.now }
-    ensures { result ≡ last_used K parity.now presence.now }
-{
-    let mut used = most;
-    while used > 0 && parity[used - 1] == 0 && presence[used - 1] == 0 {
-        used -= 1;
-    }
-    used
-}
-
-/// Turns the bits that are set in other words, where none is set from word `used` on.
-fn turn_words<const K: usize>(words: &mut [u64; K], others: &[u64; K], used: usize)
-    requires used { used ≤ K }
-    requires rest { EndBy used others.now }
-    ensures long { length words.new ≡ K }
-    ensures words { (k : _) → k < K → slice_index words.new k
-        ≡ bit_xor (slice_index words.old k) (slice_index others.now k) }
-{
-    for index in 0..used {
-        words[index] ^= others[index];
-    }
-}
-
-/// Sets the bits that are set in other words, where none is set from word `used` on.
-fn join_words<const K: usize>(words: &mut [u64; K], others: &[u64; K], used: usize)
-    requires used { used ≤ K }
-    requires rest { EndBy used others.now }
-    ensures long { length words.new ≡ K }
-    ensures words { (k : _) → k < K → slice_index words.new k
-        ≡ bit_or (slice_index words.old k) (slice_index others.now k) }
-{
-    for index in 0..used {
-        words[index] |= others[index];
-    }
 }
 
 impl<const K: usize> Sums<K> {
@@ -113,10 +47,27 @@ impl<const K: usize> Sums<K> {
             lines,
             characters,
             marks,
-            used: 0,
-            parity: [0; K],
-            presence: [0; K],
+            toggles: ToggleWords::none(),
         }
+    }
+
+    /// The sum of so many lines, characters and marks with these toggles.
+    pub fn of(lines: usize, characters: usize, marks: usize, toggles: &ToggleWords<K>) -> Sums<K>
+        ensures { result ≡ count_of lines characters marks toggles.now }
+    {
+        Sums {
+            lines,
+            characters,
+            marks,
+            toggles: *toggles,
+        }
+    }
+
+    /// Which slots are toggled.
+    pub fn toggles(&self) -> &ToggleWords<K>
+        ensures { result.now ≡ toggles_of self.now }
+    {
+        &self.toggles
     }
 
     /// How many lines there are.
@@ -145,7 +96,7 @@ impl<const K: usize> Sums<K> {
         requires { slot.0 < 64 * K }
         ensures { result ≡ set.contains self.now.parity slot.0 }
     {
-        self.parity[slot.0 as usize / 64] >> (slot.0 % 64) & 1 == 1
+        self.toggles.parity(slot)
     }
 
     /// Whether a slot is toggled at all.
@@ -153,7 +104,7 @@ impl<const K: usize> Sums<K> {
         requires { slot.0 < 64 * K }
         ensures { result ≡ set.contains self.now.presence slot.0 }
     {
-        self.presence[slot.0 as usize / 64] >> (slot.0 % 64) & 1 == 1
+        self.toggles.has(slot)
     }
 
     /// Whether no slot is toggled.
@@ -161,7 +112,7 @@ impl<const K: usize> Sums<K> {
         ensures yes { result ≡ true → IsBare self.now }
         ensures no { IsBare self.now → result ≡ true }
     {
-        self.used == 0
+        self.toggles.is_bare()
     }
 
     /// Whether each slot that is toggled here is toggled in the other sum too.
@@ -169,9 +120,7 @@ impl<const K: usize> Sums<K> {
         ensures yes { result ≡ true → IsWithin self.now other.now }
         ensures no { IsWithin self.now other.now → result ≡ true }
     {
-        let mut both = other.presence;
-        join_words(&mut both, &self.presence, self.used);
-        both == other.presence
+        self.toggles.is_within(&other.toggles)
     }
 
     /// Whether the slots that are toggled an odd number of times, and those that are toggled at all, are the same.
@@ -179,10 +128,7 @@ impl<const K: usize> Sums<K> {
         ensures yes { result ≡ true → HaveSameToggles self.now other.now }
         ensures no { HaveSameToggles self.now other.now → result ≡ true }
     {
-        if self.used != other.used {
-            return false;
-        }
-        self.parity == other.parity && self.presence == other.presence
+        self.toggles.is_level(&other.toggles)
     }
 
     /// Counts so many lines, characters and marks more. The toggles aren't touched.
@@ -210,12 +156,24 @@ impl<const K: usize> Sums<K> {
         requires { CountsFit self.old more.now }
         ensures { self.new ≡ plus self.old more.now }
     {
-        self.lines += more.lines;
-        self.characters += more.characters;
-        self.marks += more.marks;
-        turn_words(&mut self.parity, &more.parity, more.used);
-        join_words(&mut self.presence, &more.presence, more.used);
-        self.used = used_words(&self.parity, &self.presence, self.used.max(more.used));
+        self.add_parts(more.lines, more.characters, more.marks, &more.toggles);
+    }
+
+    /// Counts so many lines, characters and marks more, and these toggles.
+    pub fn add_parts(
+        &mut self,
+        lines: usize,
+        characters: usize,
+        marks: usize,
+        toggles: &ToggleWords<K>,
+    )
+        requires { CountsFit self.old (count_of lines characters marks toggles.now) }
+        ensures { self.new ≡ plus self.old (count_of lines characters marks toggles.now) }
+    {
+        self.lines += lines;
+        self.characters += characters;
+        self.marks += marks;
+        self.toggles.add(toggles);
     }
 
     /// Counts so much less, where each slot that is toggled in what goes is toggled in what stays too.
@@ -228,8 +186,7 @@ impl<const K: usize> Sums<K> {
         self.lines -= gone.lines;
         self.characters -= gone.characters;
         self.marks -= gone.marks;
-        turn_words(&mut self.parity, &gone.parity, gone.used);
-        self.used = used_words(&self.parity, &self.presence, self.used.max(gone.used));
+        self.toggles.lose(&gone.toggles);
     }
 
     /// The sum with one toggle of a slot more.
@@ -237,12 +194,8 @@ impl<const K: usize> Sums<K> {
         requires { slot.0 < 64 * K }
         ensures { result ≡ toggled slot.0 self.now }
     {
-        let word = slot.0 as usize / 64;
-        let bit = 1 << (slot.0 % 64);
         let mut sums = *self;
-        sums.parity[word] ^= bit;
-        sums.presence[word] |= bit;
-        sums.used = used_words(&sums.parity, &sums.presence, sums.used.max(word + 1));
+        sums.toggles.toggle(slot);
         sums
     }
 }
@@ -252,14 +205,14 @@ impl Sums<WORDS> {
     pub fn odd_slots(&self) -> TagSet
         ensures { result ≡ self.now.parity }
     {
-        TagSet::of_words(self.parity)
+        self.toggles.odd_slots()
     }
 
     /// Turns in a set the slots that are toggled an odd number of times.
     pub fn turn_odd_slots(&self, slots: &mut TagSet)
         ensures { slots.new ≡ differing slots.old self.now.parity }
     {
-        slots.flip_words(&self.parity, self.used);
+        self.toggles.turn_odd_slots(slots);
     }
 
     /// Counts what comes more, and what goes less, where each slot that is toggled in what goes is toggled in what
@@ -282,15 +235,7 @@ impl Sums<WORDS> {
     pub fn add_word(&mut self, slots: &SlotWord)
         ensures { self.new ≡ with_toggles slots.now self.old }
     {
-        let index = slots.index();
-        let bits = slots.bits();
-        if bits == 0 {
-            return;
-        }
-        self.parity[index] ^= bits;
-        self.presence[index] |= bits;
-        // A word with a bit is used, and no bit goes out where slots are present: nothing is looked for.
-        self.used = self.used.max(index + 1);
+        self.toggles.add_word(slots);
     }
 }
 

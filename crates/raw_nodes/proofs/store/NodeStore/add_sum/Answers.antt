@@ -47,7 +47,7 @@ returns-clause-records g c =
     let more = c.args.more.now in
     rewritten h.places h.values p x _ h.paired named e refl (λ r. with_sum r (plus r.sum more))
     (recounted x.held c.branch_mut-branch.result.now c.add_sum.new.self _ (λ s. plus s more)
-    c.branch_mut-branch.ensures.value c.add_sum.ensures)
+    c.branch_mut-branch.ensures.value c.add_sum.ensures.children c.add_sum.ensures.sum)
 
 pub add_sum-requires : goal.add_sum-requires
 unfolding records

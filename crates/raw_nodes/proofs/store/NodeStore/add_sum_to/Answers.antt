@@ -1,4 +1,4 @@
-use Rattle.std.proofs.Common.{◌≡◌, ap, sym, ◌∙◌, subst, arith}
+use Rattle.std.proofs.Common.{◌≡◌, ap, sym, ◌∙◌, subst}
 use Rattle.toggle_sums.specs.Counts.{CountsFit, plus}
 use Rattle.raw_nodes.specs.Links.{link_name}
 use Rattle.raw_nodes.specs.Names.{records}
@@ -24,9 +24,8 @@ unfolding records
 returns-in-Inner-clause-value g c =
     let h = c.args.self.now.heap in let p = c.args.name in let x = c.node.result.now in let e = c.node.ensures in
     let old = c.args.sum.now in
-    read_entry h.places h.values p x h.paired c.requires.name e (λ r. c.add.new.self ≡ plus old r.sum)
-    (c.add.ensures ∙ ap (plus old) (ap (λ z. z.sum) c.deref.ensures
-    ∙ sym (ap (λ k. (record_in k (link_name x.parent)).sum) c.in-Inner.is)))
+    read_entry h.places h.values p x h.paired c.requires.name e (λ r. c.add_to-in-Inner.new.sum ≡ plus old r.sum)
+    (c.add_to-in-Inner.ensures ∙ ap (plus old) (sym (ap (λ k. (record_in k (link_name x.parent)).sum) c.in-Inner.is)))
 
 pub returns-in-Spare-clause-value : goal.returns-in-Spare-clause-value
 unfolding records
@@ -44,13 +43,10 @@ add_to-requires g c =
     subst (CountsFit old) (ap (λ k. (record_in k (link_name x.parent)).sum) c.in-Line.is)
     (told_entry h.places h.values p x h.paired c.requires.name e (λ r. CountsFit old r.sum) c.requires.fits)
 
-pub add-requires : goal.add-requires
+pub add_to-requires-in-Inner : goal.add_to-requires-in-Inner
 unfolding records
-add-requires g c =
+add_to-requires-in-Inner g c =
     let h = c.args.self.now.heap in let p = c.args.name in let x = c.node.result.now in let e = c.node.ensures in
-    let old = c.args.sum.now in (
-      omega arith,
-      subst (CountsFit old) (ap (λ k. (record_in k (link_name x.parent)).sum) c.in-Inner.is
-          ∙ sym (ap (λ z. z.sum) c.deref.ensures))
-          (told_entry h.places h.values p x h.paired c.requires.name e (λ r. CountsFit old r.sum) c.requires.fits),
-    )
+    let old = c.args.sum.now in
+    subst (CountsFit old) (ap (λ k. (record_in k (link_name x.parent)).sum) c.in-Inner.is)
+    (told_entry h.places h.values p x h.paired c.requires.name e (λ r. CountsFit old r.sum) c.requires.fits)

@@ -47,7 +47,7 @@ returns-clause-records g c =
     let both = c.args.exchange.now in
     rewritten h.places h.values p x _ h.paired named e refl (λ r. with_sum r (exchanged both.gone both.more r.sum))
     (recounted x.held c.branch_mut-branch.result.now c.exchange.new.self _ (exchanged both.gone both.more)
-    c.branch_mut-branch.ensures.value c.exchange.ensures)
+    c.branch_mut-branch.ensures.value c.exchange.ensures.children c.exchange.ensures.sum)
 
 pub exchange-requires : goal.exchange-requires
 unfolding records

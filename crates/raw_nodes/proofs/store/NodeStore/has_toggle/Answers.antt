@@ -28,7 +28,7 @@ returns-in-Inner-clause-value g c =
     let used = in_use h.places h.values p x h.paired c.requires.name e in
     read_entry h.places h.values p x h.paired c.requires.name e (λ r. c.has.result
     ≡ set.contains r.sum.presence c.args.slot.0) (c.has.ensures
-    ∙ ap (λ z. set.contains z.sum.presence c.args.slot.0) c.deref.ensures
+    ∙ ap (λ z. set.contains z.toggles.presence c.args.slot.0) c.deref.ensures
     ∙ sym (ap (λ k. set.contains (record_in k (link_name x.parent)).sum.presence c.args.slot.0)
     c.in-Inner.is))
 

@@ -3,7 +3,7 @@ use Rattle.toggle_sums.specs.Counts.{IsBare}
 use Rattle.raw_nodes.specs.Links.{link_name}
 use Rattle.raw_nodes.specs.Names.{records}
 use Rattle.raw_nodes.specs.Records.{is_used, record_in}
-use Rattle.raw_nodes.proofs.NameLaws.{in_use, name_place, read_entry}
+use Rattle.raw_nodes.proofs.NameLaws.{bare_branch, bare_room, in_use, name_place, read_entry}
 use mathlib.Core.Bool.{false≢true}
 use Rattle.raw_nodes.proofs.store.NodeStore.is_bare.Goals as goal
 
@@ -24,8 +24,8 @@ unfolding records
 returns-in-Inner-clause-yes g c =
     let h = c.args.self.now.heap in let p = c.args.name in let x = c.node.result.now in let e = c.node.ensures in
     read_entry h.places h.values p x h.paired c.requires e (λ r. c.is_bare-in-Inner.result ≡ true → IsBare r.sum) (λ yes.
-    subst IsBare (ap (λ z. z.sum) c.deref.ensures
-    ∙ sym (ap (λ k. (record_in k (link_name x.parent)).sum) c.in-Inner.is)) (c.is_bare-in-Inner.ensures.yes yes))
+    subst IsBare (sym (ap (λ k. (record_in k (link_name x.parent)).sum) c.in-Inner.is))
+    (bare_branch c.in-Inner.branch _ c.deref.ensures (c.is_bare-in-Inner.ensures.yes yes)))
 
 pub returns-in-Line-clause-no : goal.returns-in-Line-clause-no
 unfolding records
@@ -40,9 +40,8 @@ unfolding records
 returns-in-Inner-clause-no g c =
     let h = c.args.self.now.heap in let p = c.args.name in let x = c.node.result.now in let e = c.node.ensures in
     read_entry h.places h.values p x h.paired c.requires e (λ r. IsBare r.sum → c.is_bare-in-Inner.result ≡ true) (λ bare.
-    c.is_bare-in-Inner.ensures.no
-    (subst IsBare (ap (λ k. (record_in k (link_name x.parent)).sum) c.in-Inner.is
-    ∙ sym (ap (λ z. z.sum) c.deref.ensures)) bare))
+    c.is_bare-in-Inner.ensures.no (bare_room c.in-Inner.branch _ c.deref.ensures
+    (subst IsBare (ap (λ k. (record_in k (link_name x.parent)).sum) c.in-Inner.is) bare)))
 
 pub returns-in-Spare-clause-no : goal.returns-in-Spare-clause-no
 unfolding records

@@ -25,8 +25,7 @@ returns-in-Inner-clause-value g c =
     let h = c.args.self.now.heap in let p = c.args.name in let x = c.node.result.now in let e = c.node.ensures in
     let used = in_use h.places h.values p x h.paired c.requires e in
     read_entry h.places h.values p x h.paired c.requires e (λ r. c.in-Inner.branch.lines
-    ≡ r.sum.lines) (c.in-Inner.branch.lines_told
-    ∙ sym (ap (λ k. (record_in k (link_name x.parent)).sum.lines) c.in-Inner.is))
+    ≡ r.sum.lines) (sym (ap (λ k. (record_in k (link_name x.parent)).sum.lines) c.in-Inner.is))
 
 pub returns-in-Spare-clause-value : goal.returns-in-Spare-clause-value
 unfolding records

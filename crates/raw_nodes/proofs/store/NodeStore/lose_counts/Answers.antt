@@ -6,6 +6,7 @@ use Rattle.raw_nodes.proofs.NameLaws.{followed_kept, listed_kept, whole_kept, ch
 use Rattle.raw_nodes.proofs.NameLaws.{rewritten, recounted, room_if, rooms_kept, told_entry}
 use Rattle.raw_nodes.specs.Links.{link_name}
 use Rattle.toggle_sums.specs.Counts.{HasCounts, counting, less}
+use Rattle.raw_nodes.specs.declared.nodes.Room.{Room}
 use Rattle.raw_nodes.proofs.store.NodeStore.lose_counts.Goals as goal
 
 pub node_mut-requires : goal.node_mut-requires
@@ -46,7 +47,8 @@ returns-clause-records g c =
     let x = c.node_mut.result.now in let e = c.node_mut.ensures.value in
     rewritten h.places h.values p x _ h.paired named e refl (λ r. with_sum r (less c.args.lines c.args.characters c.args.marks r.sum))
     (recounted x.held c.branch_mut-branch.result.now c.lose_counts.new.self _ (less c.args.lines c.args.characters c.args.marks)
-    c.branch_mut-branch.ensures.value c.lose_counts.ensures)
+    c.branch_mut-branch.ensures.value (ap (λ (z : Room). z.children) c.lose_counts.ensures.room)
+    c.lose_counts.ensures.sum)
 
 pub lose_counts-requires : goal.lose_counts-requires
 unfolding records

@@ -23,9 +23,8 @@ unfolding records
 returns-in-Inner-clause-value g c =
     let h = c.args.self.now.heap in let p = c.args.name in let x = c.node.result.now in let e = c.node.ensures in
     let used = in_use h.places h.values p x h.paired c.requires e in
-    read_entry h.places h.values p x h.paired c.requires e (λ r. c.marks-in-Inner.result
-    ≡ r.sum.marks) (c.marks-in-Inner.ensures ∙ ap (λ z. z.sum.marks) c.deref.ensures
-    ∙ sym (ap (λ k. (record_in k (link_name x.parent)).sum.marks) c.in-Inner.is))
+    read_entry h.places h.values p x h.paired c.requires e (λ r. c.in-Inner.branch.marks
+    ≡ r.sum.marks) (sym (ap (λ k. (record_in k (link_name x.parent)).sum.marks) c.in-Inner.is))
 
 pub returns-in-Spare-clause-value : goal.returns-in-Spare-clause-value
 unfolding records

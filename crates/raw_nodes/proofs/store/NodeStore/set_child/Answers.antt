@@ -44,4 +44,4 @@ returns-clause-records g c =
     let x = c.node_mut.result.now in let e = c.node_mut.ensures.value in
     rewritten h.places h.values p x _ h.paired named e refl (λ r. with_child r c.args.i c.args.child)
     (lodged x.held c.branch_mut-branch.result.now c.set_child.new.self _ c.args.i c.of.result c.args.child
-    c.branch_mut-branch.ensures.value c.set_child.ensures c.of.ensures)
+    c.branch_mut-branch.ensures.value c.set_child.ensures.children c.set_child.ensures.sum c.of.ensures)

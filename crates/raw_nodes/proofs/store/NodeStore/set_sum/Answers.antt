@@ -43,4 +43,4 @@ returns-clause-records g c =
     let x = c.node_mut.result.now in let e = c.node_mut.ensures.value in
     rewritten h.places h.values p x _ h.paired named e refl (λ r. with_sum r c.args.sum.now)
     (summed x.held c.branch_mut.result.now c.set_sum.new.self _ c.args.sum.now c.branch_mut.ensures.value
-    c.set_sum.ensures)
+    c.set_sum.ensures.children c.set_sum.ensures.sum)

@@ -29,8 +29,7 @@ returns-in-Inner-clause-value g c =
     let h = c.args.self.now.heap in let p = c.args.name in let x = c.node.result.now in let e = c.node.ensures in
     let used = in_use h.places h.values p x h.paired c.requires e in
     read_entry h.places h.values p x h.paired c.requires e (λ r. (c.in-Inner.branch.lines, c.in-Inner.branch.characters)
-    ≡ (r.sum.lines, r.sum.characters)) ((λ i. (c.in-Inner.branch.lines_told i, c.in-Inner.branch.characters_told i))
-    ∙ sym (ap (λ k. counts (record_in k (link_name x.parent))) c.in-Inner.is))
+    ≡ (r.sum.lines, r.sum.characters)) (sym (ap (λ k. counts (record_in k (link_name x.parent))) c.in-Inner.is))
 
 pub returns-in-Spare-clause-value : goal.returns-in-Spare-clause-value
 unfolding records

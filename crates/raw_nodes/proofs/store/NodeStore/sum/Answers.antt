@@ -24,8 +24,8 @@ unfolding records
 returns-in-Inner-clause-value g c =
     let h = c.args.self.now.heap in let p = c.args.name in let x = c.node.result.now in let e = c.node.ensures in
     let used = in_use h.places h.values p x h.paired c.requires e in
-    read_entry h.places h.values p x h.paired c.requires e (λ r. c.deref.result.now.sum
-    ≡ r.sum) (ap (λ z. z.sum) c.deref.ensures
+    read_entry h.places h.values p x h.paired c.requires e (λ r. c.sum-in-Inner.result
+    ≡ r.sum) (c.sum-in-Inner.ensures
     ∙ sym (ap (λ k. (record_in k (link_name x.parent)).sum) c.in-Inner.is))
 
 pub returns-in-Spare-clause-value : goal.returns-in-Spare-clause-value

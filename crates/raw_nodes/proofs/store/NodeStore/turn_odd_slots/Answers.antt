@@ -27,7 +27,7 @@ returns-in-Inner-clause-value g c =
     let old = c.args.slots.now in
     read_entry h.places h.values p x h.paired c.requires e
     (λ r. c.turn_odd_slots-in-Inner.new.slots ≡ differing old r.sum.parity)
-    (c.turn_odd_slots-in-Inner.ensures ∙ ap (λ z. differing old z.sum.parity) c.deref.ensures
+    (c.turn_odd_slots-in-Inner.ensures ∙ ap (λ z. differing old z.toggles.parity) c.deref.ensures
     ∙ sym (ap (λ k. differing old (record_in k (link_name x.parent)).sum.parity) c.in-Inner.is))
 
 pub returns-in-Spare-clause-value : goal.returns-in-Spare-clause-value

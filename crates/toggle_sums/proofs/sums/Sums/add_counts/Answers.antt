@@ -1,6 +1,5 @@
 use Rattle.std.proofs.Common.{◌+◌, sym}
 use Rattle.toggle_sums.specs.CountLaws.{differing-empty, union-empty}
-use Rattle.toggle_sums.specs.SlotWords.{slots_of}
 use Rattle.toggle_sums.proofs.sums.Sums.add_counts.Goals as goal
 
 pub returns : goal.returns
@@ -10,6 +9,6 @@ returns g c =
       lines = now.lines + c.args.lines;
       characters = now.characters + c.args.characters;
       marks = now.marks + c.args.marks;
-      parity = sym (differing-empty (slots_of g.row.K now.parity)) i;
-      presence = sym (union-empty (slots_of g.row.K now.presence)) i;
+      parity = sym (differing-empty now.toggles.parity) i;
+      presence = sym (union-empty now.toggles.presence) i;
     })

@@ -1,0 +1,11 @@
+use Rattle.std.proofs.Common.{refl}
+use Rattle.raw_nodes.specs.Names.{records}
+use Rattle.raw_nodes.proofs.store.NodeStore.reserve_list.Goals as goal
+
+pub returns-clause-records : goal.returns-clause-records
+unfolding records
+returns-clause-records g c = refl
+
+pub returns-in_err-reserve_exact-clause-records : goal.returns-in_err-reserve_exact-clause-records
+unfolding records
+returns-in_err-reserve_exact-clause-records g c = refl

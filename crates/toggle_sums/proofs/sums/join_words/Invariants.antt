@@ -1,6 +1,0 @@
-use Rattle.std.proofs.Common.{bit_or}
-use Rattle.toggle_sums.proofs.WordSteps.{SoFar}
-use Rattle.toggle_sums.proofs.sums.join_words.Given as goal
-
-abbrev pub invariant-loop-index : goal.invariant-loop-index
-invariant-loop-index g l = SoFar bit_or l.initial.words l.others l.words g.row.K l.index
