@@ -66,9 +66,6 @@ fn change_of<L: LineList>(draft: Draft<L>) -> Result<Change, AllocError>
     })
 }
 
-/// How many bytes a long text has.
-const LONG_TEXT: usize = 65_536;
-
 /// What steps make of a list of lines, which stays as it is.
 fn change_by<L: LineList>(alloc: Global, list: &L, steps: &[Step]) -> Result<Change, AllocError>
     requires { Fits steps.now (content_of (L.lines list.now)) }
@@ -95,18 +92,6 @@ fn change_by_owned<L: LineList>(
     let mut draft = Draft::new(alloc, list);
     draft.make_owned_steps(steps, queries::len(list))?;
     change_of(draft)
-}
-
-/// Whether steps put in a text for which it is worth while that it goes as its lines are made. A step is moved then.
-fn has_long_text(steps: &[Step]) -> bool {
-    for step in steps {
-        if let Step::Insert(_, text, _) = step {
-            if text.as_str().len() >= LONG_TEXT {
-                return true;
-            }
-        }
-    }
-    false
 }
 
 impl<L: LineList> LineStore<L> {
@@ -236,9 +221,6 @@ impl<L: LineList> TextStore for LineStore<L> {
     }
 
     fn prepare_owned(&mut self, edit: Edit) -> Result<Change, AllocError> {
-        if !has_long_text(edit.steps.as_slice()) {
-            return self.prepare(&edit);
-        }
         let change = change_by_owned(self.alloc, &self.list, edit.steps.into_vec())?;
         self.reserve(&change)?;
         Ok(change)
