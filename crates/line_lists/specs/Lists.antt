@@ -1,6 +1,7 @@
 -- The lists of lines that texts are kept as.
 use Rattle.std.specs.Prelude.{◌≡◌, ℕ, ◌+◌, ◌-◌, ◌<◌, ◌≤◌, ◌^◌, Bool, true, not, nat_lt, List, [], ◌∷◌, ◌++◌, ⊤, Option}
-use Rattle.std.specs.Prelude.{None, Some, IfSome, length, min, take, drop, slice_get, is_some, option_map, if◌then◌else◌}
+use Rattle.std.specs.Prelude.{None, Some, IfSome, length, min, take, drop, slice_get, is_some, option_map}
+use Rattle.std.specs.Prelude.{if◌then◌else◌}
 use Rattle.std.specs.FinMap as finite
 use Rattle.std.specs.FinSet as set
 use Rattle.std.specs.List.{position, suffix_len}

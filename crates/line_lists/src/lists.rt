@@ -6,7 +6,8 @@ ghost use Rattle.toggle_sums.specs.Counts.{plus};
 ghost use Rattle.segments.specs.Columns.{LineContent, characters, plain_line};
 ghost use Rattle.line_lists.specs.Edits.{without_mark};
 ghost use Rattle.line_lists.specs.Lists.{AreLines, Holds, IsCounted, IsMarked, NumbersBelow, count_of, has_mark};
-ghost use Rattle.line_lists.specs.Lists.{has_marks, has_toggle, more_lines, next_line, previous_line, row_of, spliced};
+ghost use Rattle.line_lists.specs.Lists.{has_marks, has_toggle, more_lines, next_line, previous_line, row_of};
+ghost use Rattle.line_lists.specs.Lists.{spliced};
 ghost use Rattle.line_lists.specs.Texts.{whole};
 
 use segments::Line;
@@ -23,8 +24,8 @@ pub trait LineList: Drop {
     /// The lines, however they are kept.
     ghost lines: { Self → List LineContent };
 
-    /// Whether so many lines that come in so many rows, beyond those in whose place they come, can be put in before more
-    /// is reserved.
+    /// Whether so many lines that come in so many rows, beyond those in whose place they come, can be put in before
+    /// more is reserved.
     ghost has_room: { Self → ℕ → ℕ → Type 0 };
 
     /// A bound of the numbers of marks that can be put in before more is reserved.
