@@ -32,12 +32,12 @@ abbrev pub most_in_row : ℕ
 most_in_row = 32768
 
 -- nodes above so many lines that are put in in a row: one for each 12, one for each 12 of these, and so on; and at the
--- ends of each row a few a level
-abbrev pub nodes_above : ℕ → ℕ
-nodes_above lines = lines / 11 + 64 * (lines / most_in_row + 1)
+-- ends of each row two a level and a few
+abbrev pub nodes_above : TreeState → ℕ → ℕ
+nodes_above t lines = lines / 11 + (2 * levels_at_most t.nodes + 6) * (lines / most_in_row + 1)
 
 -- what a row of so many lines takes
 pub record CanPutRow (t : TreeState) (lines : ℕ) : Type 0 where
-  pub rooms : nodes_above lines ≤ t.rooms
-  pub spares : lines + nodes_above lines ≤ t.spares
+  pub rooms : nodes_above t lines ≤ t.rooms
+  pub spares : lines + nodes_above t lines ≤ t.spares
   pub names : min lines most_in_row ≤ t.row_room

@@ -357,6 +357,7 @@ impl<C: Ticks> LineTree<C> {
         ensures spares { self.old.spares ≤ self.new.spares + self.old.height + 2 }
         ensures rooms { self.new.rooms + self.old.spares ≡ self.old.rooms + self.new.spares + 1 }
         ensures nodes { self.new.nodes ≡ self.old.nodes }
+        ensures names { self.new.row_room ≡ self.old.row_room }
         ensures room { line_room self.old ≤ line_room self.new + 1 }
     {
         self.put_behind(None, k, line, ticks)
@@ -379,6 +380,7 @@ impl<C: Ticks> LineTree<C> {
         ensures spares { self.old.spares ≤ self.new.spares + self.old.height + 2 }
         ensures rooms { self.new.rooms + self.old.spares ≡ self.old.rooms + self.new.spares + 1 }
         ensures nodes { self.new.nodes ≡ self.old.nodes }
+        ensures names { self.new.row_room ≡ self.old.row_room }
         ensures room { line_room self.old ≤ line_room self.new + 1 }
     {
         self.count += 1;
