@@ -2,9 +2,10 @@
 use Rattle.std.specs.Prelude.{◌≡◌, ℕ, suc, ◌+◌, ◌*◌, ◌≤◌, ⊤, ◌⊎◌, List, ◌++◌, length, map, take, drop, IsSome}
 use Rattle.std.specs.FinMap as finite
 use Rattle.std.specs.List.{AllByRecursion, flat_map}
-use Rattle.std.specs.declared.option.Option.TheVariants.{None}
+use Rattle.std.specs.declared.option.Option.TheVariants.{None, Some}
 use Rattle.toggle_sums.specs.Counts.{plus}
 use Rattle.raw_nodes.specs.Records.{Record, Records}
+use Rattle.raw_nodes.specs.Rows.{kids, row}
 use Rattle.raw_nodes.specs.declared.names.NodePtr.{NodePtr}
 use Rattle.line_tree.specs.Changes.{Among, Distinct, FitsSum, sum_all}
 use Rattle.line_tree.specs.Growth.{HasNoParent, IsWide, lines_of, names_of}
@@ -43,6 +44,14 @@ pub record Raises (m n : Records) (h : ℕ) (cs : List NodePtr) (all : ℕ) (ps 
   pub below : below_all h (trees_at n (suc h) ps) ≡ trees_at m h cs
   pub wide : (least : ℕ) → least ≤ 6 → least ≤ all → AllByRecursion (HasKids least h) (trees_at n (suc h) ps)
   pub loose : (q : NodePtr) → Among q ps → HasNoParent n q
+
+-- an inner record with a row of children, some of which may be gone
+pub record HasSlots (m : Records) (p : NodePtr) : Type 0 where
+  pub found : Record
+  pub is : finite.get m p ≡ Some found
+  pub children : found.children ≡ row (kids m p)
+  pub few : length (kids m p) ≤ 12
+  pub inner : found.line ≡ None
 
 -- ---- a row of lines
 -- the lines of these names can be put in below p

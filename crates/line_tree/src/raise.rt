@@ -1,14 +1,12 @@
-ghost use Rattle.std.specs.Prelude.{◌≡◌, ℕ, ◌+◌, ◌-◌, ◌*◌, ◌≤◌, ◌<◌, ◌++◌, length, take, drop, vec_capacity};
+ghost use Rattle.std.specs.Prelude.{◌≡◌, ℕ, ◌+◌, ◌-◌, ◌*◌, ◌≤◌, ◌<◌, ◌++◌, length, slice_get, take, drop, vec_capacity};
 ghost use Rattle.std.specs.FinMap as finite;
 ghost use Rattle.raw_nodes.specs.Names.{IsName, nodes, records, rooms, spares};
 ghost use Rattle.raw_nodes.specs.Rows.{kids, row};
 ghost use Rattle.line_tree.specs.Changes.{Among, FitsSum, sum_all};
-ghost use Rattle.line_tree.specs.Finds.{HasRow};
 ghost use Rattle.line_tree.specs.Growth.{NewRoot};
-ghost use Rattle.line_tree.specs.Raising.{CanRaise, Raises};
+ghost use Rattle.line_tree.specs.Raising.{CanRaise, HasSlots, Raises};
 
 use crate::fill::{refill, sum_of};
-use crate::shrink::kid;
 use raw_nodes::{NodePtr, NodeStore, Ticks};
 
 /// How many of so many nodes get the next node above them: 12, or half of them where else less than six are left over.
@@ -112,6 +110,20 @@ pub struct Gap {
     pub back: usize,
 }
 
+/// Number `i` of a node's children, which may be gone.
+fn listed<C: Ticks>(
+    store: &NodeStore<C>,
+    node: NodePtr,
+    i: usize,
+    ticks: &mut C,
+) -> Option<NodePtr>
+    requires slots { HasSlots (records store.now) node }
+    requires index { i < 12 }
+    ensures { result ≡ slice_get (kids (records store.now) node) i }
+{
+    store.child(node, i, ticks)
+}
+
 /// Puts the children in the slots from one up to another behind those of a list.
 fn push_children<C: Ticks>(
     store: &NodeStore<C>,
@@ -121,7 +133,7 @@ fn push_children<C: Ticks>(
     list: &mut Vec<NodePtr>,
     ticks: &mut C,
 )
-    requires row { HasRow (records store.now) node }
+    requires row { HasSlots (records store.now) node }
     requires slots { to ≤ 12 }
     requires within { from ≤ to }
     requires names { length list.old.items + 12 ≤ vec_capacity list.old }
@@ -129,7 +141,7 @@ fn push_children<C: Ticks>(
     ensures names { vec_capacity list.new ≡ vec_capacity list.old }
 {
     for slot in from..to {
-        if let Some(child) = kid(store, node, slot, ticks) {
+        if let Some(child) = listed(store, node, slot, ticks) {
             list.push_reserved(child);
         }
     }
@@ -154,7 +166,7 @@ fn list_with<C: Ticks>(
     list: &mut Vec<NodePtr>,
     ticks: &mut C,
 )
-    requires row { HasRow (records store.now) gap.node }
+    requires row { HasSlots (records store.now) gap.node }
     requires gap { (gap.front ≤ gap.back) × (gap.back ≤ 12) }
     requires names { length row.now + 24 ≤ vec_capacity list.old }
     ensures list { list.new.items ≡ take gap.front (kids (records store.now) gap.node)
@@ -175,7 +187,7 @@ pub fn remake<C: Ticks>(
     below: &mut Vec<NodePtr>,
     ticks: &mut C,
 )
-    requires row { HasRow (records store.old) gap.node }
+    requires row { HasSlots (records store.old) gap.node }
     requires gap { (gap.front ≤ gap.back) × (gap.back ≤ 12) }
     requires raise { (h : ℕ) × CanRaise (finite.remove (records store.old) gap.node) h
         (take gap.front (kids (records store.old) gap.node)
@@ -189,6 +201,9 @@ pub fn remake<C: Ticks>(
         → CanRaise (finite.remove (records store.old) gap.node) h all
         → Raises (finite.remove (records store.old) gap.node) (records store.new) h all (length all) row.new.items }
     ensures few { 12 * length row.new.items ≤ length row.old.items + 23 }
+    ensures ends { (all : _) → all ≡ take gap.front (kids (records store.old) gap.node)
+        ++ (row.old.items ++ drop gap.back (kids (records store.old) gap.node))
+        → 12 * length row.new.items ≤ length all + 11 }
     ensures spares { spares store.new + length row.new.items ≡ spares store.old + 1 }
     ensures rooms { rooms store.new + length row.new.items ≡ rooms store.old + 1 }
     ensures nodes { nodes store.new ≡ nodes store.old }
