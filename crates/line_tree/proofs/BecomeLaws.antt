@@ -19,10 +19,11 @@ use Rattle.line_tree.specs.Shape.{Holds, tree_at}
 use Rattle.line_tree.specs.Trees.{Tree, tops}
 use Rattle.line_tree.proofs.AmongLaws.{among-cases, among-left, among-right}
 use Rattle.line_tree.proofs.BuildLaws.{built}
-use Rattle.line_tree.proofs.DistinctLaws.{distinct-append}
+use Rattle.line_tree.proofs.DistinctLaws.{distinct-append, distinct-apart, distinct-left, distinct-right}
 use Rattle.line_tree.proofs.FillLaws.{at-update, refilled-other, relinked-row}
 use Rattle.line_tree.proofs.FrameLaws.{all-same, names-all-held, tops-among}
-use Rattle.line_tree.proofs.GrowLaws.{all-append, in-cases, in-left, in-right, names-append, of-one, to-one, unnamed}
+use Rattle.line_tree.proofs.GrowLaws.{all-append, all-left, all-right, in-cases, in-left, in-right, names-append}
+use Rattle.line_tree.proofs.GrowLaws.{of-one, to-one, unnamed}
 use Rattle.line_tree.proofs.RootLaws.{can-top, new-line, new-named, new-other}
 use Rattle.line_tree.proofs.UpdateLaws.{refilled-named}
 
@@ -82,6 +83,26 @@ both m l n ps qs h us vs a b apart named =
             e.0,
             λ c. elim (among-cases q ps qs c) [ inl f ↦ e.1 f | inr f ↦ d.1 f ],
           );
+    }
+
+-- in another order
+pub swapped : (m n : Records) (ps : List NodePtr) (h : ℕ) (us vs : List (Tree h)) → Becomes m n ps h (us ++ vs) →
+    Becomes m n ps h (vs ++ us)
+swapped m n ps h us vs b =
+    let d = subst Distinct (names-append h us vs) b.distinct in
+    let flip : (q : NodePtr) → Among q (names_of h (vs ++ us)) → Among q (names_of h (us ++ vs)) = λ q a.
+    elim (in-cases h vs us q a) [ inl c ↦ in-right h us vs q c | inr c ↦ in-left h us vs q c ] in
+    let back : (q : NodePtr) → Among q (names_of h (us ++ vs)) → Among q (names_of h (vs ++ us)) = λ q a.
+    elim (in-cases h us vs q a) [ inl c ↦ in-right h vs us q c | inr c ↦ in-left h vs us q c ] in
+    record {
+      holds = all-append (Holds n h) vs us (all-right (Holds n h) us vs b.holds) (all-left (Holds n h) us vs b.holds);
+      distinct = subst Distinct (sym (names-append h vs us))
+          (distinct-append (names_of h vs) (names_of h us) (distinct-right (names_of h us) (names_of h vs) d)
+          (distinct-left (names_of h us) (names_of h vs) d)
+          (λ q c e. distinct-apart (names_of h us) (names_of h vs) d q e c));
+      within = λ q a out. b.within q (flip q a) out;
+      other = b.other;
+      old = λ q s out. b.old q s (λ a. out (back q a));
     }
 
 -- ---- one after the other

@@ -81,7 +81,6 @@ pub record TakesRow (m n : Records) (h : ℕ) (p : NodePtr) (k : ℕ) (xs ps : L
 -- levels can be made above these
 pub record CanLift (m : Records) (h : ℕ) (cs : List NodePtr) : Type 0 where
   pub some : 1 ≤ length cs
-  pub high : 1 ≤ h
   pub holds : AllByRecursion (Holds m h) (trees_at m h cs)
   pub distinct : Distinct (names_of h (trees_at m h cs))
   pub fits : FitsSum (total (lines_of h (trees_at m h cs)))
