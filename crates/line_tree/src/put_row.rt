@@ -1,8 +1,7 @@
-ghost use Rattle.std.specs.Prelude.{◌≡◌, ℕ, ◌+◌, ◌-◌, ◌*◌, ◌^◌, ◌≤◌, ◌<◌, ◌⊎◌, [], length, drop, take, vec_capacity};
+ghost use Rattle.std.specs.Prelude.{◌≡◌, ◌+◌, ◌-◌, ◌*◌, ◌≤◌, ◌<◌, [], length, max, drop, take, vec_capacity};
 ghost use Rattle.raw_nodes.specs.Names.{nodes, records, rooms, spares};
-ghost use Rattle.segments.specs.Columns.{LineContent};
 ghost use Rattle.line_tree.specs.Growth.{lines_of};
-ghost use Rattle.line_tree.specs.Raising.{Becomes, CanTakeRow, Lifts, CanLift, TakesRow, trees_at};
+ghost use Rattle.line_tree.specs.Raising.{Becomes, CanLift, CanTakeRow, Lifts, TakesRow, trees_at};
 ghost use Rattle.line_tree.specs.Room.{levels_at_most};
 ghost use Rattle.line_tree.specs.Trees.{contents};
 
@@ -55,12 +54,13 @@ pub fn put_row<C: Ticks>(
     requires spares { length row.old.items + 23 * branch.height ≤ 11 * spares store.old }
     requires rooms { length row.old.items + 23 * branch.height ≤ 11 * rooms store.old }
     requires slots { 2 ≤ vec_capacity row.old }
-    requires names { vec_capacity row.old + 24 ≤ vec_capacity below.old }
+    requires names { length row.old.items + 24 ≤ vec_capacity below.old }
+    requires two { 26 ≤ vec_capacity below.old }
     ensures takes { TakesRow (records store.old) (records store.new) branch.height branch.node k
         row.old.items row.new.items }
     ensures used { 11 * rooms store.old + length row.new.items
         ≤ 11 * rooms store.new + length row.old.items + 23 * branch.height }
-    ensures fewer { rooms store.new ≤ rooms store.old }
+    ensures short { length row.new.items ≤ max 2 (length row.old.items) }
     ensures spares { spares store.new + rooms store.old ≡ spares store.old + rooms store.new }
     ensures nodes { nodes store.new ≡ nodes store.old }
     ensures names { vec_capacity row.new ≡ vec_capacity row.old }
@@ -101,7 +101,7 @@ pub fn lift<C: Ticks>(
     requires lift { CanLift (records store.old) height row.old.items }
     requires spares { length row.old.items + 11 * (levels_at_most (nodes store.old) - height) ≤ 11 * spares store.old }
     requires rooms { length row.old.items + 11 * (levels_at_most (nodes store.old) - height) ≤ 11 * rooms store.old }
-    requires names { vec_capacity row.old + 24 ≤ vec_capacity below.old }
+    requires names { length row.old.items ≤ vec_capacity below.old }
     ensures lifts { Lifts (records store.old) (records store.new) height row.old.items result row.new.items }
     ensures used { 11 * rooms store.old
         ≤ 11 * rooms store.new + length row.old.items + 11 * (levels_at_most (nodes store.old) - height) }

@@ -36,9 +36,6 @@ few-kids : (m : Records) (h : ℕ) (p : NodePtr) (k : ℕ) (xs : List NodePtr) �
 few-kids m h p k xs can f leads = let w = slice_get_within (kids m p) f.slot f.child leads.child in
     let few = (row-tree m h p can.tree).few in omega arith
 
-fewer : (new made old : ℕ) → new + made ≡ old + 1 → 1 ≤ made → new ≤ old
-fewer new made old e some = omega arith
-
 -- ---- at the lowest level
 low : (m : Records) (h : ℕ) (p : NodePtr) (k : ℕ) (xs : List NodePtr) → CanTakeRow m h p k xs → h ≡ 1 →
     CanTakeRow m 1 p k xs
@@ -71,16 +68,6 @@ returns-then-branch-eq1-clause-takes g t c =
     subst (λ h. TakesRow m n h p k xs ps) (sym c.if-branch-eq1.true)
     (low-takes m p k xs can n ps (c.remake.ensures.raises 0 all refl (low-can m p k xs can))
     (c.remake.ensures.ends all refl))
-
-pub returns-then-branch-eq1-clause-fewer : goal.returns-then-branch-eq1-clause-fewer
-returns-then-branch-eq1-clause-fewer g t c =
-    let m = records c.args.store.now in let p = c.args.branch.node in let xs = c.args.row.now.items in
-    let n = records c.remake.new.store in let ps = c.remake.new.row.items in let k = c.args.k in
-    let can = low m c.args.branch.height p k xs c.requires.take c.if-branch-eq1.true in
-    let all = take k (kids m p) ++ (xs ++ drop k (kids m p)) in
-    let takes = low-takes m p k xs can n ps (c.remake.ensures.raises 0 all refl (low-can m p k xs can))
-    (c.remake.ensures.ends all refl) in
-    let s = takes.some in let r = c.remake.ensures.rooms in omega arith
 
 -- ---- above it
 pub lead-found-requires-clause-row : goal.lead-found-requires-clause-row
@@ -117,7 +104,7 @@ put_row-requires g t c κs within =
             can-child m (c.args.branch.height - 1) p c.args.k xs
                 (above m c.args.branch.height p c.args.k xs c.requires.take node) c.lead-found.result
                 c.lead-found.ensures,
-            (omega arith, (omega arith, (c.requires.slots, c.requires.names))),
+            (omega arith, (omega arith, (c.requires.slots, (c.requires.names, c.requires.two)))),
           ),
         ),
       ),
@@ -169,17 +156,3 @@ returns-clause-takes g t c =
     (up-takes m h p c.args.k xs can f leads l ys takes n ps
     (c.remake-2.ensures.raises h all is (up-can m h p c.args.k xs can f leads l ys takes))
     (c.remake-2.ensures.ends all is))
-
-pub returns-clause-fewer : goal.returns-clause-fewer
-returns-clause-fewer g t c =
-    let m = records c.args.store.now in let p = c.args.branch.node in let xs = c.args.row.now.items in
-    let h = c.args.branch.height - 1 in let l = records c.put_row.new.store in let ys = c.put_row.new.row.items in
-    let can = above m c.args.branch.height p c.args.k xs c.requires.take c.requires.node in
-    let f = c.lead-found.result in let leads = c.lead-found.ensures in let takes = c.put_row.ensures.takes in
-    let n = records c.remake-2.new.store in let ps = c.remake-2.new.row.items in
-    let all = take f.slot (kids m p) ++ (ys ++ drop (suc f.slot) (kids m p)) in
-    let is = listed m l p f.slot ys (node-same m h p c.args.k xs can f leads l ys takes) in
-    let s = (up-takes m h p c.args.k xs can f leads l ys takes n ps
-    (c.remake-2.ensures.raises h all is (up-can m h p c.args.k xs can f leads l ys takes))
-    (c.remake-2.ensures.ends all is)).some in
-    let r = c.remake-2.ensures.rooms in let before = c.put_row.ensures.fewer in omega arith

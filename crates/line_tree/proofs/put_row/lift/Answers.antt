@@ -81,6 +81,7 @@ loop-below-preserved g c =
     record {
       lifted = subst (λ j. Lifted m n c.args.height c.args.row.now.items j qs) next
           (lift-more m l n c.args.height c.args.row.now.items top ps qs now.lifted two raises few);
+      short = let were = now.short in omega (arith, were, few, two);
       up = omega (arith, up);
       most = λ more. omega (arith, levels);
       used = still-used c.args.height top (length ps) (length c.args.row.now.items) (rooms c.args.store.now)

@@ -7,6 +7,7 @@ use Rattle.line_tree.proofs.put_row.lift.Given as goal
 abbrev pub invariant-loop-below : goal.invariant-loop-below
 invariant-loop-below g l = record {
   lifted : Lifted (records l.fn.store) (records l.store) l.height l.fn.row.items l.top l.row.items;
+  short : length l.row.items ≤ length l.fn.row.items;
   up : l.height ≤ l.top;
   most : l.height < l.top → l.top ≤ levels_at_most (nodes l.fn.store);
   used : 11 * rooms l.fn.store + length l.row.items
