@@ -16,11 +16,11 @@ use Rattle.line_tree.proofs.RootLaws.{new-lines}
 use Rattle.line_tree.proofs.TreeLaws.{tops-tree_at}
 
 -- ---- lists
-take-length : {X : Type 0} (xs ys : List X) → take (length xs) (xs ++ ys) ≡ xs
+pub take-length : {X : Type 0} (xs ys : List X) → take (length xs) (xs ++ ys) ≡ xs
 take-length [] ys = refl
 take-length (x ∷ xs) ys = ap (λ zs. x ∷ zs) (take-length xs ys)
 
-drop-length : {X : Type 0} (xs ys : List X) → drop (length xs) (xs ++ ys) ≡ ys
+pub drop-length : {X : Type 0} (xs ys : List X) → drop (length xs) (xs ++ ys) ≡ ys
 drop-length [] ys = refl
 drop-length (x ∷ xs) ys = drop-length xs ys
 

@@ -76,8 +76,8 @@ impl<C: Ticks> LineTree<C> {
             ≡ self.old.rooms + self.new.spares + length lines.old.items }
         ensures names { self.new.row_room ≡ self.old.row_room }
     {
-        let count = lines.len() - rest;
-        if count == 1 {
+        let _ = &self.store;
+        if lines.len() - rest == 1 {
             if let Some(line) = lines.pop() {
                 self.insert(k, line, ticks);
             }
