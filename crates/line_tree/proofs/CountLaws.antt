@@ -19,7 +19,7 @@ one-line p None s = absurd (false≢true s)
 one-line p (Some l) s = refl
 
 -- each of these trees has so many lines
-many-lines : (m : Records) (h least : ℕ) → ((t : Tree h) → Holds m h t → IsBalanced h t → least ≤ length (lines h t)) →
+pub many-lines : (m : Records) (h least : ℕ) → ((t : Tree h) → Holds m h t → IsBalanced h t → least ≤ length (lines h t)) →
     (ts : List (Tree h)) → AllByRecursion (Holds m h) ts → AllByRecursion (IsBalanced h) ts
     → length ts * least ≤ length (lines_of h ts)
 many-lines m h least one [] all balanced = omega arith
@@ -81,7 +81,7 @@ one-name : (p : NodePtr) (o : Option LineContent) → length (lines zero (p, o))
 one-name p None = omega arith
 one-name p (Some l) = omega arith
 
-lines-sum : (h : ℕ) → ((t : Tree h) → length (lines h t) ≤ length (names h t)) → (ts : List (Tree h)) →
+pub lines-sum : (h : ℕ) → ((t : Tree h) → length (lines h t) ≤ length (names h t)) → (ts : List (Tree h)) →
     length (lines_of h ts) ≤ length (names_of h ts)
 lines-sum h one [] = omega arith
 lines-sum h one (t ∷ ts) =
@@ -89,7 +89,7 @@ lines-sum h one (t ∷ ts) =
     let a = length-append (names h t) (names_of h ts) in let b = length-append (lines h t) (lines_of h ts) in
     omega arith
 
-lines-within : (h : ℕ) (t : Tree h) → length (lines h t) ≤ length (names h t)
+pub lines-within : (h : ℕ) (t : Tree h) → length (lines h t) ≤ length (names h t)
 lines-within zero t = one-name t.0 t.1
 lines-within (suc h) t = let all = lines-sum h (lines-within h) t.1 in omega arith
 

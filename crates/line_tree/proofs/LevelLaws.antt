@@ -82,6 +82,13 @@ low-height h n least few = elim (cases_lt 25 h) [
   | inr low ↦ omega arith
 ]
 
+-- lines that are among so many nodes, and stand below a tree of a height
+pub levels-many : (n lines h : ℕ) → (2 ≤ h → 2 * 6 ^ (h - 1) ≤ lines) → lines < 2 ^ 64 → lines ≤ n →
+    h ≤ levels_at_most n
+unfolding levels_at_most
+levels-many n lines h least few within =
+    levels-hold 24 n h (low-height h lines least few) (λ two. let l = least two in omega arith)
+
 -- ---- by a logarithm
 pub levels-log : (n k : ℕ) → n < 2 ^ 64 → 6 ^ k ≤ max (n / 2) 1 → max (n / 2) 1 < 6 * 6 ^ k → k + 1 ≡ levels_at_most n
 unfolding levels_at_most

@@ -45,7 +45,7 @@ tree-same m n h p tree same =
     top m zero p = refl
     top m (suc h) p = refl
 
-wide-root : (h : ℕ) (t : Tree h) → IsBalancedRoot h t → IsWide 1 h t
+pub wide-root : (h : ℕ) (t : Tree h) → IsBalancedRoot h t → IsWide 1 h t
 wide-root zero t b = absurd b
 wide-root (suc zero) t b = b
 wide-root (suc (suc h)) t b = let low = b.0 in (omega arith, b.1, b.2)

@@ -17,7 +17,7 @@ use raw_nodes::{NodePtr, NodeStore, Ticks};
 use segments::Line;
 
 /// The child below which line `k` is put in.
-fn lead<C: Ticks>(store: &NodeStore<C>, node: NodePtr, k: usize, ticks: &mut C) -> Found
+pub fn lead<C: Ticks>(store: &NodeStore<C>, node: NodePtr, k: usize, ticks: &mut C) -> Found
     requires row { HasRow (records store.now) node }
     requires some { 0 < length (kids (records store.now) node) }
     requires within { k ≤ lines_below (records store.now) node }

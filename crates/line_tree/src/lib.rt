@@ -16,6 +16,8 @@ mod marks;
 mod near;
 mod nearest;
 mod prefix;
+mod put_row;
+mod raise;
 mod remove;
 mod replacing;
 mod room;

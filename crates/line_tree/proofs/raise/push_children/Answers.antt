@@ -1,0 +1,29 @@
+use Rattle.std.proofs.Common.{[], ◌∷◌, ◌++◌, sym, ap, ◌∙◌, arith, vec_capacity, Vec}
+use Rattle.std.specs.Prelude.{option_to_list}
+use Rattle.std.specs.Global.{Global}
+use Rattle.std.proofs.lemmas.List.{append-nil}
+use Rattle.raw_nodes.specs.Names.{records}
+use Rattle.raw_nodes.specs.Rows.{kids}
+use Rattle.raw_nodes.specs.declared.names.NodePtr.{NodePtr}
+use Rattle.line_tree.proofs.RaiseLaws.{grown}
+use Rattle.line_tree.proofs.raise.push_children.Goals as goal
+use Rattle.line_tree.proofs.raise.push_children.Goals.{in-Some, in_default}
+
+pub loop-slot-preserved : goal.loop-slot-preserved
+loop-slot-preserved g c =
+    let cs = kids (records c.args.store.now) c.args.node in let from = c.loop-slot.invariant.from in
+    let next = grown c.args.list.now.items cs c.args.from c.loop-slot.slot from in
+    elim c.match-listed.branch [
+      | in-Some w ↦ record {
+        from = omega (arith, from);
+        list = ap (λ (v : Vec NodePtr Global). v.items) w.list-is ∙ w.push_reserved.ensures.items
+            ∙ (λ i. c.loop-slot.invariant.list i ++ sym (ap option_to_list (sym c.listed.ensures ∙ w.in-Some.is)) i) ∙ next;
+        names = ap vec_capacity w.list-is ∙ w.push_reserved.ensures.capacity ∙ c.loop-slot.invariant.names;
+      }
+      | in_default w ↦ record {
+        from = omega (arith, from);
+        list = ap (λ (v : Vec NodePtr Global). v.items) w.list-is ∙ sym (append-nil c.loop-slot.list.items)
+            ∙ (λ i. c.loop-slot.invariant.list i ++ sym (ap option_to_list (sym c.listed.ensures ∙ w.in_default.is)) i) ∙ next;
+        names = ap vec_capacity w.list-is ∙ c.loop-slot.invariant.names;
+      }
+    ]
