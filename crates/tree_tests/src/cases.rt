@@ -93,7 +93,7 @@ static IN_ORDER: Case = Case {
     ],
 };
 
-static PHASES: [Phase; 2] = [
+static PHASES: [Phase; 3] = [
     Phase {
         removals: 1,
         most_out: 11,
@@ -105,6 +105,12 @@ static PHASES: [Phase; 2] = [
         most_out: 31,
         most_in: 11,
         height: 2,
+    },
+    Phase {
+        removals: 1,
+        most_out: 41,
+        most_in: 151,
+        height: 4,
     },
 ];
 
