@@ -17,7 +17,8 @@ trace.  So is a run that answers out of memory though nothing was refused.
 
 Where a growth refuses a command of a script whose commands are given again (`worked.repeated_scripts`), the
 script is run once more with that command given twice: refused the first time, it has to answer the second time
-as it does where nothing was refused.  Beside the worked scripts stand random ones, with some growths of each.
+as it does where nothing was refused.  Beside the worked scripts stand random ones, and those by which a text of many lines is put
+in, replaced and undone, with some growths of each.
 With `--rows`, which names the program `rows`, the scripts whose commands are given again are run so on each store.
 
 Ends in a line `N passed, M failed`; the exit status is 1 if anything failed.
@@ -43,6 +44,8 @@ ENOUGH_FAILURES_IN_ALL = 20
 
 # How many growths of a random script are refused.
 RANDOM_GROWTHS = 10
+# A text that goes in at once has so many lines, and so many growths of its scripts are refused.
+LONG_LINES, LONG_GROWTHS = 2_000, 400
 # A script with a command given twice is longer, so the growth that refuses it may be a few further on.
 NEAR_GROWTHS = (0, 1, 2, 3, -1)
 
@@ -194,11 +197,25 @@ def repeated_scripts():
     return [(name, script, True, None) for name, script in worked.repeated_scripts()]
 
 
+def long_scripts():
+    """The same of scripts by which many lines go into a text at once, at its end, in its middle and over it."""
+    first, second = ("".join(f"{word} {number}\n" for number in range(LONG_LINES)) for word in ("line", "other"))
+    load = f"text .t -undo 1\n.t insert end {{{first}}}\n"
+    asked = f".t index end\n.t get {LONG_LINES - 3}.0 {LONG_LINES}.0\n"
+    edits = {
+        "many lines": "",
+        "many lines replaced": f".t replace 1.0 end {{{second}}}\n" + asked + ".t edit undo\n",
+        "many lines in the middle": f".t tag add t 700.2 900.1\n.t insert 800.3 {{{second}}} t\n" + asked + ".t edit undo\n",
+        "many lines gone and undone": ".t delete 3.1 end\n" + asked + ".t edit undo\n",
+    }
+    return [(name, (load + edit + asked).encode(), False, LONG_GROWTHS) for name, edit in edits.items()]
+
+
 def all_scripts(random_count):
     """The name of each script, the script, whether its commands are given again, and how many growths are refused."""
     worked_ones = [(name, script, False, None) for name, script in worked.refused_scripts()]
     chance = [(f"seed {seed}", scripts.script(seed), False, RANDOM_GROWTHS) for seed in range(random_count)]
-    return repeated_scripts() + worked_ones + chance
+    return repeated_scripts() + worked_ones + long_scripts() + chance
 
 
 def check_scripts(name, program, given, tally):
