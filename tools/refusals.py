@@ -17,8 +17,8 @@ trace.  So is a run that answers out of memory though nothing was refused.
 
 Where a growth refuses a command of a script whose commands are given again (`worked.repeated_scripts`), the
 script is run once more with that command given twice: refused the first time, it has to answer the second time
-as it does where nothing was refused.  Beside the worked scripts stand random ones, and those by which a text of many lines is put
-in, replaced and undone, with some growths of each.
+as it does where nothing was refused.  Beside the worked scripts stand random ones, and those by which many lines go into a text,
+with some growths of each.
 With `--rows`, which names the program `rows`, the scripts whose commands are given again are run so on each store.
 
 Ends in a line `N passed, M failed`; the exit status is 1 if anything failed.
@@ -202,10 +202,11 @@ def long_scripts():
     first, second = ("".join(f"{word} {number}\n" for number in range(LONG_LINES)) for word in ("line", "other"))
     load = f"text .t -undo 1\n.t insert end {{{first}}}\n"
     asked = f".t index end\n.t get {LONG_LINES - 3}.0 {LONG_LINES}.0\n"
+    tagged = f".t tag add t 700.2 900.1\n.t insert 800.3 {{{second}}} t\n"
     edits = {
         "many lines": "",
         "many lines replaced": f".t replace 1.0 end {{{second}}}\n" + asked + ".t edit undo\n",
-        "many lines in the middle": f".t tag add t 700.2 900.1\n.t insert 800.3 {{{second}}} t\n" + asked + ".t edit undo\n",
+        "many lines in the middle": tagged + asked + ".t edit undo\n",
         "many lines gone and undone": ".t delete 3.1 end\n" + asked + ".t edit undo\n",
     }
     return [(name, (load + edit + asked).encode(), False, LONG_GROWTHS) for name, edit in edits.items()]
