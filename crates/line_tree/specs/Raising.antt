@@ -1,5 +1,5 @@
 -- Nodes that are made anew above others.
-use Rattle.std.specs.Prelude.{◌≡◌, ℕ, suc, ◌+◌, ◌*◌, ◌≤◌, ⊤, ◌⊎◌, List, ◌++◌, length, map, take, drop, IsSome}
+use Rattle.std.specs.Prelude.{◌≡◌, ℕ, suc, ◌≤◌, List, ◌++◌, length, map, take, drop, IsSome}
 use Rattle.std.specs.FinMap as finite
 use Rattle.std.specs.List.{AllByRecursion, flat_map}
 use Rattle.std.specs.declared.option.Option.TheVariants.{None, Some}

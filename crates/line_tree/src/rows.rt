@@ -112,7 +112,14 @@ impl<C: Ticks> LineTree<C> {
             node: self.root,
             height: self.height,
         };
-        put_row(&mut self.store, branch, k, &mut self.row, &mut self.below, ticks);
+        put_row(
+            &mut self.store,
+            branch,
+            k,
+            &mut self.row,
+            &mut self.below,
+            ticks,
+        );
         self.height = lift(
             &mut self.store,
             self.height,

@@ -1,15 +1,14 @@
-use Rattle.std.proofs.Common.{◌≡◌, ℕ, suc, ◌+◌, ◌-◌, ◌*◌, ◌≤◌, List, [], ◌∷◌, length, get_or, take, drop, refl, sym, ap, ◌∙◌, subst}
+use Rattle.std.proofs.Common.{◌≡◌, ◌≤◌, List, [], ◌∷◌, length, get_or, take, drop, refl, sym, ap, ◌∙◌, subst}
 use Rattle.std.proofs.Common.{append_assoc, arith, length-drop}
 use Rattle.std.proofs.lemmas.List.{length-map}
-use Rattle.toggle_sums.specs.Counts.{Count, plus}
+use Rattle.toggle_sums.specs.Counts.{plus}
 use Rattle.line_lists.specs.Lists.{count_of}
 use Rattle.segments.specs.Columns.{LineContent}
-use Rattle.raw_nodes.specs.Names.{nodes, records, rooms, spares}
-use Rattle.raw_nodes.specs.Records.{Records}
+use Rattle.raw_nodes.specs.Names.{records, spares}
 use Rattle.raw_nodes.specs.declared.names.NodePtr.{NodePtr}
 use Rattle.line_tree.specs.Changes.{FitsSum}
 use Rattle.line_tree.specs.Growth.{lines_of}
-use Rattle.line_tree.specs.Raising.{Becomes, CanLift, CanTakeRow, Lifts, trees_at, with_lines}
+use Rattle.line_tree.specs.Raising.{Lifts, trees_at, with_lines}
 use Rattle.line_tree.specs.Room.{levels_at_most}
 use Rattle.line_tree.specs.Shape.{lines_in, tree_at}
 use Rattle.line_tree.specs.Trees.{Named, contents, total}

@@ -1,4 +1,4 @@
-use Rattle.std.proofs.Common.{◌≡◌, ◌+◌, ◌*◌, ◌≤◌, [], ◌∷◌, length, take, drop, sym, ap, ◌∙◌, append_assoc, arith}
+use Rattle.std.proofs.Common.{◌≡◌, [], ◌∷◌, length, take, drop, sym, ap, ◌∙◌, append_assoc, arith}
 use Rattle.std.proofs.lemmas.List.{length_push}
 use Rattle.raw_nodes.specs.Names.{records, spares}
 use Rattle.line_tree.specs.Room.{levels_at_most}
