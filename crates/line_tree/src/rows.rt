@@ -56,8 +56,8 @@ impl<C: Ticks> LineTree<C> {
         }
     }
 
-    /// The same of few lines, some at least. One alone goes in as it would without a row: the lists needn't have room
-    /// for two nodes in its place.
+    /// The same of few lines, some at least. One alone goes in without a row, since two nodes may come of it where the
+    /// lists have room for one name.
     fn put_part(&mut self, k: usize, lines: &mut Vec<Line>, rest: usize, ticks: &mut C)
         requires some { rest < length lines.old.items }
         requires few { length lines.old.items ≤ rest + most_in_row }
