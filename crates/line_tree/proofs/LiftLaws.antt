@@ -1,5 +1,5 @@
 -- One more level, up to the root.
-use Rattle.std.proofs.Common.{◌≡◌, ℕ, zero, suc, ◌+◌, ◌-◌, ◌*◌, ◌^◌, ◌<◌, ◌≤◌, List, [], ◌∷◌, length, refl, sym, ap, ◌∙◌}
+use Rattle.std.proofs.Common.{◌≡◌, ℕ, zero, suc, ◌+◌, ◌-◌, ◌*◌, ◌^◌, ◌≤◌, List, [], ◌∷◌, length, refl, sym, ap, ◌∙◌}
 use Rattle.std.proofs.Common.{subst, arith}
 use Rattle.std.specs.FinMap as finite
 use Rattle.std.specs.List.{AllByRecursion}
@@ -9,7 +9,7 @@ use Rattle.raw_nodes.specs.Records.{Records}
 use Rattle.raw_nodes.specs.declared.names.NodePtr.{NodePtr}
 use Rattle.line_tree.specs.Changes.{FitsSum, sum_all}
 use Rattle.line_tree.specs.Growth.{IsWide, lines_of, names_of}
-use Rattle.line_tree.specs.Raising.{CanLift, CanRaise, Lifted, Raises, below_all, trees_at}
+use Rattle.line_tree.specs.Raising.{CanLift, CanRaise, Lifted, Raises, trees_at}
 use Rattle.line_tree.specs.Room.{levels_at_most}
 use Rattle.line_tree.specs.Shape.{tree_at}
 use Rattle.line_tree.specs.Trees.{IsBalanced, IsBalancedRoot, Tree, least_below_root, total}
@@ -21,7 +21,7 @@ use Rattle.line_tree.proofs.LevelLaws.{levels-many}
 use Rattle.line_tree.proofs.RemakeLaws.{lines-below, some-above, wide-all}
 use Rattle.line_tree.proofs.RoomLaws.{len-many}
 use Rattle.line_tree.proofs.StepLaws.{all-balanced}
-use Rattle.line_tree.proofs.TreeLaws.{top-tree_at, tops-tree_at, total-lines}
+use Rattle.line_tree.proofs.TreeLaws.{tops-tree_at, total-lines}
 
 pub lift-none : (m : Records) (h : ℕ) (cs : List NodePtr) → CanLift m h cs → Lifted m m h cs h cs
 lift-none m h cs can =

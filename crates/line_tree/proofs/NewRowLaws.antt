@@ -1,7 +1,6 @@
 -- A row of new lines.
-use Rattle.std.proofs.Common.{◌≡◌, ℕ, zero, suc, List, [], ◌∷◌, ◌++◌, length, take, drop, reverse, refl, sym, ap, ◌∙◌, subst}
+use Rattle.std.proofs.Common.{◌≡◌, List, [], ◌∷◌, ◌++◌, length, take, drop, reverse, refl, sym, ap, ◌∙◌, subst}
 use Rattle.std.proofs.Common.{append_assoc}
-use Rattle.std.specs.FinMap as finite
 use Rattle.std.proofs.lemmas.List.{reverse-append, take-append-drop}
 use Rattle.segments.specs.Columns.{LineContent}
 use Rattle.raw_nodes.specs.Records.{Records}

@@ -16,7 +16,7 @@ use Rattle.line_tree.specs.Trees.{IsBalancedRoot, Named, Tree, least_below_root,
 use Rattle.line_tree.proofs.AmongLaws.{among-left, among-or, among-right}
 use Rattle.line_tree.proofs.DistinctLaws.{distinct-append}
 use Rattle.line_tree.proofs.FrameLaws.{holds-same, names-held}
-use Rattle.line_tree.proofs.GrowLaws.{of-one, to-one, unnamed}
+use Rattle.line_tree.proofs.GrowLaws.{of-one, unnamed}
 use Rattle.line_tree.proofs.RemakeLaws.{total-with_lines}
 use Rattle.line_tree.proofs.RootLaws.{tree-same, wide-root}
 use Rattle.line_tree.proofs.StepLaws.{all-balanced}

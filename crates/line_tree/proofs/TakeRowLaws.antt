@@ -1,11 +1,9 @@
 -- A row of lines below a node, from the row below its child.
-use Rattle.std.proofs.Common.{◌≡◌, ℕ, zero, suc, ◌+◌, ◌*◌, ◌<◌, ◌≤◌, inl, inr, List, [], ◌∷◌, ◌++◌, length, take, drop, refl}
+use Rattle.std.proofs.Common.{◌≡◌, ℕ, suc, ◌+◌, ◌*◌, ◌<◌, ◌≤◌, List, [], ◌∷◌, ◌++◌, length, take, drop}
 use Rattle.std.proofs.Common.{sym, ap, ◌∙◌, subst, arith, length-take}
-use Rattle.std.specs.Prelude.{◌≢◌, IsSome, slice_get}
 use Rattle.std.specs.FinMap as finite
 use Rattle.std.specs.List.{AllByRecursion}
-use Rattle.std.specs.declared.option.Option.TheVariants.{None, Some}
-use Rattle.std.proofs.lemmas.List.{append-nil, drop-map, length-map, take-append-drop, take-map}
+use Rattle.std.proofs.lemmas.List.{append-nil, length-map, take-append-drop, take-map}
 use Rattle.std.proofs.lemmas.List.Concat.{flat_map-append}
 use Rattle.toggle_sums.specs.Counts.{Count, plus}
 use Rattle.raw_nodes.specs.Records.{Records}
@@ -13,15 +11,15 @@ use Rattle.raw_nodes.specs.Rows.{kids, kids_of, row}
 use Rattle.raw_nodes.specs.declared.names.NodePtr.{NodePtr}
 use Rattle.line_tree.specs.Changes.{Among, Distinct, FitsSum}
 use Rattle.line_tree.specs.Finds.{HasRow, Leads, lines_below}
-use Rattle.line_tree.specs.Growth.{IsWide, lines_of, names_of}
+use Rattle.line_tree.specs.Growth.{lines_of, names_of}
 use Rattle.line_tree.specs.Raising.{Becomes, CanRaise, CanTakeRow, HasSlots, Raises, TakesRow, trees_at, with_lines}
 use Rattle.line_tree.specs.Shape.{Holds, IsTree, lines_in, tree_at}
-use Rattle.line_tree.specs.Trees.{IsBalanced, Tree, lines, names, tops, total}
+use Rattle.line_tree.specs.Trees.{IsBalanced, Tree, lines, names, total}
 use Rattle.line_tree.specs.declared.find.Found.{Found}
 use Rattle.line_tree.proofs.AmongLaws.{among-left, among-right}
 use Rattle.line_tree.proofs.BecomeLaws.{stays}
 use Rattle.line_tree.proofs.DistinctLaws.{distinct-append, distinct-apart, distinct-left, distinct-right}
-use Rattle.line_tree.proofs.GrowLaws.{all-left, names-append}
+use Rattle.line_tree.proofs.GrowLaws.{names-append}
 use Rattle.line_tree.proofs.InsertLaws.{all-get, length-lines, lines-balanced}
 use Rattle.line_tree.proofs.RemakeLaws.{can-raise, node-stays, takes-row}
 use Rattle.line_tree.proofs.StepLaws.{all-balanced, all-take, at-place, split-same, wide-balanced, wide-some}

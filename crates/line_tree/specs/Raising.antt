@@ -1,5 +1,5 @@
 -- Nodes that are made anew above others.
-use Rattle.std.specs.Prelude.{◌≡◌, ℕ, suc, ◌+◌, ◌*◌, ◌≤◌, ⊤, ◌⊎◌, List, ◌++◌, length, map, take, drop, IsSome}
+use Rattle.std.specs.Prelude.{◌≡◌, ℕ, suc, ◌≤◌, List, ◌++◌, length, map, take, drop, IsSome}
 use Rattle.std.specs.FinMap as finite
 use Rattle.std.specs.List.{AllByRecursion, flat_map}
 use Rattle.std.specs.declared.option.Option.TheVariants.{None, Some}
@@ -73,8 +73,8 @@ pub record TakesRow (m n : Records) (h : ℕ) (p : NodePtr) (k : ℕ) (xs ps : L
   pub becomes : Becomes m n (names h (tree_at m h p) ++ names_of 0 (trees_at m 0 xs)) h (trees_at n h ps)
   pub lines : lines_of h (trees_at n h ps) ≡ with_lines (lines_in m h p) k (lines_of 0 (trees_at m 0 xs))
   pub some : 1 ≤ length ps
-  pub wide : (least : ℕ) → least ≤ 6 → IsWide least h (tree_at m h p) →
-      AllByRecursion (IsWide least h) (trees_at n h ps)
+  pub wide : (least : ℕ) → least ≤ 6 → IsWide least h (tree_at m h p)
+      → AllByRecursion (IsWide least h) (trees_at n h ps)
   pub split : 2 ≤ length ps → AllByRecursion (IsWide 6 h) (trees_at n h ps)
   pub loose : (q : NodePtr) → Among q ps → HasNoParent n q
 

@@ -111,12 +111,7 @@ pub struct Gap {
 }
 
 /// Number `i` of a node's children, which may be gone.
-fn listed<C: Ticks>(
-    store: &NodeStore<C>,
-    node: NodePtr,
-    i: usize,
-    ticks: &mut C,
-) -> Option<NodePtr>
+fn listed<C: Ticks>(store: &NodeStore<C>, node: NodePtr, i: usize, ticks: &mut C) -> Option<NodePtr>
     requires slots { HasSlots (records store.now) node }
     requires index { i < 12 }
     ensures { result ≡ slice_get (kids (records store.now) node) i }

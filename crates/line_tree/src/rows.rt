@@ -54,7 +54,8 @@ impl<C: Ticks> LineTree<C> {
         }
     }
 
-    /// The same of few lines, some at least.
+    /// The same of few lines, some at least. One alone goes in without a row, since two nodes may come of it where the
+    /// lists have room for one name.
     fn put_part(&mut self, k: usize, lines: &mut Vec<Line>, rest: usize, ticks: &mut C)
         requires some { rest < length lines.old.items }
         requires few { length lines.old.items ≤ rest + most_in_row }
@@ -75,42 +76,27 @@ impl<C: Ticks> LineTree<C> {
         ensures names { self.new.row_room ≡ self.old.row_room }
     {
         let _ = &self.store;
-        if lines.len() - rest == 1 {
+        let count = lines.len() - rest;
+        if count == 1 {
             if let Some(line) = lines.pop() {
                 self.insert(k, line, ticks);
             }
             return;
         }
-        self.put_many(k, lines, rest, ticks);
-    }
-
-    /// The same of two at least.
-    fn put_many(&mut self, k: usize, lines: &mut Vec<Line>, rest: usize, ticks: &mut C)
-        requires some { rest + 2 ≤ length lines.old.items }
-        requires few { length lines.old.items ≤ rest + most_in_row }
-        requires place { k ≤ length self.old.lines }
-        requires fits { FitsSum (plus (total self.old.lines) (count_of (drop rest lines.old.items))) }
-        requires rooms { length lines.old.items + 23 * levels_at_most self.old.nodes ≤ rest + 11 * self.old.rooms }
-        requires spares { 12 * length lines.old.items + 23 * levels_at_most self.old.nodes
-            ≤ 12 * rest + 11 * self.old.spares }
-        requires names { length lines.old.items ≤ rest + self.old.row_room }
-        ensures left { lines.new.items ≡ take rest lines.old.items }
-        ensures lines { (added : List Named) × (contents added ≡ drop rest lines.old.items)
-            × (self.new.lines ≡ take k self.old.lines ++ added ++ drop k self.old.lines) }
-        ensures nodes { self.new.nodes ≡ self.old.nodes }
-        ensures used { 11 * self.old.rooms + rest
-            ≤ 11 * self.new.rooms + length lines.old.items + 23 * levels_at_most self.old.nodes }
-        ensures rooms { self.new.rooms + self.old.spares + rest
-            ≡ self.old.rooms + self.new.spares + length lines.old.items }
-        ensures names { self.new.row_room ≡ self.old.row_room }
-    {
-        self.count += lines.len() - rest;
+        self.count += count;
         make_row(&mut self.store, lines, rest, &mut self.row);
         let branch = Branch {
             node: self.root,
             height: self.height,
         };
-        put_row(&mut self.store, branch, k, &mut self.row, &mut self.below, ticks);
+        put_row(
+            &mut self.store,
+            branch,
+            k,
+            &mut self.row,
+            &mut self.below,
+            ticks,
+        );
         self.height = lift(
             &mut self.store,
             self.height,

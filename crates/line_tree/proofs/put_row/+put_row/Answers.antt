@@ -1,4 +1,4 @@
-use Rattle.std.proofs.Common.{◌≡◌, ℕ, suc, ◌+◌, ◌-◌, ◌*◌, ◌<◌, ◌≤◌, List, ◌++◌, length, take, drop, refl, sym, ap, ◌∙◌}
+use Rattle.std.proofs.Common.{◌≡◌, ℕ, suc, ◌+◌, ◌-◌, ◌<◌, List, ◌++◌, take, drop, refl, sym, ap, ◌∙◌}
 use Rattle.std.proofs.Common.{subst, arith}
 use Rattle.std.specs.FinMap as finite
 use Rattle.std.proofs.lemmas.Option.{slice_get_within}
@@ -6,8 +6,8 @@ use Rattle.raw_nodes.specs.Names.{records}
 use Rattle.raw_nodes.specs.Records.{Records}
 use Rattle.raw_nodes.specs.Rows.{kids, kids_of}
 use Rattle.raw_nodes.specs.declared.names.NodePtr.{NodePtr}
-use Rattle.line_tree.specs.Finds.{HasRow, Leads}
-use Rattle.line_tree.specs.Raising.{CanRaise, CanTakeRow, Raises, TakesRow}
+use Rattle.line_tree.specs.Finds.{Leads}
+use Rattle.line_tree.specs.Raising.{CanRaise, CanTakeRow, TakesRow}
 use Rattle.line_tree.specs.declared.find.Found.{Found}
 use Rattle.line_tree.proofs.TakeRowLaws.{can-child, low-can, low-takes, low-within, node-same, slots-now, slots-of-row}
 use Rattle.line_tree.proofs.TakeRowLaws.{some-kids, up-can, up-takes, within-kids}

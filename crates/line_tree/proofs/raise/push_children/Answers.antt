@@ -1,4 +1,4 @@
-use Rattle.std.proofs.Common.{[], ◌∷◌, ◌++◌, sym, ap, ◌∙◌, arith, vec_capacity, Vec}
+use Rattle.std.proofs.Common.{◌++◌, sym, ap, ◌∙◌, arith, vec_capacity, Vec}
 use Rattle.std.specs.Prelude.{option_to_list}
 use Rattle.std.specs.Global.{Global}
 use Rattle.std.proofs.lemmas.List.{append-nil}

@@ -6,7 +6,7 @@ use Rattle.std.proofs.lemmas.List.{length_push, take_all}
 use Rattle.raw_nodes.specs.Names.{records}
 use Rattle.raw_nodes.specs.declared.names.NodePtr.{NodePtr}
 use Rattle.line_tree.specs.Raising.{CanRaise, Raises}
-use Rattle.line_tree.proofs.RaiseLaws.{next-fits, next-there, raises-more, raises-none, three-parts, two-parts}
+use Rattle.line_tree.proofs.RaiseLaws.{next-fits, next-there, raises-more, three-parts, two-parts}
 use Rattle.line_tree.proofs.raise.raise.Goals as goal
 
 -- how long the next part is

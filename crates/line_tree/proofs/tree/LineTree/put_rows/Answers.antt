@@ -1,8 +1,7 @@
-use Rattle.std.proofs.Common.{◌≡◌, ℕ, ◌+◌, ◌-◌, ◌*◌, ◌/◌, ◌<◌, ◌≤◌, ◌++◌, length, take, drop, max, sym, ap, ◌∙◌, subst}
+use Rattle.std.proofs.Common.{◌≡◌, ℕ, ◌+◌, ◌-◌, ◌*◌, ◌/◌, ◌<◌, ◌≤◌, ◌++◌, length, take, drop, sym, ap, ◌∙◌, subst}
 use Rattle.std.proofs.Common.{append_assoc, arith, inl, inr, length-take}
 use Rattle.std.proofs.lemmas.Bool.{cases_lt}
 use Rattle.line_tree.specs.Room.{levels_at_most, most_in_row, nodes_above}
-use Rattle.line_tree.specs.Trees.{Named}
 use Rattle.line_tree.proofs.LevelLaws.{low-levels}
 use Rattle.line_tree.proofs.RowsLaws.{left-first, left-last, more-contents, more-rows, part-fits}
 use Rattle.line_tree.proofs.tree.LineTree.put_rows.Goals as goal
