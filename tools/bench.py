@@ -375,7 +375,7 @@ def measure(program, sizes, repeat, folder):
 # A line of a text that is loaded, and how many there are at most; what that is to take.
 LOADED_LINE = "the quick brown fox jumps over lazy"
 LOADED_LINES = 1_000_000
-LOAD_SECONDS, LOAD_BYTES = 2.0, 260
+LOAD_SECONDS, LOAD_BYTES = 2.0, 230
 
 
 def run_sized(program, script_path):
