@@ -28,7 +28,7 @@ room-row t n more rows has many named = elim has [
   | inr r ↦
       let a = above-more (2 * levels_at_most t.nodes + 6) n more in let names = r.names in
       let spares = r.spares in let rooms = r.rooms in
-      record { rooms = omega arith; spares = omega arith; names = omega arith; }
+      record { rooms = omega arith; spares = omega arith; names = omega arith }
 ]
 
 -- and few lines one by one
@@ -59,7 +59,7 @@ flat-room t count rows levels flat high is rooms spares names =
     let part = levels_at_most t.nodes in
     let a = mul-le-mul_left {m = 16 * (part + 2)} {n = 16 * (levels + 2)} rows (omega arith) in
     let b = mul-le-mul_right {m = 2 * part + 6} {n = 2 * levels + 6} (count / 32768 + 1) (omega arith) in
-    inr record { rooms = omega arith; spares = omega arith; names = names; }
+    inr record { rooms = omega arith; spares = omega arith; names = names }
 
 -- ---- what is left
 pub keeps-room : (t u : TreeState) (lines rows : ℕ) → KeepsRoom t u → HasRoom t lines rows → HasRoom u lines rows
@@ -138,13 +138,13 @@ spends-row t u n many named nodes used rooms_and names_same = λ more rows has. 
 
 -- ---- one step after the other
 pub keeps-self : (t : TreeState) → KeepsRoom t t
-keeps-self t = record { nodes = refl; spares = omega arith; rooms = omega arith; names = refl; lines = omega arith; }
+keeps-self t = record { nodes = refl; spares = omega arith; rooms = omega arith; names = refl; lines = omega arith }
 
 pub keeps-same : (t u : TreeState) → u.nodes ≡ t.nodes → length u.lines ≡ length t.lines → u.spares ≡ t.spares →
     u.rooms ≡ t.rooms → u.row_room ≡ t.row_room → KeepsRoom t u
 keeps-same t u nodes lines spares rooms names =
     let all = room-stays t u nodes lines spares rooms in
-    record { nodes = nodes; spares = omega arith; rooms = omega arith; names = names; lines = omega arith; }
+    record { nodes = nodes; spares = omega arith; rooms = omega arith; names = names; lines = omega arith }
 
 pub keeps-on : (t u v : TreeState) → KeepsRoom t u → KeepsRoom u v → KeepsRoom t v
 keeps-on t u v a b =
@@ -161,12 +161,12 @@ keeps-on t u v a b =
 pub keeps-out : (t u : TreeState) → u.nodes ≡ t.nodes → t.spares + 1 ≤ u.spares →
     u.rooms + t.spares + 1 ≡ t.rooms + u.spares → u.row_room ≡ t.row_room → line_room t ≤ line_room u → KeepsRoom t u
 keeps-out t u nodes spares rooms names lines =
-    record { nodes = nodes; spares = omega arith; rooms = omega arith; names = names; lines = lines; }
+    record { nodes = nodes; spares = omega arith; rooms = omega arith; names = names; lines = lines }
 
 pub puts-none : (t u : TreeState) → PutsRoom t u 0 → KeepsRoom t u
 puts-none t u puts =
     let s = puts.spares in let r = puts.rooms in let l = puts.lines in
-    record { nodes = puts.nodes; spares = omega arith; rooms = omega arith; names = puts.names; lines = omega arith; }
+    record { nodes = puts.nodes; spares = omega arith; rooms = omega arith; names = puts.names; lines = omega arith }
 
 pub puts-kept : (t u : TreeState) → KeepsRoom t u → PutsRoom t u 0
 puts-kept t u keeps =
@@ -197,4 +197,4 @@ pub puts-one : (t u : TreeState) → t.height ≤ levels_at_most t.nodes → u.n
     t.spares ≤ u.spares + t.height + 2 → u.rooms + t.spares ≡ t.rooms + u.spares + 1 → u.row_room ≡ t.row_room →
     line_room t ≤ line_room u + 1 → PutsRoom t u 1
 puts-one t u low nodes spares rooms names lines =
-    record { nodes = nodes; spares = omega arith; rooms = omega arith; names = names; lines = omega arith; }
+    record { nodes = nodes; spares = omega arith; rooms = omega arith; names = names; lines = omega arith }

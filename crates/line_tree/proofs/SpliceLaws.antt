@@ -258,7 +258,7 @@ pub rest-fits : (now : Count) (new : List LineContent) (gone : ℕ) → FitsSum 
     FitsSum (plus now (count_of (drop gone new)))
 rest-fits now new gone fits = let both = parts-fit now new gone fits in
     let l = both.lines in let ch = both.characters in let m = both.marks in
-    record { lines = omega arith; characters = omega arith; marks = omega arith; }
+    record { lines = omega arith; characters = omega arith; marks = omega arith }
 
 pub then-fits : (old now : List Named) (k gone : ℕ) (new : List LineContent) (added : List Named) →
     FitsSum (plus (total old) (count_of new)) → map (λ (n : Named). n.1) added ≡ drop gone new →
