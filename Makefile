@@ -43,6 +43,7 @@ TRIED = out/try/tktext
 TRIED_LIBRARY = out/try/libtktext.a
 SHIM = out/refuse.so
 WEIGH = out/weigh.so
+ASKED = out/asked.so
 SEEDS ?= 300
 FIRST ?= 0
 SECONDS ?= 600
@@ -115,6 +116,10 @@ $(WEIGH): tools/weigh.c
 	mkdir -p out
 	cc -shared -fPIC -O1 -o $@ $<
 
+$(ASKED): tools/weigh.c
+	mkdir -p out
+	cc -DASKED -shared -fPIC -O1 -o $@ $<
+
 # `rt ci` puts back an out/ that was there before it, so old programs are taken away first.
 test: $(SHIM) $(WEIGH)
 	rm -rf crates/tktext/out crates/rows/out crates/node_memory/out crates/tree_bench/out crates/script_bench/out
@@ -153,8 +158,8 @@ $(TREE_BENCH): $(SOURCES)
 	cd crates/tree_bench && rt run -- mixed 100 20 > /dev/null
 	@touch $@
 
-bench: $(PROGRAM) $(LINE_BENCH) $(TREE_BENCH) $(WEIGH) $(LIBRARY)
-	python3 tools/bench.py --program $(PROGRAM) --out docs/bench.txt
+bench: $(PROGRAM) $(LINE_BENCH) $(TREE_BENCH) $(WEIGH) $(ASKED) $(LIBRARY)
+	python3 tools/bench.py --program $(PROGRAM) --asked $(ASKED) --out docs/bench.txt
 	python3 tools/bench_lines.py --program $(LINE_BENCH) --out docs/bench_lines.txt
 	python3 tools/bench_tree.py --program $(TREE_BENCH) --shim $(WEIGH) --out docs/bench_tree.txt
 	python3 tools/library.py --bench docs/bench_library.txt

@@ -1,12 +1,13 @@
 #!/usr/bin/env python3
 """Times the program on generated scripts of growing size.
 
-    python3 tools/bench.py --program PATH --out FILE [--sizes 5000,10000,20000] [--repeat 3]
+    python3 tools/bench.py --program PATH --asked PATH --out FILE [--sizes 5000,10000,20000] [--repeat 3]
 
 Prints a table and writes it to FILE, so that the next change can be compared with it. Each time is the least of
 several runs of the whole program, from its start to its end; a run of more than five seconds isn't made again. Below
-stands what it takes to load as many lines as fit into a text by one insertion, and the greatest resident size over
-scripts of three lengths, of short commands and of edits whose history is bounded. The exit status is 1 if a run didn't
+stands what it takes to load as many lines as fit into a text by one insertion, what is asked for meanwhile (`--asked`
+is tools/weigh.c, built with -DASKED), and the greatest resident size over scripts of three lengths, of short commands
+and of edits whose history is bounded. The exit status is 1 if a run didn't
 answer as it has to, if appending 20,000 words takes five seconds or more, or if the greatest resident size grows with
 the script.
 """
@@ -375,7 +376,11 @@ def measure(program, sizes, repeat, folder):
 # A line of a text that is loaded, and how many there are at most; what that is to take.
 LOADED_LINE = "the quick brown fox jumps over lazy"
 LOADED_LINES = 1_000_000
-LOAD_SECONDS, LOAD_BYTES = 2.0, 230
+LOAD_SECONDS, LOAD_BYTES = 2.0, 260
+# The same by what is asked for, at the most and afterwards.
+ASKED_BYTES, HELD_BYTES = 230, 150
+# So many lines are replaced by others in one command.
+REPLACED_LINES = 200_000
 
 
 def run_sized(program, script_path):
@@ -407,6 +412,35 @@ def measure_load(program, lines, folder):
          f"(goal: under {LOAD_SECONDS:.0f} s, {'met' if seconds < LOAD_SECONDS else 'MISSED'}),")
     emit(lines, f"{size:.0f} bytes a line at most, the script's word among them "
          f"(goal: {LOAD_BYTES}, {'met' if size <= LOAD_BYTES else 'MISSED'})")
+
+
+def asked_sizes(program, shim, script, folder):
+    """The most bytes that a run asks for at once, and those that it held when it last read its script."""
+    path, report = os.path.join(folder, "asked.tcl"), os.path.join(folder, "asked")
+    with open(path, "w", encoding="utf-8") as file:
+        file.write(script)
+    environment = dict(os.environ, LD_PRELOAD=os.path.abspath(shim), WEIGHT_REPORT=report)
+    with open(path, "rb") as script_file:
+        subprocess.run([program], stdin=script_file, stdout=subprocess.DEVNULL, env=environment, check=True)
+    with open(report, encoding="ascii") as file:
+        _, _, most, held = map(int, file.read().split())
+    return most, held
+
+
+def measure_asked(program, shim, lines, folder):
+    """Adds the lines on what is asked for while a text is loaded, and while all of it is replaced."""
+    load = "text .t\n.t insert end {" + f"{LOADED_LINE}\n" * LOADED_LINES + "}\n"
+    most, held = (size / LOADED_LINES for size in asked_sizes(program, shim, load, folder))
+    emit(lines, f"By what is asked for, {most:.0f} bytes a line at most "
+         f"(goal: {ASKED_BYTES}, {'met' if most <= ASKED_BYTES else 'MISSED'}), "
+         f"and {held:.0f} afterwards (goal: {HELD_BYTES}, {'met' if held <= HELD_BYTES else 'MISSED'}).")
+    line = f"{LOADED_LINE}\n"
+    texts = (line, f"{LOADED_LINE.upper()}\n")
+    script = "text .t\n" + "".join(f".t replace 1.0 end {{{text * REPLACED_LINES}}}\n" for text in texts)
+    most, held = (size / REPLACED_LINES for size in asked_sizes(program, shim, script, folder))
+    goal = 2 * (held + len(line))
+    emit(lines, f"A replace of all of {REPLACED_LINES:,} lines asks for {most:.0f} bytes a line at most "
+         f"(goal: twice what is held and the script's word, {goal:.0f}, {'met' if most <= goal else 'MISSED'})")
 
 
 # What a script is made of whose size is measured: its name, its first command, the one that follows, and its lengths in bytes.
@@ -443,6 +477,7 @@ def sizes_of(text):
 def main():
     parser = argparse.ArgumentParser(description="times the program on generated scripts")
     parser.add_argument("--program", required=True)
+    parser.add_argument("--asked", required=True)
     parser.add_argument("--out", required=True)
     parser.add_argument("--sizes", type=sizes_of, default=[5_000, 10_000, 20_000])
     parser.add_argument("--repeat", type=int, default=3)
@@ -450,6 +485,7 @@ def main():
     with tempfile.TemporaryDirectory() as folder:
         lines, is_fast = measure(options.program, options.sizes, options.repeat, folder)
         measure_load(options.program, lines, folder)
+        measure_asked(options.program, options.asked, lines, folder)
     is_met = measure_sizes(options.program, lines) and is_fast
     with open(options.out, "w", encoding="utf-8") as file:
         file.write("".join(line.rstrip() + "\n" for line in lines))
