@@ -47,6 +47,8 @@ SEEDS ?= 300
 FIRST ?= 0
 SECONDS ?= 600
 SOURCES = crates.txt $(shell find crates -name '*.rt' -o -name '*.antt' | grep -v /out/)
+# The library's calls that are written in C, and what they are made of.
+IN_C = $(wildcard include/*) tools/forms.py tools/facts.py
 
 help:
 	@sed -n 's/^# \{0,1\}//p; /^$$/q' Makefile
@@ -61,7 +63,7 @@ $(TRIED): $(SOURCES) tools/try.py tools/unproved.py
 try-lib: $(TRIED_LIBRARY)
 
 $(TRIED_LIBRARY): $(SOURCES) tools/try_library.py tools/unproved.py tools/build_library.py \
-  include/version.c include/tktext.h
+  $(IN_C)
 	@python3 tools/try_library.py
 	@touch $@
 
@@ -76,7 +78,7 @@ $(PROGRAM): $(SOURCES)
 
 lib: $(LIBRARY)
 
-$(LIBRARY): $(SOURCES) include/version.c include/tktext.h
+$(LIBRARY): $(SOURCES) $(IN_C)
 	@python3 tools/build_library.py
 	@touch $@
 
