@@ -605,9 +605,10 @@ def check_shown(has_tcl, folder, tally):
     """The lines of README and of docs/use.md run as they stand there."""
     file, program = os.path.join(folder, "shown.c"), os.path.join(folder, "shown")
     with open(file, "w", encoding="utf-8") as written:
-        written.write(f'#include "tktext.h"\nint main(void)\n{{\n{used_lines("c")}return code != TKTEXT_ANSWER || length != 3 || line[2] != 10;\n}}\n')
+        head = '#include "tktext.h"\n#include <stdio.h>\n#include <stdlib.h>\nint main(void)\n{\n'
+        written.write(f"{head}{used_lines('c')}return code != TKTEXT_ANSWER || length != 3;\n}}\n")
     run(["cc", *FLAGS, file, ARCHIVE, "-o", program])
-    tally.check(run([program])[1] == 0, "the lines in C of docs/use.md")
+    tally.check(run([program]) == (b"done: .t\n", 0, b""), "the lines in C of docs/use.md")
     end = 'print(peer.get("1.0", "1.end"), *text.tag_ranges("bold"))'
     given = run([sys.executable, "-c", used_lines("python") + end], env=dict(os.environ, PYTHONPATH=source("python")))
     tally.check(given == (b"hello, wide world 1.7 2.0\n", 0, b""), f"the lines in Python of docs/use.md: {given!r}")
