@@ -67,7 +67,7 @@ static bool is_option(const char *word)
 static bool has_good_options(const struct form *form, size_t count, const char *const words[])
 {
     size_t at = 1 + (form->first != NULL) + (form->second != NULL) + (size_t)form->options_after;
-    size_t end = form->has_values || count < at ? count : at + 1;
+    size_t end = form->has_values ? count : at + 1;
     for (; at < count && at < end; at += 2)
         if (!is_option(words[at]))
             return false;
