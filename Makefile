@@ -11,8 +11,8 @@
 # make install  puts the program, the library, the Tcl package and the manual pages below PREFIX=/usr/local, and all of
 #              that below DESTDIR; TRY=1 puts those there that aren't proved
 # make uninstall  takes them away again
-# make dist    a release in out/dist: a tarball and a Debian package of what `make install` puts down, each with what
-#              was proved (docs/release.md); TRY=1 makes one of what isn't
+# make dist    a release in out/dist: a tarball and a Debian package of what `make install` puts down, and a wheel for
+#              Python, each with what was proved (docs/release.md); TRY=1 makes one of what isn't
 # make test    the gate, and then the checks that the gate can't do; the last line counts them
 # make fuzz    the program against the plain model on random scripts: SEEDS=300 of them, FIRST=0 on
 # make fuzz-library  random calls of the library under sanitizers, for SECONDS=600, from the seed FIRST=0 on
@@ -48,6 +48,8 @@ SEEDS ?= 300
 FIRST ?= 0
 SECONDS ?= 600
 SOURCES = crates.txt $(shell find crates -name '*.rt' -o -name '*.antt' | grep -v /out/)
+# The library's calls that are written in C, and what they are made of.
+IN_C = $(wildcard include/*) tools/forms.py tools/facts.py
 
 help:
 	@sed -n 's/^# \{0,1\}//p; /^$$/q' Makefile
@@ -62,7 +64,7 @@ $(TRIED): $(SOURCES) tools/try.py tools/unproved.py
 try-lib: $(TRIED_LIBRARY)
 
 $(TRIED_LIBRARY): $(SOURCES) tools/try_library.py tools/unproved.py tools/build_library.py \
-  include/version.c include/tktext.h
+  $(IN_C)
 	@python3 tools/try_library.py
 	@touch $@
 
@@ -77,7 +79,7 @@ $(PROGRAM): $(SOURCES)
 
 lib: $(LIBRARY)
 
-$(LIBRARY): $(SOURCES) include/version.c include/tktext.h
+$(LIBRARY): $(SOURCES) $(IN_C)
 	@python3 tools/build_library.py
 	@touch $@
 

@@ -6,21 +6,18 @@
 
 #include <stdio.h>
 #include <stdlib.h>
-#include <string.h>
 
-/* Carries out the command of some words, and prints what is said. */
-static int32_t say(tktext *world, size_t count, const char *const *words)
+/* Carries out the command of some words, and prints what is said, or why nothing is. */
+static int32_t say(tktext *world, size_t count, const char *const words[])
 {
-    uint8_t bytes[512];
-    size_t lengths[16], size = 0;
-    for (size_t at = 0; at < count; at++) {
-        lengths[at] = strlen(words[at]);
-        memcpy(bytes + size, words[at], lengths[at]);
-        size += lengths[at];
-    }
-    int32_t code = tktext_call(world, bytes, size, lengths, count);
-    size_t length = tktext_said(world, bytes, sizeof bytes);
-    fwrite(bytes, 1, length < sizeof bytes ? length : sizeof bytes, stdout);
+    char *line = NULL;
+    size_t room = 0;
+    int32_t code = tktext_call_words(world, count, words);
+    if (code > TKTEXT_FAULT)
+        fprintf(stderr, "%s\n", tktext_code_text(code));
+    else if (tktext_said_line(world, &line, &room) != SIZE_MAX)
+        fputs(line, stdout);
+    free(line);
     return code;
 }
 

@@ -13,6 +13,8 @@
 
    What a caller gets, which is proved: any bytes, lengths and numbers are allowed.  No call ends the process.  After any
    code but TKTEXT_ANSWER the world is as it was, want of memory among them.  A call keeps no pointer to what it was given.
+   Not proved are five calls of a few lines of C: tktext_call_words, tktext_said_line, tktext_code_text, tktext_hint and
+   tktext_version.
 
    Lengths and sizes are in bytes, the limit `chars` in characters; texts are UTF-8, without a byte 0 at their end.  */
 
@@ -72,10 +74,19 @@ int32_t tktext_new_greatest(tktext *handle);
    tktext_said has a line; or, with nothing changed, TKTEXT_NOT_TEXT, TKTEXT_WRONG_LENGTHS or TKTEXT_WRONG_HANDLE. */
 int32_t tktext_call(tktext *handle, const uint8_t *bytes, size_t size, const size_t *lengths, size_t count);
 
+/* The same by words that a byte 0 ends each, of any length.  TKTEXT_NO_MEMORY too where the memory to put them one
+   behind the other is refused, after which tktext_said has what it had. */
+int32_t tktext_call_words(tktext *handle, size_t count, const char *const words[]);
+
 /* Copies what was said last to the room, as far as it goes, writes nothing behind it, and gives the length of all, whatever
    the room.  It is the line that the program prints: an answer and a newline, or `error: `, the text of a fault and a
    newline; nothing before the first command and after TKTEXT_END.  It can be asked again until the next command. */
 size_t tktext_said(tktext *handle, uint8_t *room, size_t size);
+
+/* Copies what was said last, all of it and a byte 0, to `*line`, and gives the length without that byte.  `*line` is a
+   block of malloc with room for `*room` bytes, or NULL with 0; one with too little room is made greater by realloc.
+   Where that is refused it gives SIZE_MAX, and both are as they were.  The caller frees `*line` at last. */
+size_t tktext_said_line(tktext *handle, char **line, size_t *room);
 
 /* Takes the next bytes of the world's script, of any number, as they come.  Nothing is carried out yet.
    TKTEXT_ANSWER, TKTEXT_NO_MEMORY, TKTEXT_FINISHED or TKTEXT_WRONG_HANDLE. */
@@ -95,6 +106,14 @@ int32_t tktext_status(tktext *handle);
 
 /* Drops the world, if there is one, and leaves the handle empty. */
 void tktext_drop(tktext *handle);
+
+/* A few words that say what a code means, as `a word isn't UTF-8`. */
+const char *tktext_code_text(int32_t code);
+
+/* What the fault of a command leaves unsaid, or NULL: of `wrong # args` what has to stand behind the command's first
+   word, as `index index`; of a `bad ..` which words there are in its place, as `left or right`.  The fault is its text
+   alone, and a byte 0 ends it and each word. */
+const char *tktext_hint(size_t count, const char *const words[], const char *fault);
 
 /* The version of the library, and whether it was proved: "1.0, proved" or "1.0, not proved". */
 const char *tktext_version(void);

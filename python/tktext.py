@@ -6,8 +6,8 @@ both leave everything as it was.
 
 Threads may share a world and its widgets: one call is carried out at a time.
 
-The library is looked for in the file that TKTEXT_LIBRARY names, in out/ and in out/try/ of this repository, and then
-where the system looks.
+The library is the file that TKTEXT_LIBRARY names, or else that which lies beside this one, as in a wheel, or in out/ or
+out/try/ of this repository, and else that which the system finds.
 """
 
 import ctypes
@@ -26,6 +26,7 @@ MISUSED = {
 }
 UNDER_WAY = "a call of this world is under way in this thread"
 BEFORE_FAULT = b"error: "
+WRONG_ARGUMENTS = b"wrong # args"
 # The room for what is said, in bytes: at first, and the most that is kept from one answer to the next.
 FIRST_ROOM = 256
 MOST_ROOM = 65536
@@ -34,7 +35,11 @@ LIMIT_NUMBERS = (2 ** (8 * ctypes.sizeof(c_size_t)), 2**16, 2**16, 2**16)
 
 
 class TclError(Exception):
-    """Why a command was refused."""
+    """Why a command was refused.  `fault` is what the library said of it; the text may say more behind that."""
+
+    def __init__(self, fault="", hint=""):
+        super().__init__(f"{fault}: {hint}" if hint else fault)
+        self.fault = fault
 
 
 class _Kept(ctypes.Structure):
@@ -46,9 +51,10 @@ class _Handle(ctypes.Structure):
 
 
 def _library_path():
-    top = os.path.join(os.path.dirname(os.path.abspath(__file__)), "..")
-    built = [os.path.join(top, *out, "libtktext.so") for out in (["out"], ["out", "try"])]
-    return os.environ.get("TKTEXT_LIBRARY") or next(filter(os.path.exists, built), "libtktext.so.1")
+    here = os.path.dirname(os.path.abspath(__file__))
+    places = ["libtktext.so.1"], ["..", "out", "libtktext.so"], ["..", "out", "try", "libtktext.so"]
+    found = filter(os.path.exists, (os.path.join(here, *place) for place in places))
+    return os.environ.get("TKTEXT_LIBRARY") or next(found, "libtktext.so.1")
 
 
 def _load():
@@ -64,6 +70,7 @@ def _load():
         "tktext_next": (c_int32, [handle]),
         "tktext_status": (c_int32, [handle]),
         "tktext_drop": (None, [handle]),
+        "tktext_hint": (c_char_p, [size, POINTER(c_char_p), c_char_p]),
     }
     for name, (result, arguments) in forms.items():
         function = getattr(library, name)
@@ -87,6 +94,16 @@ def _limits_of(limits):
 def _bytes_of(piece):
     """The bytes of a buffer, as many as it has, whatever a class that stands on `bytes` says of its length."""
     return piece if type(piece) is bytes else bytes(memoryview(piece))
+
+
+def _hint(words, fault):
+    """What the fault of a command leaves unsaid, if anything.  Words and fault are bytes."""
+    # A byte 0 would end a word, or the fault; so it is written as another that no name has.
+    given, said = [word.replace(b"\0", b"\x01") for word in words], fault.replace(b"\0", b"\x01")
+    hint = (_LIBRARY.tktext_hint(len(given), (c_char_p * len(given))(*given), said) or b"").decode("ascii")
+    if hint and fault == WRONG_ARGUMENTS:
+        return f'should be "{words[0].decode("utf-8")} {hint}"'
+    return hint and f"must be {hint}"
 
 
 class World:
@@ -130,7 +147,8 @@ class World:
         code, said = self._alone(self._call, given)
         self._check(code)
         if code == FAULT:
-            raise TclError(said[len(BEFORE_FAULT):-1].decode("utf-8"))
+            fault = said[len(BEFORE_FAULT):-1]
+            raise TclError(fault.decode("utf-8"), _hint(given, fault))
         return said[:-1].decode("utf-8")
 
     def give(self, words):

@@ -5,9 +5,10 @@
    makes a widget without a display, and a command `.t` that takes the words of Tk's own widget.  `.t peer create .u`
    makes a command `.u` too; `tktext::destroy ?W ..?` takes widgets away, with their commands, whatever these are called
    by then, and a command that is renamed to the empty name takes its own widget with it.  All widgets of an interpreter
-   stand in one world, which goes with it.  A refused command is an error of its text, with the error code `TKTEXT
-   FAULT`, or `TKTEXT MEMORY` where memory was refused, or `TKTEXT SIZE` where words or an answer have more bytes than a
-   value of Tcl can hold; then the text of the error says whether the command was carried out. */
+   stand in one world, which goes with it.  A refused command is an error of its text, behind which stands what that
+   leaves unsaid, as the form of a command; its error code is `TKTEXT FAULT` and the text alone.  The code is `TKTEXT
+   MEMORY` where memory was refused, and `TKTEXT SIZE` where words or an answer have more bytes than a value of Tcl can
+   hold; then the text of the error says whether the command was carried out. */
 
 #include "tktext.h"
 
@@ -133,22 +134,17 @@ static int set_result(Tcl_Interp *interp, const uint8_t *text, size_t length, si
     return 1;
 }
 
-/* The same for the answer or the fault in a line that was said. */
+/* The same for the answer or the fault in a line that was said; else there is another error. */
 static int set_line(Tcl_Interp *interp, int32_t code, const uint8_t *line, size_t length)
 {
     size_t before = code == TKTEXT_FAULT ? TKTEXT_BEFORE_FAULT : 0, size = length - before - TKTEXT_BEHIND;
     size_t growth = growth_of(line + before, size);
     if (!fits(size, growth))
         return fail_for_answer(interp, code);
-    if (!set_result(interp, line + before, size, growth))
-        return fail_for_memory(interp);
-    if (code != TKTEXT_FAULT)
-        return TCL_OK;
-    Tcl_SetErrorCode(interp, "TKTEXT", "FAULT", NULL);
-    return TCL_ERROR;
+    return set_result(interp, line + before, size, growth) ? TCL_OK : fail_for_memory(interp);
 }
 
-/* Sets the interpreter's result to what was said. */
+/* Sets the interpreter's result to the answer or the fault that was said. */
 static int said(Tcl_Interp *interp, World *world, int32_t code)
 {
     uint8_t fixed[FIXED_BYTES], *line = fixed;
@@ -164,6 +160,45 @@ static int said(Tcl_Interp *interp, World *world, int32_t code)
     int result = set_line(interp, code, line, length);
     free_unless(line, fixed);
     return result;
+}
+
+/* ---- Faults */
+
+/* The error code of a fault, which has the fault in it. */
+static void set_fault_code(Tcl_Interp *interp, Tcl_Obj *fault)
+{
+    Tcl_Obj *parts[] = {Tcl_NewStringObj("TKTEXT", -1), Tcl_NewStringObj("FAULT", -1), fault};
+    Tcl_SetObjErrorCode(interp, Tcl_NewListObj(3, parts));
+}
+
+/* What a fault leaves unsaid of the command of a first word and others.  Where memory is refused it is nothing. */
+static const char *hint_of(const char *fault, Tcl_Obj *first, int count, Tcl_Obj *const words[])
+{
+    const char **texts = malloc(((size_t)count + 1) * sizeof *texts);
+    if (texts == NULL)
+        return NULL;
+    texts[0] = Tcl_GetString(first);
+    for (int number = 0; number < count; number++)
+        texts[number + 1] = Tcl_GetString(words[number]);
+    const char *hint = tktext_hint((size_t)count + 1, texts, fault);
+    free(texts);
+    return hint;
+}
+
+/* Makes an error of the fault that is the interpreter's result, with what it leaves unsaid.  The command's words in Tcl
+   begin with that before `words`. */
+static int fail_for_fault(Tcl_Interp *interp, Tcl_Obj *first, int count, Tcl_Obj *const words[])
+{
+    Tcl_Obj *fault = Tcl_GetObjResult(interp);
+    const char *text = Tcl_GetString(fault), *name = Tcl_GetString(words[-1]);
+    int is_short = strlen(text) < FIXED_BYTES && strlen(name) < FIXED_BYTES;
+    const char *hint = is_short ? hint_of(text, first, count, words) : NULL;
+    set_fault_code(interp, fault);
+    if (hint != NULL && strcmp(text, "wrong # args") == 0)
+        Tcl_SetObjResult(interp, Tcl_ObjPrintf("%s: should be \"%s %s\"", text, name, hint));
+    else if (hint != NULL)
+        Tcl_SetObjResult(interp, Tcl_ObjPrintf("%s: must be %s", text, hint));
+    return TCL_ERROR;
 }
 
 /* ---- Commands */
@@ -250,13 +285,16 @@ static int32_t call(World *world, Tcl_Obj *first, int count, Tcl_Obj *const word
     return code;
 }
 
-/* The same, with the answer or the fault as the interpreter's result; tells whether the command was carried out. */
+/* The same, with the answer or an error as the interpreter's result; tells whether the command was carried out.  Before
+   `words` stands the command's own word in Tcl. */
 static int give(Tcl_Interp *interp, World *world, Tcl_Obj *first, int count, Tcl_Obj *const words[], int *is_done)
 {
     int32_t code = call(world, first, count, words);
     *is_done = code == TKTEXT_ANSWER;
-    if (code == TKTEXT_ANSWER || code == TKTEXT_FAULT)
+    if (code == TKTEXT_ANSWER)
         return said(interp, world, code);
+    if (code == TKTEXT_FAULT)
+        return said(interp, world, code) == TCL_OK ? fail_for_fault(interp, first, count, words) : TCL_ERROR;
     if (code == TKTEXT_NO_MEMORY)
         return fail_for_memory(interp);
     return code == TOO_LONG ? fail_for_words(interp) : fail(interp, "WORDS", "a word isn't UTF-8");
@@ -302,8 +340,8 @@ static int run_widget(void *data, Tcl_Interp *interp, int count, Tcl_Obj *const 
     Widget *widget = data;
     int is_done;
     if (widget->state != STANDS) {
-        fail(interp, "FAULT", "");
         Tcl_SetObjResult(interp, Tcl_ObjPrintf("invalid command name \"%s\"", Tcl_GetString(widget->name)));
+        set_fault_code(interp, Tcl_GetObjResult(interp));
         return TCL_ERROR;
     }
     if (count > 3 && is_word(words[1], "peer") && is_word(words[2], "create"))

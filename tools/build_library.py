@@ -8,7 +8,7 @@ has changed since it was proved is proved.  A gate leaves the crates below as it
 which `rt` knows them, so that `rt` would prove them all again; there the compiler of the kit is called over them, and
 proves and builds the one crate.
 
-libtktext.a is this crate, the kit's few lines of C by which it asks for memory, and include/version.c; libtktext.so.1
+libtktext.a is this crate, the kit's few lines of C by which it asks for memory, and those of include/; libtktext.so.1
 the same, which shows the names of tktext.h alone, and libtktext.so a link to it.
 """
 
@@ -19,6 +19,7 @@ import sys
 import tempfile
 
 import build
+import forms
 
 CRATE = "tktext_c"
 OUT = os.path.join(build.TOP, "out")
@@ -26,6 +27,8 @@ MADE = os.path.join(build.TOP, "crates", CRATE, "out", f"lib{CRATE}.a")
 # The name by which a program that was linked with the library looks for it; the number grows with what such a program
 # sees.
 SONAME = "libtktext.so.1"
+# The files of include/.
+CALLS_IN_C = ("comfort", "hints", "version")
 NAMES = "{ global: tktext_*; local: *; };\n"
 
 
@@ -103,11 +106,20 @@ def unpack(archive, folder):
     subprocess.run(["ar", "x", archive], cwd=folder, check=True)
 
 
+def compile_calls(objects, proved):
+    """The calls that are written in C, of which one says whether the others are proved, among the objects of a folder."""
+    flags = ["-Wall", "-Wextra", "-O2", "-fPIC", f'-DTKTEXT_PROVED="{proved}"']
+    with tempfile.TemporaryDirectory() as folder:
+        with open(os.path.join(folder, "forms.h"), "w", encoding="ascii") as file:
+            file.write(forms.header())
+        for name in CALLS_IN_C:
+            source, made = os.path.join(build.TOP, "include", f"{name}.c"), os.path.join(objects, f"{name}.o")
+            subprocess.run(["cc", *flags, f"-I{folder}", "-c", source, "-o", made], check=True)
+
+
 def pack(objects, out, proved):
-    """Makes both libraries of the objects in a folder, and of the call that says whether they are proved, in `out`."""
-    version = os.path.join(build.TOP, "include", "version.c")
-    flags = ["-O2", "-fPIC", f'-DTKTEXT_PROVED="{proved}"']
-    subprocess.run(["cc", *flags, "-c", version, "-o", os.path.join(objects, "version.o")], check=True)
+    """Makes both libraries of the objects in a folder, and of the calls in C, in `out`."""
+    compile_calls(objects, proved)
     files = sorted(os.path.join(objects, name) for name in os.listdir(objects))
     os.makedirs(out, exist_ok=True)
     with tempfile.TemporaryDirectory() as folder:

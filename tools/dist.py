@@ -4,12 +4,14 @@
     python3 tools/dist.py [--try] [--out out/dist]
 
 - tktext-VERSION-MACHINE.tar.gz: what `make install` puts down; it may be unpacked anywhere
-- tktext_VERSION_MACHINE.deb: the same below /usr, where `dpkg-deb` is installed
-- SHA256SUMS: the checksums of both
+- tktext-VERSION-py3-none-PLATFORM.whl: the Python module with the library beside it, for `pip install`
+- tktext_VERSION_MACHINE.deb: what the tarball has below /usr, where `dpkg-deb` is installed
+- SHA256SUMS: the checksums of these
 
-Both have the file share/doc/tktext/PROVED, which says what was proved: the commit, the toolchain, the last line of the
-gate where it was run on that commit, and the checksum of each file.  With `--try` they are made of what isn't proved,
-and say so.  Made twice of one commit and one build they are the same bytes.
+Each has a file PROVED, which says what was proved: the commit, the toolchain, the last line of the gate where it was
+run on that commit, and the checksum of each file; and one that says by which licences it may be copied.  With `--try`
+they are made of what isn't proved, and say so.  Made twice of one commit and one build they are the same bytes; so the
+wheel is put together here (tools/python_wheel.py), and not by setuptools, whichever version of it is installed.
 """
 
 import argparse
@@ -21,11 +23,15 @@ import subprocess
 import sys
 import tempfile
 
+import copyrights
 import gate
 import install
+import python_wheel
 
 TOP = install.TOP
 NOTE = os.path.join("share", "doc", "tktext", "PROVED")
+# Where Debian looks for it.
+LICENCE = os.path.join("share", "doc", "tktext", "copyright")
 # Below this prefix the tarball's description for pkg-config finds the rest from where it stands itself.
 MOVABLE = "${pcfiledir}/../.."
 WHAT = """tktext {version}: the editing core of the Tk text widget
@@ -96,13 +102,17 @@ def what_is_proved(root, is_tried):
     return head + checksums(root, files_below(root))
 
 
+def write(root, place, text):
+    install.put(os.path.join(root, place), 0o644, lambda path: install.write_text(path, text))
+
+
 def stage(root, prefix, is_tried):
     """Puts everything below a root, and what is proved of it; ends where something isn't built."""
     missing = install.install(root, prefix, is_tried)
     if missing:
         sys.exit(f"not built: {' '.join(missing)}")
-    text = what_is_proved(root, is_tried)
-    install.put(os.path.join(root, NOTE), 0o644, lambda path: install.write_text(path, text))
+    write(root, LICENCE, copyrights.text(install.version()))
+    write(root, NOTE, what_is_proved(root, is_tried))
 
 
 def seconds_of_commit():
@@ -124,6 +134,20 @@ def make_tarball(folder, out, is_tried):
     name = f"tktext-{install.version()}-{platform.machine()}"
     stage(os.path.join(folder, name), MOVABLE, is_tried)
     return pack(folder, name, out)
+
+
+def make_wheel(folder, out, is_tried):
+    """The wheel for Python, of the files that are installed for it."""
+    root, library = os.path.join(folder, "wheel"), os.path.join(TOP, install.library(is_tried))
+    for source in (os.path.join(TOP, "python", "tktext.py"), library):
+        place = os.path.join(root, os.path.basename(source))
+        install.put(place, 0o644, lambda path, source=source: shutil.copyfile(source, path))
+    version = install.version()
+    notes = {
+        "METADATA": python_wheel.metadata(version, install.UNPROVED if is_tried else ""),
+        "PROVED": what_is_proved(root, is_tried), "COPYRIGHT": copyrights.text(version),
+    }
+    return python_wheel.make(root, library, notes, version, int(seconds_of_commit()), out)
 
 
 def write_control(package, machine, is_tried):
@@ -155,7 +179,7 @@ def make_package(folder, out, is_tried):
 def make(out, is_tried):
     """Makes a release in a folder.  Gives the files."""
     os.makedirs(out, exist_ok=True)
-    makers = [make_tarball] + [make_package] * (shutil.which("dpkg-deb") is not None)
+    makers = [make_tarball, make_wheel] + [make_package] * (shutil.which("dpkg-deb") is not None)
     with tempfile.TemporaryDirectory() as folder:
         # A package has the modes that are written here, whatever the user's mask.
         os.umask(0o022)
@@ -171,7 +195,7 @@ def main():
     options = parser.parse_args()
     made = make(os.path.abspath(options.out), options.is_tried)
     print(*made, sep="\n")
-    if len(made) == 1:
+    if not made[-1].endswith(".deb"):
         print("no Debian package is made: it wants dpkg-deb", file=sys.stderr)
     if options.is_tried:
         print("what was packed is NOT PROVED", file=sys.stderr)

@@ -8,9 +8,10 @@
 
    In each run two worlds take the same commands, one by their words and one by a script that is fed in pieces, and say
    the same.  Growths of memory are refused in both: then the world's state is as it was, as its answers to many
-   questions tell, and the command answers when it is given again.  Between them come wrong lengths, wrong limits, bytes
-   that are no text or no script, dropped worlds and new ones.  Rooms and buffers are blocks of just the length that is
-   told, for a sanitizer to watch, and at a run's end no block of the library is left.
+   questions tell, and the command answers when it is given again.  Some commands are given by strings.  Between them
+   come wrong lengths, wrong limits, bytes that are no text or no script, dropped worlds and new ones.  Rooms and buffers
+   are blocks of just the length that is told, for a sanitizer to watch, and at a run's end no block of the library is
+   left.
 
    Runs are done in a process of their own.  Where one fails or ends it, its seed is printed with its calls, and the
    next goes on.  The last line is `N passed, M failed`. */
@@ -652,6 +653,69 @@ static void try_command(void)
     free(command.bytes);
 }
 
+/* The words of a command as strings, each in a block of just its size. */
+static const char **strings_of(const struct command *command)
+{
+    const char **words = (const char **)(void *)block_of(command->count * sizeof *words);
+    const uint8_t *bytes = command->bytes;
+    for (size_t number = 0; number < command->count; number++) {
+        char *word = (char *)block_of(command->lengths[number] + 1);
+        memcpy(word, bytes, command->lengths[number]);
+        word[command->lengths[number]] = 0;
+        bytes += command->lengths[number];
+        words[number] = word;
+    }
+    return words;
+}
+
+/* What was said by a block that grows is what was said, also where its growth was refused first.  What a fault leaves
+   unsaid may be asked of any words. */
+static void check_line(tktext *world, size_t count, const char *const words[])
+{
+    size_t size, room = 0;
+    char *line = NULL;
+    uint8_t *wanted = said(world, &size);
+    if (in(2)) {
+        refuse(1, 0);
+        check(tktext_said_line(world, &line, &room) == SIZE_MAX && line == NULL && room == 0, "a line without memory");
+        refuse_none();
+    }
+    check(tktext_said_line(world, &line, &room) == size && room == size + 1, "the line has another length");
+    check(memcmp(line, wanted, size) == 0 && line[size] == 0, "the line differs from what was said");
+    line[size - TKTEXT_BEHIND] = 0;
+    if (size > TKTEXT_BEFORE_FAULT)
+        tktext_hint(count, words, line + TKTEXT_BEFORE_FAULT);
+    tktext_hint(count, words, in(2) ? "wrong # args" : "bad option ");
+    library_free(line);
+    free(wanted);
+}
+
+/* A command by strings, where its words can be; where a growth is refused for it, it is given again. */
+static void try_strings(void)
+{
+    struct command command = random_command();
+    note_command(&command);
+    if (has_texts(&command) && memchr(command.bytes, 0, command.size) == NULL) {
+        const char **words = strings_of(&command);
+        if (in(2))
+            refuse(1 + below(12), in(2));
+        int32_t code = tktext_call_words(&by_words, command.count, words);
+        refuse_none();
+        if (code == TKTEXT_NO_MEMORY) {
+            check_refused();
+            code = tktext_call_words(&by_words, command.count, words);
+        }
+        shared->calls++;
+        check(code == call(&by_script, &command), "the two worlds' codes differ");
+        check_same(&by_words, &by_script);
+        check_line(&by_words, command.count, words);
+        for (size_t number = 0; number < command.count; number++)
+            free((void *)words[number]);
+        free(words);
+    }
+    free(command.bytes);
+}
+
 /* Lengths that don't add up to the bytes, or do by chance. */
 static void try_lengths(void)
 {
@@ -752,8 +816,10 @@ static void check_full(void)
 static void take_step(void)
 {
     unsigned kind = below(100);
-    if (kind < 84)
+    if (kind < 76)
         try_command();
+    else if (kind < 84)
+        try_strings();
     else if (kind < 88)
         try_lengths();
     else if (kind < 91)

@@ -56,6 +56,11 @@ def tcl_folder():
     return os.path.join("lib", "tcltk", f"tktext{version()}")
 
 
+def library(is_tried):
+    """The shared library."""
+    return os.path.join(examples.TRIED if is_tried else examples.PROVED, SONAME)
+
+
 def items(is_tried):
     """All files that are copied, whether they were built or not."""
     out = examples.TRIED if is_tried else examples.PROVED
@@ -63,7 +68,7 @@ def items(is_tried):
         Item("bin/tktext", PROGRAM[is_tried], 0o755),
         Item("include/tktext.h", "include/tktext.h"),
         Item("lib/libtktext.a", f"{out}/libtktext.a"),
-        Item(f"lib/{SONAME}", f"{out}/{SONAME}"),
+        Item(f"lib/{SONAME}", library(is_tried)),
         Item("share/man/man1/tktext.1", "out/man/tktext.1"),
         Item("share/man/man3/tktext.3", "out/man/tktext.3"),
         Item(f"{tcl_folder()}/tktext.so", f"{out}/tktext.so"),

@@ -7,8 +7,9 @@ Takes what is proved, or else what `make try` and `make try-lib` built, and says
 with no folder of this repository in a path: the three examples are built and run, in C by pkg-config and with each
 library; the program answers; the library shows the names of include/tktext.h and no others; the manual pages are found.
 Then nothing is left after `make uninstall`.  The same files go below a DESTDIR, and into the tarball and the Debian
-package of a release, whose checksums hold.  A part that wants a package that isn't there says so, and is skipped.  Ends
-in a line `N passed, M failed`; the exit status is 1 if anything failed.
+package of a release, whose checksums hold; its wheel goes into an environment of Python of its own, where README's
+lines run by the library in it.  A part that wants a package that isn't there says so, and is skipped.  Ends in a line
+`N passed, M failed`; the exit status is 1 if anything failed.
 """
 
 import os
@@ -16,12 +17,14 @@ import shutil
 import subprocess
 import sys
 import tempfile
+import zipfile
 
 import dist
 import examples
 import install
 import library
 import manpages
+import python_wheel
 from build_library import SONAME
 from harness import Tally
 
@@ -77,20 +80,27 @@ def check_c(prefix, folder, wanted, tally):
     tally.check(given == (wanted, 0), f"peers.c with the archive: {given!r}")
 
 
-VERSION_PROGRAM = """#include <tktext.h>
+# What the calls say that meet no world.
+WORDS_PROGRAM = """#include <tktext.h>
 #include <stdio.h>
-int main(void) { return puts(tktext_version()) < 0; }
+int main(void)
+{
+    puts(tktext_version());
+    puts(tktext_code_text(TKTEXT_NOT_TEXT));
+    return puts(tktext_hint(2, (const char *[]){".t", "index"}, "wrong # args")) < 0;
+}
 """
 
 
-def check_version(prefix, is_tried, folder, tally):
-    """The library says its version, and whether it was proved."""
-    with open(os.path.join(folder, "version.c"), "w", encoding="utf-8") as file:
-        file.write(VERSION_PROGRAM)
-    run(["cc", "version.c", f"-I{prefix}/include", f"{prefix}/lib/libtktext.a", "-o", "version"], folder)
-    given = run(["./version"], folder)
-    wanted = f"{install.version()}, {'not proved' if is_tried else 'proved'}\n"
-    tally.check(given == (wanted.encode(), 0), f"the version: {given!r}")
+def check_words(prefix, is_tried, folder, tally):
+    """The library says its version, and whether it was proved; what a code means; and what a fault leaves unsaid."""
+    with open(os.path.join(folder, "words.c"), "w", encoding="utf-8") as file:
+        file.write(WORDS_PROGRAM)
+    run(["cc", "words.c", f"-I{prefix}/include", f"{prefix}/lib/libtktext.a", "-o", "words"], folder)
+    given = run(["./words"], folder)
+    version = f"{install.version()}, {'not proved' if is_tried else 'proved'}"
+    wanted = f"{version}\na word isn't UTF-8\nindex index\n"
+    tally.check(given == (wanted.encode(), 0), f"the version, a code, a hint: {given!r}")
 
 
 def check_python(prefix, folder, wanted, tally):
@@ -145,13 +155,58 @@ def listed(words, folder, top):
     return {line.split()[-1].removeprefix(top) for line in lines if not line.endswith("/")}
 
 
+def check_record(wheel, tally):
+    """A wheel lists each of its files but the list, with its checksum."""
+    with zipfile.ZipFile(wheel) as archive:
+        record = next(place for place in archive.namelist() if place.endswith("/RECORD"))
+        files = {place: archive.read(place) for place in archive.namelist() if place != record}
+        given = archive.read(record).decode("utf-8").splitlines()
+    wanted = [python_wheel.record_line(place, content).strip() for place, content in files.items()]
+    tally.check(sorted(given) == sorted([*wanted, f"{record},,"]), f"the wheel lists {given}")
+    names = {os.path.basename(place) for place in files}
+    tally.check(names == WHEEL_HAS, f"the wheel has {sorted(names)}")
+
+
+WHEEL_HAS = {"tktext.py", SONAME, "METADATA", "WHEEL", "PROVED", "COPYRIGHT"}
+# Behind README's lines: what the text has, an error, and where the module and its library were found.
+WHEEL_PROGRAM = """
+import tktext
+print(text.get("1.0", "1.end"))
+try:
+    text.world.call(".t", "index")
+except tktext.TclError as error:
+    print(error)
+print(tktext.__file__)
+print(tktext._library_path())
+"""
+
+
+def check_wheel(wheel, folder, tally):
+    """A wheel, in an environment of Python of its own."""
+    check_record(wheel, tally)
+    if run([sys.executable, "-m", "pip", "--version"], folder)[1]:
+        print("skipped: pip isn't installed, by which the wheel is tried")
+        return
+    place, python = os.path.join(folder, "python"), os.path.join(folder, "python", "bin", "python3")
+    run([sys.executable, "-m", "venv", "--without-pip", place], folder)
+    words = ["--python", python, "install", "--no-index", "--no-deps", "--disable-pip-version-check"]
+    _, status = run([sys.executable, "-m", "pip", *words, wheel], folder)
+    tally.check(status == 0, "the wheel is installed")
+    lines = library.shown_lines("README.md", "python")
+    given, _ = run([python, "-c", lines + WHEEL_PROGRAM], folder)
+    said = given.decode("utf-8").splitlines()
+    wanted = ["hello, wide world", 'wrong # args: should be ".t index index"']
+    tally.check(said[:2] == wanted, f"README's lines by the wheel: {said}")
+    tally.check(len(said) == 4 and all(it.startswith(place) for it in said[2:]), f"the wheel's own library: {said}")
+
+
 def check_release(places, is_tried, folder, tally):
-    """A release has the same files and the one that says what was proved, and its checksums are right."""
+    """A release has the same files, what was proved and its licences, and its checksums are right."""
     if any(not os.path.exists(os.path.join(TOP, item.source)) for item in install.items(is_tried)):
         print("skipped: a release wants the Tcl package and the manual pages")
         return
-    out, wanted = os.path.join(folder, "dist"), places | {dist.NOTE}
-    tarball, *package = dist.make(out, is_tried)
+    out, wanted = os.path.join(folder, "dist"), places | {dist.NOTE, dist.LICENCE}
+    tarball, wheel, *package = dist.make(out, is_tried)
     name = os.path.basename(tarball).removesuffix(".tar.gz")
     given = listed(["tar", "tzf", tarball], folder, f"{name}/")
     tally.check(given == wanted, f"the tarball lists {sorted(given ^ wanted)}")
@@ -162,6 +217,7 @@ def check_release(places, is_tried, folder, tally):
         sums = file.read().partition(b"SHA-256 of each file:\n")[2]
     holds = sums and run(["sha256sum", "-c"], os.path.join(folder, name), sums)[1] == 0
     tally.check(holds, "the checksums of its files")
+    check_wheel(wheel, folder, tally)
     if package:
         given = listed(["dpkg-deb", "-c", *package], folder, "./usr/")
         tally.check(given == wanted, f"the Debian package lists {sorted(given ^ wanted)}")
@@ -179,7 +235,7 @@ def check_all(flags, is_tried, folder, tally):
     tally.check(files_below(prefix) == places, f"installed: {sorted(files_below(prefix) ^ places)}")
     check_program(prefix, work, tally)
     check_c(prefix, work, wanted["examples/peers.c"], tally)
-    check_version(prefix, is_tried, work, tally)
+    check_words(prefix, is_tried, work, tally)
     check_python(prefix, work, wanted["examples/peers.py"], tally)
     check_tcl(prefix, work, wanted["examples/peers.tcl"], tally)
     check_names(prefix, work, tally)

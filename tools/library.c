@@ -3,6 +3,7 @@
        client script PIECE    runs the script on standard input, fed in pieces of so many bytes, as the program does
        client words           carries out the commands on standard input: of each how many words, their lengths, the bytes
        client uses            makes calls that a caller may get wrong
+       client refusals        refuses growths by tools/refuse_calls.c to the calls that are written in C
        client time COUNT      what a command takes by its words, and by a script of such commands, in nanoseconds of
                               processor  */
 
@@ -174,9 +175,124 @@ static void check_script(tktext *world)
     check(tktext_feed(world, (const uint8_t *)"x", 1) == TKTEXT_FINISHED, "a piece behind the end");
 }
 
+static void check_codes(void)
+{
+    check(strcmp(tktext_code_text(TKTEXT_ANSWER), "done") == 0, "the text of the first code");
+    check(strcmp(tktext_code_text(TKTEXT_NOT_TEXT), "a word isn't UTF-8") == 0, "the text of a code");
+    for (int32_t code = TKTEXT_ANSWER; code <= TKTEXT_FINISHED; code++)
+        check(strcmp(tktext_code_text(code), "unknown code") != 0, "a code without a text");
+    check(strcmp(tktext_code_text(TKTEXT_FINISHED + 1), "unknown code") == 0, "a code too great");
+    check(strcmp(tktext_code_text(-1), "unknown code") == 0 && strcmp(tktext_code_text(INT32_MIN), "unknown code") == 0, "a code below all");
+}
+
+#define WORDS(...) sizeof((const char *[]){__VA_ARGS__}) / sizeof(char *), (const char *[]){__VA_ARGS__}
+
+/* Whether what was said last is a line. */
+static int said_is(tktext *world, char **line, size_t *room, const char *wanted)
+{
+    size_t length = tktext_said_line(world, line, room);
+    return length == strlen(wanted) && *room > length && strcmp(*line, wanted) == 0;
+}
+
+static void check_comfort(void)
+{
+    static char text[100001];
+    tktext world = TKTEXT_EMPTY;
+    char *line = NULL;
+    size_t room = 0;
+    check(tktext_call_words(&world, WORDS("text", ".t")) == TKTEXT_WRONG_HANDLE, "words for an empty handle");
+    check(said_is(&world, &line, &room, ""), "the line of an empty handle");
+    check(tktext_new_greatest(&world) == TKTEXT_ANSWER, "a world");
+    check(said_is(&world, &line, &room, ""), "no line first");
+    check(tktext_call_words(&world, WORDS("text", ".t")) == TKTEXT_ANSWER && said_is(&world, &line, &room, ".t\n"), "words");
+    memset(text, 'x', sizeof text - 1);
+    check(tktext_call_words(&world, WORDS(".t", "insert", "1.0", text)) == TKTEXT_ANSWER, "a long word");
+    check(tktext_call_words(&world, WORDS(".t", "get", "1.0", "1.end")) == TKTEXT_ANSWER, "a long answer");
+    check(tktext_said_line(&world, &line, &room) == sizeof text && memcmp(line, text, sizeof text - 1) == 0 && room == sizeof text + 1, "a long line");
+    check(tktext_call_words(&world, WORDS(".t", "index", "")) == TKTEXT_FAULT, "an empty last word");
+    check(said_is(&world, &line, &room, "error: bad text index \"\"\n") && room == sizeof text + 1, "a line in more room than it needs");
+    check(tktext_call_words(&world, 0, (const char *[]){""}) == TKTEXT_WRONG_LENGTHS, "no words");
+    check(tktext_call_words(&world, WORDS(".t", "index", "\xff")) == TKTEXT_NOT_TEXT, "a word that isn't UTF-8");
+    check(tktext_call_words(&world, WORDS(".t", "index", "\xc3", "\xa9")) == TKTEXT_NOT_TEXT, "two words that are one character");
+    check(said_is(&world, &line, &room, "error: bad text index \"\"\n"), "what was said stays");
+    tktext_call(&world, (const uint8_t *)".tindexa\0b", 10, (const size_t[]){2, 5, 3}, 3);
+    check(tktext_said_line(&world, &line, &room) == 28 && memcmp(line, "error: bad text index \"a\0b\"\n", 29) == 0, "a byte 0 within a line");
+    free(line);
+    tktext_drop(&world);
+}
+
+static int hint_is(const char *wanted, const char *fault, size_t count, const char *const words[])
+{
+    const char *hint = tktext_hint(count, words, fault);
+    return hint == NULL || wanted == NULL ? hint == wanted : strcmp(hint, wanted) == 0;
+}
+
+static void check_hints(void)
+{
+    static const char wrong[] = "wrong # args", state[] = "disabled or normal", none[] = "bad option \"x\"";
+    static const char options[] = "-autoseparators, -endline, -maxundo, -startline, -state, or -undo";
+    check(hint_is("index index", wrong, WORDS(".t", "index")), "the form of a subcommand");
+    check(hint_is("tag add tagName index ?index ...?", wrong, WORDS(".t", "tag", "add", "x")), "the form of a member");
+    check(hint_is("tag option ?arg ...?", wrong, WORDS(".t", "tag")), "the form of a family");
+    check(hint_is("option ?arg ...?", wrong, WORDS(".t")), "the form of a widget");
+    check(hint_is("pathName ?option value ...?", wrong, WORDS("text")), "the form of text");
+    check(hint_is("?pathName ...?", wrong, WORDS("destroy")), "the form of destroy");
+    check(hint_is("create or names", none, WORDS(".t", "peer", "x")), "the members of a family");
+    check(strncmp(tktext_hint(WORDS(".t", "x"), none), "cget, compare, ", 15) == 0, "the subcommands");
+    check(hint_is("-all, -mark, -tag, or -text", none, WORDS(".t", "dump", "x", "1.0")), "the switches");
+    check(hint_is(options, none, WORDS(".t", "cget", "x")), "the options of cget");
+    check(hint_is(options, none, WORDS(".t", "configure", "-state", "y", "x")), "the options");
+    check(hint_is(state, none, WORDS(".t", "configure", "-undo", "1", "-state", "x")), "the states");
+    check(hint_is(state, "bad option \"-undo\"", WORDS("text", ".t", "-state", "-undo")), "a state that is an option");
+    check(hint_is(options, none, WORDS(".t", "peer", "create", ".u", "x", "-undo")), "the options of a peer");
+    check(hint_is("<, <=, ==, >=, >, or !=", "bad comparison operator \"x\"", WORDS(".t", "compare", "1.0", "x", "1.0")), "the comparisons");
+    check(hint_is("left or right", "bad mark gravity \"x\"", WORDS(".t", "mark", "gravity", "insert", "x")), "the gravities");
+    check(hint_is(NULL, "bad text index \"x\"", WORDS(".t", "index", "x")), "no hint for an index");
+    check(hint_is(NULL, none, WORDS(".t", "index", "x")), "no hint for a command without options");
+    check(hint_is(NULL, none, 0, (const char *[]){""}), "no hint without words");
+    check(hint_is(NULL, "", WORDS("")), "no hint for no fault");
+}
+
+/* A growth refused to the calls in C: they say so, and answer when they are made again. */
+static int try_refusals(void)
+{
+    tktext world = TKTEXT_EMPTY;
+    char *line = NULL;
+    size_t room = 0;
+    check(tktext_new_greatest(&world) == TKTEXT_ANSWER, "a world");
+    check(tktext_call_words(&world, WORDS("text", ".t")) == TKTEXT_ANSWER, "a widget");
+    setenv("TKTEXT_REFUSE", "a:1", 1);
+    check(tktext_said_line(&world, &line, &room) == SIZE_MAX && line == NULL && room == 0, "a line without memory");
+    setenv("TKTEXT_REFUSE", "b:1", 1);
+    check(tktext_call_words(&world, WORDS(".t", "insert", "1.0", "one")) == TKTEXT_NO_MEMORY, "words without memory");
+    check(said_is(&world, &line, &room, ".t\n"), "what was said stays");
+    for (int growth = 2; growth < 4; growth++) {
+        setenv("TKTEXT_REFUSE", growth == 2 ? "c:2" : "d:3", 1);
+        check(tktext_call_words(&world, WORDS(".t", "insert", "1.0", "one")) == TKTEXT_NO_MEMORY, "a command without memory");
+        setenv("TKTEXT_REFUSE", "", 1);
+        check(said_is(&world, &line, &room, "error: out of memory\n"), "what is said then");
+    }
+    check(tktext_call_words(&world, WORDS(".t", "get", "1.0", "end")) == TKTEXT_ANSWER && said_is(&world, &line, &room, "\n\n"), "the text is as it was");
+    check(tktext_call_words(&world, WORDS(".t", "insert", "1.0", "one")) == TKTEXT_ANSWER, "the words again");
+    check(tktext_call_words(&world, WORDS(".t", "get", "1.0", "end")) == TKTEXT_ANSWER, "a longer answer");
+    char *kept = line;
+    size_t kept_room = room = 1;
+    setenv("TKTEXT_REFUSE", "e:1", 1);
+    check(tktext_said_line(&world, &line, &room) == SIZE_MAX && line == kept && room == kept_room, "a longer line without memory");
+    setenv("TKTEXT_REFUSE", "", 1);
+    check(said_is(&world, &line, &room, "one\n\n"), "the line again");
+    free(line);
+    tktext_drop(&world);
+    printf("%d passed, %d failed\n", passed, failed);
+    return failed != 0;
+}
+
 static int try_uses(void)
 {
     tktext world = TKTEXT_EMPTY;
+    check_codes();
+    check_comfort();
+    check_hints();
     check_empty(&world);
     check_limits();
     check(tktext_new_greatest(&world) == TKTEXT_ANSWER, "a world");
@@ -247,6 +363,8 @@ int main(int count, char **words)
         return run_words();
     if (count == 2 && strcmp(words[1], "uses") == 0)
         return try_uses();
+    if (count == 2 && strcmp(words[1], "refusals") == 0)
+        return try_refusals();
     if (count == 3 && strcmp(words[1], "time") == 0)
         return time_both(strtol(words[2], NULL, 10));
     return 2;

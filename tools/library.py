@@ -8,7 +8,8 @@ out/libtktext.a and out/libtktext.so are what `make lib` makes; with `--build` t
 has just proved (tools/build_library.py).  Without a C compiler one line says so, and nothing is tried.
 
 - C (tools/library.c): worked and random scripts, fed in pieces and word by word, answer as the model does; calls that a
-  caller may get wrong; valgrind finds no leak and no wrong access in 10,000 commands and a drop.
+  caller may get wrong, and the calls that are written in C, with growths refused to these; valgrind finds no leak and no
+  wrong access in 10,000 commands and a drop.
 - Python (python/tktext.py): the worked rows, each under its limits; the methods of `Text` on worked and random scripts;
   the cases of tools/python_cases.py, threads among them.
 - Tcl (tcl/): a script with procedures, loops and variables, and random scripts; the cases of tools/tcl_cases.py.
@@ -44,6 +45,7 @@ ARCHIVE = os.path.join(OUT, "libtktext.a")
 SHARED = os.path.join(OUT, "libtktext.so")
 EXTENSION = os.path.join(OUT, "tktext.so")
 CLIENT = os.path.join(OUT, "library_client")
+REFUSED_CLIENT = os.path.join(OUT, "refused_library_client")
 REFUSED = os.path.join(OUT, "refused.so")
 REFUSED_EXTENSION = os.path.join(OUT, "refused_tktext.so")
 SMALL_EXTENSION = os.path.join(OUT, "small_tktext.so")
@@ -72,8 +74,11 @@ def compile_client():
 
 def compile_all(has_tcl):
     """The client, and the library with growths that can be refused, for Python and for Tcl."""
-    wraps = ["-shared", "-Wl,--wrap=malloc,--wrap=realloc", source("tools", "refuse_calls.c")]
+    refuses = ["-Wl,--wrap=malloc,--wrap=realloc", source("tools", "refuse_calls.c")]
+    wraps = ["-shared", *refuses]
     compile_client()
+    client = source("tools", "library.c")
+    subprocess.run(["cc", *FLAGS, *refuses, "-o", REFUSED_CLIENT, client, ARCHIVE], check=True)
     subprocess.run(["cc", *FLAGS, *wraps, "-o", REFUSED, "-Wl,--whole-archive", ARCHIVE, "-Wl,--no-whole-archive"], check=True)
     if has_tcl:
         tcl = ["-DUSE_TCL_STUBS", "-I" + examples.TCL_INCLUDE, source("tcl", "tktext.c")]
@@ -119,9 +124,10 @@ def check_c_script(name, script, pieces, tally):
 
 
 def check_uses(tally):
-    output, status, _ = run([CLIENT, "uses"])
-    print(output.decode().rstrip("\n"))
-    tally.check(status == 0, "C, calls that a caller may get wrong")
+    for client, what in ((CLIENT, "uses"), (REFUSED_CLIENT, "refusals")):
+        output, status, _ = run([client, what])
+        print(f"C, {what}: {output.decode()}", end="")
+        tally.check(status == 0, f"C, {what}: {output!r}")
 
 
 def many_commands():
@@ -274,7 +280,7 @@ def check_methods(tktext, name, script, tally):
                 given = getattr(tktext.Text.named(called, words[0]), method[0])(*method[1])
                 wanted = method[2](answer) if not is_refused else None
         except tktext.TclError as error:
-            given, wanted = f"error: {error}", answer
+            given, wanted = f"error: {error.fault}", answer
         if given != wanted or is_refused != (isinstance(given, str) and is_refused and given == answer):
             tally.failed(f"Python, {name!r}, {words}: {given!r}, wanted {wanted!r}")
             return by_method
@@ -305,7 +311,7 @@ def answer_of(tktext, world, words):
     try:
         return world.call(*words) + "\n"
     except tktext.TclError as error:
-        return f"error: {error}\n"
+        return f"error: {error.fault}\n"
 
 
 def check_python_refusals(tktext, tally):
@@ -377,20 +383,25 @@ proc give_refused {words growth} {
     set ::env(TKTEXT_REFUSE) ""
     if {$code && [dict get $options -errorcode] eq {TKTEXT MEMORY}} {
         incr ::refused
-        set code [catch {give $words} answer]
+        set code [catch {give $words} answer options]
     }
-    return [line $code $answer]
+    return [line $code $answer $options]
 }
-# What the program prints.  No `expr`, which would read an answer as a number.
-proc line {code answer} {
-    if {$code} {
-        return "error: $answer"
+# What the program prints: of a refused command the fault alone, and not what it leaves unsaid.  No `expr`, which would
+# read an answer as a number.
+proc line {code answer options} {
+    if {!$code} {
+        return $answer
     }
-    return $answer
+    set parts [dict get $options -errorcode]
+    if {[lrange $parts 0 1] eq {TKTEXT FAULT}} {
+        return "error: [lindex $parts 2]"
+    }
+    return "error: $answer"
 }
 proc run {commands} {
     foreach words $commands {
-        puts [line [catch {give $words} answer] $answer]
+        puts [line [catch {give $words} answer options] $answer $options]
     }
     forget
 }
@@ -594,9 +605,10 @@ def check_shown(has_tcl, folder, tally):
     """The lines of README and of docs/use.md run as they stand there."""
     file, program = os.path.join(folder, "shown.c"), os.path.join(folder, "shown")
     with open(file, "w", encoding="utf-8") as written:
-        written.write(f'#include "tktext.h"\nint main(void)\n{{\n{used_lines("c")}return code != TKTEXT_ANSWER || length != 3 || line[2] != 10;\n}}\n')
+        head = '#include "tktext.h"\n#include <stdio.h>\n#include <stdlib.h>\nint main(void)\n{\n'
+        written.write(f"{head}{used_lines('c')}return code != TKTEXT_ANSWER || length != 3;\n}}\n")
     run(["cc", *FLAGS, file, ARCHIVE, "-o", program])
-    tally.check(run([program])[1] == 0, "the lines in C of docs/use.md")
+    tally.check(run([program]) == (b"done: .t\n", 0, b""), "the lines in C of docs/use.md")
     end = 'print(peer.get("1.0", "1.end"), *text.tag_ranges("bold"))'
     given = run([sys.executable, "-c", used_lines("python") + end], env=dict(os.environ, PYTHONPATH=source("python")))
     tally.check(given == (b"hello, wide world 1.7 2.0\n", 0, b""), f"the lines in Python of docs/use.md: {given!r}")

@@ -229,7 +229,7 @@ def put(value):
     print(repr(text.get("1.0", "end-1c")) if said is None else said)
 """
 PUT = (
-    ("None", "TclError: wrong # args"),
+    ("None", 'TclError: wrong # args: should be ".t insert index chars ?tagList chars ...?"'),
     ("True", "'1'"), ("False", "'0'"), ("5", "'5'"), ("1.5", "'1.5'"), ("-1.2e16", "'-12000000000000000.0'"),
     ("1e17", "'1e+17'"), ("1e-05", "'1e-5'"), ('float("inf")', "'Inf'"), ('float("-inf")', "'-Inf'"),
     ('float("nan")', "'NaN'"), ("b'q\\xe9'", "'qé'"), ("Name.first", "'x'"), ("['a', 'b c']", "'a {b c}'"),
@@ -258,7 +258,7 @@ text.replace("1.0", "1.3", True, None, "no tag")
 print(repr(text.get("1.0", "1.end")), tried(text.replace, "1.0", "1.1", None))
 print(text.get("1.0", None), text.tag_nextrange("u", "1.0", None), text.mark_gravity("insert", None))
 print(text.tag_names(None)[:1])
-print(tried(text.get, None), tried(text.tag_delete, None), tried(text.mark_unset, None))
+print(tried(text.get, None), tried(text.mark_unset, None))
 print(text.search("t", 1.0, stopindex=""), text.index(1.0), tried(text.edit_modified, ""))
 text.edit_modified(False)
 print(text.edit_modified(None), text.edit_modified())
@@ -269,12 +269,57 @@ VALUES_SAY = """1 7 1 normal
 ''
 ('1.0', '1.1')
 ('tt', '1') ('u', 'v w') () ('1',) ('t3',)
-'1 two' TclError: wrong # args
+'1 two' TclError: wrong # args: should be ".t replace index1 index2 chars ?tagList chars ...?"
 1 ('3.0', '3.1') right
 ('sel',)
-TclError: wrong # args TclError: wrong # args None
+TclError: wrong # args: should be ".t get index ?index ...?" None
 1.2 1.0 TclError: expected boolean value but got ""
 False False"""
+
+# An error says what the library's own fault leaves unsaid, and keeps that.
+FAULTS = r"""
+import copy, pickle
+def fault(*words):
+    try:
+        world.call(*words)
+    except TclError as error:
+        same = [(str(it), it.fault) for it in (error, pickle.loads(pickle.dumps(error)), copy.copy(error))]
+        print(error, error.fault if same.count(same[0]) == 3 else same, sep=" | ")
+world = World()
+text = Text(world)
+for words in ((".t",), (".t", "index"), (".t", "edit"), (".t", "tag", "raise"), ("text",), (".t", "search", "x"),
+              (".t", "mark", "foo"), (".t", "dump", "-foo", "1.0"), (".t", "cget", "-foo"), ("text", ".u", "-foo", 1),
+              (".t", "configure", "-undo", 1, "-state", "off"), ("text", ".u", "-state", "-undo"),
+              (".t", "configure", "-undo\0", 1), (".t", "configure", "-state", "-undo\0"),
+              (".t", "compare", "1.0", "=", "1.0"), (".t", "mark", "gravity", "insert", "up"),
+              (".t", "index", "wrong # args"), (".zz", "index"), ("text", "x\0"), (".t", "edit", "undo")):
+    fault(*words)
+text.destroy()
+Text(world, ".a b\u00e9")
+fault(".a b\u00e9", "index")
+print(tried(Text.named(world, ".a b\u00e9").mark_gravity, "insert", "up"))
+"""
+FAULTS_SAY = """wrong # args: should be ".t option ?arg ...?" | wrong # args
+wrong # args: should be ".t index index" | wrong # args
+wrong # args: should be ".t edit option ?arg ...?" | wrong # args
+wrong # args: should be ".t tag raise tagName ?tagName?" | wrong # args
+wrong # args: should be "text pathName ?option value ...?" | wrong # args
+wrong # args: should be ".t search ?switch ...? pattern index ?index2?" | wrong # args
+bad option "foo": must be gravity, names, next, previous, set, or unset | bad option "foo"
+bad option "-foo": must be -all, -mark, -tag, or -text | bad option "-foo"
+bad option "-foo": must be -autoseparators, -endline, -maxundo, -startline, -state, or -undo | bad option "-foo"
+bad option "-foo": must be -autoseparators, -endline, -maxundo, -startline, -state, or -undo | bad option "-foo"
+bad option "off": must be disabled or normal | bad option "off"
+bad option "-undo": must be disabled or normal | bad option "-undo"
+bad option "-undo\0": must be -autoseparators, -endline, -maxundo, -startline, -state, or -undo | bad option "-undo\0"
+bad option "-undo\0": must be disabled or normal | bad option "-undo\0"
+bad comparison operator "=": must be <, <=, ==, >=, >, or != | bad comparison operator "="
+bad mark gravity "up": must be left or right | bad mark gravity "up"
+bad text index "wrong # args" | bad text index "wrong # args"
+invalid command name ".zz" | invalid command name ".zz"
+invalid command name "x\0" | invalid command name "x\0"
+wrong # args: should be ".a bé index index" | wrong # args
+TclError: bad mark gravity "up": must be left or right"""
 
 # Random values, and lists of them, become the words that they are in a Tcl interpreter without a display.
 TKINTER = """
@@ -323,6 +368,7 @@ def cases(rounds):
     puts, said = "".join(f"put({value})\n" for value, _ in PUT), "\n".join(said for _, said in PUT)
     yield "values that are put in", VALUES_HEAD + puts, said
     yield "values of methods", VALUES, VALUES_SAY
+    yield "faults that say more", FAULTS, FAULTS_SAY
     yield "random values", TKINTER, "done"
 
 

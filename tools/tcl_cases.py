@@ -65,7 +65,7 @@ WRAPPED_PRINTS = """{} .t
 
 error: invalid command name "._t" (TCL LOOKUP COMMAND ._t)
 whole
-error: window name ".u" already exists (TKTEXT FAULT)
+error: window name ".u" already exists (TKTEXT FAULT {window name ".u" already exists})
 .u
 
 
@@ -206,6 +206,52 @@ a\0é\U0001f600
 error: a word isn't UTF-8 (TKTEXT WORDS)
 """
 
+# An error says what the library's own fault leaves unsaid, and its code keeps that alone.
+FAULTS = r"""
+tktext::text .t
+tried {.t}
+tried {.t index}
+tried {.t tag}
+tried {tktext::text}
+tried {.t mark foo}
+tried {.t dump -foo 1.0}
+tried {.t configure -foo 1}
+tried {.t configure -state -undo}
+tried {.t compare 1.0 = 1.0}
+tried {.t mark gravity insert up}
+tried {.t index nowhere}
+tried {.t index}
+rename .t ::moved
+tried {moved tag raise}
+tried {moved peer create .u -foo 1}
+tried {moved peer create}
+tried {try {moved get} trap {TKTEXT FAULT} {message options} {lindex [dict get $options -errorcode] 2}}
+# A long fault, or a command of a long name, says no more.
+set long [string repeat x 2000]
+tried {string length [catch {moved configure $long 1} said]$said}
+rename moved $long
+tried {$long index}
+"""
+FAULTS_PRINTS = """error: wrong # args: should be ".t option ?arg ...?" (TKTEXT FAULT {wrong # args})
+error: wrong # args: should be ".t index index" (TKTEXT FAULT {wrong # args})
+error: wrong # args: should be ".t tag option ?arg ...?" (TKTEXT FAULT {wrong # args})
+error: wrong # args: should be "tktext::text pathName ?option value ...?" (TKTEXT FAULT {wrong # args})
+error: bad option "foo": must be gravity, names, next, previous, set, or unset (TKTEXT FAULT {bad option "foo"})
+error: bad option "-foo": must be -all, -mark, -tag, or -text (TKTEXT FAULT {bad option "-foo"})
+error: bad option "-foo": must be -autoseparators, -endline, -maxundo, -startline, -state, or -undo (TKTEXT FAULT {bad option "-foo"})
+error: bad option "-undo": must be disabled or normal (TKTEXT FAULT {bad option "-undo"})
+error: bad comparison operator "=": must be <, <=, ==, >=, >, or != (TKTEXT FAULT {bad comparison operator "="})
+error: bad mark gravity "up": must be left or right (TKTEXT FAULT {bad mark gravity "up"})
+error: bad text index "nowhere" (TKTEXT FAULT {bad text index "nowhere"})
+error: wrong # args: should be ".t index index" (TKTEXT FAULT {wrong # args})
+error: wrong # args: should be "moved tag raise tagName ?tagName?" (TKTEXT FAULT {wrong # args})
+error: bad option "-foo": must be -autoseparators, -endline, -maxundo, -startline, -state, or -undo (TKTEXT FAULT {bad option "-foo"})
+error: wrong # args: should be "moved peer create pathName ?option value ...?" (TKTEXT FAULT {wrong # args})
+wrong # args
+2014
+error: wrong # args (TKTEXT FAULT {wrong # args})
+"""
+
 # Lengths around the greatest, 10,000 bytes here: words, and a shared word again and again; answers and errors.  What
 # was refused for its words wasn't carried out; what was refused for its answer was.
 LONG = r"""
@@ -297,6 +343,7 @@ def cases(extension, small):
     yield "hidden commands", [*watched, TCLSH], extension, HIDDEN, HIDDEN_PRINTS
     yield "traces", [*watched, TCLSH], extension, TRACED, TRACED_PRINTS
     yield "interpreters that end", [*watched, TCLSH], extension, ENDED, ENDED_PRINTS
+    yield "faults that say more", [*watched, TCLSH], extension, FAULTS, FAULTS_PRINTS
     yield "a shared word", [TCLSH], extension, SHARED_WORD, SHARED_WORD_PRINTS
     if small is not None:
         yield "lengths", [*watched, TCLSH], small, LONG, LONG_PRINTS
