@@ -60,7 +60,8 @@ pub fn splice(
     if !can_splice(counted, k, gone, &lines, ticks) {
         return Ok(false);
     }
-    counted.tree.reserve_for(lines.len(), 1)?;
+    let more = lines.len().saturating_sub(gone);
+    counted.tree.reserve_for(more, more.min(1))?;
     counted.count = counted.count - gone + lines.len();
     counted.tree.splice(k, gone, lines, ticks);
     Ok(true)

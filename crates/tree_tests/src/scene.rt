@@ -137,7 +137,8 @@ pub fn splice(
         return Ok(false);
     }
     let mut rows = rows_of(alloc, &lines)?;
-    scene.tree.reserve_for(lines.len(), 1)?;
+    let more = lines.len().saturating_sub(gone);
+    scene.tree.reserve_for(more, more.min(1))?;
     replace(&mut scene.plain, k, gone, &mut rows)?;
     scene.tree.splice(k, gone, lines, ticks);
     Ok(true)
