@@ -12,8 +12,8 @@
 # make install  puts the program, the library, the Tcl package and the manual pages below PREFIX=/usr/local, and all of
 #              that below DESTDIR; TRY=1 puts those there that aren't proved
 # make uninstall  takes them away again
-# make dist    a release in out/dist: a tarball and a Debian package of what `make install` puts down, each with what
-#              was proved (docs/release.md); TRY=1 makes one of what isn't
+# make dist    a release in out/dist: a tarball and a Debian package of what `make install` puts down, and a wheel for
+#              Python, each with what was proved (docs/release.md); TRY=1 makes one of what isn't
 # make test    the gate, and then the checks that the gate can't do; the last line counts them
 # make fuzz    the program against the plain model on random scripts: SEEDS=300 of them, FIRST=0 on
 # make fuzz-library  random calls of the library under sanitizers, for SECONDS=600, from the seed FIRST=0 on
