@@ -394,6 +394,33 @@ ValueError: the script has ended 0
 ValueError: the world was closed ValueError: the world was closed"""
 
 
+# Refused options leave nothing behind; a widget that is bound and its world go when nobody has them.
+LEFT = """
+import gc, weakref
+world = World()
+for options in ({"tabs": "{", "undo": 1}, {"undo": "x", "width": 3}, {"foo": 1}):
+    print(tried(lambda: Text(world, name="t", **options)), tried(world.call, ".t", "index", "end"))
+text = Text(world, name="t")
+print(tried(lambda: text.configure(undo=1, tabs="{")), tried(lambda: text.configure(width=3, undo="x")))
+print(text["undo"], text["width"])
+text = Text()
+text.bind("<<Modified>>", lambda event: None)
+text.insert("1.0", "x")
+print(text.get("1.0"))
+gone = weakref.ref(text), weakref.ref(text.world)
+del text
+gc.collect()
+print(*(reference() for reference in gone))
+"""
+LEFT_SAYS = """TclError: unmatched open brace in list TclError: invalid command name ".t"
+TclError: expected boolean value but got "x" TclError: invalid command name ".t"
+OPTION TclError: invalid command name ".t"
+TclError: unmatched open brace in list TclError: expected boolean value but got "x"
+0 80
+x
+None None""".replace("OPTION", 'TclError: bad option "-foo": must be -autoseparators, -endline, -maxundo, -startline, '
+                     "-state, or -undo")
+
 # The examples of the docstrings.
 EXAMPLES = """
 import doctest, tktext
@@ -431,6 +458,7 @@ def cases(rounds):
     yield "values that are put in", VALUES_HEAD + puts, said
     yield "values of methods", VALUES, VALUES_SAY
     yield "faults that say more", FAULTS, FAULTS_SAY
+    yield "what is left", LEFT, LEFT_SAYS
     yield "the examples of the docstrings", EXAMPLES, "[]\n[]\n[]\n0"
     yield "random values", TKINTER, "done"
 
@@ -475,7 +503,7 @@ def check(module, rounds, tally):
 
 
 def main():
-    parser = argparse.ArgumentParser(description="what a caller may do to the Python module")
+    parser = argparse.ArgumentParser(description="what a caller may do to the Python package")
     parser.add_argument("--module", default=MODULE)
     parser.add_argument("--rounds", type=int, default=ROUNDS)
     options = parser.parse_args()

@@ -88,6 +88,10 @@ static PyObject *bytes_of_value(PyObject *value)
 /* A word of a command of a world as its bytes: `bytes` are UTF-8, of which a copy is made of a subclass's own. */
 static PyObject *bytes_of_word(PyObject *word)
 {
+    if (PyBytes_CheckExact(word)) {
+        Py_INCREF(word);
+        return word;
+    }
     if (PyBytes_Check(word)) {
         char *start;
         Py_ssize_t length;

@@ -50,9 +50,18 @@ def _kept(name: str, value: Any) -> Any:
     if name == "font" and isinstance(value, (tuple, list)):
         return list_text(value)
     if name == "tabs" and isinstance(value, str):
-        parts = _core.split(value)
+        try:
+            parts = _core.split(value)
+        except ValueError as error:
+            raise refusal(str(error)) from None
         return parts if len(parts) > 1 else value
     return number_or_text(value) if isinstance(value, str) and name not in ("font", "tabs") else value
+
+
+def _parted(options: _Options) -> tuple[list[Any], dict[str, Any]]:
+    """The words of those options that are the core's, and what is kept of those of drawing."""
+    core = {name: value for name, value in options.items() if name not in _options.DRAWN}
+    return _words(core), {name: _kept(name, value) for name, value in options.items() if name in _options.DRAWN}
 
 
 def _option(name: str) -> str:
@@ -83,6 +92,7 @@ class Text(_core.Widget):
 
     world: World
     master: Any
+    _drawn: dict[str, Any]
 
     def __init__(self, master: Any = None, cnf: Any = None, **kw: Any) -> None:
         options = _merged(cnf, kw)
@@ -95,17 +105,17 @@ class Text(_core.Widget):
             name = world._name_child(parent, type(self).__name__.lower())
         else:
             name = word(given) if word(given).startswith(".") else f"{parent.rstrip('.')}.{word(given)}"
-        core = {option: value for option, value in options.items() if option not in _options.DRAWN}
-        world.call("text", name, *map(word, _words(core)))
+        core, drawn = _parted(options)
+        world.call("text", name, *map(word, core))
         self._begin(world, name)
         self.master = world if master is None else master
-        self._keep(options)
+        self._drawn = drawn
 
     def _begin(self, world: World, name: str, shared: dict[str, dict[str, str]] | None = None) -> None:
         """Makes this the widget of a name; `shared` are the options of the text's tags."""
         self._join(world, name)
         self.world, self._name, self.master = world, name, world
-        self._drawn: dict[str, Any] = {}
+        self._drawn = {}
         self._tags: dict[str, dict[str, str]] = {} if shared is None else shared
         self._own_tags: dict[str, dict[str, str]] = {}
         self._bindings = Bindings()
@@ -608,13 +618,12 @@ class Text(_core.Widget):
         >>> str(peer), peer.get("1.0", END)
         ('.p', 'one\\n')
         """
-        options = _merged(cnf, kw)
-        core = {option: value for option, value in options.items() if option not in _options.DRAWN}
-        self._do("peer", "create", newPathName, *_words(core))
+        core, drawn = _parted(_merged(cnf, kw))
+        self._do("peer", "create", newPathName, *core)
         peer = Text.__new__(Text)
         peer._owns_world = False
         peer._begin(self.world, word(newPathName), self._tags)
-        peer._keep(options)
+        peer._drawn = drawn
         return peer
 
     def peer_names(self) -> tuple[str, ...]:
@@ -659,10 +668,10 @@ class Text(_core.Widget):
         given = _merged(cnf, kw)
         if not given and cnf is None and not kw:
             return {name: self._described(name, True) for name in _options.NAMES}
-        core = {option: value for option, value in given.items() if option not in _options.DRAWN}
+        core, drawn = _parted(given)
         if core:
-            self._do("configure", *_words(core))
-        self._keep(given)
+            self._do("configure", *core)
+        self._drawn.update(drawn)
         return None
 
     config = configure
@@ -685,10 +694,6 @@ class Text(_core.Widget):
             return (name, "-" + full)
         value = self.cget(full)
         return (full, *(_options.DRAWN[full] if full in _options.DRAWN else _options.CORE[full]), value)
-
-    def _keep(self, options: _Options) -> None:
-        """Keeps those options that are of drawing."""
-        self._drawn.update((name, _kept(name, value)) for name, value in options.items() if name in _options.DRAWN)
 
     def destroy(self) -> None:
         """Takes the widget away; its text goes with the last of its peers.
