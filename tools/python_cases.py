@@ -428,7 +428,7 @@ finder = doctest.DocTestFinder()
 # Without tkinter the error is of a module of our own.
 flags = 0 if TclError.__module__ == "_tkinter" else doctest.IGNORE_EXCEPTION_DETAIL
 runner = doctest.DocTestRunner(optionflags=flags)
-for shown in (Text, World, list_text):
+for shown in (Text, World, Event, list_text, split_list):
     tests = finder.find(shown, shown.__name__, module=False, globs=vars(tktext).copy())
     bare = {test.name for test in tests if not test.examples and "._" not in test.name}
     # Those that can't be had refer to one of them.
@@ -459,7 +459,7 @@ def cases(rounds):
     yield "values of methods", VALUES, VALUES_SAY
     yield "faults that say more", FAULTS, FAULTS_SAY
     yield "what is left", LEFT, LEFT_SAYS
-    yield "the examples of the docstrings", EXAMPLES, "[]\n[]\n[]\n0"
+    yield "the examples of the docstrings", EXAMPLES, "[]\n[]\n[]\n[]\n[]\n0"
     yield "random values", TKINTER, "done"
 
 

@@ -47,7 +47,7 @@ SEL = "sel"
 SEL_FIRST = "sel.first"
 SEL_LAST = "sel.last"
 
-split_list = _core.split
+split_list = _core.split_list
 
 for _public in (Event, Text, World):
     # It is shown where it is taken from.

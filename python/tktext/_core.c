@@ -728,9 +728,14 @@ static PyObject *core_hint(PyObject *Py_UNUSED(module), PyObject *arguments)
     return PyUnicode_FromString(hint);
 }
 
+PyDoc_STRVAR(split_doc, "split_list(text, /)\n--\n\n"
+    "The elements of a list as the core writes it, as a tuple: bare, in braces, or with backslashes.\n\n"
+    "One whose brace isn't closed is a ValueError.\n\n"
+    ">>> split_list('a {b c} d')\n('a', 'b c', 'd')\n");
+
 static PyMethodDef core_methods[] = {
     {"use", core_use, METH_VARARGS, NULL},
-    {"split", core_split, METH_O, NULL},
+    {"split_list", core_split, METH_O, split_doc},
     {"hint", core_hint, METH_VARARGS, NULL},
     {NULL, NULL, 0, NULL},
 };

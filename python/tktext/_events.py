@@ -14,7 +14,13 @@ MODIFIED, SELECTION = "<<Modified>>", "<<Selection>>"
 
 
 class Event:
-    """What happened: `widget` is the one that it happened to, and `type` the sequence, as `<<Modified>>`."""
+    """What happened: `widget` is the one that it happened to, and `type` the sequence, as `<<Modified>>`.
+
+    >>> text = Text()
+    >>> name = text.bind("<<Modified>>", lambda event: print(event.widget, event.type))
+    >>> text.insert("1.0", "one")
+    .!text <<Modified>>
+    """
 
     def __init__(self, widget: Text, sequence: str) -> None:
         self.widget = widget

@@ -51,7 +51,7 @@ def _kept(name: str, value: Any) -> Any:
         return list_text(value)
     if name == "tabs" and isinstance(value, str):
         try:
-            parts = _core.split(value)
+            parts = _core.split_list(value)
         except ValueError as error:
             raise refusal(str(error)) from None
         return parts if len(parts) > 1 else value

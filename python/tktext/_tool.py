@@ -130,7 +130,7 @@ class Completion:
 
     def _asked(self, *words: str) -> tuple[str, ...] | None:
         try:
-            return _core.split(self._world.call(*words))
+            return _core.split_list(self._world.call(*words))
         except (TclError, ValueError):
             return None
 
