@@ -6,6 +6,7 @@
 # make try-lib  the same before anything is proved, in two or three minutes: libtktext.a and libtktext.so of out/try
 # make examples  its examples in C, Python and Tcl, and what is missing for one that can't be run; TRY=1 runs them by
 #              the library of make try-lib
+# make python  the Python package for PYTHONPATH: out/python, or out/try/python with TRY=1; `pip install .` installs it
 # make tcl     the Tcl package of the library alone: out/tktext.so, or out/try/tktext.so with TRY=1
 # make man     the manual pages as roff: out/man/tktext.1 and out/man/tktext.3; they want pandoc
 # make install  puts the program, the library, the Tcl package and the manual pages below PREFIX=/usr/local, and all of
@@ -22,6 +23,8 @@
 # make bench   the program's time per command as the text grows, and its memory as the script does, into docs/bench.txt;
 #              what is done to one long line, into docs/bench_lines.txt; lines in the tree, into docs/bench_tree.txt; and
 #              a command through the library, into docs/bench_library.txt
+# make bench-python  the time of Python's calls beside tkinter's, into docs/bench_python.txt; it needs python3-tk and xvfb;
+#              TRY=1 shows it by the library of `make try-lib`, and writes nothing
 # make versus  the program beside real Tk on the workloads of tools/workloads.py, into docs/performance.md and its two
 #              pictures; it needs Tk
 # make counts  the instructions of a command on texts of two sizes, into docs/bench_counts.txt; it needs valgrind
@@ -89,6 +92,9 @@ examples: $(if $(TRY),$(TRIED_LIBRARY),$(LIBRARY))
 # Where the library stands by which examples run, and that is installed.
 OUT = $(if $(TRY),out/try,out)
 PREFIX ?= /usr/local
+
+python: $(OUT)/libtktext.a
+	@python3 tools/build_python.py $(if $(TRY),--try)
 
 tcl: $(OUT)/tktext.so
 
@@ -166,6 +172,9 @@ bench: $(PROGRAM) $(LINE_BENCH) $(TREE_BENCH) $(WEIGH) $(ASKED) $(LIBRARY)
 	python3 tools/bench_tree.py --program $(TREE_BENCH) --shim $(WEIGH) --out docs/bench_tree.txt
 	python3 tools/library.py --bench docs/bench_library.txt
 
+bench-python: python
+	@python3 tools/bench_python.py --module $(OUT)/python $(if $(TRY),,--out docs/bench_python.txt)
+
 versus: $(PROGRAM)
 	python3 tools/versus.py --program $(PROGRAM) --out docs/performance.md --kept out/tk_counts.json
 
@@ -191,5 +200,5 @@ tk: $(PROGRAM)
 	python3 tools/tk.py --program $(PROGRAM) --indices
 	python3 tools/tk.py --program $(PROGRAM) --scripts $(SEEDS) --first $(FIRST)
 
-.PHONY: help try try-lib run build lib tcl man install uninstall dist examples test fuzz \
-  fuzz-library bench versus orders counts gains gate tk
+.PHONY: help try try-lib run build lib python tcl man install uninstall dist examples test fuzz \
+  fuzz-library bench bench-python versus orders counts gains gate tk

@@ -1,7 +1,7 @@
 #!/usr/bin/env python3
 """Two peers of one text, and a dump of each: what examples/peers.c does, in the manner of tkinter.
 
-    PYTHONPATH=python python3 examples/peers.py
+    python3 examples/peers.py        where the package is installed by `pip install .`
 """
 
 from tktext import TclError, Text

@@ -4,7 +4,8 @@
     python3 tools/dist.py [--try] [--out out/dist]
 
 - tktext-VERSION-MACHINE.tar.gz: what `make install` puts down; it may be unpacked anywhere
-- tktext-VERSION-py3-none-PLATFORM.whl: the Python module with the library beside it, for `pip install`
+- tktext-VERSION-cp39-abi3-PLATFORM.whl: the Python package with the library in it, for `pip install`; where Python's
+  headers are
 - tktext_VERSION_MACHINE.deb: what the tarball has below /usr, where `dpkg-deb` is installed
 - SHA256SUMS: the checksums of these
 
@@ -23,6 +24,7 @@ import subprocess
 import sys
 import tempfile
 
+import build_python
 import copyrights
 import gate
 import install
@@ -137,17 +139,15 @@ def make_tarball(folder, out, is_tried):
 
 
 def make_wheel(folder, out, is_tried):
-    """The wheel for Python, of the files that are installed for it."""
-    root, library = os.path.join(folder, "wheel"), os.path.join(TOP, install.library(is_tried))
-    for source in (os.path.join(TOP, "python", "tktext.py"), library):
-        place = os.path.join(root, os.path.basename(source))
-        install.put(place, 0o644, lambda path, source=source: shutil.copyfile(source, path))
-    version = install.version()
+    """The wheel for Python, with the library in its extension."""
+    root, version = os.path.join(folder, "wheel"), install.version()
+    build_python.build(root, os.path.join(TOP, os.path.dirname(install.library(is_tried)), "libtktext.a"))
+    extension = os.path.join(root, "tktext", build_python.EXTENSION)
     notes = {
         "METADATA": python_wheel.metadata(version, install.UNPROVED if is_tried else ""),
         "PROVED": what_is_proved(root, is_tried), "COPYRIGHT": copyrights.text(version),
     }
-    return python_wheel.make(root, library, notes, version, int(seconds_of_commit()), out)
+    return python_wheel.make(root, extension, notes, version, int(seconds_of_commit()), out)
 
 
 def write_control(package, machine, is_tried):
@@ -179,7 +179,8 @@ def make_package(folder, out, is_tried):
 def make(out, is_tried):
     """Makes a release in a folder.  Gives the files."""
     os.makedirs(out, exist_ok=True)
-    makers = [make_tarball, make_wheel] + [make_package] * (shutil.which("dpkg-deb") is not None)
+    makers = [make_tarball] + [make_wheel] * build_python.can_build()
+    makers += [make_package] * (shutil.which("dpkg-deb") is not None)
     with tempfile.TemporaryDirectory() as folder:
         # A package has the modes that are written here, whatever the user's mask.
         os.umask(0o022)
@@ -197,6 +198,8 @@ def main():
     print(*made, sep="\n")
     if not made[-1].endswith(".deb"):
         print("no Debian package is made: it wants dpkg-deb", file=sys.stderr)
+    if not build_python.can_build():
+        print(f"no wheel is made: it wants {build_python.WANTED}", file=sys.stderr)
     if options.is_tried:
         print("what was packed is NOT PROVED", file=sys.stderr)
     return 0

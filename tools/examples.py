@@ -14,6 +14,8 @@ import shutil
 import subprocess
 import sys
 
+import build_python
+
 TOP = os.path.dirname(os.path.dirname(os.path.abspath(__file__)))
 PROVED, TRIED = "out", os.path.join("out", "try")
 TCL_INCLUDE = "/usr/include/tcl8.6"
@@ -31,7 +33,7 @@ def run_c(out):
 
 
 def run_python(out):
-    return run([sys.executable, "examples/peers.py"], PYTHONPATH="python", TKTEXT_LIBRARY=f"{out}/libtktext.so")
+    return run([sys.executable, "examples/peers.py"], PYTHONPATH=build_python.build_in(out))
 
 
 def has_tcl():
@@ -55,7 +57,7 @@ def run_tcl(out):
 TCL_WANTED = "tclsh8.6 and its headers (Debian: apt-get install tcl8.6 tcl8.6-dev)"
 EXAMPLES = (
     ("examples/peers.c", lambda: shutil.which("cc") is not None, run_c, "a C compiler (Debian: apt-get install gcc)"),
-    ("examples/peers.py", lambda: True, run_python, "Python 3"),
+    ("examples/peers.py", build_python.can_build, run_python, build_python.WANTED),
     ("examples/peers.tcl", has_tcl, run_tcl, TCL_WANTED),
 )
 

@@ -4,12 +4,13 @@
     python3 tools/install_test.py
 
 Takes what is proved, or else what `make try` and `make try-lib` built, and says which.  From the scratch prefix alone,
-with no folder of this repository in a path: the three examples are built and run, in C by pkg-config and with each
-library; the program answers; the library shows the names of include/tktext.h and no others; the manual pages are found.
-Then nothing is left after `make uninstall`.  The same files go below a DESTDIR, and into the tarball and the Debian
-package of a release, whose checksums hold; its wheel goes into an environment of Python of its own, where README's
-lines run by the library in it.  A part that wants a package that isn't there says so, and is skipped.  Ends in a line
-`N passed, M failed`; the exit status is 1 if anything failed.
+with no folder of this repository in a path: the examples in C and Tcl are built and run, in C by pkg-config and with
+each library; the program answers; the library shows the names of include/tktext.h and no others; the manual pages are
+found.  Then nothing is left after `make uninstall`.  The same files go below a DESTDIR, and into the tarball and the
+Debian package of a release, whose checksums hold; its wheel goes into an environment of Python of its own, where
+README's lines and the example in Python run by the library in it, and so does this repository by `pip install .`,
+without a network.  A part that wants a package that isn't there says so, and is skipped.  Ends in a line `N passed, M
+failed`; the exit status is 1 if anything failed.
 """
 
 import os
@@ -19,6 +20,7 @@ import sys
 import tempfile
 import zipfile
 
+import build_python
 import dist
 import examples
 import install
@@ -92,23 +94,19 @@ int main(void)
 """
 
 
+def version_line(is_tried):
+    """What the library says of itself."""
+    return f"{install.version()}, {'not proved' if is_tried else 'proved'}"
+
+
 def check_words(prefix, is_tried, folder, tally):
     """The library says its version, and whether it was proved; what a code means; and what a fault leaves unsaid."""
     with open(os.path.join(folder, "words.c"), "w", encoding="utf-8") as file:
         file.write(WORDS_PROGRAM)
     run(["cc", "words.c", f"-I{prefix}/include", f"{prefix}/lib/libtktext.a", "-o", "words"], folder)
     given = run(["./words"], folder)
-    version = f"{install.version()}, {'not proved' if is_tried else 'proved'}"
-    wanted = f"{version}\na word isn't UTF-8\nindex index\n"
+    wanted = f"{version_line(is_tried)}\na word isn't UTF-8\nindex index\n"
     tally.check(given == (wanted.encode(), 0), f"the version, a code, a hint: {given!r}")
-
-
-def check_python(prefix, folder, wanted, tally):
-    """The example in Python, whose module looks for the library where the system does."""
-    shutil.copy(os.path.join(TOP, "examples", "peers.py"), folder)
-    shutil.copy(os.path.join(TOP, "python", "tktext.py"), folder)
-    given = run([sys.executable, "peers.py"], folder, LD_LIBRARY_PATH=f"{prefix}/lib")
-    tally.check(given == (wanted, 0), f"peers.py: {given!r}")
 
 
 def check_tcl(prefix, folder, wanted, tally):
@@ -167,46 +165,51 @@ def check_record(wheel, tally):
     tally.check(names == WHEEL_HAS, f"the wheel has {sorted(names)}")
 
 
-WHEEL_HAS = {"tktext.py", SONAME, "METADATA", "WHEEL", "PROVED", "COPYRIGHT"}
-# Behind README's lines: what the text has, an error, and where the module and its library were found.
+WHEEL_HAS = {*build_python.files(), build_python.EXTENSION, "METADATA", "WHEEL", "PROVED", "COPYRIGHT"}
+# Behind README's lines: what the text has, an error, whether it is proved, and where the package was found.
 WHEEL_PROGRAM = """
 import tktext
 print(text.get("1.0", "1.end"))
 try:
-    text.world.call(".t", "index")
+    text.world.call(str(text), "index")
 except tktext.TclError as error:
     print(error)
+print(tktext.library_version)
 print(tktext.__file__)
-print(tktext._library_path())
 """
 
 
-def check_wheel(wheel, folder, tally):
-    """A wheel, in an environment of Python of its own."""
+def check_wheel(wheel, is_tried, example, folder, tally):
+    """A wheel, and what `pip install .` makes of this repository, in environments of Python of their own."""
     check_record(wheel, tally)
     if run([sys.executable, "-m", "pip", "--version"], folder)[1]:
         print("skipped: pip isn't installed, by which the wheel is tried")
         return
-    place, python = os.path.join(folder, "python"), os.path.join(folder, "python", "bin", "python3")
-    run([sys.executable, "-m", "venv", "--without-pip", place], folder)
-    words = ["--python", python, "install", "--no-index", "--no-deps", "--disable-pip-version-check"]
-    _, status = run([sys.executable, "-m", "pip", *words, wheel], folder)
-    tally.check(status == 0, "the wheel is installed")
-    lines = library.shown_lines("README.md", "python")
-    given, _ = run([python, "-c", lines + WHEEL_PROGRAM], folder)
-    said = given.decode("utf-8").splitlines()
-    wanted = ["hello, wide world", 'wrong # args: should be ".t index index"']
-    tally.check(said[:2] == wanted, f"README's lines by the wheel: {said}")
-    tally.check(len(said) == 4 and all(it.startswith(place) for it in said[2:]), f"the wheel's own library: {said}")
+    lines, version = library.shown_lines("README.md", "python"), version_line(is_tried)
+    for name, installed in (("wheel", wheel), ("source", TOP)):
+        place = os.path.join(folder, name)
+        python = os.path.join(place, "bin", "python3")
+        run([sys.executable, "-m", "venv", "--without-pip", place], folder)
+        words = ["--python", python, "install", "--no-index", "--disable-pip-version-check", installed]
+        _, status = run([sys.executable, "-m", "pip", *words], folder)
+        tally.check(status == 0, f"it is installed by pip: {installed}")
+        given, _ = run([python, "-c", lines + WHEEL_PROGRAM], folder)
+        said = given.decode("utf-8").splitlines()
+        wanted = ["hello, wide world", 'wrong # args: should be ".!text index index"', version]
+        tally.check(said[:3] == wanted, f"README's lines by the {name}: {said}")
+        tally.check(len(said) == 4 and said[3].startswith(place), f"where the package of the {name} stands: {said}")
+        given = run([python, os.path.join(TOP, "examples", "peers.py")], folder)
+        tally.check(given == (example, 0), f"peers.py by the {name}: {given!r}")
 
 
-def check_release(places, is_tried, folder, tally):
+def check_release(places, is_tried, example, folder, tally):
     """A release has the same files, what was proved and its licences, and its checksums are right."""
     if any(not os.path.exists(os.path.join(TOP, item.source)) for item in install.items(is_tried)):
         print("skipped: a release wants the Tcl package and the manual pages")
         return
     out, wanted = os.path.join(folder, "dist"), places | {dist.NOTE, dist.LICENCE}
-    tarball, wheel, *package = dist.make(out, is_tried)
+    made = {os.path.splitext(path)[1]: path for path in dist.make(out, is_tried)}
+    tarball = made[".gz"]
     name = os.path.basename(tarball).removesuffix(".tar.gz")
     given = listed(["tar", "tzf", tarball], folder, f"{name}/")
     tally.check(given == wanted, f"the tarball lists {sorted(given ^ wanted)}")
@@ -217,9 +220,12 @@ def check_release(places, is_tried, folder, tally):
         sums = file.read().partition(b"SHA-256 of each file:\n")[2]
     holds = sums and run(["sha256sum", "-c"], os.path.join(folder, name), sums)[1] == 0
     tally.check(holds, "the checksums of its files")
-    check_wheel(wheel, folder, tally)
-    if package:
-        given = listed(["dpkg-deb", "-c", *package], folder, "./usr/")
+    if ".whl" in made:
+        check_wheel(made[".whl"], is_tried, example, folder, tally)
+    else:
+        print(f"skipped: a wheel wants {build_python.WANTED}")
+    if ".deb" in made:
+        given = listed(["dpkg-deb", "-c", made[".deb"]], folder, "./usr/")
         tally.check(given == wanted, f"the Debian package lists {sorted(given ^ wanted)}")
     else:
         print("skipped: dpkg-deb isn't installed")
@@ -236,7 +242,6 @@ def check_all(flags, is_tried, folder, tally):
     check_program(prefix, work, tally)
     check_c(prefix, work, wanted["examples/peers.c"], tally)
     check_words(prefix, is_tried, work, tally)
-    check_python(prefix, work, wanted["examples/peers.py"], tally)
     check_tcl(prefix, work, wanted["examples/peers.tcl"], tally)
     check_names(prefix, work, tally)
     check_pages(prefix, work, tally)
@@ -247,7 +252,7 @@ def check_all(flags, is_tried, folder, tally):
     tally.check(files_below(os.path.join(root, "usr")) == places, "the same files stand below a DESTDIR")
     with open(os.path.join(root, "usr", install.DESCRIPTION), encoding="utf-8") as file:
         tally.check(file.read().startswith("prefix=/usr\n"), "the description doesn't name the DESTDIR")
-    check_release(places, is_tried, folder, tally)
+    check_release(places, is_tried, wanted["examples/peers.py"], folder, tally)
 
 
 def main():

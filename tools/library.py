@@ -10,8 +10,9 @@ has just proved (tools/build_library.py).  Without a C compiler one line says so
 - C (tools/library.c): worked and random scripts, fed in pieces and word by word, answer as the model does; calls that a
   caller may get wrong, and the calls that are written in C, with growths refused to these; valgrind finds no leak and no
   wrong access in 10,000 commands and a drop.
-- Python (python/tktext.py): the worked rows, each under its limits; the methods of `Text` on worked and random scripts;
-  the cases of tools/python_cases.py, threads among them.
+- Python (python/tktext): the worked rows, each under its limits; the methods of `Text` on worked and random scripts;
+  the cases of tools/python_cases.py, threads among them; `python3 -m tktext`; tkinter's answers
+  beside ours, and tests that others wrote for its Text.
 - Tcl (tcl/): a script with procedures, loops and variables, and random scripts; the cases of tools/tcl_cases.py.
 - Python and Tcl with growths of memory refused (tools/refuse_calls.c): want of memory is an error of the language, and the
   command answers as ever when it is given again.
@@ -31,9 +32,13 @@ import sys
 import tempfile
 
 import build_library
+import build_python
 import examples
 import model
 import python_cases
+import python_others
+import python_probes
+import python_tool
 import scripts
 import tcl_cases
 import worked
@@ -46,7 +51,8 @@ SHARED = os.path.join(OUT, "libtktext.so")
 EXTENSION = os.path.join(OUT, "tktext.so")
 CLIENT = os.path.join(OUT, "library_client")
 REFUSED_CLIENT = os.path.join(OUT, "refused_library_client")
-REFUSED = os.path.join(OUT, "refused.so")
+PYTHON = os.path.join(OUT, "python")
+REFUSED_PYTHON = os.path.join(OUT, "refused_python")
 REFUSED_EXTENSION = os.path.join(OUT, "refused_tktext.so")
 SMALL_EXTENSION = os.path.join(OUT, "small_tktext.so")
 FLAGS = ["-Wall", "-Wextra", "-O2", "-fPIC", "-I" + os.path.join(TOP, "include")]
@@ -75,11 +81,12 @@ def compile_client():
 def compile_all(has_tcl):
     """The client, and the library with growths that can be refused, for Python and for Tcl."""
     refuses = ["-Wl,--wrap=malloc,--wrap=realloc", source("tools", "refuse_calls.c")]
-    wraps = ["-shared", *refuses]
     compile_client()
     client = source("tools", "library.c")
     subprocess.run(["cc", *FLAGS, *refuses, "-o", REFUSED_CLIENT, client, ARCHIVE], check=True)
-    subprocess.run(["cc", *FLAGS, *wraps, "-o", REFUSED, "-Wl,--whole-archive", ARCHIVE, "-Wl,--no-whole-archive"], check=True)
+    if build_python.can_build():
+        build_python.build(PYTHON, ARCHIVE)
+        build_python.build(REFUSED_PYTHON, ARCHIVE, *refuses)
     if has_tcl:
         tcl = ["-DUSE_TCL_STUBS", "-I" + examples.TCL_INCLUDE, source("tcl", "tktext.c")]
         small = f"-DTKTEXT_MOST_BYTES={tcl_cases.MOST_BYTES}"
@@ -88,7 +95,7 @@ def compile_all(has_tcl):
         # What is Tcl's own, a value or a command, is taken from Tcl, which doesn't survive a refusal: those of the glue and
         # of the library alone are counted.
         subprocess.run(["cc", *FLAGS, *tcl, "-c", "-o", EXTENSION + ".o"], check=True)
-        subprocess.run(["cc", *FLAGS, *wraps, EXTENSION + ".o", "-o", REFUSED_EXTENSION, ARCHIVE, "-ltclstub8.6"], check=True)
+        subprocess.run(["cc", *FLAGS, "-shared", *refuses, EXTENSION + ".o", "-o", REFUSED_EXTENSION, ARCHIVE, "-ltclstub8.6"], check=True)
 
 
 # ---------------------------------------------------------------------------------------------------
@@ -234,13 +241,15 @@ def method_calls():
         ("tag", "prevrange"): ("tag_prevrange", elements, 2, 3), ("tag", "raise"): ("tag_raise", nothing, 1, 2), ("tag", "lower"): ("tag_lower", nothing, 1, 2),
         ("tag", "delete"): ("tag_delete", nothing, 1, 99), ("mark", "set"): ("mark_set", nothing, 2, 2), ("mark", "unset"): ("mark_unset", nothing, 0, 99),
         ("mark", "names"): ("mark_names", elements, 0, 0), ("mark", "next"): ("mark_next", name, 1, 1), ("mark", "previous"): ("mark_previous", name, 1, 1),
-        ("mark", "gravity"): ("mark_gravity", text, 1, 2), ("edit", "undo"): ("edit_undo", nothing, 0, 0), ("edit", "redo"): ("edit_redo", nothing, 0, 0),
-        ("edit", "separator"): ("edit_separator", nothing, 0, 0), ("edit", "reset"): ("edit_reset", nothing, 0, 0),
+        ("mark", "gravity"): ("mark_gravity", text, 1, 2), ("edit", "undo"): ("edit_undo", text, 0, 0), ("edit", "redo"): ("edit_redo", text, 0, 0),
+        ("edit", "separator"): ("edit_separator", text, 0, 0), ("edit", "reset"): ("edit_reset", text, 0, 0),
         ("edit", "modified"): ("edit_modified", flag, 0, 0), ("peer", "names"): ("peer_names", elements, 0, 0),
     }
 
 
 METHODS = method_calls()
+# The method knows those of drawing too.
+CORE_OPTIONS = ("-autoseparators", "-endline", "-maxundo", "-startline", "-state", "-undo")
 
 
 def value_of(answer):
@@ -259,7 +268,7 @@ def method_of(words):
         return "dump", words[2:], lambda answer: list(zip(*[iter(model.split_list(answer))] * 3))
     if words[1:2] == ["search"] and 4 <= len(words) <= 5 and not words[2].startswith("-"):
         return "search", words[2:], str
-    if words[1:2] == ["cget"] and len(words) == 3 and words[2].startswith("-"):
+    if words[1:2] == ["cget"] and len(words) == 3 and words[2] in CORE_OPTIONS:
         return "cget", [words[2][1:]], value_of
     return None
 
@@ -339,8 +348,7 @@ def check_python_refusals(tktext, tally):
 
 
 def try_python(seeds, refuses):
-    """What `python3 tools/library.py --python` does, in a process of its own, over the library that TKTEXT_LIBRARY names."""
-    sys.path.insert(0, source("python"))
+    """What `python3 tools/library.py --python` does, in a process of its own, with a package that PYTHONPATH names."""
     import tktext
 
     tally = Tally()
@@ -609,12 +617,13 @@ def check_shown(has_tcl, folder, tally):
         written.write(f"{head}{used_lines('c')}return code != TKTEXT_ANSWER || length != 3;\n}}\n")
     run(["cc", *FLAGS, file, ARCHIVE, "-o", program])
     tally.check(run([program]) == (b"done: .t\n", 0, b""), "the lines in C of docs/use.md")
-    end = 'print(peer.get("1.0", "1.end"), *text.tag_ranges("bold"))'
-    given = run([sys.executable, "-c", used_lines("python") + end], env=dict(os.environ, PYTHONPATH=source("python")))
-    tally.check(given == (b"hello, wide world 1.7 2.0\n", 0, b""), f"the lines in Python of docs/use.md: {given!r}")
-    end = 'print(text.get("1.0", "1.end"))'
-    given = run([sys.executable, "-c", shown_lines("README.md", "python") + end], env=dict(os.environ, PYTHONPATH=source("python")))
-    tally.check(given == (b"hello, wide world\n", 0, b""), f"README's lines in Python: {given!r}")
+    if build_python.can_build():
+        end = 'print(peer.get("1.0", "1.end"), *text.tag_ranges("bold"))'
+        given = run([sys.executable, "-c", used_lines("python") + end], env=dict(os.environ, PYTHONPATH=PYTHON))
+        tally.check(given == (b"hello, wide world 1.7 2.0\n", 0, b""), f"the lines in Python of docs/use.md: {given!r}")
+        end = 'print(text.get("1.0", "1.end"))'
+        given = run([sys.executable, "-c", shown_lines("README.md", "python") + end], env=dict(os.environ, PYTHONPATH=PYTHON))
+        tally.check(given == (b"hello, wide world\n", 0, b""), f"README's lines in Python: {given!r}")
     if has_tcl:
         given = run(["tclsh8.6"], used_lines("tcl").encode(), env=dict(os.environ, TCLLIBPATH=source("tcl")))
         tally.check(given == (b"5.0\n", 0, b""), f"the lines in Tcl of docs/use.md: {given!r}")
@@ -633,13 +642,19 @@ def add_counts(output, status, tally):
 
 
 def check_python(seeds, tally):
-    for library, flags in ((SHARED, []), (REFUSED, ["--refuses"])):
-        environment = dict(os.environ, TKTEXT_LIBRARY=library)
+    if not build_python.can_build():
+        print(f"Python isn't tried: it wants {build_python.WANTED}")
+        return
+    for package, flags in ((PYTHON, []), (REFUSED_PYTHON, ["--refuses"])):
+        environment = dict(os.environ, PYTHONPATH=package)
         words = [sys.executable, os.path.abspath(__file__), "--python", "--seeds", str(seeds), *flags]
         output, status, errors = run(words, env=environment)
         sys.stderr.buffer.write(errors)
         add_counts(output, status, tally)
-    python_cases.check(python_cases.MODULE, SHARED, python_cases.ROUNDS, tally)
+    python_cases.check(PYTHON, python_cases.ROUNDS, tally)
+    python_tool.check(PYTHON, tally)
+    python_probes.check(PYTHON, python_probes.PYTHON, tally)
+    python_others.check(PYTHON, python_others.PYTHON, tally)
 
 
 def main():

@@ -1,7 +1,7 @@
 #!/usr/bin/env python3
-"""Cases of the Python module (python/tktext.py), each in a process of its own: what a caller may do to it.
+"""Cases of the Python package (python/tktext), each in a process of its own: what a caller may do to it.
 
-    python3 tools/python_cases.py [--module python] [--library out/libtktext.so] [--rounds 200]
+    python3 tools/python_cases.py [--module out/python] [--rounds 200]
 
 A case is a script and what it has to print; a crash is a failed case, and its script is shown.  Threads share a world,
 or have one each, in so many rounds.  Where Python has tkinter, random values become the words that they are there,
@@ -10,13 +10,14 @@ which needs no display.  Ends in a line `N passed, M failed`; the exit status is
 
 import argparse
 import os
+import shutil
 import subprocess
 import sys
 
 from harness import LONG_TIMEOUT_SECONDS, Tally
 
 TOP = os.path.dirname(os.path.dirname(os.path.abspath(__file__)))
-MODULE = os.path.join(TOP, "python")
+MODULE = os.path.join(TOP, "out", "python")
 ROUNDS = 200
 HEAD = """
 import faulthandler, sys, threading
@@ -107,23 +108,45 @@ for _ in range(ROUNDS):
 print(said - {'TclError: invalid command name "foo"', "ValueError: the world was closed"})
 """
 
-# The handler of a signal calls in the middle of a call: it is refused by its own word, and the call comes to its end.
+# The handler of a signal calls where another call is under way: that comes to its end first, and both are carried out.
 REENTRANT = """
 import signal, time
 text, said = Text(), set()
 text.insert("1.0", "x" * 2_000_000)
 def handler(*_):
-    said.add(str(tried(text.index, "end")).replace("RuntimeError: ", "").replace("2.0", "carried out"))
+    said.add(str(tried(text.index, "end")))
+    text.mark_set(f"m{len(said)}", "1.0")
 signal.signal(signal.SIGALRM, handler)
-until = time.monotonic() + 20
+until = time.monotonic() + 1
 signal.setitimer(signal.ITIMER_REAL, 0.003, 0.003)
-while len(said) < 2 and time.monotonic() < until:
+while time.monotonic() < until:
     if len(text.get("1.0", "end")) != 2_000_001: print("an answer is cut")
-    time.sleep(0.004)
+    if text.tag_names() != ("sel",): print("an answer of another call")
 signal.setitimer(signal.ITIMER_REAL, 0)
 print(sorted(said), text.index("1.end"))
 """
-REENTRANT_SAYS = "['a call of this world is under way in this thread', 'carried out'] 1.2000000"
+REENTRANT_SAYS = "['2.0'] 1.2000000"
+
+# A value that calls the world, closes it, or makes the widget anew, while the words of a call are made of it.
+WITHIN_WORDS = """
+class Calling:
+    def __init__(self, call): self.call = call
+    def __str__(self):
+        self.call()
+        return "x"
+text = Text()
+text.insert("1.0", Calling(lambda: text.insert("1.0", "first ")))
+print(text.get("1.0", "1.end"))
+print(tried(text.insert, "1.0", Calling(lambda: text.__init__())), str(text), text.get("1.0", "1.end"))
+print(tried(text.insert, "1.0", Calling(text.world.close)))
+print(tried(Text.__new__(Text)._text, "index"), tried(World.__new__(World).call, "text", ".t"))
+print(tried(text.get, Calling(lambda: 1 / 0)))
+"""
+WITHIN_WORDS_SAY = """xfirst\x20
+None .!text x
+ValueError: the world was closed
+ValueError: the widget wasn't made ValueError: the world was closed
+ZeroDivisionError: division by zero"""
 
 # The handler raises, wherever in a call it comes: the world goes on, also for another thread.
 INTERRUPTED = """
@@ -229,7 +252,7 @@ def put(value):
     print(repr(text.get("1.0", "end-1c")) if said is None else said)
 """
 PUT = (
-    ("None", 'TclError: wrong # args: should be ".t insert index chars ?tagList chars ...?"'),
+    ("None", 'TclError: wrong # args: should be ".!text insert index chars ?tagList chars ...?"'),
     ("True", "'1'"), ("False", "'0'"), ("5", "'5'"), ("1.5", "'1.5'"), ("-1.2e16", "'-12000000000000000.0'"),
     ("1e17", "'1e+17'"), ("1e-05", "'1e-5'"), ('float("inf")', "'Inf'"), ('float("-inf")', "'-Inf'"),
     ('float("nan")', "'NaN'"), ("b'q\\xe9'", "'qé'"), ("Name.first", "'x'"), ("['a', 'b c']", "'a {b c}'"),
@@ -269,12 +292,12 @@ VALUES_SAY = """1 7 1 normal
 ''
 ('1.0', '1.1')
 ('tt', '1') ('u', 'v w') () ('1',) ('t3',)
-'1 two' TclError: wrong # args: should be ".t replace index1 index2 chars ?tagList chars ...?"
+'1 two' TclError: wrong # args: should be ".!text replace index1 index2 chars ?tagList chars ...?"
 1 ('3.0', '3.1') right
 ('sel',)
-TclError: wrong # args: should be ".t get index ?index ...?" None
+TclError: wrong # args: should be ".!text get index ?index ...?" None
 1.2 1.0 TclError: expected boolean value but got ""
-False False"""
+0 0"""
 
 # An error says what the library's own fault leaves unsaid, and keeps that.
 FAULTS = r"""
@@ -286,7 +309,7 @@ def fault(*words):
         same = [(str(it), it.fault) for it in (error, pickle.loads(pickle.dumps(error)), copy.copy(error))]
         print(error, error.fault if same.count(same[0]) == 3 else same, sep=" | ")
 world = World()
-text = Text(world)
+text = Text(world, name=".t")
 for words in ((".t",), (".t", "index"), (".t", "edit"), (".t", "tag", "raise"), ("text",), (".t", "search", "x"),
               (".t", "mark", "foo"), (".t", "dump", "-foo", "1.0"), (".t", "cget", "-foo"), ("text", ".u", "-foo", 1),
               (".t", "configure", "-undo", 1, "-state", "off"), ("text", ".u", "-state", "-undo"),
@@ -295,7 +318,7 @@ for words in ((".t",), (".t", "index"), (".t", "edit"), (".t", "tag", "raise"), 
               (".t", "index", "wrong # args"), (".zz", "index"), ("text", "x\0"), (".t", "edit", "undo")):
     fault(*words)
 text.destroy()
-Text(world, ".a b\u00e9")
+Text(world, name=".a b\u00e9")
 fault(".a b\u00e9", "index")
 print(tried(Text.named(world, ".a b\u00e9").mark_gravity, "insert", "up"))
 """
@@ -351,6 +374,70 @@ print("done" if interpreter else "done without tkinter")
 """
 
 
+# A script in pieces: its lines, a fault of its own, and what comes behind that and behind its end.
+SCRIPTS = r"""
+with World() as world:
+    world.feed(b"text .t; .t ins"); print(list(world.lines()))
+    world.feed(b"ert 1.0 ab\n.t index end"); print(list(world.lines()), list(world.lines()))
+    world.finish(); print(list(world.lines()), world.status())
+    print(tried(world.feed, b"x"), world.status())
+with World() as world:
+    world.feed(b"text .t\n.t foo\ntext [x]\n.t index end\n")
+    print(list(world.lines()), list(world.lines()), world.status())
+print(tried(lambda: list(world.lines())), tried(world.feed, b""))
+"""
+SCRIPTS_SAY = r"""[b'.t\n']
+[b'\n'] []
+[b'2.0\n'] 0
+ValueError: the script has ended 0
+[b'.t\n', b'error: bad option "foo"\n', b"error: substitution isn't supported\n"] [] 2
+ValueError: the world was closed ValueError: the world was closed"""
+
+
+# Refused options leave nothing behind; a widget that is bound and its world go when nobody has them.
+LEFT = """
+import gc, weakref
+world = World()
+for options in ({"tabs": "{", "undo": 1}, {"undo": "x", "width": 3}, {"foo": 1}):
+    print(tried(lambda: Text(world, name="t", **options)), tried(world.call, ".t", "index", "end"))
+text = Text(world, name="t")
+print(tried(lambda: text.configure(undo=1, tabs="{")), tried(lambda: text.configure(width=3, undo="x")))
+print(text["undo"], text["width"])
+text = Text()
+text.bind("<<Modified>>", lambda event: None)
+text.insert("1.0", "x")
+print(text.get("1.0"))
+gone = weakref.ref(text), weakref.ref(text.world)
+del text
+gc.collect()
+print(*(reference() for reference in gone))
+"""
+LEFT_SAYS = """TclError: unmatched open brace in list TclError: invalid command name ".t"
+TclError: expected boolean value but got "x" TclError: invalid command name ".t"
+OPTION TclError: invalid command name ".t"
+TclError: unmatched open brace in list TclError: expected boolean value but got "x"
+0 80
+x
+None None""".replace("OPTION", 'TclError: bad option "-foo": must be -autoseparators, -endline, -maxundo, -startline, '
+                     "-state, or -undo")
+
+# The examples of the docstrings.
+EXAMPLES = """
+import doctest, tktext
+finder = doctest.DocTestFinder()
+# Without tkinter the error is of a module of our own.
+flags = 0 if TclError.__module__ == "_tkinter" else doctest.IGNORE_EXCEPTION_DETAIL
+runner = doctest.DocTestRunner(optionflags=flags)
+for shown in (Text, World, Event, list_text, split_list):
+    tests = finder.find(shown, shown.__name__, module=False, globs=vars(tktext).copy())
+    bare = {test.name for test in tests if not test.examples and "._" not in test.name}
+    # Those that can't be had refer to one of them.
+    print(sorted(name for name in bare if not name.startswith(("Text.image_c", "Text.window_c"))))
+    for test in tests: runner.run(test)
+print(runner.summarize().failed)
+"""
+
+
 def cases(rounds):
     """The name of each case, its script, and what it prints."""
     def of(script):
@@ -360,7 +447,9 @@ def cases(rounds):
     yield "threads on worlds of their own", of(EIGHT_WORLDS), "done"
     yield "threads on a world that is closed", of(CLOSED_BY_ANOTHER), "set()"
     yield "a call within a call", REENTRANT, REENTRANT_SAYS
+    yield "a call within the words of a call", WITHIN_WORDS, WITHIN_WORDS_SAY
     yield "interrupted calls", of(INTERRUPTED), "1.200000\nTrue 2.0"
+    yield "scripts in pieces", SCRIPTS, SCRIPTS_SAY
     yield "limits", LIMITS, LIMITS_SAY
     yield "the room that is kept", ROOM, "True True True\nTrue"
     yield "copies", COPIES, COPIES_SAY
@@ -369,12 +458,14 @@ def cases(rounds):
     yield "values that are put in", VALUES_HEAD + puts, said
     yield "values of methods", VALUES, VALUES_SAY
     yield "faults that say more", FAULTS, FAULTS_SAY
+    yield "what is left", LEFT, LEFT_SAYS
+    yield "the examples of the docstrings", EXAMPLES, "[]\n[]\n[]\n[]\n[]\n0"
     yield "random values", TKINTER, "done"
 
 
-def check_case(module, library, name, script, wanted, tally):
+def check_case(module, name, script, wanted, tally):
     """One case: what it prints and its end, or its script is shown."""
-    environment = dict(os.environ, PYTHONPATH=module, TKTEXT_LIBRARY=library, PYTHONIOENCODING="utf-8")
+    environment = dict(os.environ, PYTHONPATH=module, PYTHONIOENCODING="utf-8")
     try:
         done = subprocess.run(
             [sys.executable, "-c", HEAD + script], capture_output=True, env=environment, timeout=LONG_TIMEOUT_SECONDS
@@ -384,7 +475,7 @@ def check_case(module, library, name, script, wanted, tally):
         return
     said = done.stdout.decode("utf-8", "replace").rstrip("\n")
     if name == "random values" and said == "done without tkinter":
-        print("Python: random values aren't compared with tkinter's, which isn't installed")
+        print("skipped: random values aren't compared with tkinter's, which isn't installed")
         return
     if (said, done.returncode, done.stderr) == (wanted, 0, b""):
         tally.passed()
@@ -394,20 +485,30 @@ def check_case(module, library, name, script, wanted, tally):
     tally.failed(f"{ended}\nthe script:\n{HEAD}{script}")
 
 
-def check(module, library, rounds, tally):
-    """Each case, of the module in a folder over a library."""
+def check_types(module, tally):
+    """The package's annotations, by mypy."""
+    if shutil.which("mypy") is None:
+        print("skipped: the Python package's annotations aren't checked, which wants mypy (Debian: apt-get install mypy)")
+        return
+    words = ["mypy", "--strict", "--no-incremental", os.path.join(module, "tktext")]
+    done = subprocess.run(words, capture_output=True, text=True, timeout=LONG_TIMEOUT_SECONDS)
+    tally.check(done.returncode == 0, f"mypy: {done.stdout}{done.stderr}")
+
+
+def check(module, rounds, tally):
+    """Each case, of the package in a folder."""
     for name, script, wanted in cases(rounds):
-        check_case(module, library, name, script, wanted, tally)
+        check_case(module, name, script, wanted, tally)
+    check_types(module, tally)
 
 
 def main():
-    parser = argparse.ArgumentParser(description="what a caller may do to the Python module")
+    parser = argparse.ArgumentParser(description="what a caller may do to the Python package")
     parser.add_argument("--module", default=MODULE)
-    parser.add_argument("--library", default=os.path.join(TOP, "out", "libtktext.so"))
     parser.add_argument("--rounds", type=int, default=ROUNDS)
     options = parser.parse_args()
     tally = Tally()
-    check(options.module, options.library, options.rounds, tally)
+    check(options.module, options.rounds, tally)
     return tally.close()
 
 

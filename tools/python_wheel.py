@@ -1,4 +1,4 @@
-"""Makes a wheel of files that lie in a folder: what tools/dist.py calls.
+"""Makes a wheel of the files below a folder: what tools/dist.py calls.
 
 A wheel is a zip with a folder of its own in it: METADATA, WHEEL, and RECORD, which lists each file with its checksum.
 """
@@ -49,7 +49,7 @@ def told(*words):
 
 
 def platform_of(library):
-    """The platform of a library: one of Linux by its least version of glibc, where it needs nothing else."""
+    """The platform of an extension: one of Linux by its least version of glibc, where it needs nothing else."""
     machine = platform.machine()
     if shutil.which("readelf") is None or NEEDED.findall(told("readelf", "-d", library)) != ["libc.so.6"]:
         return f"linux_{machine}"
@@ -66,18 +66,22 @@ def contents(root, notes, version, tag):
     """Each file of the wheel, by its place: those of the folder, then the notes, and RECORD last."""
     own = f"tktext-{version}.dist-info"
     files = {}
-    for name in sorted(os.listdir(root)):
-        with open(os.path.join(root, name), "rb") as file:
-            files[name] = file.read()
+    places = [os.path.relpath(os.path.join(at, name), root) for at, _, names in os.walk(root) for name in names]
+    for place in sorted(places):
+        with open(os.path.join(root, place), "rb") as file:
+            files[place] = file.read()
     notes = {**notes, "WHEEL": WHEEL.format(tag=tag)}
     files.update((f"{own}/{name}", text.encode("utf-8")) for name, text in notes.items())
     record = "".join(record_line(place, content) for place, content in files.items())
     return {**files, f"{own}/RECORD": f"{record}{own}/RECORD,,\n".encode("utf-8")}
 
 
-def make(root, library, notes, version, seconds, out):
-    """Makes the wheel of a folder's files and of notes, METADATA among them; `seconds` are the time of each file."""
-    tag = f"py3-none-{platform_of(library)}"
+def make(root, extension, notes, version, seconds, out):
+    """Makes the wheel of the files below a folder and of notes, METADATA among them.
+
+    `seconds` are the time of each file.  The extension among them goes by the stable ABI of Python 3.9.
+    """
+    tag = f"cp39-abi3-{platform_of(extension)}"
     path = os.path.join(out, f"tktext-{version}-{tag}.whl")
     # A zip has no time before 1980.
     stamp = max(time.gmtime(seconds)[:6], (1980, 1, 1, 0, 0, 0))

@@ -1,0 +1,59 @@
+"""The core of Tk's text widget without a display.
+
+`Text` has the methods of tkinter's `Text`, by the same names and with the same arguments, so that code written for
+tkinter's widget runs on it; docs/use.md of its repository has a table of what each does.
+
+    from tktext import END, Text
+
+    text = Text(undo=True)
+    text.insert(END, "hello, wide world")
+    text.edit_undo()
+
+A command that is refused raises `TclError`, which is tkinter's where that is installed, want of memory `MemoryError`;
+both leave everything as it was.  What the core itself said is the error's `fault`.
+
+A `World` has texts with the widgets on them; each `Text` makes one of its own unless it is given one.  Threads may
+share a world and its widgets: one call is carried out at a time, with Python's own lock held.
+
+`python3 -m tktext` runs scripts of the widget's commands, and has a prompt for them.
+"""
+
+from __future__ import annotations
+
+try:
+    from . import _core
+except ImportError as error:
+    raise ImportError(
+        "tktext isn't built: `pip install .` at the top of its repository builds and installs it, after `make lib`, or "
+        "`make try-lib` for an unproved one; `make python` builds it below out/python"
+    ) from error
+from ._errors import TclError, error_of_fault
+from ._events import Event
+from ._values import list_text, word
+
+_core.use(word, error_of_fault)
+
+from ._text import Text  # noqa: E402  (behind what `_core` uses)
+from ._world import World  # noqa: E402
+
+__version__ = "1.0"
+# What the library says of itself: its version, and whether it was proved.
+library_version = _core.version
+
+END = "end"
+INSERT = "insert"
+CURRENT = "current"
+SEL = "sel"
+SEL_FIRST = "sel.first"
+SEL_LAST = "sel.last"
+
+split_list = _core.split_list
+
+for _public in (Event, Text, World):
+    # It is shown where it is taken from.
+    _public.__module__ = __name__
+
+__all__ = [
+    "CURRENT", "END", "Event", "INSERT", "SEL", "SEL_FIRST", "SEL_LAST", "TclError", "Text", "World", "list_text",
+    "split_list",
+]

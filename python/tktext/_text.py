@@ -1,0 +1,979 @@
+"""The widget."""
+
+from __future__ import annotations
+
+from typing import Any, Callable, Mapping, Protocol
+
+from . import _core, _options
+from ._errors import TclError, refusal
+from ._events import MODIFIED, SELECTION, Bindings, Event, Handler
+from ._values import list_text, number_or_text, word
+from ._world import World
+
+# How an answer is given by `_run`.
+_AS_TEXT, _AS_TUPLE = 0, 1
+_SEL = "sel"
+_NO_IMAGES = "images can't be embedded: the widget isn't drawn"
+_NO_WINDOWS = "windows can't be embedded: the widget isn't drawn"
+_NOT_HELD = frozenset(("image", "window"))
+# What `count` can be asked for, by what the core counts: nothing is hidden, and nothing is to be brought up to date.
+_COUNTED = {"displaychars": "chars", "displayindices": "indices"}
+_TRUE, _FALSE = frozenset(("1", "true", "yes", "on")), frozenset(("0", "false", "no", "off"))
+
+
+class Variable(Protocol):
+    """What `search` can set: a variable of tkinter's, or anything with `set`."""
+
+    def set(self, value: Any) -> Any: ...
+
+
+_Options = Mapping[str, Any]
+
+
+def _merged(cnf: Any, given: _Options, synonyms: Mapping[str, str] = _options.SYNONYMS) -> dict[str, Any]:
+    """Options as tkinter takes them: mappings, the words of a call behind them, a last underscore left out."""
+    parts = cnf if isinstance(cnf, (tuple, list)) else [cnf or {}]
+    merged = {name: value for part in [*parts, given] for name, value in (part or {}).items()}
+    names = ((name[:-1] if name.endswith("_") else name) for name in merged)
+    full = (synonyms.get(name, name) for name in names)
+    return {name: value for name, value in zip(full, merged.values()) if value is not None}
+
+
+def _words(options: _Options) -> list[Any]:
+    return [part for name, value in options.items() for part in ("-" + name, value)]
+
+
+def _kept(name: str, value: Any) -> Any:
+    """An option's value as tkinter would give it back."""
+    if isinstance(value, bool):
+        return int(value)
+    if name == "font" and isinstance(value, (tuple, list)):
+        return list_text(value)
+    if name == "tabs" and isinstance(value, str):
+        try:
+            parts = _core.split_list(value)
+        except ValueError as error:
+            raise refusal(str(error)) from None
+        return parts if len(parts) > 1 else value
+    return number_or_text(value) if isinstance(value, str) and name not in ("font", "tabs") else value
+
+
+def _parted(options: _Options) -> tuple[list[Any], dict[str, Any]]:
+    """The words of those options that are the core's, and what is kept of those of drawing."""
+    core = {name: value for name, value in options.items() if name not in _options.DRAWN}
+    return _words(core), {name: _kept(name, value) for name, value in options.items() if name in _options.DRAWN}
+
+
+def _option(name: str) -> str:
+    """The name of an option that may have a minus in front, or an underscore behind."""
+    bare = name[1:] if name[:1] == "-" else name
+    return bare[:-1] if bare[-1:] == "_" else bare
+
+
+class Text(_core.Widget):
+    """A text widget as tkinter's `Text`, without a display: one of a text of its own, or a peer.
+
+    `master` is a `World`, or a `Text`, in whose world the widget is made; with any other, and with none, it gets a new
+    world.  Options are given as tkinter's are, by `cnf` or by name: `undo`, `maxundo`, `autoseparators`, `state`,
+    `startline` and `endline` are the core's; those of drawing are kept and given back alone.  `name` is the widget's
+    name, of which tkinter makes `.name`, or a whole one that begins with a dot; without it names are made as tkinter
+    makes them.
+
+    An index is a text, as `"1.0"` (lines count from 1, characters from 0), `"end"`, a mark's name, `"sel.first"`,
+    `"insert + 2 chars"` or `"1.0 lineend"`; a wrong one is a `TclError`.  A refused command leaves everything as it
+    was, and so does want of memory, which is a MemoryError.
+
+    >>> with Text(undo=True) as text:
+    ...     text.insert(END, "hello, wide world")
+    ...     text.tag_add("bold", "1.7", "1.11")
+    ...     text.get("bold.first", "bold.last"), str(text)
+    ('wide', '.!text')
+    """
+
+    world: World
+    master: Any
+    _drawn: dict[str, Any]
+
+    def __init__(self, master: Any = None, cnf: Any = None, **kw: Any) -> None:
+        options = _merged(cnf, kw)
+        world = master if isinstance(master, World) else master.world if isinstance(master, Text) else None
+        self._owns_world = world is None
+        world = World() if world is None else world
+        given = options.pop("name", None)
+        parent = str(master) if isinstance(master, Text) else "."
+        if given is None:
+            name = world._name_child(parent, type(self).__name__.lower())
+        else:
+            name = word(given) if word(given).startswith(".") else f"{parent.rstrip('.')}.{word(given)}"
+        core, drawn = _parted(options)
+        world.call("text", name, *map(word, core))
+        self._begin(world, name)
+        self.master = world if master is None else master
+        self._drawn = drawn
+
+    def _begin(self, world: World, name: str, shared: dict[str, dict[str, str]] | None = None) -> None:
+        """Makes this the widget of a name; `shared` are the options of the text's tags."""
+        self._join(world, name)
+        self.world, self._name, self.master = world, name, world
+        self._drawn = {}
+        self._tags: dict[str, dict[str, str]] = {} if shared is None else shared
+        self._own_tags: dict[str, dict[str, str]] = {}
+        self._bindings = Bindings()
+        self._virtual: dict[str, dict[str, None]] = {}
+        self._tag_bindings: dict[str, Bindings] = {}
+        self._known: tuple[str, tuple[str, ...]] = ("0", ())
+        self._is_debugged = False
+        world._texts[name] = self
+
+    @classmethod
+    def named(cls, world: World, name: str) -> Text:
+        """The widget of a name that a world has, as one that a script made.
+
+        >>> world = World()
+        >>> world.call("text", ".t")
+        '.t'
+        >>> Text.named(world, ".t").index(END)
+        '2.0'
+        """
+        known = world._texts.get(name)
+        if known is not None:
+            return known
+        found = cls.__new__(cls)
+        found._owns_world = False
+        found._begin(world, name)
+        return found
+
+    def __str__(self) -> str:
+        return self._name
+
+    def __repr__(self) -> str:
+        return f"<{type(self).__module__}.{type(self).__qualname__} object {self._name}>"
+
+    def __enter__(self) -> Text:
+        return self
+
+    def __exit__(self, *_: object) -> None:
+        """Takes the widget away, and its world where it was made with it."""
+        if self._owns_world:
+            self.world.close()
+        else:
+            self.destroy()
+
+    def __copy__(self) -> Text:
+        return self
+
+    def __reduce_ex__(self, _protocol: object) -> Any:
+        raise TypeError("a widget can't be copied")
+
+    # ---- texts
+
+    def insert(self, index: object, chars: object, *args: object) -> None:
+        """Puts characters in before the one at an index; at the end they go before the last newline.
+
+        Behind the characters may stand a tag, or a tuple of tags, then further characters and tags.  Characters without
+        tags of their own get those that stand on both sides.  Too long a text is a TclError.
+
+        >>> text = Text()
+        >>> text.insert("1.0", "one ", "a", "two")
+        >>> text.get("1.0", END), text.tag_ranges("a")
+        ('one two\\n', ('1.0', '1.4'))
+        """
+        self._do("insert", index, chars, *args)
+
+    def delete(self, index1: object, index2: object = None) -> None:
+        """Takes out the characters from one index to before another, or the one at it.  The last newline stays.
+
+        >>> text = Text()
+        >>> text.insert("1.0", "one two")
+        >>> text.delete("1.0", "1.4")
+        >>> text.get("1.0", "1.end")
+        'two'
+        """
+        self._do("delete", index1, index2)
+
+    def replace(self, index1: object, index2: object, chars: object, *args: object) -> None:
+        """Puts characters, and tags as in `insert`, in the place of those from one index to before another.
+
+        An index before the first one is a TclError.
+
+        >>> text = Text()
+        >>> text.insert("1.0", "one two")
+        >>> text.replace("1.0", "1.3", "1")
+        >>> text.get("1.0", "1.end")
+        '1 two'
+        """
+        self._do("replace", index1, index2, chars, *args)
+
+    def get(self, index1: object, index2: object = None) -> str:
+        """The characters from one index to before another, or the one at it.
+
+        >>> text = Text()
+        >>> text.insert("1.0", "one")
+        >>> text.get("1.0"), text.get("1.1", END)
+        ('o', 'ne\\n')
+        """
+        return self._text("get", index1, index2)
+
+    def index(self, index: object) -> str:
+        """The place of an index, as line.character.
+
+        >>> text = Text()
+        >>> text.insert("1.0", "one")
+        >>> text.index("end - 1 chars"), text.index(INSERT)
+        ('1.3', '1.3')
+        """
+        return self._text("index", index)
+
+    def compare(self, index1: object, op: str, index2: object) -> bool:
+        """Whether two indices stand so: `op` is <, <=, ==, >=, > or !=.
+
+        >>> Text().compare("1.0", "<", END)
+        True
+        """
+        return self._text("compare", index1, op, index2) == "1"
+
+    def count(self, index1: object, index2: object, *args: str, return_ints: bool = False) -> Any:
+        """How many there are between two indices, fewer than 0 where the second stands first.
+
+        Of each option a number: `"chars"`, `"indices"` (the same here), `"lines"`, `"displaychars"` and
+        `"displayindices"`; `"update"` does nothing.  Lines and points of a display aren't known: a TclError.  As in
+        tkinter, one number is a tuple of it, and None where it is 0; with `return_ints` it is a number.
+
+        >>> text = Text()
+        >>> text.insert("1.0", "one\\ntwo")
+        >>> text.count("1.0", END), text.count("1.0", END, "chars", "lines"), text.count("1.0", "1.0")
+        ((8,), (8, 2), None)
+        """
+        counted = ["-" + _COUNTED.get(arg, arg) for arg in args if arg != "update"]
+        counts = tuple(map(int, self._tuple("count", *counted, index1, index2)))
+        if len(counts) != 1:
+            return counts
+        if return_ints:
+            return counts[0]
+        if counts == (0,):
+            return None
+        return counts if len(args) <= 1 else counts[0]
+
+    def search(self, pattern: object, index: object, stopindex: object = None, forwards: object = None,
+               backwards: object = None, exact: object = None, *, nocase: object = None,
+               count: Variable | None = None, strictlimits: object = None) -> str:
+        """The first place from an index on, round the end, at which a text stands, or "".
+
+        With `stopindex` it ends there.  `backwards` goes towards the beginning, `nocase` takes characters for the same
+        whose simple folds are, and `strictlimits` has the whole match before `stopindex`.  `count` is a variable of
+        tkinter's, or anything with `set`: it gets the match's length in characters where there is one.  Patterns are
+        texts: tkinter's `regexp` can't be had here, and there is no need of `elide`, as nothing is hidden.
+
+        >>> text = Text()
+        >>> text.insert("1.0", "one two one")
+        >>> text.search("one", "1.1"), text.search("ONE", "1.1", nocase=True), text.search("six", "1.0")
+        ('1.8', '1.8', '')
+        """
+        flags = _flags(forwards=forwards, backwards=backwards, exact=exact, nocase=nocase, strictlimits=strictlimits)
+        found = self._text("search", *flags, "--", pattern, index, stopindex or None)
+        if count is not None and found:
+            _set(count, len(word(pattern)))
+        return found
+
+    def search_all(self, pattern: object, index: object, stopindex: object = None, *, backwards: object = None,
+                   nocase: object = None, overlap: object = None, count: Variable | None = None,
+                   strictlimits: object = None) -> tuple[str, ...]:
+        """All places that `search` would find; with `overlap` also those that share characters with one before.
+
+        `count` gets a tuple of the lengths.
+
+        >>> text = Text()
+        >>> text.insert("1.0", "aaa")
+        >>> text.search_all("aa", "1.0"), text.search_all("aa", "1.0", overlap=True)
+        (('1.0',), ('1.0', '1.1'))
+        """
+        flags = _flags(backwards=backwards, nocase=nocase, overlap=overlap, strictlimits=strictlimits)
+        found = self._tuple("search", "-all", *flags, "--", pattern, index, stopindex or None)
+        if count is not None and found:
+            _set(count, (len(word(pattern)),) * len(found))
+        return found
+
+    def dump(self, index1: object, index2: object = None, command: Callable[[str, str, str], Any] | None = None,
+             **kw: object) -> list[tuple[str, str, str]] | None:
+        """A list of (kind, value, index) of what stands there, or a call of `command` with the three for each.
+
+        A kind is `"text"`, `"tagon"`, `"tagoff"` or `"mark"`.  With `text`, `tag` or `mark` set it gives these alone;
+        there are no images and no windows.
+
+        >>> text = Text()
+        >>> text.insert("1.0", "one", "a")
+        >>> text.dump("1.0", "1.end", text=True, tag=True)
+        [('tagon', 'a', '1.0'), ('text', 'one', '1.0')]
+        """
+        kinds = [name for name, is_set in kw.items() if is_set]
+        held = ["-" + kind for kind in kinds if kind not in _NOT_HELD]
+        # Where nothing but images or windows is asked for, the indices alone are looked at.
+        found = self._triples("dump", *held, index1, index2 or None)
+        if kinds and not held:
+            found = []
+        if command is None:
+            return found
+        for part in found:
+            command(*part)
+        return None
+
+    # ---- tags
+
+    def tag_add(self, tagName: object, index1: object, *args: object) -> None:
+        """Puts a tag on the characters from one index to before another, or on the one at it; further pairs may follow.
+
+        Too many tags are a TclError.
+
+        >>> text = Text()
+        >>> text.insert("1.0", "one two")
+        >>> text.tag_add("a", "1.0", "1.3", "1.6")
+        >>> text.tag_ranges("a")
+        ('1.0', '1.3', '1.6', '1.7')
+        """
+        self._do("tag", "add", tagName, index1, *args)
+
+    def tag_remove(self, tagName: object, index1: object, index2: object = None) -> None:
+        """Takes a tag off the characters from one index to before another, or off the one at it.
+
+        >>> text = Text()
+        >>> text.insert("1.0", "one two", "a")
+        >>> text.tag_remove("a", "1.0", "1.3")
+        >>> text.tag_ranges("a")
+        ('1.3', '1.7')
+        """
+        self._do("tag", "remove", tagName, index1, index2)
+
+    def tag_names(self, index: object = None) -> tuple[str, ...]:
+        """All tags, or those on the character at an index, from the lowest priority to the highest.
+
+        >>> Text().tag_names()
+        ('sel',)
+        """
+        return self._tuple("tag", "names", index)
+
+    def tag_ranges(self, tagName: object) -> tuple[str, ...]:
+        """Where each range of a tag begins, and the place behind it.
+
+        >>> text = Text()
+        >>> text.insert("1.0", "one", "a")
+        >>> text.tag_ranges("a")
+        ('1.0', '1.3')
+        """
+        return self._tuple("tag", "ranges", tagName)
+
+    def tag_nextrange(self, tagName: object, index1: object, index2: object = None) -> tuple[str, ...]:
+        """The first range of a tag that begins at an index or behind it, and before another; or ().
+
+        >>> text = Text()
+        >>> text.insert("1.0", "one", "a")
+        >>> text.tag_nextrange("a", "1.0"), text.tag_nextrange("a", "1.1")
+        (('1.0', '1.3'), ())
+        """
+        return self._tuple("tag", "nextrange", tagName, index1, index2)
+
+    def tag_prevrange(self, tagName: object, index1: object, index2: object = None) -> tuple[str, ...]:
+        """The last range of a tag that begins before an index, and not before another; or ().
+
+        >>> text = Text()
+        >>> text.insert("1.0", "one", "a")
+        >>> text.tag_prevrange("a", END), text.tag_prevrange("a", "1.0")
+        (('1.0', '1.3'), ())
+        """
+        return self._tuple("tag", "prevrange", tagName, index1, index2)
+
+    def tag_raise(self, tagName: object, aboveThis: object = None) -> None:
+        """Moves a tag to the highest priority, or right above another one.
+
+        >>> text = Text()
+        >>> text.insert("1.0", "one", "a")
+        >>> text.tag_raise("sel")
+        >>> text.tag_names()
+        ('a', 'sel')
+        """
+        self._do("tag", "raise", tagName, aboveThis)
+
+    def tag_lower(self, tagName: object, belowThis: object = None) -> None:
+        """Moves a tag to the lowest priority, or right below another one.
+
+        >>> text = Text()
+        >>> text.insert("1.0", "one", "a")
+        >>> text.tag_lower("a")
+        >>> text.tag_names()
+        ('a', 'sel')
+        """
+        self._do("tag", "lower", tagName, belowThis)
+
+    def tag_delete(self, *tagNames: object) -> None:
+        """Forgets tags, with their ranges, options and bindings; `sel` stays.
+
+        >>> text = Text()
+        >>> text.insert("1.0", "one", "a")
+        >>> text.tag_delete("a")
+        >>> text.tag_names()
+        ('sel',)
+        """
+        self._do("tag", "delete", *tagNames)
+        for name in map(word, tagNames):
+            self._tags.pop(name, None)
+            self._tag_bindings.pop(name, None)
+
+    def tag_configure(self, tagName: object, cnf: Any = None, **kw: Any) -> Any:
+        """Keeps options of drawing for a tag, which is made if it is new; peers share them but for those of `sel`.
+
+        Without options it gives all, and with the name of one that alone, as tkinter does.
+
+        >>> text = Text()
+        >>> text.tag_configure("a", foreground="red")
+        >>> text.tag_configure("a", "foreground")
+        ('foreground', '', '', '', 'red')
+        """
+        tag = word(tagName)
+        if isinstance(cnf, str):
+            return self._tag_option(tag, _option(cnf))
+        given = {name: word(value) for name, value in _merged(cnf, kw, {}).items()}
+        for name in given:
+            _check_tag_option(name)
+        if tag not in self.tag_names():
+            self._do("tag", "add", tag, "end", "end")
+        if not given:
+            return {name: self._tag_option(tag, name) for name in _options.OF_TAGS}
+        self._options_of_tag(tag).update(given)
+        return None
+
+    tag_config = tag_configure
+
+    def tag_cget(self, tagName: object, option: str) -> str:
+        """An option that was kept for a tag, as a text, or "".  A tag or an option that there isn't is a TclError.
+
+        >>> text = Text()
+        >>> text.tag_configure("a", foreground="red")
+        >>> text.tag_cget("a", "foreground"), text.tag_cget("a", "underline")
+        ('red', '')
+        """
+        tag, name = word(tagName), _option(option)
+        if tag not in self.tag_names():
+            raise refusal(f"tag \"{tag}\" isn't defined in text widget")
+        return self._tag_option(tag, name)[4]
+
+    def _options_of_tag(self, tag: str) -> dict[str, str]:
+        return (self._own_tags if tag == _SEL else self._tags).setdefault(tag, {})
+
+    def _tag_option(self, tag: str, name: str) -> tuple[str, str, str, str, str]:
+        _check_tag_option(name)
+        kept = (self._own_tags if tag == _SEL else self._tags).get(tag, {})
+        return (name, "", "", "", kept.get(name, ""))
+
+    def tag_bind(self, tagName: object, sequence: str | None = None, func: Handler | None = None,
+                 add: object = None) -> Any:
+        """Keeps a handler for events on a tag, which never come here, and gives its name.
+
+        >>> text = Text()
+        >>> name = text.tag_bind("a", "<1>", print)
+        >>> text.tag_bind("a")
+        ('<1>',)
+        """
+        return self._tag_bindings.setdefault(word(tagName), Bindings()).bind(sequence, func, add)
+
+    def tag_unbind(self, tagName: object, sequence: str, funcid: str | None = None) -> None:
+        """Forgets what `tag_bind` keeps for a sequence, or one handler by its name.
+
+        >>> text = Text()
+        >>> name = text.tag_bind("a", "<1>", print)
+        >>> text.tag_unbind("a", "<1>", name)
+        >>> text.tag_bind("a")
+        ()
+        """
+        self._tag_bindings.setdefault(word(tagName), Bindings()).unbind(sequence, funcid)
+
+    # ---- marks
+
+    def mark_set(self, markName: object, index: object) -> None:
+        """Sets a mark before the character at an index, and makes it if it is new.  Too many are a TclError.
+
+        >>> text = Text()
+        >>> text.insert("1.0", "one")
+        >>> text.mark_set("m", "1.1")
+        >>> text.index("m")
+        '1.1'
+        """
+        self._do("mark", "set", markName, index)
+
+    def mark_unset(self, *markNames: object) -> None:
+        """Takes marks away; `insert` and `current` stay.
+
+        >>> text = Text()
+        >>> text.mark_set("m", "1.0")
+        >>> text.mark_unset("m")
+        >>> text.mark_names()
+        ('insert', 'current')
+        """
+        self._do("mark", "unset", *markNames)
+
+    def mark_names(self) -> tuple[str, ...]:
+        """All marks.
+
+        >>> Text().mark_names()
+        ('insert', 'current')
+        """
+        return self._tuple("mark", "names")
+
+    def mark_next(self, index: object) -> str | None:
+        """The next mark at an index or behind it, or None; of a mark's name, the one behind it.
+
+        >>> Text().mark_next("1.0")
+        'insert'
+        """
+        return self._text("mark", "next", index) or None
+
+    def mark_previous(self, index: object) -> str | None:
+        """The last mark before an index, or None; of a mark's name, the one before it.
+
+        >>> Text().mark_previous("current")
+        'insert'
+        """
+        return self._text("mark", "previous", index) or None
+
+    def mark_gravity(self, markName: object, direction: str | None = None) -> str:
+        """To which neighbour a mark holds, `"left"` or `"right"`; or sets that, and gives "".
+
+        >>> text = Text()
+        >>> text.mark_gravity(INSERT), text.mark_gravity(INSERT, "left"), text.mark_gravity(INSERT)
+        ('right', '', 'left')
+        """
+        return self._text("mark", "gravity", markName, direction)
+
+    # ---- the history
+
+    def edit(self, *args: object) -> Any:
+        """What the methods below do, by a first word: `modified`, `redo`, `reset`, `separator` or `undo`.
+
+        >>> Text().edit("modified")
+        0
+        """
+        return number_or_text(self._text("edit", *args))
+
+    def edit_undo(self) -> str:
+        """Takes back the last group of edits, where `undo` is set.  Where there is none it is a TclError.
+
+        >>> text = Text(undo=True)
+        >>> text.insert("1.0", "one")
+        >>> text.edit_undo()
+        ''
+        >>> text.get("1.0", END)
+        '\\n'
+        """
+        return self._text("edit", "undo")
+
+    def edit_redo(self) -> str:
+        """Makes again what was undone last.  Where there is nothing it is a TclError.
+
+        >>> text = Text(undo=True)
+        >>> text.insert("1.0", "one")
+        >>> text.edit_undo(), text.edit_redo(), text.get("1.0", END)
+        ('', '', 'one\\n')
+        """
+        return self._text("edit", "redo")
+
+    def edit_separator(self) -> str:
+        """Ends the last group of edits.
+
+        >>> text = Text(undo=True)
+        >>> text.insert("1.0", "one")
+        >>> text.edit_separator()
+        ''
+        >>> text.insert(END, " two")
+        >>> text.edit_undo(), text.get("1.0", END)
+        ('', 'one\\n')
+        """
+        return self._text("edit", "separator")
+
+    def edit_reset(self) -> str:
+        """Forgets all edits that could be undone or made again.
+
+        >>> Text().edit_reset()
+        ''
+        """
+        return self._text("edit", "reset")
+
+    def edit_modified(self, arg: object = None) -> Any:
+        """Whether the text was edited, as 1 or 0; or says so, and gives "".
+
+        >>> text = Text()
+        >>> text.insert("1.0", "one")
+        >>> text.edit_modified(), text.edit_modified(False), text.edit_modified()
+        (1, '', 0)
+        """
+        return self.edit("modified", arg)
+
+    # ---- peers and options
+
+    def peer_create(self, newPathName: object, cnf: Any = None, **kw: Any) -> Text:
+        """Makes a further widget of the same text, and gives it, where tkinter gives None.
+
+        Too many widgets, and a name that is there, are a TclError.
+
+        >>> text = Text()
+        >>> peer = text.peer_create(".p", startline=1)
+        >>> text.insert("1.0", "one")
+        >>> str(peer), peer.get("1.0", END)
+        ('.p', 'one\\n')
+        """
+        core, drawn = _parted(_merged(cnf, kw))
+        self._do("peer", "create", newPathName, *core)
+        peer = Text.__new__(Text)
+        peer._owns_world = False
+        peer._begin(self.world, word(newPathName), self._tags)
+        peer._drawn = drawn
+        return peer
+
+    def peer_names(self) -> tuple[str, ...]:
+        """The other widgets of the text.
+
+        >>> text = Text()
+        >>> peer = text.peer_create(".p")
+        >>> text.peer_names(), peer.peer_names()
+        (('.p',), ('.!text',))
+        """
+        return self._tuple("peer", "names")
+
+    def cget(self, key: str) -> Any:
+        """The value of an option: a number, where it is one.  An option that there isn't is a TclError.
+
+        >>> text = Text(undo=True, width=20)
+        >>> text.cget("undo"), text["width"], text["wrap"]
+        (1, 20, 'char')
+        """
+        name = key[:-1] if key[-1:] == "_" else key
+        full = _options.SYNONYMS.get(name, name)
+        if full in _options.DRAWN:
+            # A widget that was taken away has no options either.
+            self._do("edit", "modified")
+            return self._drawn.get(full, _kept(full, _options.DRAWN[full].first))
+        return number_or_text(self._text("cget", "-" + name))
+
+    __getitem__ = cget
+
+    def configure(self, cnf: Any = None, **kw: Any) -> Any:
+        """Sets options, as in `Text`.  All of the core's are set, or else none at all, and it is a TclError.
+
+        Without options it gives all as tuples of five, and with the name of one that alone, as tkinter does.
+
+        >>> text = Text()
+        >>> text.configure(undo=True, width=20)
+        >>> text.configure("undo")
+        ('undo', 'undo', 'Undo', '0', 1)
+        """
+        if isinstance(cnf, str):
+            return self._described(_option(cnf))
+        given = _merged(cnf, kw)
+        if not given and cnf is None and not kw:
+            return {name: self._described(name, True) for name in _options.NAMES}
+        core, drawn = _parted(given)
+        if core:
+            self._do("configure", *core)
+        self._drawn.update(drawn)
+        return None
+
+    config = configure
+
+    def __setitem__(self, key: str, value: Any) -> None:
+        self.configure({key: value})
+
+    def keys(self) -> list[str]:
+        """The names of all options.
+
+        >>> Text().keys()[:3]
+        ['autoseparators', 'background', 'bd']
+        """
+        return list(_options.NAMES)
+
+    def _described(self, name: str, is_short: bool = False) -> tuple[Any, ...]:
+        """An option as tkinter describes it; a synonym by what it stands for where it is to be short."""
+        full = _options.SYNONYMS.get(name, name)
+        if is_short and full != name:
+            return (name, "-" + full)
+        value = self.cget(full)
+        return (full, *(_options.DRAWN[full] if full in _options.DRAWN else _options.CORE[full]), value)
+
+    def destroy(self) -> None:
+        """Takes the widget away; its text goes with the last of its peers.
+
+        >>> text = Text()
+        >>> text.destroy()
+        >>> text.index(END)
+        Traceback (most recent call last):
+        _tkinter.TclError: invalid command name ".!text"
+        """
+        self.world._watch_text(self, False)
+        self.world._texts.pop(self._name, None)
+        self.world.call("destroy", self._name)
+
+    # ---- events
+
+    def bind(self, sequence: str | None = None, func: Handler | None = None, add: object = None) -> Any:
+        """Has a function called with an `Event`, and gives the name by which `unbind` knows it.
+
+        `<<Modified>>` comes after a command by which `edit_modified` changes, and `<<Selection>>` after one by which
+        the ranges of `sel` do; any other sequence comes by `event_generate` alone.  With `add` earlier functions stay.
+
+        >>> text = Text()
+        >>> name = text.bind("<<Modified>>", print)
+        >>> text.insert("1.0", "one")
+        <<<Modified>> of .!text>
+        """
+        name = self._bindings.bind(sequence, func, add)
+        if func is not None and sequence in (MODIFIED, SELECTION):
+            self._known = self._state() or self._known
+            self.world._watch_text(self, True)
+        return name
+
+    def unbind(self, sequence: str, funcid: str | None = None) -> None:
+        """Forgets what is bound to a sequence, or one function by its name.
+
+        >>> text = Text()
+        >>> name = text.bind("<<Modified>>", print)
+        >>> text.unbind("<<Modified>>")
+        >>> text.insert("1.0", "one")
+        """
+        self._bindings.unbind(sequence, funcid)
+        self.world._watch_text(self, self._bindings.has(MODIFIED, SELECTION))
+
+    def event_generate(self, sequence: str, **kw: Any) -> None:
+        """Calls what is bound to a sequence, as if the event had come.
+
+        >>> text = Text()
+        >>> name = text.bind("<<Paste>>", print)
+        >>> text.event_generate("<<Paste>>")
+        <<<Paste>> of .!text>
+        """
+        self.world._events.append(Event(self, sequence))
+        self.world._send()
+
+    def event_add(self, virtual: str, *sequences: str) -> None:
+        """Keeps sequences for a virtual event; no keys and no clicks come here.
+
+        >>> text = Text()
+        >>> text.event_add("<<Find>>", "<Control-f>")
+        >>> text.event_info("<<Find>>")
+        ('<Control-f>',)
+        """
+        kept = self._virtual.setdefault(virtual, {})
+        kept.update(dict.fromkeys(sequences))
+
+    def event_delete(self, virtual: str, *sequences: str) -> None:
+        """Forgets sequences of a virtual event, or all of them.
+
+        >>> text = Text()
+        >>> text.event_add("<<Find>>", "<Control-f>")
+        >>> text.event_delete("<<Find>>")
+        >>> text.event_info()
+        ()
+        """
+        kept = self._virtual.get(virtual, {})
+        for sequence in sequences or tuple(kept):
+            kept.pop(sequence, None)
+        if not kept:
+            self._virtual.pop(virtual, None)
+
+    def event_info(self, virtual: str | None = None) -> tuple[str, ...]:
+        """The virtual events that have sequences, or the sequences of one.
+
+        >>> text = Text()
+        >>> text.event_add("<<Find>>", "<Control-f>")
+        >>> text.event_info()
+        ('<<Find>>',)
+        """
+        if virtual is None:
+            return tuple(self._virtual)
+        return tuple(self._virtual.get(virtual, {}))
+
+    def _state(self) -> tuple[str, tuple[str, ...]] | None:
+        """Whether the text was edited, and what is selected; None where the widget is gone."""
+        try:
+            return self._run(_AS_TEXT, "edit", "modified"), self._run(_AS_TUPLE, "tag", "ranges", _SEL)
+        except (TclError, ValueError):
+            return None
+
+    def _changes(self) -> list[Event]:
+        """The events of what has changed since this was asked last."""
+        state, known = self._state(), self._known
+        if state is None or state == known:
+            return []
+        self._known = state
+        return [Event(self, name) for name, was, now in zip((MODIFIED, SELECTION), known, state) if was != now]
+
+    # ---- what a widget answers that isn't shown
+
+    def bbox(self, index: object) -> None:
+        """None, since no character is shown.
+
+        >>> Text().bbox("1.0")
+        """
+        self._do("index", index)
+
+    def dlineinfo(self, index: object) -> None:
+        """None, since no line is shown.
+
+        >>> Text().dlineinfo("1.0")
+        """
+        self._do("index", index)
+
+    def see(self, index: object) -> None:
+        """Does nothing for an index that there is.
+
+        >>> Text().see(END)
+        """
+        self._do("index", index)
+
+    def debug(self, boolean: object = None) -> bool | None:
+        """Keeps whether a display would check itself, or gives it.
+
+        >>> Text().debug()
+        False
+        """
+        if boolean is None:
+            return self._is_debugged
+        self._is_debugged = _boolean(boolean)
+        return None
+
+    def scan_mark(self, x: int, y: int) -> None:
+        """Does nothing.
+
+        >>> Text().scan_mark(1, 1)
+        """
+
+    def scan_dragto(self, x: int, y: int) -> None:
+        """Does nothing.
+
+        >>> Text().scan_dragto(1, 1)
+        """
+
+    def xview(self, *args: object) -> tuple[float, float] | None:
+        """All of the text as it were, from 0.0 to 1.0; with words nothing is done.
+
+        >>> Text().xview(), Text().xview("moveto", 0.5)
+        ((0.0, 1.0), None)
+        """
+        return None if args else (0.0, 1.0)
+
+    yview = xview
+
+    def xview_moveto(self, fraction: float) -> None:
+        """Does nothing.
+
+        >>> Text().xview_moveto(0.5)
+        """
+
+    yview_moveto = xview_moveto
+
+    def xview_scroll(self, number: int, what: str) -> None:
+        """Does nothing.
+
+        >>> Text().xview_scroll(1, "units")
+        """
+
+    yview_scroll = xview_scroll
+
+    def yview_pickplace(self, *what: object) -> None:
+        """Does nothing.
+
+        >>> Text().yview_pickplace("1.0")
+        """
+
+    def update(self) -> None:
+        """Does nothing: there is nothing to be drawn, and events come by themselves.
+
+        >>> Text().update()
+        """
+
+    update_idletasks = update
+
+    def bell(self, displayof: object = 0) -> None:
+        """Does nothing.
+
+        >>> Text().bell()
+        """
+
+    def focus_set(self) -> None:
+        """Does nothing.
+
+        >>> Text().focus_set()
+        """
+
+    focus = focus_set
+
+    # ---- images and windows, which can't be had
+
+    def image_names(self) -> tuple[str, ...]:
+        """(), since there are none.
+
+        >>> Text().image_names()
+        ()
+        """
+        return ()
+
+    def image_create(self, index: object, cnf: Any = None, **kw: Any) -> Any:
+        """A TclError: images can't be embedded.
+
+        >>> Text().image_create("1.0")
+        Traceback (most recent call last):
+        _tkinter.TclError: images can't be embedded: the widget isn't drawn
+        """
+        raise refusal(_NO_IMAGES)
+
+    def image_cget(self, index: object, option: str) -> Any:
+        """A TclError, as `image_create`."""
+        raise refusal(_NO_IMAGES)
+
+    def image_configure(self, index: object, cnf: Any = None, **kw: Any) -> Any:
+        """A TclError, as `image_create`."""
+        raise refusal(_NO_IMAGES)
+
+    def window_names(self) -> tuple[str, ...]:
+        """(), since there are none.
+
+        >>> Text().window_names()
+        ()
+        """
+        return ()
+
+    def window_create(self, index: object, cnf: Any = None, **kw: Any) -> Any:
+        """A TclError: windows can't be embedded.
+
+        >>> Text().window_create("1.0")
+        Traceback (most recent call last):
+        _tkinter.TclError: windows can't be embedded: the widget isn't drawn
+        """
+        raise refusal(_NO_WINDOWS)
+
+    def window_cget(self, index: object, option: str) -> Any:
+        """A TclError, as `window_create`."""
+        raise refusal(_NO_WINDOWS)
+
+    def window_configure(self, index: object, cnf: Any = None, **kw: Any) -> Any:
+        """A TclError, as `window_create`."""
+        raise refusal(_NO_WINDOWS)
+
+    window_config = window_configure
+
+
+def _flags(**flags: object) -> list[str]:
+    return ["-" + name for name, is_set in flags.items() if is_set]
+
+
+def _set(variable: Any, value: object) -> None:
+    if not hasattr(variable, "set"):
+        raise TypeError("count is a variable, with a method `set`")
+    variable.set(value)
+
+
+def _boolean(value: object) -> bool:
+    given = word(value).lower()
+    if given not in _TRUE | _FALSE:
+        raise refusal(f'expected boolean value but got "{word(value)}"')
+    return given in _TRUE
+
+
+def _check_tag_option(name: str) -> None:
+    if name not in _options.OF_TAGS:
+        raise refusal(f'unknown option "-{name}"')

@@ -1,0 +1,211 @@
+"""Worlds: texts with the widgets on them, and a script that may be fed."""
+
+from __future__ import annotations
+
+import collections
+import operator
+import struct
+import weakref
+from typing import TYPE_CHECKING, Any, Iterable, Iterator, Sequence
+
+from . import _core
+from ._events import Event
+
+if TYPE_CHECKING:
+    from ._text import Text
+
+# The status of a script that can't be read on.
+_SCRIPT_FAULT = 2
+# How many numbers the library's types for the four limits have.
+_LIMIT_NUMBERS = (2 ** (8 * struct.calcsize("N")), 2**16, 2**16, 2**16)
+
+
+def _limits_of(limits: Iterable[int]) -> tuple[int, ...]:
+    """The four limits, each a number that the library can be given as it is."""
+    numbers = tuple(map(operator.index, limits))
+    if len(numbers) != len(_LIMIT_NUMBERS):
+        raise ValueError("the limits are four: characters, tags, marks and widgets")
+    if not all(0 <= number < count for number, count in zip(numbers, _LIMIT_NUMBERS)):
+        raise ValueError("no characters, or a limit above its greatest")
+    return numbers
+
+
+def _bytes_of(piece: Any) -> bytes:
+    """The bytes of a buffer, as many as it has, whatever a class that stands on `bytes` says of its length."""
+    return piece if type(piece) is bytes else bytes(memoryview(piece))
+
+
+class World(_core.World):
+    """Texts with the widgets on them, and a script that may be fed.
+
+    `limits` are the most characters of a text, its last newline included (1 to 134217728), tags of a text besides
+    `sel` (960), shared marks of a text (4096) and widgets (64); the greatest where they are left out.  A limit out of
+    range is a ValueError, and want of memory a MemoryError.
+
+    Threads may share a world: a call is carried out as a whole, and no other runs meanwhile.  It can't be copied.
+
+    >>> with World() as world:
+    ...     world.call("text", ".t"), world.call(".t", "index", "end")
+    ('.t', '2.0')
+    """
+
+    def __init__(self, limits: Iterable[int] | None = None) -> None:
+        numbers = () if limits is None else _limits_of(limits)
+        self._make(*numbers)
+        self._made: dict[tuple[str, str], int] = {}
+        self._texts: weakref.WeakValueDictionary[str, Text] = weakref.WeakValueDictionary()
+        self._watched: list[Text] = []
+        self._events: collections.deque[Event] = collections.deque()
+        self._is_sending = False
+
+    def __enter__(self) -> World:
+        return self
+
+    def __exit__(self, *_: object) -> None:
+        self.close()
+
+    def __reduce_ex__(self, _protocol: object) -> Any:
+        """What copies and pickles a world, which has one handle."""
+        raise TypeError("a world can't be copied")
+
+    def close(self) -> None:
+        """Drops the world with all that is in it; a second time does nothing.
+
+        >>> world = World()
+        >>> world.close()
+        >>> world.call("text", ".t")
+        Traceback (most recent call last):
+        ValueError: the world was closed
+        """
+        self._drop()
+
+    def call(self, *words: object) -> str:
+        """Carries out a command of these words, and gives its answer.
+
+        A word of bytes is UTF-8, and any other is its `str`.  A refused command is a TclError, want of memory a
+        MemoryError; both leave everything as it was.
+
+        >>> world = World()
+        >>> world.call("text", ".t")
+        '.t'
+        >>> world.call(".t", "index")
+        Traceback (most recent call last):
+        _tkinter.TclError: wrong # args: should be ".t index index"
+        """
+        answer = self._run(words)
+        if self._watched:
+            self._notice()
+        return answer
+
+    def give(self, words: Sequence[Any]) -> int:
+        """Carries out a command whose words are bytes, and gives the code of the call: of include/tktext.h.
+
+        >>> world = World()
+        >>> world.give([b"text", b".t"]), world.said()
+        (0, b'.t\\n')
+        """
+        code = self._give(list(map(_bytes_of, words)))
+        if self._watched:
+            self._notice()
+        return code
+
+    def said(self) -> bytes:
+        """The line that was said last, as the program prints it: UTF-8, with its newline.
+
+        >>> world = World()
+        >>> world.give([b"foo"]), world.said()
+        (1, b'error: invalid command name "foo"\\n')
+        """
+        return self._said()
+
+    def feed(self, piece: Any) -> None:
+        """Takes the next bytes of the script, as they come: UTF-8, cut anywhere.  Nothing is carried out yet.
+
+        A piece is `bytes` or another buffer.  Behind `finish` it is a ValueError.
+
+        >>> world = World()
+        >>> world.feed(b"text .t\\n.t ins")
+        >>> list(world.lines())
+        [b'.t\\n']
+        """
+        self._feed(_bytes_of(piece))
+
+    def finish(self) -> None:
+        """Ends the script, and so its last command, which needs no newline then.
+
+        >>> world = World()
+        >>> world.feed(b"text .t")
+        >>> world.finish()
+        >>> list(world.lines())
+        [b'.t\\n']
+        """
+        self._finish()
+
+    def lines(self) -> Iterator[bytes]:
+        """Carries out the commands of the script that are at hand, and gives the line of each as the program prints it.
+
+        Each is carried out when its line is asked for.  A command is at hand once it is whole however the script goes
+        on; the lines end where none is, and go on with a further call of `lines` after `feed` or `finish`.  A fault of
+        the script itself gives its line, and then no more.
+
+        >>> world = World()
+        >>> world.feed(b"text .t; .t index end; .t index foo\\n")
+        >>> for line in world.lines():
+        ...     print(line)
+        b'.t\\n'
+        b'2.0\\n'
+        b'error: bad text index "foo"\\n'
+        """
+        for _, line in self._turns():
+            yield line
+
+    def _turns(self) -> Iterator[tuple[int, bytes]]:
+        """What `lines` gives, each behind its code of include/tktext.h."""
+        while self._status() != _SCRIPT_FAULT and (turn := self._next()) is not None:
+            if self._watched:
+                self._notice()
+            yield turn
+
+    def status(self) -> int:
+        """The exit status of the script so far: 2 after a fault of the script, 1 after a refused command, else 0.
+
+        >>> world = World()
+        >>> world.status()
+        0
+        """
+        return self._status()
+
+    # ---- widgets and what is bound to them
+
+    def _name_child(self, parent: str, kind: str) -> str:
+        """A new name, as tkinter makes it: .!text, .!text2."""
+        number = self._made[parent, kind] = self._made.get((parent, kind), 0) + 1
+        return f"{parent.rstrip('.')}.!{kind}{number if number > 1 else ''}"
+
+    def _watch_text(self, text: Text, is_watched: bool) -> None:
+        """Looks after each command whether there is something to tell of a widget, or no longer."""
+        self._watched = [other for other in self._watched if other is not text] + [text] * is_watched
+        self._watch(bool(self._watched))
+
+    def _call_watched(self, widget: Text, values: tuple[object, ...], form: int) -> Any:
+        """Carries out a widget's command, and sends the events that come of it."""
+        answer = widget._run(form, *values)
+        self._notice()
+        return answer
+
+    def _notice(self) -> None:
+        """Sends the events of the last command, and those that come of their handlers, one after the other."""
+        for text in self._watched:
+            self._events.extend(text._changes())
+        self._send()
+
+    def _send(self) -> None:
+        if self._is_sending:
+            return
+        self._is_sending = True
+        try:
+            while self._events:
+                event = self._events.popleft()
+                event.widget._bindings.send(event)
+        finally:
+            self._is_sending = False

@@ -1,0 +1,76 @@
+#!/usr/bin/env python3
+"""Builds the Python package below a folder, to be used by PYTHONPATH: what `make python` calls.
+
+    python3 tools/build_python.py [--try]
+
+Puts the package tktext into out/python, over out/libtktext.a, or into out/try/python with `--try`, over the library of
+`make try-lib`.  The extension goes by the stable ABI of Python 3.9, so it serves each later one too.  `pip install .`
+does the same by setup.py, for users.
+"""
+
+import argparse
+import os
+import shutil
+import subprocess
+import sys
+import sysconfig
+
+TOP = os.path.dirname(os.path.dirname(os.path.abspath(__file__)))
+SOURCE = os.path.join(TOP, "python", "tktext")
+EXTENSION = "_core.abi3.so"
+WANTED = "a C compiler and Python's headers (Debian: apt-get install gcc python3-dev)"
+
+
+def can_build():
+    """Whether an extension can be compiled for this Python."""
+    return shutil.which("cc") is not None and os.path.exists(os.path.join(sysconfig.get_path("include"), "Python.h"))
+
+
+def files():
+    """The files of the package that are no extension."""
+    return sorted(name for name in os.listdir(SOURCE) if name.endswith((".py", ".pyi")) or name == "py.typed")
+
+
+def compile_extension(made, archive, *flags):
+    """Compiles the extension over an archive of the library."""
+    includes = [f"-I{os.path.join(TOP, 'include')}", f"-I{sysconfig.get_path('include')}"]
+    words = ["cc", "-Wall", "-Wextra", "-O2", "-fPIC", "-shared", *includes, *flags]
+    # Of the library's names none is seen from outside.
+    words += [os.path.join(SOURCE, "_core.c"), archive, "-Wl,--exclude-libs,ALL", "-o", made]
+    subprocess.run(words, check=True)
+
+
+def build(folder, archive, *flags):
+    """Makes the package in a folder."""
+    package = os.path.join(folder, "tktext")
+    shutil.rmtree(package, ignore_errors=True)
+    os.makedirs(package)
+    for name in files():
+        shutil.copyfile(os.path.join(SOURCE, name), os.path.join(package, name))
+    compile_extension(os.path.join(package, EXTENSION), archive, *flags)
+
+
+def folder_of(out):
+    """Where the package stands that goes with a library below the repository's top."""
+    return os.path.join(TOP, out, "python")
+
+
+def build_in(out):
+    """Makes the package beside a library below the repository's top, and gives where it stands."""
+    build(folder_of(out), os.path.join(TOP, out, "libtktext.a"))
+    return folder_of(out)
+
+
+def main():
+    parser = argparse.ArgumentParser(description="builds the Python package below a folder")
+    parser.add_argument("--try", action="store_true", dest="is_tried")
+    options = parser.parse_args()
+    if not can_build():
+        print(f"the Python package isn't built: it wants {WANTED}", file=sys.stderr)
+        return 1
+    print(build_in(os.path.join("out", "try") if options.is_tried else "out"))
+    return 0
+
+
+if __name__ == "__main__":
+    sys.exit(main())
