@@ -439,8 +439,8 @@ def measure_asked(program, shim, lines, folder):
     script = "text .t\n" + "".join(f".t replace 1.0 end {{{text * REPLACED_LINES}}}\n" for text in texts)
     most, held = (size / REPLACED_LINES for size in asked_sizes(program, shim, script, folder))
     goal = 2 * (held + len(line))
-    emit(lines, f"A replace of all of {REPLACED_LINES:,} lines asks for {most:.0f} bytes a line at most "
-         f"(goal: twice what is held and the script's word, {goal:.0f}, {'met' if most <= goal else 'MISSED'})")
+    emit(lines, f"A replace of all of {REPLACED_LINES:,} lines asks for {most:.0f} bytes a line at most")
+    emit(lines, f"(goal: twice what is held and the script's word, {goal:.0f}, {'met' if most <= goal else 'MISSED'})")
 
 
 # What a script is made of whose size is measured: its name, its first command, the one that follows, and its lengths in bytes.
