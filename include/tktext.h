@@ -88,6 +88,13 @@ size_t tktext_said(tktext *handle, uint8_t *room, size_t size);
    Where that is refused it gives SIZE_MAX, and both are as they were.  The caller frees `*line` at last. */
 size_t tktext_said_line(tktext *handle, char **line, size_t *room);
 
+/* Whether `edit undo` would find something to undo in the text that a widget shows, by the widget's name in UTF-8, as Tk's
+   `edit canundo` tells: 1 or 0, and -1 where no widget has the name.  Nothing changes, what was said last neither. */
+int32_t tktext_can_undo(tktext *handle, const uint8_t *widget, size_t size);
+
+/* The same of `edit redo`. */
+int32_t tktext_can_redo(tktext *handle, const uint8_t *widget, size_t size);
+
 /* Takes the next bytes of the world's script, of any number, as they come.  Nothing is carried out yet.
    TKTEXT_ANSWER, TKTEXT_NO_MEMORY, TKTEXT_FINISHED or TKTEXT_WRONG_HANDLE. */
 int32_t tktext_feed(tktext *handle, const uint8_t *bytes, size_t size);

@@ -126,6 +126,7 @@ static void check_empty(tktext *world)
     check(tktext_next(world) == TKTEXT_WRONG_HANDLE, "a turn of an empty handle");
     check(tktext_said(world, room, 4) == 0 && memcmp(room, "abcd", 4) == 0, "what an empty handle says");
     check(tktext_status(world) == 255, "the status of an empty handle");
+    check(tktext_can_undo(world, room, 4) == -1 && tktext_can_redo(world, room, 4) == -1, "undo in an empty handle");
     tktext_finish(world);
     tktext_drop(world);
     check(!world->full, "an empty handle stays empty");
@@ -192,6 +193,35 @@ static int said_is(tktext *world, char **line, size_t *room, const char *wanted)
 {
     size_t length = tktext_said_line(world, line, room);
     return length == strlen(wanted) && *room > length && strcmp(*line, wanted) == 0;
+}
+
+static bool can(tktext *world, const char *widget, int32_t undo, int32_t redo)
+{
+    const uint8_t *name = (const uint8_t *)widget;
+    return tktext_can_undo(world, name, strlen(widget)) == undo && tktext_can_redo(world, name, strlen(widget)) == redo;
+}
+
+/* Whether there is something to undo and to redo, by a widget and by its peer. */
+static void check_undo(void)
+{
+    tktext world = TKTEXT_EMPTY;
+    char *line = NULL;
+    size_t room = 0;
+    tktext_new_greatest(&world);
+    tktext_call_words(&world, WORDS("text", ".t", "-undo", "1"));
+    tktext_call_words(&world, WORDS(".t", "peer", "create", ".p"));
+    check(can(&world, ".t", 0, 0), "nothing to undo at first");
+    tktext_call_words(&world, WORDS(".t", "insert", "1.0", "one"));
+    check(can(&world, ".t", 1, 0) && can(&world, ".p", 1, 0), "an edit to undo");
+    tktext_call_words(&world, WORDS(".t", "edit", "undo"));
+    check(can(&world, ".t", 0, 1) && can(&world, ".p", 0, 1), "an edit to make again");
+    tktext_call_words(&world, WORDS(".t", "configure", "-undo", "0"));
+    check(can(&world, ".t", 0, 0), "no edit is kept");
+    tktext_call_words(&world, WORDS(".t", "index", "nowhere"));
+    check(can(&world, ".u", -1, -1) && can(&world, "", -1, -1) && can(&world, ".t\xff", -1, -1), "no such widget");
+    check(said_is(&world, &line, &room, "error: bad text index \"nowhere\"\n"), "what was said stays");
+    free(line);
+    tktext_drop(&world);
 }
 
 static void check_comfort(void)
@@ -298,6 +328,7 @@ static int try_uses(void)
     check(tktext_new_greatest(&world) == TKTEXT_ANSWER, "a world");
     check_words(&world);
     check_script(&world);
+    check_undo();
     tktext_drop(&world);
     check_empty(&world);
     printf("%d passed, %d failed\n", passed, failed);

@@ -34,6 +34,8 @@ fn main(rt: HostRuntime) {
     let _ = tktext_new_greatest(alloc, &mut handle);
     let _ = tktext_call(alloc, &mut handle, b"text.t", &lengths);
     let _ = tktext_said(alloc, &mut handle, &mut room);
+    let _ = tktext_can_undo(alloc, &mut handle, b".t");
+    let _ = tktext_can_redo(alloc, &mut handle, b".t");
     let _ = tktext_feed(alloc, &mut handle, b"text .u");
     tktext_finish(alloc, &mut handle);
     let _ = tktext_next(alloc, &mut handle);

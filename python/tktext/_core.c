@@ -628,6 +628,26 @@ static PyObject *widget_do(Widget *widget, PyObject *values)
     return run_widget(widget, values, AS_NOTHING);
 }
 
+/* Whether `edit undo`, or `edit redo`, would find something in the widget's text, as 1 or 0. */
+static PyObject *widget_can(Widget *widget, PyObject *is_redo)
+{
+    char *name;
+    Py_ssize_t size;
+    int32_t told = -1;
+    int redo = PyObject_IsTrue(is_redo);
+    if (redo < 0)
+        return NULL;
+    if (widget->world != NULL && PyBytes_AsStringAndSize(widget->name, &name, &size) == 0)
+        told = (redo ? tktext_can_redo : tktext_can_undo)(&widget->world->handle, (const uint8_t *)name, size);
+    if (told >= 0)
+        return PyLong_FromLong(told);
+    /* A command that changes nothing says what is wrong with the widget. */
+    PyObject *words = Py_BuildValue("(ss)", "edit", "modified");
+    PyObject *answer = words == NULL ? NULL : run_widget(widget, words, AS_TEXT);
+    Py_XDECREF(words);
+    return answer;
+}
+
 static int widget_traverse(Widget *widget, visitproc visit, void *arg)
 {
     Py_VISIT(Py_TYPE(widget));
@@ -658,6 +678,7 @@ static PyMethodDef widget_methods[] = {
     {"_tuple", (PyCFunction)widget_tuple, METH_VARARGS, NULL},
     {"_triples", (PyCFunction)widget_triples, METH_VARARGS, NULL},
     {"_do", (PyCFunction)widget_do, METH_VARARGS, NULL},
+    {"_can", (PyCFunction)widget_can, METH_O, NULL},
     {NULL, NULL, 0, NULL},
 };
 

@@ -547,9 +547,15 @@ class Text(_core.Widget):
     def edit(self, *args: object) -> Any:
         """What the methods below do, by a first word: `modified`, `redo`, `reset`, `separator` or `undo`.
 
-        >>> Text().edit("modified")
-        0
+        And whether there is something to undo or to redo, as 1 or 0: `canundo`, `canredo`.
+
+        >>> text = Text(undo=True)
+        >>> text.insert("1.0", "one")
+        >>> text.edit("modified"), text.edit("canundo"), text.edit("canredo")
+        (1, 1, 0)
         """
+        if args in (("canundo",), ("canredo",)):
+            return self._can(args == ("canredo",))
         return number_or_text(self._text("edit", *args))
 
     def edit_undo(self) -> str:

@@ -1,5 +1,6 @@
 -- Commands on the history and on whether the text is modified: `edit ..`.
-use Rattle.std.specs.Prelude.{ℕ, ◌+◌, Bool, List, [], ◌∷◌, length, map, Option, None, Some, option_map, if◌then◌else◌}
+use Rattle.std.specs.Prelude.{ℕ, ◌+◌, Bool, ◌&&◌, List, [], ◌∷◌, length, map, Option, None, Some, is_some, option_map}
+use Rattle.std.specs.Prelude.{if◌then◌else◌}
 use Rattle.undo_stack.specs.History.{after_redo, after_undo, limit_of, next_redo, next_undo, no_history, separated}
 use Rattle.undo_stack.specs.Modified.{counted_down, counted_up, set_to, times}
 use Rattle.undo_stack.specs.declared.actions.Action.{Action}
@@ -91,3 +92,13 @@ edit_undo document widget =
 abbrev pub edit_redo : Document → Widget → Change
 edit_redo document widget =
     if document.undo then redo_found document widget (next_redo document.history) else answered document Empty
+
+-- ---- what `edit undo` and `edit redo` would find
+
+-- as `edit canundo`: actions are kept, and a group is left
+abbrev pub can_undo : Document → Bool
+can_undo document = document.undo && is_some (next_undo document.history)
+
+-- as `edit canredo`
+abbrev pub can_redo : Document → Bool
+can_redo document = document.undo && is_some (next_redo document.history)

@@ -1,5 +1,6 @@
 ghost use Rattle.std.specs.Prelude.{◌≡◌, ◌<◌, length, Ok};
 ghost use Rattle.documents.specs.Documents.{widget_at};
+ghost use Rattle.documents.specs.History.{can_redo, can_undo};
 ghost use Rattle.documents.specs.History.{edit_redo, edit_reset, edit_separator, edit_undo, modified_set};
 ghost use Rattle.documents.specs.Promise.{Does};
 ghost use Rattle.documents.specs.WellFormed.{IsWellFormedDocument};
@@ -23,6 +24,20 @@ impl<S: TextStore> Document<S> {
     {
         self.text.history.set_modified(modified);
         Answer::Empty
+    }
+
+    /// Whether actions are kept, and `edit undo` has one to undo (text(n), "edit canundo").
+    pub fn can_undo(&self) -> bool
+        ensures { result ≡ can_undo self.now }
+    {
+        self.settings.undo && self.text.history.last_undo().is_some()
+    }
+
+    /// Whether actions are kept, and `edit redo` has one to make once more (text(n), "edit canredo").
+    pub fn can_redo(&self) -> bool
+        ensures { result ≡ can_redo self.now }
+    {
+        self.settings.undo && self.text.history.last_redo().is_some()
     }
 
     /// `W edit separator` (text(n), "edit separator").

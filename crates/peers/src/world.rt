@@ -6,6 +6,7 @@ ghost use Rattle.command_effects.specs.Settings.{is_behind};
 ghost use Rattle.command_effects.specs.Words.{is_among};
 ghost use Rattle.documents.specs.Documents.{characters, widget_at};
 ghost use Rattle.documents.specs.Kept.{is_window_name};
+ghost use Rattle.peers.specs.History.{can_redo_by, can_undo_by};
 ghost use Rattle.peers.specs.Step.{Makes, changed, create_named, create, create_shaped, destroy, destroy_shaped};
 ghost use Rattle.peers.specs.Step.{on_home, on_widget, step, are_frugal};
 ghost use Rattle.peers.specs.Commands.{is_frugal, is_frugal_reading};
@@ -263,6 +264,24 @@ impl<S: TextStore> World<S> {
             Err(fault) => Err(Fault::of_shape(fault)),
             Ok(shape) => self.on_document(place, name, shape, words),
         }
+    }
+
+    /// Whether `edit undo` would find something to undo in the text that the widget of a name shows (text(n), "edit
+    /// canundo"); None where no widget has the name.
+    pub fn can_undo(&self, name: &str) -> Option<bool>
+        ensures { result ≡ can_undo_by self.now (chars name.now) }
+    {
+        let place = self.documents.windows.home(name)?;
+        Some(self.documents.list[place].can_undo())
+    }
+
+    /// Whether `edit redo` would find something to redo there (text(n), "edit canredo"); None where no widget has the
+    /// name.
+    pub fn can_redo(&self, name: &str) -> Option<bool>
+        ensures { result ≡ can_redo_by self.now (chars name.now) }
+    {
+        let place = self.documents.windows.home(name)?;
+        Some(self.documents.list[place].can_redo())
     }
 
     /// Carries out a command of one word or more. A fault leaves the world as it was.

@@ -1,5 +1,5 @@
 -- What a call from C makes of a session.
-use Rattle.std.specs.Prelude.{◌≡◌, ℕ, max, true, false, List, [], Option, Some, None, IsSome}
+use Rattle.std.specs.Prelude.{◌≡◌, ℕ, max, Bool, true, false, List, [], Option, Some, None, IsSome, chars, IsUtf8}
 use Rattle.std.specs.Prelude.{Result, Ok, Err, is_ok, is_err, encode_utf8_all}
 use Rattle.text_model.specs.LimitTable.{LimitTable, AreLimits}
 use Rattle.tcl_words.specs.Unread.{fed, TakesCommand, StopsAt, HasNoCommand}
@@ -7,7 +7,9 @@ use Rattle.tcl_words.specs.declared.fault.ScriptFault.{ScriptFault}
 use Rattle.command_effects.specs.declared.answers.Answer.{Answer}
 use Rattle.command_effects.specs.declared.answers.Fault.{Fault}
 use Rattle.command_effects.specs.declared.answers.Fault.TheVariants as fault
+use Rattle.peers.specs.History.{can_redo_by, can_undo_by}
 use Rattle.peers.specs.Step.{step}
+use Rattle.peers.specs.World.{World}
 use Rattle.script_cli.specs.Pieces.{piece}
 use Rattle.script_cli.specs.Run.{last_piece}
 use Rattle.tktext_c.specs.declared.ends.Given.{Given}
@@ -20,6 +22,8 @@ use Rattle.tktext_c.specs.declared.ends.FeedEnd.{FeedEnd}
 use Rattle.tktext_c.specs.declared.ends.FeedEnd.TheVariants as feed
 use Rattle.tktext_c.specs.declared.ends.MakeEnd.{MakeEnd}
 use Rattle.tktext_c.specs.declared.ends.MakeEnd.TheVariants as make
+use Rattle.tktext_c.specs.declared.ends.Way.{Way}
+use Rattle.tktext_c.specs.declared.ends.Way.TheVariants as way
 use Rattle.tktext_c.specs.State.{State, start, memory_said}
 use Rattle.tktext_c.specs.Words.{cut, words_at, AreLengths, AreTexts}
 
@@ -104,3 +108,18 @@ Takes (Some old) (Some new) ended = Turns old new ended
 -- the script ends with what was fed
 abbrev pub finished : State → State
 finished old = record old { script = record old.script { finished = true } }
+
+-- whether a group can be undone, or be redone, in the text that the widget of a name shows
+abbrev pub can_by : Way → World → List ℕ → Option Bool
+can_by way.Undo = can_undo_by
+can_by way.Redo = can_redo_by
+
+-- what is asked of such a text, of a handle's world
+abbrev pub asked : (World → List ℕ → Option Bool) → Option State → List ℕ → Option Bool
+asked ask None name = None
+asked ask (Some state) name = ask state.world name
+
+-- Bytes that aren't UTF-8 are no widget's name.
+abbrev pub Tells : (World → List ℕ → Option Bool) → Option State → List ℕ → Option Bool → Type 0
+Tells ask state name answer =
+    (IsUtf8 name → answer ≡ asked ask state (chars name)) × (¬ IsUtf8 name → answer ≡ None)

@@ -1,5 +1,5 @@
 -- The codes that C gets.
-use Rattle.std.specs.Prelude.{ℤ, pos}
+use Rattle.std.specs.Prelude.{ℤ, pos, negsuc, Bool, true, false, Option, None, Some}
 use Rattle.tktext_c.specs.declared.ends.Given.{Given}
 use Rattle.tktext_c.specs.declared.ends.Given.TheVariants as given
 use Rattle.tktext_c.specs.declared.ends.MakeEnd.{MakeEnd}
@@ -39,3 +39,9 @@ turn_code (turn.Command given) = given_code given
 turn_code turn.Fault = pos 3
 turn_code turn.End = pos 4
 turn_code turn.WrongHandle = pos 8
+
+-- yes, no, or that there is no such widget
+abbrev pub told_code : Option Bool → ℤ
+told_code (Some true) = pos 1
+told_code (Some false) = pos 0
+told_code None = negsuc 0

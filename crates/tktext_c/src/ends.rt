@@ -1,6 +1,6 @@
 //! How the calls from C end, and the codes of that.
 ghost use Rattle.std.specs.Prelude.{◌≡◌};
-ghost use Rattle.tktext_c.specs.Codes.{given_code, make_code, call_code, feed_code, turn_code};
+ghost use Rattle.tktext_c.specs.Codes.{given_code, make_code, call_code, feed_code, turn_code, told_code};
 
 /// What a command was given.
 #[derive(Clone, Copy)]
@@ -120,5 +120,23 @@ impl TurnEnd {
             TurnEnd::End => 4,
             TurnEnd::WrongHandle => 8,
         }
+    }
+}
+
+/// Which way a group can go.
+#[derive(Clone, Copy)]
+pub(crate) enum Way {
+    Undo,
+    Redo,
+}
+
+/// The code of what is told of a widget's text.
+pub(crate) fn code_of_told(told: Option<bool>) -> i32
+    ensures { result ≡ told_code told }
+{
+    match told {
+        Some(true) => 1,
+        Some(false) => 0,
+        None => -1,
     }
 }

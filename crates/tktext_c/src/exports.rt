@@ -1,10 +1,10 @@
 //! The calls from C, before their codes.
 ghost use Rattle.std.specs.Prelude.{◌≡◌, IfSome, IfNone};
-ghost use Rattle.tktext_c.specs.Calls.{Makes, Calls, Feeds, Takes};
+ghost use Rattle.tktext_c.specs.Calls.{Makes, Calls, Feeds, Takes, Tells, can_by};
 ghost use Rattle.tktext_c.specs.Handles.{state};
 ghost use Rattle.text_model.specs.LimitTable.{LimitTable, AreLimits};
 
-use crate::ends::{CallEnd, FeedEnd, MakeEnd, TurnEnd};
+use crate::ends::{CallEnd, FeedEnd, MakeEnd, TurnEnd, Way};
 use crate::handle::Handle;
 use crate::session::Session;
 use std::alloc::Global;
@@ -65,4 +65,18 @@ pub(crate) fn take_turn(alloc: Global, handle: &mut Handle) -> TurnEnd
     let ended = session.take_turn();
     handle.put(session);
     ended
+}
+
+/// Whether `edit undo` or `edit redo` would find a group in the text that the widget of a name shows.
+pub(crate) fn can(alloc: Global, handle: &mut Handle, way: Way, name: &[u8]) -> Option<bool>
+    ensures told { Tells (can_by way) (state handle.old) name.now result }
+    ensures unchanged { state handle.new ≡ state handle.old }
+{
+    if !handle.full {
+        return None;
+    }
+    let session = handle.take(alloc);
+    let told = session.can(way, name);
+    handle.put(session);
+    told
 }

@@ -1,10 +1,11 @@
 //! Worlds of text widgets for C. What C owes stands in include/tktext.h.
 #![tactic(auto)]
 
-ghost use Rattle.std.specs.Prelude.{◌≡◌, None, min, length, option_map};
+ghost use Rattle.std.specs.Prelude.{◌≡◌, Bool, Option, None, min, length, option_map};
 ghost use Rattle.text_model.specs.LimitTable.{LimitTable, most_chars, most_tags, most_marks, most_widgets};
-ghost use Rattle.tktext_c.specs.Calls.{Makes, Calls, Feeds, Takes, finished};
-ghost use Rattle.tktext_c.specs.Codes.{make_code, call_code, feed_code, turn_code};
+ghost use Rattle.peers.specs.History.{can_redo_by, can_undo_by};
+ghost use Rattle.tktext_c.specs.Calls.{Makes, Calls, Feeds, Takes, Tells, finished};
+ghost use Rattle.tktext_c.specs.Codes.{make_code, call_code, feed_code, turn_code, told_code};
 ghost use Rattle.tktext_c.specs.Handles.{state, status_of, said_of};
 ghost use Rattle.tktext_c.specs.Room.{over};
 
@@ -17,7 +18,7 @@ mod session;
 mod turns;
 mod words;
 
-use ends::{CallEnd, FeedEnd, MakeEnd, TurnEnd};
+use ends::{CallEnd, FeedEnd, MakeEnd, TurnEnd, Way, code_of_told};
 use handle::Handle;
 use std::alloc::Global;
 use text_model::Limits;
@@ -86,6 +87,27 @@ pub extern "C" fn tktext_said(alloc: Global, handle: &mut Handle, room: &mut [u8
     let length = session.copy_said(room);
     handle.put(session);
     length
+}
+
+/// Whether `edit undo` would find something to undo in the text that the widget of a name shows: 1 or 0, and -1 where
+/// there is no such widget.
+#[unsafe(no_mangle)]
+pub extern "C" fn tktext_can_undo(alloc: Global, handle: &mut Handle, widget: &[u8]) -> i32
+    ensures told { (told : Option Bool) × (result ≡ told_code told)
+        × Tells can_undo_by (state handle.old) widget.now told }
+    ensures unchanged { state handle.new ≡ state handle.old }
+{
+    code_of_told(exports::can(alloc, handle, Way::Undo, widget))
+}
+
+/// Whether `edit redo` would find something to redo there, in the same numbers.
+#[unsafe(no_mangle)]
+pub extern "C" fn tktext_can_redo(alloc: Global, handle: &mut Handle, widget: &[u8]) -> i32
+    ensures told { (told : Option Bool) × (result ≡ told_code told)
+        × Tells can_redo_by (state handle.old) widget.now told }
+    ensures unchanged { state handle.new ≡ state handle.old }
+{
+    code_of_told(exports::can(alloc, handle, Way::Redo, widget))
 }
 
 /// Takes the next bytes of a script.

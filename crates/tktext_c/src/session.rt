@@ -16,13 +16,15 @@ pub(crate) enum Said {
     Fault(ScriptFault),
 }
 
-/// A world, the words of the command that was given last and what was said then, and a script that is fed.
+/// A world, the words of the command that was given last and what was said then, words whose room the next command may
+/// use, and a script that is fed.
 #[derive(Drop)]
 pub struct Session {
     pub(crate) world: World<TreeStore>,
     pub(crate) splitter: Splitter,
     pub(crate) is_finished: bool,
     pub(crate) words: Vec<String>,
+    pub(crate) spare: Vec<String>,
     pub(crate) said: Said,
     pub(crate) status: u8,
     ghost agrees: { is_finished ≡ splitter.finished },

@@ -1,19 +1,25 @@
 //! What each call from C makes of a session.
-ghost use Rattle.std.specs.Prelude.{◌≡◌, ◌<◌, [], min, length, vec_len};
+ghost use Rattle.std.specs.Prelude.{◌≡◌, ◌<◌, [], Some, min, length, vec_len};
 ghost use Rattle.tcl_words.specs.Unread.{texts_of};
-ghost use Rattle.tktext_c.specs.Calls.{Called, Fed, Gives, Turns, finished, given_of, status_after};
+ghost use Rattle.tktext_c.specs.Calls.{Called, Fed, Gives, Tells, Turns, can_by, finished, given_of, status_after};
 ghost use Rattle.tktext_c.specs.Room.{over};
 ghost use Rattle.tktext_c.specs.State.{said_text, start, state_of};
 
-use crate::ends::{CallEnd, FeedEnd, Given, TurnEnd};
+use crate::ends::{CallEnd, FeedEnd, Given, TurnEnd, Way};
 use crate::room::copy_piece;
 use crate::session::{Said, Session};
 use crate::words::{WordsFault, read_words};
 use peers::{Answer, Fault, World};
 use script_cli::Piece;
 use std::alloc::Global;
+use std::mem;
 use tcl_words::{ScriptFault, Splitter};
 use text_model::Limits;
+
+/// So many words of a command, of so many bytes each, keep their room for the next one.
+const FEW_WORDS: usize = 16;
+
+const FEW_BYTES: usize = 256;
 
 impl Session {
     /// A session in a world without documents. It takes no memory.
@@ -25,6 +31,7 @@ impl Session {
             splitter: Splitter::new(alloc),
             is_finished: false,
             words: Vec::new(alloc),
+            spare: Vec::new(alloc),
             said: Said::Nothing,
             status: 0,
         }
@@ -34,7 +41,8 @@ impl Session {
     pub(crate) fn call_bytes(&mut self, alloc: Global, bytes: &[u8], lengths: &[usize]) -> CallEnd
         ensures { Called (state_of self.old) lengths.now bytes.now (state_of self.new) result }
     {
-        match read_words(alloc, bytes, lengths) {
+        let spare = mem::replace(&mut self.spare, Vec::new(alloc));
+        match read_words(alloc, spare, bytes, lengths) {
             Ok(words) => CallEnd::Given(self.call(words)),
             Err(WordsFault::Memory) => {
                 self.said = Said::Reply(Err(Fault::Memory));
@@ -52,9 +60,25 @@ impl Session {
     {
         let reply = self.world.call(&words);
         let given = given_by(&reply);
-        self.words = words;
         self.said = Said::Reply(reply);
+        let before = mem::replace(&mut self.words, words);
+        if are_few(&before) {
+            self.spare = before;
+        }
         given
+    }
+
+    /// Whether `edit undo` or `edit redo` would find a group in the text that the widget of a name shows.
+    pub(crate) fn can(&self, way: Way, name: &[u8]) -> Option<bool>
+        ensures { Tells (can_by way) (Some (state_of self.now)) name.now result }
+    {
+        let Ok(name) = str::from_utf8(name) else {
+            return None;
+        };
+        match way {
+            Way::Undo => self.world.can_undo(name),
+            Way::Redo => self.world.can_redo(name),
+        }
     }
 
     /// Takes the next bytes of the script.
@@ -164,4 +188,9 @@ fn given_by(reply: &Result<Answer, Fault>) -> Given
         Err(Fault::Memory) => Given::Memory,
         Err(_) => Given::Fault,
     }
+}
+
+/// Whether so few words of so few bytes may wait for the next command that no world holds more than it needs.
+fn are_few(words: &[String]) -> bool {
+    words.len() <= FEW_WORDS && words.iter().all(|word| word.capacity() <= FEW_BYTES)
 }

@@ -16,9 +16,11 @@ pub(crate) enum WordsFault {
     Memory,
 }
 
-/// As many words as there are lengths, which stand one behind the other in the bytes.
+/// As many words as there are lengths, which stand one behind the other in the bytes. They are made in the room of other
+/// words, whatever these are.
 pub(crate) fn read_words(
     alloc: Global,
+    mut spare: Vec<String>,
     bytes: &[u8],
     lengths: &[usize],
 ) -> Result<Vec<String>, WordsFault>
@@ -32,13 +34,16 @@ pub(crate) fn read_words(
     if lengths.is_empty() {
         return Err(WordsFault::Lengths);
     }
-    let mut words = Vec::new(alloc);
+    let Ok(mut words) = Vec::with_capacity(alloc, lengths.len()) else {
+        return Err(WordsFault::Memory);
+    };
     let mut rest = bytes;
     for length in lengths {
         let Some((word, others)) = rest.split_at_checked(*length) else {
             return Err(WordsFault::Lengths);
         };
-        let word = read_word(alloc, word)?;
+        let room = spare.pop().unwrap_or(String::new(alloc));
+        let word = read_word(room, word)?;
         let Ok(()) = words.push(word) else {
             return Err(WordsFault::Memory);
         };
@@ -50,8 +55,8 @@ pub(crate) fn read_words(
     Ok(words)
 }
 
-/// The word of some bytes.
-fn read_word(alloc: Global, bytes: &[u8]) -> Result<String, WordsFault>
+/// The word of some bytes, in the room of another word.
+fn read_word(mut word: String, bytes: &[u8]) -> Result<String, WordsFault>
     ensures word { IfOk result (λ word. string_bytes word ≡ bytes.now) }
     ensures text { OnOk result (IsUtf8 bytes.now) }
     ensures not_text { IsErrOf result WordsFault.NotText → ¬ IsUtf8 bytes.now }
@@ -60,8 +65,9 @@ fn read_word(alloc: Global, bytes: &[u8]) -> Result<String, WordsFault>
     let Ok(text) = str::from_utf8(bytes) else {
         return Err(WordsFault::NotText);
     };
-    match String::from_str(alloc, text) {
-        Ok(word) => Ok(word),
+    word.clear();
+    match word.push_str(text) {
+        Ok(()) => Ok(word),
         Err(_) => Err(WordsFault::Memory),
     }
 }
