@@ -1,4 +1,3 @@
-pub mod PieceLaws
 pub mod RunLaws
 mod SameLaws
 pub mod SendingLaws

@@ -19,7 +19,7 @@ use Rattle.script_cli.specs.declared.turns.Met.{Met}
 use Rattle.script_cli.specs.declared.turns.Met.TheVariants as kinds
 use Rattle.script_cli.specs.Carrying.{RunsBytes, MayFollow, Carries, CarriesOut, Carried, Cuts}
 use Rattle.devices.specs.Devices.{ReadLog, WriteLog, HandsOut, Takes}
-use Rattle.script_cli.specs.Pieces.{piece, memory_line}
+use Rattle.printing.specs.Lines.{piece, memory_line}
 use Rattle.script_cli.specs.Run.{no_documents, run_output, refused_count, RunsTo, Holds, WritesRun, WritesFront}
 use Rattle.script_cli.specs.PlainRun.{IsPlain, IsPlainUpToRefusal}
 use Rattle.script_cli.specs.Reading.{Feeds}

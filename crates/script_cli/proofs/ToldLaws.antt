@@ -14,7 +14,7 @@ use Rattle.peers.specs.Step.{step}
 use Rattle.command_effects.specs.declared.answers.Fault.TheVariants.{Memory}
 use Rattle.script_cli.specs.declared.summary.RunSummary.{RunSummary}
 use Rattle.devices.specs.Devices.{ReadLog, WriteLog, Consumes, LeavesNone, Appends}
-use Rattle.script_cli.specs.Pieces.{piece}
+use Rattle.printing.specs.Lines.{piece}
 use Rattle.script_cli.specs.Run.{no_documents, run_output, refused_count, RunsTo, Holds, WritesRun, WritesFront}
 use Rattle.script_cli.specs.Told.{WritesRunOf, WritesFrontOf, WritesFrontOfRead}
 use Rattle.script_cli.proofs.RunLaws.{plain_runs}

@@ -8,7 +8,7 @@ use Rattle.command_effects.specs.declared.answers.Fault.{Fault}
 use Rattle.command_effects.specs.declared.answers.Fault.TheVariants as fault
 use Rattle.peers.specs.World.{World}
 use Rattle.peers.specs.Step.{step}
-use Rattle.script_cli.specs.Pieces.{piece}
+use Rattle.printing.specs.Lines.{piece}
 use Rattle.script_cli.specs.Turns.{Replies, MeetsCommand, Meets, goes_on, is_refusal}
 use Rattle.script_cli.specs.declared.turns.Met.{Met}
 use Rattle.script_cli.specs.declared.turns.Met.TheVariants as met

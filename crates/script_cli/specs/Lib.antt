@@ -1,5 +1,4 @@
 pub mod Carrying
-pub mod Pieces
 pub mod PlainRun
 pub mod Reading
 pub mod Run

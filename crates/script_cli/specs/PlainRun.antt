@@ -2,7 +2,7 @@
 use Rattle.std.specs.Prelude.{◌≡◌, ℕ, ◌<◌, List, ◌++◌, length, take, Option, None}
 use Rattle.tcl_words.specs.declared.fault.ScriptFault.{ScriptFault}
 use Rattle.peers.specs.World.{World}
-use Rattle.script_cli.specs.Pieces.{memory_line}
+use Rattle.printing.specs.Lines.{memory_line}
 use Rattle.script_cli.specs.Run.{run_output, refused_count}
 
 -- all of the plain run

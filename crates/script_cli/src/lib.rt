@@ -3,13 +3,11 @@
 
 pub mod laws;
 mod output;
-mod pieces;
 mod reading;
 mod running;
 mod summary;
 mod turns;
 
 pub use devices::{ByteSink, ByteSource, Watched};
-pub use pieces::Piece;
 pub use running::run;
 pub use summary::{RunFault, RunSummary, outcome};

@@ -1,7 +1,9 @@
 ghost use Rattle.std.specs.Prelude.{◌≡◌, ◌+◌, ◌≤◌, [], ◌++◌, true, false, not, nat_le, length};
+ghost use Rattle.printing.specs.Lines.{printed};
 ghost use Rattle.script_cli.specs.Sending.{Sends, Gathers};
 
 use devices::ByteSink;
+use printing::Line;
 use std::marker::Model;
 
 /// Writes all of the bytes, and answers false where the writer fails before their end.
@@ -70,6 +72,34 @@ impl Output {
             return true;
         }
         write_all(sink, bytes)
+    }
+
+    /// Puts a line behind the bytes that wait, as `push` does.
+    pub fn push_line<W: ByteSink>(&mut self, sink: &mut W, line: &Line) -> bool
+        requires { W.is_failed sink.old ≡ false }
+        ensures bytes { Gathers (W.log sink.old) self.old (W.log sink.new) self.new (printed line.now) result }
+        ensures flag { W.is_failed sink.new ≡ not result }
+    {
+        let (before, word, between, other, after) = line.parts();
+        if !self.push_both(sink, before, word) {
+            return false;
+        }
+        if !self.push_both(sink, between, other) {
+            return false;
+        }
+        self.push(sink, after.as_bytes())
+    }
+
+    /// Puts two texts behind the bytes that wait, as `push` does.
+    fn push_both<W: ByteSink>(&mut self, sink: &mut W, first: &str, second: &str) -> bool
+        requires { W.is_failed sink.old ≡ false }
+        ensures bytes { Gathers (W.log sink.old) self.old (W.log sink.new) self.new (first.now ++ second.now) result }
+        ensures flag { W.is_failed sink.new ≡ not result }
+    {
+        if !self.push(sink, first.as_bytes()) {
+            return false;
+        }
+        self.push(sink, second.as_bytes())
     }
 
     /// Writes all that waits, and answers false where the writer fails.

@@ -6,9 +6,9 @@ ghost use Rattle.script_cli.specs.Sending.{Gathers};
 ghost use Rattle.script_cli.specs.Turns.{Replies, Meets, goes_on, is_fault, is_refusal};
 
 use crate::output::Output;
-use crate::pieces::Piece;
 use devices::ByteSink;
 use peers::{Answer, Fault, World};
+use printing::Line;
 use tcl_words::{ScriptFault, Splitter};
 use text_model::TextStore;
 
@@ -79,7 +79,7 @@ fn answer<S: TextStore, W: ByteSink>(
     let reply = world.call(words);
     Turn {
         met: met_by(&reply),
-        is_written: Piece::of_reply(words, &reply).push_to(output, sink),
+        is_written: output.push_line(sink, &Line::of_reply(words, &reply)),
     }
 }
 
@@ -106,7 +106,7 @@ fn refuse<W: ByteSink>(splitter: &mut Splitter, output: &mut Output, sink: &mut 
     match splitter.skip_command() {
         Ok(true) => Turn {
             met: Met::Refusal,
-            is_written: Piece::of_reply(&[], &Err(Fault::Memory)).push_to(output, sink),
+            is_written: output.push_line(sink, &Line::of_reply(&[], &Err(Fault::Memory))),
         },
         Ok(false) => Turn {
             met: Met::End,
@@ -126,6 +126,6 @@ fn stop<W: ByteSink>(fault: ScriptFault, output: &mut Output, sink: &mut W) -> T
 {
     Turn {
         met: Met::Fault,
-        is_written: Piece::of_script_fault(fault).push_to(output, sink),
+        is_written: output.push_line(sink, &Line::of_script_fault(fault)),
     }
 }

@@ -4,7 +4,7 @@ use Rattle.text_model.specs.LimitTable.{LimitTable}
 use Rattle.tcl_words.specs.Unread.{Unread, nothing_fed, texts_of}
 use Rattle.command_effects.specs.declared.answers.Fault.TheVariants.{Memory}
 use Rattle.peers.specs.World.{World}
-use Rattle.script_cli.specs.Pieces.{piece}
+use Rattle.printing.specs.Lines.{piece}
 use Rattle.script_cli.specs.Run.{last_piece, no_documents}
 use Rattle.tktext_c.specs.declared.session.Said.{Said}
 use Rattle.tktext_c.specs.declared.session.Said.TheVariants.{Nothing, Reply, Fault}

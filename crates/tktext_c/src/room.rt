@@ -1,15 +1,16 @@
 //! The room that C gives for a text.
 ghost use Rattle.std.specs.Prelude.{◌≡◌, ◌≤◌, ◌++◌, List, ℕ, length, min, take, drop};
+ghost use Rattle.printing.specs.Lines.{printed};
 ghost use Rattle.tktext_c.specs.Room.{over, Copied};
 
-use script_cli::Piece;
+use printing::Line;
 
-/// Copies a piece to the front of the room, as far as it goes, and gives the length of it all.
-pub(crate) fn copy_piece(piece: &Piece, room: &mut [u8]) -> usize
-    ensures length { result ≡ min (length piece.now) usize.MAX }
-    ensures copied { room.new ≡ over piece.now room.old }
+/// Copies a line to the front of the room, as far as it goes, and gives the length of it all.
+pub(crate) fn copy_line(line: &Line, room: &mut [u8]) -> usize
+    ensures length { result ≡ min (length (printed line.now)) usize.MAX }
+    ensures copied { room.new ≡ over (printed line.now) room.old }
 {
-    let (before, word, between, other, after) = piece.parts();
+    let (before, word, between, other, after) = line.parts();
     let total = copy_next(room, 0, before);
     let total = copy_next(room, total, word);
     let total = copy_next(room, total, between);

@@ -6,11 +6,11 @@ ghost use Rattle.tktext_c.specs.Room.{over};
 ghost use Rattle.tktext_c.specs.State.{said_text, start, state_of};
 
 use crate::ends::{CallEnd, FeedEnd, Given, TurnEnd, Way};
-use crate::room::copy_piece;
+use crate::room::copy_line;
 use crate::session::{Said, Session};
 use crate::words::{WordsFault, read_words};
 use peers::{Answer, Fault, World};
-use script_cli::Piece;
+use printing::Line;
 use std::alloc::Global;
 use std::mem;
 use tcl_words::{ScriptFault, Splitter};
@@ -174,8 +174,8 @@ impl Session {
     {
         match &self.said {
             Said::Nothing => 0,
-            Said::Reply(reply) => copy_piece(&Piece::of_reply(&self.words, reply), room),
-            Said::Fault(fault) => copy_piece(&Piece::of_script_fault(*fault), room),
+            Said::Reply(reply) => copy_line(&Line::of_reply(&self.words, reply), room),
+            Said::Fault(fault) => copy_line(&Line::of_script_fault(*fault), room),
         }
     }
 }

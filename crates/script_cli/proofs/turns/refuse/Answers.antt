@@ -2,7 +2,7 @@ use Rattle.std.proofs.Common.{true, refl, ap, [], Some, inr}
 use Rattle.std.specs.Prelude.{Err, Ok}
 use Rattle.command_effects.specs.declared.answers.Fault.TheVariants.{Memory}
 use Rattle.script_cli.specs.declared.turns.Met.TheVariants as met
-use Rattle.script_cli.specs.Pieces.{piece}
+use Rattle.printing.specs.Lines.{piece}
 use Rattle.script_cli.specs.Run.{last_piece}
 use Rattle.script_cli.specs.Turns.{Meets}
 use Rattle.script_cli.proofs.TurnLaws.{meets, meets_fault}
@@ -17,7 +17,7 @@ returns-in-Ok-true-clause-met g c =
       text,
       meets world world c.args.splitter.now c.skip_command.new.self taken.0 true text (c.in-Ok-true.ensures.shorter is)
           taken.1 (inr (refl, refl, refl)),
-      rw c.of_reply.ensures at c.push_to.ensures.bytes,
+      rw c.of_reply.ensures at c.push_line.ensures.bytes,
     )
 
 pub returns-in-Err-clause-met : goal.returns-in-Err-clause-met

@@ -1,4 +1,4 @@
--- What is printed for a command, as characters.
+-- What is printed for a command or a script fault, as characters; and as bytes.
 use Rattle.std.specs.Prelude.{ℕ, ◌-◌, Bool, true, false, ◌&&◌, ◌||◌, nat_le, nat_lt, List, [], ◌∷◌, ◌++◌, length, take}
 use Rattle.std.specs.Prelude.{chars, encode_utf8_all, slice_index, slice_index_or, Result, Ok, Err, if◌then◌else◌}
 use Rattle.command_effects.specs.declared.answers.Answer.{Answer}
@@ -117,3 +117,7 @@ memory_line = line_text (alone "error: out of memory\n")
 abbrev pub piece : List (List ℕ) → Result Answer Fault → List ℕ
 piece words (Ok answer) = answer_text words answer ++ 10 ∷ []
 piece words (Err fault) = line_text (fault_line words fault)
+
+-- the bytes of a line
+abbrev pub printed : Line → List ℕ
+printed line = encode_utf8_all (line_text line)

@@ -1,7 +1,7 @@
 use Rattle.std.proofs.Common.{sym, ap, ◌∙◌}
 use Rattle.tcl_words.specs.Unread.{texts_of}
-use Rattle.script_cli.specs.Pieces.{fault_line}
-use Rattle.script_cli.proofs.pieces.Line.of_fault.Goals as goal
+use Rattle.printing.specs.Lines.{fault_line}
+use Rattle.printing.proofs.lines.Line.of_fault.Goals as goal
 
 pub returns-in-NoSuchTag : goal.returns-in-NoSuchTag
 returns-in-NoSuchTag c =

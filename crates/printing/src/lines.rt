@@ -1,20 +1,18 @@
-ghost use Rattle.std.specs.Prelude.{◌≡◌, ◌++◌, false, not, Ok, Err, chars, encode_utf8_all};
+ghost use Rattle.std.specs.Prelude.{◌≡◌, ◌++◌, Ok, Err, chars};
 ghost use Rattle.tcl_words.specs.Unread.{texts_of};
-ghost use Rattle.script_cli.specs.Pieces.{piece, fault_line, error_line, script_fault_text};
-ghost use Rattle.script_cli.specs.Pieces.{answer_text as spec_answer_text, word_at as spec_word_at};
-ghost use Rattle.script_cli.specs.Pieces.{front_of as spec_front_of};
-ghost use Rattle.script_cli.specs.Sending.{Gathers};
 ghost use Rattle.command_effects.specs.Words.{literal};
+ghost use Rattle.printing.specs.Lines.{piece, fault_line, error_line, line_text, printed, script_fault_text};
+ghost use Rattle.printing.specs.Lines.{answer_text as spec_answer_text, word_at as spec_word_at};
+ghost use Rattle.printing.specs.Lines.{front_of as spec_front_of};
 
-use crate::output::Output;
-use devices::ByteSink;
-use peers::{Answer, Fault};
+use command_effects::{Answer, Fault};
 use std::marker::Model;
 use tcl_words::ScriptFault;
 
-/// A line that is printed: one or two words of the command, or parts of them, between texts of the program.
+/// A line that is printed: an answer, or one or two words of the command, between texts of the program. It lends all of
+/// them, so it takes no memory.
 #[derive(Drop)]
-struct Line<'a> {
+pub struct Line<'a> {
     before: &'static str,
     word: &'a str,
     between: &'static str,
@@ -24,7 +22,7 @@ struct Line<'a> {
 
 impl<'a> Model for Line<'a> {
     ghost use Rattle.std.specs.Prelude.{chars};
-    ghost use Rattle.script_cli.specs.Pieces.{Line as LineText};
+    ghost use Rattle.printing.specs.Lines.{Line as LineText};
 
     ghost Value = { LineText };
 
@@ -38,6 +36,49 @@ impl<'a> Model for Line<'a> {
 }
 
 impl<'a> Line<'a> {
+    /// The answer of a command of these words, or its fault.
+    pub fn of_reply(words: &'a [String], reply: &'a Result<Answer, Fault>) -> Line<'a>
+        ensures { line_text result ≡ piece (texts_of words.now) reply.now }
+    {
+        match reply {
+            Ok(answer) => Line::of_answer(words, answer),
+            Err(fault) => Line::of_fault(words, *fault),
+        }
+    }
+
+    /// The fault of a script.
+    pub fn of_script_fault(fault: ScriptFault) -> Line<'a>
+        ensures { line_text result ≡ error_line (script_fault_text fault) }
+    {
+        match fault {
+            ScriptFault::MissingBrace => Line::alone("error: missing close-brace\n"),
+            ScriptFault::MissingQuote => Line::alone("error: missing \"\n"),
+            ScriptFault::ExtraAfterBrace => {
+                Line::alone("error: extra characters after close-brace\n")
+            }
+            ScriptFault::ExtraAfterQuote => {
+                Line::alone("error: extra characters after close-quote\n")
+            }
+            ScriptFault::Substitution => Line::alone("error: substitution isn't supported\n"),
+            ScriptFault::NotUtf8 => Line::alone("error: script isn't UTF-8\n"),
+            ScriptFault::BadCharacterCode => Line::alone("error: bad character code\n"),
+            ScriptFault::Memory => Line::alone("error: out of memory\n"),
+        }
+    }
+
+    /// The texts that it is, one behind the other.
+    pub fn parts(&self) -> (&'a str, &'a str, &'a str, &'a str, &'a str)
+        ensures { (result.0.now ++ result.1.now) ++ ((result.2.now ++ result.3.now) ++ result.4.now) ≡ printed self.now }
+    {
+        (self.before, self.word, self.between, self.other, self.after)
+    }
+
+    fn of_answer(words: &'a [String], answer: &'a Answer) -> Line<'a>
+        ensures { line_text result ≡ piece (texts_of words.now) (Ok answer.now) }
+    {
+        Line::around("", answer_text(words, answer), "\n")
+    }
+
     fn around_two(
         before: &'static str,
         word: &'a str,
@@ -167,146 +208,6 @@ impl<'a> Line<'a> {
             Fault::Memory => Line::alone("error: out of memory\n"),
         }
     }
-}
-
-/// The text that is printed for a command: one or two words, or an answer, between texts of the program.
-#[derive(Drop)]
-pub struct Piece<'a> {
-    before: &'static str,
-    word: &'a str,
-    between: &'static str,
-    other: &'a str,
-    after: &'static str,
-}
-
-impl<'a> Model for Piece<'a> {
-    ghost use Rattle.std.specs.Prelude.{ℕ, List, ◌++◌};
-
-    ghost Value = { List ℕ };
-
-    ghost view = { λ p. (p.before.now ++ p.word.now) ++ ((p.between.now ++ p.other.now) ++ p.after.now) };
-}
-
-impl<'a> Piece<'a> {
-    /// The answer of a command of these words, or its fault.
-    pub fn of_reply(words: &'a [String], reply: &'a Result<Answer, Fault>) -> Piece<'a>
-        ensures { result ≡ encode_utf8_all (piece (texts_of words.now) reply.now) }
-    {
-        match reply {
-            Ok(answer) => Piece::of_answer(words, answer),
-            Err(fault) => Piece::of_fault(words, *fault),
-        }
-    }
-
-    fn of_answer(words: &'a [String], answer: &'a Answer) -> Piece<'a>
-        ensures { result ≡ encode_utf8_all (piece (texts_of words.now) (Ok answer.now)) }
-    {
-        Piece::around("", answer_text(words, answer), "\n")
-    }
-
-    fn of_fault(words: &'a [String], fault: Fault) -> Piece<'a>
-        ensures { result ≡ encode_utf8_all (piece (texts_of words.now) (Err fault)) }
-    {
-        let line = Line::of_fault(words, fault);
-        Piece::around_two(line.before, line.word, line.between, line.other, line.after)
-    }
-
-    /// The fault of a script.
-    pub fn of_script_fault(fault: ScriptFault) -> Piece<'a>
-        ensures { result ≡ encode_utf8_all (error_line (script_fault_text fault)) }
-    {
-        match fault {
-            ScriptFault::MissingBrace => Piece::plain("error: missing close-brace\n"),
-            ScriptFault::MissingQuote => Piece::plain("error: missing \"\n"),
-            ScriptFault::ExtraAfterBrace => {
-                Piece::plain("error: extra characters after close-brace\n")
-            }
-            ScriptFault::ExtraAfterQuote => {
-                Piece::plain("error: extra characters after close-quote\n")
-            }
-            ScriptFault::Substitution => Piece::plain("error: substitution isn't supported\n"),
-            ScriptFault::NotUtf8 => Piece::plain("error: script isn't UTF-8\n"),
-            ScriptFault::BadCharacterCode => Piece::plain("error: bad character code\n"),
-            ScriptFault::Memory => Piece::plain("error: out of memory\n"),
-        }
-    }
-
-    /// Puts the bytes behind those that wait, and answers false where the writer fails.
-    pub fn push_to<W: ByteSink>(&self, output: &mut Output, sink: &mut W) -> bool
-        requires { W.is_failed sink.old ≡ false }
-        ensures bytes { Gathers (W.log sink.old) output.old (W.log sink.new) output.new self.now result }
-        ensures flag { W.is_failed sink.new ≡ not result }
-    {
-        if !push_both(output, sink, self.before, self.word) {
-            return false;
-        }
-        if !push_both(output, sink, self.between, self.other) {
-            return false;
-        }
-        output.push(sink, self.after.as_bytes())
-    }
-
-    /// The texts that it is, one behind the other.
-    pub fn parts(&self) -> (&'a str, &'a str, &'a str, &'a str, &'a str)
-        ensures { (result.0.now ++ result.1.now) ++ ((result.2.now ++ result.3.now) ++ result.4.now) ≡ self.now }
-    {
-        (self.before, self.word, self.between, self.other, self.after)
-    }
-
-    fn around(before: &'static str, word: &'a str, after: &'static str) -> Piece<'a>
-        ensures { result ≡ encode_utf8_all (chars before.now ++ (chars word.now ++ chars after.now)) }
-    {
-        Piece {
-            before,
-            word,
-            between: "",
-            other: "",
-            after,
-        }
-    }
-
-    fn around_two(
-        before: &'static str,
-        word: &'a str,
-        between: &'static str,
-        other: &'a str,
-        after: &'static str,
-    ) -> Piece<'a>
-        ensures { result ≡ encode_utf8_all
-            (chars before.now ++ (chars word.now ++ (chars between.now ++ (chars other.now ++ chars after.now)))) }
-    {
-        Piece {
-            before,
-            word,
-            between,
-            other,
-            after,
-        }
-    }
-
-    fn plain(text: &'static str) -> Piece<'a>
-        ensures { result ≡ encode_utf8_all (chars text.now) }
-    {
-        Piece {
-            before: text,
-            word: "",
-            between: "",
-            other: "",
-            after: "",
-        }
-    }
-}
-
-/// Puts two texts behind the bytes that wait, and answers false where the writer fails.
-fn push_both<W: ByteSink>(output: &mut Output, sink: &mut W, first: &str, second: &str) -> bool
-    requires { W.is_failed sink.old ≡ false }
-    ensures bytes { Gathers (W.log sink.old) output.old (W.log sink.new) output.new (first.now ++ second.now) result }
-    ensures flag { W.is_failed sink.new ≡ not result }
-{
-    if !output.push(sink, first.as_bytes()) {
-        return false;
-    }
-    output.push(sink, second.as_bytes())
 }
 
 fn answer_text<'a>(words: &'a [String], answer: &'a Answer) -> &'a str

@@ -10,23 +10,11 @@ use Rattle.std.proofs.lemmas.List.{append-nil, get_or-map}
 use Rattle.std.proofs.lemmas.Str.{encodes-append, encodes-chars}
 use Rattle.tcl_words.specs.Unread.{texts_of}
 use Rattle.command_effects.specs.Words.{literal}
-use Rattle.script_cli.specs.Pieces.{error_line, word_at, is_boundary, front_of}
+use Rattle.printing.specs.Lines.{error_line, word_at, is_boundary, front_of}
 
--- the bytes of three texts
-pub three_texts : (before word after : List ℕ) → IsUtf8 before → IsUtf8 word → IsUtf8 after
-    → (before ++ word) ++ (([] ++ []) ++ after) ≡ encode_utf8_all (chars before ++ (chars word ++ chars after))
-three_texts before word after first second third =
-    append_assoc before word after
-    ∙ rw (
-      encodes-append (chars before) (chars word ++ chars after),
-      encodes-append (chars word) (chars after),
-      encodes-chars before first,
-      encodes-chars word second,
-      encodes-chars after third,
-    ) refl
-
-pub one_text : (text : List ℕ) → IsUtf8 text → (text ++ []) ++ (([] ++ []) ++ []) ≡ encode_utf8_all (chars text)
-one_text text is = append-nil (text ++ []) ∙ append-nil text ∙ sym (encodes-chars text is)
+-- a text alone
+pub alone_text : (text line : List ℕ) → text ≡ line → text ++ ([] ++ ([] ++ ([] ++ []))) ≡ line
+alone_text text line is = append-nil text ∙ is
 
 pub word_characters : {Z : Type 0} (words : List (String Z)) (position : ℕ) (word : String Z) → position < length words
     → word ≡ get_or words position word → chars (string_bytes word) ≡ word_at (texts_of words) position
@@ -68,7 +56,7 @@ pub bad_code : chars (codes "error: bad character code\n") ≡ error_line (liter
 unfolding chars
 bad_code = refl
 
-pub answer_line : (text : List ℕ) → chars (codes "") ++ (text ++ chars (codes "\n")) ≡ text ++ 10 ∷ []
+pub answer_line : (text : List ℕ) → chars (codes "") ++ (text ++ ([] ++ ([] ++ chars (codes "\n")))) ≡ text ++ 10 ∷ []
 unfolding chars
 answer_line text = refl
 

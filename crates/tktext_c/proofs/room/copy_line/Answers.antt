@@ -1,6 +1,6 @@
 use Rattle.std.proofs.Common.{[], ◌++◌, ◌∙◌}
 use Rattle.tktext_c.proofs.RoomLaws.{copied-none, copied-text, grouped}
-use Rattle.tktext_c.proofs.room.copy_piece.Goals as goal
+use Rattle.tktext_c.proofs.room.copy_line.Goals as goal
 
 pub returns : goal.returns
 returns c =
