@@ -5,8 +5,8 @@
 
 The commands stand in `command_table/specs/Table.antt`; `docs/model.md` and the tools' model say the same of each, and
 the random scripts begin a form with each.  The limits stand in `text_model/specs/LimitTable.antt`.  The crates stand in
-`crates.txt`; the pages on architecture and on what is proved speak of each, and the first of each file of definitions.
-A line of code, of a definition or of a page has at most 120 characters.  Ends in a line `N passed, M failed`; the exit status is 1 if anything failed.
+`crates.txt`; the pages on architecture and on what is proved speak of each, and the page of each (`crates/NAME/README.md`)
+of its files of definitions.  A line of code, of a definition or of a page has at most 120 characters.  Ends in a line `N passed, M failed`; the exit status is 1 if anything failed.
 """
 
 import glob
@@ -15,12 +15,14 @@ import re
 import sys
 from typing import NamedTuple, Optional
 
+import build
 import model
 import scripts
 from harness import Tally
 
 TOP = os.path.dirname(os.path.dirname(os.path.abspath(__file__)))
 MOST_CHARACTERS = 120
+MOST_PAGE_LINES = 40
 # A line of a proof that `rt fmt` joins again may be longer.
 MOST_IN_PROOFS = 160
 # A longer line is the output of a program, as it is.
@@ -179,19 +181,35 @@ def crate_names():
 
 
 def check_crates(tally):
-    """The pages speak of each crate and of each file of definitions."""
+    """The page on architecture speaks of each crate, and the page of each crate of its files of definitions."""
     page = text_of("docs", "architecture.md")
     for name in crate_names():
         tally.check(f"`{name}`" in page, f"docs/architecture.md doesn't speak of {name}")
         tally.check(os.path.isdir(os.path.join(TOP, "crates", name)), f"there is no crate {name}")
-    listed = page.partition("## Definitions")[2].partition("\n## ")[0].replace("\n  ", " ")
     for path in glob.glob(os.path.join(TOP, "crates", "*", "specs", "*.antt")):
         crate, subject = path.split(os.sep)[-3], os.path.basename(path).removesuffix(".antt")
         if subject == "Lib" or subject.endswith("Laws") or crate.endswith("_tests"):
             continue
-        lines = [line for line in listed.splitlines() if f"`{crate}/specs" in line]
-        is_named = any(f"`{subject}`" in line or f"specs/{subject}`" in line or f"`{crate}/specs`" in line for line in lines)
-        tally.check(is_named, f"docs/architecture.md doesn't name {crate}/specs/{subject}")
+        listed = crate_page(crate).partition("## What is stated")[2].partition("\n## ")[0]
+        tally.check(f"`{subject}`" in listed, f"crates/{crate}/README.md doesn't name {subject}")
+
+
+def crate_page(crate):
+    """The page of a crate, or nothing where it has none."""
+    path = os.path.join(TOP, "crates", crate, "README.md")
+    return text_of("crates", crate, "README.md") if os.path.isfile(path) else ""
+
+
+def check_crate_pages(tally):
+    """The program, the library and each crate below them has a page, and the files that a page names are there."""
+    crates = build.read_crates(os.path.join(TOP, "crates.txt"))
+    programs = ("tktext", "tktext_c")
+    for crate in {below for program in programs for below in (program, *build.crates_below(crates, program))}:
+        page = crate_page(crate)
+        tally.check(page, f"crates/{crate} has no README.md")
+        tally.check(page.count("\n") <= MOST_PAGE_LINES, f"crates/{crate}/README.md has more than {MOST_PAGE_LINES} lines")
+        for path in re.findall(r"`((?:src|specs|proofs)/[\w/]+(?:\.rt|\.antt|/))`", page):
+            tally.check(os.path.exists(os.path.join(TOP, "crates", crate, path)), f"there is no crates/{crate}/{path}")
 
 
 def check_lines(tally):
@@ -214,6 +232,7 @@ def main():
     check_commands(tally)
     check_limits(tally)
     check_crates(tally)
+    check_crate_pages(tally)
     check_lines(tally)
     return tally.close()
 
