@@ -68,7 +68,8 @@ impl<'a> Line<'a> {
 
     /// The texts that it is, one behind the other.
     pub fn parts(&self) -> (&'a str, &'a str, &'a str, &'a str, &'a str)
-        ensures { (result.0.now ++ result.1.now) ++ ((result.2.now ++ result.3.now) ++ result.4.now) ≡ printed self.now }
+        ensures { (result.0.now ++ result.1.now) ++ ((result.2.now ++ result.3.now) ++ result.4.now)
+            ≡ printed self.now }
     {
         (self.before, self.word, self.between, self.other, self.after)
     }
