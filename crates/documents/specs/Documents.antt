@@ -6,9 +6,8 @@ use Rattle.text_model.specs.Content.{Content, Marks}
 use Rattle.name_list.specs.Names.{Named, Names}
 use Rattle.undo_stack.specs.History.{History}
 use Rattle.undo_stack.specs.Modified.{Modified}
-use Rattle.undo_stack.specs.Rings.{Kept}
 use Rattle.edit_ops.specs.declared.anchors.Anchors.{Anchors}
-use Rattle.edit_ops.specs.States.{Log, log_of}
+use Rattle.edit_ops.specs.States.{Log}
 pub use Rattle.tag_table.specs.Tags.{sel}
 use Rattle.tag_table.specs.Tags.{Tags, names_of}
 use Rattle.mark_table.specs.SharedMarks.{Mark, SharedMarks}
@@ -62,15 +61,6 @@ pub record Parts : Type 0 where
   pub marks : SharedMarks
   pub journal : Journal
   pub content : Content
-
-abbrev pub parts_of : Names → Tags → SharedMarks → DocumentSettings → List Bool → List Anchors → Kept → Content → Parts
-parts_of seats tags marks settings disabled anchors kept content = record {
-  seats = seats;
-  tags = tags;
-  marks = marks;
-  journal = record { settings = settings; disabled = disabled; anchors = anchors; log = log_of kept };
-  content = content;
-}
 
 -- where a mark stands, by its number in a store
 abbrev pub mark_of : Marks → ℕ → Place

@@ -3,6 +3,7 @@ pub mod Documents
 pub mod Edits
 pub mod History
 pub mod Indices
+pub mod Inside
 pub mod Kept
 pub mod Keys
 pub mod Marks

@@ -43,19 +43,18 @@ impl<S: TextStore> Model for Document<S> {
     ghost use Rattle.std.specs.FinSet as set;
     ghost use Rattle.text_model.specs.contracts.places.Place as place;
     ghost use Rattle.documents.specs.Keys.{key_cmp, key_code};
-    ghost use Rattle.documents.specs.Documents.{Document as DocumentState, document_of, parts_of};
+    ghost use Rattle.documents.specs.Documents.{Document as DocumentState, document_of};
     ghost use Rattle.documents.specs.Kept.{IsSound};
 
     ghost Value = { DocumentState };
 
     ghost coded = { Prim.hlevel (codes, place.the_row.coded, set.code {R = key_cmp} key_code) };
 
-    ghost view = { λ d. document_of (parts_of d.seats d.tags d.marks d.settings d.disabled.items d.text.anchors.items
-        d.text.history (S.content d.text.store)) };
+    ghost use Rattle.documents.specs.Inside.{parts_of};
 
-    ghost invariant = { λ d.
-        IsSound (parts_of d.seats d.tags d.marks d.settings d.disabled.items d.text.anchors.items d.text.history
-        (S.content d.text.store)) };
+    ghost view = { λ d. document_of (parts_of S.content d) };
+
+    ghost invariant = { λ d. IsSound (parts_of S.content d) };
 }
 
 /// The greatest limits that there are. A table of names is made for these, and a command counts by its own.

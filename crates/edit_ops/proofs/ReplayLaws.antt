@@ -7,7 +7,7 @@ use Rattle.std.specs.List.{All}
 use Rattle.std.proofs.lemmas.Bool.{false≢true, leb-true, ltb-true, and_parts}
 use Rattle.std.proofs.lemmas.List.{reverse-append, length-reverse, map-append, length-map, get_or-map, get_or-reverse}
 use Rattle.std.proofs.lemmas.List.{drop_more}
-use Rattle.std.proofs.lemmas.Option.{get_or_from_slice_get}
+use Rattle.std.proofs.lemmas.Option.{get_or_from_slice_get, none-some, same_Some}
 use Rattle.text_model.specs.declared.cells.Cell.{Cell}
 use Rattle.text_model.specs.declared.edits.Step.TheVariants.{Insert, Remove, PutMark}
 use Rattle.text_model.specs.Content.{Content, Slots, characters}
@@ -34,9 +34,9 @@ use Rattle.undo_stack.specs.Fits.{put_in, take_out, repeated, reverted, repeated
 use Rattle.undo_stack.specs.Fits.{FitsText}
 use Rattle.undo_stack.specs.History.{History, next_undo, next_redo}
 use Rattle.undo_stack.proofs.FitsLaws.{undo-goes, redo-goes}
-use Rattle.edit_ops.specs.declared.plans.Notes.{Notes}
+use Rattle.edit_ops.specs.declared.plans.Effects.{Effects}
 use Rattle.edit_ops.specs.declared.plans.Notes.TheVariants.{Undone, Redone}
-use Rattle.edit_ops.specs.Plans.{group_moved, planned}
+use Rattle.edit_ops.specs.Plans.{anchors_left, group_moved, log_after, planned}
 use Rattle.text_cursor.proofs.CursorLaws.{whole-is}
 use Rattle.edit_ops.proofs.InsertLaws.{stand-moved}
 use Rattle.text_cursor.proofs.AroundLaws.{length-characters, line-front, line-before, next_line-is}
@@ -484,28 +484,32 @@ plan-widgets mark back found made content anchors old log makes =
     ap (λ (s : State). length s.anchors) (makes log)
     ∙ replayed-widgets mark (option_map (replays back) found) (state_of content old log)
 
-pub undo-planned : (mark : ℕ) (found : Option (List Action)) (notes : Notes) (made content : Content)
-    (anchors old : List Anchors) (log : Log) → notes ≡ Undone → found ≡ next_undo log.history
-    → ((log : Log) → state_of made anchors log
+pub undo-planned : (mark : ℕ) (found : Option (List Action)) (effects : Option Effects) (made content : Content)
+    (old : List Anchors) (log : Log) → option_map (λ (e : Effects). e.notes) effects ≡ Some Undone
+    → found ≡ next_undo log.history
+    → ((log : Log) → state_of made (anchors_left effects old) log
     ≡ replayed_group mark (option_map (replays true) found) (state_of content old log))
-    → planned notes made anchors log ≡ undone mark (state_of content old log)
-undo-planned mark found notes made content anchors old log notes_are found_is makes =
+    → planned effects made old log ≡ undone mark (state_of content old log)
+undo-planned mark found None made content old log notes_are found_is makes = absurd (none-some _ notes_are)
+undo-planned mark found (Some effects) made content old log notes_are found_is makes =
     let state = state_of content old log in
-    ap (λ n. planned n made anchors log) notes_are
+    ap (λ n. state_of made effects.anchors.items (log_after n log)) (same_Some _ _ notes_are)
     ∙ ap (λ (s : State). state_of s.content s.anchors (group_moved log_undone (next_undo log.history) log)) (makes log)
     ∙ ap (λ f. state_of (replayed_group mark (option_map (replays true) f) state).content
     (replayed_group mark (option_map (replays true) f) state).anchors
     (group_moved log_undone (next_undo log.history) log)) found_is
     ∙ undone-is mark (next_undo log.history) state
 
-pub redo-planned : (mark : ℕ) (found : Option (List Action)) (notes : Notes) (made content : Content)
-    (anchors old : List Anchors) (log : Log) → notes ≡ Redone → found ≡ next_redo log.history
-    → ((log : Log) → state_of made anchors log
+pub redo-planned : (mark : ℕ) (found : Option (List Action)) (effects : Option Effects) (made content : Content)
+    (old : List Anchors) (log : Log) → option_map (λ (e : Effects). e.notes) effects ≡ Some Redone
+    → found ≡ next_redo log.history
+    → ((log : Log) → state_of made (anchors_left effects old) log
     ≡ replayed_group mark (option_map (replays false) found) (state_of content old log))
-    → planned notes made anchors log ≡ redone mark (state_of content old log)
-redo-planned mark found notes made content anchors old log notes_are found_is makes =
+    → planned effects made old log ≡ redone mark (state_of content old log)
+redo-planned mark found None made content old log notes_are found_is makes = absurd (none-some _ notes_are)
+redo-planned mark found (Some effects) made content old log notes_are found_is makes =
     let state = state_of content old log in
-    ap (λ n. planned n made anchors log) notes_are
+    ap (λ n. state_of made effects.anchors.items (log_after n log)) (same_Some _ _ notes_are)
     ∙ ap (λ (s : State). state_of s.content s.anchors (group_moved log_redone (next_redo log.history) log)) (makes log)
     ∙ ap (λ f. state_of (replayed_group mark (option_map (replays false) f) state).content
     (replayed_group mark (option_map (replays false) f) state).anchors

@@ -10,10 +10,6 @@ use Rattle.text_model.specs.Steps.{Fits, StepFits, after, with_slot}
 use Rattle.text_model.specs.TagBits.{slot_count}
 use Rattle.text_model.proofs.SpliceLaws.{map-map}
 use Rattle.text_model.proofs.StepLaws.{Fits-append, after-append, length-after_step}
-use Rattle.undo_stack.specs.declared.actions.EditKind.{EditKind}
-use Rattle.edit_ops.specs.declared.anchors.Anchors.{Anchors}
-use Rattle.edit_ops.specs.declared.plans.Recording.{Recording}
-use Rattle.edit_ops.specs.States.{Log, Draft, drafted, state_of}
 use Rattle.edit_ops.specs.declared.spans.Span.{Span}
 use Rattle.edit_ops.specs.Tagging.{SpanFits, tagged, cell_without, cleared}
 
@@ -74,11 +70,3 @@ clearing-more slots steps i d content known within so_far =
           ∙ one-cleared slot (drop (i + 1) slots) before
           ∙ ap (λ left. cleared (numbers left) before) (sym (drop_more slots i d within)) ∙ so_far.makes;
     }
-
-pub steps-made : (recording : Recording) (kind : EditKind) (draft : Draft) (steps : List Step) (anchors : List Anchors)
-    (content made : Content) (log : Log)
-    → draft ≡ record { steps = steps; anchors = anchors; actions = [] } → after steps content ≡ made
-    → drafted recording kind draft (state_of content draft.anchors log) ≡ state_of made anchors log
-steps-made recording kind draft steps anchors content made log is makes =
-    ap (λ (d : Draft). drafted recording kind d (state_of content d.anchors log)) is
-    ∙ ap (λ c. state_of c anchors log) makes

@@ -23,7 +23,7 @@ pub use deletions::plan_delete;
 pub use faults::EditFault;
 pub use insertions::{count_of, plan_insert};
 pub use pieces::Piece;
-pub use plans::{Notes, Plan, Recording, commit};
+pub use plans::{Effects, Notes, Plan, Recording, commit};
 pub use replacements::plan_replace;
 pub use reversals::{plan_redo, plan_undo};
 pub use spans::Span;

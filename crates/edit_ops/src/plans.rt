@@ -1,6 +1,6 @@
 ghost use Rattle.std.specs.Prelude.{◌≡◌, ◌≤◌, true, length, IfOk};
 ghost use Rattle.text_model.specs.Steps.{Fits, after};
-ghost use Rattle.edit_ops.specs.Plans.{log_after, planned, HasRoom};
+ghost use Rattle.edit_ops.specs.Plans.{anchors_left, log_after, planned, HasRoom, HasRoomFor};
 ghost use Rattle.edit_ops.specs.States.{log_of, state_in, all_noted, drafted, IsUnchanged};
 
 use crate::anchors::Anchors;
@@ -30,12 +30,19 @@ pub enum Notes {
     Redone,
 }
 
+/// What a plan changes besides the store: where the anchors of each widget then stand, and what is noted.
+#[derive(Drop)]
+pub struct Effects {
+    pub anchors: Vec<Anchors>,
+    pub notes: Notes,
+}
+
 /// The whole effect of a command, for which all memory is there.
 #[derive(Drop)]
 pub struct Plan<S: TextStore> {
     prepared: S::Prepared,
-    anchors: Vec<Anchors>,
-    notes: Notes,
+    // none where no character comes or goes, as where spans are tagged
+    effects: Option<Effects>,
 }
 
 /// Notes actions of an edit of a kind, for which there is room.
@@ -72,12 +79,11 @@ fn note(history: &mut UndoStack, notes: Notes)
     }
 }
 
-/// Makes a plan of steps, anchors and notes, with all memory that the steps take. Nothing that can be seen changes.
+/// Makes a plan of steps and effects, with all memory that the steps take. Nothing that can be seen changes.
 pub fn prepare_steps<S: TextStore>(
     text: &mut EditedText<S>,
     steps: StepList,
-    anchors: Vec<Anchors>,
-    notes: Notes,
+    effects: Option<Effects>,
 ) -> Result<Plan<S>, AllocError>
     requires { Fits steps (S.content text.old.store) }
     ensures same { IsUnchanged S.content text.old text.new }
@@ -85,15 +91,10 @@ pub fn prepare_steps<S: TextStore>(
     ensures ready { IfOk result (λ plan. S.ready text.new.store plan.prepared) }
     ensures outcome { IfOk result (λ plan.
         S.outcome text.new.store plan.prepared ≡ after steps (S.content text.old.store)) }
-    ensures anchors { IfOk result (λ plan. plan.anchors.items ≡ anchors.items) }
-    ensures notes { IfOk result (λ plan. plan.notes ≡ notes) }
+    ensures effects { IfOk result (λ plan. plan.effects ≡ effects) }
 {
     let prepared = text.store.prepare_owned(Edit { steps })?;
-    Ok(Plan {
-        prepared,
-        anchors,
-        notes,
-    })
+    Ok(Plan { prepared, effects })
 }
 
 /// Makes a plan of a draft, with all memory that it takes. Nothing that can be seen changes.
@@ -106,11 +107,11 @@ pub fn prepare<S: TextStore>(
     requires { Fits draft.steps (S.content text.old.store) }
     ensures same { IsUnchanged S.content text.old text.new }
     ensures ready { IfOk result (λ plan. S.ready text.new.store plan.prepared) }
-    ensures room { IfOk result (λ plan. HasRoom plan.notes text.new.history) }
+    ensures room { IfOk result (λ plan. HasRoomFor plan.effects text.new.history) }
     ensures outcome { IfOk result (λ plan.
-        planned plan.notes (S.outcome text.new.store plan.prepared) plan.anchors.items (log_of text.old.history)
+        planned plan.effects (S.outcome text.new.store plan.prepared) text.old.anchors.items (log_of text.old.history)
         ≡ drafted recording kind draft (state_in S.content text.old)) }
-    ensures widgets { IfOk result (λ plan. plan.anchors.items ≡ draft.anchors) }
+    ensures widgets { IfOk result (λ plan. anchors_left plan.effects text.old.anchors.items ≡ draft.anchors) }
 {
     if recording.undo {
         text.history.reserve(draft.actions.len())?;
@@ -122,24 +123,22 @@ pub fn prepare<S: TextStore>(
         ..
     } = draft;
     let notes = Notes::Made(kind, actions, recording);
-    prepare_steps(text, steps, anchors, notes)
+    prepare_steps(text, steps, Some(Effects { anchors, notes }))
 }
 
 /// Carries out a plan, which can't fail. The text has to be as the call that made the plan left it.
 pub fn commit<S: TextStore>(plan: Plan<S>, text: &mut EditedText<S>)
     requires ready { S.ready text.old.store plan.prepared }
-    requires room { HasRoom plan.notes text.old.history }
-    ensures { state_in S.content text.new
-        ≡ planned plan.notes (S.outcome text.old.store plan.prepared) plan.anchors.items (log_of text.old.history) }
+    requires room { HasRoomFor plan.effects text.old.history }
+    ensures { state_in S.content text.new ≡ planned plan.effects (S.outcome text.old.store plan.prepared)
+        text.old.anchors.items (log_of text.old.history) }
 {
-    let Plan {
-        prepared,
-        anchors,
-        notes,
-    } = plan;
-    text.store.commit(prepared);
-    text.anchors = anchors;
-    note(&mut text.history, notes);
+    text.store.commit(plan.prepared);
+    let Some(effects) = plan.effects else {
+        return;
+    };
+    text.anchors = effects.anchors;
+    note(&mut text.history, effects.notes);
     // Where noting made groups go, what they held goes too.
     text.history.give_back_room();
 }

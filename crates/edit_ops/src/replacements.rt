@@ -3,7 +3,7 @@ ghost use Rattle.std.specs.List.{All};
 ghost use Rattle.edit_ops.specs.Anchors.{AnchorsStand};
 ghost use Rattle.edit_ops.specs.Insertions.{total};
 ghost use Rattle.edit_ops.specs.Removals.{clipped, removed_span, replaced_span, replaced};
-ghost use Rattle.edit_ops.specs.Plans.{planned, HasRoom};
+ghost use Rattle.edit_ops.specs.Plans.{anchors_left, planned, HasRoomFor};
 ghost use Rattle.edit_ops.specs.declared.plans.Recording.{Recording};
 ghost use Rattle.edit_ops.specs.States.{Log, log_of, state_of, state_in, drafted, IsUnchanged};
 ghost use Rattle.text_model.specs.Splices.{removed};
@@ -123,10 +123,10 @@ pub fn plan_replace<S: TextStore>(
         (rules.now.limits.now.chars < length (S.content text.old.store).cells
         - (min target.to target.last - min target.from target.last) + total pieces.items)) }
     ensures ready { IfOk result (λ plan. S.ready text.new.store plan.prepared) }
-    ensures room { IfOk result (λ plan. HasRoom plan.notes text.new.history) }
-    ensures widgets { IfOk result (λ plan. length plan.anchors.items ≡ length text.old.anchors.items) }
+    ensures room { IfOk result (λ plan. HasRoomFor plan.effects text.new.history) }
+    ensures widgets { IfOk result (λ plan. length (anchors_left plan.effects text.old.anchors.items) ≡ length text.old.anchors.items) }
     ensures outcome { IfOk result (λ plan.
-        planned plan.notes (S.outcome text.new.store plan.prepared) plan.anchors.items (log_of text.old.history)
+        planned plan.effects (S.outcome text.new.store plan.prepared) text.old.anchors.items (log_of text.old.history)
         ≡ replaced rules.now.recording target.mark.0 target.last target.from target.to pieces.items
         (state_in S.content text.old)) }
 {

@@ -3,7 +3,7 @@ ghost use Rattle.std.specs.Prelude.{IsSome, IfSome, true, false, if◌then◌els
 ghost use Rattle.std.specs.Prelude.{option_and_then};
 ghost use Rattle.std.specs.List.{All};
 ghost use Rattle.edit_ops.specs.Anchors.{AnchorsStand};
-ghost use Rattle.edit_ops.specs.Plans.{planned, HasRoom};
+ghost use Rattle.edit_ops.specs.Plans.{anchors_left, planned, HasRoomFor};
 ghost use Rattle.edit_ops.specs.Replays.{Follows, drawn_up, replays, replayed_group};
 ghost use Rattle.edit_ops.specs.Reversals.{put_back, taken_back, action_redone, group_redone, redo_end, stood, undone};
 ghost use Rattle.edit_ops.specs.Reversals.{redone};
@@ -17,7 +17,7 @@ use crate::drafts::Draft;
 use crate::faults::EditFault;
 use crate::insertions::count_of;
 use crate::orders::put_in_order;
-use crate::plans::{Notes, Plan, prepare_steps};
+use crate::plans::{Effects, Notes, Plan, prepare_steps};
 use crate::texts::EditedText;
 use std::alloc::{AllocError, Global};
 use text_cursor::Cursor;
@@ -256,9 +256,9 @@ fn plan_reversal<S: TextStore>(
     ensures same { IsUnchanged S.content text.old text.new }
     ensures refused { IfErr result (λ fault. fault ≡ EditFault.Memory) }
     ensures ready { IfOk result (λ plan. S.ready text.new.store plan.prepared) }
-    ensures notes { IfOk result (λ plan. plan.notes ≡ notes) }
+    ensures notes { IfOk result (λ plan. option_map (λ effects. effects.notes) plan.effects ≡ Some notes) }
     ensures outcome { IfOk result (λ plan. (log : Log) →
-        state_of (S.outcome text.new.store plan.prepared) plan.anchors.items log
+        state_of (S.outcome text.new.store plan.prepared) (anchors_left plan.effects text.old.anchors.items) log
         ≡ drawn_up draft (S.content text.old.store) log) }
 {
     let Draft {
@@ -268,7 +268,7 @@ fn plan_reversal<S: TextStore>(
         ..
     } = draft;
     let steps = put_in_order(alloc, steps)?;
-    Ok(prepare_steps(text, steps, anchors, notes)?)
+    Ok(prepare_steps(text, steps, Some(Effects { anchors, notes }))?)
 }
 
 /// A plan that reverts the actions of the last group, the last first; nothing, where there is no group. A text that was
@@ -287,10 +287,10 @@ pub fn plan_undo<S: TextStore>(
     ensures same { IsUnchanged S.content text.old text.new }
     ensures refused { IfErr result (λ fault. fault ≡ EditFault.Memory) }
     ensures ready { IfOk result (λ plan. S.ready text.new.store plan.prepared) }
-    ensures room { IfOk result (λ plan. HasRoom plan.notes text.new.history) }
-    ensures widgets { IfOk result (λ plan. length plan.anchors.items ≡ length text.old.anchors.items) }
+    ensures room { IfOk result (λ plan. HasRoomFor plan.effects text.new.history) }
+    ensures widgets { IfOk result (λ plan. length (anchors_left plan.effects text.old.anchors.items) ≡ length text.old.anchors.items) }
     ensures outcome { IfOk result (λ plan.
-        planned plan.notes (S.outcome text.new.store plan.prepared) plan.anchors.items (log_of text.old.history)
+        planned plan.effects (S.outcome text.new.store plan.prepared) text.old.anchors.items (log_of text.old.history)
         ≡ undone mark.0 (state_in S.content text.old)) }
 {
     let group = text.history.last_undo();
@@ -313,10 +313,10 @@ pub fn plan_redo<S: TextStore>(
     ensures same { IsUnchanged S.content text.old text.new }
     ensures refused { IfErr result (λ fault. fault ≡ EditFault.Memory) }
     ensures ready { IfOk result (λ plan. S.ready text.new.store plan.prepared) }
-    ensures room { IfOk result (λ plan. HasRoom plan.notes text.new.history) }
-    ensures widgets { IfOk result (λ plan. length plan.anchors.items ≡ length text.old.anchors.items) }
+    ensures room { IfOk result (λ plan. HasRoomFor plan.effects text.new.history) }
+    ensures widgets { IfOk result (λ plan. length (anchors_left plan.effects text.old.anchors.items) ≡ length text.old.anchors.items) }
     ensures outcome { IfOk result (λ plan.
-        planned plan.notes (S.outcome text.new.store plan.prepared) plan.anchors.items (log_of text.old.history)
+        planned plan.effects (S.outcome text.new.store plan.prepared) text.old.anchors.items (log_of text.old.history)
         ≡ redone mark.0 (state_in S.content text.old)) }
 {
     let group = text.history.last_redo();

@@ -1,22 +1,20 @@
 ghost use Rattle.std.specs.Prelude.{◌≡◌, ◌<◌, length, map, IfOk, IfErr};
 ghost use Rattle.std.specs.List.{All};
 ghost use Rattle.edit_ops.specs.Tagging.{SpanFits, tagged, cleared};
-ghost use Rattle.edit_ops.specs.Plans.{planned, HasRoom};
+ghost use Rattle.edit_ops.specs.Plans.{anchors_left, planned, HasRoomFor};
 ghost use Rattle.edit_ops.specs.States.{log_of, state_of, IsUnchanged};
 ghost use Rattle.text_model.specs.Content.{Content};
 ghost use Rattle.text_model.specs.Steps.{Fits, after};
 ghost use Rattle.text_model.specs.TagBits.{slot_count};
 ghost use Rattle.text_model.specs.declared.places.TagSlot.{TagSlot};
 
-use crate::drafts::Draft;
 use crate::faults::EditFault;
-use crate::plans::{Plan, Recording, prepare};
+use crate::plans::{Plan, prepare_steps};
 use crate::runs::union;
 use crate::spans::Span;
 use crate::texts::EditedText;
 use std::alloc::{AllocError, Global};
 use text_model::{Step, StepList, TagSlot, TextStore};
-use undo_stack::EditKind;
 
 /// The steps that set a slot on spans of a text of so many characters, or take it off them, one after the other.
 fn span_steps(
@@ -66,30 +64,6 @@ fn tag_steps(
     span_steps(alloc, runs.as_slice(), slot, is_on, len)
 }
 
-/// A plan that makes steps of which nothing is noted.
-fn plan_steps<S: TextStore>(
-    alloc: Global,
-    text: &mut EditedText<S>,
-    steps: StepList,
-) -> Result<Plan<S>, EditFault>
-    requires { Fits steps (S.content text.old.store) }
-    ensures same { IsUnchanged S.content text.old text.new }
-    ensures refused { IfErr result (λ fault. fault ≡ EditFault.Memory) }
-    ensures ready { IfOk result (λ plan. S.ready text.new.store plan.prepared) }
-    ensures room { IfOk result (λ plan. HasRoom plan.notes text.new.history) }
-    ensures widgets { IfOk result (λ plan. length plan.anchors.items ≡ length text.old.anchors.items) }
-    ensures outcome { IfOk result (λ plan.
-        planned plan.notes (S.outcome text.new.store plan.prepared) plan.anchors.items (log_of text.old.history)
-        ≡ state_of (after steps (S.content text.old.store)) text.old.anchors.items (log_of text.old.history)) }
-{
-    let draft = Draft::of_steps(alloc, text, steps, 0)?;
-    let recording = Recording {
-        undo: false,
-        separators: false,
-    };
-    Ok(prepare(text, draft, EditKind::Insert, recording)?)
-}
-
 /// A plan that sets a slot on spans, or takes it off them (text(n), "tag add" and "tag remove"). Nothing is noted.
 pub fn plan_tag<S: TextStore>(
     alloc: Global,
@@ -103,15 +77,15 @@ pub fn plan_tag<S: TextStore>(
     ensures same { IsUnchanged S.content text.old text.new }
     ensures refused { IfErr result (λ fault. fault ≡ EditFault.Memory) }
     ensures ready { IfOk result (λ plan. S.ready text.new.store plan.prepared) }
-    ensures room { IfOk result (λ plan. HasRoom plan.notes text.new.history) }
-    ensures widgets { IfOk result (λ plan. length plan.anchors.items ≡ length text.old.anchors.items) }
+    ensures room { IfOk result (λ plan. HasRoomFor plan.effects text.new.history) }
+    ensures widgets { IfOk result (λ plan. length (anchors_left plan.effects text.old.anchors.items) ≡ length text.old.anchors.items) }
     ensures outcome { IfOk result (λ plan.
-        planned plan.notes (S.outcome text.new.store plan.prepared) plan.anchors.items (log_of text.old.history)
+        planned plan.effects (S.outcome text.new.store plan.prepared) text.old.anchors.items (log_of text.old.history)
         ≡ state_of (tagged slot.0 is_on spans.now (S.content text.old.store)) text.old.anchors.items
         (log_of text.old.history)) }
 {
     let steps = tag_steps(alloc, spans, slot, is_on, text.store.len())?;
-    plan_steps(alloc, text, steps)
+    Ok(prepare_steps(text, steps, None)?)
 }
 
 /// The steps that take slots off all characters.
@@ -138,13 +112,13 @@ pub fn plan_clear<S: TextStore>(
     ensures same { IsUnchanged S.content text.old text.new }
     ensures refused { IfErr result (λ fault. fault ≡ EditFault.Memory) }
     ensures ready { IfOk result (λ plan. S.ready text.new.store plan.prepared) }
-    ensures room { IfOk result (λ plan. HasRoom plan.notes text.new.history) }
-    ensures widgets { IfOk result (λ plan. length plan.anchors.items ≡ length text.old.anchors.items) }
+    ensures room { IfOk result (λ plan. HasRoomFor plan.effects text.new.history) }
+    ensures widgets { IfOk result (λ plan. length (anchors_left plan.effects text.old.anchors.items) ≡ length text.old.anchors.items) }
     ensures outcome { IfOk result (λ plan.
-        planned plan.notes (S.outcome text.new.store plan.prepared) plan.anchors.items (log_of text.old.history)
+        planned plan.effects (S.outcome text.new.store plan.prepared) text.old.anchors.items (log_of text.old.history)
         ≡ state_of (cleared (map (λ (slot : TagSlot). slot.0) slots.now) (S.content text.old.store))
         text.old.anchors.items (log_of text.old.history)) }
 {
     let steps = clear_steps(alloc, slots)?;
-    plan_steps(alloc, text, steps)
+    Ok(prepare_steps(text, steps, None)?)
 }

@@ -5,7 +5,8 @@ use Rattle.text_model.specs.Content.{Content}
 use Rattle.text_model.specs.declared.places.TagSlot.{TagSlot}
 use Rattle.tcl_words.specs.Unread.{texts_of}
 use Rattle.command_effects.specs.Edits.{without_widgets}
-use Rattle.documents.specs.Documents.{Document, document_of, parts_of}
+use Rattle.documents.specs.Documents.{Document, document_of}
+use Rattle.documents.specs.Inside.{parts_of}
 use Rattle.documents.specs.Kept.{Stands}
 use Rattle.documents.specs.WellFormed.{IsWellFormedDocument}
 use Rattle.documents.specs.Widgets as widgets
@@ -21,8 +22,7 @@ pub documents::Document::drop_with-returns-in_err-change-clause-err :
 documents::Document::drop_with-returns-in_err-change-clause-err g t c =
     let old = c.self.inside in
     let same = ap (λ (content : Content).
-    document_of (parts_of old.seats old.tags old.marks old.settings old.disabled.items old.text.anchors.items old.text.history
-    content)) c.prepare_drop.ensures.same in
+    document_of (record (parts_of g.S.TextStore.content old) { content = content })) c.prepare_drop.ensures.same in
     on_err c.from_residual-in_err-change.result (same ∙ c.self.view_is, λ _. c.args.others.now)
 
 pub documents::Document::drop_with-returns-in_err-drop_widgets-clause-err :
@@ -30,8 +30,7 @@ pub documents::Document::drop_with-returns-in_err-drop_widgets-clause-err :
 documents::Document::drop_with-returns-in_err-drop_widgets-clause-err g t c =
     let old = c.self.inside in
     let same = ap (λ (content : Content).
-    document_of (parts_of old.seats old.tags old.marks old.settings old.disabled.items old.text.anchors.items old.text.history
-    content)) c.prepare_drop.ensures.same in
+    document_of (record (parts_of g.S.TextStore.content old) { content = content })) c.prepare_drop.ensures.same in
     on_err c.from_residual-in_err-drop_widgets.result (same ∙ c.self.view_is, c.in_err-drop_widgets.ensures.err)
 
 pub documents::Document::drop_with-invariant_of-self-2 : goal.documents::Document::drop_with-invariant_of-self-2
@@ -39,8 +38,7 @@ documents::Document::drop_with-invariant_of-self-2 g t c =
     let old = c.self.inside in
     let before = g.S.TextStore.content old.text.store in
     let after = g.S.TextStore.content c.commit.new.self in
-    let parts = parts_of old.seats old.tags old.marks old.settings old.disabled.items old.text.anchors.items old.text.history
-    before in
+    let parts = parts_of g.S.TextStore.content old in
     let stands : Stands parts c.args.self.now = record { sound = c.self.invariant; is = c.self.view_is } in
     let content = c.commit.ensures ∙ c.in_ok-change.ensures.outcome
     ∙ ap (λ (slots : List TagSlot). without_widgets (map (λ (slot : TagSlot). slot.0) slots) before)
@@ -54,8 +52,7 @@ documents::Document::drop_with-returns-clause-ok g t c =
     let names = texts_of c.args.names.now in
     let before = g.S.TextStore.content old.text.store in
     let after = g.S.TextStore.content c.commit.new.self in
-    let parts = parts_of old.seats old.tags old.marks old.settings old.disabled.items old.text.anchors.items old.text.history
-    before in
+    let parts = parts_of g.S.TextStore.content old in
     let stands : Stands parts c.args.self.now = record { sound = c.self.invariant; is = c.self.view_is } in
     let content = c.commit.ensures ∙ c.in_ok-change.ensures.outcome
     ∙ ap (λ (slots : List TagSlot). without_widgets (map (λ (slot : TagSlot). slot.0) slots) before)
@@ -71,8 +68,7 @@ documents::Document::drop_with-returns-clause-well_formed g t c =
     let old = c.self.inside in
     let before = g.S.TextStore.content old.text.store in
     let after = g.S.TextStore.content c.commit.new.self in
-    let parts = parts_of old.seats old.tags old.marks old.settings old.disabled.items old.text.anchors.items old.text.history
-    before in
+    let parts = parts_of g.S.TextStore.content old in
     let stands : Stands parts c.args.self.now = record { sound = c.self.invariant; is = c.self.view_is } in
     let content = c.commit.ensures ∙ c.in_ok-change.ensures.outcome
     ∙ ap (λ (slots : List TagSlot). without_widgets (map (λ (slot : TagSlot). slot.0) slots) before)

@@ -1,5 +1,6 @@
 use Rattle.std.proofs.Common.{false, ◌∙◌}
 use Rattle.text_model.specs.Content.{characters}
+use Rattle.edit_ops.specs.Plans.{anchors_left}
 use Rattle.edit_ops.specs.States.{log_of}
 use Rattle.edit_ops.proofs.ReplayLaws.{redo-fits-replay, redo-planned, plan-widgets}
 use Rattle.edit_ops.proofs.reversals.plan_redo.Goals as goal
@@ -13,11 +14,11 @@ draft_reversal-requires-clause-fits g c =
 pub returns-clause-widgets : goal.returns-clause-widgets
 returns-clause-widgets g c =
     plan-widgets c.args.mark.0 false c.last_redo-group.result _ (g.S.TextStore.content c.args.text.now.store)
-    c.in_ok-plan.plan.anchors.items c.args.text.now.anchors.items (log_of c.args.text.now.history)
+    (anchors_left c.in_ok-plan.plan.effects c.args.text.now.anchors.items) c.args.text.now.anchors.items (log_of c.args.text.now.history)
     (λ log. c.in_ok-plan.ensures.outcome log ∙ c.in_ok-draft.ensures.makes log)
 
 pub returns-clause-outcome : goal.returns-clause-outcome
 returns-clause-outcome g c =
-    redo-planned c.args.mark.0 c.last_redo-group.result c.in_ok-plan.plan.notes _ (g.S.TextStore.content c.args.text.now.store)
-    c.in_ok-plan.plan.anchors.items c.args.text.now.anchors.items (log_of c.args.text.now.history)
+    redo-planned c.args.mark.0 c.last_redo-group.result c.in_ok-plan.plan.effects _ (g.S.TextStore.content c.args.text.now.store)
+    c.args.text.now.anchors.items (log_of c.args.text.now.history)
     c.in_ok-plan.ensures.notes c.last_redo-group.ensures (λ log. c.in_ok-plan.ensures.outcome log ∙ c.in_ok-draft.ensures.makes log)

@@ -1,5 +1,5 @@
 use Rattle.std.proofs.Common.{sym}
 use Rattle.edit_ops.proofs.tagging.plan_tag.Goals as goal
 
-pub plan_steps-requires : goal.plan_steps-requires
-plan_steps-requires g c = (c.in_ok-steps.ensures (g.S.TextStore.content c.args.text.now.store) (sym c.len.ensures)).0
+pub prepare_steps-requires : goal.prepare_steps-requires
+prepare_steps-requires g c = (c.in_ok-steps.ensures (g.S.TextStore.content c.args.text.now.store) (sym c.len.ensures)).0

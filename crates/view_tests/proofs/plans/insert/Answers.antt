@@ -5,7 +5,7 @@ use Rattle.undo_stack.specs.declared.actions.EditKind.TheVariants.{Insert}
 use Rattle.edit_ops.specs.Insertions.{total}
 use Rattle.edit_ops.specs.Keeping.{IsKept}
 use Rattle.edit_ops.specs.Plans.{planned}
-use Rattle.edit_ops.specs.States.{Log}
+use Rattle.edit_ops.specs.States.{Log, log_of}
 use Rattle.edit_ops.proofs.KeepLaws.{texts-kept}
 use Rattle.view_tests.specs.declared.plans.TheConstants.{RECORDING}
 use Rattle.view_tests.proofs.plans.insert.Goals as goal
@@ -22,7 +22,8 @@ returns g c kept =
     let content = g.S.TextStore.content c.args.text.now.store in
     let made = g.S.TextStore.outcome c.plan_insert.new.text.store plan.prepared in
     let is = c.commit.ensures
-    ∙ ap (λ (log : Log). planned plan.notes made plan.anchors.items log) c.plan_insert.ensures.same.1
+    ∙ ap (λ (log : Log). planned plan.effects made c.plan_insert.new.text.anchors.items log) c.plan_insert.ensures.same.1
+    ∙ ap (λ anchors. planned plan.effects made anchors (log_of c.args.text.now.history)) c.plan_insert.ensures.same.2
     ∙ c.in_ok-plan.ensures.outcome in
     let short = not-above (length content.cells + total c.in_ok-piece.field-0.items) c.args.limits.now.chars
     (λ less. false≢true (sym (ap is_ok (c.plan_insert.ensures.too_long.1 less)) ∙ ap is_ok c.in_ok-plan.was)) in

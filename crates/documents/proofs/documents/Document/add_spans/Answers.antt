@@ -8,7 +8,8 @@ use Rattle.index_grammar.specs.Names.{known_tags}
 use Rattle.tag_table.specs.Tags.{names_of, sel, slot_of}
 use Rattle.edit_ops.specs.States.{log_of}
 use Rattle.edit_ops.specs.Tagging.{SpanFits, tagged}
-use Rattle.documents.specs.Documents.{document_of, parts_of, widget_at}
+use Rattle.documents.specs.Documents.{document_of, widget_at}
+use Rattle.documents.specs.Inside.{parts_of}
 use Rattle.documents.specs.Kept.{Stands}
 use Rattle.documents.specs.Tags.{add_spans}
 use Rattle.documents.proofs.ChangeLaws.{does-left, stands-same, table-back}
@@ -21,8 +22,7 @@ pub tag_spans-tagged-requires-clause-spans : goal.tag_spans-tagged-requires-clau
 tag_spans-tagged-requires-clause-spans g c =
     let old = c.self.inside in
     let document = c.args.self.now in
-    let parts = parts_of old.seats old.tags old.marks old.settings old.disabled.items old.text.anchors.items old.text.history
-    (g.S.TextStore.content old.text.store) in
+    let parts = parts_of g.S.TextStore.content old in
     let stands : Stands parts document = record { sound = c.self.invariant; is = c.self.view_is } in
     subst (λ (n : ℕ). All (SpanFits n) c.deref.result.now) (cells-kept parts document stands.is)
     (subst (All (SpanFits (length document.cells))) (sym c.deref.ensures.value) c.in_ok-spans.ensures.fit)
@@ -36,8 +36,7 @@ pub invariant_of-self : goal.invariant_of-self
 invariant_of-self g c =
     let old = c.self.inside in
     let document = c.args.self.now in
-    let parts = parts_of old.seats old.tags old.marks old.settings old.disabled.items old.text.anchors.items old.text.history
-    (g.S.TextStore.content old.text.store) in
+    let parts = parts_of g.S.TextStore.content old in
     let stands : Stands parts document = record { sound = c.self.invariant; is = c.self.view_is } in
     let new = c.tag_spans-tagged.new in
     let word = chars c.args.name.now in
@@ -70,8 +69,7 @@ pub returns-in-Ok : goal.returns-in-Ok
 returns-in-Ok g c =
     let old = c.self.inside in
     let document = c.args.self.now in
-    let parts = parts_of old.seats old.tags old.marks old.settings old.disabled.items old.text.anchors.items old.text.history
-    (g.S.TextStore.content old.text.store) in
+    let parts = parts_of g.S.TextStore.content old in
     let stands : Stands parts document = record { sound = c.self.invariant; is = c.self.view_is } in
     let new = c.tag_spans-tagged.new in
     let word = chars c.args.name.now in
@@ -104,8 +102,7 @@ pub invariant_of-self-in-Err : goal.invariant_of-self-in-Err
 invariant_of-self-in-Err g c =
     let old = c.self.inside in
     let document = c.args.self.now in
-    let parts = parts_of old.seats old.tags old.marks old.settings old.disabled.items old.text.anchors.items old.text.history
-    (g.S.TextStore.content old.text.store) in
+    let parts = parts_of g.S.TextStore.content old in
     let stands : Stands parts document = record { sound = c.self.invariant; is = c.self.view_is } in
     let new = c.tag_spans-tagged.new in
     let content = g.S.TextStore.content new.text.store in
@@ -121,8 +118,7 @@ pub returns : goal.returns
 returns g c =
     let old = c.self.inside in
     let document = c.args.self.now in
-    let parts = parts_of old.seats old.tags old.marks old.settings old.disabled.items old.text.anchors.items old.text.history
-    (g.S.TextStore.content old.text.store) in
+    let parts = parts_of g.S.TextStore.content old in
     let stands : Stands parts document = record { sound = c.self.invariant; is = c.self.view_is } in
     let new = c.tag_spans-tagged.new in
     let content = g.S.TextStore.content new.text.store in
@@ -141,8 +137,7 @@ pub returns-then-is_one_too_many : goal.returns-then-is_one_too_many
 returns-then-is_one_too_many g c =
     let old = c.self.inside in
     let document = c.args.self.now in
-    let parts = parts_of old.seats old.tags old.marks old.settings old.disabled.items old.text.anchors.items old.text.history
-    (g.S.TextStore.content old.text.store) in
+    let parts = parts_of g.S.TextStore.content old in
     let stands : Stands parts document = record { sound = c.self.invariant; is = c.self.view_is } in
     let full = sym c.is_one_too_many.ensures.value ∙ c.if-is_one_too_many.true in
     let many : c.args.limits.now.tags + 1 < length (with_name (names_of parts.tags.tags) (chars c.args.name.now))

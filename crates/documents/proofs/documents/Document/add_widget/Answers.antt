@@ -5,7 +5,7 @@ use Rattle.edit_ops.specs.declared.anchors.Anchors.{Anchors}
 use Rattle.undo_stack.specs.Rings.{Kept}
 use Rattle.command_effects.specs.Edits.{new_mark, with_own_marks}
 use Rattle.command_effects.specs.Settings.{history_under}
-use Rattle.documents.specs.Documents.{parts_of}
+use Rattle.documents.specs.Inside.{parts_of}
 use Rattle.documents.specs.Kept.{Stands}
 use Rattle.documents.specs.WellFormed.{IsWellFormedDocument}
 use Rattle.documents.proofs.SeatedLaws.{IsSeatMade, own-within, seated-made, unnamed, unseated}
@@ -17,8 +17,7 @@ make_seat-made-requires-clause-new g c =
     let old = c.self.inside in
     let document = c.args.self.now in
     let content = g.S.TextStore.content old.text.store in
-    let parts = parts_of old.seats old.tags old.marks old.settings old.disabled.items old.text.anchors.items old.text.history
-    content in
+    let parts = parts_of g.S.TextStore.content old in
     let stands : Stands parts document = record { sound = c.self.invariant; is = c.self.view_is } in
     unnamed parts document (chars c.args.name.now) stands c.requires.new
 
@@ -27,8 +26,7 @@ make_seat-made-requires-clause-within g c =
     let old = c.self.inside in
     let document = c.args.self.now in
     let content = g.S.TextStore.content old.text.store in
-    let parts = parts_of old.seats old.tags old.marks old.settings old.disabled.items old.text.anchors.items old.text.history
-    content in
+    let parts = parts_of g.S.TextStore.content old in
     let stands : Stands parts document = record { sound = c.self.invariant; is = c.self.view_is } in
     let own : Anchors = record { start = c.anchor_at-start.result; end = c.anchor_at-end.result } in
     let within = (own-within parts document c.args.settings own stands c.requires.lines c.requires.ordered (λ i.
@@ -40,8 +38,7 @@ invariant_of-self-in-Ok g c =
     let old = c.self.inside in
     let document = c.args.self.now in
     let content = g.S.TextStore.content old.text.store in
-    let parts = parts_of old.seats old.tags old.marks old.settings old.disabled.items old.text.anchors.items old.text.history
-    content in
+    let parts = parts_of g.S.TextStore.content old in
     let stands : Stands parts document = record { sound = c.self.invariant; is = c.self.view_is } in
     let name = chars c.args.name.now in
     let own : Anchors = record { start = c.anchor_at-start.result; end = c.anchor_at-end.result } in
@@ -81,8 +78,7 @@ returns-in-Err-clause-err g c =
     let old = c.self.inside in
     let document = c.args.self.now in
     let content = g.S.TextStore.content old.text.store in
-    let parts = parts_of old.seats old.tags old.marks old.settings old.disabled.items old.text.anchors.items old.text.history
-    content in
+    let parts = parts_of g.S.TextStore.content old in
     let stands : Stands parts document = record { sound = c.self.invariant; is = c.self.view_is } in
     let new = c.make_seat-made.new in
     let back : c.truncate.new.self ≡ old.seats =
@@ -98,8 +94,7 @@ returns-in-Err-clause-well_formed g c =
     let old = c.self.inside in
     let document = c.args.self.now in
     let content = g.S.TextStore.content old.text.store in
-    let parts = parts_of old.seats old.tags old.marks old.settings old.disabled.items old.text.anchors.items old.text.history
-    content in
+    let parts = parts_of g.S.TextStore.content old in
     let stands : Stands parts document = record { sound = c.self.invariant; is = c.self.view_is } in
     let new = c.make_seat-made.new in
     let back : c.truncate.new.self ≡ old.seats =
@@ -115,8 +110,7 @@ returns-in-Ok-clause-ok g c =
     let old = c.self.inside in
     let document = c.args.self.now in
     let content = g.S.TextStore.content old.text.store in
-    let parts = parts_of old.seats old.tags old.marks old.settings old.disabled.items old.text.anchors.items old.text.history
-    content in
+    let parts = parts_of g.S.TextStore.content old in
     let stands : Stands parts document = record { sound = c.self.invariant; is = c.self.view_is } in
     let name = chars c.args.name.now in
     let own : Anchors = record { start = c.anchor_at-start.result; end = c.anchor_at-end.result } in
@@ -156,8 +150,7 @@ returns-in-Ok-clause-well_formed g c =
     let old = c.self.inside in
     let document = c.args.self.now in
     let content = g.S.TextStore.content old.text.store in
-    let parts = parts_of old.seats old.tags old.marks old.settings old.disabled.items old.text.anchors.items old.text.history
-    content in
+    let parts = parts_of g.S.TextStore.content old in
     let stands : Stands parts document = record { sound = c.self.invariant; is = c.self.view_is } in
     let name = chars c.args.name.now in
     let own : Anchors = record { start = c.anchor_at-start.result; end = c.anchor_at-end.result } in

@@ -5,7 +5,7 @@ use Rattle.mark_table.specs.SharedMarks.{names_of}
 use Rattle.tcl_words.specs.ListGrowth.{Goes}
 use Rattle.tcl_words.specs.ListText.{list_text}
 use Rattle.command_effects.specs.Words.{literal}
-use Rattle.documents.specs.Documents.{parts_of}
+use Rattle.documents.specs.Inside.{parts_of}
 use Rattle.documents.specs.Kept.{Stands}
 use Rattle.documents.proofs.ListedLaws.{marks-listed, written}
 use Rattle.documents.proofs.documents.Document.all_marks.Goals as goal
@@ -14,8 +14,7 @@ pub returns : goal.returns
 returns g c =
     let old = c.self.inside in
     let document = c.args.self.now in
-    let parts = parts_of old.seats old.tags old.marks old.settings old.disabled.items old.text.anchors.items old.text.history
-    (g.S.TextStore.content old.text.store) in
+    let parts = parts_of g.S.TextStore.content old in
     let stands : Stands parts document = record { sound = c.self.invariant; is = c.self.view_is } in
     let names = literal "insert" ∷ literal "current" ∷ names_of parts.marks.marks in
     let new = c.push_mark_names.new.list in

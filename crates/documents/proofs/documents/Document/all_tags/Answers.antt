@@ -4,7 +4,7 @@ use Rattle.std.proofs.lemmas.Str.{IsUtf8-string_bytes}
 use Rattle.tag_table.specs.Tags.{names_of}
 use Rattle.tcl_words.specs.ListGrowth.{Goes}
 use Rattle.tcl_words.specs.ListText.{list_text}
-use Rattle.documents.specs.Documents.{parts_of}
+use Rattle.documents.specs.Inside.{parts_of}
 use Rattle.documents.specs.Kept.{Stands}
 use Rattle.documents.proofs.ListedLaws.{tags-listed, written}
 use Rattle.documents.proofs.documents.Document.all_tags.Goals as goal
@@ -13,8 +13,7 @@ pub returns : goal.returns
 returns g c =
     let old = c.self.inside in
     let document = c.args.self.now in
-    let parts = parts_of old.seats old.tags old.marks old.settings old.disabled.items old.text.anchors.items old.text.history
-    (g.S.TextStore.content old.text.store) in
+    let parts = parts_of g.S.TextStore.content old in
     let stands : Stands parts document = record { sound = c.self.invariant; is = c.self.view_is } in
     let names = names_of parts.tags.tags in
     let new = c.push_names.new.list in

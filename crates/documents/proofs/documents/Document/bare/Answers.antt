@@ -1,6 +1,7 @@
 use Rattle.std.proofs.Common.{◌≡◌, [], sym, ap, subst, ◌∙◌}
 use Rattle.text_model.specs.declared.limits.TheConstants.Limits.{MOST_MARKS, MOST_TAGS}
-use Rattle.documents.specs.Documents.{Parts, document_of, parts_of}
+use Rattle.edit_ops.specs.States.{log_of}
+use Rattle.documents.specs.Documents.{Parts, document_of}
 use Rattle.documents.specs.Kept.{IsSound}
 use Rattle.documents.specs.WellFormed.{IsWellFormedDocument}
 use Rattle.documents.proofs.FirstLaws.{bare_parts, formed-bare, sel_alone, sound-bare}
@@ -12,9 +13,18 @@ invariant_of-result g c =
     ∙ ap (λ limit. record { tags = sel_alone; limit = limit }) c.greatest_limits-limits.ensures.tags in
     let marks : c.in_ok-new-4.field-0 ≡ record { marks = []; limit = MOST_MARKS } = c.in_ok-new-4.ensures
     ∙ ap (λ limit. record { marks = []; limit = limit }) c.greatest_limits-limits.ensures.marks in
-    let is : parts_of c.in_ok-new.field-0 c.in_ok-new-3.field-0 c.in_ok-new-4.field-0 c.new-8.result
-    c.new-2.result.items c.new-5.result.items c.new-4.result (g.S.TextStore.content c.in_ok-new-2.field-0)
-    ≡ bare_parts = λ i. record {
+    let is : ◌≡◌ {A = Parts} (record {
+      seats = c.in_ok-new.field-0;
+      tags = c.in_ok-new-3.field-0;
+      marks = c.in_ok-new-4.field-0;
+      journal = record {
+        settings = c.new-8.result;
+        disabled = c.new-2.result.items;
+        anchors = c.new-5.result.items;
+        log = log_of c.new-4.result;
+      };
+      content = g.S.TextStore.content c.in_ok-new-2.field-0;
+    }) bare_parts = λ i. record {
       seats = c.in_ok-new.ensures i;
       tags = tags i;
       marks = marks i;
@@ -38,9 +48,18 @@ returns-clause-well_formed g c = λ limits are.
     ∙ ap (λ limit. record { tags = sel_alone; limit = limit }) c.greatest_limits-limits.ensures.tags in
     let marks : c.in_ok-new-4.field-0 ≡ record { marks = []; limit = MOST_MARKS } = c.in_ok-new-4.ensures
     ∙ ap (λ limit. record { marks = []; limit = limit }) c.greatest_limits-limits.ensures.marks in
-    let is : parts_of c.in_ok-new.field-0 c.in_ok-new-3.field-0 c.in_ok-new-4.field-0 c.new-8.result
-    c.new-2.result.items c.new-5.result.items c.new-4.result (g.S.TextStore.content c.in_ok-new-2.field-0)
-    ≡ bare_parts = λ i. record {
+    let is : ◌≡◌ {A = Parts} (record {
+      seats = c.in_ok-new.field-0;
+      tags = c.in_ok-new-3.field-0;
+      marks = c.in_ok-new-4.field-0;
+      journal = record {
+        settings = c.new-8.result;
+        disabled = c.new-2.result.items;
+        anchors = c.new-5.result.items;
+        log = log_of c.new-4.result;
+      };
+      content = g.S.TextStore.content c.in_ok-new-2.field-0;
+    }) bare_parts = λ i. record {
       seats = c.in_ok-new.ensures i;
       tags = tags i;
       marks = marks i;

@@ -2,7 +2,7 @@ use Rattle.std.proofs.Common.{◌-◌, ap, ap₂, arith, length}
 use Rattle.edit_ops.specs.Deletions.{deleted}
 use Rattle.edit_ops.specs.States.{log_of, state_of}
 use Rattle.command_effects.specs.Settings.{recording_of}
-use Rattle.documents.specs.Documents.{parts_of}
+use Rattle.documents.specs.Inside.{parts_of}
 use Rattle.documents.specs.Kept.{Stands}
 use Rattle.documents.proofs.PartsLaws.{sits}
 use Rattle.documents.proofs.RemovalLaws.{leaves-places}
@@ -15,8 +15,7 @@ pub start_of-start-requires : goal.start_of-start-requires
 start_of-start-requires g c =
     let old = c.self.inside in
     let document = c.args.self.now in
-    let parts = parts_of old.seats old.tags old.marks old.settings old.disabled.items old.text.anchors.items old.text.history
-    (g.S.TextStore.content old.text.store) in
+    let parts = parts_of g.S.TextStore.content old in
     let stands : Stands parts document = record { sound = c.self.invariant; is = c.self.view_is } in
     let slot = c.number-slot.result in
     let seated = sits parts document c.args.seat slot stands c.number-slot.ensures.value in
@@ -26,8 +25,7 @@ pub end_of-end-requires : goal.end_of-end-requires
 end_of-end-requires g c =
     let old = c.self.inside in
     let document = c.args.self.now in
-    let parts = parts_of old.seats old.tags old.marks old.settings old.disabled.items old.text.anchors.items old.text.history
-    (g.S.TextStore.content old.text.store) in
+    let parts = parts_of g.S.TextStore.content old in
     let stands : Stands parts document = record { sound = c.self.invariant; is = c.self.view_is } in
     let slot = c.number-slot.result in
     let seated = sits parts document c.args.seat slot stands c.number-slot.ensures.value in
@@ -37,8 +35,7 @@ pub spans_of-requires-clause-within : goal.spans_of-requires-clause-within
 spans_of-requires-clause-within g c =
     let old = c.self.inside in
     let document = c.args.self.now in
-    let parts = parts_of old.seats old.tags old.marks old.settings old.disabled.items old.text.anchors.items old.text.history
-    (g.S.TextStore.content old.text.store) in
+    let parts = parts_of g.S.TextStore.content old in
     let stands : Stands parts document = record { sound = c.self.invariant; is = c.self.view_is } in
     let slot = c.number-slot.result in
     let seated = sits parts document c.args.seat slot stands c.number-slot.ensures.value in
@@ -54,8 +51,7 @@ pub delete_spans-deleted-requires-clause-shows : goal.delete_spans-deleted-requi
 delete_spans-deleted-requires-clause-shows g c =
     let old = c.self.inside in
     let document = c.args.self.now in
-    let parts = parts_of old.seats old.tags old.marks old.settings old.disabled.items old.text.anchors.items old.text.history
-    (g.S.TextStore.content old.text.store) in
+    let parts = parts_of g.S.TextStore.content old in
     let stands : Stands parts document = record { sound = c.self.invariant; is = c.self.view_is } in
     let slot = c.number-slot.result in
     let seated = sits parts document c.args.seat slot stands c.number-slot.ensures.value in
@@ -70,8 +66,7 @@ pub delete_spans-deleted-requires-clause-spans : goal.delete_spans-deleted-requi
 delete_spans-deleted-requires-clause-spans g c =
     let old = c.self.inside in
     let document = c.args.self.now in
-    let parts = parts_of old.seats old.tags old.marks old.settings old.disabled.items old.text.anchors.items old.text.history
-    (g.S.TextStore.content old.text.store) in
+    let parts = parts_of g.S.TextStore.content old in
     let stands : Stands parts document = record { sound = c.self.invariant; is = c.self.view_is } in
     let slot = c.number-slot.result in
     let seated = sits parts document c.args.seat slot stands c.number-slot.ensures.value in
@@ -92,8 +87,7 @@ pub invariant_of-self : goal.invariant_of-self
 invariant_of-self g c =
     let old = c.self.inside in
     let document = c.args.self.now in
-    let parts = parts_of old.seats old.tags old.marks old.settings old.disabled.items old.text.anchors.items old.text.history
-    (g.S.TextStore.content old.text.store) in
+    let parts = parts_of g.S.TextStore.content old in
     let stands : Stands parts document = record { sound = c.self.invariant; is = c.self.view_is } in
     let slot = c.number-slot.result in
     let seated = sits parts document c.args.seat slot stands c.number-slot.ensures.value in
@@ -123,8 +117,7 @@ pub returns-in-Ok : goal.returns-in-Ok
 returns-in-Ok g c =
     let old = c.self.inside in
     let document = c.args.self.now in
-    let parts = parts_of old.seats old.tags old.marks old.settings old.disabled.items old.text.anchors.items old.text.history
-    (g.S.TextStore.content old.text.store) in
+    let parts = parts_of g.S.TextStore.content old in
     let stands : Stands parts document = record { sound = c.self.invariant; is = c.self.view_is } in
     let slot = c.number-slot.result in
     let seated = sits parts document c.args.seat slot stands c.number-slot.ensures.value in

@@ -2,7 +2,7 @@ use Rattle.std.proofs.Common.{map, ap, ◌∙◌}
 use Rattle.tcl_words.specs.Unread.{texts_of}
 use Rattle.text_model.specs.declared.places.TagSlot.{TagSlot}
 use Rattle.edit_ops.specs.States.{log_of}
-use Rattle.documents.specs.Documents.{parts_of}
+use Rattle.documents.specs.Inside.{parts_of}
 use Rattle.documents.specs.Kept.{Stands}
 use Rattle.documents.proofs.TagLaws.{leaves-deleted}
 use Rattle.documents.proofs.documents.Document.delete_tags.Goals as goal
@@ -11,8 +11,7 @@ pub invariant_of-self-in-Ok : goal.invariant_of-self-in-Ok
 invariant_of-self-in-Ok g c =
     let old = c.self.inside in
     let document = c.args.self.now in
-    let parts = parts_of old.seats old.tags old.marks old.settings old.disabled.items old.text.anchors.items old.text.history
-    (g.S.TextStore.content old.text.store) in
+    let parts = parts_of g.S.TextStore.content old in
     let stands : Stands parts document = record { sound = c.self.invariant; is = c.self.view_is } in
     let new = c.clear_slots.new in
     let leaves = leaves-deleted c.args.limits.now parts c.delete_names.new.tags (g.S.TextStore.content new.text.store)
@@ -26,8 +25,7 @@ pub returns : goal.returns
 returns g c =
     let old = c.self.inside in
     let document = c.args.self.now in
-    let parts = parts_of old.seats old.tags old.marks old.settings old.disabled.items old.text.anchors.items old.text.history
-    (g.S.TextStore.content old.text.store) in
+    let parts = parts_of g.S.TextStore.content old in
     let stands : Stands parts document = record { sound = c.self.invariant; is = c.self.view_is } in
     let new = c.clear_slots.new in
     let leaves = leaves-deleted c.args.limits.now parts c.delete_names.new.tags (g.S.TextStore.content new.text.store)

@@ -1,5 +1,5 @@
 use Rattle.std.proofs.Common.{◌∙◌}
-use Rattle.documents.specs.Documents.{parts_of}
+use Rattle.documents.specs.Inside.{parts_of}
 use Rattle.documents.specs.Kept.{Stands}
 use Rattle.documents.proofs.JournalLaws.{leaves-reset}
 use Rattle.documents.proofs.documents.Document.edit_reset.Goals as goal
@@ -7,8 +7,7 @@ use Rattle.documents.proofs.documents.Document.edit_reset.Goals as goal
 pub invariant_of-self : goal.invariant_of-self
 invariant_of-self g c =
     let old = c.self.inside in
-    let parts = parts_of old.seats old.tags old.marks old.settings old.disabled.items old.text.anchors.items old.text.history
-    (g.S.TextStore.content old.text.store) in
+    let parts = parts_of g.S.TextStore.content old in
     let stands : Stands parts c.args.self.now = record { sound = c.self.invariant; is = c.self.view_is } in
     (leaves-reset c.args.limits.now parts old.text.history c.give_back_room.new.self c.args.self.now stands
     (c.give_back_room.ensures.history ∙ c.reset.ensures.history)
@@ -18,8 +17,7 @@ invariant_of-self g c =
 pub returns : goal.returns
 returns g c =
     let old = c.self.inside in
-    let parts = parts_of old.seats old.tags old.marks old.settings old.disabled.items old.text.anchors.items old.text.history
-    (g.S.TextStore.content old.text.store) in
+    let parts = parts_of g.S.TextStore.content old in
     let stands : Stands parts c.args.self.now = record { sound = c.self.invariant; is = c.self.view_is } in
     (leaves-reset c.args.limits.now parts old.text.history c.give_back_room.new.self c.args.self.now stands
     (c.give_back_room.ensures.history ∙ c.reset.ensures.history)

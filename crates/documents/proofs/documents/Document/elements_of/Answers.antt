@@ -1,7 +1,7 @@
 use Rattle.std.proofs.Common.{length, ap, ◌∙◌, arith}
 use Rattle.tcl_words.specs.ListText.{list_text}
 use Rattle.search_dump.specs.Dump.{dump_elements, seen_by}
-use Rattle.documents.specs.Documents.{parts_of}
+use Rattle.documents.specs.Inside.{parts_of}
 use Rattle.documents.specs.Kept.{Stands}
 use Rattle.documents.proofs.PartsLaws.{sits}
 use Rattle.documents.proofs.QueryLaws.{spelled}
@@ -13,8 +13,7 @@ pub view_of-requires : goal.view_of-requires
 view_of-requires g c =
     let old = c.self.inside in
     let document = c.args.self.now in
-    let parts = parts_of old.seats old.tags old.marks old.settings old.disabled.items old.text.anchors.items old.text.history
-    (g.S.TextStore.content old.text.store) in
+    let parts = parts_of g.S.TextStore.content old in
     let stands : Stands parts document = record { sound = c.self.invariant; is = c.self.view_is } in
     let seated = sits parts document c.args.seat c.number-slot.result stands c.number-slot.ensures.value in
     omega (arith, seated.anchors, ap length c.deref.ensures.value)
@@ -23,8 +22,7 @@ pub dump-requires-clause-view : goal.dump-requires-clause-view
 dump-requires-clause-view g c =
     let old = c.self.inside in
     let document = c.args.self.now in
-    let parts = parts_of old.seats old.tags old.marks old.settings old.disabled.items old.text.anchors.items old.text.history
-    (g.S.TextStore.content old.text.store) in
+    let parts = parts_of g.S.TextStore.content old in
     let stands : Stands parts document = record { sound = c.self.invariant; is = c.self.view_is } in
     let found = c.lined-view in
     let content = g.S.TextStore.content found.result.store.now in
@@ -41,8 +39,7 @@ pub dump-requires-clause-from : goal.dump-requires-clause-from
 dump-requires-clause-from g c =
     let old = c.self.inside in
     let document = c.args.self.now in
-    let parts = parts_of old.seats old.tags old.marks old.settings old.disabled.items old.text.anchors.items old.text.history
-    (g.S.TextStore.content old.text.store) in
+    let parts = parts_of g.S.TextStore.content old in
     let stands : Stands parts document = record { sound = c.self.invariant; is = c.self.view_is } in
     let found = c.lined-view in
     let content = g.S.TextStore.content found.result.store.now in
@@ -64,8 +61,7 @@ pub dump-requires-clause-to : goal.dump-requires-clause-to
 dump-requires-clause-to g c =
     let old = c.self.inside in
     let document = c.args.self.now in
-    let parts = parts_of old.seats old.tags old.marks old.settings old.disabled.items old.text.anchors.items old.text.history
-    (g.S.TextStore.content old.text.store) in
+    let parts = parts_of g.S.TextStore.content old in
     let stands : Stands parts document = record { sound = c.self.invariant; is = c.self.view_is } in
     let found = c.lined-view in
     let content = g.S.TextStore.content found.result.store.now in
@@ -87,8 +83,7 @@ pub returns : goal.returns
 returns g c =
     let old = c.self.inside in
     let document = c.args.self.now in
-    let parts = parts_of old.seats old.tags old.marks old.settings old.disabled.items old.text.anchors.items old.text.history
-    (g.S.TextStore.content old.text.store) in
+    let parts = parts_of g.S.TextStore.content old in
     let stands : Stands parts document = record { sound = c.self.invariant; is = c.self.view_is } in
     let found = c.lined-view in
     let content = g.S.TextStore.content found.result.store.now in

@@ -4,7 +4,7 @@ use Rattle.std.specs.Option.{option_map}
 use Rattle.mark_table.specs.Order.{rank_of}
 use Rattle.mark_table.specs.SharedMarks.{number_of}
 use Rattle.text_model.specs.declared.places.MarkNo.{MarkNo}
-use Rattle.documents.specs.Documents.{parts_of}
+use Rattle.documents.specs.Inside.{parts_of}
 use Rattle.documents.specs.Kept.{Stands}
 use Rattle.documents.proofs.MarkQueryLaws.{IsShared, number-known, number-none, number-there}
 use Rattle.documents.proofs.documents.Document.find_mark.Goals as goal
@@ -13,8 +13,7 @@ pub returns-in_err-number : goal.returns-in_err-number
 returns-in_err-number g c =
     let old = c.self.inside in
     let document = c.args.self.now in
-    let parts = parts_of old.seats old.tags old.marks old.settings old.disabled.items old.text.anchors.items old.text.history
-    (g.S.TextStore.content old.text.store) in
+    let parts = parts_of g.S.TextStore.content old in
     let stands : Stands parts document = record { sound = c.self.invariant; is = c.self.view_is } in
     let word = chars c.args.name.now in
     let shared : IsShared word = record { insert = sym c.if-is_word.ensures; current = sym c.if-is_word-2.ensures } in
@@ -26,8 +25,7 @@ pub returns-in_err-place : goal.returns-in_err-place
 returns-in_err-place g c =
     let old = c.self.inside in
     let document = c.args.self.now in
-    let parts = parts_of old.seats old.tags old.marks old.settings old.disabled.items old.text.anchors.items old.text.history
-    (g.S.TextStore.content old.text.store) in
+    let parts = parts_of g.S.TextStore.content old in
     let stands : Stands parts document = record { sound = c.self.invariant; is = c.self.view_is } in
     let word = chars c.args.name.now in
     let known : number_of word old.marks.marks ≡ Some c.in_ok-number.number.0 = sym c.find.ensures
@@ -38,8 +36,7 @@ pub returns : goal.returns
 returns g c =
     let old = c.self.inside in
     let document = c.args.self.now in
-    let parts = parts_of old.seats old.tags old.marks old.settings old.disabled.items old.text.anchors.items old.text.history
-    (g.S.TextStore.content old.text.store) in
+    let parts = parts_of g.S.TextStore.content old in
     let stands : Stands parts document = record { sound = c.self.invariant; is = c.self.view_is } in
     let word = chars c.args.name.now in
     let shared : IsShared word = record { insert = sym c.if-is_word.ensures; current = sym c.if-is_word-2.ensures } in

@@ -1,5 +1,5 @@
 use Rattle.std.specs.Prelude.{chars}
-use Rattle.documents.specs.Documents.{parts_of}
+use Rattle.documents.specs.Inside.{parts_of}
 use Rattle.documents.specs.Kept.{Stands}
 use Rattle.documents.proofs.FindLaws.{widget-among, widget-none, widget-some}
 use Rattle.documents.proofs.documents.Document.find_widget.Goals as goal
@@ -8,8 +8,7 @@ pub returns-clause-none : goal.returns-clause-none
 returns-clause-none g c =
     let old = c.self.inside in
     let document = c.args.self.now in
-    let parts = parts_of old.seats old.tags old.marks old.settings old.disabled.items old.text.anchors.items old.text.history
-    (g.S.TextStore.content old.text.store) in
+    let parts = parts_of g.S.TextStore.content old in
     let stands : Stands parts document = record { sound = c.self.invariant; is = c.self.view_is } in
     widget-none parts document (chars c.args.name.now) stands c.place.result c.place.ensures.value
 
@@ -17,8 +16,7 @@ pub returns-clause-some : goal.returns-clause-some
 returns-clause-some g c =
     let old = c.self.inside in
     let document = c.args.self.now in
-    let parts = parts_of old.seats old.tags old.marks old.settings old.disabled.items old.text.anchors.items old.text.history
-    (g.S.TextStore.content old.text.store) in
+    let parts = parts_of g.S.TextStore.content old in
     let stands : Stands parts document = record { sound = c.self.invariant; is = c.self.view_is } in
     widget-some parts document (chars c.args.name.now) stands c.place.result c.place.ensures.value
 
@@ -26,7 +24,6 @@ pub returns-clause-named : goal.returns-clause-named
 returns-clause-named g c =
     let old = c.self.inside in
     let document = c.args.self.now in
-    let parts = parts_of old.seats old.tags old.marks old.settings old.disabled.items old.text.anchors.items old.text.history
-    (g.S.TextStore.content old.text.store) in
+    let parts = parts_of g.S.TextStore.content old in
     let stands : Stands parts document = record { sound = c.self.invariant; is = c.self.view_is } in
     widget-among parts document (chars c.args.name.now) stands c.place.result c.place.ensures.value

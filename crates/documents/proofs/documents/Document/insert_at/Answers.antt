@@ -5,7 +5,8 @@ use Rattle.edit_ops.specs.Insertions.{inserted_texts}
 use Rattle.edit_ops.specs.States.{log_of, state_of}
 use Rattle.command_effects.specs.Settings.{recording_of}
 use Rattle.command_effects.specs.Tagging.{piece_of}
-use Rattle.documents.specs.Documents.{document_of, parts_of, widget_at}
+use Rattle.documents.specs.Documents.{document_of, widget_at}
+use Rattle.documents.specs.Inside.{parts_of}
 use Rattle.documents.specs.Kept.{Stands}
 use Rattle.documents.specs.Texts.{insert_at}
 use Rattle.documents.proofs.ChangeLaws.{does-left, stands-same, table-back}
@@ -17,15 +18,13 @@ use Rattle.documents.proofs.documents.Document.insert_at.Goals as goal
 pub put_pairs-put-requires-clause-within : goal.put_pairs-put-requires-clause-within
 put_pairs-put-requires-clause-within g c =
     let old = c.self.inside in
-    let parts = parts_of old.seats old.tags old.marks old.settings old.disabled.items old.text.anchors.items old.text.history
-    (g.S.TextStore.content old.text.store) in
+    let parts = parts_of g.S.TextStore.content old in
     omega (arith, c.requires.within, cells-kept parts c.args.self.now c.self.view_is)
 
 pub put_pairs-put-requires-clause-stand : goal.put_pairs-put-requires-clause-stand
 put_pairs-put-requires-clause-stand g c =
     let old = c.self.inside in
-    let parts = parts_of old.seats old.tags old.marks old.settings old.disabled.items old.text.anchors.items old.text.history
-    (g.S.TextStore.content old.text.store) in
+    let parts = parts_of g.S.TextStore.content old in
     anchors-stand parts c.args.self.now (record { sound = c.self.invariant; is = c.self.view_is })
 
 pub truncate-requires : goal.truncate-requires
@@ -39,8 +38,7 @@ invariant_of-self g c =
     let new = c.put_pairs-put.new in
     let content = g.S.TextStore.content old.text.store in
     let changed = g.S.TextStore.content new.text.store in
-    let parts = parts_of old.seats old.tags old.marks old.settings old.disabled.items old.text.anchors.items old.text.history
-    content in
+    let parts = parts_of g.S.TextStore.content old in
     let stands : Stands parts c.args.self.now = record { sound = c.self.invariant; is = c.self.view_is } in
     let kept = new.text.anchors.items in
     let told = c.in-Ok.ensures in
@@ -66,8 +64,7 @@ returns-in-Ok g c =
     let new = c.put_pairs-put.new in
     let content = g.S.TextStore.content old.text.store in
     let changed = g.S.TextStore.content new.text.store in
-    let parts = parts_of old.seats old.tags old.marks old.settings old.disabled.items old.text.anchors.items old.text.history
-    content in
+    let parts = parts_of g.S.TextStore.content old in
     let stands : Stands parts c.args.self.now = record { sound = c.self.invariant; is = c.self.view_is } in
     let kept = new.text.anchors.items in
     let told = c.in-Ok.ensures in
@@ -93,8 +90,7 @@ invariant_of-self-in-Err g c =
     let new = c.put_pairs-put.new in
     let content = g.S.TextStore.content old.text.store in
     let changed = g.S.TextStore.content new.text.store in
-    let parts = parts_of old.seats old.tags old.marks old.settings old.disabled.items old.text.anchors.items old.text.history
-    content in
+    let parts = parts_of g.S.TextStore.content old in
     let stands : Stands parts c.args.self.now = record { sound = c.self.invariant; is = c.self.view_is } in
     let kept = new.text.anchors.items in
     let err = c.in-Err.ensures.err in
@@ -112,8 +108,7 @@ returns-in-Err g c =
     let content = g.S.TextStore.content old.text.store in
     let changed = g.S.TextStore.content new.text.store in
     let document = c.args.self.now in
-    let parts = parts_of old.seats old.tags old.marks old.settings old.disabled.items old.text.anchors.items old.text.history
-    content in
+    let parts = parts_of g.S.TextStore.content old in
     let stands : Stands parts document = record { sound = c.self.invariant; is = c.self.view_is } in
     let kept = new.text.anchors.items in
     let err = c.in-Err.ensures.err in

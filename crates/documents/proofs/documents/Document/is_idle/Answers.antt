@@ -1,6 +1,6 @@
 use Rattle.std.proofs.Common.{◌≡◌, true, false, length, get_or, sym, ap, ap₂, ◌∙◌, arith}
 use Rattle.std.specs.Prelude.{◌||◌, ◌==◌}
-use Rattle.documents.specs.Documents.{parts_of}
+use Rattle.documents.specs.Inside.{parts_of}
 use Rattle.documents.specs.Kept.{Stands}
 use Rattle.documents.proofs.PartsLaws.{sits}
 use Rattle.documents.proofs.ViewLaws.{end-found, end_in, flag-at, idle-is, start-found, start_in}
@@ -9,8 +9,7 @@ use Rattle.documents.proofs.documents.Document.is_idle.Goals as goal
 pub index-requires : goal.index-requires
 index-requires g c =
     let old = c.self.inside in
-    let parts = parts_of old.seats old.tags old.marks old.settings old.disabled.items old.text.anchors.items old.text.history
-    (g.S.TextStore.content old.text.store) in
+    let parts = parts_of g.S.TextStore.content old in
     let stands : Stands parts c.args.self.now = record { sound = c.self.invariant; is = c.self.view_is } in
     let seated = sits parts c.args.self.now c.args.seat c.number-slot.result stands c.number-slot.ensures.value in
     omega (arith, seated.disabled, old.disabled.ok.0)
@@ -18,8 +17,7 @@ index-requires g c =
 pub returns-then-index : goal.returns-then-index
 returns-then-index g c =
     let old = c.self.inside in
-    let parts = parts_of old.seats old.tags old.marks old.settings old.disabled.items old.text.anchors.items old.text.history
-    (g.S.TextStore.content old.text.store) in
+    let parts = parts_of g.S.TextStore.content old in
     let stands : Stands parts c.args.self.now = record { sound = c.self.invariant; is = c.self.view_is } in
     let seated = sits parts c.args.self.now c.args.seat c.number-slot.result stands c.number-slot.ensures.value in
     let off : get_or old.disabled.items c.number-slot.result false
@@ -31,8 +29,7 @@ returns-then-index g c =
 pub start_of-requires : goal.start_of-requires
 start_of-requires g c =
     let old = c.self.inside in
-    let parts = parts_of old.seats old.tags old.marks old.settings old.disabled.items old.text.anchors.items old.text.history
-    (g.S.TextStore.content old.text.store) in
+    let parts = parts_of g.S.TextStore.content old in
     let stands : Stands parts c.args.self.now = record { sound = c.self.invariant; is = c.self.view_is } in
     let seated = sits parts c.args.self.now c.args.seat c.number-slot.result stands c.number-slot.ensures.value in
     omega (arith, seated.anchors, ap length c.deref.ensures.value)
@@ -40,8 +37,7 @@ start_of-requires g c =
 pub end_of-requires : goal.end_of-requires
 end_of-requires g c =
     let old = c.self.inside in
-    let parts = parts_of old.seats old.tags old.marks old.settings old.disabled.items old.text.anchors.items old.text.history
-    (g.S.TextStore.content old.text.store) in
+    let parts = parts_of g.S.TextStore.content old in
     let stands : Stands parts c.args.self.now = record { sound = c.self.invariant; is = c.self.view_is } in
     let seated = sits parts c.args.self.now c.args.seat c.number-slot.result stands c.number-slot.ensures.value in
     omega (arith, seated.anchors, ap length c.deref-2.ensures.value)
@@ -49,8 +45,7 @@ end_of-requires g c =
 pub returns : goal.returns
 returns g c =
     let old = c.self.inside in
-    let parts = parts_of old.seats old.tags old.marks old.settings old.disabled.items old.text.anchors.items old.text.history
-    (g.S.TextStore.content old.text.store) in
+    let parts = parts_of g.S.TextStore.content old in
     let stands : Stands parts c.args.self.now = record { sound = c.self.invariant; is = c.self.view_is } in
     let seated = sits parts c.args.self.now c.args.seat c.number-slot.result stands c.number-slot.ensures.value in
     let on : get_or old.disabled.items c.number-slot.result false

@@ -1,12 +1,12 @@
 use Rattle.std.proofs.Common.{◌∙◌}
 use Rattle.tcl_words.specs.Unread.{texts_of}
-use Rattle.documents.specs.Documents.{Parts, parts_of}
+use Rattle.documents.specs.Documents.{Parts}
+use Rattle.documents.specs.Inside.{parts_of}
 use Rattle.documents.proofs.UnseatedLaws.{some-kept}
 use Rattle.documents.proofs.documents.Document.keeps_some.Goals as goal
 
 pub returns : goal.returns
 returns g c =
     let own = c.self.inside in
-    let parts : Parts = parts_of own.seats own.tags own.marks own.settings own.disabled.items own.text.anchors.items
-    own.text.history (g.S.TextStore.content own.text.store) in
+    let parts : Parts = parts_of g.S.TextStore.content own in
     c.some_left.ensures ∙ some-kept parts c.args.self.now (texts_of c.args.names.now) c.self.view_is

@@ -2,7 +2,7 @@ use Rattle.std.proofs.Common.{◌≤◌, [], length, ap, sym, ◌∙◌, arith}
 use Rattle.std.specs.Prelude.{chars, slice_index_or}
 use Rattle.std.proofs.lemmas.Str.{chars-nil}
 use Rattle.mark_table.specs.Order.{rank_of}
-use Rattle.documents.specs.Documents.{parts_of}
+use Rattle.documents.specs.Inside.{parts_of}
 use Rattle.documents.specs.Kept.{Stands}
 use Rattle.documents.specs.Marks.{mark_names}
 use Rattle.documents.proofs.ListedLaws.{name-past, name-shared}
@@ -13,8 +13,7 @@ pub returns : goal.returns
 returns g c =
     let old = c.self.inside in
     let document = c.args.self.now in
-    let parts = parts_of old.seats old.tags old.marks old.settings old.disabled.items old.text.anchors.items old.text.history
-    (g.S.TextStore.content old.text.store) in
+    let parts = parts_of g.S.TextStore.content old in
     let stands : Stands parts document = record { sound = c.self.invariant; is = c.self.view_is } in
     c.new.ensures ∙ ap chars c.in_ok-from_str.ensures.ok
     ∙ elim c.match-mark.branch [

@@ -1,5 +1,5 @@
 use Rattle.std.proofs.Common.{length, ap, arith}
-use Rattle.documents.specs.Documents.{parts_of}
+use Rattle.documents.specs.Inside.{parts_of}
 use Rattle.documents.specs.Kept.{Stands}
 use Rattle.documents.proofs.MarkOrderLaws.{next-found}
 use Rattle.documents.proofs.PartsLaws.{sits}
@@ -10,8 +10,7 @@ mark_view_of-view-requires g c =
     let old = c.self.inside in
     let document = c.args.self.now in
     let content = g.S.TextStore.content old.text.store in
-    let parts = parts_of old.seats old.tags old.marks old.settings old.disabled.items old.text.anchors.items old.text.history
-    content in
+    let parts = parts_of g.S.TextStore.content old in
     let stands : Stands parts document = record { sound = c.self.invariant; is = c.self.view_is } in
     let slot = c.number.result in
     let seated = sits parts document c.args.seat slot stands c.number.ensures.value in
@@ -22,8 +21,7 @@ returns g c =
     let old = c.self.inside in
     let document = c.args.self.now in
     let content = g.S.TextStore.content old.text.store in
-    let parts = parts_of old.seats old.tags old.marks old.settings old.disabled.items old.text.anchors.items old.text.history
-    content in
+    let parts = parts_of g.S.TextStore.content old in
     let stands : Stands parts document = record { sound = c.self.invariant; is = c.self.view_is } in
     let slot = c.number.result in
     let seated = sits parts document c.args.seat slot stands c.number.ensures.value in

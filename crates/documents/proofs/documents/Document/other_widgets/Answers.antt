@@ -5,7 +5,7 @@ use Rattle.name_list.specs.Names.{names_of}
 use Rattle.tcl_words.specs.ListGrowth.{Goes}
 use Rattle.tcl_words.specs.ListText.{list_text}
 use Rattle.command_effects.specs.Words.{is_same}
-use Rattle.documents.specs.Documents.{parts_of}
+use Rattle.documents.specs.Inside.{parts_of}
 use Rattle.documents.specs.Kept.{Stands}
 use Rattle.documents.proofs.ListedLaws.{written}
 use Rattle.documents.proofs.WidgetLaws.{others-kept}
@@ -15,8 +15,7 @@ pub returns : goal.returns
 returns g c =
     let old = c.self.inside in
     let document = c.args.self.now in
-    let parts = parts_of old.seats old.tags old.marks old.settings old.disabled.items old.text.anchors.items old.text.history
-    (g.S.TextStore.content old.text.store) in
+    let parts = parts_of g.S.TextStore.content old in
     let stands : Stands parts document = record { sound = c.self.invariant; is = c.self.view_is } in
     let name = chars c.name.result.now in
     let names = filter (λ other. not (is_same other name)) (names_of old.seats.entries) in

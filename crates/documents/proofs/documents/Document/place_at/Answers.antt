@@ -1,6 +1,7 @@
 use Rattle.std.proofs.Common.{length, ap, ◌∙◌, arith}
 use Rattle.std.specs.Prelude.{chars}
-use Rattle.documents.specs.Documents.{parts_of, widget_at}
+use Rattle.documents.specs.Documents.{widget_at}
+use Rattle.documents.specs.Inside.{parts_of}
 use Rattle.documents.specs.Kept.{Stands}
 use Rattle.documents.specs.Names.{place_of}
 use Rattle.documents.specs.Views.{shown}
@@ -12,8 +13,7 @@ use Rattle.documents.proofs.documents.Document.place_at.Goals as goal
 pub view_of-view-requires : goal.view_of-view-requires
 view_of-view-requires g c =
     let old = c.self.inside in
-    let parts = parts_of old.seats old.tags old.marks old.settings old.disabled.items old.text.anchors.items old.text.history
-    (g.S.TextStore.content old.text.store) in
+    let parts = parts_of g.S.TextStore.content old in
     let stands : Stands parts c.args.self.now = record { sound = c.self.invariant; is = c.self.view_is } in
     let seated = sits parts c.args.self.now c.args.seat c.number-slot.result stands c.number-slot.ensures.value in
     omega (arith, seated.anchors, ap length c.deref.ensures.value)
@@ -23,8 +23,7 @@ locate-requires-clause-view g c =
     let old = c.self.inside in
     let found = c.view_of-view in
     let content = g.S.TextStore.content found.result.store.now in
-    let parts = parts_of old.seats old.tags old.marks old.settings old.disabled.items old.text.anchors.items old.text.history
-    (g.S.TextStore.content old.text.store) in
+    let parts = parts_of g.S.TextStore.content old in
     let stands : Stands parts c.args.self.now = record { sound = c.self.invariant; is = c.self.view_is } in
     let seen = see parts c.args.self.now c.args.seat c.number-slot.result content found.result.s found.result.e
     c.deref.result.now stands c.number-slot.ensures.value
@@ -37,8 +36,7 @@ returns-clause-value g c =
     let found = c.view_of-view in
     let word = chars c.args.word.now in
     let content = g.S.TextStore.content found.result.store.now in
-    let parts = parts_of old.seats old.tags old.marks old.settings old.disabled.items old.text.anchors.items old.text.history
-    (g.S.TextStore.content old.text.store) in
+    let parts = parts_of g.S.TextStore.content old in
     let stands : Stands parts c.args.self.now = record { sound = c.self.invariant; is = c.self.view_is } in
     let seen = see parts c.args.self.now c.args.seat c.number-slot.result content found.result.s found.result.e
     c.deref.result.now stands c.number-slot.ensures.value
@@ -55,8 +53,7 @@ returns-clause-within g c =
     let old = c.self.inside in
     let found = c.view_of-view in
     let content = g.S.TextStore.content found.result.store.now in
-    let parts = parts_of old.seats old.tags old.marks old.settings old.disabled.items old.text.anchors.items old.text.history
-    (g.S.TextStore.content old.text.store) in
+    let parts = parts_of g.S.TextStore.content old in
     let stands : Stands parts c.args.self.now = record { sound = c.self.invariant; is = c.self.view_is } in
     let seen = see parts c.args.self.now c.args.seat c.number-slot.result content found.result.s found.result.e
     c.deref.result.now stands c.number-slot.ensures.value

@@ -3,7 +3,7 @@ use Rattle.std.specs.Prelude.{chars}
 use Rattle.std.specs.Option.{option_map}
 use Rattle.mark_table.specs.SharedMarks.{number_of}
 use Rattle.text_model.specs.declared.places.MarkNo.{MarkNo}
-use Rattle.documents.specs.Documents.{parts_of}
+use Rattle.documents.specs.Inside.{parts_of}
 use Rattle.documents.specs.Kept.{Stands}
 use Rattle.documents.proofs.MarkQueryLaws.{IsShared, place-current, place-insert, place-known, place-none}
 use Rattle.documents.proofs.PartsLaws.{sits}
@@ -13,8 +13,7 @@ pub returns-then-is_word-clause-value : goal.returns-then-is_word-clause-value
 returns-then-is_word-clause-value g c =
     let old = c.self.inside in
     let document = c.args.self.now in
-    let parts = parts_of old.seats old.tags old.marks old.settings old.disabled.items old.text.anchors.items old.text.history
-    (g.S.TextStore.content old.text.store) in
+    let parts = parts_of g.S.TextStore.content old in
     let stands : Stands parts document = record { sound = c.self.invariant; is = c.self.view_is } in
     let word = chars c.args.name.now in
     let seated = sits parts document c.args.seat c.number.result stands c.number.ensures.value in
@@ -25,8 +24,7 @@ pub returns-then-is_word-2-clause-value : goal.returns-then-is_word-2-clause-val
 returns-then-is_word-2-clause-value g c =
     let old = c.self.inside in
     let document = c.args.self.now in
-    let parts = parts_of old.seats old.tags old.marks old.settings old.disabled.items old.text.anchors.items old.text.history
-    (g.S.TextStore.content old.text.store) in
+    let parts = parts_of g.S.TextStore.content old in
     let stands : Stands parts document = record { sound = c.self.invariant; is = c.self.view_is } in
     let word = chars c.args.name.now in
     let slot = c.number-then-is_word-2.result in
@@ -39,8 +37,7 @@ pub returns-in_err-find-clause-value : goal.returns-in_err-find-clause-value
 returns-in_err-find-clause-value g c =
     let old = c.self.inside in
     let document = c.args.self.now in
-    let parts = parts_of old.seats old.tags old.marks old.settings old.disabled.items old.text.anchors.items old.text.history
-    (g.S.TextStore.content old.text.store) in
+    let parts = parts_of g.S.TextStore.content old in
     let stands : Stands parts document = record { sound = c.self.invariant; is = c.self.view_is } in
     let word = chars c.args.name.now in
     let shared : IsShared word = record { insert = sym c.if-is_word.ensures; current = sym c.if-is_word-2.ensures } in
@@ -52,8 +49,7 @@ pub returns-clause-value : goal.returns-clause-value
 returns-clause-value g c =
     let old = c.self.inside in
     let document = c.args.self.now in
-    let parts = parts_of old.seats old.tags old.marks old.settings old.disabled.items old.text.anchors.items old.text.history
-    (g.S.TextStore.content old.text.store) in
+    let parts = parts_of g.S.TextStore.content old in
     let stands : Stands parts document = record { sound = c.self.invariant; is = c.self.view_is } in
     let word = chars c.args.name.now in
     let shared : IsShared word = record { insert = sym c.if-is_word.ensures; current = sym c.if-is_word-2.ensures } in

@@ -6,7 +6,8 @@ use Rattle.tcl_words.specs.ListGrowth.{Goes}
 use Rattle.text_index.specs.Views as view
 use Rattle.text_index.specs.Ranges.{previous_range}
 use Rattle.command_effects.specs.Listing.{begun, range_words}
-use Rattle.documents.specs.Documents.{parts_of, widget_at}
+use Rattle.documents.specs.Documents.{widget_at}
+use Rattle.documents.specs.Inside.{parts_of}
 use Rattle.documents.specs.Kept.{Stands}
 use Rattle.documents.specs.Views.{shown}
 use Rattle.documents.proofs.ListedLaws.{written}
@@ -19,8 +20,7 @@ pub returns-in_default : goal.returns-in_default
 returns-in_default g c =
     let old = c.self.inside in
     let document = c.args.self.now in
-    let parts = parts_of old.seats old.tags old.marks old.settings old.disabled.items old.text.anchors.items old.text.history
-    (g.S.TextStore.content old.text.store) in
+    let parts = parts_of g.S.TextStore.content old in
     let stands : Stands parts document = record { sound = c.self.invariant; is = c.self.view_is } in
     c.new.ensures ∙ ap chars c.new-list.ensures.bytes ∙ chars-nil
     ∙ ap (λ flags. list_text (range_words (shown document (widget_at document c.args.seat))
@@ -32,8 +32,7 @@ pub view_of-view-requires : goal.view_of-view-requires
 view_of-view-requires g c =
     let old = c.self.inside in
     let document = c.args.self.now in
-    let parts = parts_of old.seats old.tags old.marks old.settings old.disabled.items old.text.anchors.items old.text.history
-    (g.S.TextStore.content old.text.store) in
+    let parts = parts_of g.S.TextStore.content old in
     let stands : Stands parts document = record { sound = c.self.invariant; is = c.self.view_is } in
     let seated = sits parts document c.args.seat c.number-number.result stands c.number-number.ensures.value in
     omega (arith, seated.anchors, ap length c.deref.ensures.value)
@@ -42,8 +41,7 @@ pub push_previous-requires-clause-view : goal.push_previous-requires-clause-view
 push_previous-requires-clause-view g c =
     let old = c.self.inside in
     let document = c.args.self.now in
-    let parts = parts_of old.seats old.tags old.marks old.settings old.disabled.items old.text.anchors.items old.text.history
-    (g.S.TextStore.content old.text.store) in
+    let parts = parts_of g.S.TextStore.content old in
     let stands : Stands parts document = record { sound = c.self.invariant; is = c.self.view_is } in
     let found = c.view_of-view in
     let content = g.S.TextStore.content found.result.store.now in
@@ -57,8 +55,7 @@ pub push_previous-requires-clause-within : goal.push_previous-requires-clause-wi
 push_previous-requires-clause-within g c =
     let old = c.self.inside in
     let document = c.args.self.now in
-    let parts = parts_of old.seats old.tags old.marks old.settings old.disabled.items old.text.anchors.items old.text.history
-    (g.S.TextStore.content old.text.store) in
+    let parts = parts_of g.S.TextStore.content old in
     let stands : Stands parts document = record { sound = c.self.invariant; is = c.self.view_is } in
     let found = c.view_of-view in
     let content = g.S.TextStore.content found.result.store.now in
@@ -77,8 +74,7 @@ pub returns : goal.returns
 returns g c =
     let old = c.self.inside in
     let document = c.args.self.now in
-    let parts = parts_of old.seats old.tags old.marks old.settings old.disabled.items old.text.anchors.items old.text.history
-    (g.S.TextStore.content old.text.store) in
+    let parts = parts_of g.S.TextStore.content old in
     let stands : Stands parts document = record { sound = c.self.invariant; is = c.self.view_is } in
     let found = c.view_of-view in
     let content = g.S.TextStore.content found.result.store.now in

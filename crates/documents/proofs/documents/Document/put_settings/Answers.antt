@@ -1,6 +1,6 @@
 use Rattle.std.proofs.Common.{arith}
 use Rattle.edit_ops.specs.declared.anchors.Anchors.{Anchors}
-use Rattle.documents.specs.Documents.{parts_of}
+use Rattle.documents.specs.Inside.{parts_of}
 use Rattle.documents.specs.Kept.{Stands}
 use Rattle.documents.proofs.PartsLaws.{sits}
 use Rattle.documents.proofs.WidgetLaws.{leaves-settings}
@@ -10,8 +10,7 @@ pub index_mut-requires : goal.index_mut-requires
 index_mut-requires g c =
     let old = c.self.inside in
     let document = c.args.self.now in
-    let parts = parts_of old.seats old.tags old.marks old.settings old.disabled.items old.text.anchors.items old.text.history
-    (g.S.TextStore.content old.text.store) in
+    let parts = parts_of g.S.TextStore.content old in
     let stands : Stands parts document = record { sound = c.self.invariant; is = c.self.view_is } in
     let seated = sits parts document c.args.seat c.number-slot.result stands c.number-slot.ensures.value in
     omega (arith, seated.anchors, old.text.anchors.ok.0)
@@ -20,8 +19,7 @@ pub index_mut-requires-2 : goal.index_mut-requires-2
 index_mut-requires-2 g c =
     let old = c.self.inside in
     let document = c.args.self.now in
-    let parts = parts_of old.seats old.tags old.marks old.settings old.disabled.items old.text.anchors.items old.text.history
-    (g.S.TextStore.content old.text.store) in
+    let parts = parts_of g.S.TextStore.content old in
     let stands : Stands parts document = record { sound = c.self.invariant; is = c.self.view_is } in
     let seated = sits parts document c.args.seat c.number-slot.result stands c.number-slot.ensures.value in
     omega (arith, seated.disabled, old.disabled.ok.0)
@@ -30,8 +28,7 @@ pub invariant_of-self : goal.invariant_of-self
 invariant_of-self g c =
     let old = c.self.inside in
     let document = c.args.self.now in
-    let parts = parts_of old.seats old.tags old.marks old.settings old.disabled.items old.text.anchors.items old.text.history
-    (g.S.TextStore.content old.text.store) in
+    let parts = parts_of g.S.TextStore.content old in
     let stands : Stands parts document = record { sound = c.self.invariant; is = c.self.view_is } in
     let seated = sits parts document c.args.seat c.number-slot.result stands c.number-slot.ensures.value in
     let anchors : Anchors = record { start = c.anchor_at-start.result; end = c.anchor_at-end.result } in
@@ -44,8 +41,7 @@ pub returns : goal.returns
 returns g c =
     let old = c.self.inside in
     let document = c.args.self.now in
-    let parts = parts_of old.seats old.tags old.marks old.settings old.disabled.items old.text.anchors.items old.text.history
-    (g.S.TextStore.content old.text.store) in
+    let parts = parts_of g.S.TextStore.content old in
     let stands : Stands parts document = record { sound = c.self.invariant; is = c.self.view_is } in
     let seated = sits parts document c.args.seat c.number-slot.result stands c.number-slot.ensures.value in
     let anchors : Anchors = record { start = c.anchor_at-start.result; end = c.anchor_at-end.result } in

@@ -6,7 +6,8 @@ use Rattle.tcl_words.specs.ListGrowth.{Goes}
 use Rattle.text_index.specs.Views as view
 use Rattle.text_index.specs.Ranges.{tag_ranges}
 use Rattle.command_effects.specs.Listing.{range_words}
-use Rattle.documents.specs.Documents.{parts_of, widget_at}
+use Rattle.documents.specs.Documents.{widget_at}
+use Rattle.documents.specs.Inside.{parts_of}
 use Rattle.documents.specs.Kept.{Stands}
 use Rattle.documents.specs.Views.{shown}
 use Rattle.documents.proofs.ListedLaws.{written}
@@ -19,8 +20,7 @@ pub returns-in_default : goal.returns-in_default
 returns-in_default g c =
     let old = c.self.inside in
     let document = c.args.self.now in
-    let parts = parts_of old.seats old.tags old.marks old.settings old.disabled.items old.text.anchors.items old.text.history
-    (g.S.TextStore.content old.text.store) in
+    let parts = parts_of g.S.TextStore.content old in
     let stands : Stands parts document = record { sound = c.self.invariant; is = c.self.view_is } in
     c.new.ensures ∙ ap chars c.new-list.ensures.bytes ∙ chars-nil
     ∙ ap (λ flags. list_text (range_words (shown document (widget_at document c.args.seat)) (tag_ranges flags)))
@@ -31,8 +31,7 @@ pub view_of-view-requires : goal.view_of-view-requires
 view_of-view-requires g c =
     let old = c.self.inside in
     let document = c.args.self.now in
-    let parts = parts_of old.seats old.tags old.marks old.settings old.disabled.items old.text.anchors.items old.text.history
-    (g.S.TextStore.content old.text.store) in
+    let parts = parts_of g.S.TextStore.content old in
     let stands : Stands parts document = record { sound = c.self.invariant; is = c.self.view_is } in
     let seated = sits parts document c.args.seat c.number-number.result stands c.number-number.ensures.value in
     omega (arith, seated.anchors, ap length c.deref.ensures.value)
@@ -41,8 +40,7 @@ pub push_ranges-requires-clause-view : goal.push_ranges-requires-clause-view
 push_ranges-requires-clause-view g c =
     let old = c.self.inside in
     let document = c.args.self.now in
-    let parts = parts_of old.seats old.tags old.marks old.settings old.disabled.items old.text.anchors.items old.text.history
-    (g.S.TextStore.content old.text.store) in
+    let parts = parts_of g.S.TextStore.content old in
     let stands : Stands parts document = record { sound = c.self.invariant; is = c.self.view_is } in
     let found = c.view_of-view in
     let content = g.S.TextStore.content found.result.store.now in
@@ -56,8 +54,7 @@ pub returns : goal.returns
 returns g c =
     let old = c.self.inside in
     let document = c.args.self.now in
-    let parts = parts_of old.seats old.tags old.marks old.settings old.disabled.items old.text.anchors.items old.text.history
-    (g.S.TextStore.content old.text.store) in
+    let parts = parts_of g.S.TextStore.content old in
     let stands : Stands parts document = record { sound = c.self.invariant; is = c.self.view_is } in
     let found = c.view_of-view in
     let content = g.S.TextStore.content found.result.store.now in

@@ -4,7 +4,8 @@ use Rattle.edit_ops.specs.Removals.{replaced}
 use Rattle.edit_ops.specs.States.{log_of, state_of}
 use Rattle.command_effects.specs.Settings.{recording_of}
 use Rattle.command_effects.specs.Tagging.{piece_of}
-use Rattle.documents.specs.Documents.{document_of, parts_of, widget_at}
+use Rattle.documents.specs.Documents.{document_of, widget_at}
+use Rattle.documents.specs.Inside.{parts_of}
 use Rattle.documents.specs.Kept.{Stands}
 use Rattle.documents.proofs.ChangeLaws.{does-left, stands-same, table-back}
 use Rattle.documents.proofs.InsertionLaws.{with_tags}
@@ -18,8 +19,7 @@ pub start_of-start-requires : goal.start_of-start-requires
 start_of-start-requires g c =
     let old = c.self.inside in
     let document = c.args.self.now in
-    let parts = parts_of old.seats old.tags old.marks old.settings old.disabled.items old.text.anchors.items old.text.history
-    (g.S.TextStore.content old.text.store) in
+    let parts = parts_of g.S.TextStore.content old in
     let stands : Stands parts document = record { sound = c.self.invariant; is = c.self.view_is } in
     let slot = c.number-slot.result in
     let seated = sits parts document c.args.seat slot stands c.number-slot.ensures.value in
@@ -29,8 +29,7 @@ pub end_of-last-requires : goal.end_of-last-requires
 end_of-last-requires g c =
     let old = c.self.inside in
     let document = c.args.self.now in
-    let parts = parts_of old.seats old.tags old.marks old.settings old.disabled.items old.text.anchors.items old.text.history
-    (g.S.TextStore.content old.text.store) in
+    let parts = parts_of g.S.TextStore.content old in
     let stands : Stands parts document = record { sound = c.self.invariant; is = c.self.view_is } in
     let slot = c.number-slot.result in
     let seated = sits parts document c.args.seat slot stands c.number-slot.ensures.value in
@@ -40,8 +39,7 @@ pub overflow_sub-last : goal.overflow_sub-last
 overflow_sub-last g c =
     let old = c.self.inside in
     let document = c.args.self.now in
-    let parts = parts_of old.seats old.tags old.marks old.settings old.disabled.items old.text.anchors.items old.text.history
-    (g.S.TextStore.content old.text.store) in
+    let parts = parts_of g.S.TextStore.content old in
     let stands : Stands parts document = record { sound = c.self.invariant; is = c.self.view_is } in
     let slot = c.number-slot.result in
     let seated = sits parts document c.args.seat slot stands c.number-slot.ensures.value in
@@ -56,8 +54,7 @@ pub replace_pairs-replaced-requires-clause-within : goal.replace_pairs-replaced-
 replace_pairs-replaced-requires-clause-within g c =
     let old = c.self.inside in
     let document = c.args.self.now in
-    let parts = parts_of old.seats old.tags old.marks old.settings old.disabled.items old.text.anchors.items old.text.history
-    (g.S.TextStore.content old.text.store) in
+    let parts = parts_of g.S.TextStore.content old in
     let stands : Stands parts document = record { sound = c.self.invariant; is = c.self.view_is } in
     let slot = c.number-slot.result in
     let seated = sits parts document c.args.seat slot stands c.number-slot.ensures.value in
@@ -72,8 +69,7 @@ pub replace_pairs-replaced-requires-clause-stand : goal.replace_pairs-replaced-r
 replace_pairs-replaced-requires-clause-stand g c =
     let old = c.self.inside in
     let document = c.args.self.now in
-    let parts = parts_of old.seats old.tags old.marks old.settings old.disabled.items old.text.anchors.items old.text.history
-    (g.S.TextStore.content old.text.store) in
+    let parts = parts_of g.S.TextStore.content old in
     let stands : Stands parts document = record { sound = c.self.invariant; is = c.self.view_is } in
     let slot = c.number-slot.result in
     let seated = sits parts document c.args.seat slot stands c.number-slot.ensures.value in
@@ -88,8 +84,7 @@ pub invariant_of-self : goal.invariant_of-self
 invariant_of-self g c =
     let old = c.self.inside in
     let document = c.args.self.now in
-    let parts = parts_of old.seats old.tags old.marks old.settings old.disabled.items old.text.anchors.items old.text.history
-    (g.S.TextStore.content old.text.store) in
+    let parts = parts_of g.S.TextStore.content old in
     let stands : Stands parts document = record { sound = c.self.invariant; is = c.self.view_is } in
     let slot = c.number-slot.result in
     let seated = sits parts document c.args.seat slot stands c.number-slot.ensures.value in
@@ -133,8 +128,7 @@ pub returns-in-Ok : goal.returns-in-Ok
 returns-in-Ok g c =
     let old = c.self.inside in
     let document = c.args.self.now in
-    let parts = parts_of old.seats old.tags old.marks old.settings old.disabled.items old.text.anchors.items old.text.history
-    (g.S.TextStore.content old.text.store) in
+    let parts = parts_of g.S.TextStore.content old in
     let stands : Stands parts document = record { sound = c.self.invariant; is = c.self.view_is } in
     let slot = c.number-slot.result in
     let seated = sits parts document c.args.seat slot stands c.number-slot.ensures.value in
@@ -178,8 +172,7 @@ pub invariant_of-self-in-Err : goal.invariant_of-self-in-Err
 invariant_of-self-in-Err g c =
     let old = c.self.inside in
     let document = c.args.self.now in
-    let parts = parts_of old.seats old.tags old.marks old.settings old.disabled.items old.text.anchors.items old.text.history
-    (g.S.TextStore.content old.text.store) in
+    let parts = parts_of g.S.TextStore.content old in
     let stands : Stands parts document = record { sound = c.self.invariant; is = c.self.view_is } in
     let slot = c.number-slot.result in
     let seated = sits parts document c.args.seat slot stands c.number-slot.ensures.value in
@@ -200,8 +193,7 @@ pub returns-in-Err : goal.returns-in-Err
 returns-in-Err g c =
     let old = c.self.inside in
     let document = c.args.self.now in
-    let parts = parts_of old.seats old.tags old.marks old.settings old.disabled.items old.text.anchors.items old.text.history
-    (g.S.TextStore.content old.text.store) in
+    let parts = parts_of g.S.TextStore.content old in
     let stands : Stands parts document = record { sound = c.self.invariant; is = c.self.view_is } in
     let slot = c.number-slot.result in
     let seated = sits parts document c.args.seat slot stands c.number-slot.ensures.value in

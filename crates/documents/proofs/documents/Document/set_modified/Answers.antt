@@ -1,4 +1,4 @@
-use Rattle.documents.specs.Documents.{parts_of}
+use Rattle.documents.specs.Inside.{parts_of}
 use Rattle.documents.specs.Kept.{Stands}
 use Rattle.documents.proofs.JournalLaws.{leaves-modified}
 use Rattle.documents.proofs.documents.Document.set_modified.Goals as goal
@@ -6,8 +6,7 @@ use Rattle.documents.proofs.documents.Document.set_modified.Goals as goal
 pub invariant_of-self : goal.invariant_of-self
 invariant_of-self g c =
     let old = c.self.inside in
-    let parts = parts_of old.seats old.tags old.marks old.settings old.disabled.items old.text.anchors.items old.text.history
-    (g.S.TextStore.content old.text.store) in
+    let parts = parts_of g.S.TextStore.content old in
     let stands : Stands parts c.args.self.now = record { sound = c.self.invariant; is = c.self.view_is } in
     (leaves-modified c.args.limits.now parts old.text.history c.set_modified.new.self c.args.self.now c.args.modified stands
     c.set_modified.ensures).sound
@@ -15,8 +14,7 @@ invariant_of-self g c =
 pub returns : goal.returns
 returns g c =
     let old = c.self.inside in
-    let parts = parts_of old.seats old.tags old.marks old.settings old.disabled.items old.text.anchors.items old.text.history
-    (g.S.TextStore.content old.text.store) in
+    let parts = parts_of g.S.TextStore.content old in
     let stands : Stands parts c.args.self.now = record { sound = c.self.invariant; is = c.self.view_is } in
     (leaves-modified c.args.limits.now parts old.text.history c.set_modified.new.self c.args.self.now c.args.modified stands
     c.set_modified.ensures).does

@@ -4,7 +4,8 @@ use Rattle.text_model.specs.Content as model
 use Rattle.edit_ops.specs.declared.anchors.Anchors.{Anchors}
 use Rattle.text_model.specs.Lines.{lines}
 use Rattle.command_effects.specs.declared.settings.Settings.{Settings}
-use Rattle.documents.specs.Documents.{characters, parts_of}
+use Rattle.documents.specs.Documents.{characters}
+use Rattle.documents.specs.Inside.{parts_of}
 use Rattle.documents.specs.Options.{AreLines}
 use Rattle.documents.specs.Kept.{Stands}
 use Rattle.documents.proofs.PartsLaws.{sits}
@@ -15,8 +16,7 @@ pub index-anchors-requires : goal.index-anchors-requires
 index-anchors-requires g c =
     let old = c.self.inside in
     let document = c.args.self.now in
-    let parts = parts_of old.seats old.tags old.marks old.settings old.disabled.items old.text.anchors.items old.text.history
-    (g.S.TextStore.content old.text.store) in
+    let parts = parts_of g.S.TextStore.content old in
     let stands : Stands parts document = record { sound = c.self.invariant; is = c.self.view_is } in
     let seated = sits parts document c.args.seat c.number-slot.result stands c.number-slot.ensures.value in
     omega (arith, seated.anchors, old.text.anchors.ok.0)
@@ -25,8 +25,7 @@ pub index-requires : goal.index-requires
 index-requires g c =
     let old = c.self.inside in
     let document = c.args.self.now in
-    let parts = parts_of old.seats old.tags old.marks old.settings old.disabled.items old.text.anchors.items old.text.history
-    (g.S.TextStore.content old.text.store) in
+    let parts = parts_of g.S.TextStore.content old in
     let stands : Stands parts document = record { sound = c.self.invariant; is = c.self.view_is } in
     let seated = sits parts document c.args.seat c.number-slot.result stands c.number-slot.ensures.value in
     omega (arith, seated.disabled, old.disabled.ok.0)
@@ -35,8 +34,7 @@ pub line_at-requires-clause-within : goal.line_at-requires-clause-within
 line_at-requires-clause-within g c =
     let old = c.self.inside in
     let document = c.args.self.now in
-    let parts = parts_of old.seats old.tags old.marks old.settings old.disabled.items old.text.anchors.items old.text.history
-    (g.S.TextStore.content old.text.store) in
+    let parts = parts_of g.S.TextStore.content old in
     let stands : Stands parts document = record { sound = c.self.invariant; is = c.self.view_is } in
     let seated = sits parts document c.args.seat c.number-slot.result stands c.number-slot.ensures.value in
     (anchors-within parts document c.args.seat c.number-slot.result c.index-anchors.result.now seated
@@ -46,8 +44,7 @@ pub line_at-requires-2-clause-within : goal.line_at-requires-2-clause-within
 line_at-requires-2-clause-within g c =
     let old = c.self.inside in
     let document = c.args.self.now in
-    let parts = parts_of old.seats old.tags old.marks old.settings old.disabled.items old.text.anchors.items old.text.history
-    (g.S.TextStore.content old.text.store) in
+    let parts = parts_of g.S.TextStore.content old in
     let stands : Stands parts document = record { sound = c.self.invariant; is = c.self.view_is } in
     let seated = sits parts document c.args.seat c.number-slot.result stands c.number-slot.ensures.value in
     (anchors-within parts document c.args.seat c.number-slot.result c.index-anchors.result.now seated
@@ -57,8 +54,7 @@ pub returns-clause-value : goal.returns-clause-value
 returns-clause-value g c =
     let old = c.self.inside in
     let document = c.args.self.now in
-    let parts = parts_of old.seats old.tags old.marks old.settings old.disabled.items old.text.anchors.items old.text.history
-    (g.S.TextStore.content old.text.store) in
+    let parts = parts_of g.S.TextStore.content old in
     let stands : Stands parts document = record { sound = c.self.invariant; is = c.self.view_is } in
     let seated = sits parts document c.args.seat c.number-slot.result stands c.number-slot.ensures.value in
     let anchors = (anchors-within parts document c.args.seat c.number-slot.result c.index-anchors.result.now seated
@@ -77,8 +73,7 @@ pub returns-clause-lines : goal.returns-clause-lines
 returns-clause-lines g c =
     let old = c.self.inside in
     let document = c.args.self.now in
-    let parts = parts_of old.seats old.tags old.marks old.settings old.disabled.items old.text.anchors.items old.text.history
-    (g.S.TextStore.content old.text.store) in
+    let parts = parts_of g.S.TextStore.content old in
     let stands : Stands parts document = record { sound = c.self.invariant; is = c.self.view_is } in
     let seated = sits parts document c.args.seat c.number-slot.result stands c.number-slot.ensures.value in
     let anchors = (anchors-within parts document c.args.seat c.number-slot.result c.index-anchors.result.now seated

@@ -1,7 +1,8 @@
 use Rattle.std.proofs.Common.{sym, ap, ◌∙◌, arith}
 use Rattle.std.specs.Prelude.{is_some}
 use Rattle.mark_table.specs.Order.{rank_of}
-use Rattle.documents.specs.Documents.{parts_of, widget_at}
+use Rattle.documents.specs.Documents.{widget_at}
+use Rattle.documents.specs.Inside.{parts_of}
 use Rattle.documents.specs.Kept.{Stands}
 use Rattle.documents.specs.Names.{mark_place}
 use Rattle.documents.proofs.MarkQueryLaws.{mark-before, mark-behind, mark-unknown}
@@ -11,8 +12,7 @@ pub returns-in-None : goal.returns-in-None
 returns-in-None g c =
     let old = c.self.inside in
     let document = c.args.self.now in
-    let parts = parts_of old.seats old.tags old.marks old.settings old.disabled.items old.text.anchors.items old.text.history
-    (g.S.TextStore.content old.text.store) in
+    let parts = parts_of g.S.TextStore.content old in
     let stands : Stands parts document = record { sound = c.self.invariant; is = c.self.view_is } in
     absurd (mark-unknown parts document stands c.args.seat c.in-Shared.place c.number.result.0 c.number.ensures
     (sym c.mark_place.ensures.value ∙ c.in-None.is))
@@ -21,8 +21,7 @@ pub returns-then-view-found : goal.returns-then-view-found
 returns-then-view-found g c =
     let old = c.self.inside in
     let document = c.args.self.now in
-    let parts = parts_of old.seats old.tags old.marks old.settings old.disabled.items old.text.anchors.items old.text.history
-    (g.S.TextStore.content old.text.store) in
+    let parts = parts_of g.S.TextStore.content old in
     let stands : Stands parts document = record { sound = c.self.invariant; is = c.self.view_is } in
     let seen = c.view_at-view in
     mark-behind parts document stands c.args.seat c.in-Shared.place c.number.result.0 seen.result.s seen.result.e
@@ -34,8 +33,7 @@ pub returns-else-view-found : goal.returns-else-view-found
 returns-else-view-found g c =
     let old = c.self.inside in
     let document = c.args.self.now in
-    let parts = parts_of old.seats old.tags old.marks old.settings old.disabled.items old.text.anchors.items old.text.history
-    (g.S.TextStore.content old.text.store) in
+    let parts = parts_of g.S.TextStore.content old in
     let stands : Stands parts document = record { sound = c.self.invariant; is = c.self.view_is } in
     let seen = c.view_at-view in
     mark-before parts document stands c.args.seat c.in-Shared.place c.number.result.0 seen.result.s c.in-Some.found

@@ -3,7 +3,8 @@ use Rattle.std.specs.Prelude.{IfOk}
 use Rattle.std.specs.List.{All}
 use Rattle.edit_ops.specs.Tagging.{SpanFits}
 use Rattle.command_effects.specs.Ranges.{spans_of}
-use Rattle.documents.specs.Documents.{parts_of, widget_at}
+use Rattle.documents.specs.Documents.{widget_at}
+use Rattle.documents.specs.Inside.{parts_of}
 use Rattle.documents.specs.Kept.{Stands}
 use Rattle.documents.specs.Ranges.{spans_shown}
 use Rattle.documents.proofs.PartsLaws.{sits}
@@ -15,8 +16,7 @@ pub view_of-view-requires : goal.view_of-view-requires
 view_of-view-requires g c =
     let old = c.self.inside in
     let document = c.args.self.now in
-    let parts = parts_of old.seats old.tags old.marks old.settings old.disabled.items old.text.anchors.items old.text.history
-    (g.S.TextStore.content old.text.store) in
+    let parts = parts_of g.S.TextStore.content old in
     let stands : Stands parts document = record { sound = c.self.invariant; is = c.self.view_is } in
     let seat = sits parts document c.args.seat c.number.result stands c.number.ensures.value in
     subst (λ anchors. c.number.result < length anchors) (sym c.deref.ensures.value) seat.anchors
@@ -25,8 +25,7 @@ pub spans_of-requires-clause-within : goal.spans_of-requires-clause-within
 spans_of-requires-clause-within g c =
     let old = c.self.inside in
     let document = c.args.self.now in
-    let parts = parts_of old.seats old.tags old.marks old.settings old.disabled.items old.text.anchors.items old.text.history
-    (g.S.TextStore.content old.text.store) in
+    let parts = parts_of g.S.TextStore.content old in
     let stands : Stands parts document = record { sound = c.self.invariant; is = c.self.view_is } in
     let seat = sits parts document c.args.seat c.number.result stands c.number.ensures.value in
     let view = c.view_of-view.result in
@@ -41,8 +40,7 @@ pub returns-clause-value : goal.returns-clause-value
 returns-clause-value g c =
     let old = c.self.inside in
     let document = c.args.self.now in
-    let parts = parts_of old.seats old.tags old.marks old.settings old.disabled.items old.text.anchors.items old.text.history
-    (g.S.TextStore.content old.text.store) in
+    let parts = parts_of g.S.TextStore.content old in
     let stands : Stands parts document = record { sound = c.self.invariant; is = c.self.view_is } in
     let seat = sits parts document c.args.seat c.number.result stands c.number.ensures.value in
     let view = c.view_of-view.result in
@@ -62,8 +60,7 @@ pub returns-clause-fit : goal.returns-clause-fit
 returns-clause-fit g c =
     let old = c.self.inside in
     let document = c.args.self.now in
-    let parts = parts_of old.seats old.tags old.marks old.settings old.disabled.items old.text.anchors.items old.text.history
-    (g.S.TextStore.content old.text.store) in
+    let parts = parts_of g.S.TextStore.content old in
     let stands : Stands parts document = record { sound = c.self.invariant; is = c.self.view_is } in
     let seat = sits parts document c.args.seat c.number.result stands c.number.ensures.value in
     let view = c.view_of-view.result in

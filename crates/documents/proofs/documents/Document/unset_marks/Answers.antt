@@ -2,7 +2,7 @@ use Rattle.std.proofs.Common.{map, ap, ◌∙◌}
 use Rattle.tcl_words.specs.Unread.{texts_of}
 use Rattle.text_model.specs.Content.{Content}
 use Rattle.text_model.specs.declared.places.MarkNo.{MarkNo}
-use Rattle.documents.specs.Documents.{parts_of}
+use Rattle.documents.specs.Inside.{parts_of}
 use Rattle.documents.specs.Kept.{Stands}
 use Rattle.documents.proofs.ChangeLaws.{stands-same}
 use Rattle.documents.proofs.MarkLaws.{leaves-unset}
@@ -12,8 +12,7 @@ pub invariant_of-self : goal.invariant_of-self
 invariant_of-self g c =
     let old = c.self.inside in
     let document = c.args.self.now in
-    let parts = parts_of old.seats old.tags old.marks old.settings old.disabled.items old.text.anchors.items old.text.history
-    (g.S.TextStore.content old.text.store) in
+    let parts = parts_of g.S.TextStore.content old in
     let stands : Stands parts document = record { sound = c.self.invariant; is = c.self.view_is } in
     let changed = g.S.TextStore.content c.take_marks.new.store in
     (stands-same parts (record parts { content = changed }) document stands
@@ -23,8 +22,7 @@ pub invariant_of-self-in-Ok : goal.invariant_of-self-in-Ok
 invariant_of-self-in-Ok g c =
     let old = c.self.inside in
     let document = c.args.self.now in
-    let parts = parts_of old.seats old.tags old.marks old.settings old.disabled.items old.text.anchors.items old.text.history
-    (g.S.TextStore.content old.text.store) in
+    let parts = parts_of g.S.TextStore.content old in
     let stands : Stands parts document = record { sound = c.self.invariant; is = c.self.view_is } in
     let changed = g.S.TextStore.content c.take_marks.new.store in
     (leaves-unset c.args.limits.now parts c.unset_names.new.marks changed document (texts_of c.args.names.now)
@@ -36,8 +34,7 @@ pub returns : goal.returns
 returns g c =
     let old = c.self.inside in
     let document = c.args.self.now in
-    let parts = parts_of old.seats old.tags old.marks old.settings old.disabled.items old.text.anchors.items old.text.history
-    (g.S.TextStore.content old.text.store) in
+    let parts = parts_of g.S.TextStore.content old in
     let stands : Stands parts document = record { sound = c.self.invariant; is = c.self.view_is } in
     let changed = g.S.TextStore.content c.take_marks.new.store in
     (leaves-unset c.args.limits.now parts c.unset_names.new.marks changed document (texts_of c.args.names.now)

@@ -1,5 +1,5 @@
 use Rattle.std.proofs.Common.{length, ap, arith}
-use Rattle.documents.specs.Documents.{parts_of}
+use Rattle.documents.specs.Inside.{parts_of}
 use Rattle.documents.specs.Kept.{Stands}
 use Rattle.documents.proofs.PartsLaws.{sits}
 use Rattle.documents.proofs.ViewLaws.{end-found-is, length-found, see, shown-found, start-found-is, view-found}
@@ -8,8 +8,7 @@ use Rattle.documents.proofs.documents.Document.view_at.Goals as goal
 pub view_of-requires : goal.view_of-requires
 view_of-requires g c =
     let old = c.self.inside in
-    let parts = parts_of old.seats old.tags old.marks old.settings old.disabled.items old.text.anchors.items old.text.history
-    (g.S.TextStore.content old.text.store) in
+    let parts = parts_of g.S.TextStore.content old in
     let stands : Stands parts c.args.self.now = record { sound = c.self.invariant; is = c.self.view_is } in
     let seated = sits parts c.args.self.now c.args.seat c.number.result stands c.number.ensures.value in
     omega (arith, seated.anchors, ap length c.deref.ensures.value)
@@ -19,8 +18,7 @@ returns-clause-lines g c =
     let old = c.self.inside in
     let found = c.view_of in
     let content = g.S.TextStore.content found.result.store.now in
-    let parts = parts_of old.seats old.tags old.marks old.settings old.disabled.items old.text.anchors.items old.text.history
-    (g.S.TextStore.content old.text.store) in
+    let parts = parts_of g.S.TextStore.content old in
     let stands : Stands parts c.args.self.now = record { sound = c.self.invariant; is = c.self.view_is } in
     let seen = see parts c.args.self.now c.args.seat c.number.result content found.result.s found.result.e
     c.deref.result.now stands c.number.ensures.value
@@ -32,8 +30,7 @@ returns-clause-text g c =
     let old = c.self.inside in
     let found = c.view_of in
     let content = g.S.TextStore.content found.result.store.now in
-    let parts = parts_of old.seats old.tags old.marks old.settings old.disabled.items old.text.anchors.items old.text.history
-    (g.S.TextStore.content old.text.store) in
+    let parts = parts_of g.S.TextStore.content old in
     let stands : Stands parts c.args.self.now = record { sound = c.self.invariant; is = c.self.view_is } in
     let seen = see parts c.args.self.now c.args.seat c.number.result content found.result.s found.result.e
     c.deref.result.now stands c.number.ensures.value
@@ -45,8 +42,7 @@ returns-clause-start g c =
     let old = c.self.inside in
     let found = c.view_of in
     let content = g.S.TextStore.content found.result.store.now in
-    let parts = parts_of old.seats old.tags old.marks old.settings old.disabled.items old.text.anchors.items old.text.history
-    (g.S.TextStore.content old.text.store) in
+    let parts = parts_of g.S.TextStore.content old in
     let stands : Stands parts c.args.self.now = record { sound = c.self.invariant; is = c.self.view_is } in
     let seen = see parts c.args.self.now c.args.seat c.number.result content found.result.s found.result.e
     c.deref.result.now stands c.number.ensures.value
@@ -58,8 +54,7 @@ returns-clause-end g c =
     let old = c.self.inside in
     let found = c.view_of in
     let content = g.S.TextStore.content found.result.store.now in
-    let parts = parts_of old.seats old.tags old.marks old.settings old.disabled.items old.text.anchors.items old.text.history
-    (g.S.TextStore.content old.text.store) in
+    let parts = parts_of g.S.TextStore.content old in
     let stands : Stands parts c.args.self.now = record { sound = c.self.invariant; is = c.self.view_is } in
     let seen = see parts c.args.self.now c.args.seat c.number.result content found.result.s found.result.e
     c.deref.result.now stands c.number.ensures.value
@@ -71,8 +66,7 @@ returns-clause-count g c =
     let old = c.self.inside in
     let found = c.view_of in
     let content = g.S.TextStore.content found.result.store.now in
-    let parts = parts_of old.seats old.tags old.marks old.settings old.disabled.items old.text.anchors.items old.text.history
-    (g.S.TextStore.content old.text.store) in
+    let parts = parts_of g.S.TextStore.content old in
     let stands : Stands parts c.args.self.now = record { sound = c.self.invariant; is = c.self.view_is } in
     let seen = see parts c.args.self.now c.args.seat c.number.result content found.result.s found.result.e
     c.deref.result.now stands c.number.ensures.value
