@@ -2,7 +2,7 @@
 use Rattle.std.specs.Prelude.{ℕ, ◌+◌, ◌*◌, ◌-◌, min, nat_lt, false, if◌then◌else◌, map, List, [], ◌∷◌, Option}
 use Rattle.std.specs.Prelude.{None, Some}
 use Rattle.std.specs.FinMap as finite
-use Rattle.text_model.specs.Content.{Content, new_content}
+use Rattle.text_model.specs.Content.{Content}
 use Rattle.text_model.specs.LimitTable.{LimitTable}
 use Rattle.text_model.specs.Steps.{with_slot}
 use Rattle.text_model.specs.declared.places.Gravity.TheVariants.{Right}
@@ -14,10 +14,6 @@ use Rattle.command_effects.specs.Marking.{taken}
 -- a mark at the start
 abbrev pub new_mark : Place
 new_mark = record { offset = 0; gravity = Right }
-
--- a new text: one newline, and a widget's own two marks at its start
-abbrev pub first_content : Content
-first_content = record new_content { marks = finite.insert (finite.insert finite.empty 0 new_mark) 1 new_mark }
 
 -- both marks of a widget's own at a place; the widget is known by its slot
 abbrev pub with_own_marks : ℕ → Place → Content → Content

@@ -1,7 +1,7 @@
 ghost use Rattle.std.specs.Prelude.{◌≡◌, chars};
 ghost use Rattle.command_effects.specs.Comparisons.{comparison_of, holds};
 
-use crate::words::is_word;
+use command_table::is_word;
 
 /// How two places are compared (text(n), "compare").
 #[derive(Clone, Copy)]

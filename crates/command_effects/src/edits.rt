@@ -12,7 +12,7 @@ ghost use Rattle.edit_ops.specs.States.{log_of, state_in, IsUnchanged};
 ghost use Rattle.edit_ops.specs.Tagging.{SpanFits, tagged, cleared};
 ghost use Rattle.command_effects.specs.declared.answers.Fault.TheVariants.{Memory, TextTooLong};
 ghost use Rattle.command_effects.specs.Marking.{taken};
-ghost use Rattle.command_effects.specs.Edits.{first_content, length_replaced, with_own_marks, without_widgets};
+ghost use Rattle.command_effects.specs.Edits.{length_replaced, with_own_marks, without_widgets};
 
 use crate::answers::Fault;
 use edit_ops::{
@@ -103,15 +103,6 @@ pub fn take_marks<S: TextStore>(
         steps.push(Step::TakeMark(*number))?;
     }
     make(store, Edit { steps })
-}
-
-/// A store of one newline, with a widget's own two marks.
-pub fn new_store<S: TextStore>(alloc: Global) -> Result<S, AllocError>
-    ensures { IfOk result (λ store. S.content store ≡ first_content) }
-{
-    let mut store = S::new(alloc)?;
-    make(&mut store, own_marks(alloc, TagSlot(0), 0)?)?;
-    Ok(store)
 }
 
 /// Prepares to take what widgets have of their own out of a store: the slot of the `sel` of each off all characters,

@@ -13,7 +13,7 @@ ghost use Rattle.command_effects.specs.Words.{is_among};
 use crate::answers::Fault;
 use crate::lists::Pair;
 use crate::tagging::listed_names;
-use crate::words::is_word;
+use command_table::is_word;
 use edit_ops::count_of;
 use tag_table::TagTable;
 use text_model::Limits;

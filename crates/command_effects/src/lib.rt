@@ -19,10 +19,10 @@ mod words;
 
 pub use answers::{Answer, Fault};
 pub use arguments::{first, first_two, none_or_one, one, one_or_two, three, two, two_or_three};
+pub use command_table::is_word;
 pub use comparisons::Comparison;
 pub use edits::{
-    clear_slots, delete_spans, new_store, prepare_drop, put_mark, put_widget_marks, set_slot,
-    take_marks,
+    clear_slots, delete_spans, prepare_drop, put_mark, put_widget_marks, set_slot, take_marks,
 };
 pub use excess::is_one_too_many;
 pub use listing::{
@@ -35,4 +35,4 @@ pub use reversals::{redo_group, undo_group};
 pub use settings::{DocumentSettings, Settings, boolean_at};
 pub use tagged_edits::{put_pairs, replace_pairs, tag_spans};
 pub use tagging::{delete_names, deleted_slots, find_tag};
-pub use words::{is_among, is_word};
+pub use words::is_among;

@@ -7,7 +7,7 @@ ghost use Rattle.command_effects.specs.Marking.{gravity_of, gravity_word, IsMade
 
 use crate::answers::Fault;
 use crate::edits::put_mark;
-use crate::words::is_word;
+use command_table::is_word;
 use mark_table::MarkTable;
 use std::alloc::{AllocError, Global};
 use text_model::{Gravity, MarkNo, Place, TextStore};

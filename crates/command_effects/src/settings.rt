@@ -10,8 +10,7 @@ ghost use Rattle.undo_stack.specs.History.{limit_of};
 ghost use Rattle.std.specs.Fmt.{signed_decimal};
 
 use crate::answers::{Answer, Fault};
-use crate::words::is_word;
-use command_table::{boolean, integer};
+use command_table::{boolean, integer, is_word};
 use edit_ops::Recording;
 use itoa::Buffer;
 use std::alloc::{AllocError, Global};

@@ -142,7 +142,7 @@ pub fn tag_spans<S: TextStore>(
     text: &mut EditedText<S>,
     name: &str,
     spans: &[Span],
-) -> Result<(), AllocError>
+) -> Result<(), Fault>
     requires spans { All (SpanFits (length (S.content text.old.store).cells)) spans.now }
     requires roomy { tags.old.limit ≡ MOST_TAGS }
     requires few { length (with_name (names_of tags.old.tags) (chars name.now)) ≤ MOST_TAGS + 1 }
@@ -156,17 +156,15 @@ pub fn tag_spans<S: TextStore>(
     ensures err { OnErr result (S.content text.new.store ≡ S.content text.old.store) }
     ensures log { log_of text.new.history ≡ log_of text.old.history }
     ensures anchors { text.new.anchors.items ≡ text.old.anchors.items }
+    ensures fault { IfErr result (λ fault. fault ≡ Memory) }
 {
     match make_tag(alloc, tags, name) {
-        Err(Fault::Memory) => Err(AllocError),
+        Err(Fault::Memory) => Err(Fault::Memory),
         Err(_) => unreachable!(),
         Ok(slot) => {
             // Where the tags are counted, they are known to be those of a table.
             let _count = tags.len();
-            match set_slot(alloc, text, spans, own_slot(slot, own), true) {
-                Err(_) => Err(AllocError),
-                Ok(()) => Ok(()),
-            }
+            set_slot(alloc, text, spans, own_slot(slot, own), true)
         }
     }
 }

@@ -1,13 +1,8 @@
 ghost use Rattle.std.specs.Prelude.{◌≡◌, chars};
 ghost use Rattle.tcl_words.specs.Unread.{texts_of};
-ghost use Rattle.command_effects.specs.Words.{is_among, is_same};
+ghost use Rattle.command_effects.specs.Words.{is_among};
 
-/// Whether a word is one that the program knows.
-pub fn is_word(word: &str, known: &str) -> bool
-    ensures { result ≡ is_same (chars word.now) (chars known.now) }
-{
-    word == known
-}
+use command_table::is_word;
 
 /// Whether a name is one of these.
 pub fn is_among(name: &str, names: &[String]) -> bool

@@ -15,4 +15,4 @@ pub use commands::Command;
 pub use numbers::{ValueFault, boolean, integer};
 pub use readings::shape;
 pub use shapes::{Shape, ShapeFault};
-pub use words::abbreviates;
+pub use words::{abbreviates, is_word};

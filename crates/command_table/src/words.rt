@@ -2,7 +2,7 @@ ghost use Rattle.std.specs.Prelude.{◌≡◌, chars};
 ghost use Rattle.std.specs.List.{starts_with};
 ghost use Rattle.command_table.specs.Words.{is_same, is_among, is_character, is_dashed, lent};
 
-/// Whether a word is one that the table knows.
+/// Whether a word is one that the program knows.
 pub fn is_word(word: &str, known: &str) -> bool
     ensures { result ≡ is_same (chars word.now) (chars known.now) }
 {

@@ -152,9 +152,9 @@ impl<S: TextStore> Document<S> {
         );
         match tagged {
             Ok(()) => Ok(Answer::Empty),
-            Err(_) => {
+            Err(fault) => {
                 self.tags.truncate(front);
-                Err(Fault::Memory)
+                Err(fault)
             }
         }
     }
