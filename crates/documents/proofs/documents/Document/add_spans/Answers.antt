@@ -1,7 +1,7 @@
 use Rattle.std.proofs.Common.{◌≡◌, ℕ, ◌+◌, ◌<◌, ◌≤◌, true, false, length, refl, sym, subst, ap, ◌∙◌, arith}
 use Rattle.std.proofs.lemmas.Bool.Decides.{nat_tests}
 use Rattle.command_effects.specs.Lists.{with_name}
-use Rattle.command_effects.specs.declared.answers.Fault.TheVariants.{Memory, TooManyTags}
+use Rattle.command_effects.specs.declared.answers.Fault.TheVariants.{TooManyTags}
 use Rattle.std.specs.Prelude.{chars, take}
 use Rattle.std.specs.List.{All}
 use Rattle.index_grammar.specs.Names.{known_tags}
@@ -129,9 +129,9 @@ returns g c =
     let left = stands-same parts (relogged (retagged parts c.truncate.new.self content) (log_of new.text.history)) document
     stands same in
     rw c.in-Err.ensures.anchors (does-left c.args.limits.now document
-    (document_of (relogged (retagged parts c.truncate.new.self content) (log_of new.text.history))) Memory
+    (document_of (relogged (retagged parts c.truncate.new.self content) (log_of new.text.history))) c.in-Err.fault
     (add_spans c.args.limits.now document (widget_at document c.args.seat) (chars c.args.name.now) c.args.places.now)
-    left.is (λ other. absurd (other refl)))
+    left.is (λ other. absurd (other c.in-Err.ensures.fault)))
 
 pub returns-then-is_one_too_many : goal.returns-then-is_one_too_many
 returns-then-is_one_too_many g c =
