@@ -1,4 +1,5 @@
 ghost use Rattle.std.specs.Prelude.{◌≡◌, ◌≢◌, ◌<◌, Some, Ok, [], false, true, nat_le, length, chars, ◌+◌, ◌≤◌};
+ghost use Rattle.std.specs.Prelude.{option_map};
 ghost use Rattle.text_model.specs.Lines.{lines};
 ghost use Rattle.tcl_words.specs.Unread.{texts_of};
 ghost use Rattle.command_table.specs.Reading.{reading};
@@ -22,6 +23,7 @@ use crate::widgets::peer_settings;
 use crate::words::is_window_name;
 use command_effects::{Answer, Fault, Settings, first, is_word};
 use command_table::{Command, Shape, shape};
+use documents::Document;
 use std::alloc::Global;
 use std::marker::Model;
 use text_model::{Limits, TextStore};
@@ -266,13 +268,21 @@ impl<S: TextStore> World<S> {
         }
     }
 
+    /// The document that the widget of a name shows.
+    fn document(&self, name: &str) -> Option<&Document<S>>
+        ensures { option_map (λ document. document.now) result
+            ≡ option_map (document_at self.now.documents) (home (chars name.now) self.now.documents) }
+    {
+        let place = self.documents.windows.home(name)?;
+        Some(&self.documents.list[place])
+    }
+
     /// Whether `edit undo` would find something to undo in the text that the widget of a name shows (text(n), "edit
     /// canundo"); None where no widget has the name.
     pub fn can_undo(&self, name: &str) -> Option<bool>
         ensures { result ≡ can_undo_by self.now (chars name.now) }
     {
-        let place = self.documents.windows.home(name)?;
-        Some(self.documents.list[place].can_undo())
+        Some(self.document(name)?.can_undo())
     }
 
     /// Whether `edit redo` would find something to redo there (text(n), "edit canredo"); None where no widget has the
@@ -280,8 +290,7 @@ impl<S: TextStore> World<S> {
     pub fn can_redo(&self, name: &str) -> Option<bool>
         ensures { result ≡ can_redo_by self.now (chars name.now) }
     {
-        let place = self.documents.windows.home(name)?;
-        Some(self.documents.list[place].can_redo())
+        Some(self.document(name)?.can_redo())
     }
 
     /// Carries out a command of one word or more. A fault leaves the world as it was.
