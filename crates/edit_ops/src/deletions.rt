@@ -2,7 +2,7 @@ ghost use Rattle.std.specs.Prelude.{◌≡◌, true, ℕ, ◌+◌, ◌-◌, ◌<
 ghost use Rattle.std.specs.Prelude.{get_or, length, OnOk, IfOk, IfErr, if◌then◌else◌};
 ghost use Rattle.std.specs.List.{All};
 ghost use Rattle.edit_ops.specs.Deletions.{in_spans, delete_set, AreApart, deleted, removed_spans};
-ghost use Rattle.edit_ops.specs.Plans.{anchors_left, planned, HasRoomFor};
+ghost use Rattle.edit_ops.specs.Plans.{planned, HasRoomFor, KeepsWidgets};
 ghost use Rattle.edit_ops.specs.States.{State, Log, log_of, state_of, state_in, outlineed, IsUnchanged};
 ghost use Rattle.text_model.specs.Content.{characters};
 ghost use Rattle.text_model.specs.Lines.{is_newline};
@@ -121,7 +121,8 @@ fn outline_delete<S: TextStore>(
     requires within { end ≤ length (S.content text.now.store).cells }
     requires spans { All (λ span. span.to ≤ end) spans.now }
     ensures widgets { IfOk result (λ outline. length outline.anchors ≡ length text.now.anchors.items) }
-    ensures makes { IfOk result (λ outline. (recording : Recording) (log : Log) → (recording.undo ≡ true → keeps ≡ true) →
+    ensures makes { IfOk result (λ outline. (recording : Recording) (log : Log)
+        → (recording.undo ≡ true → keeps ≡ true) →
         Fits outline.steps (S.content text.now.store) ×
         (outlineed recording EditKind.Delete outline (state_of (S.content text.now.store) text.now.anchors.items log)
         ≡ deleted recording start end spans.now (state_of (S.content text.now.store) text.now.anchors.items log))) }
@@ -154,7 +155,7 @@ pub fn plan_delete<S: TextStore>(
     ensures refused { IfErr result (λ fault. fault ≡ EditFault.Memory) }
     ensures ready { IfOk result (λ plan. S.ready text.new.store plan.prepared) }
     ensures room { IfOk result (λ plan. HasRoomFor plan.effects text.new.history) }
-    ensures widgets { IfOk result (λ plan. length (anchors_left plan.effects text.old.anchors.items) ≡ length text.old.anchors.items) }
+    ensures widgets { IfOk result (λ plan. KeepsWidgets plan.effects text.old.anchors.items) }
     ensures outcome { IfOk result (λ plan.
         planned plan.effects (S.outcome text.new.store plan.prepared) text.old.anchors.items (log_of text.old.history)
         ≡ deleted recording start end spans.now (state_in S.content text.old)) }

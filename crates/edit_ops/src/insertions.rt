@@ -4,7 +4,7 @@ ghost use Rattle.std.specs.FinSet as set;
 ghost use Rattle.std.specs.List.{All};
 ghost use Rattle.edit_ops.specs.Anchors.{AnchorsStand};
 ghost use Rattle.edit_ops.specs.Insertions.{inserted_texts, needs_shared, slots_or, total, total_bytes, IsBetween};
-ghost use Rattle.edit_ops.specs.Plans.{anchors_left, planned, HasRoomFor};
+ghost use Rattle.edit_ops.specs.Plans.{planned, HasRoomFor, KeepsWidgets};
 ghost use Rattle.edit_ops.specs.declared.plans.Recording.{Recording};
 ghost use Rattle.edit_ops.specs.States.{State, Log, log_of, state_of, state_in, outlineed, IsUnchanged};
 ghost use Rattle.text_model.specs.Content.{slot_sets, slots_left_of};
@@ -205,7 +205,7 @@ pub fn plan_insert<S: TextStore>(
     ensures never { result ≢ Err EditFault.IndexOrder }
     ensures ready { IfOk result (λ plan. S.ready text.new.store plan.prepared) }
     ensures room { IfOk result (λ plan. HasRoomFor plan.effects text.new.history) }
-    ensures widgets { IfOk result (λ plan. length (anchors_left plan.effects text.old.anchors.items) ≡ length text.old.anchors.items) }
+    ensures widgets { IfOk result (λ plan. KeepsWidgets plan.effects text.old.anchors.items) }
     ensures outcome { IfOk result (λ plan.
         planned plan.effects (S.outcome text.new.store plan.prepared) text.old.anchors.items (log_of text.old.history)
         ≡ inserted_texts rules.now.recording EditKind.Insert at pieces.items (state_in S.content text.old)) }

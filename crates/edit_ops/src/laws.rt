@@ -20,11 +20,13 @@ ghost use Rattle.edit_ops.specs.Tagging.{SpanFits, tagged};
 
 /// Where a history fits a text, it fits what an edit makes of the two, whether or not actions are kept.
 pub fn edits_fit()
-    ensures inserted { (limit at : ℕ) (recording : Recording) (kind : EditKind) (pieces : List SlottedText) (state : State) →
+    ensures inserted { (limit at : ℕ) (recording : Recording) (kind : EditKind) (pieces : List SlottedText)
+        (state : State) →
         IsKept limit recording state → at < length state.content.cells →
         length state.content.cells + total pieces ≤ limit →
         IsKept limit recording (inserted_texts recording kind at pieces state) }
-    ensures replaced { (limit mark last from to : ℕ) (recording : Recording) (pieces : List SlottedText) (state : State) →
+    ensures replaced { (limit mark last from to : ℕ) (recording : Recording) (pieces : List SlottedText)
+        (state : State) →
         IsKept limit recording state → last < length state.content.cells → from ≤ to →
         length state.content.cells - (min to last - min from last) + total pieces ≤ limit →
         IsKept limit recording (replaced recording mark last from to pieces state) }

@@ -3,7 +3,7 @@ ghost use Rattle.std.specs.List.{All};
 ghost use Rattle.edit_ops.specs.Anchors.{AnchorsStand};
 ghost use Rattle.edit_ops.specs.Insertions.{total};
 ghost use Rattle.edit_ops.specs.Removals.{clipped, removed_span, replaced_span, replaced};
-ghost use Rattle.edit_ops.specs.Plans.{anchors_left, planned, HasRoomFor};
+ghost use Rattle.edit_ops.specs.Plans.{planned, HasRoomFor, KeepsWidgets};
 ghost use Rattle.edit_ops.specs.declared.plans.Recording.{Recording};
 ghost use Rattle.edit_ops.specs.States.{Log, log_of, state_of, state_in, outlineed, IsUnchanged};
 ghost use Rattle.text_model.specs.Splices.{removed};
@@ -124,7 +124,7 @@ pub fn plan_replace<S: TextStore>(
         - (min target.to target.last - min target.from target.last) + total pieces.items)) }
     ensures ready { IfOk result (λ plan. S.ready text.new.store plan.prepared) }
     ensures room { IfOk result (λ plan. HasRoomFor plan.effects text.new.history) }
-    ensures widgets { IfOk result (λ plan. length (anchors_left plan.effects text.old.anchors.items) ≡ length text.old.anchors.items) }
+    ensures widgets { IfOk result (λ plan. KeepsWidgets plan.effects text.old.anchors.items) }
     ensures outcome { IfOk result (λ plan.
         planned plan.effects (S.outcome text.new.store plan.prepared) text.old.anchors.items (log_of text.old.history)
         ≡ replaced rules.now.recording target.mark.0 target.last target.from target.to pieces.items

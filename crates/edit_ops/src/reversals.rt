@@ -3,7 +3,7 @@ ghost use Rattle.std.specs.Prelude.{IsSome, IfSome, true, false, if◌then◌els
 ghost use Rattle.std.specs.Prelude.{option_and_then};
 ghost use Rattle.std.specs.List.{All};
 ghost use Rattle.edit_ops.specs.Anchors.{AnchorsStand};
-ghost use Rattle.edit_ops.specs.Plans.{anchors_left, planned, HasRoomFor};
+ghost use Rattle.edit_ops.specs.Plans.{anchors_left, planned, HasRoomFor, KeepsWidgets};
 ghost use Rattle.edit_ops.specs.Replays.{Follows, drawn_up, replays, replayed_group};
 ghost use Rattle.edit_ops.specs.Reversals.{put_back, taken_back, action_redone, group_redone, redo_end, stood, undone};
 ghost use Rattle.edit_ops.specs.Reversals.{redone};
@@ -288,7 +288,7 @@ pub fn plan_undo<S: TextStore>(
     ensures refused { IfErr result (λ fault. fault ≡ EditFault.Memory) }
     ensures ready { IfOk result (λ plan. S.ready text.new.store plan.prepared) }
     ensures room { IfOk result (λ plan. HasRoomFor plan.effects text.new.history) }
-    ensures widgets { IfOk result (λ plan. length (anchors_left plan.effects text.old.anchors.items) ≡ length text.old.anchors.items) }
+    ensures widgets { IfOk result (λ plan. KeepsWidgets plan.effects text.old.anchors.items) }
     ensures outcome { IfOk result (λ plan.
         planned plan.effects (S.outcome text.new.store plan.prepared) text.old.anchors.items (log_of text.old.history)
         ≡ undone mark.0 (state_in S.content text.old)) }
@@ -314,7 +314,7 @@ pub fn plan_redo<S: TextStore>(
     ensures refused { IfErr result (λ fault. fault ≡ EditFault.Memory) }
     ensures ready { IfOk result (λ plan. S.ready text.new.store plan.prepared) }
     ensures room { IfOk result (λ plan. HasRoomFor plan.effects text.new.history) }
-    ensures widgets { IfOk result (λ plan. length (anchors_left plan.effects text.old.anchors.items) ≡ length text.old.anchors.items) }
+    ensures widgets { IfOk result (λ plan. KeepsWidgets plan.effects text.old.anchors.items) }
     ensures outcome { IfOk result (λ plan.
         planned plan.effects (S.outcome text.new.store plan.prepared) text.old.anchors.items (log_of text.old.history)
         ≡ redone mark.0 (state_in S.content text.old)) }

@@ -2,7 +2,8 @@ ghost use Rattle.std.specs.Prelude.{◌≡◌, ◌≢◌, ◌≤◌, ◌+◌, �
 ghost use Rattle.std.specs.Prelude.{option_map};
 ghost use Rattle.index_grammar.specs.Grammar.{abbreviates, unit_of, keyword_of, tokens_of, modifiers_of};
 ghost use Rattle.index_grammar.specs.Grammar as grammar;
-ghost use Rattle.index_grammar.specs.LentTokens.{token_of, piece_len, digits_first, word_first, unit_first, bytes_first};
+ghost use Rattle.index_grammar.specs.LentTokens.{token_of, piece_len};
+ghost use Rattle.index_grammar.specs.LentTokens.{digits_first, word_first, unit_first, bytes_first};
 ghost use Rattle.index_grammar.specs.Steps.{saturated, stepped};
 ghost use Rattle.index_grammar.specs.declared.faults.IndexFault.TheVariants.{Memory, BadIndex};
 
