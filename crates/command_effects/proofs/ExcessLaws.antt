@@ -7,7 +7,7 @@ use Rattle.std.proofs.lemmas.Bool.{le-ltb, lt-ltb}
 use Rattle.std.proofs.lemmas.List.Sums.{sum_by-cons}
 use Rattle.std.proofs.lemmas.Str.{length-le-encodes}
 use Rattle.edit_ops.specs.Insertions as pieces
-use Rattle.edit_ops.specs.declared.pieces.Piece.{Piece}
+use Rattle.edit_ops.specs.declared.slotted_texts.SlottedText.{SlottedText}
 use Rattle.tag_table.specs.Tags.{Tag}
 use Rattle.text_model.specs.LimitTable.{LimitTable}
 use Rattle.command_effects.specs.declared.answers.Fault.{Fault}
@@ -52,7 +52,7 @@ pub total-pieces : (tags : List Tag) (own : ℕ) (pairs : List Pair) →
     pieces.total (map (piece_of tags own) pairs) ≡ total pairs
 total-pieces tags own [] = refl
 total-pieces tags own (pair ∷ pairs) =
-    sum_by-cons (λ (piece : Piece). length piece.text) (piece_of tags own pair) (map (piece_of tags own) pairs)
+    sum_by-cons (λ (piece : SlottedText). length piece.text) (piece_of tags own pair) (map (piece_of tags own) pairs)
     ∙ ap (λ n. length pair.text + n) (total-pieces tags own pairs)
     ∙ sym (sum_by-cons (λ (p : Pair). length p.text) pair pairs)
 

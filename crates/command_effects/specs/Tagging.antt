@@ -6,7 +6,7 @@ use Rattle.std.specs.List.{filter_map}
 use Rattle.text_model.specs.Content.{Slots}
 use Rattle.index_grammar.specs.Names.{known_tags}
 use Rattle.tag_table.specs.Tags.{Tag, Tags, sel, slot_of}
-use Rattle.edit_ops.specs.declared.pieces.Piece.{Piece}
+use Rattle.edit_ops.specs.declared.slotted_texts.SlottedText.{SlottedText}
 use Rattle.command_effects.specs.Lists.{Pair}
 use Rattle.command_effects.specs.Words.{is_among, is_same}
 
@@ -25,7 +25,7 @@ abbrev pub slots_named : List Tag → ℕ → List (List ℕ) → Slots
 slots_named tags own [] = set.empty
 slots_named tags own (name ∷ names) = with_found (known_tags tags own name) (slots_named tags own names)
 
-abbrev pub piece_of : List Tag → ℕ → Pair → Piece
+abbrev pub piece_of : List Tag → ℕ → Pair → SlottedText
 piece_of tags own pair = record { text = pair.text; slots = option_map (slots_named tags own) pair.names }
 
 -- the slot that a tag of the table has for a widget: that of `sel` is the widget's own

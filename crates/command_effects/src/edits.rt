@@ -16,7 +16,7 @@ ghost use Rattle.command_effects.specs.Edits.{length_replaced, with_own_marks, w
 
 use crate::answers::Fault;
 use edit_ops::{
-    EditFault, EditRules, EditedText, Piece, Recording, Span, Target, commit, plan_clear,
+    EditFault, EditRules, EditedText, Recording, SlottedText, Span, Target, commit, plan_clear,
     plan_delete, plan_insert, plan_replace, plan_tag,
 };
 use std::alloc::{AllocError, Global};
@@ -132,7 +132,7 @@ pub fn put_texts<S: TextStore>(
     rules: &EditRules<'_>,
     text: &mut EditedText<S>,
     at: usize,
-    pieces: Vec<Piece>,
+    pieces: Vec<SlottedText>,
 ) -> Result<(), Fault>
     requires within { at < length (S.content text.old.store).cells }
     requires stand { All (AnchorsStand (length (S.content text.old.store).cells)) text.old.anchors.items }
@@ -187,7 +187,7 @@ pub fn replace_texts<S: TextStore>(
     rules: &EditRules<'_>,
     text: &mut EditedText<S>,
     target: Target,
-    pieces: Vec<Piece>,
+    pieces: Vec<SlottedText>,
 ) -> Result<(), Fault>
     requires within { target.last < length (S.content text.old.store).cells }
     requires ordered { target.from ≤ target.to }

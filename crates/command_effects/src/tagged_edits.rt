@@ -21,7 +21,7 @@ use crate::edits::{put_texts, replace_texts, set_slot};
 use crate::excess::excess_of;
 use crate::lists::Pair;
 use crate::tagging::{make_listed_pieces, make_tag, own_slot};
-use edit_ops::{EditRules, EditedText, Piece, Span, Target};
+use edit_ops::{EditRules, EditedText, SlottedText, Span, Target};
 use std::alloc::{AllocError, Global};
 use tag_table::TagTable;
 use text_model::{TagSlot, TextStore};
@@ -34,7 +34,7 @@ fn make_pieces(
     tags: &mut TagTable,
     own: TagSlot,
     pairs: Vec<Pair>,
-) -> Result<Vec<Piece>, AllocError>
+) -> Result<Vec<SlottedText>, AllocError>
     requires roomy { tags.old.limit ≡ MOST_TAGS }
     requires few { length (with_names (names_of tags.old.tags) (all_names pairs.items)) ≤ MOST_TAGS + 1 }
     requires known { own.0 < MOST_WIDGETS }

@@ -14,7 +14,7 @@ ghost use Rattle.command_effects.specs.Tagging.{slots_deleted, tags_left};
 
 use crate::answers::Fault;
 use crate::lists::Pair;
-use edit_ops::Piece;
+use edit_ops::SlottedText;
 use std::alloc::{AllocError, Global};
 use tag_table::TagTable;
 use text_model::{TagSet, TagSlot};
@@ -96,7 +96,12 @@ fn make_slots(
 }
 
 /// A pair with the slots of its list, whose tags are made where they are new.
-fn make_piece(alloc: Global, tags: &mut TagTable, own: TagSlot, pair: Pair) -> Result<Piece, Fault>
+fn make_piece(
+    alloc: Global,
+    tags: &mut TagTable,
+    own: TagSlot,
+    pair: Pair,
+) -> Result<SlottedText, Fault>
     requires { own.0 < MOST_WIDGETS }
     ensures front { IsFront tags.old tags.new }
     ensures made { OnOk result (names_of tags.new.tags
@@ -108,13 +113,13 @@ fn make_piece(alloc: Global, tags: &mut TagTable, own: TagSlot, pair: Pair) -> R
         < length (with_names (names_of tags.old.tags) (listed_names pair.names)))) }
 {
     match &pair.names {
-        None => Ok(Piece {
+        None => Ok(SlottedText {
             text: pair.text,
             slots: None,
         }),
         Some(names) => match make_slots(alloc, tags, own, names.as_slice()) {
             Err(fault) => Err(fault),
-            Ok(slots) => Ok(Piece {
+            Ok(slots) => Ok(SlottedText {
                 text: pair.text,
                 slots: Some(slots),
             }),
@@ -129,7 +134,7 @@ pub fn make_listed_pieces(
     tags: &mut TagTable,
     own: TagSlot,
     pairs: Vec<Pair>,
-) -> Result<Vec<Piece>, Fault>
+) -> Result<Vec<SlottedText>, Fault>
     requires { own.0 < MOST_WIDGETS }
     ensures front { IsFront tags.old tags.new }
     ensures made { OnOk result (names_of tags.new.tags ≡ with_names (names_of tags.old.tags) (all_names pairs.items)) }

@@ -11,7 +11,7 @@ use Rattle.text_model.specs.LimitTable.{AreLimits, LimitTable}
 use Rattle.undo_stack.specs.declared.actions.EditKind.TheVariants.{Insert}
 use Rattle.edit_ops.specs.Insertions.{inserted_texts}
 use Rattle.edit_ops.specs.States.{State}
-use Rattle.edit_ops.specs.declared.pieces.Piece.{Piece}
+use Rattle.edit_ops.specs.declared.slotted_texts.SlottedText.{SlottedText}
 use Rattle.edit_ops.proofs.KeepLaws.{texts-kept}
 use Rattle.command_effects.specs.declared.answers.Answer.TheVariants.{Empty}
 use Rattle.command_effects.specs.declared.answers.Fault.{Fault}
@@ -197,7 +197,7 @@ pub leaves-put : (limits : LimitTable) (old : Parts) (tags : Tags) (state : Stat
 leaves-put limits old tags state document place slot at pairs stands sits listed within is =
     let widget : Widget = widget_at document place in
     let recording = recording_of old.journal.settings in
-    let pieces : List Piece = map (piece_of tags.tags slot) pairs in
+    let pieces : List SlottedText = map (piece_of tags.tags slot) pairs in
     let made : State = inserted_texts recording Insert at pieces (state_in old) in
     let long = cells-kept old document stands.is in
     let inside : at < length old.content.cells = omega (arith, within, long) in

@@ -18,7 +18,7 @@ use Rattle.text_model.specs.Content.{Slots, slot_sets}
 use Rattle.text_model.specs.Splices.{changed, inserted}
 use Rattle.text_model.specs.Steps.{cells_of, set_slot, with_slot}
 use Rattle.text_model.proofs.CellLaws.{contains-set_slot}
-use Rattle.edit_ops.specs.declared.pieces.Piece.{Piece}
+use Rattle.edit_ops.specs.declared.slotted_texts.SlottedText.{SlottedText}
 use Rattle.edit_ops.specs.Insertions.{slots_or}
 use Rattle.edit_ops.specs.Tagging.{cell_without}
 use Rattle.text_cursor.specs.Around.{shared_slots}
@@ -30,7 +30,7 @@ use Rattle.documents.proofs.SlotLaws.{Extends, Extends-front, Extends-seated, Ex
 use Rattle.documents.proofs.SlotLaws.{slot_for-named}
 
 -- a text of Unicode scalar values, with slots of seats and tags where it has a tag list
-pub record IsKnownPiece (seats : List Named) (tags : List Tag) (piece : Piece) : Type 0 where
+pub record IsKnownPiece (seats : List Named) (tags : List Tag) (piece : SlottedText) : Type 0 where
   pub text : All IsScalar piece.text
   pub slots : IfSome piece.slots (AreKnown seats tags)
 

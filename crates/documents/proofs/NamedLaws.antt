@@ -17,7 +17,7 @@ use Rattle.tag_table.specs.Tags.{AreTags, Tag, Tags, names_of}
 use Rattle.index_grammar.specs.Names.{known_tags}
 use Rattle.documents.specs.Keys.{Key, keys_of, key_named, key_pairs, keys_named}
 use Rattle.documents.specs.Kept.{AreKnown, AreSeats}
-use Rattle.edit_ops.specs.declared.pieces.Piece.{Piece}
+use Rattle.edit_ops.specs.declared.slotted_texts.SlottedText.{SlottedText}
 use Rattle.edit_ops.specs.Insertions.{total}
 use Rattle.command_effects.specs.Lists.{Pair, all_names, listed_names, with_name, with_names}
 use Rattle.command_effects.specs.Tagging.{piece_of, slots_named, with_found}
@@ -53,7 +53,7 @@ AreNames-rest tags xs ys known k name within =
     (known (length xs + k) name (omega (arith, within, length-append xs ys)))
 
 -- a piece with the keys of its slots
-abbrev pub keyed_piece : List (ℕ × Key) → Piece → KeyedText
+abbrev pub keyed_piece : List (ℕ × Key) → SlottedText → KeyedText
 keyed_piece pairs piece = record { text = piece.text; keys = option_map (keys_of pairs) piece.slots }
 
 -- a widget of the seats
@@ -114,7 +114,7 @@ pub total-pieces : (tags : List Tag) (widget : ℕ) (pairs : List Pair) →
     total (map (piece_of tags widget) pairs) ≡ texts.total pairs
 total-pieces tags widget [] = refl
 total-pieces tags widget (pair ∷ pairs) =
-    sum_by-cons (λ (piece : Piece). length piece.text) (piece_of tags widget pair) (map (piece_of tags widget) pairs)
+    sum_by-cons (λ (piece : SlottedText). length piece.text) (piece_of tags widget pair) (map (piece_of tags widget) pairs)
     ∙ ap (λ n. length pair.text + n) (total-pieces tags widget pairs)
     ∙ sym (sum_by-cons (λ (p : Pair). length p.text) pair pairs)
 

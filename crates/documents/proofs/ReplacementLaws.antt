@@ -18,7 +18,7 @@ use Rattle.edit_ops.specs.Insertions.{inserted_texts}
 use Rattle.edit_ops.specs.Removals as removals
 use Rattle.edit_ops.specs.Removals.{clipped, removed_span, replaced_span, with_mark}
 use Rattle.edit_ops.specs.States.{State}
-use Rattle.edit_ops.specs.declared.pieces.Piece.{Piece}
+use Rattle.edit_ops.specs.declared.slotted_texts.SlottedText.{SlottedText}
 use Rattle.edit_ops.proofs.KeepLaws.{replaced-kept}
 use Rattle.edit_ops.proofs.ReplaceLaws.{found-within}
 use Rattle.command_effects.specs.declared.answers.Answer.{Answer}
@@ -101,7 +101,7 @@ sits-yet old new before after place slot seated stands same =
 -- ---- texts in the place of cells
 
 stands-replaced : (limits : LimitTable) (parts : Parts) (document : Document) (place slot from to : ℕ)
-    (pieces : List Piece) → Stands parts document → Sits parts document place slot
+    (pieces : List SlottedText) → Stands parts document → Sits parts document place slot
     → from ≤ to → to < length parts.content.cells → length parts.content.cells - (to - from) + insertions.total pieces
     ≤ MOST_CHARS → All (IsKnownPiece parts.seats.entries parts.tags.tags) pieces
     → let widget = widget_at document place in
@@ -175,7 +175,7 @@ pub leaves-replaced : (limits : LimitTable) (old : Parts) (tags : Tags) (state :
 leaves-replaced limits old tags state document place slot from to last first second pairs stands seated cut listed is =
     let widget : Widget = widget_at document place in
     let recording = recording_of old.journal.settings in
-    let pieces : List Piece = map (piece_of tags.tags slot) pairs in
+    let pieces : List SlottedText = map (piece_of tags.tags slot) pairs in
     let made : State = removals.replaced recording (2 * slot) last first second pieces (state_in old) in
     let len = length old.content.cells in
     let size = length_replaced len last first second in

@@ -30,7 +30,7 @@ use Rattle.edit_ops.specs.Insertions.{inserted_text, inserted_texts, slots_or, t
 use Rattle.edit_ops.specs.Removals.{removed_span}
 use Rattle.edit_ops.specs.States.{Log, State, log_noted, state_of}
 use Rattle.edit_ops.specs.declared.anchors.Anchors.{Anchors}
-use Rattle.edit_ops.specs.declared.pieces.Piece.{Piece}
+use Rattle.edit_ops.specs.declared.slotted_texts.SlottedText.{SlottedText}
 use Rattle.edit_ops.specs.declared.plans.Recording.{Recording}
 use Rattle.edit_ops.proofs.AnchoredLaws.{all-moved, all-removed, anchored-stand}
 use Rattle.edit_ops.proofs.InsertLaws.{total-cons}
@@ -304,7 +304,7 @@ keys-put parts document at None stands within =
 keys-put parts document at (Some slots) stands within = refl
 
 -- one text
-pub stands-text : (parts : Parts) (document : Document) (kind : EditKind) (at : ℕ) (piece : Piece) →
+pub stands-text : (parts : Parts) (document : Document) (kind : EditKind) (at : ℕ) (piece : SlottedText) →
     Stands parts document → at < length parts.content.cells
     → length parts.content.cells + length piece.text ≤ MOST_CHARS →
     IsKnownPiece parts.seats.entries parts.tags.tags piece
@@ -329,7 +329,7 @@ stands-text parts document kind at piece stands within short known =
     ]
 
 -- how long a text is with one more in it
-pub length-text : (recording : Recording) (kind : EditKind) (at : ℕ) (piece : Piece) (state : State) →
+pub length-text : (recording : Recording) (kind : EditKind) (at : ℕ) (piece : SlottedText) (state : State) →
     at < length state.content.cells
     → length (inserted_text recording kind at piece state).content.cells
     ≡ length state.content.cells + length piece.text
@@ -347,7 +347,7 @@ length-text recording kind at piece state within =
     ] refl
 
 -- texts, each behind the one before it
-pub stands-texts : (parts : Parts) (document : Document) (kind : EditKind) (at : ℕ) (pieces : List Piece) →
+pub stands-texts : (parts : Parts) (document : Document) (kind : EditKind) (at : ℕ) (pieces : List SlottedText) →
     Stands parts document → at < length parts.content.cells
     → length parts.content.cells + total pieces ≤ MOST_CHARS →
     All (IsKnownPiece parts.seats.entries parts.tags.tags) pieces
@@ -365,7 +365,7 @@ stands-texts parts document kind at (piece ∷ pieces) stands within short known
     (All-head P piece pieces known))
     (omega (arith, long, within)) (omega (arith, long, counted, short)) (All-tail P piece pieces known)
 
-pub length-texts : (recording : Recording) (kind : EditKind) (at : ℕ) (pieces : List Piece) (state : State) →
+pub length-texts : (recording : Recording) (kind : EditKind) (at : ℕ) (pieces : List SlottedText) (state : State) →
     at < length state.content.cells
     → length (inserted_texts recording kind at pieces state).content.cells ≡ length state.content.cells + total pieces
 length-texts recording kind at [] state within = omega arith

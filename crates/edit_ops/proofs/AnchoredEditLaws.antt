@@ -24,7 +24,7 @@ use Rattle.undo_stack.specs.Fits.{put_in, take_out, repeated, reverted, repeated
 use Rattle.undo_stack.specs.History.{next_undo, next_redo}
 use Rattle.undo_stack.proofs.FitsLaws.{undo-goes, redo-goes}
 use Rattle.edit_ops.specs.declared.anchors.Anchors.{Anchors}
-use Rattle.edit_ops.specs.declared.pieces.Piece.{Piece}
+use Rattle.edit_ops.specs.declared.slotted_texts.SlottedText.{SlottedText}
 use Rattle.edit_ops.specs.declared.plans.Recording.{Recording}
 use Rattle.edit_ops.specs.declared.spans.Span.{Span}
 use Rattle.edit_ops.specs.Anchors.{AreAnchored, anchors_moved, anchors_removed}
@@ -118,7 +118,7 @@ take-stands from to content all ordered within stand =
 
 -- ---- texts
 
-text-anchored : (at : ℕ) (recording : Recording) (kind : EditKind) (piece : Piece) (state : State) → IsAnchored state →
+text-anchored : (at : ℕ) (recording : Recording) (kind : EditKind) (piece : SlottedText) (state : State) → IsAnchored state →
     at < length state.content.cells
     → IsAnchored (inserted_text recording kind at piece state)
     × (length (inserted_text recording kind at piece state).content.cells
@@ -140,7 +140,7 @@ text-anchored at recording kind piece state anchored within =
       )
     ] refl
 
-pub texts-anchored : (at : ℕ) (recording : Recording) (kind : EditKind) (pieces : List Piece) (state : State) →
+pub texts-anchored : (at : ℕ) (recording : Recording) (kind : EditKind) (pieces : List SlottedText) (state : State) →
     IsAnchored state → at < length state.content.cells
     → IsAnchored (inserted_texts recording kind at pieces state)
 texts-anchored at recording kind [] state anchored within = anchored
@@ -204,7 +204,7 @@ marked-anchored : (number : ℕ) (place : Option Place) (state : State) → IsAn
 marked-anchored number None state anchored = anchored
 marked-anchored number (Some place) state anchored = anchored
 
-pub replaced-anchored : (mark last from to : ℕ) (recording : Recording) (pieces : List Piece) (state : State) →
+pub replaced-anchored : (mark last from to : ℕ) (recording : Recording) (pieces : List SlottedText) (state : State) →
     IsAnchored state → ends_in_newline (characters state.content.cells) ≡ true
     → last < length state.content.cells → from ≤ to → IsAnchored (replaced recording mark last from to pieces state)
 replaced-anchored mark last from to recording pieces state anchored newline within ordered =

@@ -26,7 +26,7 @@ use Rattle.text_cursor.specs.Around.{next_line}
 use Rattle.edit_ops.specs.Anchors.{anchors_drawn}
 use Rattle.edit_ops.specs.Deletions.{in_spans, delete_set, runs_below, AreApart, removed_spans, deleted}
 use Rattle.edit_ops.specs.Removals.{removed_span}
-use Rattle.edit_ops.specs.States.{State, Draft, Log, log_noted, all_noted, drafted, state_of}
+use Rattle.edit_ops.specs.States.{State, Outline, Log, log_noted, all_noted, outlineed, state_of}
 use Rattle.edit_ops.proofs.InsertLaws.{noted-alike, noted-append}
 use Rattle.edit_ops.proofs.RunLaws.{runs-are, apart-wider}
 use Rattle.text_cursor.proofs.AroundLaws.{length-characters, line-front, next-within, next-behind, no-next}
@@ -93,66 +93,66 @@ rest-fits len border rest to behind room before within above =
     elim (nat_le behind border) as (λ b. to + (if b then behind - to else border - to + rest)
     ≤ len) [ true ↦ omega arith | false ↦ omega arith ]
 
--- one span more is taken out of a draft
-pub span-out : (recording : Recording) (kind : EditKind) (draft new : Draft) (state : State) (text : List ℕ)
+-- one span more is taken out of an outline
+pub span-out : (recording : Recording) (kind : EditKind) (outline new : Outline) (state : State) (text : List ℕ)
     (line next from to : ℕ)
     → new ≡ record {
-      steps = draft.steps ++ Remove from to ∷ [];
-      anchors = map (anchors_drawn line next from to) draft.anchors;
-      actions = draft.actions ++ record { inserts = false; at = from; text = text } ∷ [];
+      steps = outline.steps ++ Remove from to ∷ [];
+      anchors = map (anchors_drawn line next from to) outline.anchors;
+      actions = outline.actions ++ record { inserts = false; at = from; text = text } ∷ [];
     }
     → from < to
-    → (recording.undo ≡ true → text ≡ slice_range (characters (after draft.steps state.content).cells) from to)
-    → line ≡ line_start (line_of (characters (after draft.steps state.content).cells) from)
-    (characters (after draft.steps state.content).cells)
-    → next ≡ next_line (removed from to (characters (after draft.steps state.content).cells)) from
-    → drafted recording kind new state ≡ removed_span recording kind from to (drafted recording kind draft state)
-span-out recording kind draft new state text line next from to made some text_is line_is next_is =
-    let before = after draft.steps state.content in
+    → (recording.undo ≡ true → text ≡ slice_range (characters (after outline.steps state.content).cells) from to)
+    → line ≡ line_start (line_of (characters (after outline.steps state.content).cells) from)
+    (characters (after outline.steps state.content).cells)
+    → next ≡ next_line (removed from to (characters (after outline.steps state.content).cells)) from
+    → outlineed recording kind new state ≡ removed_span recording kind from to (outlineed recording kind outline state)
+span-out recording kind outline new state text line next from to made some text_is line_is next_is =
+    let before = after outline.steps state.content in
     let now = characters before.cells in
-    let noted = all_noted recording kind draft.actions state.log in
-    ap (λ (d : Draft). drafted recording kind d state) made
-    ∙ ap₂ (λ c l. state_of c (map (anchors_drawn line next from to) draft.anchors) l)
-    (after-append draft.steps (Remove from to ∷ []) state.content)
-    (noted-append recording kind draft.actions (record { inserts = false; at = from; text = text } ∷ []) state.log)
-    ∙ ap₂ (λ l n. state_of (after_removal from to before) (map (anchors_drawn l n from to) draft.anchors)
+    let noted = all_noted recording kind outline.actions state.log in
+    ap (λ (d : Outline). outlineed recording kind d state) made
+    ∙ ap₂ (λ c l. state_of c (map (anchors_drawn line next from to) outline.anchors) l)
+    (after-append outline.steps (Remove from to ∷ []) state.content)
+    (noted-append recording kind outline.actions (record { inserts = false; at = from; text = text } ∷ []) state.log)
+    ∙ ap₂ (λ l n. state_of (after_removal from to before) (map (anchors_drawn l n from to) outline.anchors)
     (log_noted recording kind (record { inserts = false; at = from; text = text }) noted)) line_is next_is
     ∙ ap (state_of (after_removal from to before)
     (map (anchors_drawn (line_start (line_of now from) now) (next_line (removed from to now) from) from to)
-    draft.anchors))
+    outline.anchors))
     (noted-alike recording kind false from text (slice_range now from to) noted text_is)
-    ∙ ap (λ b. if b then drafted recording kind draft state
+    ∙ ap (λ b. if b then outlineed recording kind outline state
     else state_of (after_removal from to before)
     (map (anchors_drawn (line_start (line_of now from) now) (next_line (removed from to now) from) from to)
-    draft.anchors)
+    outline.anchors)
     (log_noted recording kind (record { inserts = false; at = from; text = slice_range now from to }) noted))
     (sym (ne_eqb from to (λ same. omega (arith, same, some))))
 
 -- the first of the spans are taken out, of a text that is the old one up to a border, and these are left
-pub record RemovedSoFar (recording : Recording) (kind : EditKind) (draft new : Draft) (state : State) (text : List ℕ)
+pub record RemovedSoFar (recording : Recording) (kind : EditKind) (outline new : Outline) (state : State) (text : List ℕ)
     (spans left : List Span) (border rest : ℕ) : Type 0 where
   pub fits : Fits new.steps state.content
   pub front : take border (characters (after new.steps state.content).cells) ≡ take border text
   pub long : border ≤ length (characters (after new.steps state.content).cells)
   pub next : rest ≡ line_start 1 (drop border (characters (after new.steps state.content).cells))
-  pub makes : removed_spans recording kind left (drafted recording kind new state)
-      ≡ removed_spans recording kind spans (drafted recording kind draft state)
+  pub makes : removed_spans recording kind left (outlineed recording kind new state)
+      ≡ removed_spans recording kind spans (outlineed recording kind outline state)
 
-pub record RemovingSpans (keeps : Bool) (draft new : Draft) (text : List ℕ) (spans left : List Span) (border rest : ℕ) :
+pub record RemovingSpans (keeps : Bool) (outline new : Outline) (text : List ℕ) (spans left : List Span) (border rest : ℕ) :
     Type 0 where
-  pub count : length new.anchors ≡ length draft.anchors
+  pub count : length new.anchors ≡ length outline.anchors
   pub apart : AreApart border left
   pub room : border + rest ≤ length text
   pub goes : (recording : Recording) (kind : EditKind) (state : State) → (recording.undo ≡ true → keeps ≡ true) →
-      Fits draft.steps state.content → characters (after draft.steps state.content).cells ≡ text
-      → RemovedSoFar recording kind draft new state text spans left border rest
+      Fits outline.steps state.content → characters (after outline.steps state.content).cells ≡ text
+      → RemovedSoFar recording kind outline new state text spans left border rest
 
 -- what a span that is left gives
-pub span-stands : (keeps : Bool) (draft now : Draft) (text : List ℕ) (spans all left : List Span) (span : Span)
+pub span-stands : (keeps : Bool) (outline now : Outline) (text : List ℕ) (spans all left : List Span) (span : Span)
     (border rest : ℕ)
-    → RemovingSpans keeps draft now text spans all border rest → all ≡ span ∷ left →
+    → RemovingSpans keeps outline now text spans all border rest → all ≡ span ∷ left →
     (span.from < span.to) × (span.to < border) × (border + rest ≤ length text) × (span.to ≤ next_line text span.to)
-span-stands keeps draft now text spans all left span border rest so_far all_is =
+span-stands keeps outline now text spans all left span border rest so_far all_is =
     let apart : AreApart border (span ∷ left) = subst (AreApart border) all_is so_far.apart in
     let below = apart.1 in let room = so_far.room in (
       apart.0,
@@ -162,9 +162,9 @@ span-stands keeps draft now text spans all left span border rest so_far all_is =
           omega (arith, far)),
     )
 
-pub removing-first : (keeps : Bool) (draft : Draft) (text : List ℕ) (spans : List Span) (len : ℕ) → length text ≡ len →
-    AreApart len spans → RemovingSpans keeps draft draft text spans spans len 0
-removing-first keeps draft text spans len long apart = record {
+pub removing-first : (keeps : Bool) (outline : Outline) (text : List ℕ) (spans : List Span) (len : ℕ) → length text ≡ len →
+    AreApart len spans → RemovingSpans keeps outline outline text spans spans len 0
+removing-first keeps outline text spans len long apart = record {
   count = refl;
   apart = apart;
   room = omega (arith, long);
@@ -172,15 +172,15 @@ removing-first keeps draft text spans len long apart = record {
     fits = fits;
     front = ap (take len) is;
     long = let h = ap length is in omega (arith, h, long);
-    next = sym (ap (line_start 1) (drop_of_length-le (characters (after draft.steps state.content).cells)
+    next = sym (ap (line_start 1) (drop_of_length-le (characters (after outline.steps state.content).cells)
         (let h = ap length is in omega (arith, h, long))));
     makes = refl;
   };
 }
 
-one-removed : (recording : Recording) (kind : EditKind) (draft now new : Draft) (state : State) (text taken : List ℕ)
+one-removed : (recording : Recording) (kind : EditKind) (outline now new : Outline) (state : State) (text taken : List ℕ)
     (spans left : List Span) (span : Span) (border rest behind line : ℕ)
-    → RemovedSoFar recording kind draft now state text spans (span ∷ left) border rest → border + rest ≤ length text →
+    → RemovedSoFar recording kind outline now state text spans (span ∷ left) border rest → border + rest ≤ length text →
     span.from < span.to → span.to < border
     → behind ≡ next_line text span.to → (recording.undo ≡ true → taken ≡ slice_range text span.from span.to) →
     line ≡ line_start (line_of text span.from) text
@@ -190,9 +190,9 @@ one-removed : (recording : Recording) (kind : EditKind) (draft now new : Draft) 
           else border - span.to + rest)) span.from span.to) now.anchors;
       actions = now.actions ++ record { inserts = false; at = span.from; text = taken } ∷ [];
     }
-    → RemovedSoFar recording kind draft new state text spans left span.from (if nat_le behind border
+    → RemovedSoFar recording kind outline new state text spans left span.from (if nat_le behind border
     then behind - span.to else border - span.to + rest)
-one-removed recording kind draft now new state text taken spans left span border rest behind line so_far room some below
+one-removed recording kind outline now new state text taken spans left span border rest behind line so_far room some below
     behind_is taken_is line_is made =
     let content = after now.steps state.content in
     let old = characters content.cells in
@@ -202,7 +202,7 @@ one-removed recording kind draft now new state text taken spans left span border
     let rest_is : next ≡ line_start 1 (drop span.to old) = rest-is text old border rest span.to behind so_far.front
     within room (omega (arith, below)) so_far.next behind_is in
     let steps_are : (after new.steps state.content)
-    ≡ after_removal span.from span.to content = ap (λ (d : Draft). after d.steps state.content) made
+    ≡ after_removal span.from span.to content = ap (λ (d : Outline). after d.steps state.content) made
     ∙ after-append now.steps (Remove span.from span.to ∷ []) state.content in
     let text_is : characters (after new.steps state.content).cells
     ≡ removed span.from span.to old = ap (λ (c : Content). characters c.cells) steps_are
@@ -210,7 +210,7 @@ one-removed recording kind draft now new state text taken spans left span border
     let shorter : take span.from old ≡ take span.from text = front-shorter span.from border old text
     (omega (arith, some, below)) so_far.front in
     record {
-      fits = subst (λ (d : Draft). Fits d.steps state.content) (sym made)
+      fits = subst (λ (d : Outline). Fits d.steps state.content) (sym made)
           (Fits-append now.steps (Remove span.from span.to ∷ []) state.content so_far.fits
           ((omega (arith, some), omega (arith, below, within, counted)), tt));
       front = ap (take span.from) text_is
@@ -232,9 +232,9 @@ one-removed recording kind draft now new state text taken spans left span border
           ∙ so_far.makes;
     }
 
-pub removing-more : (keeps : Bool) (draft now new : Draft) (text taken : List ℕ) (spans all left : List Span)
+pub removing-more : (keeps : Bool) (outline now new : Outline) (text taken : List ℕ) (spans all left : List Span)
     (span : Span) (border rest behind line next : ℕ)
-    → RemovingSpans keeps draft now text spans all border rest → all ≡ span ∷ left → behind ≤ length text
+    → RemovingSpans keeps outline now text spans all border rest → all ≡ span ∷ left → behind ≤ length text
     → behind ≡ next_line text span.to → (keeps ≡ true → taken ≡ slice_range text span.from span.to) →
     line ≡ line_start (line_of text span.from) text
     → next ≡ (if nat_le behind border then behind - span.to else border - span.to + rest)
@@ -243,13 +243,13 @@ pub removing-more : (keeps : Bool) (draft now new : Draft) (text taken : List �
       anchors = map (anchors_drawn line (span.from + next) span.from span.to) now.anchors;
       actions = now.actions ++ record { inserts = false; at = span.from; text = taken } ∷ [];
     }
-    → RemovingSpans keeps draft new text spans left span.from next
-removing-more keeps draft now new text taken spans all left span border rest behind line next so_far all_is bound
+    → RemovingSpans keeps outline new text spans left span.from next
+removing-more keeps outline now new text taken spans all left span border rest behind line next so_far all_is bound
     behind_is taken_is line_is next_is made =
     let apart : AreApart border (span ∷ left) = subst (AreApart border) all_is so_far.apart in
     let some = apart.0 in let below = apart.1 in
     record {
-      count = ap (λ (d : Draft). length d.anchors) made
+      count = ap (λ (d : Outline). length d.anchors) made
           ∙ length-map now.anchors (anchors_drawn line (span.from + next) span.from span.to) ∙ so_far.count;
       apart = apart.2;
       room = let room = so_far.room in
@@ -258,9 +258,9 @@ removing-more keeps draft now new text taken spans all left span border rest beh
           (omega (arith, far)) in
           omega (arith, fits, next_is, some);
       goes = λ recording kind state kept fits is.
-          subst (RemovedSoFar recording kind draft new state text spans left span.from) (sym next_is)
-          (one-removed recording kind draft now new state text taken spans left span border rest behind line
-          (subst (λ xs. RemovedSoFar recording kind draft now state text spans xs border rest) all_is
+          subst (RemovedSoFar recording kind outline new state text spans left span.from) (sym next_is)
+          (one-removed recording kind outline now new state text taken spans left span border rest behind line
+          (subst (λ xs. RemovedSoFar recording kind outline now state text spans xs border rest) all_is
           (so_far.goes recording kind state kept fits is))
           so_far.room some below behind_is (λ on. taken_is (kept on)) line_is
           (made ∙ ap (λ n. record {
@@ -290,26 +290,26 @@ bare-made : (b : Bool) (at : ℕ) (content : Content) (anchors : List Anchors) (
 bare-made true at content anchors log = refl
 bare-made false at content anchors log = refl
 
-pub delete-made : (keeps : Bool) (draft new : Draft) (content : Content) (anchors : List Anchors) (start end : ℕ)
+pub delete-made : (keeps : Bool) (outline new : Outline) (content : Content) (anchors : List Anchors) (start end : ℕ)
     (spans runs left : List Span) (takes : Bool) (steps : List Step) → start < end → end ≤ length content.cells
     → ((offset : ℕ) → in_spans runs offset ≡ in_spans spans offset) → takes ≡ in_spans runs (end - 1) →
     AreApart end left
     → ((offset : ℕ) → in_spans left offset ≡ delete_set (characters content.cells) start end (in_spans runs) offset)
     → steps ≡ (if takes then ClearTags (end - 1) ∷ [] else []) →
-    draft ≡ record { steps = steps; anchors = anchors; actions = [] }
+    outline ≡ record { steps = steps; anchors = anchors; actions = [] }
     → ((recording : Recording) (kind : EditKind) (state : State) → (recording.undo ≡ true → keeps ≡ true) →
-    Fits draft.steps state.content → characters (after draft.steps state.content).cells ≡ characters content.cells
-    → Fits new.steps state.content × (drafted recording kind new state
-    ≡ removed_spans recording kind left (drafted recording kind draft state)))
+    Fits outline.steps state.content → characters (after outline.steps state.content).cells ≡ characters content.cells
+    → Fits new.steps state.content × (outlineed recording kind new state
+    ≡ removed_spans recording kind left (outlineed recording kind outline state)))
     → (recording : Recording) (log : Log) → (recording.undo ≡ true → keeps ≡ true)
-    → Fits new.steps content × (drafted recording Delete new (state_of content anchors log)
+    → Fits new.steps content × (outlineed recording Delete new (state_of content anchors log)
     ≡ deleted recording start end spans (state_of content anchors log))
-delete-made keeps draft new content anchors start end spans runs left takes steps shows within covers takes_is apart
+delete-made keeps outline new content anchors start end spans runs left takes steps shows within covers takes_is apart
     left_is steps_are begun goes recording log kept =
     let text = characters content.cells in
     let state = state_of content anchors log in
     let bared = (if takes then ClearTags (end - 1) ∷ [] else []) in
-    let first : draft ≡ record { steps = bared; anchors = anchors; actions = [] } = begun
+    let first : outline ≡ record { steps = bared; anchors = anchors; actions = [] } = begun
     ∙ ap (λ (s : List Step). record { steps = s; anchors = anchors; actions = [] }) steps_are in
     let same : in_spans runs ≡ in_spans spans = λ i offset. covers offset i in
     let runs_are : runs_below (length content.cells) (delete_set text start end (in_spans spans)) ≡ left =
@@ -318,12 +318,12 @@ delete-made keeps draft new content anchors start end spans runs left takes step
     (λ offset _. ap (λ set. delete_set text start end set offset) (sym same) ∙ sym (left_is offset)) in
     let takes_last : takes ≡ in_spans spans (end - 1) = takes_is ∙ covers (end - 1) in
     let done = goes recording Delete state kept
-    (subst (λ (d : Draft). Fits d.steps content) (sym first)
+    (subst (λ (d : Outline). Fits d.steps content) (sym first)
     (bare-fits takes (end - 1) content (omega (arith, shows, within))))
-    (ap (λ (d : Draft). characters (after d.steps content).cells) first ∙ bare-text takes (end - 1) content) in (
+    (ap (λ (d : Outline). characters (after d.steps content).cells) first ∙ bare-text takes (end - 1) content) in (
       done.0,
       done.1
-          ∙ ap (λ (d : Draft). removed_spans recording Delete left (drafted recording Delete d state)) first
+          ∙ ap (λ (d : Outline). removed_spans recording Delete left (outlineed recording Delete d state)) first
           ∙ ap (removed_spans recording Delete left) (bare-made takes (end - 1) content anchors log)
           ∙ ap₂ (λ rs b. removed_spans recording Delete rs (if b
           then state_of (after_step (ClearTags (end - 1)) content) anchors log else state)) (sym runs_are)

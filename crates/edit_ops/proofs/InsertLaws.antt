@@ -16,7 +16,7 @@ use Rattle.std.proofs.Math.Bool.{or-true}
 use Rattle.std.proofs.lemmas.List.Elements.{All-map}
 use Rattle.text_model.specs.declared.cells.Cell.{Cell}
 use Rattle.text_model.specs.declared.edits.Step.TheVariants.{Insert}
-use Rattle.text_model.specs.Content.{Content, Slots, slot_sets, slots_behind}
+use Rattle.text_model.specs.Content.{Content, Slots, slot_sets, slots_left_of}
 use Rattle.text_model.specs.Splices.{inserted}
 use Rattle.text_model.specs.Steps.{cells_of, Fits, after, after_insertion}
 use Rattle.text_model.proofs.SpliceLaws.{length-cells_inserted, map-inserted, map-map, get_or-inserted_within}
@@ -27,14 +27,14 @@ use Rattle.undo_stack.specs.Modified.{counted_new}
 use Rattle.undo_stack.specs.declared.actions.Action.{Action}
 use Rattle.undo_stack.specs.declared.actions.EditKind.{EditKind}
 use Rattle.edit_ops.specs.declared.anchors.Anchors.{Anchors}
-use Rattle.edit_ops.specs.declared.pieces.Piece.{Piece}
+use Rattle.edit_ops.specs.declared.slotted_texts.SlottedText.{SlottedText}
 use Rattle.edit_ops.specs.declared.plans.Recording.{Recording}
 use Rattle.edit_ops.specs.Anchors.{AnchorsStand, anchor_moved, anchors_moved}
 use Rattle.text_cursor.specs.Around.{shared_slots, slots_around}
 use Rattle.text_cursor.proofs.AroundLaws.{length-slot_sets}
 use Rattle.edit_ops.specs.Insertions.{slots_or, inserted_text, inserted_texts, total, total_bytes, needs_shared}
 use Rattle.edit_ops.specs.Insertions.{IsBetween}
-use Rattle.edit_ops.specs.States.{State, Log, Draft, log_noted, all_noted, drafted, state_of}
+use Rattle.edit_ops.specs.States.{State, Log, Outline, log_noted, all_noted, outlineed, state_of}
 
 pub noted-append : (recording : Recording) (kind : EditKind) (actions others : List Action) (log : Log)
     → all_noted recording kind (actions ++ others) log
@@ -119,7 +119,7 @@ between-next matters shared behind slots len at text cells is some =
     }
 
 -- what the texts that are left need
-fewer : (piece : Piece) (rest : List Piece) (shared behind : Slots) (len at : ℕ) (cells : List Cell) →
+fewer : (piece : SlottedText) (rest : List SlottedText) (shared behind : Slots) (len at : ℕ) (cells : List Cell) →
     IsBetween (needs_shared (piece ∷ rest)) shared behind len at cells
     → IsBetween (needs_shared rest) shared behind len at cells
 fewer piece rest shared behind len at cells is =
@@ -161,98 +161,98 @@ stand-moved at count len all stand = All-map (AnchorsStand (len + count)) (ancho
     stands-moved at count len (get_or all k d) (stand k d within))
 
 -- one text more, of an edit that is put together
-pub record OneMore (recording : Recording) (kind : EditKind) (draft new : Draft) (state : State) (at len : ℕ)
-    (shared behind : Slots) (piece : Piece) (rest : List Piece) : Type 0 where
+pub record OneMore (recording : Recording) (kind : EditKind) (outline new : Outline) (state : State) (at len : ℕ)
+    (shared behind : Slots) (piece : SlottedText) (rest : List SlottedText) : Type 0 where
   pub fits : Fits new.steps state.content
   pub between : IsBetween (needs_shared rest) shared behind (len + length piece.text) (at + length piece.text)
       (after new.steps state.content).cells
-  pub makes : drafted recording kind new state
-      ≡ inserted_text recording kind at piece (drafted recording kind draft state)
+  pub makes : outlineed recording kind new state
+      ≡ inserted_text recording kind at piece (outlineed recording kind outline state)
 
-pub one-more : (recording : Recording) (kind : EditKind) (draft new : Draft) (state : State) (at len : ℕ)
-    (shared behind slots : Slots) (piece : Piece) (rest : List Piece) (kept : List ℕ) → Fits draft.steps state.content
-    → IsBetween (needs_shared (piece ∷ rest)) shared behind len at (after draft.steps state.content).cells →
+pub one-more : (recording : Recording) (kind : EditKind) (outline new : Outline) (state : State) (at len : ℕ)
+    (shared behind slots : Slots) (piece : SlottedText) (rest : List SlottedText) (kept : List ℕ) → Fits outline.steps state.content
+    → IsBetween (needs_shared (piece ∷ rest)) shared behind len at (after outline.steps state.content).cells →
     0 < length piece.text → slots ≡ slots_or piece.slots shared → (recording.undo ≡ true → kept ≡ piece.text)
     → new ≡ record {
-      steps = draft.steps ++ Insert at piece.text slots ∷ [];
-      anchors = map (anchors_moved at (length piece.text)) draft.anchors;
-      actions = draft.actions ++ record { inserts = true; at = at; text = kept } ∷ [];
+      steps = outline.steps ++ Insert at piece.text slots ∷ [];
+      anchors = map (anchors_moved at (length piece.text)) outline.anchors;
+      actions = outline.actions ++ record { inserts = true; at = at; text = kept } ∷ [];
     }
-    → OneMore recording kind draft new state at len (set.intersection slots behind) behind piece rest
-one-more recording kind draft new state at len shared behind slots piece rest kept fits is some slots_are kept_is made =
-    let before = after draft.steps state.content in
+    → OneMore recording kind outline new state at len (set.intersection slots behind) behind piece rest
+one-more recording kind outline new state at len shared behind slots piece rest kept fits is some slots_are kept_is made =
+    let before = after outline.steps state.content in
     let step = Insert at piece.text slots in
     let action : List ℕ → Action = λ text. record { inserts = true; at = at; text = text } in
-    let before_log = all_noted recording kind draft.actions state.log in
-    let content : after (draft.steps ++ step ∷ []) state.content
-    ≡ after_insertion at piece.text slots before = after-append draft.steps (step ∷ []) state.content in
+    let before_log = all_noted recording kind outline.actions state.log in
+    let content : after (outline.steps ++ step ∷ []) state.content
+    ≡ after_insertion at piece.text slots before = after-append outline.steps (step ∷ []) state.content in
     let same : slots ≡ slots_or piece.slots (shared_slots at before.cells) = slots_are
     ∙ slots-same piece.slots (needs_shared rest) shared (shared_slots at before.cells) is.around in
-    let log : all_noted recording kind (draft.actions ++ action kept ∷ []) state.log
+    let log : all_noted recording kind (outline.actions ++ action kept ∷ []) state.log
     ≡ log_noted recording kind (action piece.text) before_log =
-    noted-append recording kind draft.actions (action kept ∷ []) state.log
+    noted-append recording kind outline.actions (action kept ∷ []) state.log
     ∙ noted-alike recording kind true at kept piece.text before_log kept_is in
-    let anchors = map (anchors_moved at (length piece.text)) draft.anchors in
+    let anchors = map (anchors_moved at (length piece.text)) outline.anchors in
     record {
-      fits = subst (λ (d : Draft). Fits d.steps state.content) (sym made)
-          (Fits-append draft.steps (step ∷ []) state.content fits (omega (arith, is.within, is.counted), tt));
-      between = subst (λ (d : Draft). IsBetween (needs_shared rest) (set.intersection slots behind) behind
+      fits = subst (λ (d : Outline). Fits d.steps state.content) (sym made)
+          (Fits-append outline.steps (step ∷ []) state.content fits (omega (arith, is.within, is.counted), tt));
+      between = subst (λ (d : Outline). IsBetween (needs_shared rest) (set.intersection slots behind) behind
           (len + length piece.text) (at + length piece.text) (after d.steps state.content).cells) (sym made)
           (subst (λ (c : Content). IsBetween (needs_shared rest) (set.intersection slots behind) behind
           (len + length piece.text) (at + length piece.text) c.cells) (sym content)
           (between-next (needs_shared rest) shared behind slots len at piece.text before.cells
           (fewer piece rest shared behind len at before.cells is) some));
       makes =
-          ap (λ d. drafted recording kind d state) made
+          ap (λ d. outlineed recording kind d state) made
           ∙ ap₂ (λ c l. state_of c anchors l) (content ∙ ap (λ s. after_insertion at piece.text s before) same) log
-          ∙ ap (λ b. if b then drafted recording kind draft state
+          ∙ ap (λ b. if b then outlineed recording kind outline state
           else state_of (after_insertion at piece.text (slots_or piece.slots (shared_slots at before.cells)) before)
           anchors (log_noted recording kind (action piece.text) before_log))
           (sym (ne_eqb (length piece.text) 0 (λ none. omega (arith, none, some))));
     }
 
 -- The first of the texts are put in, of an edit that is put together, and these are left.
-pub record InsertedSoFar (recording : Recording) (kind : EditKind) (draft new : Draft) (state : State) (from : ℕ)
-    (pieces : List Piece) (at len : ℕ) (shared behind : Slots) (rest : List Piece) : Type 0 where
+pub record InsertedSoFar (recording : Recording) (kind : EditKind) (outline new : Outline) (state : State) (from : ℕ)
+    (pieces : List SlottedText) (at len : ℕ) (shared behind : Slots) (rest : List SlottedText) : Type 0 where
   pub fits : Fits new.steps state.content
   pub between : IsBetween (needs_shared rest) shared behind len at (after new.steps state.content).cells
-  pub makes : inserted_texts recording kind at rest (drafted recording kind new state)
-      ≡ inserted_texts recording kind from pieces (drafted recording kind draft state)
+  pub makes : inserted_texts recording kind at rest (outlineed recording kind new state)
+      ≡ inserted_texts recording kind from pieces (outlineed recording kind outline state)
 
-pub record Inserting (keeps : Bool) (draft new : Draft) (from start : ℕ) (around : Slots) (pieces : List Piece)
-    (at len : ℕ) (shared behind : Slots) (rest : List Piece) : Type 0 where
+pub record Inserting (keeps : Bool) (outline new : Outline) (from start : ℕ) (around : Slots) (pieces : List SlottedText)
+    (at len : ℕ) (shared behind : Slots) (rest : List SlottedText) : Type 0 where
   pub within : at < len
-  pub count : length new.anchors ≡ length draft.anchors
+  pub count : length new.anchors ≡ length outline.anchors
   pub stand : All (AnchorsStand len) new.anchors
   pub room : len + total rest < 2 ^ 64
   pub whole : len + total rest ≡ start + total pieces
   pub place : at + start ≡ from + len
   pub goes : (recording : Recording) (kind : EditKind) (state : State) → (recording.undo ≡ true → keeps ≡ true)
-      → Fits draft.steps state.content
-      → IsBetween (needs_shared pieces) around behind start from (after draft.steps state.content).cells
-      → InsertedSoFar recording kind draft new state from pieces at len shared behind rest
+      → Fits outline.steps state.content
+      → IsBetween (needs_shared pieces) around behind start from (after outline.steps state.content).cells
+      → InsertedSoFar recording kind outline new state from pieces at len shared behind rest
 
-pub total-cons : (piece : Piece) (rest : List Piece) → total (piece ∷ rest) ≡ length piece.text + total rest
-total-cons piece rest = sum_by-cons (λ (p : Piece). length p.text) piece rest
+pub total-cons : (piece : SlottedText) (rest : List SlottedText) → total (piece ∷ rest) ≡ length piece.text + total rest
+total-cons piece rest = sum_by-cons (λ (p : SlottedText). length p.text) piece rest
 
 -- texts have no more characters than bytes
-pub total-in-bytes : (pieces : List Piece) → total pieces ≤ total_bytes pieces
+pub total-in-bytes : (pieces : List SlottedText) → total pieces ≤ total_bytes pieces
 total-in-bytes [] = omega arith
 total-in-bytes (piece ∷ rest) =
     omega (
       arith,
       total-cons piece rest,
-      sum_by-cons (λ (p : Piece). length (encode_utf8_all p.text)) piece rest,
+      sum_by-cons (λ (p : SlottedText). length (encode_utf8_all p.text)) piece rest,
       length-le-encodes piece.text,
       total-in-bytes rest,
     )
 
 -- no text yet
-pub inserting-first : (keeps : Bool) (draft : Draft) (at len : ℕ) (shared behind : Slots) (pieces left : List Piece) →
-    left ≡ pieces → at < len → All (AnchorsStand len) draft.anchors → len + total pieces < 2 ^ 64
-    → Inserting keeps draft draft at len shared pieces at len shared behind left
-inserting-first keeps draft at len shared behind pieces left left_is within stand fits =
-    subst (Inserting keeps draft draft at len shared pieces at len shared behind) (sym left_is) (record {
+pub inserting-first : (keeps : Bool) (outline : Outline) (at len : ℕ) (shared behind : Slots) (pieces left : List SlottedText) →
+    left ≡ pieces → at < len → All (AnchorsStand len) outline.anchors → len + total pieces < 2 ^ 64
+    → Inserting keeps outline outline at len shared pieces at len shared behind left
+inserting-first keeps outline at len shared behind pieces left left_is within stand fits =
+    subst (Inserting keeps outline outline at len shared pieces at len shared behind) (sym left_is) (record {
       within = within;
       count = refl;
       stand = stand;
@@ -263,25 +263,25 @@ inserting-first keeps draft at len shared behind pieces left left_is within stan
     })
 
 -- a text more
-pub inserting-more : (keeps : Bool) (draft now new : Draft) (from start : ℕ) (around : Slots) (pieces : List Piece)
-    (at len : ℕ) (shared behind slots : Slots) (piece : Piece) (kept : List ℕ) (rest left : List Piece)
-    → Inserting keeps draft now from start around pieces at len shared behind left → left ≡ piece ∷ rest →
+pub inserting-more : (keeps : Bool) (outline now new : Outline) (from start : ℕ) (around : Slots) (pieces : List SlottedText)
+    (at len : ℕ) (shared behind slots : Slots) (piece : SlottedText) (kept : List ℕ) (rest left : List SlottedText)
+    → Inserting keeps outline now from start around pieces at len shared behind left → left ≡ piece ∷ rest →
     0 < length piece.text → slots ≡ slots_or piece.slots shared → (keeps ≡ true → kept ≡ piece.text)
     → new ≡ record {
       steps = now.steps ++ Insert at piece.text slots ∷ [];
       anchors = map (anchors_moved at (length piece.text)) now.anchors;
       actions = now.actions ++ record { inserts = true; at = at; text = kept } ∷ [];
     }
-    → Inserting keeps draft new from start around pieces (at + length piece.text) (len + length piece.text)
+    → Inserting keeps outline new from start around pieces (at + length piece.text) (len + length piece.text)
     (set.intersection slots behind) behind rest
-inserting-more keeps draft now new from start around pieces at len shared behind slots piece kept rest left so_far
+inserting-more keeps outline now new from start around pieces at len shared behind slots piece kept rest left so_far
     left_is some slots_are kept_is made =
     let counted : total left ≡ length piece.text + total rest = ap total left_is ∙ total-cons piece rest in
     record {
       within = let h : at < len = so_far.within in omega arith;
-      count = ap (λ (d : Draft). length d.anchors) made ∙ length-map now.anchors (anchors_moved at (length piece.text))
+      count = ap (λ (d : Outline). length d.anchors) made ∙ length-map now.anchors (anchors_moved at (length piece.text))
           ∙ so_far.count;
-      stand = subst (λ (d : Draft). All (AnchorsStand (len + length piece.text)) d.anchors) (sym made)
+      stand = subst (λ (d : Outline). All (AnchorsStand (len + length piece.text)) d.anchors) (sym made)
           (stand-moved at (length piece.text) len now.anchors so_far.stand);
       room = omega (arith, counted, so_far.room);
       whole = omega (arith, counted, so_far.whole);
@@ -295,18 +295,18 @@ inserting-more keeps draft now new from start around pieces at len shared behind
             fits = next.fits;
             between = next.between;
             makes = ap (inserted_texts recording kind (at + length piece.text) rest) next.makes
-                ∙ ap (λ ps. inserted_texts recording kind at ps (drafted recording kind now state)) (sym left_is)
+                ∙ ap (λ ps. inserted_texts recording kind at ps (outlineed recording kind now state)) (sym left_is)
                 ∙ before.makes;
           };
     }
 
 -- no text more
-pub inserting-none : (keeps : Bool) (draft now : Draft) (from start : ℕ) (around : Slots) (pieces : List Piece)
-    (at len : ℕ) (shared behind : Slots) (piece : Piece) (rest left : List Piece)
-    → Inserting keeps draft now from start around pieces at len shared behind left → left ≡ piece ∷ rest →
+pub inserting-none : (keeps : Bool) (outline now : Outline) (from start : ℕ) (around : Slots) (pieces : List SlottedText)
+    (at len : ℕ) (shared behind : Slots) (piece : SlottedText) (rest left : List SlottedText)
+    → Inserting keeps outline now from start around pieces at len shared behind left → left ≡ piece ∷ rest →
     length piece.text ≡ 0
-    → Inserting keeps draft now from start around pieces at len shared behind rest
-inserting-none keeps draft now from start around pieces at len shared behind piece rest left so_far left_is none =
+    → Inserting keeps outline now from start around pieces at len shared behind rest
+inserting-none keeps outline now from start around pieces at len shared behind piece rest left so_far left_is none =
     let counted : total left ≡ length piece.text + total rest = ap total left_is ∙ total-cons piece rest in
     record {
       within = so_far.within;
@@ -325,7 +325,7 @@ inserting-none keeps draft now from start around pieces at len shared behind pie
             makes =
                 ap₂ (λ n s. inserted_texts recording kind n rest s) (let e : at
                 ≡ at + length piece.text = omega (arith, none) in e)
-                (sym (ap (λ b. if b then drafted recording kind now state else state_of
+                (sym (ap (λ b. if b then outlineed recording kind now state else state_of
                 (after_insertion at piece.text
                 (slots_or piece.slots (shared_slots at (after now.steps state.content).cells))
                 (after now.steps state.content))
@@ -333,28 +333,28 @@ inserting-none keeps draft now from start around pieces at len shared behind pie
                 (log_noted recording kind (record { inserts = true; at = at; text = piece.text })
                 (all_noted recording kind now.actions state.log)))
                 (eq-eqb (length piece.text) 0 none)))
-                ∙ ap (λ ps. inserted_texts recording kind at ps (drafted recording kind now state)) (sym left_is)
+                ∙ ap (λ ps. inserted_texts recording kind at ps (outlineed recording kind now state)) (sym left_is)
                 ∙ before.makes;
           };
     }
 
 -- so many characters more
-pub inserting-count : (keeps : Bool) (draft now new : Draft) (from start : ℕ) (around : Slots) (pieces : List Piece)
-    (at len count : ℕ) (shared behind slots : Slots) (piece : Piece) (kept : List ℕ) (rest left : List Piece)
-    → Inserting keeps draft now from start around pieces at len shared behind left → left ≡ piece ∷ rest →
+pub inserting-count : (keeps : Bool) (outline now new : Outline) (from start : ℕ) (around : Slots) (pieces : List SlottedText)
+    (at len count : ℕ) (shared behind slots : Slots) (piece : SlottedText) (kept : List ℕ) (rest left : List SlottedText)
+    → Inserting keeps outline now from start around pieces at len shared behind left → left ≡ piece ∷ rest →
     count ≡ length piece.text → 0 < count → slots ≡ slots_or piece.slots shared → (keeps ≡ true → kept ≡ piece.text)
     → new ≡ record {
       steps = now.steps ++ Insert at piece.text slots ∷ [];
       anchors = map (anchors_moved at count) now.anchors;
       actions = now.actions ++ record { inserts = true; at = at; text = kept } ∷ [];
     }
-    → Inserting keeps draft new from start around pieces (at + count) (len + count) (set.intersection slots behind)
+    → Inserting keeps outline new from start around pieces (at + count) (len + count) (set.intersection slots behind)
     behind rest
-inserting-count keeps draft now new from start around pieces at len count shared behind slots piece kept rest left
+inserting-count keeps outline now new from start around pieces at len count shared behind slots piece kept rest left
     so_far left_is counted some slots_are kept_is made =
-    subst (λ n. Inserting keeps draft new from start around pieces (at + n) (len + n) (set.intersection slots behind)
+    subst (λ n. Inserting keeps outline new from start around pieces (at + n) (len + n) (set.intersection slots behind)
     behind rest) (sym counted)
-    (inserting-more keeps draft now new from start around pieces at len shared behind slots piece kept rest left so_far
+    (inserting-more keeps outline now new from start around pieces at len shared behind slots piece kept rest left so_far
     left_is (omega (arith, counted, some)) slots_are kept_is
     (made ∙ ap (λ n. record {
       steps = now.steps ++ Insert at piece.text slots ∷ [];
@@ -362,34 +362,34 @@ inserting-count keeps draft now new from start around pieces at len count shared
       actions = now.actions ++ record { inserts = true; at = at; text = kept } ∷ [];
     }) counted))
 
-pub piece-fits : (keeps : Bool) (draft now : Draft) (from start : ℕ) (around : Slots) (pieces : List Piece)
-    (at len count : ℕ) (shared behind : Slots) (piece : Piece) (rest left : List Piece)
-    → Inserting keeps draft now from start around pieces at len shared behind left → left ≡ piece ∷ rest →
+pub piece-fits : (keeps : Bool) (outline now : Outline) (from start : ℕ) (around : Slots) (pieces : List SlottedText)
+    (at len count : ℕ) (shared behind : Slots) (piece : SlottedText) (rest left : List SlottedText)
+    → Inserting keeps outline now from start around pieces at len shared behind left → left ≡ piece ∷ rest →
     count ≡ length piece.text → (len + count < 2 ^ 64) × (at + count < 2 ^ 64)
-piece-fits keeps draft now from start around pieces at len count shared behind piece rest left so_far left_is counted =
+piece-fits keeps outline now from start around pieces at len count shared behind piece rest left so_far left_is counted =
     let whole : total left ≡ length piece.text + total rest = ap total left_is ∙ total-cons piece rest in
     (omega (arith, whole, counted, so_far.room), omega (arith, whole, counted, so_far.room, so_far.within))
 
 -- an edit that begins with texts that are put in
-pub put-in : (keeps : Bool) (draft new : Draft) (content : Content) (anchors : List Anchors) (shared behind : Slots)
-    (len at : ℕ) (pieces : List Piece) → draft ≡ record { steps = []; anchors = anchors; actions = [] }
+pub put-in : (keeps : Bool) (outline new : Outline) (content : Content) (anchors : List Anchors) (shared behind : Slots)
+    (len at : ℕ) (pieces : List SlottedText) → outline ≡ record { steps = []; anchors = anchors; actions = [] }
     → IsBetween (needs_shared pieces) shared behind len at content.cells
     → ((recording : Recording) (kind : EditKind) (state : State) → (recording.undo ≡ true → keeps ≡ true) →
-    Fits draft.steps state.content →
-    IsBetween (needs_shared pieces) shared behind len at (after draft.steps state.content).cells
+    Fits outline.steps state.content →
+    IsBetween (needs_shared pieces) shared behind len at (after outline.steps state.content).cells
     → Fits new.steps state.content × (length (after new.steps state.content).cells ≡ len + total pieces)
-    × (drafted recording kind new state
-    ≡ inserted_texts recording kind at pieces (drafted recording kind draft state)))
+    × (outlineed recording kind new state
+    ≡ inserted_texts recording kind at pieces (outlineed recording kind outline state)))
     → (recording : Recording) (kind : EditKind) (log : Log) → (recording.undo ≡ true → keeps ≡ true)
-    → Fits new.steps content × (drafted recording kind new (state_of content anchors log)
+    → Fits new.steps content × (outlineed recording kind new (state_of content anchors log)
     ≡ inserted_texts recording kind at pieces (state_of content anchors log))
-put-in keeps draft new content anchors shared behind len at pieces made is goes recording kind log keeping =
+put-in keeps outline new content anchors shared behind len at pieces made is goes recording kind log keeping =
     let state = state_of content anchors log in
     let done = goes recording kind state keeping
-    (subst (λ (d : Draft). Fits d.steps content) (sym made) tt)
-    (subst (λ (d : Draft). IsBetween (needs_shared pieces) shared behind len at (after d.steps content).cells)
+    (subst (λ (d : Outline). Fits d.steps content) (sym made) tt)
+    (subst (λ (d : Outline). IsBetween (needs_shared pieces) shared behind len at (after d.steps content).cells)
     (sym made) is) in
-    (done.0, done.2 ∙ ap (λ (d : Draft). inserted_texts recording kind at pieces (drafted recording kind d state)) made)
+    (done.0, done.2 ∙ ap (λ (d : Outline). inserted_texts recording kind at pieces (outlineed recording kind d state)) made)
 
 pub behind-is : (at : ℕ) (cells : List Cell) (slots : Slots) → slice_get (slot_sets cells) at ≡ Some slots →
     get_or (slot_sets cells) at set.empty ≡ slots
@@ -397,7 +397,7 @@ behind-is at cells slots found = get_or_from_slice_get (slot_sets cells) at slot
 
 -- what the cells before one place and at another share
 pub around-is : (from to : ℕ) (cells : List Cell) (behind : Slots) → slice_get (slot_sets cells) to ≡ Some behind →
-    slots_around from to cells ≡ set.intersection (slots_behind from cells) behind
+    slots_around from to cells ≡ set.intersection (slots_left_of from cells) behind
 around-is zero to cells behind is =
     set.same_set nat_cmp_total set.nat_cmp-IsAntisymmetric _ _ (λ q.
     set.contains-empty nat_cmp q

@@ -24,7 +24,7 @@ use Rattle.undo_stack.specs.declared.actions.EditKind.TheVariants.{Replace, Dele
 use Rattle.undo_stack.specs.Fits.{FitsText, repeated}
 use Rattle.undo_stack.specs.History.{History, noted}
 use Rattle.undo_stack.proofs.FitsLaws.{repeat-back, note-fits}
-use Rattle.edit_ops.specs.declared.pieces.Piece.{Piece}
+use Rattle.edit_ops.specs.declared.slotted_texts.SlottedText.{SlottedText}
 use Rattle.edit_ops.specs.declared.plans.Recording.{Recording}
 use Rattle.edit_ops.specs.declared.spans.Span.{Span}
 use Rattle.edit_ops.specs.Anchors.{anchors_moved, anchors_removed}
@@ -97,7 +97,7 @@ put-made limit at text slots content within short =
     ∙ ap Some (sym (map-inserted (λ (cell : Cell). cell.character) at (cells_of text slots) content.cells
     ∙ ap (λ new. inserted at new (characters content.cells)) (characters-of text slots)))
 
-text-kept : (limit at : ℕ) (recording : Recording) (kind : EditKind) (piece : Piece) (state : State) →
+text-kept : (limit at : ℕ) (recording : Recording) (kind : EditKind) (piece : SlottedText) (state : State) →
     IsKept limit recording state → at < length state.content.cells
     → length state.content.cells + length piece.text ≤ limit
     → IsKept limit recording (inserted_text recording kind at piece state)
@@ -122,7 +122,7 @@ text-kept limit at recording kind piece state kept within short =
       )
     ] refl
 
-pub texts-kept : (limit at : ℕ) (recording : Recording) (kind : EditKind) (pieces : List Piece) (state : State) →
+pub texts-kept : (limit at : ℕ) (recording : Recording) (kind : EditKind) (pieces : List SlottedText) (state : State) →
     IsKept limit recording state → at < length state.content.cells
     → length state.content.cells + total pieces ≤ limit →
     IsKept limit recording (inserted_texts recording kind at pieces state)
@@ -185,7 +185,7 @@ marked-kept limit number recording None state kept = kept
 marked-kept limit number recording (Some place) state kept =
     record { fits = kept.fits; groups = kept.groups; undone = kept.undone }
 
-pub replaced-kept : (limit mark last from to : ℕ) (recording : Recording) (pieces : List Piece) (state : State) →
+pub replaced-kept : (limit mark last from to : ℕ) (recording : Recording) (pieces : List SlottedText) (state : State) →
     IsKept limit recording state → last < length state.content.cells → from ≤ to
     → length state.content.cells - (min to last - min from last) + total pieces ≤ limit →
     IsKept limit recording (replaced recording mark last from to pieces state)

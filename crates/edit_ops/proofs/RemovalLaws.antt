@@ -21,7 +21,7 @@ use Rattle.edit_ops.specs.Anchors.{AnchorsStand, start_drawn, end_drawn, anchors
 use Rattle.text_cursor.specs.Around.{next_line}
 use Rattle.text_cursor.proofs.AroundLaws.{line-before}
 use Rattle.edit_ops.specs.Removals.{removed_span}
-use Rattle.edit_ops.specs.States.{Log, Draft, drafted, state_of}
+use Rattle.edit_ops.specs.States.{Log, Outline, outlineed, state_of}
 use Rattle.edit_ops.proofs.DeleteLaws.{span-out}
 
 start-within : (line from to len anchor : ℕ) → anchor ≤ len → line ≤ from → from ≤ to → to ≤ len →
@@ -64,49 +64,49 @@ stand-drawn line next from to len all stand before ordered within bound =
     })
 
 -- an edit that takes a span out
-pub taken-out : (keeps : Bool) (draft new : Draft) (content : Content) (anchors : List Anchors) (text : List ℕ)
+pub taken-out : (keeps : Bool) (outline new : Outline) (content : Content) (anchors : List Anchors) (text : List ℕ)
     (line next from to : ℕ)
-    → draft ≡ record { steps = []; anchors = anchors; actions = [] }
+    → outline ≡ record { steps = []; anchors = anchors; actions = [] }
     → new ≡ record {
-      steps = draft.steps ++ Remove from to ∷ [];
-      anchors = map (anchors_drawn line next from to) draft.anchors;
-      actions = draft.actions ++ record { inserts = false; at = from; text = text } ∷ [];
+      steps = outline.steps ++ Remove from to ∷ [];
+      anchors = map (anchors_drawn line next from to) outline.anchors;
+      actions = outline.actions ++ record { inserts = false; at = from; text = text } ∷ [];
     }
     → from < to → (keeps ≡ true → text ≡ slice_range (characters content.cells) from to)
     → line ≡ line_start (line_of (characters content.cells) from) (characters content.cells)
     → next ≡ next_line (removed from to (characters content.cells)) from
     → (recording : Recording) (kind : EditKind) (log : Log) → (recording.undo ≡ true → keeps ≡ true)
-    → drafted recording kind new (state_of content anchors log)
+    → outlineed recording kind new (state_of content anchors log)
     ≡ removed_span recording kind from to (state_of content anchors log)
-taken-out keeps draft new content anchors text line next from to begun made some text_is line_is next_is recording kind
+taken-out keeps outline new content anchors text line next from to begun made some text_is line_is next_is recording kind
     log keeping =
     span-out recording kind (record { steps = []; anchors = anchors; actions = [] }) new (state_of content anchors log)
     text line next from to
-    (made ∙ ap (λ (d : Draft). record {
+    (made ∙ ap (λ (d : Outline). record {
       steps = d.steps ++ Remove from to ∷ [];
       anchors = map (anchors_drawn line next from to) d.anchors;
       actions = d.actions ++ record { inserts = false; at = from; text = text } ∷ [];
     }) begun)
     some (λ on. text_is (keeping on)) line_is next_is
 
-pub stand-out : (draft new : Draft) (anchors : List Anchors) (text cells : List ℕ) (line next from to len : ℕ) →
-    draft ≡ record { steps = []; anchors = anchors; actions = [] }
+pub stand-out : (outline new : Outline) (anchors : List Anchors) (text cells : List ℕ) (line next from to len : ℕ) →
+    outline ≡ record { steps = []; anchors = anchors; actions = [] }
     → new ≡ record {
-      steps = draft.steps ++ Remove from to ∷ [];
-      anchors = map (anchors_drawn line next from to) draft.anchors;
-      actions = draft.actions ++ record { inserts = false; at = from; text = text } ∷ [];
+      steps = outline.steps ++ Remove from to ∷ [];
+      anchors = map (anchors_drawn line next from to) outline.anchors;
+      actions = outline.actions ++ record { inserts = false; at = from; text = text } ∷ [];
     }
     → All (AnchorsStand len) anchors → length cells ≡ len → from ≤ to → to ≤ len
     → line ≡ line_start (line_of cells from) cells → next ≡ next_line (removed from to cells) from
     → All (AnchorsStand (len - (to - from))) new.anchors
-stand-out draft new anchors text cells line next from to len begun made stand counted ordered within line_is next_is =
+stand-out outline new anchors text cells line next from to len begun made stand counted ordered within line_is next_is =
     let before : line ≤ from = let h = line-before cells from (omega (arith, counted)) in omega (arith, line_is, h) in
     let bound : next ≤ len - (to - from) =
     let h = line_start-le (removed from to cells) (line_of (removed from to cells) from + 1) in
     let long = length-removed from to cells ordered (omega (arith, counted)) in
     omega (arith, next_is, h, long, counted) in
-    subst (λ (d : Draft). All (AnchorsStand (len - (to - from))) d.anchors) (sym made)
-    (subst (λ (d : Draft). All (AnchorsStand (len - (to - from))) (map (anchors_drawn line next from to) d.anchors))
+    subst (λ (d : Outline). All (AnchorsStand (len - (to - from))) d.anchors) (sym made)
+    (subst (λ (d : Outline). All (AnchorsStand (len - (to - from))) (map (anchors_drawn line next from to) d.anchors))
     (sym begun)
     (stand-drawn line next from to len anchors stand before ordered within bound))
 
@@ -116,26 +116,26 @@ if-same : {A : Type 0} (b : Bool) (x y : A) → b ≡ true → x ≡ (if b then 
 if-same true x y is = refl
 if-same false x y is = absurd (cc)
 
-pub none-stand : (draft : Draft) (anchors : List Anchors) (from to len : ℕ) →
-    draft ≡ record { steps = []; anchors = anchors; actions = [] } → from ≡ to
-    → All (AnchorsStand len) anchors → All (AnchorsStand (len - (to - from))) draft.anchors
-none-stand draft anchors from to len is same stand =
+pub none-stand : (outline : Outline) (anchors : List Anchors) (from to len : ℕ) →
+    outline ≡ record { steps = []; anchors = anchors; actions = [] } → from ≡ to
+    → All (AnchorsStand len) anchors → All (AnchorsStand (len - (to - from))) outline.anchors
+none-stand outline anchors from to len is same stand =
     let still : len ≡ len - (to - from) = omega arith in
-    subst (λ (d : Draft). All (AnchorsStand (len - (to - from))) d.anchors) (sym is)
+    subst (λ (d : Outline). All (AnchorsStand (len - (to - from))) d.anchors) (sym is)
     (subst (λ n. All (AnchorsStand n) anchors) still stand)
 
-pub none-cells : (draft : Draft) (content : Content) (anchors : List Anchors) (from to : ℕ) →
-    draft ≡ record { steps = []; anchors = anchors; actions = [] } → from ≡ to
-    → (after draft.steps content).cells ≡ removed from to content.cells
-none-cells draft content anchors from to is same =
-    ap (λ (d : Draft). (after d.steps content).cells) is ∙ sym (take-append-drop from content.cells)
+pub none-cells : (outline : Outline) (content : Content) (anchors : List Anchors) (from to : ℕ) →
+    outline ≡ record { steps = []; anchors = anchors; actions = [] } → from ≡ to
+    → (after outline.steps content).cells ≡ removed from to content.cells
+none-cells outline content anchors from to is same =
+    ap (λ (d : Outline). (after d.steps content).cells) is ∙ sym (take-append-drop from content.cells)
     ∙ ap (λ n. take from content.cells ++ drop n content.cells) same
 
-pub none-out : (draft : Draft) (content : Content) (anchors : List Anchors) (from to : ℕ) →
-    draft ≡ record { steps = []; anchors = anchors; actions = [] } → from ≡ to
+pub none-out : (outline : Outline) (content : Content) (anchors : List Anchors) (from to : ℕ) →
+    outline ≡ record { steps = []; anchors = anchors; actions = [] } → from ≡ to
     → (recording : Recording) (kind : EditKind) (log : Log) →
-    drafted recording kind draft (state_of content anchors log)
+    outlineed recording kind outline (state_of content anchors log)
     ≡ removed_span recording kind from to (state_of content anchors log)
-none-out draft content anchors from to is same recording kind log =
-    ap (λ (d : Draft). drafted recording kind d (state_of content anchors log)) is
+none-out outline content anchors from to is same recording kind log =
+    ap (λ (d : Outline). outlineed recording kind d (state_of content anchors log)) is
     ∙ if-same (from == to) (state_of content anchors log) _ (eq-eqb from to same)

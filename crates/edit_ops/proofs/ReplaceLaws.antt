@@ -9,18 +9,18 @@ use Rattle.text_model.specs.declared.cells.Cell.{Cell}
 use Rattle.text_model.specs.declared.edits.Step.TheVariants.{PutMark}
 use Rattle.text_model.specs.declared.places.Place.{Place}
 use Rattle.text_model.specs.declared.places.MarkNo.{MarkNo}
-use Rattle.text_model.specs.Content.{Content, Slots, slot_sets, slots_behind}
+use Rattle.text_model.specs.Content.{Content, Slots, slot_sets, slots_left_of}
 use Rattle.text_model.specs.Splices.{removed}
 use Rattle.text_model.specs.Steps.{Fits, after}
 use Rattle.text_model.proofs.SpliceLaws.{length-removed, map-removed, get_or-removed_before, get_or-removed_behind}
 use Rattle.text_model.proofs.StepLaws.{Fits-append, after-append}
 use Rattle.undo_stack.specs.declared.actions.EditKind.TheVariants.{Replace}
-use Rattle.edit_ops.specs.declared.pieces.Piece.{Piece}
+use Rattle.edit_ops.specs.declared.slotted_texts.SlottedText.{SlottedText}
 use Rattle.edit_ops.specs.declared.plans.Recording.{Recording}
 use Rattle.text_cursor.specs.Around.{slots_around}
 use Rattle.edit_ops.specs.Insertions.{inserted_texts, total, IsBetween}
 use Rattle.edit_ops.specs.Removals.{clipped, with_mark, removed_span, replaced_span}
-use Rattle.edit_ops.specs.States.{State, Draft, drafted}
+use Rattle.edit_ops.specs.States.{State, Outline, outlineed}
 use Rattle.text_cursor.proofs.AroundLaws.{length-slot_sets}
 use Rattle.edit_ops.proofs.InsertLaws.{around-is, behind-is}
 
@@ -47,7 +47,7 @@ around-removed from to cells ordered within =
 -- what stands around a span that was taken out
 pub between-removed : (matters : Bool) (before behind : Slots) (len from to : ℕ) (cells now : List Cell) →
     now ≡ removed from to cells → from ≤ to → to < length cells → len ≡ length cells - (to - from)
-    → (matters ≡ true → before ≡ slots_behind from cells) →
+    → (matters ≡ true → before ≡ slots_left_of from cells) →
     (matters ≡ true → slice_get (slot_sets cells) to ≡ Some behind) → IsBetween matters (set.intersection before behind) behind len from now
 between-removed matters before behind len from to cells now now_is ordered within counted before_is behind_is =
     let sets = slot_sets cells in
@@ -79,43 +79,43 @@ found-within from to count None place is = absurd (let no : None ≡ Some place 
 found-within from to count (Some old) place is = clipped-within from to count old place is
 
 -- the mark is put at its place, if it has one
-pub mark-fits : (draft new : Draft) (content : Content) (mark : MarkNo) (place : Place) → Fits draft.steps content →
-    place.offset ≤ length (after draft.steps content).cells
-    → new ≡ record draft { steps = draft.steps ++ PutMark mark place ∷ [] } → Fits new.steps content
-mark-fits draft new content mark place fits within made =
-    subst (λ (d : Draft). Fits d.steps content) (sym made)
-    (Fits-append draft.steps (PutMark mark place ∷ []) content fits (within, tt))
+pub mark-fits : (outline new : Outline) (content : Content) (mark : MarkNo) (place : Place) → Fits outline.steps content →
+    place.offset ≤ length (after outline.steps content).cells
+    → new ≡ record outline { steps = outline.steps ++ PutMark mark place ∷ [] } → Fits new.steps content
+mark-fits outline new content mark place fits within made =
+    subst (λ (d : Outline). Fits d.steps content) (sym made)
+    (Fits-append outline.steps (PutMark mark place ∷ []) content fits (within, tt))
 
-pub mark-put : (recording : Recording) (draft new : Draft) (state : State) (mark : MarkNo) (found : Option Place)
+pub mark-put : (recording : Recording) (outline new : Outline) (state : State) (mark : MarkNo) (found : Option Place)
     (place : Place) → found ≡ Some place
-    → new ≡ record draft { steps = draft.steps ++ PutMark mark place ∷ [] }
-    → drafted recording Replace new state ≡ record (drafted recording Replace draft state)
-    { content = with_mark mark.0 found (after draft.steps state.content) }
-mark-put recording draft new state mark found place is made =
-    ap (λ (d : Draft). drafted recording Replace d state) made
-    ∙ ap (λ c. record (drafted recording Replace draft state) { content = c })
-    (after-append draft.steps (PutMark mark place ∷ []) state.content
-    ∙ ap (λ o. with_mark mark.0 o (after draft.steps state.content)) (sym is))
+    → new ≡ record outline { steps = outline.steps ++ PutMark mark place ∷ [] }
+    → outlineed recording Replace new state ≡ record (outlineed recording Replace outline state)
+    { content = with_mark mark.0 found (after outline.steps state.content) }
+mark-put recording outline new state mark found place is made =
+    ap (λ (d : Outline). outlineed recording Replace d state) made
+    ∙ ap (λ c. record (outlineed recording Replace outline state) { content = c })
+    (after-append outline.steps (PutMark mark place ∷ []) state.content
+    ∙ ap (λ o. with_mark mark.0 o (after outline.steps state.content)) (sym is))
 
-pub mark-none : (recording : Recording) (draft new : Draft) (state : State) (mark : MarkNo) (found : Option Place) →
-    found ≡ None → new ≡ draft
-    → drafted recording Replace new state ≡ record (drafted recording Replace draft state)
-    { content = with_mark mark.0 found (after draft.steps state.content) }
-mark-none recording draft new state mark found is made =
-    ap (λ (d : Draft). drafted recording Replace d state) made
-    ∙ ap (λ o. record (drafted recording Replace draft state)
-    { content = with_mark mark.0 o (after draft.steps state.content) }) (sym is)
+pub mark-none : (recording : Recording) (outline new : Outline) (state : State) (mark : MarkNo) (found : Option Place) →
+    found ≡ None → new ≡ outline
+    → outlineed recording Replace new state ≡ record (outlineed recording Replace outline state)
+    { content = with_mark mark.0 found (after outline.steps state.content) }
+mark-none recording outline new state mark found is made =
+    ap (λ (d : Outline). outlineed recording Replace d state) made
+    ∙ ap (λ o. record (outlineed recording Replace outline state)
+    { content = with_mark mark.0 o (after outline.steps state.content) }) (sym is)
 
-pub replaced-is : (recording : Recording) (taken draft new : Draft) (state : State) (mark : MarkNo) (from to : ℕ)
-    (pieces : List Piece) (found : Option Place)
-    → drafted recording Replace draft state
-    ≡ inserted_texts recording Replace from pieces (drafted recording Replace taken state)
-    → drafted recording Replace taken state ≡ removed_span recording Replace from to state
+pub replaced-is : (recording : Recording) (taken outline new : Outline) (state : State) (mark : MarkNo) (from to : ℕ)
+    (pieces : List SlottedText) (found : Option Place)
+    → outlineed recording Replace outline state
+    ≡ inserted_texts recording Replace from pieces (outlineed recording Replace taken state)
+    → outlineed recording Replace taken state ≡ removed_span recording Replace from to state
     → found ≡ option_and_then (clipped from to (total pieces)) (finite.get state.content.marks mark.0)
-    → drafted recording Replace new state ≡ record (drafted recording Replace draft state)
-    { content = with_mark mark.0 found (after draft.steps state.content) }
-    → drafted recording Replace new state ≡ replaced_span recording mark.0 from to pieces state
-replaced-is recording taken draft new state mark from to pieces found put out clip is =
+    → outlineed recording Replace new state ≡ record (outlineed recording Replace outline state)
+    { content = with_mark mark.0 found (after outline.steps state.content) }
+    → outlineed recording Replace new state ≡ replaced_span recording mark.0 from to pieces state
+replaced-is recording taken outline new state mark from to pieces found put out clip is =
     is ∙ ap₂ (λ (s : State) o. record s { content = with_mark mark.0 o s.content }) (put
     ∙ ap (inserted_texts recording Replace from pieces) out) clip
 

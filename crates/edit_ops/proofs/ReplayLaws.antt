@@ -28,7 +28,7 @@ use Rattle.edit_ops.specs.Reversals.{put_back, taken_back, action_redone, action
 use Rattle.edit_ops.specs.Reversals.{redo_end, undo_end, stood, log_undone, log_redone, undone_group, redone_group}
 use Rattle.edit_ops.specs.Reversals.{undone, redone}
 use Rattle.edit_ops.specs.Removals.{with_mark}
-use Rattle.edit_ops.specs.States.{State, Log, Draft, state_of}
+use Rattle.edit_ops.specs.States.{State, Log, Outline, state_of}
 use Rattle.undo_stack.specs.declared.actions.Action.{Action}
 use Rattle.undo_stack.specs.Fits.{put_in, take_out, repeated, reverted, repeated_group, reverted_group}
 use Rattle.undo_stack.specs.Fits.{FitsText}
@@ -44,31 +44,31 @@ use Rattle.edit_ops.proofs.RemovalLaws.{stand-drawn}
 use Rattle.edit_ops.proofs.ReversalLaws.{redone-text}
 
 -- how long the text is
-pub follows-length : (content : Content) (draft : Draft) (cursor : Cursor) → Follows content draft cursor →
-    length (after draft.steps content).cells ≡ cursor.len
-follows-length content draft cursor follows =
+pub follows-length : (content : Content) (outline : Outline) (cursor : Cursor) → Follows content outline cursor →
+    length (after outline.steps content).cells ≡ cursor.len
+follows-length content outline cursor follows =
     ap length (sym follows.cells) ∙ whole-is cursor content.cells follows.is (sym follows.old_len)
 
-pub record Replayed (content : Content) (draft new : Draft) (now : Cursor) (made : State → State) : Type 0 where
+pub record Replayed (content : Content) (outline new : Outline) (now : Cursor) (made : State → State) : Type 0 where
   pub follows : Follows content new now
-  pub makes : (log : Log) → drawn_up new content log ≡ made (drawn_up draft content log)
+  pub makes : (log : Log) → drawn_up new content log ≡ made (drawn_up outline content log)
 
-pub put-replayed : (content : Content) (draft new : Draft) (before moved now : Cursor) (at : ℕ) (text : List ℕ)
-    (slots : Slots) → Follows content draft before → Moves before moved → moved.at ≡ at
+pub put-replayed : (content : Content) (outline new : Outline) (before moved now : Cursor) (at : ℕ) (text : List ℕ)
+    (slots : Slots) → Follows content outline before → Moves before moved → moved.at ≡ at
     → Puts text slots moved now → slots ≡ shared_slots moved.at (cursor_cells content.cells moved) → at < before.len
-    → new ≡ record draft {
-      steps = draft.steps ++ Insert at text slots ∷ [];
-      anchors = map (anchors_moved at (length text)) draft.anchors;
+    → new ≡ record outline {
+      steps = outline.steps ++ Insert at text slots ∷ [];
+      anchors = map (anchors_moved at (length text)) outline.anchors;
     }
-    → Replayed content draft new now (put_back at text)
-put-replayed content draft new before moved now at text slots follows moves at_is puts slots_are within made =
-    let between = after draft.steps content in
+    → Replayed content outline new now (put_back at text)
+put-replayed content outline new before moved now at text slots follows moves at_is puts slots_are within made =
+    let between = after outline.steps content in
     let old_cells : cursor_cells content.cells moved ≡ between.cells = moves.cells content.cells ∙ follows.cells in
     let shared : slots ≡ shared_slots at between.cells = slots_are ∙ ap₂ shared_slots at_is old_cells in
-    let long = follows-length content draft before follows in
+    let long = follows-length content outline before follows in
     let content_is : after new.steps content
-    ≡ after_insertion at text slots between = ap (λ (d : Draft). after d.steps content) made
-    ∙ after-append draft.steps (Insert at text slots ∷ []) content in
+    ≡ after_insertion at text slots between = ap (λ (d : Outline). after d.steps content) made
+    ∙ after-append outline.steps (Insert at text slots ∷ []) content in
     let len_is : now.len ≡ before.len + length text = puts.len ∙ ap (λ n. n + length text) moves.len in
     record {
       follows = record {
@@ -78,37 +78,37 @@ put-replayed content draft new before moved now at text slots follows moves at_i
             puts.cells content.cells (sym (moves.old_len ∙ follows.old_len))
             ∙ ap₂ (λ n cells. inserted n (cells_of text slots) cells) at_is old_cells
             ∙ ap (λ (c : Content). c.cells) (sym content_is);
-        fits = subst (λ (d : Draft). Fits d.steps content) (sym made)
-            (Fits-append draft.steps (Insert at text slots ∷ []) content follows.fits (
+        fits = subst (λ (d : Outline). Fits d.steps content) (sym made)
+            (Fits-append outline.steps (Insert at text slots ∷ []) content follows.fits (
               omega (arith, within, long),
               tt,
             ));
-        stand = subst (λ (d : Draft). All (AnchorsStand now.len) d.anchors) (sym made)
-            (subst (λ n. All (AnchorsStand n) (map (anchors_moved at (length text)) draft.anchors)) (sym len_is)
-            (stand-moved at (length text) before.len draft.anchors follows.stand));
+        stand = subst (λ (d : Outline). All (AnchorsStand now.len) d.anchors) (sym made)
+            (subst (λ n. All (AnchorsStand n) (map (anchors_moved at (length text)) outline.anchors)) (sym len_is)
+            (stand-moved at (length text) before.len outline.anchors follows.stand));
       };
       makes = λ log.
           ap₂ (λ c anchors. state_of c anchors log) (content_is
-          ∙ ap (λ s. after_insertion at text s between) shared) (ap (λ (d : Draft). d.anchors) made);
+          ∙ ap (λ s. after_insertion at text s between) shared) (ap (λ (d : Outline). d.anchors) made);
     }
 
-pub take-replayed : (content : Content) (draft new : Draft) (before moved now : Cursor) (from to line far : ℕ) →
-    Follows content draft before → Moves before moved → moved.at ≡ from
+pub take-replayed : (content : Content) (outline new : Outline) (before moved now : Cursor) (from to line far : ℕ) →
+    Follows content outline before → Moves before moved → moved.at ≡ from
     → Takes moved now → now.len ≡ moved.len - (to - from) → from ≤ to → to < before.len
     → line ≡ line_start (line_of (characters (cursor_cells content.cells now)) now.at)
     (characters (cursor_cells content.cells now))
     → far ≡ line_start 1 (drop now.at (characters (cursor_cells content.cells now))) → now.at + far ≤ now.len
-    → new ≡ record draft {
-      steps = draft.steps ++ Remove from to ∷ [];
-      anchors = map (anchors_drawn line (from + far) from to) draft.anchors;
+    → new ≡ record outline {
+      steps = outline.steps ++ Remove from to ∷ [];
+      anchors = map (anchors_drawn line (from + far) from to) outline.anchors;
     }
-    → Replayed content draft new now (taken_back from to)
-take-replayed content draft new before moved now from to line far follows moves at_is takes len_is ordered within
+    → Replayed content outline new now (taken_back from to)
+take-replayed content outline new before moved now from to line far follows moves at_is takes len_is ordered within
     line_is far_is bound made =
-    let between = after draft.steps content in
+    let between = after outline.steps content in
     let text = characters between.cells in
     let old_cells : cursor_cells content.cells moved ≡ between.cells = moves.cells content.cells ∙ follows.cells in
-    let long = follows-length content draft before follows in
+    let long = follows-length content outline before follows in
     let counted = length-characters between.cells in
     let moved_len = moves.len in
     let now_at : now.at ≡ from = takes.at ∙ at_is in
@@ -131,8 +131,8 @@ take-replayed content draft new before moved now from to line far follows moves 
     ap (λ n. from + n) (far_is ∙ ap₂ (λ n xs. line_start 1 (drop n xs)) now_at text_is)
     ∙ sym (next_line-is (removed from to text) from removed_len) in
     let content_is : after new.steps content
-    ≡ after_removal from to between = ap (λ (d : Draft). after d.steps content) made
-    ∙ after-append draft.steps (Remove from to ∷ []) content in
+    ≡ after_removal from to between = ap (λ (d : Outline). after d.steps content) made
+    ∙ after-append outline.steps (Remove from to ∷ []) content in
     let before_line : line ≤ from = let h = line-before text from (omega (arith, ordered, within, long, counted)) in
     omega (arith, h, line_old) in
     let now_len : now.len ≡ before.len - (to - from) = omega (arith, len_is, moved_len) in
@@ -141,20 +141,20 @@ take-replayed content draft new before moved now from to line far follows moves 
         is = takes.is;
         old_len = takes.old_len ∙ moves.old_len ∙ follows.old_len;
         cells = cells_are ∙ ap (λ (c : Content). c.cells) (sym content_is);
-        fits = subst (λ (d : Draft). Fits d.steps content) (sym made)
-            (Fits-append draft.steps (Remove from to ∷ []) content follows.fits (
+        fits = subst (λ (d : Outline). Fits d.steps content) (sym made)
+            (Fits-append outline.steps (Remove from to ∷ []) content follows.fits (
               (ordered, omega (arith, within, long)),
               tt,
             ));
-        stand = subst (λ (d : Draft). All (AnchorsStand now.len) d.anchors) (sym made)
-            (subst (λ n. All (AnchorsStand n) (map (anchors_drawn line (from + far) from to) draft.anchors))
+        stand = subst (λ (d : Outline). All (AnchorsStand now.len) d.anchors) (sym made)
+            (subst (λ n. All (AnchorsStand n) (map (anchors_drawn line (from + far) from to) outline.anchors))
             (sym now_len)
-            (stand-drawn line (from + far) from to before.len draft.anchors follows.stand before_line ordered
+            (stand-drawn line (from + far) from to before.len outline.anchors follows.stand before_line ordered
             (omega (arith, within)) (omega (arith, bound, now_at, now_len))));
       };
       makes = λ log.
-          ap₂ (λ c anchors. state_of c anchors log) content_is (ap (λ (d : Draft). d.anchors) made)
-          ∙ ap₂ (λ l n. state_of (after_removal from to between) (map (anchors_drawn l n from to) draft.anchors) log)
+          ap₂ (λ c anchors. state_of c anchors log) content_is (ap (λ (d : Outline). d.anchors) made)
+          ∙ ap₂ (λ l n. state_of (after_removal from to between) (map (anchors_drawn l n from to) outline.anchors) log)
           line_old next_is;
     }
 
@@ -339,27 +339,27 @@ can-replay limit action all found bound is =
     ] is
 
 -- the first of the actions are made, and these are left
-pub record ReplayedSoFar (limit : ℕ) (content : Content) (draft now : Draft) (cursor : Cursor) (all left : List Action)
+pub record ReplayedSoFar (limit : ℕ) (content : Content) (outline now : Outline) (cursor : Cursor) (all left : List Action)
     (end : Option ℕ) : Type 0 where
   pub follows : Follows content now cursor
   pub goes : IsSome (repeated_group limit left (characters (after now.steps content).cells))
   pub ends : end_behind end left ≡ redo_end all
   pub bound : IfSome end (λ at. at ≤ cursor.len)
-  pub makes : (log : Log) → group_redone left (drawn_up now content log) ≡ group_redone all (drawn_up draft content log)
+  pub makes : (log : Log) → group_redone left (drawn_up now content log) ≡ group_redone all (drawn_up outline content log)
 
-pub replay-first : (limit : ℕ) (content : Content) (draft : Draft) (cursor : Cursor) (all : List Action) →
-    Follows content draft cursor
-    → IsSome (repeated_group limit all (characters (after draft.steps content).cells)) →
-    ReplayedSoFar limit content draft draft cursor all all None
-replay-first limit content draft cursor all follows goes =
+pub replay-first : (limit : ℕ) (content : Content) (outline : Outline) (cursor : Cursor) (all : List Action) →
+    Follows content outline cursor
+    → IsSome (repeated_group limit all (characters (after outline.steps content).cells)) →
+    ReplayedSoFar limit content outline outline cursor all all None
+replay-first limit content outline cursor all follows goes =
     record { follows = follows; goes = goes; ends = end-behind-none all; bound = tt; makes = λ log. refl }
 
 -- what the next action wants
-pub replay-fits : (limit : ℕ) (content : Content) (draft now : Draft) (cursor : Cursor) (all left rest : List Action)
+pub replay-fits : (limit : ℕ) (content : Content) (outline now : Outline) (cursor : Cursor) (all left rest : List Action)
     (action : Action) (end : Option ℕ) → limit < 2 ^ 64
-    → ReplayedSoFar limit content draft now cursor all left end → left ≡ action ∷ rest →
+    → ReplayedSoFar limit content outline now cursor all left end → left ≡ action ∷ rest →
     Replays action.inserts action.at (length action.text) cursor.len
-replay-fits limit content draft now cursor all left rest action end bound so_far is =
+replay-fits limit content outline now cursor all left rest action end bound so_far is =
     let text = characters (after now.steps content).cells in
     let goes : IsSome (repeated_group limit (action ∷ rest) text) = subst (λ l. IsSome (repeated_group limit l text)) is
     so_far.goes in
@@ -368,13 +368,13 @@ replay-fits limit content draft now cursor all left rest action end bound so_far
     ∙ follows-length content now cursor so_far.follows)
     (can-replay limit action text first.0 bound first.1)
 
-pub replay-more : (limit : ℕ) (content : Content) (draft now new : Draft) (cursor moved : Cursor)
+pub replay-more : (limit : ℕ) (content : Content) (outline now new : Outline) (cursor moved : Cursor)
     (all left rest : List Action) (action : Action) (end : Option ℕ) (at : ℕ)
-    → ReplayedSoFar limit content draft now cursor all left end → left ≡ action ∷ rest → Follows content new moved
+    → ReplayedSoFar limit content outline now cursor all left end → left ≡ action ∷ rest → Follows content new moved
     → ((log : Log) → drawn_up new content log ≡ action_redone action (drawn_up now content log)) →
     at ≡ action_end action → at ≤ moved.len → Log
-    → ReplayedSoFar limit content draft new moved all rest (Some at)
-replay-more limit content draft now new cursor moved all left rest action end at so_far is follows made at_is within log
+    → ReplayedSoFar limit content outline new moved all rest (Some at)
+replay-more limit content outline now new cursor moved all left rest action end at so_far is follows made at_is within log
     =
     let text = characters (after now.steps content).cells in
     let goes : IsSome (repeated_group limit (action ∷ rest) text) = subst (λ l. IsSome (repeated_group limit l text)) is
@@ -431,20 +431,20 @@ replayed-widgets mark None state = refl
 replayed-widgets mark (Some group) state = group-widgets group state
 
 -- the mark of a number stands where the group ended
-pub mark-stood : (draft new : Draft) (content : Content) (mark : MarkNo) (found : Option Place) (place : Place)
+pub mark-stood : (outline new : Outline) (content : Content) (mark : MarkNo) (found : Option Place) (place : Place)
     (made : State) (log : Log) → found ≡ Some place
-    → new ≡ record draft { steps = draft.steps ++ PutMark mark place ∷ [] } → drawn_up draft content log ≡ made
+    → new ≡ record outline { steps = outline.steps ++ PutMark mark place ∷ [] } → drawn_up outline content log ≡ made
     → drawn_up new content log ≡ record made { content = with_mark mark.0 found made.content }
-mark-stood draft new content mark found place made log is new_is made_is =
-    ap (λ (d : Draft). drawn_up d content log) new_is
-    ∙ ap (λ c. state_of c draft.anchors log) (after-append draft.steps (PutMark mark place ∷ []) content)
+mark-stood outline new content mark found place made log is new_is made_is =
+    ap (λ (d : Outline). drawn_up d content log) new_is
+    ∙ ap (λ c. state_of c outline.anchors log) (after-append outline.steps (PutMark mark place ∷ []) content)
     ∙ ap₂ (λ (s : State) o. record s { content = with_mark mark.0 o s.content }) made_is (sym is)
 
-pub mark-stays : (draft new : Draft) (content : Content) (mark : MarkNo) (found : Option Place) (made : State)
-    (log : Log) → found ≡ None → new ≡ draft → drawn_up draft content log ≡ made
+pub mark-stays : (outline new : Outline) (content : Content) (mark : MarkNo) (found : Option Place) (made : State)
+    (log : Log) → found ≡ None → new ≡ outline → drawn_up outline content log ≡ made
     → drawn_up new content log ≡ record made { content = with_mark mark.0 found made.content }
-mark-stays draft new content mark found made log is new_is made_is =
-    ap (λ (d : Draft). drawn_up d content log) new_is ∙ made_is
+mark-stays outline new content mark found made log is new_is made_is =
+    ap (λ (d : Outline). drawn_up d content log) new_is ∙ made_is
     ∙ ap (λ o. record made { content = with_mark mark.0 o made.content }) (sym is)
 
 -- where it stands lies in the text

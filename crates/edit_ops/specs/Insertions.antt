@@ -9,7 +9,7 @@ use Rattle.text_model.specs.Content.{Slots, slot_sets}
 use Rattle.text_model.specs.Steps.{after_insertion}
 pub use Rattle.text_cursor.specs.Around.{shared_slots}
 use Rattle.undo_stack.specs.declared.actions.EditKind.{EditKind}
-use Rattle.edit_ops.specs.declared.pieces.Piece.{Piece}
+use Rattle.edit_ops.specs.declared.slotted_texts.SlottedText.{SlottedText}
 use Rattle.edit_ops.specs.declared.plans.Recording.{Recording}
 use Rattle.edit_ops.specs.Anchors.{anchors_moved}
 use Rattle.edit_ops.specs.States.{State, log_noted}
@@ -20,7 +20,7 @@ slots_or (Some slots) shared = slots
 slots_or None shared = shared
 
 -- a text is put in before the cell at a place, which is one action; no text is none
-abbrev pub inserted_text : Recording → EditKind → ℕ → Piece → State → State
+abbrev pub inserted_text : Recording → EditKind → ℕ → SlottedText → State → State
 inserted_text recording kind at piece state =
     if length piece.text == 0 then state
     else record {
@@ -31,22 +31,22 @@ inserted_text recording kind at piece state =
     }
 
 -- texts are put in at a place, each right behind the one before it
-abbrev pub inserted_texts : Recording → EditKind → ℕ → List Piece → State → State
+abbrev pub inserted_texts : Recording → EditKind → ℕ → List SlottedText → State → State
 inserted_texts recording kind at [] state = state
 inserted_texts recording kind at (piece ∷ pieces) state =
     inserted_texts recording kind (at + length piece.text) pieces (inserted_text recording kind at piece state)
 
 -- how many characters the texts have
-abbrev pub total : List Piece → ℕ
-total pieces = sum_by (λ (piece : Piece). length piece.text) pieces
+abbrev pub total : List SlottedText → ℕ
+total pieces = sum_by (λ (piece : SlottedText). length piece.text) pieces
 
 -- how many bytes the texts have
-abbrev pub total_bytes : List Piece → ℕ
-total_bytes pieces = sum_by (λ (piece : Piece). length (encode_utf8_all piece.text)) pieces
+abbrev pub total_bytes : List SlottedText → ℕ
+total_bytes pieces = sum_by (λ (piece : SlottedText). length (encode_utf8_all piece.text)) pieces
 
 -- whether a text has no slots of its own, and so gets those that both sides share
-abbrev pub needs_shared : List Piece → Bool
-needs_shared pieces = list_any (λ (piece : Piece). is_none piece.slots) pieces
+abbrev pub needs_shared : List SlottedText → Bool
+needs_shared pieces = list_any (λ (piece : SlottedText). is_none piece.slots) pieces
 
 -- Before a place in a text of so many cells, and behind it, stand cells that share some slots, and the one behind has
 -- these, where that matters.

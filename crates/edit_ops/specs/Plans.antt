@@ -43,3 +43,7 @@ HasRoom Redone kept = ⊤
 
 abbrev pub HasRoomFor : Option Effects → Kept → Type 0
 HasRoomFor effects kept = IfSome effects (λ effects. HasRoom effects.notes kept)
+
+-- after a plan there are as many widgets as before
+abbrev pub KeepsWidgets : Option Effects → List Anchors → Type 0
+KeepsWidgets effects anchors = length (anchors_left effects anchors) ≡ length anchors

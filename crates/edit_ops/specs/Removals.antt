@@ -7,7 +7,7 @@ use Rattle.text_model.specs.Steps.{after_removal}
 use Rattle.text_model.specs.declared.places.Place.{Place}
 use Rattle.undo_stack.specs.declared.actions.EditKind.{EditKind}
 use Rattle.undo_stack.specs.declared.actions.EditKind.TheVariants.{Replace}
-use Rattle.edit_ops.specs.declared.pieces.Piece.{Piece}
+use Rattle.edit_ops.specs.declared.slotted_texts.SlottedText.{SlottedText}
 use Rattle.edit_ops.specs.declared.plans.Recording.{Recording}
 use Rattle.edit_ops.specs.Anchors.{anchors_removed}
 use Rattle.edit_ops.specs.Insertions.{inserted_texts, total}
@@ -40,7 +40,7 @@ with_mark number None content = content
 with_mark number (Some place) content = record content { marks = finite.insert content.marks number place }
 
 -- the cells from one offset to another give way to texts, and the mark of a number is clipped
-abbrev pub replaced_span : Recording → ℕ → ℕ → ℕ → List Piece → State → State
+abbrev pub replaced_span : Recording → ℕ → ℕ → ℕ → List SlottedText → State → State
 replaced_span recording mark from to pieces state =
     let made = inserted_texts recording Replace from pieces (removed_span recording Replace from to state) in
     record made {
@@ -49,6 +49,6 @@ replaced_span recording mark from to pieces state =
     }
 
 -- the same, where both offsets are cut to one that is the greatest
-abbrev pub replaced : Recording → ℕ → ℕ → ℕ → ℕ → List Piece → State → State
+abbrev pub replaced : Recording → ℕ → ℕ → ℕ → ℕ → List SlottedText → State → State
 replaced recording mark last from to pieces state =
     replaced_span recording mark (min from last) (min to last) pieces state

@@ -1,4 +1,4 @@
--- A group of actions is made once more, or reverted, by a draft with a cursor in what it makes.
+-- A group of actions is made once more, or reverted, by an outline with a cursor in what it makes.
 use Rattle.std.specs.Prelude.{◌≡◌, ℕ, ◌+◌, Bool, true, false, not, List, map, length, reverse, Option, None, Some}
 use Rattle.std.specs.Prelude.{if◌then◌else◌}
 use Rattle.std.specs.List.{All}
@@ -9,19 +9,19 @@ use Rattle.text_cursor.specs.declared.cursors.Cursor.{Cursor}
 use Rattle.edit_ops.specs.Anchors.{AnchorsStand}
 use Rattle.text_cursor.specs.Cursors.{cursor_cells, IsCursor}
 use Rattle.edit_ops.specs.Reversals.{group_redone, redo_end, stood}
-use Rattle.edit_ops.specs.States.{State, Log, Draft, state_of}
+use Rattle.edit_ops.specs.States.{State, Log, Outline, state_of}
 
--- A draft and a cursor go along: the cursor is in the text that the draft makes of a content.
-pub record Follows (content : Content) (draft : Draft) (cursor : Cursor) : Type 0 where
+-- An outline and a cursor go along: the cursor is in the text that the outline makes of a content.
+pub record Follows (content : Content) (outline : Outline) (cursor : Cursor) : Type 0 where
   pub is : IsCursor cursor
   pub old_len : cursor.old_len ≡ length content.cells
-  pub cells : cursor_cells content.cells cursor ≡ (after draft.steps content).cells
-  pub fits : Fits draft.steps content
-  pub stand : All (AnchorsStand cursor.len) draft.anchors
+  pub cells : cursor_cells content.cells cursor ≡ (after outline.steps content).cells
+  pub fits : Fits outline.steps content
+  pub stand : All (AnchorsStand cursor.len) outline.anchors
 
--- what a draft makes, of which nothing is noted
-abbrev pub drawn_up : Draft → Content → Log → State
-drawn_up draft content log = state_of (after draft.steps content) draft.anchors log
+-- what an outline makes, of which nothing is noted
+abbrev pub drawn_up : Outline → Content → Log → State
+drawn_up outline content log = state_of (after outline.steps content) outline.anchors log
 
 -- the end of a text that was put in, or the place of one that was taken out
 abbrev pub action_end : Action → ℕ

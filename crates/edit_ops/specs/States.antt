@@ -38,16 +38,16 @@ all_noted recording kind [] log = log
 all_noted recording kind (action ∷ actions) log = all_noted recording kind actions (log_noted recording kind action log)
 
 -- what an edit does: steps on the text, the anchors afterwards, and actions to be noted
-pub record Draft : Type 0 where
+pub record Outline : Type 0 where
   pub steps : List Step
   pub anchors : List Anchors
   pub actions : List Action
 
-abbrev pub drafted : Recording → EditKind → Draft → State → State
-drafted recording kind draft state = record {
-  content = after draft.steps state.content;
-  anchors = draft.anchors;
-  log = all_noted recording kind draft.actions state.log;
+abbrev pub outlineed : Recording → EditKind → Outline → State → State
+outlineed recording kind outline state = record {
+  content = after outline.steps state.content;
+  anchors = outline.anchors;
+  log = all_noted recording kind outline.actions state.log;
 }
 
 abbrev pub state_of : Content → List Anchors → Log → State

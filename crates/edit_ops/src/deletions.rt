@@ -2,15 +2,15 @@ ghost use Rattle.std.specs.Prelude.{◌≡◌, true, ℕ, ◌+◌, ◌-◌, ◌<
 ghost use Rattle.std.specs.Prelude.{get_or, length, OnOk, IfOk, IfErr, if◌then◌else◌};
 ghost use Rattle.std.specs.List.{All};
 ghost use Rattle.edit_ops.specs.Deletions.{in_spans, delete_set, AreApart, deleted, removed_spans};
-ghost use Rattle.edit_ops.specs.Plans.{anchors_left, planned, HasRoomFor};
-ghost use Rattle.edit_ops.specs.States.{State, Log, log_of, state_of, state_in, drafted, IsUnchanged};
+ghost use Rattle.edit_ops.specs.Plans.{planned, HasRoomFor, KeepsWidgets};
+ghost use Rattle.edit_ops.specs.States.{State, Log, log_of, state_of, state_in, outlineed, IsUnchanged};
 ghost use Rattle.text_model.specs.Content.{characters};
 ghost use Rattle.text_model.specs.Lines.{is_newline};
 ghost use Rattle.text_model.specs.Steps.{Fits, after};
 ghost use Rattle.edit_ops.specs.declared.plans.Recording.{Recording};
 
-use crate::drafts::{Draft, kept_text};
 use crate::faults::EditFault;
+use crate::outlines::{Outline, kept_text};
 use crate::plans::{Plan, Recording, prepare};
 use crate::runs::{spare_last, union};
 use crate::spans::Span;
@@ -35,7 +35,7 @@ fn to_next_line(offset: usize, behind: usize, border: usize, rest: usize) -> usi
     }
 }
 
-impl Draft {
+impl Outline {
     /// Takes spans of a text out, the last first, with the texts of the actions where these are to be kept.
     fn remove_spans<S: TextStore>(
         &mut self,
@@ -51,8 +51,8 @@ impl Draft {
             Fits self.old.steps state.content →
             characters (after self.old.steps state.content).cells ≡ characters (S.content store.now).cells →
             Fits self.new.steps state.content ×
-            (drafted recording kind self.new state
-            ≡ removed_spans recording kind spans.now (drafted recording kind self.old state))) }
+            (outlineed recording kind self.new state
+            ≡ removed_spans recording kind spans.now (outlineed recording kind self.old state))) }
     {
         let mut border = store.len();
         let mut rest = 0;
@@ -109,30 +109,31 @@ fn bare(alloc: Global, offset: usize, is_bared: bool) -> Result<StepList, AllocE
 }
 
 /// The edit that deletes spans of what a widget shows, with the texts of its actions where these are to be kept.
-fn draft_delete<S: TextStore>(
+fn outline_delete<S: TextStore>(
     alloc: Global,
     text: &EditedText<S>,
     start: usize,
     end: usize,
     spans: &[Span],
     keeps: bool,
-) -> Result<Draft, AllocError>
+) -> Result<Outline, AllocError>
     requires shows { start < end }
     requires within { end ≤ length (S.content text.now.store).cells }
     requires spans { All (λ span. span.to ≤ end) spans.now }
-    ensures widgets { IfOk result (λ draft. length draft.anchors ≡ length text.now.anchors.items) }
-    ensures makes { IfOk result (λ draft. (recording : Recording) (log : Log) → (recording.undo ≡ true → keeps ≡ true) →
-        Fits draft.steps (S.content text.now.store) ×
-        (drafted recording EditKind.Delete draft (state_of (S.content text.now.store) text.now.anchors.items log)
+    ensures widgets { IfOk result (λ outline. length outline.anchors ≡ length text.now.anchors.items) }
+    ensures makes { IfOk result (λ outline. (recording : Recording) (log : Log)
+        → (recording.undo ≡ true → keeps ≡ true) →
+        Fits outline.steps (S.content text.now.store) ×
+        (outlineed recording EditKind.Delete outline (state_of (S.content text.now.store) text.now.anchors.items log)
         ≡ deleted recording start end spans.now (state_of (S.content text.now.store) text.now.anchors.items log))) }
 {
     let store = &text.store;
     let mut runs = union(alloc, spans)?;
     let takes_last = spare_shown(store, start, end, &mut runs);
     let steps = bare(alloc, end - 1, takes_last)?;
-    let mut draft = Draft::of_steps(alloc, text, steps, runs.len())?;
-    draft.remove_spans(alloc, store, &runs, keeps)?;
-    Ok(draft)
+    let mut outline = Outline::of_steps(alloc, text, steps, runs.len())?;
+    outline.remove_spans(alloc, store, &runs, keeps)?;
+    Ok(outline)
 }
 
 /// A plan that deletes spans, in any order, of what a widget shows from `start` to `end`; spans may overlap or be
@@ -154,11 +155,11 @@ pub fn plan_delete<S: TextStore>(
     ensures refused { IfErr result (λ fault. fault ≡ EditFault.Memory) }
     ensures ready { IfOk result (λ plan. S.ready text.new.store plan.prepared) }
     ensures room { IfOk result (λ plan. HasRoomFor plan.effects text.new.history) }
-    ensures widgets { IfOk result (λ plan. length (anchors_left plan.effects text.old.anchors.items) ≡ length text.old.anchors.items) }
+    ensures widgets { IfOk result (λ plan. KeepsWidgets plan.effects text.old.anchors.items) }
     ensures outcome { IfOk result (λ plan.
         planned plan.effects (S.outcome text.new.store plan.prepared) text.old.anchors.items (log_of text.old.history)
         ≡ deleted recording start end spans.now (state_in S.content text.old)) }
 {
-    let draft = draft_delete(alloc, text, start, end, spans, recording.undo)?;
-    Ok(prepare(text, draft, EditKind::Delete, recording)?)
+    let outline = outline_delete(alloc, text, start, end, spans, recording.undo)?;
+    Ok(prepare(text, outline, EditKind::Delete, recording)?)
 }

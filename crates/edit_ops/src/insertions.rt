@@ -4,16 +4,16 @@ ghost use Rattle.std.specs.FinSet as set;
 ghost use Rattle.std.specs.List.{All};
 ghost use Rattle.edit_ops.specs.Anchors.{AnchorsStand};
 ghost use Rattle.edit_ops.specs.Insertions.{inserted_texts, needs_shared, slots_or, total, total_bytes, IsBetween};
-ghost use Rattle.edit_ops.specs.Plans.{anchors_left, planned, HasRoomFor};
+ghost use Rattle.edit_ops.specs.Plans.{planned, HasRoomFor, KeepsWidgets};
 ghost use Rattle.edit_ops.specs.declared.plans.Recording.{Recording};
-ghost use Rattle.edit_ops.specs.States.{State, Log, log_of, state_of, state_in, drafted, IsUnchanged};
-ghost use Rattle.text_model.specs.Content.{slot_sets, slots_behind};
+ghost use Rattle.edit_ops.specs.States.{State, Log, log_of, state_of, state_in, outlineed, IsUnchanged};
+ghost use Rattle.text_model.specs.Content.{slot_sets, slots_left_of};
 ghost use Rattle.text_model.specs.Steps.{Fits, after};
 
-use crate::drafts::Draft;
 use crate::faults::EditFault;
-use crate::pieces::Piece;
+use crate::outlines::Outline;
 use crate::plans::{Plan, prepare};
+use crate::slotted_texts::SlottedText;
 use crate::texts::{EditRules, EditedText};
 use std::alloc::{AllocError, Global};
 use text_model::{Limits, TagSet, Text, TextStore};
@@ -27,7 +27,7 @@ pub fn count_of(text: &Text) -> usize
 }
 
 /// How many characters texts have, or the greatest number where that is more.
-fn total_of(pieces: &[Piece]) -> usize
+fn total_of(pieces: &[SlottedText]) -> usize
     ensures { result ≡ min (total pieces.now) (2 ^ 64 - 1) }
 {
     let mut most = 0usize;
@@ -38,7 +38,7 @@ fn total_of(pieces: &[Piece]) -> usize
 }
 
 /// How many bytes texts have, or the greatest number where that is more.
-fn bytes_of(pieces: &[Piece]) -> usize
+fn bytes_of(pieces: &[SlottedText]) -> usize
     ensures { result ≡ min (total_bytes pieces.now) (2 ^ 64 - 1) }
 {
     let mut most = 0usize;
@@ -50,7 +50,7 @@ fn bytes_of(pieces: &[Piece]) -> usize
 
 /// Whether a text of so many characters is too long with these texts more. Their characters are counted only where
 /// their bytes are too many.
-pub fn is_too_long(limits: &Limits, len: usize, pieces: &[Piece]) -> bool
+pub fn is_too_long(limits: &Limits, len: usize, pieces: &[SlottedText]) -> bool
     ensures value { result ≡ nat_lt limits.now.chars (len + total pieces.now) }
     ensures short { result ≡ false → len + total pieces.now < 2 ^ 64 }
 {
@@ -64,7 +64,7 @@ pub fn is_too_long(limits: &Limits, len: usize, pieces: &[Piece]) -> bool
 /// The slots of the character before an offset; none at the start.
 fn slots_before<S: TextStore>(store: &S, offset: usize) -> TagSet
     requires within { offset ≤ length (S.content store.now).cells }
-    ensures { result ≡ slots_behind offset (S.content store.now).cells }
+    ensures { result ≡ slots_left_of offset (S.content store.now).cells }
 {
     if offset == 0 {
         return TagSet::empty();
@@ -73,7 +73,7 @@ fn slots_before<S: TextStore>(store: &S, offset: usize) -> TagSet
 }
 
 /// Whether a text has no slots of its own.
-pub fn needs_shared(pieces: &[Piece]) -> bool
+pub fn needs_shared(pieces: &[SlottedText]) -> bool
     ensures { result ≡ needs_shared pieces.now }
 {
     for piece in pieces {
@@ -94,7 +94,7 @@ pub fn slots_beside<S: TextStore>(
 ) -> (TagSet, TagSet)
     requires ordered { from ≤ to }
     requires within { to < length (S.content store.now).cells }
-    ensures before { needed ≡ true → result.0 ≡ slots_behind from (S.content store.now).cells }
+    ensures before { needed ≡ true → result.0 ≡ slots_left_of from (S.content store.now).cells }
     ensures behind { needed ≡ true → slice_get (slot_sets (S.content store.now).cells) to ≡ Some result.1 }
 {
     if !needed {
@@ -116,14 +116,14 @@ fn slots_or(slots: Option<TagSet>, before: &TagSet, behind: &TagSet) -> TagSet
     }
 }
 
-impl Draft {
+impl Outline {
     /// Puts texts in at an offset of a text of so many characters, each right behind the one before it, with the texts
     /// of the actions where these are to be kept. The characters before the offset and behind it have these slots, and
     /// a text that has none of its own gets those that they share. Where the last text ends.
     pub fn insert_pieces(
         &mut self,
         at: usize,
-        pieces: Vec<Piece>,
+        pieces: Vec<SlottedText>,
         before: TagSet,
         behind: &TagSet,
         len: usize,
@@ -141,8 +141,8 @@ impl Draft {
             (after self.old.steps state.content).cells →
             Fits self.new.steps state.content
             × (length (after self.new.steps state.content).cells ≡ len + total pieces.items) ×
-            (drafted recording kind self.new state
-            ≡ inserted_texts recording kind at pieces.items (drafted recording kind self.old state))) }
+            (outlineed recording kind self.new state
+            ≡ inserted_texts recording kind at pieces.items (outlineed recording kind self.old state))) }
     {
         let mut at = at;
         let mut len = len;
@@ -162,29 +162,29 @@ impl Draft {
 }
 
 /// The edit that puts texts in at an offset, with the texts of its actions where these are to be kept.
-fn draft_insert<S: TextStore>(
+fn outline_insert<S: TextStore>(
     alloc: Global,
     text: &EditedText<S>,
     at: usize,
-    pieces: Vec<Piece>,
+    pieces: Vec<SlottedText>,
     keeps: bool,
-) -> Result<Draft, AllocError>
+) -> Result<Outline, AllocError>
     requires within { at < length (S.content text.now.store).cells }
     requires stand { All (AnchorsStand (length (S.content text.now.store).cells)) text.now.anchors.items }
     requires fits { length (S.content text.now.store).cells + total pieces.items < 2 ^ 64 }
-    ensures widgets { IfOk result (λ draft. length draft.anchors ≡ length text.now.anchors.items) }
-    ensures makes { IfOk result (λ draft. (recording : Recording) (kind : EditKind) (log : Log) →
+    ensures widgets { IfOk result (λ outline. length outline.anchors ≡ length text.now.anchors.items) }
+    ensures makes { IfOk result (λ outline. (recording : Recording) (kind : EditKind) (log : Log) →
         (recording.undo ≡ true → keeps ≡ true) →
-        Fits draft.steps (S.content text.now.store) ×
-        (drafted recording kind draft (state_of (S.content text.now.store) text.now.anchors.items log)
+        Fits outline.steps (S.content text.now.store) ×
+        (outlineed recording kind outline (state_of (S.content text.now.store) text.now.anchors.items log)
         ≡ inserted_texts recording kind at pieces.items
         (state_of (S.content text.now.store) text.now.anchors.items log))) }
 {
-    let mut draft = Draft::new(alloc, text, pieces.len())?;
+    let mut outline = Outline::new(alloc, text, pieces.len())?;
     let store = &text.store;
     let (before, behind) = slots_beside(store, at, at, needs_shared(&pieces));
-    draft.insert_pieces(at, pieces, before, &behind, store.len(), keeps)?;
-    Ok(draft)
+    outline.insert_pieces(at, pieces, before, &behind, store.len(), keeps)?;
+    Ok(outline)
 }
 
 /// A plan that puts texts in before the character at an offset, each right behind the one before it. A text without
@@ -195,7 +195,7 @@ pub fn plan_insert<S: TextStore>(
     rules: &EditRules<'_>,
     text: &mut EditedText<S>,
     at: usize,
-    pieces: Vec<Piece>,
+    pieces: Vec<SlottedText>,
 ) -> Result<Plan<S>, EditFault>
     requires within { at < length (S.content text.old.store).cells }
     requires stand { All (AnchorsStand (length (S.content text.old.store).cells)) text.old.anchors.items }
@@ -205,7 +205,7 @@ pub fn plan_insert<S: TextStore>(
     ensures never { result ≢ Err EditFault.IndexOrder }
     ensures ready { IfOk result (λ plan. S.ready text.new.store plan.prepared) }
     ensures room { IfOk result (λ plan. HasRoomFor plan.effects text.new.history) }
-    ensures widgets { IfOk result (λ plan. length (anchors_left plan.effects text.old.anchors.items) ≡ length text.old.anchors.items) }
+    ensures widgets { IfOk result (λ plan. KeepsWidgets plan.effects text.old.anchors.items) }
     ensures outcome { IfOk result (λ plan.
         planned plan.effects (S.outcome text.new.store plan.prepared) text.old.anchors.items (log_of text.old.history)
         ≡ inserted_texts rules.now.recording EditKind.Insert at pieces.items (state_in S.content text.old)) }
@@ -213,6 +213,6 @@ pub fn plan_insert<S: TextStore>(
     if is_too_long(rules.limits, text.store.len(), &pieces) {
         return Err(EditFault::TextTooLong);
     }
-    let draft = draft_insert(rules.alloc, text, at, pieces, rules.recording.undo)?;
-    Ok(prepare(text, draft, EditKind::Insert, rules.recording)?)
+    let outline = outline_insert(rules.alloc, text, at, pieces, rules.recording.undo)?;
+    Ok(prepare(text, outline, EditKind::Insert, rules.recording)?)
 }

@@ -5,7 +5,7 @@ ghost use Rattle.std.specs.List.{All};
 ghost use Rattle.text_model.specs.Content.{characters};
 ghost use Rattle.text_model.specs.Documents.{ends_in_newline};
 ghost use Rattle.undo_stack.specs.declared.actions.EditKind.{EditKind};
-ghost use Rattle.edit_ops.specs.declared.pieces.Piece.{Piece};
+ghost use Rattle.edit_ops.specs.declared.slotted_texts.SlottedText.{SlottedText};
 ghost use Rattle.edit_ops.specs.declared.plans.Recording.{Recording};
 ghost use Rattle.edit_ops.specs.declared.spans.Span.{Span};
 ghost use Rattle.edit_ops.specs.declared.anchors.Anchors.{Anchors};
@@ -20,11 +20,13 @@ ghost use Rattle.edit_ops.specs.Tagging.{SpanFits, tagged};
 
 /// Where a history fits a text, it fits what an edit makes of the two, whether or not actions are kept.
 pub fn edits_fit()
-    ensures inserted { (limit at : ℕ) (recording : Recording) (kind : EditKind) (pieces : List Piece) (state : State) →
+    ensures inserted { (limit at : ℕ) (recording : Recording) (kind : EditKind) (pieces : List SlottedText)
+        (state : State) →
         IsKept limit recording state → at < length state.content.cells →
         length state.content.cells + total pieces ≤ limit →
         IsKept limit recording (inserted_texts recording kind at pieces state) }
-    ensures replaced { (limit mark last from to : ℕ) (recording : Recording) (pieces : List Piece) (state : State) →
+    ensures replaced { (limit mark last from to : ℕ) (recording : Recording) (pieces : List SlottedText)
+        (state : State) →
         IsKept limit recording state → last < length state.content.cells → from ≤ to →
         length state.content.cells - (min to last - min from last) + total pieces ≤ limit →
         IsKept limit recording (replaced recording mark last from to pieces state) }
@@ -46,7 +48,7 @@ pub fn edits_fit()
 pub fn anchors_stand_yet()
     ensures within { (text : List ℕ) (anchors : Anchors) → AreAnchored text anchors →
         AnchorsStand (length text) anchors }
-    ensures inserted { (at : ℕ) (recording : Recording) (kind : EditKind) (pieces : List Piece) (state : State) →
+    ensures inserted { (at : ℕ) (recording : Recording) (kind : EditKind) (pieces : List SlottedText) (state : State) →
         IsAnchored state → at < length state.content.cells →
         IsAnchored (inserted_texts recording kind at pieces state) }
     ensures removed { (from to : ℕ) (recording : Recording) (kind : EditKind) (state : State) →
@@ -57,7 +59,7 @@ pub fn anchors_stand_yet()
         IsAnchored state → ends_in_newline (characters state.content.cells) ≡ true → AreApart border spans →
         border ≤ length state.content.cells →
         IsAnchored (removed_spans recording kind spans state) }
-    ensures replaced { (mark last from to : ℕ) (recording : Recording) (pieces : List Piece) (state : State) →
+    ensures replaced { (mark last from to : ℕ) (recording : Recording) (pieces : List SlottedText) (state : State) →
         IsAnchored state → ends_in_newline (characters state.content.cells) ≡ true → last < length state.content.cells →
         from ≤ to →
         IsAnchored (replaced recording mark last from to pieces state) }

@@ -1,10 +1,10 @@
 ghost use Rattle.std.specs.Prelude.{◌≡◌, ◌≤◌, true, length, IfOk};
 ghost use Rattle.text_model.specs.Steps.{Fits, after};
 ghost use Rattle.edit_ops.specs.Plans.{anchors_left, log_after, planned, HasRoom, HasRoomFor};
-ghost use Rattle.edit_ops.specs.States.{log_of, state_in, all_noted, drafted, IsUnchanged};
+ghost use Rattle.edit_ops.specs.States.{log_of, state_in, all_noted, outlineed, IsUnchanged};
 
 use crate::anchors::Anchors;
-use crate::drafts::Draft;
+use crate::outlines::Outline;
 use crate::texts::EditedText;
 use std::alloc::AllocError;
 use std::collections::VecDeque;
@@ -97,31 +97,31 @@ pub fn prepare_steps<S: TextStore>(
     Ok(Plan { prepared, effects })
 }
 
-/// Makes a plan of a draft, with all memory that it takes. Nothing that can be seen changes.
+/// Makes a plan of an outline, with all memory that it takes. Nothing that can be seen changes.
 pub fn prepare<S: TextStore>(
     text: &mut EditedText<S>,
-    draft: Draft,
+    outline: Outline,
     kind: EditKind,
     recording: Recording,
 ) -> Result<Plan<S>, AllocError>
-    requires { Fits draft.steps (S.content text.old.store) }
+    requires { Fits outline.steps (S.content text.old.store) }
     ensures same { IsUnchanged S.content text.old text.new }
     ensures ready { IfOk result (λ plan. S.ready text.new.store plan.prepared) }
     ensures room { IfOk result (λ plan. HasRoomFor plan.effects text.new.history) }
     ensures outcome { IfOk result (λ plan.
         planned plan.effects (S.outcome text.new.store plan.prepared) text.old.anchors.items (log_of text.old.history)
-        ≡ drafted recording kind draft (state_in S.content text.old)) }
-    ensures widgets { IfOk result (λ plan. anchors_left plan.effects text.old.anchors.items ≡ draft.anchors) }
+        ≡ outlineed recording kind outline (state_in S.content text.old)) }
+    ensures widgets { IfOk result (λ plan. anchors_left plan.effects text.old.anchors.items ≡ outline.anchors) }
 {
     if recording.undo {
-        text.history.reserve(draft.actions.len())?;
+        text.history.reserve(outline.actions.len())?;
     }
-    let Draft {
+    let Outline {
         steps,
         anchors,
         actions,
         ..
-    } = draft;
+    } = outline;
     let notes = Notes::Made(kind, actions, recording);
     prepare_steps(text, steps, Some(Effects { anchors, notes }))
 }

@@ -3,17 +3,17 @@ ghost use Rattle.std.specs.List.{All};
 ghost use Rattle.edit_ops.specs.Anchors.{AnchorsStand};
 ghost use Rattle.edit_ops.specs.Insertions.{total};
 ghost use Rattle.edit_ops.specs.Removals.{clipped, removed_span, replaced_span, replaced};
-ghost use Rattle.edit_ops.specs.Plans.{anchors_left, planned, HasRoomFor};
+ghost use Rattle.edit_ops.specs.Plans.{planned, HasRoomFor, KeepsWidgets};
 ghost use Rattle.edit_ops.specs.declared.plans.Recording.{Recording};
-ghost use Rattle.edit_ops.specs.States.{Log, log_of, state_of, state_in, drafted, IsUnchanged};
+ghost use Rattle.edit_ops.specs.States.{Log, log_of, state_of, state_in, outlineed, IsUnchanged};
 ghost use Rattle.text_model.specs.Splices.{removed};
 ghost use Rattle.text_model.specs.Steps.{Fits, after};
 
-use crate::drafts::{Draft, kept_text};
 use crate::faults::EditFault;
 use crate::insertions::{is_too_long, needs_shared, slots_beside};
-use crate::pieces::Piece;
+use crate::outlines::{Outline, kept_text};
 use crate::plans::{Plan, prepare};
+use crate::slotted_texts::SlottedText;
 use crate::spans::Span;
 use crate::texts::{EditRules, EditedText, Target};
 use std::alloc::{AllocError, Global};
@@ -23,37 +23,37 @@ use undo_stack::EditKind;
 
 /// The edit that takes the characters from one offset to another out, with the text of its action where that is to be
 /// kept, and with room for so many steps.
-fn draft_removal<S: TextStore>(
+fn outline_removal<S: TextStore>(
     alloc: Global,
     text: &EditedText<S>,
     from: usize,
     to: usize,
     room: usize,
     keeps: bool,
-) -> Result<Draft, AllocError>
+) -> Result<Outline, AllocError>
     requires ordered { from ≤ to }
     requires within { to < length (S.content text.now.store).cells }
     requires stand { All (AnchorsStand (length (S.content text.now.store).cells)) text.now.anchors.items }
-    ensures widgets { IfOk result (λ draft. length draft.anchors ≡ length text.now.anchors.items) }
-    ensures stand { IfOk result (λ draft. All (AnchorsStand (length (S.content text.now.store).cells - (to - from)))
-        draft.anchors) }
-    ensures fits { IfOk result (λ draft. Fits draft.steps (S.content text.now.store)) }
-    ensures cells { IfOk result (λ draft. (after draft.steps (S.content text.now.store)).cells
+    ensures widgets { IfOk result (λ outline. length outline.anchors ≡ length text.now.anchors.items) }
+    ensures stand { IfOk result (λ outline. All (AnchorsStand (length (S.content text.now.store).cells - (to - from)))
+        outline.anchors) }
+    ensures fits { IfOk result (λ outline. Fits outline.steps (S.content text.now.store)) }
+    ensures cells { IfOk result (λ outline. (after outline.steps (S.content text.now.store)).cells
         ≡ removed from to (S.content text.now.store).cells) }
-    ensures makes { IfOk result (λ draft. (recording : Recording) (kind : EditKind) (log : Log) →
+    ensures makes { IfOk result (λ outline. (recording : Recording) (kind : EditKind) (log : Log) →
         (recording.undo ≡ true → keeps ≡ true) →
-        drafted recording kind draft (state_of (S.content text.now.store) text.now.anchors.items log)
+        outlineed recording kind outline (state_of (S.content text.now.store) text.now.anchors.items log)
         ≡ removed_span recording kind from to (state_of (S.content text.now.store) text.now.anchors.items log)) }
 {
-    let mut draft = Draft::new(alloc, text, room)?;
+    let mut outline = Outline::new(alloc, text, room)?;
     if from == to {
-        return Ok(draft);
+        return Ok(outline);
     }
     let store = &text.store;
     let taken = kept_text(alloc, store, Span { from, to }, keeps)?;
     let next = line_behind(store, to) - (to - from);
-    draft.remove(from, to, taken, line_at(store, from), next)?;
-    Ok(draft)
+    outline.remove(from, to, taken, line_at(store, from), next)?;
+    Ok(outline)
 }
 
 /// The place of a mark that stands before a character that is replaced by so many.
@@ -72,37 +72,37 @@ fn clipped(place: Option<Place>, from: usize, to: usize, count: usize) -> Option
 
 /// The edit that puts texts in the place of the characters from one offset to another, and clips a mark, with the texts
 /// of its actions where these are to be kept.
-fn draft_replace<S: TextStore>(
+fn outline_replace<S: TextStore>(
     alloc: Global,
     text: &EditedText<S>,
     from: usize,
     to: usize,
-    pieces: Vec<Piece>,
+    pieces: Vec<SlottedText>,
     mark: MarkNo,
     keeps: bool,
-) -> Result<Draft, AllocError>
+) -> Result<Outline, AllocError>
     requires ordered { from ≤ to }
     requires within { to < length (S.content text.now.store).cells }
     requires stand { All (AnchorsStand (length (S.content text.now.store).cells)) text.now.anchors.items }
     requires room { length (S.content text.now.store).cells - (to - from) + total pieces.items < 2 ^ 64 }
-    ensures widgets { IfOk result (λ draft. length draft.anchors ≡ length text.now.anchors.items) }
-    ensures fits { IfOk result (λ draft. Fits draft.steps (S.content text.now.store)) }
-    ensures makes { IfOk result (λ draft. (recording : Recording) (log : Log) →
+    ensures widgets { IfOk result (λ outline. length outline.anchors ≡ length text.now.anchors.items) }
+    ensures fits { IfOk result (λ outline. Fits outline.steps (S.content text.now.store)) }
+    ensures makes { IfOk result (λ outline. (recording : Recording) (log : Log) →
         (recording.undo ≡ true → keeps ≡ true) →
-        drafted recording EditKind.Replace draft (state_of (S.content text.now.store) text.now.anchors.items log)
+        outlineed recording EditKind.Replace outline (state_of (S.content text.now.store) text.now.anchors.items log)
         ≡ replaced_span recording mark.0 from to pieces.items
         (state_of (S.content text.now.store) text.now.anchors.items log)) }
 {
-    let mut draft = draft_removal(alloc, text, from, to, pieces.len() + 2, keeps)?;
+    let mut outline = outline_removal(alloc, text, from, to, pieces.len() + 2, keeps)?;
     let store = &text.store;
     let len = store.len() - (to - from);
     let (before, behind) = slots_beside(store, from, to, needs_shared(&pieces));
-    let end = draft.insert_pieces(from, pieces, before, &behind, len, keeps)?;
+    let end = outline.insert_pieces(from, pieces, before, &behind, len, keeps)?;
     match clipped(store.mark_place(mark), from, to, end - from) {
         None => {}
-        Some(place) => draft.put_mark(mark, place)?,
+        Some(place) => outline.put_mark(mark, place)?,
     }
-    Ok(draft)
+    Ok(outline)
 }
 
 /// A plan that puts texts in the place of the characters from one offset to another, where both are cut to the last
@@ -113,7 +113,7 @@ pub fn plan_replace<S: TextStore>(
     rules: &EditRules<'_>,
     text: &mut EditedText<S>,
     target: Target,
-    pieces: Vec<Piece>,
+    pieces: Vec<SlottedText>,
 ) -> Result<Plan<S>, EditFault>
     requires within { target.last < length (S.content text.old.store).cells }
     requires stand { All (AnchorsStand (length (S.content text.old.store).cells)) text.old.anchors.items }
@@ -124,7 +124,7 @@ pub fn plan_replace<S: TextStore>(
         - (min target.to target.last - min target.from target.last) + total pieces.items)) }
     ensures ready { IfOk result (λ plan. S.ready text.new.store plan.prepared) }
     ensures room { IfOk result (λ plan. HasRoomFor plan.effects text.new.history) }
-    ensures widgets { IfOk result (λ plan. length (anchors_left plan.effects text.old.anchors.items) ≡ length text.old.anchors.items) }
+    ensures widgets { IfOk result (λ plan. KeepsWidgets plan.effects text.old.anchors.items) }
     ensures outcome { IfOk result (λ plan.
         planned plan.effects (S.outcome text.new.store plan.prepared) text.old.anchors.items (log_of text.old.history)
         ≡ replaced rules.now.recording target.mark.0 target.last target.from target.to pieces.items
@@ -139,6 +139,6 @@ pub fn plan_replace<S: TextStore>(
         return Err(EditFault::TextTooLong);
     }
     let keeps = rules.recording.undo;
-    let draft = draft_replace(rules.alloc, text, from, to, pieces, target.mark, keeps)?;
-    Ok(prepare(text, draft, EditKind::Replace, rules.recording)?)
+    let outline = outline_replace(rules.alloc, text, from, to, pieces, target.mark, keeps)?;
+    Ok(prepare(text, outline, EditKind::Replace, rules.recording)?)
 }

@@ -3,7 +3,7 @@ ghost use Rattle.std.specs.Prelude.{IsSome, IfSome, true, false, if◌then◌els
 ghost use Rattle.std.specs.Prelude.{option_and_then};
 ghost use Rattle.std.specs.List.{All};
 ghost use Rattle.edit_ops.specs.Anchors.{AnchorsStand};
-ghost use Rattle.edit_ops.specs.Plans.{anchors_left, planned, HasRoomFor};
+ghost use Rattle.edit_ops.specs.Plans.{anchors_left, planned, HasRoomFor, KeepsWidgets};
 ghost use Rattle.edit_ops.specs.Replays.{Follows, drawn_up, replays, replayed_group};
 ghost use Rattle.edit_ops.specs.Reversals.{put_back, taken_back, action_redone, group_redone, redo_end, stood, undone};
 ghost use Rattle.edit_ops.specs.Reversals.{redone};
@@ -13,10 +13,10 @@ ghost use Rattle.text_model.specs.Steps.{Fits, after};
 ghost use Rattle.text_model.specs.declared.places.Place.{Place};
 ghost use Rattle.undo_stack.specs.Fits.{repeated_group, FitsText};
 
-use crate::drafts::Draft;
 use crate::faults::EditFault;
 use crate::insertions::count_of;
 use crate::orders::put_in_order;
+use crate::outlines::Outline;
 use crate::plans::{Effects, Notes, Plan, prepare_steps};
 use crate::texts::EditedText;
 use std::alloc::{AllocError, Global};
@@ -56,7 +56,7 @@ fn stood(place: Option<Place>, end: Option<usize>) -> Option<Place>
     })
 }
 
-impl Draft {
+impl Outline {
     /// Puts a text of so many characters back at an offset, with the slots that the characters on both sides share.
     fn put_back<S: TextStore>(
         &mut self,
@@ -174,7 +174,7 @@ impl Draft {
     }
 }
 
-impl Draft {
+impl Outline {
     /// Puts the mark of a number, if there is one, where a group ended, if it ended somewhere.
     fn put_end<S: TextStore>(
         &mut self,
@@ -198,75 +198,75 @@ impl Draft {
 }
 
 /// The edit that makes a group once more, or, back, reverts it, and puts the mark of a number where that ends.
-fn draft_group<S: TextStore>(
+fn outline_group<S: TextStore>(
     alloc: Global,
     text: &EditedText<S>,
     group: &Group<'_>,
     back: bool,
     mark: MarkNo,
     limit: usize,
-) -> Result<Draft, AllocError>
+) -> Result<Outline, AllocError>
     requires stand { All (AnchorsStand (length (S.content text.now.store).cells)) text.now.anchors.items }
     requires fits { IsSome (repeated_group limit (replays back group.now)
         (characters (S.content text.now.store).cells)) }
-    ensures fits { IfOk result (λ draft. Fits draft.steps (S.content text.now.store)) }
-    ensures makes { IfOk result (λ draft. (log : Log) → drawn_up draft (S.content text.now.store) log
+    ensures fits { IfOk result (λ outline. Fits outline.steps (S.content text.now.store)) }
+    ensures makes { IfOk result (λ outline. (log : Log) → drawn_up outline (S.content text.now.store) log
         ≡ replayed_group mark.0 (Some (replays back group.now))
         (state_of (S.content text.now.store) text.now.anchors.items log)) }
 {
     let room = group.len().saturating_add(1);
-    let mut draft = Draft::new(alloc, text, room)?;
+    let mut outline = Outline::new(alloc, text, room)?;
     let store = &text.store;
     let mut cursor = Cursor::new(alloc, store.len(), room.saturating_mul(2))?;
-    let end = draft.replay_all(store, &mut cursor, group, back, limit)?;
-    draft.put_end(store, mark, end)?;
-    Ok(draft)
+    let end = outline.replay_all(store, &mut cursor, group, back, limit)?;
+    outline.put_end(store, mark, end)?;
+    Ok(outline)
 }
 
 /// The same, if there is a group; else an edit that does nothing.
-fn draft_reversal<S: TextStore>(
+fn outline_reversal<S: TextStore>(
     alloc: Global,
     text: &EditedText<S>,
     group: Option<Group<'_>>,
     back: bool,
     mark: MarkNo,
     limit: usize,
-) -> Result<Draft, AllocError>
+) -> Result<Outline, AllocError>
     requires stand { All (AnchorsStand (length (S.content text.now.store).cells)) text.now.anchors.items }
     requires fits { IfSome group (λ group.
         IsSome (repeated_group limit (replays back group) (characters (S.content text.now.store).cells))) }
-    ensures fits { IfOk result (λ draft. Fits draft.steps (S.content text.now.store)) }
-    ensures makes { IfOk result (λ draft. (log : Log) → drawn_up draft (S.content text.now.store) log
+    ensures fits { IfOk result (λ outline. Fits outline.steps (S.content text.now.store)) }
+    ensures makes { IfOk result (λ outline. (log : Log) → drawn_up outline (S.content text.now.store) log
         ≡ replayed_group mark.0 (option_map (replays back) group.entry)
         (state_of (S.content text.now.store) text.now.anchors.items log)) }
 {
     match group {
-        None => Draft::new(alloc, text, 0),
-        Some(group) => draft_group(alloc, text, &group, back, mark, limit),
+        None => Outline::new(alloc, text, 0),
+        Some(group) => outline_group(alloc, text, &group, back, mark, limit),
     }
 }
 
 /// A plan of an edit, with what it does to the history.
 fn plan_reversal<S: TextStore>(
     text: &mut EditedText<S>,
-    draft: Draft,
+    outline: Outline,
     notes: Notes,
 ) -> Result<Plan<S>, EditFault>
-    requires { Fits draft.steps (S.content text.old.store) }
+    requires { Fits outline.steps (S.content text.old.store) }
     ensures same { IsUnchanged S.content text.old text.new }
     ensures refused { IfErr result (λ fault. fault ≡ EditFault.Memory) }
     ensures ready { IfOk result (λ plan. S.ready text.new.store plan.prepared) }
     ensures notes { IfOk result (λ plan. option_map (λ effects. effects.notes) plan.effects ≡ Some notes) }
     ensures outcome { IfOk result (λ plan. (log : Log) →
         state_of (S.outcome text.new.store plan.prepared) (anchors_left plan.effects text.old.anchors.items) log
-        ≡ drawn_up draft (S.content text.old.store) log) }
+        ≡ drawn_up outline (S.content text.old.store) log) }
 {
-    let Draft {
+    let Outline {
         alloc,
         steps,
         anchors,
         ..
-    } = draft;
+    } = outline;
     let steps = put_in_order(alloc, steps)?;
     Ok(prepare_steps(text, steps, Some(Effects { anchors, notes }))?)
 }
@@ -288,14 +288,14 @@ pub fn plan_undo<S: TextStore>(
     ensures refused { IfErr result (λ fault. fault ≡ EditFault.Memory) }
     ensures ready { IfOk result (λ plan. S.ready text.new.store plan.prepared) }
     ensures room { IfOk result (λ plan. HasRoomFor plan.effects text.new.history) }
-    ensures widgets { IfOk result (λ plan. length (anchors_left plan.effects text.old.anchors.items) ≡ length text.old.anchors.items) }
+    ensures widgets { IfOk result (λ plan. KeepsWidgets plan.effects text.old.anchors.items) }
     ensures outcome { IfOk result (λ plan.
         planned plan.effects (S.outcome text.new.store plan.prepared) text.old.anchors.items (log_of text.old.history)
         ≡ undone mark.0 (state_in S.content text.old)) }
 {
     let group = text.history.last_undo();
-    let draft = draft_reversal(alloc, text, group, true, mark, limits.chars())?;
-    let plan = plan_reversal(text, draft, Notes::Undone)?;
+    let outline = outline_reversal(alloc, text, group, true, mark, limits.chars())?;
+    let plan = plan_reversal(text, outline, Notes::Undone)?;
     Ok(plan)
 }
 
@@ -314,13 +314,13 @@ pub fn plan_redo<S: TextStore>(
     ensures refused { IfErr result (λ fault. fault ≡ EditFault.Memory) }
     ensures ready { IfOk result (λ plan. S.ready text.new.store plan.prepared) }
     ensures room { IfOk result (λ plan. HasRoomFor plan.effects text.new.history) }
-    ensures widgets { IfOk result (λ plan. length (anchors_left plan.effects text.old.anchors.items) ≡ length text.old.anchors.items) }
+    ensures widgets { IfOk result (λ plan. KeepsWidgets plan.effects text.old.anchors.items) }
     ensures outcome { IfOk result (λ plan.
         planned plan.effects (S.outcome text.new.store plan.prepared) text.old.anchors.items (log_of text.old.history)
         ≡ redone mark.0 (state_in S.content text.old)) }
 {
     let group = text.history.last_redo();
-    let draft = draft_reversal(alloc, text, group, false, mark, limits.chars())?;
-    let plan = plan_reversal(text, draft, Notes::Redone)?;
+    let outline = outline_reversal(alloc, text, group, false, mark, limits.chars())?;
+    let plan = plan_reversal(text, outline, Notes::Redone)?;
     Ok(plan)
 }

@@ -7,7 +7,7 @@ use Rattle.std.proofs.lemmas.Slice.Eq.{bytes_eq-Decides}
 use Rattle.index_grammar.specs.Grammar.{Token, modifiers_of, before, counted, number_of, saturated_modifier, keyword_of}
 use Rattle.index_grammar.specs.Grammar.{abbreviates}
 use Rattle.index_grammar.specs.Grammar.Token.{Sign, Digits, Word}
-use Rattle.index_grammar.specs.Pieces.{digits_first, unit_first}
+use Rattle.index_grammar.specs.LentTokens.{digits_first, unit_first}
 use Rattle.index_grammar.specs.Steps.{saturated, after}
 use Rattle.index_grammar.specs.declared.indices.Modifier.{Modifier}
 use Rattle.index_grammar.specs.declared.indices.Modifier.TheVariants as modifier

@@ -2,6 +2,6 @@ pub mod Characters
 pub mod Fronts
 pub mod Grammar
 pub mod Names
-pub mod Pieces
+pub mod LentTokens
 pub mod Reading
 pub mod Steps

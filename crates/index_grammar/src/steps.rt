@@ -2,14 +2,15 @@ ghost use Rattle.std.specs.Prelude.{◌≡◌, ◌≢◌, ◌≤◌, ◌+◌, �
 ghost use Rattle.std.specs.Prelude.{option_map};
 ghost use Rattle.index_grammar.specs.Grammar.{abbreviates, unit_of, keyword_of, tokens_of, modifiers_of};
 ghost use Rattle.index_grammar.specs.Grammar as grammar;
-ghost use Rattle.index_grammar.specs.Pieces.{token_of, piece_len, digits_first, word_first, unit_first, bytes_first};
+ghost use Rattle.index_grammar.specs.LentTokens.{token_of, piece_len};
+ghost use Rattle.index_grammar.specs.LentTokens.{digits_first, word_first, unit_first, bytes_first};
 ghost use Rattle.index_grammar.specs.Steps.{saturated, stepped};
 ghost use Rattle.index_grammar.specs.declared.faults.IndexFault.TheVariants.{Memory, BadIndex};
 
 use crate::faults::IndexFault;
 use crate::indices::{Modifier, Modifiers, Unit};
 use crate::numbers::read_number;
-use crate::tokens::{Piece, next_piece};
+use crate::tokens::{LentToken, next_piece};
 use std::alloc::Global;
 
 /// Whether a word is a front of another of so many bytes at least.
@@ -72,7 +73,7 @@ fn next_digits(text: &[u8]) -> Option<(&[u8], &[u8])>
     ensures bound { IfSome result (λ found. length found.1.now + 1 ≤ length text.now) }
 {
     match next_piece(text)? {
-        (Piece::Digits(digits), rest) => Some((digits, rest)),
+        (LentToken::Digits(digits), rest) => Some((digits, rest)),
         _ => None,
     }
 }
@@ -83,7 +84,7 @@ fn next_word(text: &[u8]) -> Option<(&[u8], &[u8])>
     ensures bound { IfSome result (λ found. length found.1.now + 1 ≤ length text.now) }
 {
     match next_piece(text)? {
-        (Piece::Word(word), rest) => Some((word, rest)),
+        (LentToken::Word(word), rest) => Some((word, rest)),
         _ => None,
     }
 }
@@ -112,14 +113,14 @@ fn read_counted(is_plus: bool, text: &[u8]) -> Option<(Modifier, &[u8])>
 }
 
 /// The first modifier of a text after its first piece, and what stands behind it.
-fn read_step<'a>(first: Piece<'a>, text: &'a [u8]) -> Option<(Modifier, &'a [u8])>
+fn read_step<'a>(first: LentToken<'a>, text: &'a [u8]) -> Option<(Modifier, &'a [u8])>
     ensures value { saturated (modifiers_of (token_of first.entry ∷ tokens_of text.now)) ≡ stepped result }
     ensures bound { IfSome result (λ found. length found.1.now + 3 ≤ piece_len first.entry + length text.now) }
 {
     match first {
-        Piece::Sign(is_plus) => read_counted(is_plus, text),
-        Piece::Word(word) => Some((read_keyword(word)?, text)),
-        Piece::Digits(_) => None,
+        LentToken::Sign(is_plus) => read_counted(is_plus, text),
+        LentToken::Word(word) => Some((read_keyword(word)?, text)),
+        LentToken::Digits(_) => None,
     }
 }
 

@@ -3,11 +3,11 @@ ghost use Rattle.std.specs.List.{prefix_len};
 ghost use Rattle.std.specs.Char.{is_ascii_digit};
 ghost use Rattle.index_grammar.specs.Characters.{is_blank, is_sign, is_break, closes};
 ghost use Rattle.index_grammar.specs.Grammar.{tokens_of};
-ghost use Rattle.index_grammar.specs.Pieces.{before_rest, piece_len};
+ghost use Rattle.index_grammar.specs.LentTokens.{before_rest, piece_len};
 
 /// What an index is made of behind its base, without the blanks.
 #[derive(Clone, Copy)]
-pub(crate) enum Piece<'a> {
+pub(crate) enum LentToken<'a> {
     /// `+` (true) or `-`.
     Sign(bool),
     Digits(&'a [u8]),
@@ -104,7 +104,7 @@ fn skip_blanks(text: &[u8]) -> &[u8]
 }
 
 /// The first piece of a text, and what stands behind it.
-pub(crate) fn next_piece(text: &[u8]) -> Option<(Piece<'_>, &[u8])>
+pub(crate) fn next_piece(text: &[u8]) -> Option<(LentToken<'_>, &[u8])>
     ensures value { tokens_of text.now ≡ before_rest result }
     ensures bound { IfSome result (λ found. length found.1.now < length text.now) }
     ensures taken { IfSome result (λ found. piece_len found.0 + length found.1.now ≤ length text.now) }
@@ -113,12 +113,12 @@ pub(crate) fn next_piece(text: &[u8]) -> Option<(Piece<'_>, &[u8])>
     let first = *text.first()?;
     if is_sign(first) {
         let (_, rest) = text.split_at(1);
-        return Some((Piece::Sign(first == b'+'), rest));
+        return Some((LentToken::Sign(first == b'+'), rest));
     }
     if first.is_ascii_digit() {
         let (digits, rest) = text.split_at(digits(text));
-        return Some((Piece::Digits(digits), rest));
+        return Some((LentToken::Digits(digits), rest));
     }
     let (word, rest) = text.split_at(unbroken(text));
-    Some((Piece::Word(word), rest))
+    Some((LentToken::Word(word), rest))
 }

@@ -25,7 +25,7 @@ use Rattle.line_lists.specs.Drafts.{tags_after, used}
 use Rattle.line_lists.specs.Edits.{with_cleared}
 use Rattle.line_lists.specs.Lists.{AreRows, has_toggle, next_line}
 use Rattle.line_lists.specs.Texts.{whole}
-use Rattle.line_lists.specs.Toggling.{cleared, tags_behind}
+use Rattle.line_lists.specs.Toggling.{cleared, tags_left_of}
 use Rattle.line_lists.proofs.DraftLaws.{behind-whole, copies-snoc, drafted-append, last_is, last_same, length-whole}
 use Rattle.line_lists.proofs.DraftLaws.{stop_of}
 use Rattle.line_lists.proofs.DraftLaws.{no_last, none_at, take-more, used-append}
@@ -50,46 +50,46 @@ take-around before behind line offset column place inside =
 
 pub tags-around : (before behind old : List LineContent) (line : LineContent) (offset column : ℕ) →
     before ++ line ∷ behind ≡ old → offset ≡ length (whole before).columns + column → column ≤ length line.columns
-    → tags_behind (take offset (whole old).columns)
-    ≡ differing (tags_behind (whole before).columns) (tags_behind (take column line.columns))
+    → tags_left_of (take offset (whole old).columns)
+    ≡ differing (tags_left_of (whole before).columns) (tags_left_of (take column line.columns))
 tags-around before behind old line offset column old_is place inside =
-    ap (λ lines. tags_behind (take offset (whole lines).columns)) (sym old_is)
-    ∙ ap tags_behind (take-around before behind line offset column place inside)
+    ap (λ lines. tags_left_of (take offset (whole lines).columns)) (sym old_is)
+    ∙ ap tags_left_of (take-around before behind line offset column place inside)
     ∙ behind-append (whole before).columns (take column line.columns)
 
 -- the slots that are on where the line of a copy begins
 pub tags-before : (lines : List LineContent) (copies : List Copied) (reached : Reached) (copy : Copied) →
     IsReached reached copies lines
-    → tags_behind (whole (lines_before copies copy lines)).columns
-    ≡ differing (tags_behind (whole (made_lines copies lines)).columns)
-    (tags_behind (whole (take copy.kept (drop reached.used lines))).columns)
+    → tags_left_of (whole (lines_before copies copy lines)).columns
+    ≡ differing (tags_left_of (whole (made_lines copies lines)).columns)
+    (tags_left_of (whole (take copy.kept (drop reached.used lines))).columns)
 tags-before lines copies reached copy is =
-    let before = tags_behind (whole (made_lines copies lines)).columns in
+    let before = tags_left_of (whole (made_lines copies lines)).columns in
     behind-whole (made_lines copies lines) (take copy.kept (drop (used copies) lines))
-    ∙ ap (λ n. differing before (tags_behind (whole (take copy.kept (drop n lines))).columns)) (sym is.used)
+    ∙ ap (λ n. differing before (tags_left_of (whole (take copy.kept (drop n lines))).columns)) (sym is.used)
 
 -- of a line that stands in a draft
 tags-stands : (lines old : List LineContent) (front : List Stop) (back : List Copied) (reached : Reached)
     (copy : Copied) (offset column : ℕ) → IsReached reached (copies_of front) lines
     → taken_lines lines front back copy ≡ old → StandsAt lines front copy offset column
-    → tags_behind (take offset (whole old).columns)
+    → tags_left_of (take offset (whole old).columns)
     ≡ differing (differing (tags_after lines front)
-    (tags_behind (whole (take copy.kept (drop reached.used lines))).columns))
-    (tags_behind (take column copy.line.columns))
+    (tags_left_of (whole (take copy.kept (drop reached.used lines))).columns))
+    (tags_left_of (take column copy.line.columns))
 tags-stands lines old front back reached copy offset column is same stands =
     let copies = copies_of front in
     tags-around (lines_before copies copy lines) (lines_behind copies copy back lines) old copy.line offset column same
     stands.place (omega (arith, stands.inside))
-    ∙ ap (λ slots. differing slots (tags_behind (take column copy.line.columns)))
+    ∙ ap (λ slots. differing slots (tags_left_of (take column copy.line.columns)))
     (tags-before lines copies reached copy is)
 
 -- in the line of the last copy before the place
 pub copied-tags : (lines : List LineContent) (before : List Stop) (back : List Copied) (stop : Stop) (offset column : ℕ)
     → IsReached stop.reached (copies_of before) lines → StandsAt lines before stop.copy offset column
-    → tags_behind (take offset (whole (drafted_at lines (before ++ stop ∷ []) back)).columns)
+    → tags_left_of (take offset (whole (drafted_at lines (before ++ stop ∷ []) back)).columns)
     ≡ differing (differing (tags_after lines before)
-    (tags_behind (whole (take stop.copy.kept (drop stop.reached.used lines))).columns))
-    (tags_behind (take column stop.copy.line.columns))
+    (tags_left_of (whole (take stop.copy.kept (drop stop.reached.used lines))).columns))
+    (tags_left_of (take column stop.copy.line.columns))
 copied-tags lines before back stop offset column is stands =
     tags-stands lines (drafted_at lines (before ++ stop ∷ []) back) before back stop.reached stop.copy offset column is
     (sym (taken-is lines before back stop)) stands
@@ -128,10 +128,10 @@ module _ (lines : List LineContent) (front : List Stop) (reached : Reached) (off
 
     tags : (back : List Copied) (last : Option Copied) → last ≡ slice_get back (length back - 1) →
         BeginsBehind lines offset front back
-        → tags_behind (take offset (whole (drafted_at lines front back)).columns)
+        → tags_left_of (take offset (whole (drafted_at lines front back)).columns)
         ≡ differing (differing (tags_after lines front)
-        (tags_behind (whole (take (line - reached.used) (drop reached.used lines))).columns))
-        (tags_behind (take column here.columns))
+        (tags_left_of (whole (take (line - reached.used) (drop reached.used lines))).columns))
+        (tags_left_of (take column here.columns))
     tags back None last ahead =
         let none = no_last back last in
         let same = opened-rest lines front copy_here refl (found-line lines front reached line here is find.first get)
@@ -150,10 +150,10 @@ module _ (lines : List LineContent) (front : List Stop) (reached : Reached) (off
         same stands
 
     pub kept-tags : (back : List Copied) → BeginsBehind lines offset front back
-        → tags_behind (take offset (whole (drafted_at lines front back)).columns)
+        → tags_left_of (take offset (whole (drafted_at lines front back)).columns)
         ≡ differing (differing (tags_after lines front)
-        (tags_behind (whole (take (line - reached.used) (drop reached.used lines))).columns))
-        (tags_behind (take column here.columns))
+        (tags_left_of (whole (take (line - reached.used) (drop reached.used lines))).columns))
+        (tags_left_of (take column here.columns))
     kept-tags back ahead = tags back (slice_get back (length back - 1)) refl ahead
 
 -- ---- a slot is toggled nowhere in a part

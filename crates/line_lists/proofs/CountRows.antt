@@ -9,7 +9,7 @@ use Rattle.toggle_sums.proofs.ToggleLaws.{presence-append}
 use Rattle.segments.specs.Columns.{Column, LineContent, line_count, toggles}
 use Rattle.line_lists.specs.Lists.{IsCounted, count_of}
 use Rattle.line_lists.specs.Texts.{whole}
-use Rattle.line_lists.specs.Toggling.{tags_behind}
+use Rattle.line_lists.specs.Toggling.{tags_left_of}
 use Rattle.line_lists.proofs.TagLaws.{behind-append}
 
 pub count-append : (xs ys : List LineContent) → count_of (xs ++ ys) ≡ plus (count_of xs) (count_of ys)
@@ -26,9 +26,9 @@ count-characters [] = refl
 count-characters (line ∷ lines) =
     ap (λ n. length line.columns + n) (count-characters lines) ∙ sym (length-append line.columns (whole lines).columns)
 
-pub count-parity : (lines : List LineContent) → (count_of lines).parity ≡ tags_behind (whole lines).columns
+pub count-parity : (lines : List LineContent) → (count_of lines).parity ≡ tags_left_of (whole lines).columns
 count-parity [] = refl
-count-parity (line ∷ lines) = ap (differing (tags_behind line.columns)) (count-parity lines)
+count-parity (line ∷ lines) = ap (differing (tags_left_of line.columns)) (count-parity lines)
     ∙ sym (behind-append line.columns (whole lines).columns)
 
 map-row : (xs ys : List Column) → toggles (xs ++ ys) ≡ toggles xs ++ toggles ys

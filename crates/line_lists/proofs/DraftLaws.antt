@@ -14,7 +14,7 @@ use Rattle.line_lists.specs.Drafts.{IsStop, copies_of, covered, drafted, in_orde
 use Rattle.line_lists.specs.Drafts.{used}
 use Rattle.line_lists.specs.Lists.{IsCounted, count_of}
 use Rattle.line_lists.specs.Texts.{whole}
-use Rattle.line_lists.specs.Toggling.{tags_behind}
+use Rattle.line_lists.specs.Toggling.{tags_left_of}
 use Rattle.line_lists.proofs.CountRows.{count-append, count-characters, count-parity}
 use Rattle.line_lists.proofs.SlotLaws.{differing-again}
 use Rattle.line_lists.proofs.StepLaws.{take-slice}
@@ -132,9 +132,9 @@ pub length-whole : (xs ys : List LineContent) → length (whole (xs ++ ys)).colu
 length-whole xs ys = ap (λ (line : LineContent). length line.columns) (whole-append xs ys)
     ∙ length-append (whole xs).columns (whole ys).columns
 
-pub behind-whole : (xs ys : List LineContent) → tags_behind (whole (xs ++ ys)).columns
-    ≡ differing (tags_behind (whole xs).columns) (tags_behind (whole ys).columns)
-behind-whole xs ys = ap (λ (line : LineContent). tags_behind line.columns) (whole-append xs ys)
+pub behind-whole : (xs ys : List LineContent) → tags_left_of (whole (xs ++ ys)).columns
+    ≡ differing (tags_left_of (whole xs).columns) (tags_left_of (whole ys).columns)
+behind-whole xs ys = ap (λ (line : LineContent). tags_left_of line.columns) (whole-append xs ys)
     ∙ behind-append (whole xs).columns (whole ys).columns
 
 -- the lines from one on, so many of them, by what is counted before them and behind them
@@ -154,7 +154,7 @@ counted-between n k lines =
 
 pub parity-between : (n k : ℕ) (lines : List LineContent)
     → differing (count_of (take n lines)).parity (count_of (take (n + k) lines)).parity
-    ≡ tags_behind (whole (take k (drop n lines))).columns
+    ≡ tags_left_of (whole (take k (drop n lines))).columns
 parity-between n k lines =
     let part = take k (drop n lines) in
     let before = (count_of (take n lines)).parity in

@@ -14,7 +14,7 @@ use Rattle.line_lists.specs.declared.drafts.Stop.{Stop}
 use Rattle.line_lists.specs.Drafts.{AreStops, IsBefore, IsDraft, IsKnown, IsReached, copies_of, copy_tags, covered}
 use Rattle.line_lists.specs.Drafts.{made_lines, tags_after, used}
 use Rattle.line_lists.specs.Texts.{whole}
-use Rattle.line_lists.specs.Toggling.{tags_behind}
+use Rattle.line_lists.specs.Toggling.{tags_left_of}
 use Rattle.line_lists.proofs.DraftLaws.{behind-whole, copies-snoc, made-snoc, used-append}
 use Rattle.line_lists.proofs.SlotLaws.{differing-back}
 use Rattle.line_lists.proofs.WholeLaws.{whole-one}
@@ -58,12 +58,12 @@ pub draft-there : (lines : List LineContent) (front : List Stop) (back : List Co
 draft-there lines front back draft = omega (arith, used-append (copies_of front) (reverse back), draft.there)
 
 pub copy-tags : (lines : List LineContent) (stop : Stop) → copy_tags lines stop
-    ≡ differing (tags_behind (whole (take stop.copy.kept (drop stop.reached.used lines))).columns)
-    (tags_behind stop.copy.line.columns)
+    ≡ differing (tags_left_of (whole (take stop.copy.kept (drop stop.reached.used lines))).columns)
+    (tags_left_of stop.copy.line.columns)
 copy-tags lines stop =
     let kept = take stop.copy.kept (drop stop.reached.used lines) in
     behind-whole kept (stop.copy.line ∷ [])
-    ∙ ap (λ (line : LineContent). differing (tags_behind (whole kept).columns) (tags_behind line.columns))
+    ∙ ap (λ (line : LineContent). differing (tags_left_of (whole kept).columns) (tags_left_of line.columns))
     (whole-one stop.copy.line)
 
 -- one copy more
@@ -75,11 +75,11 @@ tags-next lines stops n stop are is =
     let copies = copies_of before in
     let reached = stops-at lines [] stops n stop are is in
     ap (tags_after lines) (take-next stops n stop is)
-    ∙ ap (λ xs. tags_behind (whole (made_lines xs lines)).columns) (copies-snoc before stop)
-    ∙ ap (λ xs. tags_behind (whole xs).columns) (made-snoc copies stop.copy lines)
+    ∙ ap (λ xs. tags_left_of (whole (made_lines xs lines)).columns) (copies-snoc before stop)
+    ∙ ap (λ xs. tags_left_of (whole xs).columns) (made-snoc copies stop.copy lines)
     ∙ behind-whole (made_lines copies lines) (take stop.copy.kept (drop (used copies) lines) ++ stop.copy.line ∷ [])
     ∙ ap (λ m. differing (tags_after lines before)
-    (tags_behind (whole (take stop.copy.kept (drop m lines) ++ stop.copy.line ∷ [])).columns)) (sym reached.used)
+    (tags_left_of (whole (take stop.copy.kept (drop m lines) ++ stop.copy.line ∷ [])).columns)) (sym reached.used)
 
 next_of : (m n : ℕ) → m ≡ n + 1 → m ≡ suc n
 next_of m n is = omega (arith, is)

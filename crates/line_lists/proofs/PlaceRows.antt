@@ -7,7 +7,7 @@ use Rattle.std.proofs.Math.Seq.{take-append-add}
 use Rattle.std.proofs.lemmas.List.{length-map, take-append-le, take-map}
 use Rattle.std.proofs.lemmas.Option.{get_or_from_slice_get, slice_get-map}
 use Rattle.text_model.specs.declared.cells.Cell.{Cell}
-use Rattle.text_model.specs.Content.{Slots, flags, slot_sets, slots_behind}
+use Rattle.text_model.specs.Content.{Slots, flags, slot_sets, slots_left_of}
 use Rattle.text_model.specs.Content.{characters as cell_characters}
 use Rattle.text_model.specs.SlotSets.{differing}
 use Rattle.toggle_sums.specs.CountLaws.{empty-differing}
@@ -16,7 +16,7 @@ use Rattle.toggle_sums.proofs.ToggleLaws.{tags_by_parity}
 use Rattle.segments.specs.Columns.{Column, LineContent, characters, tags_before, toggles}
 use Rattle.line_lists.specs.Lists.{Holds, count_of}
 use Rattle.line_lists.specs.Texts.{cells_from, cells_of_columns, content_of, whole}
-use Rattle.line_lists.specs.Toggling.{tags_behind}
+use Rattle.line_lists.specs.Toggling.{tags_left_of}
 use Rattle.line_lists.proofs.CountRows.{count-characters, count-parity}
 use Rattle.line_lists.proofs.TagLaws.{behind-append}
 use Rattle.line_lists.proofs.WholeLaws.{between, whole-append}
@@ -73,22 +73,22 @@ tags-column columns at within =
     ∙ ap parity (take-map (λ (column : Column). column.toggled) (at + 1) columns))
 
 pub tags-middle : (front middle back : List Column) (at : ℕ) → at < length middle →
-    tags_before (length front + at) (front ++ (middle ++ back)) ≡ differing (tags_behind front) (tags_before at middle)
+    tags_before (length front + at) (front ++ (middle ++ back)) ≡ differing (tags_left_of front) (tags_before at middle)
 tags-middle front middle back at within =
     let same : (length front + at) + 1 ≡ length front + (at + 1) = omega arith in
-    ap (λ n. tags_behind (take n (front ++ (middle ++ back)))) same
-    ∙ ap tags_behind (take-append-add front (middle ++ back) (at + 1)
+    ap (λ n. tags_left_of (take n (front ++ (middle ++ back)))) same
+    ∙ ap tags_left_of (take-append-add front (middle ++ back) (at + 1)
     ∙ ap (λ part. front ++ part) (take-append-le (at + 1) middle back (omega arith)))
     ∙ behind-append front (take (at + 1) middle)
 
 -- and those of the last of the cells before a place are those toggled an odd number of times before the place
 pub tags-behind : (columns : List Column) (at : ℕ) → at ≤ length columns →
-    slots_behind at (cells_of_columns columns) ≡ tags_behind (take at columns)
+    slots_left_of at (cells_of_columns columns) ≡ tags_left_of (take at columns)
 tags-behind columns zero within = refl
 tags-behind columns (suc n) within =
     get_or_from_slice_get (slot_sets (cells_of_columns columns)) n (tags_before n columns) set.empty
     (tags-column columns n (omega (arith, within)))
-    ∙ ap (λ k. tags_behind (take k columns)) (add-one n)
+    ∙ ap (λ k. tags_left_of (take k columns)) (add-one n)
 
 -- ---- lines in a row
 pub whole-at : (lines : List LineContent) (k : ℕ) (line : LineContent) → slice_get lines k ≡ Some line
@@ -164,8 +164,8 @@ tags-at lines offset k column line holds is =
 -- the slots of the last of the cells before an offset
 pub tags-before : (lines : List LineContent) (offset k column : ℕ) (line : LineContent) →
     Holds lines offset k column → slice_get lines k ≡ Some line
-    → slots_behind offset (content_of lines).cells
-    ≡ differing (count_of (take k lines)).parity (tags_behind (take column line.columns))
+    → slots_left_of offset (content_of lines).cells
+    ≡ differing (count_of (take k lines)).parity (tags_left_of (take column line.columns))
 tags-before lines offset k column line holds is =
     let within = inside lines offset k column line holds is in
     let front = (whole (take k lines)).columns in
@@ -177,12 +177,12 @@ tags-before lines offset k column line holds is =
       length-append line.columns back,
       within,
     ) in
-    ap₂ (λ columns at. slots_behind at (cells_of_columns columns)) row holds.behind
+    ap₂ (λ columns at. slots_left_of at (cells_of_columns columns)) row holds.behind
     ∙ tags-behind (front ++ (line.columns ++ back)) (length front + column) long
-    ∙ ap tags_behind (take-append-add front (line.columns ++ back) column
+    ∙ ap tags_left_of (take-append-add front (line.columns ++ back) column
     ∙ ap (λ part. front ++ part) (take-append-le column line.columns back (omega (arith, within))))
     ∙ behind-append front (take column line.columns)
-    ∙ ap (λ s. differing s (tags_behind (take column line.columns))) (sym (count-parity (take k lines)))
+    ∙ ap (λ s. differing s (tags_left_of (take column line.columns))) (sym (count-parity (take k lines)))
 
 -- whether a cell has a slot
 flag_of : (slot : ℕ) (tags : Slots) (found : Option Cell) → option_map (λ (cell : Cell). cell.tags) found ≡ Some tags →

@@ -22,7 +22,7 @@ use Rattle.segments.specs.Columns.{without_columns}
 use Rattle.segments.proofs.MarkLaws.{get-joined_marks, or_else}
 use Rattle.line_lists.specs.Lists.{AreRows, GoesBefore, IsLine, StandBefore}
 use Rattle.line_lists.specs.Texts.{whole}
-use Rattle.line_lists.specs.Toggling.{tags_behind}
+use Rattle.line_lists.specs.Toggling.{tags_left_of}
 use Rattle.line_lists.proofs.EditLaws.{goes-changed, joined-stands, joined_one, rows-stand, some-columns, text-among}
 use Rattle.line_lists.proofs.NewlineRows.{none_before}
 use Rattle.line_lists.proofs.RowLaws.{Makes, among-first, characters-first, free-parts, rows-before, rows-behind}
@@ -34,23 +34,23 @@ use Rattle.line_lists.proofs.WholeLaws.{without-behind}
 
 -- ---- two removals at one place are one
 first-again : (slots : Slots) (k : ℕ) (xs : List Column)
-    → toggled_first (tags_behind (take k (toggled_first slots xs))) (drop k (toggled_first slots xs))
-    ≡ toggled_first (differing slots (tags_behind (take k xs))) (drop k xs)
+    → toggled_first (tags_left_of (take k (toggled_first slots xs))) (drop k (toggled_first slots xs))
+    ≡ toggled_first (differing slots (tags_left_of (take k xs))) (drop k xs)
 first-again slots zero [] = refl
 first-again slots (suc k) [] = refl
 first-again slots zero (x ∷ xs) =
     ap (λ s. record x { toggled = s } ∷ xs) (empty-differing (differing slots x.toggled)
     ∙ ap (λ s. differing s x.toggled) (sym (differing-empty slots)))
 first-again slots (suc k) (x ∷ xs) =
-    ap (λ s. toggled_first s (drop k xs)) (differing-associative slots x.toggled (tags_behind (take k xs)))
+    ap (λ s. toggled_first s (drop k xs)) (differing-associative slots x.toggled (tags_left_of (take k xs)))
 
 -- the slots of two parts
 slice-more : (from m k : ℕ) (xs : List Column) → from ≤ m →
-    tags_behind (slice_range xs from (m + k))
-    ≡ differing (tags_behind (slice_range xs from m)) (tags_behind (take k (drop m xs)))
+    tags_left_of (slice_range xs from (m + k))
+    ≡ differing (tags_left_of (slice_range xs from m)) (tags_left_of (take k (drop m xs)))
 slice-more from m k xs ordered =
     let rest = drop from xs in
-    ap tags_behind
+    ap tags_left_of
     (take-slice (m - from) ((m + k) - from) rest (omega arith)
     ∙ ap₂ (λ n part. take (m - from) rest ++ take n part) (let same : ((m + k) - from) - (m - from)
     ≡ k = omega (arith, ordered) in same)
@@ -62,13 +62,13 @@ without-twice : (from m k : ℕ) (xs : List Column) → from ≤ m → m ≤ len
     without_columns from (from + k) (without_columns from m xs) ≡ without_columns from (m + k) xs
 without-twice from m k xs ordered within =
     let front = take from xs in
-    let slots = tags_behind (slice_range xs from m) in
+    let slots = tags_left_of (slice_range xs from m) in
     let rest = toggled_first slots (drop m xs) in
     let long : length front ≡ from = length-take-le from xs (omega (arith, ordered, within)) in
     ap₂ (λ a b. without_columns a b (front ++ rest)) (let same : from ≡ length front + 0 = omega (arith, long) in
     same) (let same : from + k ≡ length front + k = omega (arith, long) in same)
     ∙ without-behind 0 k front rest
-    ∙ ap (λ n. front ++ toggled_first (tags_behind (take n rest)) (drop k rest)) (let same : k - 0 ≡ k = omega arith in
+    ∙ ap (λ n. front ++ toggled_first (tags_left_of (take n rest)) (drop k rest)) (let same : k - 0 ≡ k = omega arith in
     same)
     ∙ ap (λ part. front ++ part) (first-again slots k (drop m xs))
     ∙ ap₂ (λ s part. front ++ toggled_first s part) (sym (slice-more from m k xs ordered)) (drop-drop k m xs)
@@ -102,7 +102,7 @@ drawn_none at (Some place) = ap (λ offset. Some (record place { offset = offset
 pub removal-none : (at : ℕ) (line : LineContent) → after_removal at at line ≡ line
 removal-none at line =
     let columns =
-    ap (λ n. take at line.columns ++ toggled_first (tags_behind (take n (drop at line.columns))) (drop at line.columns))
+    ap (λ n. take at line.columns ++ toggled_first (tags_left_of (take n (drop at line.columns))) (drop at line.columns))
     (let same : at - at ≡ 0 = omega arith in same)
     ∙ ap (λ part. take at line.columns ++ part) (none-first (drop at line.columns))
     ∙ take-append-drop at line.columns in
@@ -114,7 +114,7 @@ removal-none at line =
 characters-removed : (from to : ℕ) (xs : List Column) → characters (without_columns from to xs)
     ≡ removed from to (characters xs)
 characters-removed from to xs =
-    let slots = tags_behind (slice_range xs from to) in
+    let slots = tags_left_of (slice_range xs from to) in
     map-append (λ (column : Column). column.character) (take from xs) (toggled_first slots (drop to xs))
     ∙ ap (λ rest. characters (take from xs) ++ rest) (characters-first slots (drop to xs))
     ∙ sym (map-append (λ (column : Column). column.character) (take from xs) (drop to xs))

@@ -17,7 +17,7 @@ use Rattle.text_model.proofs.CellLaws.{contains-set_slot}
 use Rattle.toggle_sums.specs.CountLaws.{differing-associative, differing-empty, empty-differing, same_slots}
 use Rattle.segments.specs.Columns.{Column, plain_columns, tags_before, toggled_first, without_columns, with_toggle}
 use Rattle.line_lists.specs.Texts.{cells_from, cells_of_columns}
-use Rattle.line_lists.specs.Toggling.{columns_bare, columns_inserted, columns_tagged, switched, tags_behind}
+use Rattle.line_lists.specs.Toggling.{columns_bare, columns_inserted, columns_tagged, switched, tags_left_of}
 use Rattle.line_lists.specs.Toggling.{toggled_before}
 use Rattle.line_lists.proofs.SlotLaws.{differing-again, differing-back, differing-self}
 use Rattle.line_lists.proofs.TagLaws.{behind-append, behind-cleared, behind-plain, cells-append, cells-cleared}
@@ -32,29 +32,29 @@ toggled-seam xs ys slots n is =
     ap (λ k. toggled_before k slots (xs ++ ys)) is
     ∙ ap₂ (λ front back. front ++ toggled_first slots back) (take-append_seam xs ys) (drop-append_seam xs ys)
 
-cells-front : (xs ys : List Column) → cells (xs ++ ys) ≡ cells xs ++ cells_from (tags_behind xs) ys
+cells-front : (xs ys : List Column) → cells (xs ++ ys) ≡ cells xs ++ cells_from (tags_left_of xs) ys
 cells-front xs ys =
-    cells-append set.empty xs ys ∙ ap (λ s. cells xs ++ cells_from s ys) (empty-differing (tags_behind xs))
+    cells-append set.empty xs ys ∙ ap (λ s. cells xs ++ cells_from s ys) (empty-differing (tags_left_of xs))
 
 -- slots that are toggled at the two ends of a part are switched in it, and those at its end behind it
 pub cells-between : (front middle back : List Column) (first last : Slots) (from to : ℕ) → from ≡ length front →
     to ≡ length front + length middle
     → cells (toggled_before from first (toggled_before to last (front ++ middle ++ back)))
-    ≡ cells front ++ cells_from (differing (tags_behind front) first) middle
-    ++ cells_from (differing (differing (differing (tags_behind front) first) (tags_behind middle)) last) back
+    ≡ cells front ++ cells_from (differing (tags_left_of front) first) middle
+    ++ cells_from (differing (differing (differing (tags_left_of front) first) (tags_left_of middle)) last) back
 cells-between front middle back first last from to from_is to_is =
-    let on = differing (tags_behind front) first in
+    let on = differing (tags_left_of front) first in
     ap (λ columns. cells (toggled_before from first columns))
     (toggled-seam (front ++ middle) back last to (to_is ∙ sym (length-append front middle))
     ∙ append_assoc front middle (toggled_first last back))
     ∙ ap cells (toggled-seam front (middle ++ toggled_first last back) first from from_is)
     ∙ cells-front front (toggled_first first (middle ++ toggled_first last back))
     ∙ ap (λ part. cells front ++ part)
-    (cells-toggled (tags_behind front) first (middle ++ toggled_first last back)
+    (cells-toggled (tags_left_of front) first (middle ++ toggled_first last back)
     ∙ cells-append on middle (toggled_first last back)
-    ∙ ap (λ part. cells_from on middle ++ part) (cells-toggled (differing on (tags_behind middle)) last back))
+    ∙ ap (λ part. cells_from on middle ++ part) (cells-toggled (differing on (tags_left_of middle)) last back))
     ∙ sym (append_assoc (cells front) (cells_from on middle)
-    (cells_from (differing (differing on (tags_behind middle)) last) back))
+    (cells_from (differing (differing on (tags_left_of middle)) last) back))
 
 take-cells : (n : ℕ) (on : Slots) (xs : List Column) → take n (cells_from on xs) ≡ cells_from on (take n xs)
 take-cells zero on xs = refl
@@ -64,22 +64,22 @@ take-cells (suc n) on (x ∷ xs) =
     (take-cells n (differing on x.toggled) xs)
 
 drop-cells : (n : ℕ) (on : Slots) (xs : List Column) → drop n (cells_from on xs)
-    ≡ cells_from (differing on (tags_behind (take n xs))) (drop n xs)
+    ≡ cells_from (differing on (tags_left_of (take n xs))) (drop n xs)
 drop-cells zero on xs = ap (λ s. cells_from s xs) (sym (differing-empty on))
 drop-cells (suc n) on [] = refl
 drop-cells (suc n) on (x ∷ xs) =
     drop-cells n (differing on x.toggled) xs
-    ∙ ap (λ s. cells_from s (drop n xs)) (differing-associative on x.toggled (tags_behind (take n xs)))
+    ∙ ap (λ s. cells_from s (drop n xs)) (differing-associative on x.toggled (tags_left_of (take n xs)))
 
 -- the cells behind an offset
-pub cells-drop : (n : ℕ) (xs : List Column) → drop n (cells xs) ≡ cells_from (tags_behind (take n xs)) (drop n xs)
+pub cells-drop : (n : ℕ) (xs : List Column) → drop n (cells xs) ≡ cells_from (tags_left_of (take n xs)) (drop n xs)
 cells-drop n xs =
-    drop-cells n set.empty xs ∙ ap (λ s. cells_from s (drop n xs)) (empty-differing (tags_behind (take n xs)))
+    drop-cells n set.empty xs ∙ ap (λ s. cells_from s (drop n xs)) (empty-differing (tags_left_of (take n xs)))
 
 pub cells-slice : (from to : ℕ) (xs : List Column) → slice_range (cells xs) from to
-    ≡ cells_from (tags_behind (take from xs)) (slice_range xs from to)
+    ≡ cells_from (tags_left_of (take from xs)) (slice_range xs from to)
 cells-slice from to xs =
-    ap (take (to - from)) (cells-drop from xs) ∙ take-cells (to - from) (tags_behind (take from xs)) (drop from xs)
+    ap (take (to - from)) (cells-drop from xs) ∙ take-cells (to - from) (tags_left_of (take from xs)) (drop from xs)
 
 pub take-slice : {A : Type 0} (from to : ℕ) (xs : List A) → from ≤ to →
     take to xs ≡ take from xs ++ slice_range xs from to
@@ -93,9 +93,9 @@ take-slice (suc from) (suc to) (x ∷ xs) ordered =
 
 -- the slots behind a part
 behind-slice : (from to : ℕ) (xs : List Column) → from ≤ to →
-    tags_behind (take to xs) ≡ differing (tags_behind (take from xs)) (tags_behind (slice_range xs from to))
+    tags_left_of (take to xs) ≡ differing (tags_left_of (take from xs)) (tags_left_of (slice_range xs from to))
 behind-slice from to xs ordered =
-    ap tags_behind (take-slice from to xs ordered) ∙ behind-append (take from xs) (slice_range xs from to)
+    ap tags_left_of (take-slice from to xs ordered) ∙ behind-append (take from xs) (slice_range xs from to)
 
 length-slice : {A : Type 0} (from to : ℕ) (xs : List A) → from ≤ to → to ≤ length xs →
     length (slice_range xs from to) ≡ to - from
@@ -106,17 +106,17 @@ pub cells-removed : (from to : ℕ) (xs : List Column) → from ≤ to →
 cells-removed from to xs ordered =
     cells-front (take from xs) _
     ∙ ap₂ (λ front back. front ++ back) (sym (take-cells from set.empty xs))
-    (cells-toggled (tags_behind (take from xs)) (tags_behind (slice_range xs from to)) (drop to xs)
+    (cells-toggled (tags_left_of (take from xs)) (tags_left_of (slice_range xs from to)) (drop to xs)
     ∙ ap (λ s. cells_from s (drop to xs)) (sym (behind-slice from to xs ordered))
     ∙ sym (cells-drop to xs))
 
 pub cells-inserted : (at : ℕ) (text : List ℕ) (slots : Slots) (xs : List Column) → at ≤ length xs →
     cells (columns_inserted at text slots xs) ≡ inserted at (cells_of text slots) (cells xs)
 cells-inserted at text slots xs within =
-    let before = tags_behind (take at xs) in
+    let before = tags_left_of (take at xs) in
     let differ = differing before slots in
     let on : differing before differ ≡ slots = differing-again before slots in
-    let back : differing (differing (differing before differ) (tags_behind (plain_columns text))) differ ≡ before =
+    let back : differing (differing (differing before differ) (tags_left_of (plain_columns text))) differ ≡ before =
     ap₂ (λ s t. differing (differing s t) differ) on (behind-plain text)
     ∙ ap (λ s. differing s differ) (differing-empty slots) ∙ differing-back before slots in
     cells-between (take at xs) (plain_columns text) (drop at xs) differ differ at (at + length text)
@@ -131,15 +131,15 @@ cells-inserted at text slots xs within =
 pub cells-tagged : (from to slot : ℕ) (on : Bool) (xs : List Column) → from ≤ to → to ≤ length xs
     → cells (columns_tagged from to slot on xs) ≡ changed (with_slot slot on) from to (cells xs)
 cells-tagged from to slot on xs ordered within =
-    let before = tags_behind (take from xs) in
+    let before = tags_left_of (take from xs) in
     let middle = slice_range xs from to in
-    let behind = tags_behind (take to xs) in
+    let behind = tags_left_of (take to xs) in
     let bare = map (with_toggle slot false) middle in
     let first = switched (set_slot slot on) from xs in
     let last = switched (set_slot slot on) to xs in
     let is_on : differing before first ≡ set_slot slot on before = differing-again before (set_slot slot on before) in
-    let back : differing (differing (differing before first) (tags_behind bare)) last ≡ behind =
-    ap (λ s. differing (differing s (tags_behind bare)) last) is_on
+    let back : differing (differing (differing before first) (tags_left_of bare)) last ≡ behind =
+    ap (λ s. differing (differing s (tags_left_of bare)) last) is_on
     ∙ ap (λ s. differing s last) (behind-cleared slot on before middle
     ∙ ap (set_slot slot on) (sym (behind-slice from to xs ordered)))
     ∙ differing-back behind (set_slot slot on behind) in
@@ -170,17 +170,17 @@ pub cells-bare : (at : ℕ) (xs : List Column) → at < length xs →
 cells-bare at xs within =
     let x : Column = get_or xs at (record { character = 0; toggled = set.empty }) in
     let is : x ≡ get_or xs at x = get_or_default xs at (record { character = 0; toggled = set.empty }) x within in
-    let before = tags_behind (take at xs) in
+    let before = tags_left_of (take at xs) in
     let middle = slice_range xs at (at + 1) in
     let here = tags_before at xs in
-    let behind : here ≡ differing before (tags_behind middle) = behind-slice at (at + 1) xs (omega arith) in
+    let behind : here ≡ differing before (tags_left_of middle) = behind-slice at (at + 1) xs (omega arith) in
     let one : middle ≡ x ∷ [] = slice-one at xs x within is in
-    let alone : here ≡ differing before x.toggled = behind ∙ ap (λ part. differing before (tags_behind part)) one
+    let alone : here ≡ differing before x.toggled = behind ∙ ap (λ part. differing before (tags_left_of part)) one
     ∙ ap (differing before) (differing-empty x.toggled) in
-    let back : differing (differing (differing before here) (tags_behind middle)) here ≡ here =
-    ap (λ s. differing (differing s (tags_behind middle)) here) (let same : differing before here
-    ≡ tags_behind middle = ap (differing before) behind ∙ differing-again before (tags_behind middle) in same)
-    ∙ ap (λ s. differing s here) (differing-self (tags_behind middle)) ∙ empty-differing here in
+    let back : differing (differing (differing before here) (tags_left_of middle)) here ≡ here =
+    ap (λ s. differing (differing s (tags_left_of middle)) here) (let same : differing before here
+    ≡ tags_left_of middle = ap (differing before) behind ∙ differing-again before (tags_left_of middle) in same)
+    ∙ ap (λ s. differing s here) (differing-self (tags_left_of middle)) ∙ empty-differing here in
     ap (λ columns. cells (toggled_before at here (toggled_before (at + 1) here columns)))
     (split_between xs at (at + 1) (omega arith) ∙ sym (append_assoc (take at xs) middle (drop (at + 1) xs)))
     ∙ cells-between (take at xs) middle (drop (at + 1) xs) here here at (at + 1)

@@ -28,7 +28,7 @@ use Rattle.line_lists.specs.declared.drafts.Stop.{Stop}
 use Rattle.line_lists.specs.Drafts.{StandsAt, copies_of, lines_before, lines_behind, taken_lines}
 use Rattle.line_lists.specs.Edits.{made, with_cleared, with_mark, with_toggled, without_mark}
 use Rattle.line_lists.specs.Texts.{text_of, whole}
-use Rattle.line_lists.specs.Toggling.{switched, tags_behind, toggled_before}
+use Rattle.line_lists.specs.Toggling.{switched, tags_left_of, toggled_before}
 use Rattle.line_lists.proofs.ClearingLaws.{tags-around}
 use Rattle.line_lists.proofs.EditLaws.{length-text}
 use Rattle.line_lists.proofs.FreedLaws.{eq_self}
@@ -132,7 +132,7 @@ more-there found refused bound len count more longer some is counted =
     (omega (arith, there.0, counted), omega (arith, there.1, counted))
 
 pub inserted-made : (at end : ℕ) (text : List ℕ) (slots differ : Slots) (old one two : LineContent) →
-    end ≡ at + length text → differ ≡ differing (tags_behind (take at old.columns)) slots
+    end ≡ at + length text → differ ≡ differing (tags_left_of (take at old.columns)) slots
     → one ≡ after_text at text old → two ≡ with_toggled end differ one →
     with_toggled at differ two ≡ made (Insert at text slots) old
 inserted-made at end text slots differ old one two end_is differ_is one_is two_is =
@@ -166,7 +166,7 @@ bare-made at here old text here_is text_is =
 pub tags-taken : (lines old : List LineContent) (front : List Stop) (back : List Copied) (copy : Copied)
     (offset column : ℕ) → taken_lines lines front back copy ≡ old → StandsAt lines front copy offset column
     → tags_before offset (whole old).columns
-    ≡ differing (tags_behind (whole (lines_before (copies_of front) copy lines)).columns)
+    ≡ differing (tags_left_of (whole (lines_before (copies_of front) copy lines)).columns)
     (tags_before column copy.line.columns)
 tags-taken lines old front back copy offset column same stands =
     let copies = copies_of front in
@@ -176,9 +176,9 @@ tags-taken lines old front back copy offset column same stands =
 -- and before it
 pub tags-left : (lines old : List LineContent) (front : List Stop) (back : List Copied) (copy : Copied)
     (offset column : ℕ) → taken_lines lines front back copy ≡ old → StandsAt lines front copy offset column
-    → tags_behind (take offset (whole old).columns)
-    ≡ differing (tags_behind (whole (lines_before (copies_of front) copy lines)).columns)
-    (tags_behind (take column copy.line.columns))
+    → tags_left_of (take offset (whole old).columns)
+    ≡ differing (tags_left_of (whole (lines_before (copies_of front) copy lines)).columns)
+    (tags_left_of (take column copy.line.columns))
 tags-left lines old front back copy offset column same stands =
     let copies = copies_of front in
     tags-around (lines_before copies copy lines) (lines_behind copies copy back lines) old copy.line offset column same

@@ -17,7 +17,7 @@ use Rattle.toggle_sums.specs.Toggles.{presence}
 use Rattle.segments.specs.Columns.{Column, LineContent, tags_before, toggles}
 use Rattle.line_lists.specs.Lists.{has_toggle}
 use Rattle.line_lists.specs.Texts.{cells_of_columns}
-use Rattle.line_lists.specs.Toggling.{tags_behind}
+use Rattle.line_lists.specs.Toggling.{tags_left_of}
 use Rattle.line_lists.proofs.PlaceRows.{flag-at, length-cells, tags-column}
 use Rattle.line_lists.proofs.SearchRows.{FailIn}
 use Rattle.line_lists.proofs.TagLaws.{behind-append}
@@ -46,10 +46,10 @@ before-next : (columns : List Column) (at : ℕ) → suc at < length columns →
 before-next columns at within =
     let one : suc at + 1 ≡ suc (suc at) = omega arith in
     let here : suc at ≡ at + 1 = omega arith in
-    ap (λ n. tags_behind (take n columns)) one
-    ∙ ap tags_behind (take-suc columns (suc at) no_column within)
+    ap (λ n. tags_left_of (take n columns)) one
+    ∙ ap tags_left_of (take-suc columns (suc at) no_column within)
     ∙ behind-append (take (suc at) columns) (get_or columns (suc at) no_column ∷ [])
-    ∙ ap₂ (λ n s. differing (tags_behind (take n columns)) s) here
+    ∙ ap₂ (λ n s. differing (tags_left_of (take n columns)) s) here
     (differing-empty (get_or columns (suc at) no_column).toggled)
 
 flag-next : (slot : ℕ) (columns : List Column) (at : ℕ) → suc at < length columns

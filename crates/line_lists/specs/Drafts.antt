@@ -16,7 +16,7 @@ use Rattle.line_lists.specs.declared.drafts.Seen.{Seen}
 use Rattle.line_lists.specs.declared.drafts.Stop.{Stop}
 use Rattle.line_lists.specs.Lists.{AreRows, count_of}
 use Rattle.line_lists.specs.Texts.{whole}
-use Rattle.line_lists.specs.Toggling.{tags_behind}
+use Rattle.line_lists.specs.Toggling.{tags_left_of}
 
 -- how many lines of the list copies cover: those that they stand for, and those that are kept before them
 abbrev pub covered : Copied → ℕ
@@ -56,7 +56,7 @@ copies_of stops = map (λ (stop : Stop). stop.copy) stops
 
 -- the slots that are on behind copies
 abbrev pub tags_after : List LineContent → List Stop → Slots
-tags_after lines stops = tags_behind (whole (made_lines (copies_of stops) lines)).columns
+tags_after lines stops = tags_left_of (whole (made_lines (copies_of stops) lines)).columns
 
 -- those before a line of a list
 pub record IsBefore (lines : List LineContent) (before : Before) : Type 0 where
@@ -102,7 +102,7 @@ AreStops lines before (stop ∷ stops) =
 -- the slots that are toggled an odd number of times in the line of a copy and in those kept before it
 abbrev pub copy_tags : List LineContent → Stop → Slots
 copy_tags lines stop =
-    tags_behind (whole (take stop.copy.kept (drop stop.reached.used lines) ++ stop.copy.line ∷ [])).columns
+    tags_left_of (whole (take stop.copy.kept (drop stop.reached.used lines) ++ stop.copy.line ∷ [])).columns
 
 -- copies of lines that are there, whose text can be counted
 pub record IsDraft (lines : List LineContent) (front : List Stop) (back : List Copied) : Type 0 where

@@ -9,8 +9,8 @@ use Rattle.toggle_sums.specs.Toggles.{parity}
 use Rattle.segments.specs.Columns.{Column, plain_columns, tags_before, toggled_first, toggles, with_toggle}
 
 -- the slots that are on behind columns
-abbrev pub tags_behind : List Column → Slots
-tags_behind columns = parity (toggles columns)
+abbrev pub tags_left_of : List Column → Slots
+tags_left_of columns = parity (toggles columns)
 
 -- a set of slots is toggled before a column; behind the last one it stands nowhere
 abbrev pub toggled_before : ℕ → Slots → List Column → List Column
@@ -22,7 +22,7 @@ cleared slot from to columns = changed (with_toggle slot false) from to columns
 
 -- the slots that change where the slots behind so many columns are to become others
 abbrev pub switched : (Slots → Slots) → ℕ → List Column → Slots
-switched f at columns = let before = tags_behind (take at columns) in differing before (f before)
+switched f at columns = let before = tags_left_of (take at columns) in differing before (f before)
 
 -- a text with slots is put in: the slots that differ from those before it are toggled at its two ends
 abbrev pub columns_inserted : ℕ → List ℕ → Slots → List Column → List Column

@@ -9,7 +9,7 @@ ghost use Rattle.line_lists.specs.Drafts.{line_start, made_lines, text_at};
 ghost use Rattle.line_lists.specs.Edits.{with_cleared};
 ghost use Rattle.line_lists.specs.Lists.{has_toggle};
 ghost use Rattle.line_lists.specs.Texts.{whole};
-ghost use Rattle.line_lists.specs.Toggling.{tags_behind};
+ghost use Rattle.line_lists.specs.Toggling.{tags_left_of};
 
 use crate::drafts::{Copied, Draft, Found, Reached, Stop, span};
 use crate::lists::LineList;
@@ -55,7 +55,7 @@ impl<'a, L: LineList> Draft<'a, L> {
         ensures list { self.new.list.now ≡ self.old.list.now }
         ensures front { self.new.front ≡ self.old.front }
         ensures back { self.new.back ≡ self.old.back }
-        ensures value { result ≡ tags_behind (take offset
+        ensures value { result ≡ tags_left_of (take offset
             (text_at (L.lines self.old.list.now) self.old.front.items self.old.back.items).columns) }
     {
         let mut slots = self.known.but_last(self.list, &self.front);
@@ -67,7 +67,7 @@ impl<'a, L: LineList> Draft<'a, L> {
             stop.copy.kept,
             &mut slots,
         );
-        slots.flip(&stop.copy.line.tags_behind(offset - start));
+        slots.flip(&stop.copy.line.tags_left_of(offset - start));
         slots
     }
 
@@ -82,7 +82,7 @@ impl<'a, L: LineList> Draft<'a, L> {
         ensures list { self.new.list.now ≡ self.old.list.now }
         ensures front { self.new.front ≡ self.old.front }
         ensures back { self.new.back ≡ self.old.back }
-        ensures value { result ≡ tags_behind (take offset
+        ensures value { result ≡ tags_left_of (take offset
             (text_at (L.lines self.old.list.now) self.old.front.items self.old.back.items).columns) }
     {
         let mut slots = self.known.all(self.list, &self.front);
@@ -93,12 +93,12 @@ impl<'a, L: LineList> Draft<'a, L> {
             index - reached.used,
             &mut slots,
         );
-        slots.flip(&line.tags_behind(column));
+        slots.flip(&line.tags_left_of(column));
         slots
     }
 
     /// The slots that are on behind so many characters of the text, which are those of the character before the offset.
-    pub fn tags_behind(&mut self, offset: usize) -> Result<TagSet, AllocError>
+    pub fn tags_left_of(&mut self, offset: usize) -> Result<TagSet, AllocError>
         requires is { IsText (L.lines self.old.list.now) self.old.front.items self.old.back.items }
         requires within { offset
             < length (text_at (L.lines self.old.list.now) self.old.front.items self.old.back.items).columns }
@@ -106,7 +106,7 @@ impl<'a, L: LineList> Draft<'a, L> {
         ensures is { IsText (L.lines self.new.list.now) self.new.front.items self.new.back.items }
         ensures same { drafted_at (L.lines self.new.list.now) self.new.front.items self.new.back.items
             ≡ drafted_at (L.lines self.old.list.now) self.old.front.items self.old.back.items }
-        ensures value { IfOk result (λ slots. slots ≡ tags_behind (take offset
+        ensures value { IfOk result (λ slots. slots ≡ tags_left_of (take offset
             (text_at (L.lines self.old.list.now) self.old.front.items self.old.back.items).columns)) }
     {
         self.back_to(offset)?;

@@ -4,7 +4,7 @@ ghost use Rattle.segments.specs.Columns.{LineContent};
 ghost use Rattle.line_lists.specs.Drafts.{AreStops, IsBefore, IsKnown, copies_of, copy_tags, covered, tags_after, used};
 ghost use Rattle.line_lists.specs.Lists.{count_of};
 ghost use Rattle.line_lists.specs.Texts.{whole};
-ghost use Rattle.line_lists.specs.Toggling.{tags_behind};
+ghost use Rattle.line_lists.specs.Toggling.{tags_left_of};
 
 use crate::drafts::{Before, Known, Reached, Stop};
 use crate::lists::LineList;
@@ -62,7 +62,7 @@ impl Reached {
         requires before { IsBefore (L.lines list.now) before.old }
         ensures before { IsBefore (L.lines list.now) before.new }
         ensures turned { slots.new ≡ differing slots.old
-            (tags_behind (whole (take count (drop self.now.used (L.lines list.now)))).columns) }
+            (tags_left_of (whole (take count (drop self.now.used (L.lines list.now)))).columns) }
     {
         if count == 0 {
             return;

@@ -5,7 +5,7 @@ ghost use Rattle.std.specs.Prelude.{chars, drop, string_bytes, take};
 ghost use Rattle.std.specs.FinMap as finite;
 ghost use Rattle.std.specs.List.{prefix_len, suffix_len};
 ghost use Rattle.text_model.specs.Changes.{next_change, previous_change};
-ghost use Rattle.text_model.specs.Content.{characters, flags, slot_sets, slots_behind};
+ghost use Rattle.text_model.specs.Content.{characters, flags, slot_sets, slots_left_of};
 ghost use Rattle.text_model.specs.Lines.{IsLineOf, lines, line_of, line_start};
 ghost use Rattle.text_model.specs.MarkOrder.{marks_at, next_mark, previous_mark};
 ghost use Rattle.text_model.specs.TagBits.{slot_count};
@@ -54,12 +54,12 @@ pub fn tags_at<L: LineList>(list: &L, offset: usize) -> TagSet
 /// The tags of the character before an offset, of which there are none before the first, and those of the one at it.
 pub fn tags_around<L: LineList>(list: &L, offset: usize) -> (TagSet, TagSet)
     requires { offset < length (content_of (L.lines list.now)).cells }
-    ensures before { result.0 ≡ slots_behind offset (content_of (L.lines list.now)).cells }
+    ensures before { result.0 ≡ slots_left_of offset (content_of (L.lines list.now)).cells }
     ensures at { slice_get (slot_sets (content_of (L.lines list.now)).cells) offset ≡ Some result.1 }
 {
     let (index, column, line) = list.line_at(offset);
     let mut here = list.odd_slots(index);
-    let before = here.differing(&line.tags_behind(column));
+    let before = here.differing(&line.tags_left_of(column));
     line.turn_tags_before(column, &mut here);
     (before, here)
 }

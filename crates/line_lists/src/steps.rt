@@ -7,7 +7,7 @@ ghost use Rattle.segments.specs.Columns.{tags_before};
 ghost use Rattle.line_lists.specs.Drafts.{IsTaken, IsText, copies_of, drafted_at, lines_before, text_at};
 ghost use Rattle.line_lists.specs.Edits.{made, with_toggled};
 ghost use Rattle.line_lists.specs.Texts.{text_of, whole};
-ghost use Rattle.line_lists.specs.Toggling.{switched, tags_behind};
+ghost use Rattle.line_lists.specs.Toggling.{switched, tags_left_of};
 
 use crate::drafts::{Draft, Found, Stop};
 use crate::lists::LineList;
@@ -93,7 +93,7 @@ impl<'a, L: LineList> Draft<'a, L> {
         ensures list { self.new.list.now ≡ self.old.list.now }
         ensures front { self.new.front ≡ self.old.front }
         ensures back { self.new.back ≡ self.old.back }
-        ensures value { result ≡ tags_behind (whole
+        ensures value { result ≡ tags_left_of (whole
             (lines_before (copies_of self.old.front.items) stop.now.copy (L.lines self.old.list.now))).columns }
     {
         let mut slots = self.known.all(self.list, &self.front);
@@ -134,12 +134,12 @@ impl<'a, L: LineList> Draft<'a, L> {
         ensures is { OnOk result (IsText (L.lines self.new.list.now) self.new.front.items self.new.back.items) }
         ensures same { OnOk result (drafted_at (L.lines self.new.list.now) self.new.front.items self.new.back.items
             ≡ drafted_at (L.lines self.old.list.now) self.old.front.items self.old.back.items) }
-        ensures value { IfOk result (λ slots. slots ≡ tags_behind (take offset
+        ensures value { IfOk result (λ slots. slots ≡ tags_left_of (take offset
             (text_at (L.lines self.old.list.now) self.old.front.items self.old.back.items).columns)) }
     {
         let Found { stop, column } = self.take(offset)?;
         let mut slots = self.tags_up_to(&stop);
-        slots.flip(&stop.copy.line.tags_behind(column));
+        slots.flip(&stop.copy.line.tags_left_of(column));
         self.put(stop);
         Ok(slots)
     }
@@ -167,7 +167,7 @@ impl<'a, L: LineList> Draft<'a, L> {
         if len <= offset {
             return Ok(TagSet::empty());
         }
-        let before = self.tags_behind(offset)?;
+        let before = self.tags_left_of(offset)?;
         Ok(switched_slots(&before, slot, is_on))
     }
 

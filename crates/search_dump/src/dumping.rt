@@ -23,7 +23,7 @@ ghost use Rattle.search_dump.specs.Spots.{IsSpot};
 
 use crate::dumped_marks::{Marked, mark_from};
 use crate::listing::{Listing, Spot};
-use crate::tag_changes::{TagChanges, own_slot, tags_before, tags_behind};
+use crate::tag_changes::{TagChanges, own_slot, tags_before, tags_left_of};
 use std::alloc::{AllocError, Global};
 use text_index::{Names, View};
 use text_model::{LineSpan, TagSet, TagSlot, TextStore};
@@ -398,7 +398,7 @@ fn listed_behind<S: TextStore>(sight: &Sight<'_, S>, listed: Listed, place: usiz
     if !listed.tags {
         return TagSet::empty();
     }
-    tags_behind(sight.view, place)
+    tags_left_of(sight.view, place)
 }
 
 /// The tags of the character at a stop, if tags are listed, by those of the character before it.

@@ -43,7 +43,7 @@ pub fn tags_before<S: TextStore>(view: &View<'_, S>, place: usize) -> TagSet
 }
 
 /// The tags of the character at a place of the view; none at the end.
-pub fn tags_behind<S: TextStore>(view: &View<'_, S>, place: usize) -> TagSet
+pub fn tags_left_of<S: TextStore>(view: &View<'_, S>, place: usize) -> TagSet
     requires view { ShowsLines S.content view.now }
     requires within { view.now.s + place ≤ view.now.e }
     ensures { (slot : ℕ) →

@@ -188,7 +188,7 @@ impl RichLine {
     }
 
     /// The slots that are toggled an odd number of times before the characters before a column.
-    pub fn tags_behind(&self, column: usize) -> TagSet
+    pub fn tags_left_of(&self, column: usize) -> TagSet
         requires { column ≤ length self.now.columns }
         ensures { result ≡ parity (toggles (take column self.now.columns)) }
     {

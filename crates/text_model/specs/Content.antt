@@ -24,9 +24,9 @@ abbrev pub slot_sets : List Cell → List Slots
 slot_sets cells = map (λ (cell : Cell). cell.tags) cells
 
 -- the slots of the last of the cells before a place, if there is one
-abbrev pub slots_behind : ℕ → List Cell → Slots
-slots_behind zero cells = set.empty
-slots_behind (suc n) cells = get_or (slot_sets cells) n set.empty
+abbrev pub slots_left_of : ℕ → List Cell → Slots
+slots_left_of zero cells = set.empty
+slots_left_of (suc n) cells = get_or (slot_sets cells) n set.empty
 
 -- whether each cell has a slot
 abbrev pub flags : ℕ → List Cell → List Bool

@@ -2,7 +2,7 @@ ghost use Rattle.std.specs.Prelude.{◌≡◌, ◌+◌, ◌-◌, ◌++◌, ◌�
 ghost use Rattle.std.specs.Prelude.{get_or, slice_get, OnOk, IfOk, None, Some, chars, string_bytes, option_map};
 ghost use Rattle.std.specs.List.{prefix_len, suffix_len};
 ghost use Rattle.text_model.specs.Changes.{is_alike};
-ghost use Rattle.text_model.specs.Content.{characters, flags, slots_behind};
+ghost use Rattle.text_model.specs.Content.{characters, flags, slots_left_of};
 ghost use Rattle.text_model.specs.Lines.{lines, line_start};
 ghost use Rattle.text_model.specs.MarkOrder.{marks_at, next_mark, previous_mark};
 ghost use Rattle.text_model.specs.Plain.{plain_content, plain_marks, stands_at, with_next, with_previous, IsPlain};
@@ -63,9 +63,9 @@ fn find_line(cells: &[Cell], line: usize) -> usize
 }
 
 /// The tags of the cell before an offset, if there is one.
-fn tags_behind(cells: &[Cell], offset: usize) -> TagSet
+fn tags_left_of(cells: &[Cell], offset: usize) -> TagSet
     requires { offset ≤ length cells.now }
-    ensures { result ≡ slots_behind offset cells.now }
+    ensures { result ≡ slots_left_of offset cells.now }
 {
     if offset == 0 {
         return TagSet::empty();
@@ -444,7 +444,7 @@ impl TextStore for PlainStore {
     }
 
     fn tags_around(&self, offset: usize) -> (TagSet, TagSet) {
-        (tags_behind(&self.cells, offset), self.cells[offset].tags)
+        (tags_left_of(&self.cells, offset), self.cells[offset].tags)
     }
 
     fn next_change(&self, offset: usize, slot: TagSlot) -> usize {

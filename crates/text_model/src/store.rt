@@ -3,7 +3,7 @@ ghost use Rattle.std.specs.Prelude.{drop, string_bytes, take};
 ghost use Rattle.std.specs.FinMap as finite;
 ghost use Rattle.std.specs.List.{prefix_len, suffix_len};
 ghost use Rattle.text_model.specs.Changes.{next_change, previous_change};
-ghost use Rattle.text_model.specs.Content.{Content, characters, flags, new_content, slot_sets, slots_behind};
+ghost use Rattle.text_model.specs.Content.{Content, characters, flags, new_content, slot_sets, slots_left_of};
 ghost use Rattle.text_model.specs.Lines.{IsLineOf, lines, line_of, line_start};
 ghost use Rattle.text_model.specs.MarkOrder.{marks_at, next_mark, previous_mark};
 ghost use Rattle.text_model.specs.Steps.{Fits, after};
@@ -101,7 +101,7 @@ pub trait TextStore: Drop {
     /// it.
     fn tags_around(&self, offset: usize) -> (TagSet, TagSet)
         requires { offset < length (content self.now).cells }
-        ensures before { result.0 ≡ slots_behind offset (content self.now).cells }
+        ensures before { result.0 ≡ slots_left_of offset (content self.now).cells }
         ensures at { slice_get (slot_sets (content self.now).cells) offset ≡ Some result.1 };
 
     /// Where the run of characters that are like the one at an offset in a tag ends: the least offset above it at

@@ -6,7 +6,7 @@ ghost use Rattle.view_tests.specs.declared.plans.TheConstants.{RECORDING};
 
 use crate::scenes::store_of;
 use edit_ops::{
-    EditFault, EditRules, EditedText, Piece, Recording, Span, Target, anchors_stand, commit,
+    EditFault, EditRules, EditedText, Recording, SlottedText, Span, Target, anchors_stand, commit,
     plan_clear, plan_delete, plan_insert, plan_redo, plan_replace, plan_tag, plan_undo,
 };
 use std::alloc::{AllocError, Global};
@@ -35,9 +35,9 @@ fn edited<S: TextStore>(alloc: Global) -> Result<EditedText<S>, AllocError>
 }
 
 // A text that gets the slots of those on both sides.
-fn piece(alloc: Global, text: &str) -> Result<Vec<Piece>, AllocError> {
+fn piece(alloc: Global, text: &str) -> Result<Vec<SlottedText>, AllocError> {
     let mut pieces = Vec::new(alloc);
-    pieces.push(Piece {
+    pieces.push(SlottedText {
         text: Text::new(String::from_str(alloc, text)?),
         slots: None,
     })?;

@@ -6,8 +6,8 @@ use Rattle.edit_ops.specs.States.{log_of}
 use Rattle.edit_ops.proofs.ReplaceLaws.{no-longer}
 use Rattle.edit_ops.proofs.insertions.plan_insert.Goals as goal
 
-pub draft_insert-requires-clause-fits : goal.draft_insert-requires-clause-fits
-draft_insert-requires-clause-fits g c =
+pub outline_insert-requires-clause-fits : goal.outline_insert-requires-clause-fits
+outline_insert-requires-clause-fits g c =
     subst (λ n. n + total c.args.pieces.items < 2 ^ 64) c.len.ensures
     (rw c.deref.ensures.value at (c.is_too_long.ensures.short c.if-is_too_long.false))
 
@@ -20,7 +20,7 @@ returns-then-is_too_long-clause-too_long g c =
 
 pub prepare-requires : goal.prepare-requires
 prepare-requires g c =
-    (c.in_ok-draft.ensures.makes c.args.rules.now.recording Insert (log_of c.args.text.now.history) (λ on. on)).0
+    (c.in_ok-outline.ensures.makes c.args.rules.now.recording Insert (log_of c.args.text.now.history) (λ on. on)).0
 
 pub returns-clause-too_long : goal.returns-clause-too_long
 returns-clause-too_long g c =
@@ -37,4 +37,4 @@ returns-clause-too_long g c =
 pub returns-clause-outcome : goal.returns-clause-outcome
 returns-clause-outcome g c =
     c.in_ok-prepare.ensures.outcome
-    ∙ (c.in_ok-draft.ensures.makes c.args.rules.now.recording Insert (log_of c.args.text.now.history) (λ on. on)).1
+    ∙ (c.in_ok-outline.ensures.makes c.args.rules.now.recording Insert (log_of c.args.text.now.history) (λ on. on)).1

@@ -6,8 +6,8 @@ use Rattle.edit_ops.specs.States.{log_of, state_of}
 use Rattle.edit_ops.proofs.ReplaceLaws.{no-longer}
 use Rattle.edit_ops.proofs.replacements.plan_replace.Goals as goal
 
-pub draft_replace-requires-clause-room : goal.draft_replace-requires-clause-room
-draft_replace-requires-clause-room g c =
+pub outline_replace-requires-clause-room : goal.outline_replace-requires-clause-room
+outline_replace-requires-clause-room g c =
     subst (λ n. n - (c.min-to.result - c.min-from.result) + total c.args.pieces.items
     < 2 ^ 64) c.len.ensures (rw c.deref.ensures.value at (c.is_too_long.ensures.short c.if-is_too_long.false))
 
@@ -43,6 +43,6 @@ pub returns-clause-outcome : goal.returns-clause-outcome
 returns-clause-outcome g c =
     let log = log_of c.args.text.now.history in
     let state = state_of (g.S.TextStore.content c.args.text.now.store) c.args.text.now.anchors.items log in
-    c.in_ok-prepare.ensures.outcome ∙ c.in_ok-draft.ensures.makes c.args.rules.now.recording log (λ on. on)
+    c.in_ok-prepare.ensures.outcome ∙ c.in_ok-outline.ensures.makes c.args.rules.now.recording log (λ on. on)
     ∙ ap₂ (λ from to. replaced_span c.args.rules.now.recording c.args.target.mark.0 from to c.args.pieces.items state)
     c.min-from.ensures c.min-to.ensures

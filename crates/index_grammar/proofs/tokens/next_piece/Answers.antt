@@ -6,7 +6,7 @@ use Rattle.index_grammar.specs.Characters.{is_blank}
 use Rattle.std.proofs.lemmas.List.Sums.{prefix_len-le-length}
 use Rattle.index_grammar.specs.Grammar.{tokens_of}
 use Rattle.index_grammar.specs.Grammar.Token.{Sign, Digits, Word}
-use Rattle.index_grammar.specs.Pieces.{before_rest}
+use Rattle.index_grammar.specs.LentTokens.{before_rest}
 use Rattle.index_grammar.proofs.TokenLaws.{tokens-blanks, piece-none, piece-sign, piece-digits, piece-word, not-blank}
 use Rattle.index_grammar.proofs.TokenLaws.{inside, piece-bound, word-inside, behind-bound, taken-bound}
 use Rattle.index_grammar.proofs.tokens.next_piece.Goals as goal

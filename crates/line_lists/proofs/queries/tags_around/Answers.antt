@@ -13,7 +13,7 @@ pub returns-clause-before : goal.returns-clause-before
 returns-clause-before g c =
     let list = g.L.LineList.lines c.args.list.now in
     c.differing-before.ensures
-    ∙ ap₂ differing c.odd_slots-here.ensures c.tags_behind.ensures
+    ∙ ap₂ differing c.odd_slots-here.ensures c.tags_left_of.ensures
     ∙ sym (tags-before list c.args.offset c.line_at-index.result.0 c.line_at-index.result.1
     c.line_at-index.result.2.now
     c.line_at-index.ensures.place

@@ -5,7 +5,7 @@ use Rattle.text_model.specs.SlotSets.{differing}
 use Rattle.line_lists.specs.Drafts.{IsDraft, copies_of, drafted_at, line_start, made_lines}
 use Rattle.line_lists.specs.Drafts.{tags_after, used}
 use Rattle.line_lists.specs.Texts.{whole}
-use Rattle.line_lists.specs.Toggling.{tags_behind}
+use Rattle.line_lists.specs.Toggling.{tags_left_of}
 use Rattle.line_lists.proofs.ClearingLaws.{copied-tags}
 use Rattle.line_lists.proofs.DraftLaws.{can-follow, last_is, stops-last}
 use Rattle.line_lists.proofs.FindLaws.{last-begun, last-stands, last-starts}
@@ -61,8 +61,8 @@ turn_kept-requires-clause-there g c =
     (subst (λ items. IsDraft lines items back) is c.requires.is) in
     omega (arith, follows.there)
 
-pub tags_behind-requires : goal.tags_behind-requires
-tags_behind-requires g c =
+pub tags_left_of-requires : goal.tags_left_of-requires
+tags_left_of-requires g c =
     let lines = g.L.LineList.lines c.args.self.now.list.now in
     let front = c.args.self.now.front.items in
     let back = c.args.self.now.back.items in
@@ -100,10 +100,10 @@ returns-clause-value g c =
     let stands = last-stands lines before stop c.args.offset (c.args.end - c.len.result) draft.stops start_is
     (omega (arith, start_is, begun)) (omega (arith, c.requires.within, ends)) in
     let reached = stops-last lines [] before stop draft.stops in
-    let kept = tags_behind (whole (take stop.copy.kept (drop stop.reached.used lines))).columns in
+    let kept = tags_left_of (whole (take stop.copy.kept (drop stop.reached.used lines))).columns in
     let so_far = c.but_last-slots.ensures.value
     ∙ ap (λ items. tags_after lines (take (length items - 1) items)) c.deref.ensures.value in
     c.flip.ensures
-    ∙ ap₂ differing (c.turn_kept.ensures.turned ∙ ap (λ s. differing s kept) so_far) c.tags_behind.ensures
-    ∙ sym (ap (λ items. tags_behind (take c.args.offset (whole (drafted_at lines items back)).columns)) is
+    ∙ ap₂ differing (c.turn_kept.ensures.turned ∙ ap (λ s. differing s kept) so_far) c.tags_left_of.ensures
+    ∙ sym (ap (λ items. tags_left_of (take c.args.offset (whole (drafted_at lines items back)).columns)) is
     ∙ copied-tags lines before back stop c.args.offset (c.args.offset - (c.args.end - c.len.result)) reached stands)

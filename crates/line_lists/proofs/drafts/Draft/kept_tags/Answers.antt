@@ -4,7 +4,7 @@ use Rattle.text_model.specs.SlotSets.{differing}
 use Rattle.segments.specs.Columns.{LineContent}
 use Rattle.line_lists.specs.Drafts.{copies_of, tags_after, used}
 use Rattle.line_lists.specs.Texts.{whole}
-use Rattle.line_lists.specs.Toggling.{tags_behind}
+use Rattle.line_lists.specs.Toggling.{tags_left_of}
 use Rattle.line_lists.proofs.ClearingLaws.{kept-ends, kept-tags}
 use Rattle.line_lists.proofs.FindLaws.{reached-there}
 use Rattle.line_lists.proofs.KnownLaws.{draft-there}
@@ -33,11 +33,11 @@ returns-clause-value g c =
     let reached = c.args.reached.now in
     let found = c.find_line-index in
     let kept : List LineContent → Slots = λ xs.
-    tags_behind (whole (take (found.result.0 - reached.used) (drop reached.used xs))).columns in
+    tags_left_of (whole (take (found.result.0 - reached.used) (drop reached.used xs))).columns in
     let so_far = c.all-slots.ensures.value ∙ ap (tags_after lines) c.deref.ensures.value in
     let same = ap g.L.LineList.lines found.ensures.list in
     c.flip.ensures
     ∙ ap₂ differing (c.turn_kept.ensures.turned ∙ ap₂ (λ s xs. differing s (kept xs)) so_far same)
-    c.tags_behind.ensures
+    c.tags_left_of.ensures
     ∙ sym (kept-tags lines front reached c.args.offset c.requires.reached found.result.0 found.result.1
     found.result.2.now found.ensures.place found.ensures.line c.args.self.now.back.items c.requires.ahead)

@@ -11,6 +11,6 @@ returns-clause-value g c =
     let taken = c.in_ok-stop.ensures in
     let old = drafted_at (g.L.LineList.lines c.args.self.now.list.now) c.args.self.now.front.items
     c.args.self.now.back.items in
-    c.flip.ensures ∙ ap₂ differing c.tags_up_to-slots.ensures.value c.tags_behind.ensures
+    c.flip.ensures ∙ ap₂ differing c.tags_up_to-slots.ensures.value c.tags_left_of.ensures
     ∙ sym (tags-left lines old c.take.new.self.front.items c.take.new.self.back.items found.stop.copy c.args.offset
     found.column taken.same taken.place)

@@ -3,7 +3,7 @@ use Rattle.text_model.specs.SlotSets.{differing}
 use Rattle.toggle_sums.specs.CountLaws.{differing-associative, differing-empty}
 use Rattle.line_lists.specs.Lists.{count_of}
 use Rattle.line_lists.specs.Texts.{whole}
-use Rattle.line_lists.specs.Toggling.{tags_behind}
+use Rattle.line_lists.specs.Toggling.{tags_left_of}
 use Rattle.line_lists.proofs.CountRows.{count-lines}
 use Rattle.line_lists.proofs.DraftLaws.{parity-between}
 use Rattle.line_lists.proofs.drafts.Reached.turn_kept.Goals as goal
@@ -12,7 +12,7 @@ pub returns-then-count-eq0-clause-turned : goal.returns-then-count-eq0-clause-tu
 returns-then-count-eq0-clause-turned g c =
     let lines = g.L.LineList.lines c.args.list.now in
     let slots = c.args.slots.now in
-    sym (ap (λ n. differing slots (tags_behind (whole (take n (drop c.args.self.now.used lines))).columns))
+    sym (ap (λ n. differing slots (tags_left_of (whole (take n (drop c.args.self.now.used lines))).columns))
     c.if-count-eq0.true ∙ differing-empty slots)
 
 pub overflow_add-self : goal.overflow_add-self

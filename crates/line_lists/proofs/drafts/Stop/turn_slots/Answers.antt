@@ -2,7 +2,7 @@ use Rattle.std.proofs.Common.{take, drop, sym, ap, ◌∙◌}
 use Rattle.text_model.specs.SlotSets.{differing}
 use Rattle.toggle_sums.specs.CountLaws.{differing-associative}
 use Rattle.line_lists.specs.Texts.{whole}
-use Rattle.line_lists.specs.Toggling.{tags_behind}
+use Rattle.line_lists.specs.Toggling.{tags_left_of}
 use Rattle.line_lists.proofs.KnownLaws.{copy-tags}
 use Rattle.line_lists.proofs.drafts.Stop.turn_slots.Goals as goal
 
@@ -11,8 +11,8 @@ returns-clause-turned g c =
     let lines = g.L.LineList.lines c.args.list.now in
     let slots = c.args.slots.now in
     let stop = c.args.self.now in
-    let line = tags_behind stop.copy.line.columns in
-    let kept = tags_behind (whole (take stop.copy.kept (drop stop.reached.used lines))).columns in
+    let line = tags_left_of stop.copy.line.columns in
+    let kept = tags_left_of (whole (take stop.copy.kept (drop stop.reached.used lines))).columns in
     c.turn_odd_slots.ensures
     ∙ ap (λ s. differing s line) c.turn_kept.ensures.turned
     ∙ differing-associative slots kept line

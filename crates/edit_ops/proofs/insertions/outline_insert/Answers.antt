@@ -1,0 +1,24 @@
+use Rattle.std.proofs.Common.{◌≡◌, true, arith, ap, sym, ◌∙◌}
+use Rattle.std.specs.FinSet as set
+use Rattle.edit_ops.specs.Insertions.{needs_shared}
+use Rattle.edit_ops.proofs.InsertLaws.{put-in, around-is, behind-is}
+use Rattle.edit_ops.proofs.insertions.outline_insert.Goals as goal
+
+pub returns-clause-makes : goal.returns-clause-makes
+returns-clause-makes g c =
+    let content = g.S.TextStore.content c.args.text.now.store in
+    let counted = c.len-2.ensures in
+    let on : needs_shared c.args.pieces.items ≡ true → c.needs_shared.result ≡ true = λ some.
+    c.needs_shared.ensures ∙ ap needs_shared c.deref.ensures.value ∙ some in
+    let before = c.slots_beside-before.result.0 in
+    let behind = c.slots_beside-before.result.1 in
+    put-in c.args.keeps c.in_ok-outline.outline c.insert_pieces.new.self content c.args.text.now.anchors.items
+    (set.intersection before behind) behind c.len-2.result c.args.at c.args.pieces.items
+    c.in_ok-outline.ensures (record {
+      counted = sym c.len-2.ensures;
+      within = omega (arith, c.requires.within, counted);
+      after = λ some. behind-is c.args.at content.cells behind (c.slots_beside-before.ensures.behind (on some));
+      around = λ some. around-is c.args.at c.args.at content.cells behind (c.slots_beside-before.ensures.behind (on some))
+          ∙ ap (λ s. set.intersection s behind) (sym (c.slots_beside-before.ensures.before (on some)));
+    })
+    c.in_ok-insert_pieces.ensures.makes

@@ -1,0 +1,70 @@
+use Rattle.std.proofs.Common.{◌≡◌, [], ap, sym, ◌∙◌, arith}
+use Rattle.std.specs.FinSet as set
+use Rattle.std.proofs.lemmas.List.{nil_from_length}
+use Rattle.edit_ops.specs.Insertions.{inserted_texts, total}
+use Rattle.edit_ops.specs.States.{outlineed}
+use Rattle.edit_ops.proofs.InsertLaws.{inserting-count, inserting-first, inserting-none, piece-fits}
+use Rattle.edit_ops.proofs.outlines.Outline.insert_pieces.Goals as goal
+
+pub loop-piece-init : goal.loop-piece-init
+loop-piece-init c =
+    let around = set.intersection c.args.before c.args.behind.now in
+    inserting-first c.args.keeps c.args.self.now c.args.at c.args.len around c.args.behind.now c.args.pieces.items _
+    c.into_iter-piece-iterator.ensures.into_iter_gives.0 c.requires.within c.requires.stand c.requires.fits
+
+pub insert-requires-clause-fits : goal.insert-requires-clause-fits
+insert-requires-clause-fits c =
+    let around = set.intersection c.args.before c.args.behind.now in
+    let shared = set.intersection c.loop-piece.slots c.args.behind.now in
+    (piece-fits c.args.keeps c.args.self.now c.loop-piece.self c.args.at c.args.len around c.args.pieces.items
+    c.loop-piece.at c.loop-piece.len c.count_of-count.result shared c.args.behind.now c.in-Some.piece _ _
+    c.loop-piece.invariant c.in-Some.ensures.steps.0 c.count_of-count.ensures).0
+
+pub overflow_add-at : goal.overflow_add-at
+overflow_add-at c =
+    let around = set.intersection c.args.before c.args.behind.now in
+    let shared = set.intersection c.loop-piece.slots c.args.behind.now in
+    let fits = (piece-fits c.args.keeps c.args.self.now c.loop-piece.self c.args.at c.args.len around
+    c.args.pieces.items c.loop-piece.at c.loop-piece.len c.count_of-count.result shared c.args.behind.now
+    c.in-Some.piece _ _ c.loop-piece.invariant c.in-Some.ensures.steps.0 c.count_of-count.ensures) in
+    omega (arith, fits.1)
+
+pub loop-piece-preserved-then-count-gt0 : goal.loop-piece-preserved-then-count-gt0
+loop-piece-preserved-then-count-gt0 c =
+    let around = set.intersection c.args.before c.args.behind.now in
+    let shared = set.intersection c.loop-piece.slots c.args.behind.now in
+    inserting-count c.args.keeps c.args.self.now c.loop-piece.self c.insert.new.self c.args.at c.args.len
+    around c.args.pieces.items c.loop-piece.at c.loop-piece.len c.count_of-count.result shared
+    c.args.behind.now c.slots_or-slots.result c.in-Some.piece c.in_ok-kept.kept c.next.new.self.rest.items _
+    c.loop-piece.invariant c.in-Some.ensures.steps.0 c.count_of-count.ensures c.if-count-gt0.true
+    c.slots_or-slots.ensures c.in_ok-kept.ensures c.in_ok-insert.ensures
+
+pub loop-piece-preserved : goal.loop-piece-preserved
+loop-piece-preserved c =
+    let around = set.intersection c.args.before c.args.behind.now in
+    let shared = set.intersection c.loop-piece.slots c.args.behind.now in
+    inserting-none c.args.keeps c.args.self.now c.loop-piece.self c.args.at c.args.len around
+    c.args.pieces.items c.loop-piece.at c.loop-piece.len shared c.args.behind.now c.in-Some.piece
+    c.next.new.self.rest.items _ c.loop-piece.invariant c.in-Some.ensures.steps.0
+    (omega (arith, c.if-count-gt0.false, c.count_of-count.ensures))
+
+pub returns-clause-end : goal.returns-clause-end
+returns-clause-end c =
+    let rest = c.loop-piece.piece-iterator.rest.items in
+    let none : rest ≡ [] = nil_from_length rest
+    (omega (arith, c.in-None.ensures.steps.0, c.loop-piece.piece-iterator.rest.ok.0)) in
+    let nothing : total rest ≡ 0 = ap total none in
+    omega (arith, nothing, c.loop-piece.invariant.whole, c.loop-piece.invariant.place)
+
+pub returns-clause-makes : goal.returns-clause-makes
+returns-clause-makes c = λ recording kind state keeping fits is.
+    let done = c.loop-piece.invariant.goes recording kind state keeping fits is in
+    let rest = c.loop-piece.piece-iterator.rest.items in
+    let none : rest ≡ [] = nil_from_length rest
+    (omega (arith, c.in-None.ensures.steps.0, c.loop-piece.piece-iterator.rest.ok.0)) in
+    let nothing : total rest ≡ 0 = ap total none in (
+      done.fits,
+      done.between.counted ∙ omega (arith, nothing, c.loop-piece.invariant.whole),
+      sym (ap (λ ps. inserted_texts recording kind c.loop-piece.at ps (outlineed recording kind c.loop-piece.self state))
+          none) ∙ done.makes,
+    )

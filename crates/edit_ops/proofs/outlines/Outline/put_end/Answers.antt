@@ -1,0 +1,34 @@
+use Rattle.std.proofs.Common.{refl, sym, ap, ◌∙◌}
+use Rattle.std.specs.Prelude.{option_and_then, option_map}
+use Rattle.text_model.specs.declared.places.Place.{Place}
+use Rattle.edit_ops.specs.Removals.{with_mark}
+use Rattle.edit_ops.specs.Replays.{drawn_up}
+use Rattle.edit_ops.proofs.ReplaceLaws.{mark-fits}
+use Rattle.edit_ops.proofs.ReplayLaws.{mark-stood, mark-stays, stood-within}
+use Rattle.edit_ops.proofs.outlines.Outline.put_end.Goals as goal
+
+pub returns-in_ok-put_mark-in-Some-clause-fits : goal.returns-in_ok-put_mark-in-Some-clause-fits
+returns-in_ok-put_mark-in-Some-clause-fits g c =
+    mark-fits c.args.self.now c.put_mark.new.self (g.S.TextStore.content c.args.store.now) c.args.mark c.in-Some.place
+    c.requires.fits
+    (stood-within c.mark_place.result c.args.end _ c.in-Some.place c.requires.bound (sym c.stood.ensures
+    ∙ c.in-Some.is)) c.in_ok-put_mark-in-Some.ensures
+
+pub returns-in_ok-put_mark-in-Some-clause-makes : goal.returns-in_ok-put_mark-in-Some-clause-makes
+returns-in_ok-put_mark-in-Some-clause-makes g c = λ log.
+    let content = g.S.TextStore.content c.args.store.now in
+    let made = drawn_up c.args.self.now content log in
+    mark-stood c.args.self.now c.put_mark.new.self content c.args.mark c.stood.result c.in-Some.place made log
+    c.in-Some.is c.in_ok-put_mark-in-Some.ensures refl
+    ∙ ap (λ o. record made { content = with_mark c.args.mark.0 o made.content })
+    (c.stood.ensures ∙ ap (option_and_then (λ (place : Place).
+    option_map (λ at. record place { offset = at }) c.args.end)) c.mark_place.ensures.value)
+
+pub returns-in-None-clause-makes : goal.returns-in-None-clause-makes
+returns-in-None-clause-makes g c = λ log.
+    let content = g.S.TextStore.content c.args.store.now in
+    let made = drawn_up c.args.self.now content log in
+    mark-stays c.args.self.now c.args.self.now content c.args.mark c.stood.result made log c.in-None.is refl refl
+    ∙ ap (λ o. record made { content = with_mark c.args.mark.0 o made.content })
+    (c.stood.ensures ∙ ap (option_and_then (λ (place : Place).
+    option_map (λ at. record place { offset = at }) c.args.end)) c.mark_place.ensures.value)

@@ -1,0 +1,72 @@
+use Rattle.std.proofs.Common.{◌≡◌, ◌-◌, true, false, sym, ap, subst, ◌∙◌, arith}
+use Rattle.std.specs.Prelude.{option_and_then}
+use Rattle.std.specs.FinMap as finite
+use Rattle.text_model.specs.Steps.{Fits}
+use Rattle.undo_stack.specs.History.{no_history}
+use Rattle.undo_stack.specs.Modified.{unmodified}
+use Rattle.undo_stack.specs.declared.actions.EditKind.TheVariants.{Replace}
+use Rattle.edit_ops.specs.Insertions.{needs_shared, total}
+use Rattle.edit_ops.specs.Removals.{clipped}
+use Rattle.edit_ops.specs.States.{Outline, state_of}
+use Rattle.edit_ops.proofs.ReplaceLaws.{between-removed, found-within, mark-fits, mark-put, mark-none}
+use Rattle.edit_ops.proofs.ReplaceLaws.{replaced-is}
+use Rattle.edit_ops.proofs.replacements.outline_replace.Goals as goal
+use Rattle.edit_ops.proofs.replacements.outline_replace.Goals.{in-Some+in_ok-put_mark-in-Some, in-None}
+
+pub returns-clause-fits : goal.returns-clause-fits
+returns-clause-fits g c =
+    let content = g.S.TextStore.content c.args.text.now.store in
+    let on : needs_shared c.args.pieces.items ≡ true → c.needs_shared.result ≡ true = λ some.
+    c.needs_shared.ensures ∙ ap needs_shared c.deref.ensures.value ∙ some in
+    let is = between-removed (needs_shared c.args.pieces.items) c.slots_beside-before.result.0
+    c.slots_beside-before.result.1 (c.len-2.result - (c.args.to - c.args.from)) c.args.from c.args.to content.cells _
+    c.in_ok-outline.ensures.cells c.requires.ordered c.requires.within (ap (λ n. n - (c.args.to - c.args.from)) c.len-2.ensures)
+    (λ some. c.slots_beside-before.ensures.before (on some))
+    (λ some. c.slots_beside-before.ensures.behind (on some)) in
+    let made = c.in_ok-end.ensures.makes (record { undo = false; separators = false }) Replace
+    (state_of content c.args.text.now.anchors.items (record { history = no_history; modified = unmodified; most = 0 }))
+    (λ on. absurd (cc)) c.in_ok-outline.ensures.fits is in
+    let clip : c.clipped.result ≡ option_and_then (clipped c.args.from c.args.to (total c.args.pieces.items))
+    (finite.get content.marks c.args.mark.0) =
+    c.clipped.ensures ∙ ap (λ n. option_and_then (clipped c.args.from c.args.to n) c.mark_place.result)
+    (let is : c.in_ok-end.end - c.args.from ≡ total c.args.pieces.items = omega (arith, c.in_ok-end.ensures.end) in is)
+    ∙ ap (option_and_then (clipped c.args.from c.args.to (total c.args.pieces.items))) c.mark_place.ensures.value in
+    elim c.match-clipped.branch [
+      | in-Some+in_ok-put_mark-in-Some w ↦
+          let near = found-within c.args.from c.args.to (total c.args.pieces.items)
+          (finite.get content.marks c.args.mark.0) w.in-Some.place (sym clip ∙ w.in-Some.is) in
+          let long = made.1 in
+          let len = c.len-2.ensures in
+          mark-fits c.insert_pieces.new.self c.match-clipped.outline content c.args.mark w.in-Some.place made.0
+          (omega (arith, near, long, len, c.requires.ordered, c.requires.within)) (w.outline-is
+          ∙ w.in_ok-put_mark-in-Some.ensures)
+      | in-None w ↦ subst (λ (d : Outline). Fits d.steps content) (sym w.outline-is) made.0
+    ]
+
+pub returns-clause-makes : goal.returns-clause-makes
+returns-clause-makes g c = λ recording log keeping.
+    let content = g.S.TextStore.content c.args.text.now.store in
+    let state = state_of content c.args.text.now.anchors.items log in
+    let on : needs_shared c.args.pieces.items ≡ true → c.needs_shared.result ≡ true = λ some.
+    c.needs_shared.ensures ∙ ap needs_shared c.deref.ensures.value ∙ some in
+    let is = between-removed (needs_shared c.args.pieces.items) c.slots_beside-before.result.0
+    c.slots_beside-before.result.1 (c.len-2.result - (c.args.to - c.args.from)) c.args.from c.args.to content.cells _
+    c.in_ok-outline.ensures.cells c.requires.ordered c.requires.within (ap (λ n. n - (c.args.to - c.args.from)) c.len-2.ensures)
+    (λ some. c.slots_beside-before.ensures.before (on some))
+    (λ some. c.slots_beside-before.ensures.behind (on some)) in
+    let made = c.in_ok-end.ensures.makes recording Replace state keeping c.in_ok-outline.ensures.fits is in
+    let clip : c.clipped.result ≡ option_and_then (clipped c.args.from c.args.to (total c.args.pieces.items))
+    (finite.get content.marks c.args.mark.0) =
+    c.clipped.ensures ∙ ap (λ n. option_and_then (clipped c.args.from c.args.to n) c.mark_place.result)
+    (let is : c.in_ok-end.end - c.args.from ≡ total c.args.pieces.items = omega (arith, c.in_ok-end.ensures.end) in is)
+    ∙ ap (option_and_then (clipped c.args.from c.args.to (total c.args.pieces.items))) c.mark_place.ensures.value in
+    let finish = replaced-is recording c.in_ok-outline.outline c.insert_pieces.new.self c.match-clipped.outline state
+    c.args.mark c.args.from c.args.to c.args.pieces.items c.clipped.result
+    made.2 (c.in_ok-outline.ensures.makes recording Replace log keeping) clip in
+    elim c.match-clipped.branch [
+      | in-Some+in_ok-put_mark-in-Some w ↦ finish
+          (mark-put recording c.insert_pieces.new.self c.match-clipped.outline state c.args.mark c.clipped.result _
+          w.in-Some.is (w.outline-is ∙ w.in_ok-put_mark-in-Some.ensures))
+      | in-None w ↦ finish (mark-none recording c.insert_pieces.new.self c.match-clipped.outline state c.args.mark
+          c.clipped.result w.in-None.is w.outline-is)
+    ]
