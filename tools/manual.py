@@ -196,7 +196,7 @@ def check_tour(program, tally):
 
 def check_screen(tally):
     """The screen of README is one that the editor showed in a terminal."""
-    screens = [lines for _, _, lines in blocks_of(text_of("README.md")) if any("list.txt" in line for line in lines)]
+    screens = [lines for _, _, lines in blocks_of(text_of("README.md")) if any("list.py" in line for line in lines)]
     captured = text_of("tools", "editor.screens")
     for lines in screens:
         is_captured = "".join(f"|{line}\n" for line in lines) in captured
