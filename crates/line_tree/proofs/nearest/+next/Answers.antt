@@ -9,8 +9,7 @@ use Rattle.line_tree.specs.Shape.{lines_at, lines_in}
 use Rattle.line_tree.specs.Trees.{contents}
 use Rattle.line_tree.proofs.NearestLaws.{child-is, child-within, found-within, line-next, long, next-end, next-hit}
 use Rattle.line_tree.proofs.NearestLaws.{next-missed, none-next, past-next}
-use Rattle.line_tree.proofs.RowLaws.{child_is, lines_is, none_of, step_no, step_yes}
-use Rattle.line_tree.proofs.StartLaws.{said}
+use Rattle.line_tree.proofs.RowLaws.{child_is, lines_is, none_of, said, step_no, step_yes}
 use Rattle.line_tree.proofs.TreeLaws.{count-tree, named-tree, row-above, sum-tree}
 use Rattle.line_tree.proofs.nearest.+next.Goals as goal
 use Rattle.line_tree.proofs.nearest.+next.Goals.{else-rest-lines, in-Some, in_default, then-rest-lines+in_default-next}

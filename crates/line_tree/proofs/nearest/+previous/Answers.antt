@@ -8,8 +8,7 @@ use Rattle.line_tree.specs.Shape.{lines_at, lines_in}
 use Rattle.line_tree.specs.Trees.{contents}
 use Rattle.line_tree.proofs.NearestLaws.{child-is, first-previous, last-before, line-previous, none-previous}
 use Rattle.line_tree.proofs.NearestLaws.{previous-end, previous-hit, previous-missed, reaches}
-use Rattle.line_tree.proofs.RowLaws.{child_is, lines_is, none_of, step_no, step_yes}
-use Rattle.line_tree.proofs.StartLaws.{said}
+use Rattle.line_tree.proofs.RowLaws.{child_is, lines_is, none_of, said, step_no, step_yes}
 use Rattle.line_tree.proofs.TreeLaws.{count-tree, named-tree, row-above, sum-tree}
 use Rattle.line_tree.proofs.nearest.+previous.Goals as goal
 use Rattle.line_tree.proofs.nearest.+previous.Goals.{then-to-eq0-via-then-to-eq0}
