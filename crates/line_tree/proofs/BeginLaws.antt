@@ -11,67 +11,61 @@ use Rattle.raw_nodes.specs.Records.{Records}
 use Rattle.raw_nodes.specs.Rows.{kids}
 use Rattle.raw_nodes.specs.declared.names.NodePtr.{NodePtr}
 use Rattle.raw_nodes.proofs.MapLaws.{at_some}
+use Rattle.line_tree.specs.Aims.{characters-add, characters_behind, lines-add, nothing-adds}
 use Rattle.line_tree.specs.Changes.{sum_all}
-use Rattle.line_tree.specs.Locating.{characters_at}
 use Rattle.line_tree.specs.Places.{Begins, IsChild, IsLineAt, characters_before}
-use Rattle.line_tree.specs.Prefixes.{IsBehind}
-use Rattle.line_tree.specs.Shape.{IsTree, lines_at, lines_in}
+use Rattle.line_tree.specs.Shape.{IsTree, lines_in}
 use Rattle.line_tree.specs.Trees.{Named, total}
-use Rattle.line_tree.specs.declared.starts.Behind.{Behind}
+use Rattle.line_tree.specs.declared.aims.CharactersBefore.{CharactersBefore}
 use Rattle.line_tree.proofs.PlaceLaws.{line-within, linked, named_line, through}
-use Rattle.line_tree.proofs.StartLaws.{Starts, characters-all, starts-first, starts-line, starts-step}
+use Rattle.line_tree.proofs.SearchLaws.{Passes, arrives-before, passes-line, passes-start, passes-step, wide-all}
 use Rattle.line_tree.proofs.SumLaws.{total-append}
-use Rattle.line_tree.proofs.TreeLaws.{at_line, child-tree, count-tree}
+use Rattle.line_tree.proofs.TreeLaws.{at_line, child-tree, count-tree, total-lines}
 
 -- ---- from the root down to a line
-begins-line : (m : Records) (h d : ℕ) (r q p : NodePtr) (ls : List Named) (k o b : ℕ) → IsTree m h q →
-    Starts ls (lines_in m h q) k o b → Begins m d h r q b → IsLineAt (lines_in m h q) o p →
-    Begins m (d + h) 0 r p (total (take k ls)).characters
-begins-line m zero d r q p ls k o b tree w begins at =
+begins-line : (m : Records) (h d : ℕ) (r q p : NodePtr) (ls : List Named) (k o : ℕ) (old b : CharactersBefore) →
+    old.characters ≡ 0 → IsTree m h q → Passes (λ s. s.lines) characters_behind ls (lines_in m h q) k o old b
+    → Begins m d h r q b.characters → IsLineAt (lines_in m h q) o p
+    → Begins m (d + h) 0 r p (total (take k ls)).characters
+begins-line m zero d r q p ls k o old b none tree w begins at =
     let e : d ≡ d + 0 = omega arith in
     let same = same_Some q p (sym (at_line m q o (line-within (lines_in m zero q) o p at)) ∙ at) in
     let all = (total (take k ls)).characters in
+    let so_far = ap (λ (a : CharactersBefore). a.characters)
+    (arrives-before (passes-line characters-add m q ls k o old b w)) in
+    let is : b.characters ≡ all = omega arith in
     subst (λ x. Begins m x 0 r p all) e (subst (λ x. Begins m d 0 r x all) same
-    (subst (λ x. Begins m d 0 r q x) (starts-line m q ls k o b w) begins))
-begins-line m (suc h) d r q p ls k o b tree w begins at =
+    (subst (λ x. Begins m d 0 r q x) is begins))
+begins-line m (suc h) d r q p ls k o old b none tree w begins at =
     let l = named_line (lines_in m (suc h) q) o p at in
     let t = through m h (kids m q) o l.0 tree.2 l.1 in
     let child = child-tree m h (kids m q) t.slot t.child tree.2 t.at in
-    let more = (sum_all m (take t.slot (kids m q))).characters in
-    let f : Behind = record {
-      child = t.child;
-      size = (lines_at m t.child, characters_at m t.child);
-      rest = t.rest;
-      characters = b + more;
-    } in
+    let before = sum_all m (take t.slot (kids m q)) in
+    let lines = wide-all nothing-adds m (take t.slot (kids m q)) in let place = t.place in
     let less = slice_get_within (lines_in m h t.child) t.rest l.0 t.line in
     let count = count-tree m h t.child child in
-    let found : IsBehind m q o b f = record {
-      slot = t.slot;
-      child = t.at;
-      place = sym t.place;
-      rest = omega (arith, less, count);
-      size = refl;
-      characters = refl;
-    } in
-    let step = starts-step m h q ls k o b f tree w found in
+    let step = passes-step characters-add m h q ls k o old b tree w t.slot t.child t.rest (characters_behind b before)
+    t.at (omega arith) (omega arith) refl in
     let levels : suc d + h ≡ d + suc h = omega arith in
     subst (λ x. Begins m x 0 r p (total (take k ls)).characters) levels
-    (begins-line m h (suc d) r t.child p ls k t.rest (b + more) step.0 step.1 (
+    (begins-line m h (suc d) r t.child p ls k t.rest old (characters_behind b before) none step.0 step.1 (
       q,
       t.slot,
-      b,
+      b.characters,
       begins,
       record { tree = tree; at = t.at },
-      ap (λ n. b + n) (characters-all m (take t.slot (kids m q))),
+      ap (λ n. b.characters + n) (wide-all lines-add m (take t.slot (kids m q))),
     ) (ap (option_map (λ x. x.0)) t.line ∙ ap (λ x. Some x) l.2))
 
 -- a line of the root
 pub begins-named : (m : Records) (h : ℕ) (r p : NodePtr) (k : ℕ) → IsTree m h r → IsLineAt (lines_in m h r) k p →
     Begins m h 0 r p (total (take k (lines_in m h r))).characters
 begins-named m h r p k tree at = let ls = lines_in m h r in let d : 0 + h ≡ h = omega arith in
+    let count = total-lines ls in let within = line-within ls k p at in
+    let none : CharactersBefore = record { characters = 0 } in
     subst (λ x. Begins m x 0 r p (total (take k ls)).characters) d
-    (begins-line m h 0 r r p ls k k 0 tree (starts-first ls k (line-within ls k p at)) (refl, refl) at)
+    (begins-line m h 0 r r p ls k k none none refl tree (passes-start characters-add ls k none (omega arith)) (refl, refl)
+    at)
 
 -- no more than all characters
 pub first-characters : (k : ℕ) (ls : List Named) → (total (take k ls)).characters ≤ (total ls).characters

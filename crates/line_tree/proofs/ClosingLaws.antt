@@ -80,9 +80,6 @@ module _ (m : Records) (p : NodePtr) (slot : ℕ) (has : HasRow m p) (links : Li
       at-left = let e : at + 1 ≡ suc at = omega arith in
           remove-above (kids m p) slot at within s.low ∙ ap (slice_get (kids m p)) e ∙ sym hand
 
-      pub close-named : IsSome (finite.get n c)
-      close-named = s.names c (fill.each c (get-among left at c at-left))
-
       other : p ≢ c
       other e = fill.apart (subst (λ q. Among q left) (sym e) (get-among left at c at-left))
 

@@ -7,7 +7,6 @@ use Rattle.std.specs.declared.option.Option.{Option}
 use Rattle.std.specs.List.{remove}
 use Rattle.std.specs.declared.option.Option.TheVariants.{None, Some}
 use Rattle.std.proofs.lemmas.List.{append-nil, take-append-drop}
-use Rattle.std.proofs.lemmas.List.Edits.{length-remove}
 use Rattle.std.proofs.lemmas.Option.{slice_get_past}
 use Rattle.toggle_sums.specs.Counts.{plus}
 use Rattle.raw_nodes.specs.Records.{Records}
@@ -30,10 +29,6 @@ remove-above (x ∷ xs) zero i h above = let e : suc i ≡ i + 1 = omega arith i
 remove-above (x ∷ xs) (suc at) zero h above = absurd (omega arith)
 remove-above (x ∷ xs) (suc at) (suc i) h above = let e : suc (i + 1) ≡ suc i + 1 = omega arith in
     remove-above xs at i (omega arith) (omega arith) ∙ ap (slice_get (x ∷ xs)) e
-
-pub remove-past : {X : Type 0} (xs : List X) (at i : ℕ) → at < length xs → length xs ≤ i + 1 →
-    slice_get (remove xs at) i ≡ None
-remove-past xs at i h past = let n = length-remove xs at h in slice_get_past (remove xs at) i (omega arith)
 
 pub pair-past : {X : Type 0} (xs ys : List X) (i : ℕ) → length xs + length ys ≤ i → slice_get (xs ++ ys) i ≡ None
 pair-past xs ys i past = let n = length-append xs ys in slice_get_past (xs ++ ys) i (omega arith)

@@ -1,5 +1,5 @@
 -- One more level, up to the root.
-use Rattle.std.proofs.Common.{◌≡◌, ℕ, zero, suc, ◌+◌, ◌-◌, ◌*◌, ◌^◌, ◌≤◌, List, [], ◌∷◌, length, refl, sym, ap, ◌∙◌}
+use Rattle.std.proofs.Common.{◌≡◌, ℕ, zero, suc, ◌+◌, ◌-◌, ◌*◌, ◌^◌, ◌≤◌, List, [], ◌∷◌, length, sym, ap, ◌∙◌}
 use Rattle.std.proofs.Common.{subst, arith}
 use Rattle.std.specs.FinMap as finite
 use Rattle.std.specs.List.{AllByRecursion}
@@ -13,7 +13,7 @@ use Rattle.line_tree.specs.Raising.{CanLift, CanRaise, Lifted, Raises, trees_at}
 use Rattle.line_tree.specs.Room.{levels_at_most}
 use Rattle.line_tree.specs.Shape.{tree_at}
 use Rattle.line_tree.specs.Trees.{IsBalanced, IsBalancedRoot, Tree, least_below_root, total}
-use Rattle.line_tree.proofs.BecomeLaws.{and-then, stays}
+use Rattle.line_tree.proofs.BecomeLaws.{and-then}
 use Rattle.line_tree.proofs.BuildLaws.{sum-trees}
 use Rattle.line_tree.proofs.CountLaws.{least-lines, lines-sum, lines-within, many-lines}
 use Rattle.line_tree.proofs.FrameLaws.{names-all-held}
@@ -22,10 +22,6 @@ use Rattle.line_tree.proofs.RemakeLaws.{lines-below, some-above, wide-all}
 use Rattle.line_tree.proofs.RoomLaws.{len-many}
 use Rattle.line_tree.proofs.StepLaws.{all-balanced}
 use Rattle.line_tree.proofs.TreeLaws.{tops-tree_at, total-lines}
-
-pub lift-none : (m : Records) (h : ℕ) (cs : List NodePtr) → CanLift m h cs → Lifted m m h cs h cs
-lift-none m h cs can =
-    record { can = can; becomes = stays m h (trees_at m h cs) can.holds can.distinct; lines = refl }
 
 pub lift-can : (m : Records) (h : ℕ) (cs : List NodePtr) → CanLift m h cs → CanRaise m h cs
 lift-can m h cs can = record {

@@ -186,10 +186,6 @@ found-back test ls xs to b t n same reach within free is =
       ];
     })
 
-pub found-below : (test : LineContent → Bool) (t n : ℕ) (xs : List LineContent) → t ≤ length xs →
-    previous_line test t xs ≡ Some n → n < t
-found-below test t n xs within is = (previous-found test t xs within n is).below
-
 -- ---- what a sum shows
 any-of : (x y : ℕ) → nat_lt 0 (x + y) ≡ (nat_lt 0 x || nat_lt 0 y)
 any-of x y = elim (cases_lt 0 x) [

@@ -14,8 +14,8 @@ use Rattle.raw_nodes.specs.declared.names.NodePtr.{NodePtr}
 use Rattle.line_tree.specs.Places.{IsChild, IsLineAt, Sits, lines_before}
 use Rattle.line_tree.specs.Shape.{IsTree, lines_at, lines_in, tree_at}
 use Rattle.line_tree.specs.Trees.{IsBalanced, IsBalancedRoot, Named, Tree}
-use Rattle.line_tree.specs.Walks.{Begins}
-use Rattle.line_tree.specs.declared.walk.Branch.{Branch}
+use Rattle.line_tree.specs.Walks.{IsFirstLine}
+use Rattle.line_tree.specs.declared.walk.Subtree.{Subtree}
 use Rattle.line_tree.proofs.CountLaws.{least-lines, one-line, pow-more}
 use Rattle.line_tree.proofs.PlaceLaws.{Up, child-is-tree, sits, up_from}
 use Rattle.line_tree.proofs.RowLaws.{step_yes}
@@ -139,7 +139,7 @@ ends-root m h j r p k same e = let none : h - j ≡ 0 = omega arith in
 -- behind another child its neighbour begins
 pub ends-next : (m : Records) (d h n : ℕ) (r p : NodePtr) (k : ℕ) (up : NodePtr) (slot : ℕ) →
     Child m d h r p k up slot → n ≡ suc d + h → IsBalancedRoot n (tree_at m n r)
-    → (b : Branch) → b.height ≡ h → slice_get (kids m up) (slot + 1) ≡ Some b.node → Begins m n r (k + 1) b
+    → (b : Subtree) → b.height ≡ h → slice_get (kids m up) (slot + 1) ≡ Some b.node → IsFirstLine m n r (k + 1) b
 ends-next m d h n r p k up slot c high balanced b same at =
     let u = c.place in
     let child : IsChild m h up (slot + 1) b.node = record { tree = u.child.tree; at = at } in

@@ -29,9 +29,6 @@ two-cases h a b xs ys q s = elim (among-cases q (a ∷ names_of h xs) ((b ∷ na
   | inr c ↦ elim (of-one q (b ∷ names_of h ys) c) [ inl e ↦ inr (inl e) | inr d ↦ inr (inr (in-right h xs ys q d)) ]
 ]
 
-pub two-left : (h : ℕ) (a b : NodePtr) (xs ys : List (Tree h)) → Among a (names_of (suc h) ((a, xs) ∷ (b, ys) ∷ []))
-two-left h a b xs ys = inl refl
-
 pub two-right : (h : ℕ) (a b : NodePtr) (xs ys : List (Tree h)) → Among b (names_of (suc h) ((a, xs) ∷ (b, ys) ∷ []))
 two-right h a b xs ys = among-right b (a ∷ names_of h xs) ((b ∷ names_of h ys) ++ []) (inl refl)
 

@@ -184,17 +184,4 @@ module _ (m l : Records) (h : ℕ) (done g rest : List NodePtr) (all : ℕ) (ps 
       ];
     }
 
--- ---- none yet, and all of them
-pub raises-none : (m : Records) (h all : ℕ) → Raises m m h [] all []
-raises-none m h all = record {
-  becomes = record {
-    holds = tt;
-    distinct = tt;
-    within = λ q a out. absurd a;
-    other = λ q s out. refl;
-    old = λ q s out. (s, λ c. c);
-  };
-  below = refl;
-  wide = λ least six enough. tt;
-  loose = λ q c. absurd c;
-}
+-- ---- all of them

@@ -26,7 +26,7 @@ use Rattle.line_tree.specs.Shape.{Holds, IsTree, line_of, lines_in, sum_at, sum_
 use Rattle.line_tree.specs.Trees.{IsBalanced, IsBalancedRoot, Tree, inner, least_below_root, lines, names, tops, total}
 use Rattle.line_tree.proofs.AmongLaws.{among-or}
 use Rattle.line_tree.proofs.BuildLaws.{built, sum-trees, tree-is}
-use Rattle.line_tree.proofs.CountLaws.{height-below, least-lines-root}
+use Rattle.line_tree.proofs.CountLaws.{least-lines-root}
 use Rattle.line_tree.proofs.FillLaws.{at-update, relinked-row, relinked-sums, sum_all-same}
 use Rattle.line_tree.proofs.FrameLaws.{all-same, holds-same, names-all-held, names-held, tops-among}
 use Rattle.line_tree.proofs.GrowLaws.{of-one, to-one, unnamed}
@@ -396,10 +396,6 @@ stands-least m h r s two =
 
 pub stands-few : (m : Records) (h : ℕ) (r : NodePtr) → Stands m h r → length (lines_in m h r) < 2 ^ 64
 stands-few m h r s = let e = total-lines (lines_in m h r) in let f = s.fits.lines in omega arith
-
-pub stands-low : (m : Records) (h : ℕ) (r : NodePtr) → Stands m h r → h < 2 ^ 64
-stands-low m h r s = let a = height-below m h (tree_at m h r) s.tree s.balanced in let b = stands-few m h r s in
-    omega arith
 
 -- ---- no other record
 pub same-root-alone : (m n l : Records) (x : NodePtr) (line : LineContent) (new : NewLine m n x line) (h : ℕ)

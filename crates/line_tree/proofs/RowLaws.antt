@@ -26,39 +26,39 @@ child_is m p has o i says =
     at_some (finite.get m p) (λ r. o ≡ get_or r.children i None) has.found says has.is
     ∙ ap (λ xs. get_or xs i None) has.children ∙ get_or-row (kids m p) i
 
+-- what a call answers of a node's sum
+pub said : {T : Type 0} (of : Count → T) (m : Records) (q : NodePtr) (x : T) → IsSome (finite.get m q) →
+    IfSome (finite.get m q) (λ r. x ≡ of r.sum) → x ≡ of (sum_at m q)
+said of m q x named says = let r = some_of (finite.get m q) named in
+    at_some (finite.get m q) (λ y. x ≡ of y.sum) r.0 says r.1 ∙ ap (λ o. of (sum_of o)) (sym r.1)
+
 pub sum_is : (m : Records) (q : NodePtr) (s : Count) → IsSome (finite.get m q) →
     IfSome (finite.get m q) (λ r. s ≡ r.sum) → s ≡ sum_at m q
-sum_is m q s named says = let r = some_of (finite.get m q) named in
-    at_some (finite.get m q) (λ x. s ≡ x.sum) r.0 says r.1 ∙ ap sum_of (sym r.1)
+sum_is = said (λ s. s)
+
+pub lines_is : (m : Records) (q : NodePtr) (n : ℕ) → IsSome (finite.get m q) →
+    IfSome (finite.get m q) (λ r. n ≡ r.sum.lines) → n ≡ lines_at m q
+lines_is = said (λ s. s.lines)
+
+pub marks_is : (m : Records) (q : NodePtr) (n : ℕ) → IsSome (finite.get m q) →
+    IfSome (finite.get m q) (λ r. n ≡ r.sum.marks) → n ≡ (sum_at m q).marks
+marks_is = said (λ s. s.marks)
+
+pub size_is : (m : Records) (q : NodePtr) (size : ℕ × ℕ) → IsSome (finite.get m q) →
+    IfSome (finite.get m q) (λ r. size ≡ (r.sum.lines, r.sum.characters)) →
+    size ≡ (lines_at m q, (sum_at m q).characters)
+size_is = said (λ s. (s.lines, s.characters))
+
+-- a sum to which that of a node was added
+pub added_is : (m : Records) (q : NodePtr) (old new : Count) → IsSome (finite.get m q) →
+    IfSome (finite.get m q) (λ r. new ≡ plus old r.sum) → new ≡ plus old (sum_at m q)
+added_is m q old = said (plus old) m q
 
 -- what is asked of a record's sum is asked of the node's
 pub asks : (ask : Count → Type 0) (m : Records) (q : NodePtr) → IsSome (finite.get m q) → ask (sum_at m q) →
     IfSome (finite.get m q) (λ r. ask r.sum)
 asks ask m q named holds = let r = some_of (finite.get m q) named in
     subst (λ o. IfSome o (λ r. ask r.sum)) (sym r.1) (subst (λ o. ask (sum_of o)) r.1 holds)
-
--- a sum to which that of a node was added
-pub added_is : (m : Records) (q : NodePtr) (old new : Count) → IsSome (finite.get m q) →
-    IfSome (finite.get m q) (λ r. new ≡ plus old r.sum) → new ≡ plus old (sum_at m q)
-added_is m q old new named says = let r = some_of (finite.get m q) named in
-    at_some (finite.get m q) (λ x. new ≡ plus old x.sum) r.0 says r.1 ∙ ap (λ o. plus old (sum_of o)) (sym r.1)
-
-pub lines_is : (m : Records) (q : NodePtr) (n : ℕ) → IsSome (finite.get m q) →
-    IfSome (finite.get m q) (λ r. n ≡ r.sum.lines) → n ≡ lines_at m q
-lines_is m q n named says = let r = some_of (finite.get m q) named in
-    at_some (finite.get m q) (λ x. n ≡ x.sum.lines) r.0 says r.1 ∙ ap (λ o. (sum_of o).lines) (sym r.1)
-
-pub marks_is : (m : Records) (q : NodePtr) (n : ℕ) → IsSome (finite.get m q) →
-    IfSome (finite.get m q) (λ r. n ≡ r.sum.marks) → n ≡ (sum_at m q).marks
-marks_is m q n named says = let r = some_of (finite.get m q) named in
-    at_some (finite.get m q) (λ x. n ≡ x.sum.marks) r.0 says r.1 ∙ ap (λ o. (sum_of o).marks) (sym r.1)
-
-pub size_is : (m : Records) (q : NodePtr) (size : ℕ × ℕ) → IsSome (finite.get m q) →
-    IfSome (finite.get m q) (λ r. size ≡ (r.sum.lines, r.sum.characters)) →
-    size ≡ (lines_at m q, (sum_at m q).characters)
-size_is m q size named says = let r = some_of (finite.get m q) named in
-    at_some (finite.get m q) (λ x. size ≡ (x.sum.lines, x.sum.characters)) r.0 says r.1
-    ∙ ap (λ o. ((sum_of o).lines, (sum_of o).characters)) (sym r.1)
 
 -- ---- a step over the children
 pub step_yes : (f : NodePtr → ℕ) (cs : List NodePtr) (i : ℕ) (c : NodePtr) → slice_get cs i ≡ Some c →

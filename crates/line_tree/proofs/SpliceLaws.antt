@@ -219,12 +219,6 @@ next-out old now after k j within is gone =
     ∙ ap (λ ls. take k old ++ ls) (ap (remove (drop (k + j) old)) e ∙ first-out old (k + j) within
     ∙ ap (λ n. drop n old) f)
 
-pub out-length : (old now : List Named) (k j : ℕ) → k + j ≤ length old → now ≡ take k old ++ drop (k + j) old →
-    length now + j ≡ length old
-out-length old now k j within is =
-    let a = ap length is in let b = length-append (take k old) (drop (k + j) old) in
-    let c = length-take-le k old (omega arith) in let d = length-drop (k + j) old in omega arith
-
 -- ---- both
 pub taken-behind : (old now : List Named) (k went rest : ℕ) (added : List Named) → k ≤ length old →
     now ≡ take k old ++ added ++ drop (k + went) old

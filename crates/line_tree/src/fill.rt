@@ -1,4 +1,4 @@
-ghost use Rattle.std.specs.Prelude.{◌≡◌, ℕ, ◌+◌, ◌*◌, ◌^◌, ◌≤◌, ◌<◌, length, slice_get, take, drop, option_to_list, []};
+ghost use Rattle.std.specs.Prelude.{◌≡◌, ℕ, ◌+◌, ◌*◌, ◌≤◌, ◌<◌, length, slice_get, take, drop, option_to_list, []};
 ghost use Rattle.std.specs.Prelude.{◌∷◌};
 ghost use Rattle.std.specs.List.{insert};
 ghost use Rattle.raw_nodes.specs.Names.{IsInner, IsName, records, rooms, spares};

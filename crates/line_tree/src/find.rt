@@ -1,7 +1,10 @@
-ghost use Rattle.std.specs.Prelude.{◌+◌, ◌≤◌, ◌<◌};
+ghost use Rattle.std.specs.Prelude.{◌≡◌, ◌+◌, ◌<◌, ◌≤◌};
 ghost use Rattle.raw_nodes.specs.Names.{records};
+ghost use Rattle.line_tree.specs.Shape.{lines_at};
 ghost use Rattle.line_tree.specs.Finds.{Finds, HasRow, lines_below};
 
+use crate::aims::NothingBefore;
+use crate::search::{search, search_back};
 use raw_nodes::{NodePtr, NodeStore, Ticks};
 
 /// A child, its slot, how many lines it has, and how many of the lines asked for are left in it.
@@ -13,32 +16,40 @@ pub struct Found {
     pub rest: usize,
 }
 
-/// The child that has line `k` of those below a node, from the first child on.
-pub fn find<C: Ticks>(store: &NodeStore<C>, node: NodePtr, k: usize, ticks: &mut C) -> Found
+/// The child that has line `k` of those below a node, which are so many, looked for from the end that is nearer.
+pub fn find_among<C: Ticks>(
+    store: &NodeStore<C>,
+    node: NodePtr,
+    lines: usize,
+    k: usize,
+    ticks: &mut C,
+) -> Found
     requires row { HasRow (records store.now) node }
     requires within { k < lines_below (records store.now) node }
+    requires lines { lines ≡ lines_below (records store.now) node }
     ensures found { Finds (records store.now) node k result }
     ensures ticks { C.count ticks.new ≤ C.count ticks.old + 24 }
 {
-    let mut rest = k;
-    for slot in 0..12 {
-        if let Some(child) = store.child(node, slot, ticks) {
-            let lines = store.lines(child, ticks);
-            if rest < lines {
-                return Found {
-                    child,
-                    slot,
-                    lines,
-                    rest,
-                };
-            }
-            rest -= lines;
-        }
-    }
+    let reached = if k < lines / 2 {
+        search(store, node, k, &mut NothingBefore, ticks)
+    } else {
+        search_back(store, node, lines - k, &mut NothingBefore, ticks)
+    };
     Found {
-        child: node,
-        slot: 12,
-        lines: 0,
-        rest,
+        child: reached.child,
+        slot: reached.slot,
+        lines: reached.size,
+        rest: reached.rest,
     }
+}
+
+/// The same where it isn't known how many there are.
+pub fn find_near<C: Ticks>(store: &NodeStore<C>, node: NodePtr, k: usize, ticks: &mut C) -> Found
+    requires row { HasRow (records store.now) node }
+    requires within { k < lines_below (records store.now) node }
+    requires whole { lines_at (records store.now) node ≡ lines_below (records store.now) node }
+    ensures found { Finds (records store.now) node k result }
+{
+    let lines = store.lines(node, ticks);
+    find_among(store, node, lines, k, ticks)
 }

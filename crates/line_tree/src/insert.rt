@@ -10,8 +10,7 @@ ghost use Rattle.line_tree.specs.Spreading.{Respreads};
 
 use crate::behind::{Added, insert_behind};
 use crate::fill::{add, put};
-use crate::find::Found;
-use crate::near::find_near;
+use crate::find::{Found, find_near};
 use crate::spread::spread;
 use raw_nodes::{NodePtr, NodeStore, Ticks};
 use segments::Line;

@@ -3,6 +3,7 @@
 //! a line. Over it a list of lines for a text store, with the line of each mark; and the store.
 #![tactic(auto)]
 
+mod aims;
 mod behind;
 mod branches;
 mod climb;
@@ -10,10 +11,9 @@ mod fill;
 mod find;
 mod insert;
 mod levels;
+mod line;
 mod locate;
 mod mark_names;
-mod marks;
-mod near;
 mod nearest;
 mod prefix;
 mod put_row;
@@ -22,6 +22,7 @@ mod remove;
 mod replacing;
 mod room;
 mod rows;
+mod search;
 mod select;
 mod shrink;
 mod splice;

@@ -1,4 +1,4 @@
-ghost use Rattle.std.specs.Prelude.{◌≡◌, ℕ, ◌<◌, ◌≤◌, IfSome, MatchOption, OnOk, if◌then◌else◌, length, slice_range};
+ghost use Rattle.std.specs.Prelude.{◌≡◌, ℕ, ◌<◌, ◌≤◌, MatchOption, OnOk, if◌then◌else◌, length, slice_range};
 ghost use Rattle.std.specs.Prelude.{vec_len};
 ghost use Rattle.std.specs.List.{All};
 ghost use Rattle.segments.specs.Columns.{LineContent};

@@ -19,6 +19,7 @@ pub enum Wanted {
 
 impl Wanted {
     /// Whether one of the lines below a node has it, by their sum.
+    #[inline(always)]
     fn is_in<C: Ticks>(self, store: &NodeStore<C>, node: NodePtr, ticks: &mut C) -> bool
         requires known { IsKnown self }
         requires named { IsName store.now node }
@@ -56,7 +57,7 @@ pub fn next<C: Ticks>(
         if let Some(child) = store.child(node, slot, ticks) {
             let lines = store.lines(child, ticks);
             let rest = from.saturating_sub(before);
-            if rest < lines {
+            if rest < lines && wanted.is_in(store, child, ticks) {
                 if let Some(found) = next(store, child, height - 1, wanted, rest, ticks) {
                     return Some(before + found);
                 }
@@ -95,7 +96,7 @@ pub fn previous<C: Ticks>(
             let lines = store.lines(child, ticks);
             before -= lines;
             let rest = to.saturating_sub(before).min(lines);
-            if rest > 0 {
+            if rest > 0 && wanted.is_in(store, child, ticks) {
                 if let Some(found) = previous(store, child, height - 1, wanted, rest, ticks) {
                     return Some(before + found);
                 }

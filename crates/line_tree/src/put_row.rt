@@ -7,7 +7,7 @@ ghost use Rattle.line_tree.specs.Trees.{contents};
 
 use crate::insert::{lead, new_line};
 use crate::raise::{Gap, push_all, raise, remake};
-use crate::walk::Branch;
+use crate::walk::Subtree;
 use raw_nodes::{NodePtr, NodeStore, Ticks};
 use segments::Line;
 
@@ -43,7 +43,7 @@ pub fn make_row<C: Ticks>(
 /// names then.
 pub fn put_row<C: Ticks>(
     store: &mut NodeStore<C>,
-    branch: Branch,
+    branch: Subtree,
     k: usize,
     row: &mut Vec<NodePtr>,
     below: &mut Vec<NodePtr>,
@@ -77,7 +77,7 @@ pub fn put_row<C: Ticks>(
         return;
     }
     let found = lead(store, node, k, ticks);
-    let child = Branch {
+    let child = Subtree {
         node: found.child,
         height: branch.height - 1,
     };

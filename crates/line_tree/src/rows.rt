@@ -1,7 +1,7 @@
 use crate::put_row::{lift, make_row, put_row};
 use crate::room::MOST_IN_ROW;
 use crate::tree::LineTree;
-use crate::walk::Branch;
+use crate::walk::Subtree;
 use raw_nodes::{NodePtr, Ticks};
 use segments::Line;
 use std::alloc::AllocError;
@@ -85,7 +85,7 @@ impl<C: Ticks> LineTree<C> {
         }
         self.count += count;
         make_row(&mut self.store, lines, rest, &mut self.row);
-        let branch = Branch {
+        let branch = Subtree {
             node: self.root,
             height: self.height,
         };

@@ -3,8 +3,7 @@ ghost use Rattle.raw_nodes.specs.Names.{records};
 ghost use Rattle.line_tree.specs.Shape.{IsTree, lines_in};
 ghost use Rattle.line_tree.specs.Finds.{Finds, lines_below};
 
-use crate::find::Found;
-use crate::near::find_among;
+use crate::find::{Found, find_among};
 use raw_nodes::{NodePtr, NodeStore, Ticks};
 
 /// The child that has line `k` of those below a node, which are so many, where the children stand at this level. Those

@@ -10,7 +10,7 @@ use raw_nodes::{NodePtr, NodeStore, Ticks};
 
 /// A node, and how many levels there are below it.
 #[derive(Clone, Copy)]
-pub struct Branch {
+pub struct Subtree {
     pub node: NodePtr,
     pub height: usize,
 }
@@ -22,7 +22,7 @@ pub fn climb<C: Ticks>(
     height: usize,
     name: NodePtr,
     ticks: &mut C,
-) -> Option<Branch>
+) -> Option<Subtree>
     requires stands { Stands (records store.now) height root }
     requires named { (k : ℕ) × IsLineAt (lines_in (records store.now) height root) k name }
     ensures branch { (k : ℕ) → IsLineAt (lines_in (records store.now) height root) k name
@@ -35,7 +35,7 @@ pub fn climb<C: Ticks>(
         let slot = store.slot(at) + 1;
         if slot < store.children(up) {
             let node = store.child(up, slot, ticks)?;
-            return Some(Branch {
+            return Some(Subtree {
                 node,
                 height: level,
             });
@@ -46,7 +46,7 @@ pub fn climb<C: Ticks>(
 }
 
 /// The name of the first line below a node.
-pub fn first<C: Ticks>(store: &NodeStore<C>, branch: Branch, ticks: &mut C) -> NodePtr
+pub fn first<C: Ticks>(store: &NodeStore<C>, branch: Subtree, ticks: &mut C) -> NodePtr
     requires tree { IsTree (records store.now) branch.height branch.node }
     requires balanced { IsBalanced branch.height (tree_at (records store.now) branch.height branch.node) }
     ensures name { IsLineAt (lines_in (records store.now) branch.height branch.node) 0 result }

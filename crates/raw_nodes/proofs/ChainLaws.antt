@@ -45,14 +45,6 @@ pub mark_is : (xs : List Node) (i : ℕ) (x : Node) → i < length xs → x ≡ 
     get_or (marks_of xs) i 0 ≡ 0
 mark_is xs i x h e u = get_or-map mark_of xs i x 0 h ∙ ap mark_of (sym e) ∙ used_mark x u
 
--- the map after a change of a node in use
-pub changed_cells : (f : Record → Record) (xs : List Node) (i : ℕ) (x w : Node) → i < length xs → x ≡ get_or xs i x →
-    is_used x.held ≡ true → is_used w.held ≡ true → record_of w ≡ f (record_of x)
-    → IfSome (get_or (cells_of xs) i None) (λ r. cells_of (set xs i w) ≡ set (cells_of xs) i (Some (f r)))
-changed_cells f xs i x w h e u v s =
-    subst (λ o. IfSome o (λ r. cells_of (set xs i w) ≡ set (cells_of xs) i (Some (f r)))) (sym (cell_is xs i x h e u))
-    (map-set cell_of xs i w ∙ ap (set (cells_of xs) i) (used_cell w v ∙ ap Some s))
-
 -- the spares after a change of a node that is none of them
 pub chain_set : (ps : List NodePtr) (ms : List ℕ) (ns : List (Option NodePtr)) (n : ℕ) (o : Option NodePtr) (i m : ℕ)
     (t : Option NodePtr)

@@ -9,11 +9,12 @@ use Rattle.line_tree.specs.Shape.{lines_at, lines_in}
 use Rattle.line_tree.specs.Trees.{contents}
 use Rattle.line_tree.proofs.NearestLaws.{child-is, child-within, found-within, line-next, long, next-end, next-hit}
 use Rattle.line_tree.proofs.NearestLaws.{next-missed, none-next, past-next}
-use Rattle.line_tree.proofs.RowLaws.{child_is, lines_is, none_of, step_no, step_yes}
-use Rattle.line_tree.proofs.StartLaws.{said}
+use Rattle.line_tree.proofs.RowLaws.{child_is, lines_is, none_of, said, step_no, step_yes}
 use Rattle.line_tree.proofs.TreeLaws.{count-tree, named-tree, row-above, sum-tree}
 use Rattle.line_tree.proofs.nearest.+next.Goals as goal
-use Rattle.line_tree.proofs.nearest.+next.Goals.{else-rest-lines, in-Some, in_default, then-rest-lines+in_default-next}
+use Rattle.line_tree.proofs.nearest.+next.Goals.{else-rest-lines, in-Some, in_default, then-rest-lines+then-is_in+in_default-next}
+use Rattle.line_tree.proofs.nearest.+next.Goals.{else-rest-lines-via-else-rest-lines}
+use Rattle.line_tree.proofs.nearest.+next.Goals.{else-rest-lines-via-then-rest-lines+else-is_in}
 use Rattle.line_tree.proofs.nearest.+next.Goals.{then-from-lines-via-then-from-lines}
 use Rattle.line_tree.proofs.nearest.+next.Goals.{then-from-lines-via-else-from-lines+then-not-is_in}
 
@@ -70,6 +71,14 @@ next-requires g t c κs inside = let m = records c.args.store.now in let h = c.a
 pub lines-lines-requires : goal.lines-lines-requires
 lines-lines-requires g t c = let m = records c.args.store.now in let h = c.args.height in let p = c.args.node in
     let n = h - 1 in let not = c.if-height-eq0.false in
+    let e : h ≡ suc n = omega arith in
+    let row = row-above m h n p e c.requires.tree in
+    row.each c.loop-slot.slot c.in-Some.child
+    (sym (child_is m p row c.child.result c.loop-slot.slot c.child.ensures.value) ∙ c.in-Some.is)
+
+pub is_in-requires-then-rest-lines-clause-named : goal.is_in-requires-then-rest-lines-clause-named
+is_in-requires-then-rest-lines-clause-named g t c = let m = records c.args.store.now in let h = c.args.height in
+    let p = c.args.node in let n = h - 1 in let not = c.if-height-eq0.false in
     let e : h ≡ suc n = omega arith in
     let row = row-above m h n p e c.requires.tree in
     row.each c.loop-slot.slot c.in-Some.child
@@ -132,10 +141,19 @@ loop-slot-preserved g t c = let m = records c.args.store.now in let h = c.args.h
           (child-is m h n p i b e c.requires.tree before v.in-Some.child here) in
           let rest = v.saturating_sub-rest.ensures in
           let none : next_line (passes w) (from - b) (contents xs) ≡ None = elim v.if-rest-lines.branch [
-            | then-rest-lines+in_default-next u ↦
+            | then-rest-lines+then-is_in+in_default-next u ↦
                 ap (λ r. next_line (passes w) r (contents xs)) (sym rest) ∙ sym u.next.ensures
                 ∙ none_of u.next.result u.in_default-next.not-Some
-            | else-rest-lines u ↦ let test = u.if-rest-lines.false in past-next w (from - b) xs (omega arith)
+            | else-rest-lines u ↦ elim u.else-rest-lines.branch [
+              | else-rest-lines-via-then-rest-lines+else-is_in x ↦
+                  let tree = child-is m h n p i b e c.requires.tree before v.in-Some.child here in
+                  let shown = said (shows w) m v.in-Some.child x.is_in-then-rest-lines.result
+                  (row.each i v.in-Some.child here) x.is_in-then-rest-lines.ensures in
+                  none-next w (from - b) xs
+                  (sym (shown ∙ ap (shows w) (sum-tree m n v.in-Some.child tree)) ∙ x.if-is_in.false)
+              | else-rest-lines-via-else-rest-lines x ↦
+                  let test = x.if-rest-lines.false in past-next w (from - b) xs (omega arith)
+            ]
           ] in
           let more = step_yes (lines_at m) (kids m p) i v.in-Some.child here in
           let now = v.before-is in

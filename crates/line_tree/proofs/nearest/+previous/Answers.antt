@@ -1,6 +1,8 @@
+use Rattle.std.specs.declared.option.Option.TheVariants.{None}
 use Rattle.std.proofs.Common.{◌≡◌, ◌+◌, ◌-◌, suc, min, sym, ap, ◌∙◌, subst, arith}
 use Rattle.raw_nodes.specs.Names.{records}
 use Rattle.raw_nodes.specs.Rows.{kids}
+use Rattle.line_lists.specs.Lists.{previous_line}
 use Rattle.line_lists.proofs.SearchRows.{FailFrom}
 use Rattle.line_tree.specs.Nearest.{passes, shows}
 use Rattle.line_tree.specs.Places.{lines_before}
@@ -8,10 +10,11 @@ use Rattle.line_tree.specs.Shape.{lines_at, lines_in}
 use Rattle.line_tree.specs.Trees.{contents}
 use Rattle.line_tree.proofs.NearestLaws.{child-is, first-previous, last-before, line-previous, none-previous}
 use Rattle.line_tree.proofs.NearestLaws.{previous-end, previous-hit, previous-missed, reaches}
-use Rattle.line_tree.proofs.RowLaws.{child_is, lines_is, none_of, step_no, step_yes}
-use Rattle.line_tree.proofs.StartLaws.{said}
+use Rattle.line_tree.proofs.RowLaws.{child_is, lines_is, none_of, said, step_no, step_yes}
 use Rattle.line_tree.proofs.TreeLaws.{count-tree, named-tree, row-above, sum-tree}
 use Rattle.line_tree.proofs.nearest.+previous.Goals as goal
+use Rattle.line_tree.proofs.nearest.+previous.Goals.{else-rest-gt0-via-else-rest-gt0}
+use Rattle.line_tree.proofs.nearest.+previous.Goals.{else-rest-gt0-via-then-rest-gt0+else-is_in}
 use Rattle.line_tree.proofs.nearest.+previous.Goals.{then-to-eq0-via-then-to-eq0}
 use Rattle.line_tree.proofs.nearest.+previous.Goals.{then-to-eq0-via-else-to-eq0+then-not-is_in}
 
@@ -93,6 +96,14 @@ previous-requires g t c κs inside = let m = records c.args.store.now in let h =
     let count = count-tree m n c.in-Some.child child in let within = reach.inside in
     (omega (arith, c.decreases), (inside, (child, (omega arith, c.requires.known))))
 
+pub is_in-requires-then-rest-gt0-clause-named : goal.is_in-requires-then-rest-gt0-clause-named
+is_in-requires-then-rest-gt0-clause-named g t c = let m = records c.args.store.now in let h = c.args.height in
+    let p = c.args.node in let n = h - 1 in let not = c.if-height-eq0.false in
+    let e : h ≡ suc n = omega arith in
+    let row = row-above m h n p e c.requires.tree in
+    row.each (c.loop-slot.slot - 1) c.in-Some.child
+    (sym (child_is m p row c.child.result (c.loop-slot.slot - 1) c.child.ensures.value) ∙ c.in-Some.is)
+
 pub returns-in-Some-previous : goal.returns-in-Some-previous
 returns-in-Some-previous g t c = let m = records c.args.store.now in let h = c.args.height in let p = c.args.node in
     let n = h - 1 in let not = c.if-height-eq0.false in
@@ -115,8 +126,8 @@ returns-in-Some-previous g t c = let m = records c.args.store.now in let h = c.a
     c.min-rest.result c.in-Some-previous.found reach c.requires.within free (sym c.previous.ensures
     ∙ c.in-Some-previous.is))
 
-pub loop-slot-preserved-in_default-previous : goal.loop-slot-preserved-in_default-previous
-loop-slot-preserved-in_default-previous g t c = let m = records c.args.store.now in let h = c.args.height in
+pub loop-slot-preserved-then-is_in : goal.loop-slot-preserved-then-is_in
+loop-slot-preserved-then-is_in g t c = let m = records c.args.store.now in let h = c.args.height in
     let p = c.args.node in let n = h - 1 in let not = c.if-height-eq0.false in
     let e : h ≡ suc n = omega arith in let i = c.loop-slot.slot - 1 in
     let row = row-above m h n p e c.requires.tree in
@@ -160,13 +171,25 @@ loop-slot-preserved-else-rest-gt0 g t c = let m = records c.args.store.now in le
     let same : c.loop-slot.before ≡ b + lines_at m c.in-Some.child = omega arith in
     let free = subst (λ z. FailFrom (passes c.args.wanted) (contents (lines_in m h p)) z c.args.to) same
     c.loop-slot.invariant.free in
-    let few = c.loop-slot.invariant.few in let none : c.min-rest.result ≡ 0 = omega (arith, c.if-rest-gt0.false) in
+    let few = c.loop-slot.invariant.few in
+    let none : previous_line (passes c.args.wanted) c.min-rest.result (contents (lines_in m n c.in-Some.child)) ≡ None =
+    elim c.else-rest-gt0.branch [
+      | else-rest-gt0-via-then-rest-gt0+else-is_in w ↦
+          let tree = child-is m h n p i b e c.requires.tree before c.in-Some.child here in
+          let count = count-tree m n c.in-Some.child tree in let within = reach.inside in
+          let shown = said (shows c.args.wanted) m c.in-Some.child w.is_in-then-rest-gt0.result
+          (row.each i c.in-Some.child here) w.is_in-then-rest-gt0.ensures in
+          none-previous c.args.wanted c.min-rest.result (lines_in m n c.in-Some.child) (omega arith)
+          (sym (shown ∙ ap (shows c.args.wanted) (sum-tree m n c.in-Some.child tree)) ∙ w.if-is_in.false)
+      | else-rest-gt0-via-else-rest-gt0 w ↦
+          let none : c.min-rest.result ≡ 0 = omega (arith, w.if-rest-gt0.false) in
+          first-previous c.args.wanted c.min-rest.result (lines_in m n c.in-Some.child) none
+    ] in
     record {
       few = omega arith;
       before = before;
       free = previous-missed m h n p i b e c.requires.tree before c.in-Some.child here c.args.wanted c.args.to
-          c.min-rest.result reach free (first-previous c.args.wanted c.min-rest.result (lines_in m n c.in-Some.child)
-          none);
+          c.min-rest.result reach free none;
     }
 
 pub loop-slot-preserved : goal.loop-slot-preserved

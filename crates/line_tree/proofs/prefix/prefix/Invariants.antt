@@ -1,13 +1,15 @@
+use Rattle.toggle_sums.specs.Counts.{no_text}
 use Rattle.raw_nodes.specs.Names.{records}
+use Rattle.line_tree.specs.Aims.{sum_behind}
 use Rattle.line_tree.specs.Shape.{IsTree, lines_in}
-use Rattle.line_tree.proofs.PrefixLaws.{Leaves}
+use Rattle.line_tree.proofs.SearchLaws.{Passes}
 use Rattle.line_tree.proofs.prefix.prefix.Given as goal
 
 abbrev pub invariant-loop-level : goal.invariant-loop-level
 invariant-loop-level g l = record {
   tree : IsTree (records l.store) l.level l.at;
-  leaves : Leaves (lines_in (records l.store) l.fn.height l.fn.root) (lines_in (records l.store) l.level l.at) l.fn.k
-      l.rest l.sum;
+  passes : Passes (λ s. s.lines) sum_behind (lines_in (records l.store) l.fn.height l.fn.root)
+      (lines_in (records l.store) l.level l.at) l.fn.k l.rest (record { sum = no_text }) l.before;
 }
 
 abbrev pub decreases-loop-level : goal.decreases-loop-level

@@ -1,5 +1,5 @@
 use Rattle.std.proofs.Common.{arith}
-use Rattle.line_tree.proofs.SpendingLaws.{keeps-on, keeps-out, keeps-self}
+use Rattle.line_tree.proofs.SpendingLaws.{keeps-on, keeps-out}
 use Rattle.line_tree.proofs.SpliceLaws.{next-out}
 use Rattle.line_tree.proofs.tree.LineTree.take_lines.Goals as goal
 

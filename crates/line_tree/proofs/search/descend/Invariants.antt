@@ -1,0 +1,20 @@
+use Rattle.std.proofs.Common.{◌≡◌, ◌+◌, ◌-◌, ◌*◌, ◌≤◌}
+use Rattle.std.specs.Prelude.{IfSome}
+use Rattle.raw_nodes.specs.Names.{records}
+use Rattle.line_tree.specs.Shape.{IsTree, lines_in, sum_at}
+use Rattle.line_tree.proofs.SearchLaws.{Passes}
+use Rattle.line_tree.proofs.search.descend.Given as goal
+
+abbrev pub invariant-loop-level : goal.invariant-loop-level
+invariant-loop-level g l = record {
+  tree : IsTree (records l.store) l.level l.at;
+  size : IfSome l.size (λ s. s ≡ g.A.Aim.sized (sum_at (records l.store) l.at));
+  passes : Passes g.A.Aim.wide g.A.Aim.behind (lines_in (records l.store) l.fn.height l.fn.root)
+      (lines_in (records l.store) l.level l.at) l.k l.rest l.fn.aim l.aim;
+  low : l.level ≤ l.fn.height;
+  ticks : g.C.Ticks.count l.ticks
+      ≤ g.C.Ticks.count l.fn.ticks + (g.A.Aim.steps + 12 * (g.A.Aim.steps + 2)) * (l.fn.height - l.level);
+}
+
+abbrev pub decreases-loop-level : goal.decreases-loop-level
+decreases-loop-level g l = l.level
