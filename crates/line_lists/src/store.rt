@@ -66,32 +66,16 @@ fn change_of<L: LineList>(draft: Draft<L>) -> Result<Change, AllocError>
     })
 }
 
-/// A draft of a list of lines, which stays as it is, with the steps of an edit made in it.
-fn draft_by<'a, L: LineList>(
-    alloc: Global,
-    list: &'a L,
-    steps: &[Step],
-) -> Result<Draft<'a, L>, AllocError>
-    requires { Fits steps.now (content_of (L.lines list.now)) }
-    ensures list { IfOk result (λ draft. draft.list.now ≡ list.now) }
-    ensures is { IfOk result (λ draft. IsText (L.lines draft.list.now) draft.front.items draft.back.items) }
-    ensures new { IfOk result (λ draft.
-        text_of (text_at (L.lines draft.list.now) draft.front.items draft.back.items)
-        ≡ after steps.now (content_of (L.lines list.now))) }
-{
-    let mut draft = Draft::new(alloc, list);
-    draft.make_steps(steps, queries::len(list))?;
-    Ok(draft)
-}
-
-/// What steps make of a list of lines.
+/// What steps make of a list of lines, which stays as it is.
 fn change_by<L: LineList>(alloc: Global, list: &L, steps: &[Step]) -> Result<Change, AllocError>
     requires { Fits steps.now (content_of (L.lines list.now)) }
     ensures can { IfOk result (CanMake (L.lines list.now)) }
     ensures new { IfOk result (λ change. content_made change (L.lines list.now)
         ≡ after steps.now (content_of (L.lines list.now))) }
 {
-    change_of(draft_by(alloc, list, steps)?)
+    let mut draft = Draft::new(alloc, list);
+    draft.make_steps(steps, queries::len(list))?;
+    change_of(draft)
 }
 
 /// The same of steps that go, with their texts, before the pieces are made.
@@ -105,7 +89,8 @@ fn change_by_owned<L: LineList>(
     ensures new { IfOk result (λ change. content_made change (L.lines list.now)
         ≡ after steps.items (content_of (L.lines list.now))) }
 {
-    let draft = draft_by(alloc, list, &steps)?;
+    let mut draft = Draft::new(alloc, list);
+    draft.make_steps(&steps, queries::len(list))?;
     drop(steps);
     change_of(draft)
 }

@@ -4,7 +4,7 @@ use Rattle.line_lists.specs.Drafts.{drafted_at}
 use Rattle.line_lists.specs.Texts.{whole}
 use Rattle.line_lists.proofs.PlaceRows.{length-cells}
 use Rattle.line_lists.proofs.StoreLaws.{some-text}
-use Rattle.line_lists.proofs.store.draft_by.Goals as goal
+use Rattle.line_lists.proofs.store.change_by_owned.Goals as goal
 
 pub make_steps-requires-clause-len : goal.make_steps-requires-clause-len
 make_steps-requires-clause-len g c =
