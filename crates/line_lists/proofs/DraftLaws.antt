@@ -9,7 +9,7 @@ use Rattle.segments.specs.Columns.{LineContent}
 use Rattle.line_lists.specs.declared.drafts.Copied.{Copied}
 use Rattle.line_lists.specs.declared.drafts.Reached.{Reached}
 use Rattle.line_lists.specs.declared.drafts.Stop.{Stop}
-use Rattle.line_lists.specs.Drafts.{AreStops, BeginsBehind, BeginsBy, CanFollow, IsDraft, IsReached, LastBeginsBehind, NextBegins}
+use Rattle.line_lists.specs.Drafts.{AreStops, BeginsBehind, BeginsBy, CanFollow, IsDraft, IsReached, LastBeginsBehind}
 use Rattle.line_lists.specs.Drafts.{IsStop, copies_of, covered, drafted, in_order, line_start, lines_before, made_lines}
 use Rattle.line_lists.specs.Drafts.{used}
 use Rattle.line_lists.specs.Lists.{IsCounted, count_of}
@@ -331,19 +331,6 @@ begins-behind lines offset front back reached copy is last large behind other ba
       start-is lines (copies_of front) reached other is,
     )
 
-pub next-begins : (lines : List LineContent) (offset : ℕ) (front : List Stop) (back : List Copied) (reached : Reached)
-    (copy : Copied) → IsReached reached (copies_of front) lines
-    → Some copy ≡ slice_get back (length back - 1) → line_start reached copy lines ≤ offset →
-    NextBegins lines offset front back
-next-begins lines offset front back reached copy is last small behind other back_is =
-    let same = last_same back behind copy other last back_is in
-    omega (
-      arith,
-      small,
-      ap (λ (x : Copied). line_start reached x lines) same,
-      start-is lines (copies_of front) reached other is,
-    )
-
 pub behind-none : (lines : List LineContent) (offset : ℕ) (front : List Stop) (back : List Copied) → back ≡ [] →
     BeginsBehind lines offset front back
 behind-none lines offset front back none behind other is =
@@ -358,3 +345,19 @@ can-follow-next lines front back behind reached copy draft is back_is =
     can-follow lines front behind stop
     (draft-forth lines front behind stop (subst (λ items. IsDraft lines front items) back_is draft)
     (record { reached = is; start = refl }))
+
+-- the place moves by the next copy, whose line begins at an offset or before it
+pub forth-by : (lines : List LineContent) (offset : ℕ) (front : List Stop) (all back : List Copied) (stop : Stop)
+    (copy : Copied) → IsDraft lines front all → all ≡ back ++ stop.copy ∷ []
+    → Some copy ≡ slice_get all (length all - 1) → IsReached stop.reached (copies_of front) lines →
+    stop.start ≡ line_start stop.reached copy lines → stop.start ≤ offset
+    → IsDraft lines (front ++ stop ∷ []) back × BeginsBy lines offset (front ++ stop ∷ [])
+forth-by lines offset front all back stop copy draft all_is last reached start small =
+    let same = start ∙ ap (λ x. line_start stop.reached x lines) (last_same all back copy stop.copy last all_is) in
+    let forth = draft-forth lines front back stop (subst (IsDraft lines front) all_is draft)
+    (record { reached = reached; start = same }) in
+    let long : length front ≡ length (front ++ stop ∷ []) - 1 = omega (arith, length-append front (stop ∷ [])) in (
+      forth,
+      begins-by lines offset (front ++ stop ∷ []) back stop forth
+          (sym (last_of front stop) ∙ ap (slice_get (front ++ stop ∷ [])) long) (omega (arith, small, same)),
+    )

@@ -89,6 +89,14 @@ seen-holds lines seen place is begun inside = record {
   within = slice_get_within lines seen.index seen.line.now is.line;
 }
 
+-- the line behind it begins where it ends
+pub seen-next : (lines : List LineContent) (seen : Seen) → IsSeen lines seen → (seen.index < length lines)
+    × (seen.start + length seen.line.now.columns ≡ begin lines (seen.index + 1))
+seen-next lines seen is = (
+  slice_get_within lines seen.index seen.line.now is.line,
+  ap (λ n. n + length seen.line.now.columns) is.start ∙ sym (begin-next lines seen.index seen.line.now is.line),
+)
+
 -- what holds of the lines and copies of a draft still holds where all are the same
 pub still : (P : List LineContent → List Stop → List Copied → Type 0) (lines same : List LineContent)
     (front front₂ : List Stop) (back back₂ : List Copied) → same ≡ lines → front₂ ≡ front → back₂ ≡ back →

@@ -2,13 +2,15 @@
 use Rattle.std.proofs.Common.{◌≡◌, ◌≢◌, ℕ, zero, suc, ◌+◌, ◌<◌, ◌≤◌, Bool, true, false, ◌⊎◌, inl, inr, List, [], ◌∷◌}
 use Rattle.std.proofs.Common.{◌++◌, Option, None, Some, cond, length, map, take, drop, refl, sym, ap, ap₂, subst, ◌∙◌}
 use Rattle.std.proofs.Common.{arith, append_assoc}
-use Rattle.std.specs.Prelude.{slice_get}
+use Rattle.std.specs.Prelude.{option_map, slice_get}
+use Rattle.std.specs.Option.{IsSome}
 use Rattle.std.specs.Cmp.{nat_cmp_total, unsigned_tied}
 use Rattle.std.specs.FinMap as finite
 use Rattle.std.specs.FinMap.Entries.{find}
 use Rattle.std.specs.Ordering.{eq_by_cmp, nat_cmp}
 use Rattle.std.proofs.lemmas.Bool.Decides.{nat_tests}
 use Rattle.std.proofs.lemmas.List.{drop-drop, drop-map, length-map, take-map, take_all}
+use Rattle.text_model.specs.declared.places.MarkNo.{MarkNo}
 use Rattle.text_model.specs.declared.places.Place.{Place}
 use Rattle.text_model.proofs.PlaceLaws.{same_marks}
 use Rattle.segments.specs.Columns.{LineContent}
@@ -52,6 +54,17 @@ pub numbers-all : (line : LineContent) (i : ℕ) → None ≡ slice_get (finite.
     take i (numbers_of line) ≡ numbers_of line
 numbers-all line i is = take_all i (numbers_of line)
     (omega (arith, none_at (finite.entries line.marks) i (sym is), length-map (finite.entries line.marks) number_of))
+
+pub number-there : (line : LineContent) (i : ℕ) (found : Option (MarkNo × Place)) → i < finite.len line.marks →
+    option_map (λ (mark : MarkNo × Place). (mark.0.0, mark.1)) found ≡ slice_get (finite.entries line.marks) i
+    → IsSome found
+number-there line i (Some mark) within is = refl
+number-there line i None within is =
+    absurd (omega (arith, within, none_at (finite.entries line.marks) i (sym is), finite.len-entries line.marks))
+
+pub all-numbers : (line : LineContent) (i : ℕ) → finite.len line.marks ≤ i → take i (numbers_of line) ≡ numbers_of line
+all-numbers line i all = take_all i (numbers_of line)
+    (omega (arith, all, length-map (finite.entries line.marks) number_of, finite.len-entries line.marks))
 
 -- ---- lines without the marks of some numbers
 pub freed-lines : (numbers : List ℕ) (lines : List LineContent) → AreLines lines → AreLines (freed numbers lines)

@@ -1,12 +1,12 @@
 -- Copies that become pieces, one by one.
 use Rattle.std.proofs.Common.{◌≡◌, ℕ, ◌+◌, ◌-◌, ◌<◌, ◌≤◌, Bool, true, false, cond, List, [], ◌∷◌, ◌++◌, Option, None}
-use Rattle.std.proofs.Common.{Some, length, get_or, map, take, drop, refl, sym, ap, ap₂, subst, subst₂, ◌∙◌, arith}
+use Rattle.std.proofs.Common.{Some, length, get_or, set, map, take, drop, refl, sym, ap, ap₂, subst, subst₂, ◌∙◌, arith}
 use Rattle.std.proofs.Common.{append_assoc, length-append}
 use Rattle.std.specs.Cmp.{nat_cmp_total}
 use Rattle.std.specs.FinMap as finite
 use Rattle.std.specs.List.{All}
 use Rattle.std.specs.Ordering.{eq_by_cmp, nat_cmp}
-use Rattle.std.proofs.lemmas.List.{append-nil, at_drop_more, map-append, take_more}
+use Rattle.std.proofs.lemmas.List.{append-nil, at_drop_more, length-set, map-append, take_all, take_more, take_more_set}
 use Rattle.std.proofs.lemmas.List.Elements.{All-drop, All-push, All-take, All-weaker}
 use Rattle.std.proofs.Math.Seq.{drop-append_seam, take-append_seam}
 use Rattle.text_model.specs.declared.places.MarkNo.{MarkNo}
@@ -34,18 +34,20 @@ pub no_items : {A : Type 0} (xs : List A) → length xs ≡ 0 → xs ≡ []
 no_items [] none = refl
 no_items (x ∷ xs) none = absurd (omega (arith, none))
 
-pub none_popped : {A : Type 0} (xs : List A) (n : ℕ) (popped : Option A) → n ≡ length xs → popped ≡ None →
-    ((d : A) → 0 < n → popped ≡ Some (get_or xs (n - 1) d)) → xs ≡ []
-none_popped [] n popped long none is = refl
-none_popped {A = A} (x ∷ xs) n popped long none is = let no : ◌≡◌ {A = Option A} None (Some (get_or (x ∷ xs) (n - 1) x))
-    = sym none ∙ is x (omega (arith, long)) in absurd (cc)
+-- the last of a list, as it is and as it becomes
+pub last-of : {A : Type 0} (xs : List A) (n : ℕ) (x : A) → n ≡ length xs → 0 < n → x ≡ get_or xs (n - 1) x →
+    xs ≡ take (n - 1) xs ++ x ∷ []
+last-of xs n x long some is =
+    sym (take_all ((n - 1) + 1) xs (omega (arith, long, some)))
+    ∙ take_more xs (n - 1) x (omega (arith, long, some)) ∙ ap (λ y. take (n - 1) xs ++ y ∷ []) (sym is)
+
+pub last-set : {A : Type 0} (xs : List A) (n : ℕ) (x : A) → n ≡ length xs → 0 < n →
+    set xs (n - 1) x ≡ take (n - 1) xs ++ x ∷ []
+last-set xs n x long some =
+    sym (take_all ((n - 1) + 1) (set xs (n - 1) x) (omega (arith, long, some, length-set xs (n - 1) x)))
+    ∙ take_more_set xs (n - 1) x (omega (arith, long, some))
 
 -- ---- numbers
-named-more : (numbers : List MarkNo) (i : ℕ) (number : MarkNo) → i < length numbers →
-    named (take (i + 1) numbers) ≡ named (take i numbers) ++ (get_or numbers i number).0 ∷ []
-named-more numbers i number within = ap named (take_more numbers i number within)
-    ∙ map-append (λ (n : MarkNo). n.0) (take i numbers) (get_or numbers i number ∷ [])
-
 -- the marks of two numbers go in either order
 without_both : (one other : Bool) (found : Option Place) →
     cond one None (cond other None found) ≡ cond other None (cond one None found)
@@ -89,14 +91,11 @@ freed-before numbers i number lines some within =
     ∙ sym (at_drop_more (λ ns. freed (named ns) lines) numbers (i - 1) number (omega (arith, some, within))
     ∙ freed-first first (named (drop ((i - 1) + 1) numbers)) lines)
 
-pub bound-more : (numbers : List MarkNo) (i bound new : ℕ) (number : MarkNo) → i < length numbers → bound ≤ new →
-    (get_or numbers i number).0 < new
-    → All (λ n. n < bound) (named (take i numbers)) → All (λ n. n < new) (named (take (i + 1) numbers))
-bound-more numbers i bound new number within more below all =
-    subst (All (λ n. n < new)) (sym (named-more numbers i number within))
-    (All-push (λ n. n < new) (named (take i numbers)) (get_or numbers i number).0
-    (All-weaker (λ n. n < bound) (λ n. n < new) (λ n less. omega (arith, less, more)) (named (take i numbers)) all)
-    below)
+pub bound-more : (numbers : List ℕ) (bound new number : ℕ) → bound ≤ new → number < new →
+    All (λ n. n < bound) numbers → All (λ n. n < new) (numbers ++ number ∷ [])
+bound-more numbers bound new number more below all =
+    All-push (λ n. n < new) numbers number
+    (All-weaker (λ n. n < bound) (λ n. n < new) (λ n less. omega (arith, less, more)) numbers all) below
 
 -- ---- the lines of copies
 pub copied-snoc : (stops : List Stop) (stop : Stop) → copied_lines (copies_of (stops ++ stop ∷ []))
@@ -108,6 +107,13 @@ numbers_in-append : (xs ys : List LineContent) → numbers_in (xs ++ ys) ≡ num
 numbers_in-append [] ys = refl
 numbers_in-append (x ∷ xs) ys = ap (λ rest. numbers_of x ++ rest) (numbers_in-append xs ys)
     ∙ sym (append_assoc (numbers_of x) (numbers_in xs) (numbers_in ys))
+
+pub numbers-next : (lines : List LineContent) (i : ℕ) (line : LineContent) → i < length lines → line ≡ get_or lines i line
+    → numbers_in (take i lines) ++ numbers_of line ≡ numbers_in (take (i + 1) lines)
+numbers-next lines i line within is =
+    sym (ap numbers_in (take_more lines i line within ∙ ap (λ x. take i lines ++ x ∷ []) (sym is))
+    ∙ numbers_in-append (take i lines) (line ∷ [])
+    ∙ ap (λ ns. numbers_in (take i lines) ++ ns) (append-nil (numbers_of line)))
 
 copied-more : (stops : List Stop) (i : ℕ) (stop : Stop) → i < length stops → stop ≡ get_or stops i stop
     → copied_lines (copies_of (take (i + 1) stops)) ≡ copied_lines (copies_of (take i stops)) ++ stop.copy.line ∷ []
@@ -143,6 +149,15 @@ piece_lines-snoc [] piece = append-nil piece.lines.items
 piece_lines-snoc (first ∷ pieces) piece =
     ap (λ rest. first.lines.items ++ rest) (piece_lines-snoc pieces piece)
     ∙ sym (append_assoc first.lines.items (piece_lines pieces) piece.lines.items)
+
+pub numbers-piece : (pieces : List Piece) (i : ℕ) (piece : Piece) → i < length pieces → piece ≡ get_or pieces i piece
+    → numbers_in (piece_lines (take i pieces)) ++ numbers_in piece.lines.items
+    ≡ numbers_in (piece_lines (take (i + 1) pieces))
+numbers-piece pieces i piece within is =
+    sym (ap (λ ps. numbers_in (piece_lines ps)) (take_more pieces i piece within
+    ∙ ap (λ p. take i pieces ++ p ∷ []) (sym is))
+    ∙ ap numbers_in (piece_lines-snoc (take i pieces) piece)
+    ∙ numbers_in-append (piece_lines (take i pieces)) piece.lines.items)
 
 -- what holds of each line that pieces bring
 pub all-pieces : (P : LineContent → Type 0) (pieces : List Piece) (piece : Piece) →

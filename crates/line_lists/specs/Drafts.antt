@@ -132,12 +132,6 @@ BeginsBehind lines offset front back =
     (behind : List Copied) (copy : Copied) → back ≡ behind ++ copy ∷ [] →
     offset < length (whole (lines_before (copies_of front) copy lines)).columns
 
--- it begins at an offset or before it
-abbrev pub NextBegins : List LineContent → ℕ → List Stop → List Copied → Type 0
-NextBegins lines offset front back =
-    (behind : List Copied) (copy : Copied) → back ≡ behind ++ copy ∷ [] →
-    length (whole (lines_before (copies_of front) copy lines)).columns ≤ offset
-
 -- a kept line that holds an offset of the text, behind what is covered
 pub record IsFound (reached : Reached) (lines : List LineContent) (offset line column : ℕ) : Type 0 where
   pub first : reached.used ≤ line

@@ -168,7 +168,8 @@ impl<'a, L: LineList> Draft<'a, L> {
     {
         self.front.reserve(1)?;
         if let Some(copy) = self.back.pop() {
-            self.front.push_reserved(Stop::of(self.list, reached, copy));
+            let stop = self.stop(reached, copy);
+            self.front.push_reserved(stop);
         }
         Ok(())
     }

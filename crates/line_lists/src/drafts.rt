@@ -6,7 +6,7 @@ ghost use Rattle.segments.specs.Columns.{LineContent, after_text};
 ghost use Rattle.line_lists.specs.Texts.{whole};
 ghost use Rattle.line_lists.specs.Drafts.{BeginsBehind, BeginsBy, CanFollow, IsDraft, IsFound, IsKnown, IsKnown-prop};
 ghost use Rattle.line_lists.specs.Drafts.{IsReached, IsSeen, IsSeen-prop, IsTaken, LastBeginsBehind};
-ghost use Rattle.line_lists.specs.Drafts.{IsText, NextBegins, StandsAt, StandsBy, copies_of, drafted_at, line_start};
+ghost use Rattle.line_lists.specs.Drafts.{IsText, StandsAt, StandsBy, copies_of, drafted_at, line_start};
 ghost use Rattle.line_lists.specs.Drafts.{lines_before, made_lines, taken_lines, text_at};
 ghost use Rattle.line_lists.specs.Edits.{with_mark, with_toggled, without_mark};
 
@@ -53,14 +53,6 @@ impl Reached {
         }
     }
 
-    /// Where the line of a copy that follows begins in the text.
-    pub fn start<L: LineList>(&self, list: &L, copy: &Copied) -> usize
-        requires { CanFollow self.now copy.now (L.lines list.now) }
-        ensures { result ≡ line_start self.now copy.now (L.lines list.now) }
-    {
-        self.characters + span(list, self.used, copy.kept)
-    }
-
     /// What is covered with one copy more.
     pub fn with<L: LineList>(&self, list: &L, copy: &Copied) -> Reached
         requires { CanFollow self.now copy.now (L.lines list.now) }
@@ -69,7 +61,7 @@ impl Reached {
     {
         Reached {
             used: self.used + copy.kept + copy.gone,
-            characters: self.start(list, copy) + copy.line.len(),
+            characters: self.characters + span(list, self.used, copy.kept) + copy.line.len(),
         }
     }
 }
@@ -80,24 +72,6 @@ pub struct Stop {
     pub reached: Reached,
     pub start: usize,
     pub copy: Copied,
-}
-
-impl Stop {
-    /// Of a copy that follows what is covered.
-    pub fn of<L: LineList>(list: &L, reached: Reached, copy: Copied) -> Stop
-        requires { CanFollow reached copy (L.lines list.now) }
-        ensures { result ≡ record {
-          reached = reached;
-          start = line_start reached copy (L.lines list.now);
-          copy = copy;
-        } }
-    {
-        Stop {
-            reached,
-            start: reached.start(list, &copy),
-            copy,
-        }
-    }
 }
 
 /// Which slots are on before a line of a list.
@@ -160,6 +134,50 @@ impl<'a, L: LineList> Draft<'a, L> {
         }
     }
 
+    /// How many characters stand before a line of the list, which isn't asked where the line found last tells it.
+    fn list_start(&self, line: usize) -> usize
+        requires { line ≤ length (L.lines self.now.list.now) }
+        ensures { result ≡ length (whole (take line (L.lines self.now.list.now))).columns }
+    {
+        if let Some(seen) = self.seen {
+            if line == seen.index {
+                return seen.start;
+            }
+            if line == seen.index + 1 {
+                return seen.start + seen.line.len();
+            }
+        }
+        self.list.start(line)
+    }
+
+    /// Where the line of a copy that follows what is covered begins in the text.
+    fn start_of(&self, reached: &Reached, copy: &Copied) -> usize
+        requires { CanFollow reached.now copy.now (L.lines self.now.list.now) }
+        ensures { result ≡ line_start reached.now copy.now (L.lines self.now.list.now) }
+    {
+        if copy.kept == 0 {
+            return reached.characters;
+        }
+        let first = self.list_start(reached.used);
+        reached.characters + (self.list_start(reached.used + copy.kept) - first)
+    }
+
+    /// A copy that follows what is covered, with this and with where its line begins.
+    pub fn stop(&self, reached: Reached, copy: Copied) -> Stop
+        requires { CanFollow reached copy (L.lines self.now.list.now) }
+        ensures { result ≡ record {
+          reached = reached;
+          start = line_start reached copy (L.lines self.now.list.now);
+          copy = copy;
+        } }
+    {
+        Stop {
+            reached,
+            start: self.start_of(&reached, &copy),
+            copy,
+        }
+    }
+
     /// What the copies before the place cover.
     pub fn reached(&self) -> Reached
         requires { IsDraft (L.lines self.now.list.now) self.now.front.items self.now.back.items }
@@ -211,15 +229,12 @@ impl<'a, L: LineList> Draft<'a, L> {
         ensures same { drafted_at (L.lines self.new.list.now) self.new.front.items self.new.back.items
             ≡ drafted_at (L.lines self.old.list.now) self.old.front.items self.old.back.items }
         ensures moved { OnOk result (vec_len self.new.back ≡ vec_len self.old.back - 1) }
-        ensures begun { (offset : ℕ) →
-            NextBegins (L.lines self.old.list.now) offset self.old.front.items self.old.back.items →
-            BeginsBy (L.lines self.old.list.now) offset self.old.front.items →
-            BeginsBy (L.lines self.new.list.now) offset self.new.front.items }
     {
         self.front.reserve(1)?;
         let reached = self.reached();
         if let Some(copy) = self.back.pop() {
-            self.front.push_reserved(Stop::of(self.list, reached, copy));
+            let stop = self.stop(reached, copy);
+            self.front.push_reserved(stop);
         }
         Ok(())
     }
@@ -236,22 +251,36 @@ impl<'a, L: LineList> Draft<'a, L> {
         }
     }
 
-    /// Whether the line of the first copy behind the place begins behind an offset, or there is no such copy.
-    fn is_ahead(&self, offset: usize) -> bool
-        requires { IsDraft (L.lines self.now.list.now) self.now.front.items self.now.back.items }
-        ensures yes { result ≡ true →
-            BeginsBehind (L.lines self.now.list.now) offset self.now.front.items self.now.back.items }
-        ensures no { result ≡ false → 0 < vec_len self.now.back }
-        ensures begun { result ≡ false →
-            NextBegins (L.lines self.now.list.now) offset self.now.front.items self.now.back.items }
+    /// Goes on by one copy, if its line begins at an offset or before it. Answers whether it did.
+    fn step_forth_by(&mut self, offset: usize) -> Result<bool, AllocError>
+        requires is { IsDraft (L.lines self.old.list.now) self.old.front.items self.old.back.items }
+        requires begun { BeginsBy (L.lines self.old.list.now) offset self.old.front.items }
+        ensures list { self.new.list.now ≡ self.old.list.now }
+        ensures is { IsDraft (L.lines self.new.list.now) self.new.front.items self.new.back.items }
+        ensures same { drafted_at (L.lines self.new.list.now) self.new.front.items self.new.back.items
+            ≡ drafted_at (L.lines self.old.list.now) self.old.front.items self.old.back.items }
+        ensures begun { OnOk result (BeginsBy (L.lines self.new.list.now) offset self.new.front.items) }
+        ensures moved { IfOk result (λ went. went ≡ true → vec_len self.new.back < vec_len self.old.back) }
+        ensures ahead { IfOk result (λ went. went ≡ false →
+            BeginsBehind (L.lines self.new.list.now) offset self.new.front.items self.new.back.items) }
     {
-        match self.back.last() {
-            None => true,
-            Some(copy) => {
-                let reached = self.reached();
-                offset < reached.start(self.list, copy)
-            }
+        let Some(copy) = self.back.last() else {
+            return Ok(false);
+        };
+        let reached = self.reached();
+        let start = self.start_of(&reached, copy);
+        if offset < start {
+            return Ok(false);
         }
+        self.front.reserve(1)?;
+        if let Some(copy) = self.back.pop() {
+            self.front.push_reserved(Stop {
+                reached,
+                start,
+                copy,
+            });
+        }
+        Ok(true)
     }
 
     /// Whether the line of the last copy before the place holds an offset, where the copies end at another one.
@@ -297,9 +326,7 @@ impl<'a, L: LineList> Draft<'a, L> {
         ensures ahead { OnOk result
             (BeginsBehind (L.lines self.new.list.now) offset self.new.front.items self.new.back.items) }
     {
-        while !self.is_ahead(offset) {
-            self.step_forth()?;
-        }
+        while self.step_forth_by(offset)? {}
         Ok(())
     }
 
@@ -317,7 +344,7 @@ impl<'a, L: LineList> Draft<'a, L> {
         ensures place { IsFound reached.now (L.lines self.old.list.now) offset result.0 result.1 }
         ensures line { slice_get (L.lines self.old.list.now) result.0 ≡ Some result.2.now }
     {
-        let before = self.list.start(reached.used);
+        let before = self.list_start(reached.used);
         let place = offset - reached.characters + before;
         if let Some(seen) = self.seen {
             if seen.start <= place && place - seen.start < seen.line.len() {

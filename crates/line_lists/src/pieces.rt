@@ -56,16 +56,47 @@ fn push_numbers(numbers: &mut Vec<MarkNo>, line: &Line) -> Result<(), AllocError
     Ok(())
 }
 
-/// A number above each of some.
-pub fn bound_of(numbers: &[MarkNo]) -> usize
-    ensures { All (λ number. number < result) (named numbers.now) }
+/// Adds the numbers of the marks of lines.
+fn push_all_numbers(numbers: &mut Vec<MarkNo>, lines: &[Line]) -> Result<(), AllocError>
+    ensures { OnOk result (named numbers.new.items ≡ named numbers.old.items ++ numbers_in lines.now) }
+{
+    for line in lines {
+        push_numbers(numbers, line)?;
+    }
+    Ok(())
+}
+
+/// The numbers of all marks that pieces bring.
+pub fn numbers_brought(alloc: Global, pieces: &[Piece]) -> Result<Vec<MarkNo>, AllocError>
+    ensures { IfOk result (λ numbers. named numbers.items ≡ numbers_in (piece_lines pieces.now)) }
+{
+    let mut numbers = Vec::new(alloc);
+    for piece in pieces {
+        push_all_numbers(&mut numbers, &piece.lines)?;
+    }
+    Ok(numbers)
+}
+
+/// The least bound, from one on, above the numbers of the marks of a line.
+fn bound_with(bound: usize, line: &Line) -> usize
+    ensures more { bound ≤ result }
+    ensures above { All (λ number. number < result) (numbers_of line.now) }
+{
+    let mut bound = bound;
+    for index in 0..line.marks() {
+        let (number, _) = line.mark(index).unwrap();
+        bound = bound.max(number.0 as usize + 1);
+    }
+    bound
+}
+
+/// A number above those of all marks of some copies.
+pub fn bound_of(stops: &[Stop]) -> usize
+    ensures { All (λ number. number < result) (numbers_in (copied_lines (copies_of stops.now))) }
 {
     let mut bound = 0;
-    for number in numbers {
-        let number = number.0 as usize;
-        if bound <= number {
-            bound = number + 1;
-        }
+    for stop in stops {
+        bound = bound_with(bound, &stop.copy.line);
     }
     bound
 }
@@ -83,12 +114,17 @@ fn add_line(sum: &mut Sums<WORDS>, line: &Line) -> Result<(), AllocError>
     Ok(())
 }
 
-/// The line of a copy, which keeps no more room than it needs.
-fn trimmed(mut line: Line) -> Line
-    ensures { result ≡ line }
+/// Makes sure that a list and copies of its lines can be counted together.
+fn count<L: LineList>(list: &L, stops: &[Stop]) -> Result<(), AllocError>
+    ensures { OnOk result (IsCounted (plus (count_of (L.lines list.now))
+        (count_of (copied_lines (copies_of stops.now))))) }
 {
-    line.trim();
-    line
+    let lines = list.len();
+    let mut sum = Sums::counting(lines, list.start(lines), list.marks());
+    for stop in stops {
+        add_line(&mut sum, &stop.copy.line)?;
+    }
+    Ok(())
 }
 
 /// How many copies stand in each row of some, with no kept line between two of them.
@@ -118,16 +154,20 @@ impl Rows {
     }
 }
 
-/// A piece with the line of a copy behind its last.
-fn with_line(mut piece: Piece, copy: Copied) -> Result<Piece, AllocError>
-    requires { piece.count + copy.gone < 2 ^ 64 }
-    ensures from { IfOk result (λ new. new.from ≡ piece.from) }
-    ensures count { IfOk result (λ new. new.count ≡ piece.count + copy.gone) }
-    ensures lines { IfOk result (λ new. new.lines.items ≡ piece.lines.items ++ copy.line ∷ []) }
-{
-    piece.count += copy.gone;
-    piece.lines.push(trimmed(copy.line))?;
-    Ok(piece)
+impl Piece {
+    /// Adds the line of a copy behind the last. It keeps no more room than it needs.
+    fn add(&mut self, copy: Copied) -> Result<(), AllocError>
+        requires { self.old.count + copy.gone < 2 ^ 64 }
+        ensures from { self.new.from ≡ self.old.from }
+        ensures count { OnOk result (self.new.count ≡ self.old.count + copy.gone) }
+        ensures lines { OnOk result (self.new.lines.items ≡ self.old.lines.items ++ copy.line ∷ []) }
+    {
+        let mut line = copy.line;
+        line.trim();
+        self.count += copy.gone;
+        self.lines.push(line)?;
+        Ok(())
+    }
 }
 
 /// A copy as a piece from a line on, with room for so many lines.
@@ -136,13 +176,46 @@ fn piece_of(alloc: Global, from: usize, copy: Copied, room: usize) -> Result<Pie
     ensures count { IfOk result (λ piece. piece.count ≡ copy.gone) }
     ensures lines { IfOk result (λ piece. piece.lines.items ≡ copy.line ∷ []) }
 {
-    let mut lines = Vec::with_capacity(alloc, room)?;
-    lines.push(trimmed(copy.line))?;
-    Ok(Piece {
+    let mut piece = Piece {
         from,
-        count: copy.gone,
-        lines,
-    })
+        count: 0,
+        lines: Vec::with_capacity(alloc, room)?,
+    };
+    piece.add(copy)?;
+    Ok(piece)
+}
+
+/// Copies of lines of a list, in order, as pieces of it, to be put in where the marks of the copies are taken off; one
+/// piece may be put in without that.
+pub fn pieces_of<L: LineList>(
+    alloc: Global,
+    list: &L,
+    front: Vec<Stop>,
+) -> Result<Vec<Piece>, AllocError>
+    requires { IsText (L.lines list.now) front.items [] }
+    ensures can { IfOk result (λ pieces. CanPlace pieces.items
+        (freed (numbers_in (copied_lines (copies_of front.items))) (L.lines list.now))) }
+    ensures new { IfOk result (λ pieces. placed pieces.items
+        (freed (numbers_in (copied_lines (copies_of front.items))) (L.lines list.now))
+        ≡ drafted_at (L.lines list.now) front.items []) }
+    ensures lines { IfOk result (λ pieces. piece_lines pieces.items ≡ copied_lines (copies_of front.items)) }
+    ensures one { IfOk result (λ pieces. length pieces.items ≡ 1 → CanPlace pieces.items (L.lines list.now)
+        × (placed pieces.items (L.lines list.now) ≡ drafted_at (L.lines list.now) front.items [])) }
+{
+    count(list, &front)?;
+    let rows = Rows::of(alloc, &front)?;
+    let mut pieces: Vec<Piece> = Vec::new(alloc);
+    for stop in front {
+        let from = stop.reached.used + stop.copy.kept;
+        if stop.copy.kept == 0 && !pieces.is_empty() {
+            let last = pieces.len() - 1;
+            pieces[last].add(stop.copy)?;
+        } else {
+            let room = rows.length(pieces.len());
+            pieces.push(piece_of(alloc, from, stop.copy, room)?)?;
+        }
+    }
+    Ok(pieces)
 }
 
 /// Takes the marks of some numbers off the lines of a list.
@@ -185,66 +258,5 @@ impl<'a, L: LineList> Draft<'a, L> {
             self.step_forth()?;
         }
         Ok(())
-    }
-
-    /// The numbers of the marks of the copies before the place.
-    pub fn numbers(&self, alloc: Global) -> Result<Vec<MarkNo>, AllocError>
-        ensures { IfOk result (λ numbers. named numbers.items
-            ≡ numbers_in (copied_lines (copies_of self.now.front.items))) }
-    {
-        let mut numbers = Vec::new(alloc);
-        for stop in &self.front {
-            push_numbers(&mut numbers, &stop.copy.line)?;
-        }
-        Ok(numbers)
-    }
-
-    /// Makes sure that the list and the copies before the place can be counted together.
-    pub fn count(&self) -> Result<(), AllocError>
-        ensures { OnOk result (IsCounted (plus (count_of (L.lines self.now.list.now))
-            (count_of (copied_lines (copies_of self.now.front.items))))) }
-    {
-        let lines = self.list.len();
-        let mut sum = Sums::counting(lines, self.list.start(lines), self.list.marks());
-        for stop in &self.front {
-            add_line(&mut sum, &stop.copy.line)?;
-        }
-        Ok(())
-    }
-
-    /// The copies as pieces of the list, to be put in where the marks of the copies are taken off; one piece may be put
-    /// in without that.
-    pub fn into_pieces(self, alloc: Global) -> Result<Vec<Piece>, AllocError>
-        requires is { IsText (L.lines self.list.now) self.front.items [] }
-        requires counted { IsCounted (plus (count_of (L.lines self.list.now))
-            (count_of (copied_lines (copies_of self.front.items)))) }
-        ensures can { IfOk result (λ pieces. CanPlace pieces.items
-            (freed (numbers_in (copied_lines (copies_of self.entry.front.items))) (L.lines self.entry.list.now))) }
-        ensures new { IfOk result (λ pieces. placed pieces.items
-            (freed (numbers_in (copied_lines (copies_of self.entry.front.items))) (L.lines self.entry.list.now))
-            ≡ drafted_at (L.lines self.entry.list.now) self.entry.front.items []) }
-        ensures lines { IfOk result (λ pieces.
-            piece_lines pieces.items ≡ copied_lines (copies_of self.entry.front.items)) }
-        ensures one { IfOk result (λ pieces. length pieces.items ≡ 1 →
-            CanPlace pieces.items (L.lines self.entry.list.now)
-            × (placed pieces.items (L.lines self.entry.list.now)
-            ≡ drafted_at (L.lines self.entry.list.now) self.entry.front.items [])) }
-    {
-        let rows = Rows::of(alloc, &self.front)?;
-        let mut pieces = Vec::new(alloc);
-        for stop in self.front {
-            let from = stop.reached.used + stop.copy.kept;
-            let last = if stop.copy.kept == 0 {
-                pieces.pop()
-            } else {
-                None
-            };
-            let piece = match last {
-                Some(last) => with_line(last, stop.copy)?,
-                None => piece_of(alloc, from, stop.copy, rows.length(pieces.len()))?,
-            };
-            pieces.push(piece)?;
-        }
-        Ok(pieces)
     }
 }

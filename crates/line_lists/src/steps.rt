@@ -26,21 +26,6 @@ fn switched_slots(before: &TagSet, slot: TagSlot, is_on: bool) -> TagSet
     }
 }
 
-/// How many bytes a long text has.
-const LONG_TEXT: usize = 65_536;
-
-/// Whether steps put in a text for which it is worth while that it goes as its lines are made. A step is moved then.
-fn has_long_text(steps: &[Step]) -> bool {
-    for step in steps {
-        if let Step::Insert(_, text, _) = step {
-            if text.as_str().len() >= LONG_TEXT {
-                return true;
-            }
-        }
-    }
-    false
-}
-
 impl<'a, L: LineList> Draft<'a, L> {
     /// Toggles each slot of a set before the character at an offset of a text of so many characters; at its end there
     /// is nothing to toggle.
@@ -319,31 +304,6 @@ impl<'a, L: LineList> Draft<'a, L> {
         let mut len = len;
         for step in steps {
             len = self.make_step(step, len)?;
-        }
-        Ok(())
-    }
-
-    /// Makes the steps of an edit, each of which goes with its text once it is made, where there is a long one.
-    pub fn make_owned_steps(&mut self, steps: Vec<Step>, len: usize) -> Result<(), AllocError>
-        requires is { IsText (L.lines self.old.list.now) self.old.front.items self.old.back.items }
-        requires len { len
-            ≡ length (text_at (L.lines self.old.list.now) self.old.front.items self.old.back.items).columns }
-        requires some { 0 < len }
-        requires fits { Fits steps.items
-            (text_of (text_at (L.lines self.old.list.now) self.old.front.items self.old.back.items)) }
-        ensures list { self.new.list.now ≡ self.old.list.now }
-        ensures is { OnOk result (IsText (L.lines self.new.list.now) self.new.front.items self.new.back.items) }
-        ensures new { OnOk result
-            (text_of (text_at (L.lines self.new.list.now) self.new.front.items self.new.back.items)
-            ≡ after steps.items
-            (text_of (text_at (L.lines self.old.list.now) self.old.front.items self.old.back.items))) }
-    {
-        if !has_long_text(&steps) {
-            return self.make_steps(&steps, len);
-        }
-        let mut len = len;
-        for step in steps {
-            len = self.make_step(&step, len)?;
         }
         Ok(())
     }

@@ -1,12 +1,14 @@
 ghost use Rattle.std.specs.Prelude.{◌≡◌, ◌≢◌, [], IfOk, OnOk, length};
 ghost use Rattle.text_model.specs.Steps.{Fits, after};
 ghost use Rattle.line_lists.specs.Drafts.{IsText, text_at};
-ghost use Rattle.line_lists.specs.Pieces.{CanMake, IsReady, content_made, named};
+ghost use Rattle.line_lists.specs.Pieces.{CanMake, IsReady, content_made, named, numbers_in, piece_lines};
 ghost use Rattle.line_lists.specs.Texts.{content_of, text_of};
 
-use crate::drafts::Draft;
+use crate::drafts::{Draft, Stop};
 use crate::lists::LineList;
-use crate::pieces::{Growth, Piece, bound_of, growth_of, place, take_marks};
+use crate::pieces::{
+    Growth, Piece, bound_of, growth_of, numbers_brought, pieces_of, place, take_marks,
+};
 use crate::queries;
 use std::alloc::{AllocError, Global};
 use text_model::{CharacterTest, Edit, LineSpan, MarkNo, Place, Step, TagSet, TagSlot, TextStore};
@@ -32,36 +34,31 @@ pub struct Change {
 
 /// Of the numbers of all marks that pieces bring, those that are taken off the list before. A mark that goes from one
 /// piece to another would stand twice while they come in one by one; one piece brings no such mark.
-fn taken_before(alloc: Global, numbers: Vec<MarkNo>, pieces: &[Piece]) -> Vec<MarkNo>
-    ensures one { length pieces.now ≡ 1 → result.items ≡ [] }
-    ensures other { length pieces.now ≢ 1 → result.items ≡ numbers.items }
+fn taken_before(alloc: Global, pieces: &[Piece]) -> Result<Vec<MarkNo>, AllocError>
+    ensures one { length pieces.now ≡ 1 → IfOk result (λ taken. taken.items ≡ []) }
+    ensures other { length pieces.now ≢ 1 →
+        IfOk result (λ taken. named taken.items ≡ numbers_in (piece_lines pieces.now)) }
 {
     if pieces.len() == 1 {
-        Vec::new(alloc)
+        Ok(Vec::new(alloc))
     } else {
-        numbers
+        numbers_brought(alloc, pieces)
     }
 }
 
-/// What a draft makes of its list.
-fn change_of<L: LineList>(draft: Draft<L>) -> Result<Change, AllocError>
-    requires is { IsText (L.lines draft.list.now) draft.front.items draft.back.items }
-    ensures can { IfOk result (CanMake (L.lines draft.entry.list.now)) }
-    ensures new { IfOk result (λ change. content_made change (L.lines draft.entry.list.now)
-        ≡ text_of (text_at (L.lines draft.entry.list.now) draft.entry.front.items draft.entry.back.items)) }
+/// What copies of lines of a list, in order, make of it.
+fn change_of<L: LineList>(alloc: Global, list: &L, front: Vec<Stop>) -> Result<Change, AllocError>
+    requires { IsText (L.lines list.now) front.items [] }
+    ensures can { IfOk result (CanMake (L.lines list.now)) }
+    ensures new { IfOk result (λ change. content_made change (L.lines list.now)
+        ≡ text_of (text_at (L.lines list.now) front.items [])) }
 {
-    let mut draft = draft;
-    let alloc = draft.alloc;
-    draft.forth_to_end()?;
-    draft.count()?;
-    let numbers = draft.numbers(alloc)?;
-    let bound = bound_of(&numbers);
-    let pieces = draft.into_pieces(alloc)?;
-    let growth = growth_of(&pieces)?;
+    let bound = bound_of(&front);
+    let pieces = pieces_of(alloc, list, front)?;
     Ok(Change {
-        taken: taken_before(alloc, numbers, &pieces),
+        taken: taken_before(alloc, &pieces)?,
+        growth: growth_of(&pieces)?,
         pieces,
-        growth,
         bound,
     })
 }
@@ -75,10 +72,11 @@ fn change_by<L: LineList>(alloc: Global, list: &L, steps: &[Step]) -> Result<Cha
 {
     let mut draft = Draft::new(alloc, list);
     draft.make_steps(steps, queries::len(list))?;
-    change_of(draft)
+    draft.forth_to_end()?;
+    change_of(alloc, list, draft.front)
 }
 
-/// The same of steps that go as they are made.
+/// The same of steps that go, with their texts, before the pieces are made.
 fn change_by_owned<L: LineList>(
     alloc: Global,
     list: &L,
@@ -90,8 +88,10 @@ fn change_by_owned<L: LineList>(
         ≡ after steps.items (content_of (L.lines list.now))) }
 {
     let mut draft = Draft::new(alloc, list);
-    draft.make_owned_steps(steps, queries::len(list))?;
-    change_of(draft)
+    draft.make_steps(&steps, queries::len(list))?;
+    drop(steps);
+    draft.forth_to_end()?;
+    change_of(alloc, list, draft.front)
 }
 
 impl<L: LineList> LineStore<L> {

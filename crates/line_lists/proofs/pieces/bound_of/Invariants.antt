@@ -1,7 +1,9 @@
 use Rattle.std.proofs.Common.{◌<◌, take}
 use Rattle.std.specs.List.{All}
-use Rattle.line_lists.specs.Pieces.{named}
+use Rattle.line_lists.specs.Drafts.{copies_of}
+use Rattle.line_lists.specs.Pieces.{copied_lines, numbers_in}
 use Rattle.line_lists.proofs.pieces.bound_of.Given as goal
 
-abbrev pub invariant-loop-number : goal.invariant-loop-number
-invariant-loop-number l = All (λ number. number < l.bound) (named (take l.number-index l.numbers))
+abbrev pub invariant-loop-stop : goal.invariant-loop-stop
+invariant-loop-stop l =
+    All (λ number. number < l.bound) (numbers_in (copied_lines (copies_of (take l.stop-index l.stops))))

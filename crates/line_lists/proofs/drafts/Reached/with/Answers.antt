@@ -20,4 +20,4 @@ returns g c = λ copies so_far.
     let lines = g.L.LineList.lines c.args.list.now in
     reached-more c.args.self.now _ copies c.args.copy.now lines so_far
     (omega arith)
-    (omega (arith, c.start.ensures, c.len.ensures))
+    (omega (arith, c.span.ensures, c.len.ensures))

@@ -4,10 +4,10 @@ use Rattle.line_lists.specs.Drafts.{copies_of}
 use Rattle.line_lists.specs.Lists.{IsCounted, count_of}
 use Rattle.line_lists.specs.Pieces.{copied_lines}
 use Rattle.line_lists.proofs.GatherLaws.{SameNumbers}
-use Rattle.line_lists.proofs.drafts.Draft.count.Given as goal
+use Rattle.line_lists.proofs.pieces.count.Given as goal
 
 abbrev pub invariant-loop-stop : goal.invariant-loop-stop
 invariant-loop-stop g l =
-    SameNumbers l.sum (plus (count_of (g.L.LineList.lines l.self.list.now))
-    (count_of (copied_lines (copies_of (take l.stop-index l.self.front.items)))))
+    SameNumbers l.sum (plus (count_of (g.L.LineList.lines l.list))
+    (count_of (copied_lines (copies_of (take l.stop-index l.stops)))))
     × IsCounted l.sum
