@@ -13,7 +13,9 @@ use Rattle.command_effects.specs.Words.{literal}
 use Rattle.printing.specs.Lines.{error_line, word_at, is_boundary, front_of}
 
 -- a text alone
-pub alone_text : (text line : List ℕ) → text ≡ line → text ++ ([] ++ ([] ++ ([] ++ []))) ≡ line
+pub alone_text : (text line : List ℕ) → text ≡ line
+    → text ++ (literal "" ++ (literal "" ++ (literal "" ++ literal ""))) ≡ line
+unfolding chars
 alone_text text line is = append-nil text ∙ is
 
 pub word_characters : {Z : Type 0} (words : List (String Z)) (position : ℕ) (word : String Z) → position < length words
@@ -56,7 +58,8 @@ pub bad_code : chars (codes "error: bad character code\n") ≡ error_line (liter
 unfolding chars
 bad_code = refl
 
-pub answer_line : (text : List ℕ) → chars (codes "") ++ (text ++ ([] ++ ([] ++ chars (codes "\n")))) ≡ text ++ 10 ∷ []
+pub answer_line : (text : List ℕ)
+    → chars (codes "") ++ (text ++ (literal "" ++ (literal "" ++ chars (codes "\n")))) ≡ text ++ 10 ∷ []
 unfolding chars
 answer_line text = refl
 

@@ -21,7 +21,7 @@ pub struct Line<'a> {
 }
 
 impl<'a> Model for Line<'a> {
-    ghost use Rattle.std.specs.Prelude.{chars};
+    ghost use Rattle.std.specs.Prelude.{chars, IsUtf8};
     ghost use Rattle.printing.specs.Lines.{Line as LineText};
 
     ghost Value = { LineText };
@@ -33,6 +33,9 @@ impl<'a> Model for Line<'a> {
       other = chars l.other.now;
       after = chars l.after.now;
     } };
+
+    ghost invariant = { λ l. IsUtf8 l.before.now × IsUtf8 l.word.now × IsUtf8 l.between.now × IsUtf8 l.other.now
+        × IsUtf8 l.after.now };
 }
 
 impl<'a> Line<'a> {

@@ -1,10 +1,11 @@
-use Rattle.std.proofs.Common.{sym, ap, ◌∙◌}
+use Rattle.std.proofs.Common.{ap, ◌∙◌}
 use Rattle.printing.specs.Lines.{printed}
 use Rattle.printing.proofs.LineLaws.{five_texts}
 use Rattle.printing.proofs.lines.Line.parts.Goals as goal
 
 pub returns : goal.returns
 returns c =
-    let p = c.self.inside in
-    five_texts p.before.now p.word.now p.between.now p.other.now p.after.now
-    c.utf8.before c.utf8.word c.utf8.between c.utf8.other c.utf8.after ∙ ap printed (sym c.self.view_is)
+    let line = c.self.inside in
+    let utf8 = c.self.invariant in
+    five_texts line.before.now line.word.now line.between.now line.other.now line.after.now
+    utf8.0 utf8.1 utf8.2 utf8.3 utf8.4 ∙ ap printed c.self.view_is
