@@ -27,8 +27,8 @@ pub record Reaches {S : Type 0} (sized : Count → S) (wide : Count → ℕ) (m 
   pub rest : r.rest < wide (sum_at m r.child)
   pub size : r.size ≡ sized (sum_at m r.child)
 
--- the line in which place k of some lines is, the place's number in it, and what stands before the line, as old stood
--- before the first
+-- the line in which place k of some lines is, and the place's number in it; where old stands before the first line, new
+-- stands before that one
 pub record Arrives {A : Type 0} (wide : Count → ℕ) (behind : A → Count → A) (ls : List Named) (k : ℕ) (old new : A)
     (a : Arrived) : Type 0 where
   pub front : List Named

@@ -34,10 +34,6 @@ either-false : (a : Bool) → either a false ≡ a
 either-false true = refl
 either-false false = refl
 
-false-either : (a : Bool) → either false a ≡ a
-false-either true = refl
-false-either false = refl
-
 either-commutative : (a b : Bool) → either a b ≡ either b a
 either-commutative true true = refl
 either-commutative true false = refl

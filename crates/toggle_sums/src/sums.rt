@@ -1,11 +1,9 @@
 ghost use Rattle.std.specs.Prelude.{◌≡◌, ◌*◌, ◌<◌, ◌≤◌, true};
 ghost use Rattle.std.specs.FinSet as set;
 ghost use Rattle.text_model.specs.SlotSets.{differing};
-ghost use Rattle.toggle_sums.specs.Counts.{CanExchange, CountsFit, HaveSameToggles, IsBare, IsWithin, counting, less};
-ghost use Rattle.toggle_sums.specs.Counts.{count_of, plus, toggled, toggles_of};
-ghost use Rattle.toggle_sums.specs.Counts.{HasCounts, exchanged, with_toggles, without};
+ghost use Rattle.toggle_sums.specs.Counts.{CountsFit, HasCounts, HaveSameToggles, IsBare, IsWithin, count_of, counting};
+ghost use Rattle.toggle_sums.specs.Counts.{less, plus, toggled, toggles_of, with_toggles, without};
 
-use crate::exchange::Exchange;
 use crate::summary::Summary;
 use crate::toggle_words::ToggleWords;
 use std::marker::Model;
@@ -213,22 +211,6 @@ impl Sums<WORDS> {
         ensures { slots.new ≡ differing slots.old self.now.parity }
     {
         self.toggles.turn_odd_slots(slots);
-    }
-
-    /// Counts what comes more, and what goes less, where each slot that is toggled in what goes is toggled in what
-    /// stays too.
-    pub fn exchange(&mut self, exchange: &Exchange)
-        requires { CanExchange exchange.now.gone exchange.now.more exchange.now.is_level self.old }
-        ensures { self.new ≡ exchanged exchange.now.gone exchange.now.more self.old }
-    {
-        let Exchange { gone, more, .. } = exchange;
-        if exchange.is_level {
-            self.add_counts(more.lines, more.characters, more.marks);
-            self.lose_counts(gone.lines, gone.characters, gone.marks);
-        } else {
-            self.add(more);
-            self.lose(gone);
-        }
     }
 
     /// Counts one toggle more of each slot of a word.
