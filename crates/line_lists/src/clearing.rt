@@ -1,6 +1,5 @@
 ghost use Rattle.std.specs.Prelude.{◌≡◌, ◌+◌, ◌-◌, ◌<◌, ◌≤◌, ◌^◌, List, [], ◌∷◌, ◌++◌, None, IfOk, IfSome, OnOk, drop};
 ghost use Rattle.std.specs.Prelude.{length, min, slice_get, take, true, vec_len};
-ghost use Rattle.text_model.specs.SlotSets.{differing};
 ghost use Rattle.segments.specs.Columns.{LineContent};
 ghost use Rattle.text_model.specs.TagBits.{slot_count};
 ghost use Rattle.line_lists.specs.Clearing.{AreFree, free_end};

@@ -1,4 +1,4 @@
-ghost use Rattle.std.specs.Prelude.{◌≡◌, ◌+◌, ◌<◌, ◌≤◌, IfOk, OnOk, chars, drop, length, take};
+ghost use Rattle.std.specs.Prelude.{◌≡◌, ◌+◌, ◌<◌, ◌≤◌, IfOk, OnOk, chars, length, take};
 ghost use Rattle.text_model.specs.SlotSets.{differing};
 ghost use Rattle.text_model.specs.Steps.{Fits, StepFitsIn, after, set_slot};
 ghost use Rattle.text_model.specs.TagBits.{slot_count};
