@@ -7,9 +7,10 @@ use Rattle.segments.specs.Columns.{LineContent}
 use Rattle.line_lists.specs.declared.drafts.Copied.{Copied}
 use Rattle.line_lists.specs.declared.drafts.Reached.{Reached}
 use Rattle.line_lists.specs.declared.drafts.Stop.{Stop}
-use Rattle.line_lists.specs.Clearing.{AreFree, free_end, place_of}
+use Rattle.line_lists.specs.Clearing.{AreFree, free_end}
 use Rattle.line_lists.specs.Drafts.{IsFound, IsReached, IsTaken, IsText, StandsAt, copies_of, covered, drafted_at}
 use Rattle.line_lists.specs.Drafts.{line_start, taken_lines, text_at}
+use Rattle.line_lists.specs.Drafts.{place_of}
 use Rattle.line_lists.specs.Edits.{with_cleared}
 use Rattle.line_lists.specs.Lists.{has_toggle}
 use Rattle.line_lists.specs.Texts.{whole}

@@ -18,10 +18,11 @@ use Rattle.segments.proofs.ChangeLaws.{changed-first, changed-next, slots_kept}
 use Rattle.line_lists.specs.declared.drafts.Copied.{Copied}
 use Rattle.line_lists.specs.declared.drafts.Reached.{Reached}
 use Rattle.line_lists.specs.declared.drafts.Stop.{Stop}
-use Rattle.line_lists.specs.Clearing.{AreFree, free_end, free_length, lines_on, place_of}
+use Rattle.line_lists.specs.Clearing.{AreFree, free_end, free_length, lines_on}
 use Rattle.line_lists.specs.Drafts.{BeginsBehind, IsFound, IsReached, IsTaken, IsText, StandsAt, copies_of, covered}
 use Rattle.line_lists.specs.Drafts.{drafted, drafted_at, lines_before, lines_behind, made_lines, taken_lines, text_at}
 use Rattle.line_lists.specs.Drafts.{tags_after, used}
+use Rattle.line_lists.specs.Drafts.{place_of}
 use Rattle.line_lists.specs.Edits.{with_cleared}
 use Rattle.line_lists.specs.Lists.{AreRows, has_toggle, next_line}
 use Rattle.line_lists.specs.Texts.{whole}

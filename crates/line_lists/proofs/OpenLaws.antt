@@ -9,7 +9,8 @@ use Rattle.line_lists.specs.declared.drafts.Reached.{Reached}
 use Rattle.line_lists.specs.declared.drafts.Stop.{Stop}
 use Rattle.line_lists.specs.Drafts.{IsDraft, IsReached, IsTaken, StandsAt, copies_of, covered, drafted, drafted_at}
 use Rattle.line_lists.specs.Drafts.{lines_before, lines_behind, made_lines, taken_lines, text_at, used}
-use Rattle.line_lists.specs.Insertions.{IsOpen, IsPartly, Opens, StandRight, place_at}
+use Rattle.line_lists.specs.Drafts.{place_of}
+use Rattle.line_lists.specs.Insertions.{IsOpen, IsPartly, Opens, StandRight}
 use Rattle.line_lists.specs.Lists.{AreRows, IsLine}
 use Rattle.line_lists.specs.Texts.{whole}
 use Rattle.line_lists.proofs.CutLaws.{some-text, split-makes}
@@ -33,7 +34,7 @@ new_stop reached line = record {
 opens : (lines : List LineContent) (front : List Stop) (back : List Copied) (offset : ℕ) (text : List ℕ)
     (old : List LineContent) → IsDraft lines front back → AreRows old → offset < length (whole old).columns →
     0 < length text
-    → place_at lines front ≡ offset + length text → Makes (after_text offset text) old (drafted_at lines front back) →
+    → place_of lines front ≡ offset + length text → Makes (after_text offset text) old (drafted_at lines front back) →
     Opens lines front back offset text (whole old)
 opens lines front back offset text old draft rows within some place makes =
     let long = ap (λ (line : LineContent). length line.columns) makes.whole
@@ -117,7 +118,7 @@ split-opens lines front back stop first second old offset column text taken old_
     } in
     let draft = put-back lines front (back ++ new_copy second ∷ []) head (taken-new lines front back head second kept)
     (omega (arith, long, small)) in
-    let place : place_at lines (front ++ head ∷ []) ≡ offset + length text =
+    let place : place_of lines (front ++ head ∷ []) ≡ offset + length text =
     omega (
       arith,
       ap (λ xs. length (whole (made_lines xs lines)).columns) (copies-snoc front head),
@@ -134,14 +135,14 @@ pub line-opens : (lines : List LineContent) (front : List Stop) (back : List Cop
     (line : LineContent) (text : List ℕ) → IsOpen lines front back → IsReached reached (copies_of front) lines →
     line ≡ plain_line text
     → IsLine (plain_line text) → length (text_at lines front back).columns + length text < 2 ^ 64
-    → Opens lines (front ++ new_stop reached line ∷ []) back (place_at lines front) text
+    → Opens lines (front ++ new_stop reached line ∷ []) back (place_of lines front) text
     (text_at lines front back)
 line-opens lines front back reached line text opened reached_is line_is is small =
     let copies = copies_of front in
     let stop : Stop = new_stop reached line in
     let before = made_lines copies lines in
     let behind = drafted (reverse back) (drop (used copies) lines) in
-    let offset = place_at lines front in
+    let offset = place_of lines front in
     let old_is : before ++ behind ≡ drafted_at lines front back = sym (drafted-append copies (reverse back) lines) in
     let joins = ap (λ xs. length (whole xs).columns) (sym old_is) ∙ length-whole before behind in
     let some : 0 < length behind = some_lines behind (omega (arith, opened.within, joins)) in
@@ -165,7 +166,7 @@ line-opens lines front back reached line text opened reached_is line_is is small
     let draft = put-back lines front back stop taken (omega (arith, long, small)) in
     let wide : length line.columns ≡ length text = ap (λ (row : LineContent). length row.columns) line_is
     ∙ length-map text _ in
-    let place : place_at lines (front ++ stop ∷ []) ≡ offset + length text =
+    let place : place_of lines (front ++ stop ∷ []) ≡ offset + length text =
     omega (
       arith,
       ap (λ xs. length (whole (made_lines xs lines)).columns) (copies-snoc front stop),
@@ -204,10 +205,10 @@ partly-first lines front back offset text line rest old opened parts within is s
 
 pub partly-next : (lines next : List LineContent) (front front_next : List Stop) (back back_next : List Copied)
     (offset : ℕ) (text rest line behind : List ℕ) (old : LineContent) → IsPartly lines front back offset text rest old
-    → Opens next front_next back_next (place_at lines front) line (text_at lines front back) → rest ≡ line ++ behind →
+    → Opens next front_next back_next (place_of lines front) line (text_at lines front back) → rest ≡ line ++ behind →
     IsLine (plain_line line) → IsPartly next front_next back_next offset text behind old
 partly-next lines next front front_next back back_next offset text rest line behind old so_far opened parts is =
-    let first = partly-first next front_next back_next (place_at lines front) rest line behind
+    let first = partly-first next front_next back_next (place_of lines front) rest line behind
     (text_at lines front back) opened parts so_far.is.within is so_far.counted in
     record {
       is = first.is;

@@ -3,9 +3,8 @@ use Rattle.std.specs.Prelude.{◌≡◌, ℕ, ◌+◌, false, List, [], ◌∷�
 use Rattle.segments.specs.Columns.{LineContent}
 use Rattle.line_lists.specs.declared.drafts.Copied.{Copied}
 use Rattle.line_lists.specs.declared.drafts.Stop.{Stop}
-use Rattle.line_lists.specs.Drafts.{copies_of, drafted, made_lines, used}
+use Rattle.line_lists.specs.Drafts.{copies_of, drafted, place_of, used}
 use Rattle.line_lists.specs.Lists.{has_toggle}
-use Rattle.line_lists.specs.Texts.{whole}
 
 -- a slot is toggled in none of some lines
 abbrev pub AreFree : ℕ → List LineContent → Type 0
@@ -17,11 +16,7 @@ abbrev pub free_length : ℕ → List LineContent → ℕ
 free_length slot [] = 0
 free_length slot (line ∷ lines) = if has_toggle slot line then 0 else length line.columns + free_length slot lines
 
--- how many characters stand before the place of a draft
-abbrev pub place_of : List LineContent → List Stop → ℕ
-place_of lines front = length (whole (made_lines (copies_of front) lines)).columns
-
--- the lines behind it
+-- the lines behind the place of a draft
 abbrev pub lines_on : List LineContent → List Stop → List Copied → List LineContent
 lines_on lines front back = drafted (reverse back) (drop (used (copies_of front)) lines)
 

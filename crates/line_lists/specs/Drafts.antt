@@ -54,6 +54,10 @@ line_start reached copy lines =
 abbrev pub copies_of : List Stop → List Copied
 copies_of stops = map (λ (stop : Stop). stop.copy) stops
 
+-- how many characters stand before the place behind them
+abbrev pub place_of : List LineContent → List Stop → ℕ
+place_of lines front = length (whole (made_lines (copies_of front) lines)).columns
+
 -- the slots that are on behind copies
 abbrev pub tags_after : List LineContent → List Stop → Slots
 tags_after lines stops = tags_left_of (whole (made_lines (copies_of stops) lines)).columns

@@ -1,4 +1,5 @@
 pub mod Clearing
+pub mod DraftTexts
 pub mod Drafts
 pub mod Edits
 pub mod Insertions

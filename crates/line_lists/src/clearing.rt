@@ -1,15 +1,14 @@
 ghost use Rattle.std.specs.Prelude.{◌≡◌, ◌+◌, ◌-◌, ◌<◌, ◌≤◌, ◌^◌, List, [], ◌∷◌, ◌++◌, None, IfOk, IfSome, OnOk, drop};
 ghost use Rattle.std.specs.Prelude.{length, min, slice_get, take, true, vec_len};
-ghost use Rattle.text_model.specs.SlotSets.{differing};
 ghost use Rattle.segments.specs.Columns.{LineContent};
 ghost use Rattle.text_model.specs.TagBits.{slot_count};
-ghost use Rattle.line_lists.specs.Clearing.{AreFree, free_end, place_of};
-ghost use Rattle.line_lists.specs.Drafts.{BeginsBehind, BeginsBy, IsDraft, IsReached, IsText, copies_of, drafted_at};
-ghost use Rattle.line_lists.specs.Drafts.{line_start, made_lines, text_at};
+ghost use Rattle.line_lists.specs.Clearing.{AreFree, free_end};
+ghost use Rattle.line_lists.specs.DraftTexts.{IsAhead, IsBegun, IsDraftIn, IsTextIn, lines_in, place_in, text_in};
+ghost use Rattle.line_lists.specs.Drafts.{IsReached, copies_of, line_start};
 ghost use Rattle.line_lists.specs.Edits.{with_cleared};
 ghost use Rattle.line_lists.specs.Lists.{has_toggle};
 ghost use Rattle.line_lists.specs.Texts.{whole};
-ghost use Rattle.line_lists.specs.Toggling.{tags_left_of};
+ghost use Rattle.line_lists.specs.Toggling.{tags_behind};
 
 use crate::drafts::{Copied, Draft, Found, Reached, Stop, span};
 use crate::lists::LineList;
@@ -47,16 +46,14 @@ impl<'a, L: LineList> Draft<'a, L> {
     /// The slots that are on behind so many characters, of which the next is one of the last copy's before the place,
     /// where the copies end at another offset.
     fn copied_tags(&mut self, offset: usize, end: usize) -> TagSet
-        requires is { IsDraft (L.lines self.old.list.now) self.old.front.items self.old.back.items }
-        requires begun { BeginsBy (L.lines self.old.list.now) offset self.old.front.items }
-        requires end { end
-            ≡ length (whole (made_lines (copies_of self.old.front.items) (L.lines self.old.list.now))).columns }
+        requires is { IsDraftIn L.lines self.old }
+        requires begun { IsBegun L.lines self.old offset }
+        requires end { end ≡ place_in L.lines self.old }
         requires within { offset < end }
         ensures list { self.new.list.now ≡ self.old.list.now }
         ensures front { self.new.front ≡ self.old.front }
         ensures back { self.new.back ≡ self.old.back }
-        ensures value { result ≡ tags_left_of (take offset
-            (text_at (L.lines self.old.list.now) self.old.front.items self.old.back.items).columns) }
+        ensures value { result ≡ tags_behind (take offset (text_in L.lines self.old).columns) }
     {
         let mut slots = self.known.but_last(self.list, &self.front);
         let stop = self.front.last().unwrap();
@@ -67,23 +64,21 @@ impl<'a, L: LineList> Draft<'a, L> {
             stop.copy.kept,
             &mut slots,
         );
-        slots.flip(&stop.copy.line.tags_left_of(offset - start));
+        slots.flip(&stop.copy.line.tags_behind(offset - start));
         slots
     }
 
     /// The slots that are on behind so many characters, of which the next is one of a kept line's behind the place.
     fn kept_tags(&mut self, reached: &Reached, offset: usize) -> TagSet
-        requires is { IsDraft (L.lines self.old.list.now) self.old.front.items self.old.back.items }
+        requires is { IsDraftIn L.lines self.old }
         requires reached { IsReached reached.now (copies_of self.old.front.items) (L.lines self.old.list.now) }
         requires behind { reached.now.characters ≤ offset }
-        requires ahead { BeginsBehind (L.lines self.old.list.now) offset self.old.front.items self.old.back.items }
-        requires within { offset
-            < length (text_at (L.lines self.old.list.now) self.old.front.items self.old.back.items).columns }
+        requires ahead { IsAhead L.lines self.old offset }
+        requires within { offset < length (text_in L.lines self.old).columns }
         ensures list { self.new.list.now ≡ self.old.list.now }
         ensures front { self.new.front ≡ self.old.front }
         ensures back { self.new.back ≡ self.old.back }
-        ensures value { result ≡ tags_left_of (take offset
-            (text_at (L.lines self.old.list.now) self.old.front.items self.old.back.items).columns) }
+        ensures value { result ≡ tags_behind (take offset (text_in L.lines self.old).columns) }
     {
         let mut slots = self.known.all(self.list, &self.front);
         let (index, column, line) = self.find_line(reached, offset);
@@ -93,21 +88,18 @@ impl<'a, L: LineList> Draft<'a, L> {
             index - reached.used,
             &mut slots,
         );
-        slots.flip(&line.tags_left_of(column));
+        slots.flip(&line.tags_behind(column));
         slots
     }
 
     /// The slots that are on behind so many characters of the text, which are those of the character before the offset.
-    pub fn tags_left_of(&mut self, offset: usize) -> Result<TagSet, AllocError>
-        requires is { IsText (L.lines self.old.list.now) self.old.front.items self.old.back.items }
-        requires within { offset
-            < length (text_at (L.lines self.old.list.now) self.old.front.items self.old.back.items).columns }
+    pub fn tags_behind(&mut self, offset: usize) -> Result<TagSet, AllocError>
+        requires is { IsTextIn L.lines self.old }
+        requires within { offset < length (text_in L.lines self.old).columns }
         ensures list { self.new.list.now ≡ self.old.list.now }
-        ensures is { IsText (L.lines self.new.list.now) self.new.front.items self.new.back.items }
-        ensures same { drafted_at (L.lines self.new.list.now) self.new.front.items self.new.back.items
-            ≡ drafted_at (L.lines self.old.list.now) self.old.front.items self.old.back.items }
-        ensures value { IfOk result (λ slots. slots ≡ tags_left_of (take offset
-            (text_at (L.lines self.old.list.now) self.old.front.items self.old.back.items).columns)) }
+        ensures is { IsTextIn L.lines self.new }
+        ensures same { lines_in L.lines self.new ≡ lines_in L.lines self.old }
+        ensures value { IfOk result (λ slots. slots ≡ tags_behind (take offset (text_in L.lines self.old).columns)) }
     {
         self.back_to(offset)?;
         self.forth_to(offset)?;
@@ -123,7 +115,7 @@ impl<'a, L: LineList> Draft<'a, L> {
     /// where the text ends if there is neither; `None` if there is none, but a next copy.
     fn free_up_to(&self, slot: TagSlot, reached: &Reached) -> Option<usize>
         requires slot { slot.0 < slot_count }
-        requires is { IsDraft (L.lines self.now.list.now) self.now.front.items self.now.back.items }
+        requires is { IsDraftIn L.lines self.now }
         requires reached { IsReached reached.now (copies_of self.now.front.items) (L.lines self.now.list.now) }
         ensures some { IfSome result (λ next. next
             ≡ free_end slot.0 (L.lines self.now.list.now) self.now.front.items self.now.back.items) }
@@ -151,12 +143,11 @@ impl<'a, L: LineList> Draft<'a, L> {
 
     /// Goes on by one copy, where what the copies before the place cover is known.
     fn pass(&mut self, reached: Reached) -> Result<(), AllocError>
-        requires is { IsDraft (L.lines self.old.list.now) self.old.front.items self.old.back.items }
+        requires is { IsDraftIn L.lines self.old }
         requires reached { IsReached reached (copies_of self.old.front.items) (L.lines self.old.list.now) }
         ensures list { self.new.list.now ≡ self.old.list.now }
-        ensures is { IsDraft (L.lines self.new.list.now) self.new.front.items self.new.back.items }
-        ensures same { drafted_at (L.lines self.new.list.now) self.new.front.items self.new.back.items
-            ≡ drafted_at (L.lines self.old.list.now) self.old.front.items self.old.back.items }
+        ensures is { IsDraftIn L.lines self.new }
+        ensures same { lines_in L.lines self.new ≡ lines_in L.lines self.old }
         ensures moved { OnOk result ((behind : List Copied) (copy : Copied) →
             self.old.back.items ≡ behind ++ copy ∷ [] → (self.new.back.items ≡ behind)
             × (self.new.front.items ≡ self.old.front.items ++ record {
@@ -177,11 +168,10 @@ impl<'a, L: LineList> Draft<'a, L> {
     /// Where the first line behind the place begins in which a slot is toggled, or `end` if that isn't before it.
     fn next_toggled(&mut self, slot: TagSlot, end: usize) -> Result<usize, AllocError>
         requires slot { slot.0 < slot_count }
-        requires is { IsDraft (L.lines self.old.list.now) self.old.front.items self.old.back.items }
+        requires is { IsDraftIn L.lines self.old }
         ensures list { self.new.list.now ≡ self.old.list.now }
-        ensures is { IsDraft (L.lines self.new.list.now) self.new.front.items self.new.back.items }
-        ensures same { drafted_at (L.lines self.new.list.now) self.new.front.items self.new.back.items
-            ≡ drafted_at (L.lines self.old.list.now) self.old.front.items self.old.back.items }
+        ensures is { IsDraftIn L.lines self.new }
+        ensures same { lines_in L.lines self.new ≡ lines_in L.lines self.old }
         ensures value { IfOk result (λ next. next
             ≡ min end (free_end slot.0 (L.lines self.old.list.now) self.old.front.items self.old.back.items)) }
     {
@@ -199,17 +189,15 @@ impl<'a, L: LineList> Draft<'a, L> {
     /// Takes the toggles of a slot before the characters from one offset on away, up to another offset or the end of
     /// their line, and goes behind that line.
     fn clear_line(&mut self, slot: TagSlot, from: usize, to: usize) -> Result<(), AllocError>
-        requires is { IsText (L.lines self.old.list.now) self.old.front.items self.old.back.items }
+        requires is { IsTextIn L.lines self.old }
         requires slot { slot.0 < slot_count }
         requires ordered { from < to }
-        requires within { to
-            ≤ length (text_at (L.lines self.old.list.now) self.old.front.items self.old.back.items).columns }
+        requires within { to ≤ length (text_in L.lines self.old).columns }
         ensures list { self.new.list.now ≡ self.old.list.now }
-        ensures is { OnOk result (IsText (L.lines self.new.list.now) self.new.front.items self.new.back.items) }
-        ensures above { OnOk result (from < place_of (L.lines self.new.list.now) self.new.front.items) }
-        ensures new { OnOk result (text_at (L.lines self.new.list.now) self.new.front.items self.new.back.items
-            ≡ with_cleared slot.0 from (min to (place_of (L.lines self.new.list.now) self.new.front.items))
-            (text_at (L.lines self.old.list.now) self.old.front.items self.old.back.items)) }
+        ensures is { OnOk result (IsTextIn L.lines self.new) }
+        ensures above { OnOk result (from < place_in L.lines self.new) }
+        ensures new { OnOk result (text_in L.lines self.new
+            ≡ with_cleared slot.0 from (min to (place_in L.lines self.new)) (text_in L.lines self.old)) }
     {
         let Found { mut stop, column } = self.take(from)?;
         let end = stop.copy.line.len().min(column + (to - from));
@@ -222,19 +210,16 @@ impl<'a, L: LineList> Draft<'a, L> {
     /// the list's lines in which there are none, so that none of these is copied. A first line with spare room isn't
     /// passed over.
     fn first_toggled(&mut self, slot: TagSlot, from: usize, to: usize) -> usize
-        requires is { IsText (L.lines self.old.list.now) self.old.front.items self.old.back.items }
+        requires is { IsTextIn L.lines self.old }
         requires slot { slot.0 < slot_count }
         requires ordered { from ≤ to }
-        requires within { to
-            ≤ length (text_at (L.lines self.old.list.now) self.old.front.items self.old.back.items).columns }
+        requires within { to ≤ length (text_in L.lines self.old).columns }
         ensures list { self.new.list.now ≡ self.old.list.now }
         ensures front { self.new.front ≡ self.old.front }
         ensures back { self.new.back ≡ self.old.back }
         ensures above { from ≤ result }
         ensures bound { result ≤ to }
-        ensures free { text_at (L.lines self.old.list.now) self.old.front.items self.old.back.items
-            ≡ with_cleared slot.0 from result
-            (text_at (L.lines self.old.list.now) self.old.front.items self.old.back.items) }
+        ensures free { text_in L.lines self.old ≡ with_cleared slot.0 from result (text_in L.lines self.old) }
     {
         if from == to || !self.back.is_empty() {
             return from;
@@ -262,16 +247,13 @@ impl<'a, L: LineList> Draft<'a, L> {
 
     /// Takes the toggles of a slot before the characters from one offset to another away.
     pub fn clear(&mut self, slot: TagSlot, from: usize, to: usize) -> Result<(), AllocError>
-        requires is { IsText (L.lines self.old.list.now) self.old.front.items self.old.back.items }
+        requires is { IsTextIn L.lines self.old }
         requires slot { slot.0 < slot_count }
         requires ordered { from ≤ to }
-        requires within { to
-            ≤ length (text_at (L.lines self.old.list.now) self.old.front.items self.old.back.items).columns }
+        requires within { to ≤ length (text_in L.lines self.old).columns }
         ensures list { self.new.list.now ≡ self.old.list.now }
-        ensures is { OnOk result (IsText (L.lines self.new.list.now) self.new.front.items self.new.back.items) }
-        ensures new { OnOk result (text_at (L.lines self.new.list.now) self.new.front.items self.new.back.items
-            ≡ with_cleared slot.0 from to
-            (text_at (L.lines self.old.list.now) self.old.front.items self.old.back.items)) }
+        ensures is { OnOk result (IsTextIn L.lines self.new) }
+        ensures new { OnOk result (text_in L.lines self.new ≡ with_cleared slot.0 from to (text_in L.lines self.old)) }
     {
         let mut at = self.first_toggled(slot, from, to);
         while at < to {
@@ -283,11 +265,10 @@ impl<'a, L: LineList> Draft<'a, L> {
 
     /// Goes back before the first copy.
     fn back_to_start(&mut self) -> Result<(), AllocError>
-        requires { IsDraft (L.lines self.old.list.now) self.old.front.items self.old.back.items }
+        requires { IsDraftIn L.lines self.old }
         ensures list { self.new.list.now ≡ self.old.list.now }
-        ensures is { IsDraft (L.lines self.new.list.now) self.new.front.items self.new.back.items }
-        ensures same { drafted_at (L.lines self.new.list.now) self.new.front.items self.new.back.items
-            ≡ drafted_at (L.lines self.old.list.now) self.old.front.items self.old.back.items }
+        ensures is { IsDraftIn L.lines self.new }
+        ensures same { lines_in L.lines self.new ≡ lines_in L.lines self.old }
         ensures start { OnOk result (self.new.front.items ≡ []) }
     {
         while !self.front.is_empty() {
@@ -298,15 +279,12 @@ impl<'a, L: LineList> Draft<'a, L> {
 
     /// Takes all toggles of a slot away in a text of so many characters.
     pub fn clear_slot(&mut self, slot: TagSlot, len: usize) -> Result<(), AllocError>
-        requires is { IsText (L.lines self.old.list.now) self.old.front.items self.old.back.items }
+        requires is { IsTextIn L.lines self.old }
         requires slot { slot.0 < slot_count }
-        requires len { len
-            ≡ length (text_at (L.lines self.old.list.now) self.old.front.items self.old.back.items).columns }
+        requires len { len ≡ length (text_in L.lines self.old).columns }
         ensures list { self.new.list.now ≡ self.old.list.now }
-        ensures is { OnOk result (IsText (L.lines self.new.list.now) self.new.front.items self.new.back.items) }
-        ensures new { OnOk result (text_at (L.lines self.new.list.now) self.new.front.items self.new.back.items
-            ≡ with_cleared slot.0 0 len
-            (text_at (L.lines self.old.list.now) self.old.front.items self.old.back.items)) }
+        ensures is { OnOk result (IsTextIn L.lines self.new) }
+        ensures new { OnOk result (text_in L.lines self.new ≡ with_cleared slot.0 0 len (text_in L.lines self.old)) }
     {
         self.back_to_start()?;
         let first = self.next_toggled(slot, len)?;

@@ -1,13 +1,12 @@
-ghost use Rattle.std.specs.Prelude.{◌≡◌, ℕ, ◌+◌, ◌-◌, ◌<◌, ◌≤◌, ◌^◌, List, ◌∷◌, [], ◌++◌, IfOk, IfSome, OnOk, drop};
+ghost use Rattle.std.specs.Prelude.{◌≡◌, ◌+◌, ◌-◌, ◌<◌, ◌≤◌, ◌^◌, List, ◌∷◌, [], ◌++◌, IfOk, IfSome, OnOk, drop};
 ghost use Rattle.std.specs.Prelude.{length, take, slice_get, vec_len, vec_capacity, true, false, chars, None, Some};
 ghost use Rattle.std.specs.FinMap as finite;
 ghost use Rattle.text_model.specs.Lines.{lines};
 ghost use Rattle.segments.specs.Columns.{LineContent, after_text};
 ghost use Rattle.line_lists.specs.Texts.{whole};
-ghost use Rattle.line_lists.specs.Drafts.{BeginsBehind, BeginsBy, CanFollow, IsDraft, IsFound, IsKnown, IsKnown-prop};
-ghost use Rattle.line_lists.specs.Drafts.{IsReached, IsSeen, IsSeen-prop, IsTaken, LastBeginsBehind};
-ghost use Rattle.line_lists.specs.Drafts.{IsText, StandsAt, StandsBy, copies_of, drafted_at, line_start};
-ghost use Rattle.line_lists.specs.Drafts.{lines_before, made_lines, taken_lines, text_at};
+ghost use Rattle.line_lists.specs.Drafts.{CanFollow, IsDraft, IsFound, IsKnown, IsKnown-prop, IsReached, IsSeen};
+ghost use Rattle.line_lists.specs.Drafts.{IsSeen-prop, LastBeginsBehind, StandsAt, StandsBy, copies_of, drafted_at};
+ghost use Rattle.line_lists.specs.Drafts.{line_start, lines_before};
 ghost use Rattle.line_lists.specs.Edits.{with_mark, with_toggled, without_mark};
 
 use crate::lists::LineList;
@@ -118,6 +117,9 @@ pub struct Draft<'a, L: LineList> {
 }
 
 impl<'a, L: LineList> Draft<'a, L> {
+    ghost use Rattle.line_lists.specs.DraftTexts.{IsAhead, IsBegun, IsDraftIn, IsTakenFrom, IsTextIn};
+    ghost use Rattle.line_lists.specs.DraftTexts.{lines_in, place_in, taken_in, text_in};
+
     /// The lines of a list, none of them copied.
     pub fn new(alloc: Global, list: &'a L) -> Draft<'a, L>
         ensures is { IsDraft (L.lines list.now) result.front.items result.back.items }
@@ -180,7 +182,7 @@ impl<'a, L: LineList> Draft<'a, L> {
 
     /// What the copies before the place cover.
     pub fn reached(&self) -> Reached
-        requires { IsDraft (L.lines self.now.list.now) self.now.front.items self.now.back.items }
+        requires { IsDraftIn L.lines self.now }
         ensures { IsReached result (copies_of self.now.front.items) (L.lines self.now.list.now) }
     {
         match self.front.last() {
@@ -194,9 +196,8 @@ impl<'a, L: LineList> Draft<'a, L> {
 
     /// How many characters the text has up to the end of the last copy before the place.
     pub fn covered(&self) -> usize
-        requires { IsDraft (L.lines self.now.list.now) self.now.front.items self.now.back.items }
-        ensures { result
-            ≡ length (whole (made_lines (copies_of self.now.front.items) (L.lines self.now.list.now))).columns }
+        requires { IsDraftIn L.lines self.now }
+        ensures { result ≡ place_in L.lines self.now }
     {
         match self.front.last() {
             None => 0,
@@ -206,11 +207,10 @@ impl<'a, L: LineList> Draft<'a, L> {
 
     /// Goes back by one copy.
     pub fn step_back(&mut self) -> Result<(), AllocError>
-        requires { IsDraft (L.lines self.old.list.now) self.old.front.items self.old.back.items }
+        requires { IsDraftIn L.lines self.old }
         ensures list { self.new.list.now ≡ self.old.list.now }
-        ensures is { IsDraft (L.lines self.new.list.now) self.new.front.items self.new.back.items }
-        ensures same { drafted_at (L.lines self.new.list.now) self.new.front.items self.new.back.items
-            ≡ drafted_at (L.lines self.old.list.now) self.old.front.items self.old.back.items }
+        ensures is { IsDraftIn L.lines self.new }
+        ensures same { lines_in L.lines self.new ≡ lines_in L.lines self.old }
         ensures moved { OnOk result (vec_len self.new.front ≡ vec_len self.old.front - 1) }
     {
         self.back.reserve(1)?;
@@ -223,11 +223,10 @@ impl<'a, L: LineList> Draft<'a, L> {
 
     /// Goes on by one copy.
     pub fn step_forth(&mut self) -> Result<(), AllocError>
-        requires { IsDraft (L.lines self.old.list.now) self.old.front.items self.old.back.items }
+        requires { IsDraftIn L.lines self.old }
         ensures list { self.new.list.now ≡ self.old.list.now }
-        ensures is { IsDraft (L.lines self.new.list.now) self.new.front.items self.new.back.items }
-        ensures same { drafted_at (L.lines self.new.list.now) self.new.front.items self.new.back.items
-            ≡ drafted_at (L.lines self.old.list.now) self.old.front.items self.old.back.items }
+        ensures is { IsDraftIn L.lines self.new }
+        ensures same { lines_in L.lines self.new ≡ lines_in L.lines self.old }
         ensures moved { OnOk result (vec_len self.new.back ≡ vec_len self.old.back - 1) }
     {
         self.front.reserve(1)?;
@@ -241,8 +240,8 @@ impl<'a, L: LineList> Draft<'a, L> {
 
     /// Whether the line of the last copy before the place begins at an offset or before it, or there is no such copy.
     fn is_begun(&self, offset: usize) -> bool
-        requires { IsDraft (L.lines self.now.list.now) self.now.front.items self.now.back.items }
-        ensures yes { result ≡ true → BeginsBy (L.lines self.now.list.now) offset self.now.front.items }
+        requires { IsDraftIn L.lines self.now }
+        ensures yes { result ≡ true → IsBegun L.lines self.now offset }
         ensures no { result ≡ false → 0 < vec_len self.now.front }
     {
         match self.front.last() {
@@ -253,16 +252,14 @@ impl<'a, L: LineList> Draft<'a, L> {
 
     /// Goes on by one copy, if its line begins at an offset or before it. Answers whether it did.
     fn step_forth_by(&mut self, offset: usize) -> Result<bool, AllocError>
-        requires is { IsDraft (L.lines self.old.list.now) self.old.front.items self.old.back.items }
-        requires begun { BeginsBy (L.lines self.old.list.now) offset self.old.front.items }
+        requires is { IsDraftIn L.lines self.old }
+        requires begun { IsBegun L.lines self.old offset }
         ensures list { self.new.list.now ≡ self.old.list.now }
-        ensures is { IsDraft (L.lines self.new.list.now) self.new.front.items self.new.back.items }
-        ensures same { drafted_at (L.lines self.new.list.now) self.new.front.items self.new.back.items
-            ≡ drafted_at (L.lines self.old.list.now) self.old.front.items self.old.back.items }
-        ensures begun { OnOk result (BeginsBy (L.lines self.new.list.now) offset self.new.front.items) }
+        ensures is { IsDraftIn L.lines self.new }
+        ensures same { lines_in L.lines self.new ≡ lines_in L.lines self.old }
+        ensures begun { OnOk result (IsBegun L.lines self.new offset) }
         ensures moved { IfOk result (λ went. went ≡ true → vec_len self.new.back < vec_len self.old.back) }
-        ensures ahead { IfOk result (λ went. went ≡ false →
-            BeginsBehind (L.lines self.new.list.now) offset self.new.front.items self.new.back.items) }
+        ensures ahead { IfOk result (λ went. went ≡ false → IsAhead L.lines self.new offset) }
     {
         let Some(copy) = self.back.last() else {
             return Ok(false);
@@ -285,10 +282,9 @@ impl<'a, L: LineList> Draft<'a, L> {
 
     /// Whether the line of the last copy before the place holds an offset, where the copies end at another one.
     fn is_last(&self, offset: usize, end: usize) -> bool
-        requires is { IsDraft (L.lines self.now.list.now) self.now.front.items self.now.back.items }
-        requires end { end
-            ≡ length (whole (made_lines (copies_of self.now.front.items) (L.lines self.now.list.now))).columns }
-        ensures begun { result ≡ true → BeginsBy (L.lines self.now.list.now) offset self.now.front.items }
+        requires is { IsDraftIn L.lines self.now }
+        requires end { end ≡ place_in L.lines self.now }
+        ensures begun { result ≡ true → IsBegun L.lines self.now offset }
         ensures within { result ≡ true → offset < end }
         ensures other { result ≡ false → offset < end →
             LastBeginsBehind (L.lines self.now.list.now) offset self.now.front.items }
@@ -301,12 +297,11 @@ impl<'a, L: LineList> Draft<'a, L> {
 
     /// Goes back until the line of the last copy before the place begins at an offset or before it.
     pub fn back_to(&mut self, offset: usize) -> Result<(), AllocError>
-        requires { IsDraft (L.lines self.old.list.now) self.old.front.items self.old.back.items }
+        requires { IsDraftIn L.lines self.old }
         ensures list { self.new.list.now ≡ self.old.list.now }
-        ensures is { IsDraft (L.lines self.new.list.now) self.new.front.items self.new.back.items }
-        ensures same { drafted_at (L.lines self.new.list.now) self.new.front.items self.new.back.items
-            ≡ drafted_at (L.lines self.old.list.now) self.old.front.items self.old.back.items }
-        ensures begun { OnOk result (BeginsBy (L.lines self.new.list.now) offset self.new.front.items) }
+        ensures is { IsDraftIn L.lines self.new }
+        ensures same { lines_in L.lines self.new ≡ lines_in L.lines self.old }
+        ensures begun { OnOk result (IsBegun L.lines self.new offset) }
     {
         while !self.is_begun(offset) {
             self.step_back()?;
@@ -316,15 +311,13 @@ impl<'a, L: LineList> Draft<'a, L> {
 
     /// Goes on until the line of the first copy behind the place begins behind an offset.
     pub fn forth_to(&mut self, offset: usize) -> Result<(), AllocError>
-        requires is { IsDraft (L.lines self.old.list.now) self.old.front.items self.old.back.items }
-        requires begun { BeginsBy (L.lines self.old.list.now) offset self.old.front.items }
+        requires is { IsDraftIn L.lines self.old }
+        requires begun { IsBegun L.lines self.old offset }
         ensures list { self.new.list.now ≡ self.old.list.now }
-        ensures is { IsDraft (L.lines self.new.list.now) self.new.front.items self.new.back.items }
-        ensures same { drafted_at (L.lines self.new.list.now) self.new.front.items self.new.back.items
-            ≡ drafted_at (L.lines self.old.list.now) self.old.front.items self.old.back.items }
-        ensures begun { OnOk result (BeginsBy (L.lines self.new.list.now) offset self.new.front.items) }
-        ensures ahead { OnOk result
-            (BeginsBehind (L.lines self.new.list.now) offset self.new.front.items self.new.back.items) }
+        ensures is { IsDraftIn L.lines self.new }
+        ensures same { lines_in L.lines self.new ≡ lines_in L.lines self.old }
+        ensures begun { OnOk result (IsBegun L.lines self.new offset) }
+        ensures ahead { OnOk result (IsAhead L.lines self.new offset) }
     {
         while self.step_forth_by(offset)? {}
         Ok(())
@@ -362,15 +355,13 @@ impl<'a, L: LineList> Draft<'a, L> {
 
     /// Takes the last copy before the place out, whose line holds an offset, where the copies end at another one.
     fn take_last(&mut self, offset: usize, end: usize) -> Found
-        requires is { IsDraft (L.lines self.old.list.now) self.old.front.items self.old.back.items }
-        requires begun { BeginsBy (L.lines self.old.list.now) offset self.old.front.items }
-        requires end { end
-            ≡ length (whole (made_lines (copies_of self.old.front.items) (L.lines self.old.list.now))).columns }
+        requires is { IsDraftIn L.lines self.old }
+        requires begun { IsBegun L.lines self.old offset }
+        requires end { end ≡ place_in L.lines self.old }
         requires within { offset < end }
         ensures list { self.new.list.now ≡ self.old.list.now }
-        ensures taken { IsTaken (L.lines self.new.list.now) self.new.front.items self.new.back.items result.stop }
-        ensures same { taken_lines (L.lines self.new.list.now) self.new.front.items self.new.back.items result.stop.copy
-            ≡ drafted_at (L.lines self.old.list.now) self.old.front.items self.old.back.items }
+        ensures taken { IsTakenFrom L.lines self.new result.stop }
+        ensures same { taken_in L.lines self.new result.stop.copy ≡ lines_in L.lines self.old }
         ensures place { StandsAt (L.lines self.new.list.now) self.new.front.items result.stop.copy offset
             result.column }
         ensures room { vec_len self.new.front < vec_capacity self.new.front }
@@ -394,10 +385,8 @@ impl<'a, L: LineList> Draft<'a, L> {
             < length (whole (drafted_at (L.lines self.old.list.now) self.old.front.items [])).columns }
         ensures list { self.new.list.now ≡ self.old.list.now }
         ensures front { self.new.front ≡ self.old.front }
-        ensures taken { IfOk result (λ found.
-            IsTaken (L.lines self.new.list.now) self.new.front.items self.new.back.items found.stop) }
-        ensures same { IfOk result (λ found.
-            taken_lines (L.lines self.new.list.now) self.new.front.items self.new.back.items found.stop.copy
+        ensures taken { IfOk result (λ found. IsTakenFrom L.lines self.new found.stop) }
+        ensures same { IfOk result (λ found. taken_in L.lines self.new found.stop.copy
             ≡ drafted_at (L.lines self.old.list.now) self.old.front.items []) }
         ensures place { IfOk result (λ found.
             StandsAt (L.lines self.new.list.now) self.new.front.items found.stop.copy offset found.column) }
@@ -433,10 +422,8 @@ impl<'a, L: LineList> Draft<'a, L> {
         requires room { vec_len self.old.back < vec_capacity self.old.back }
         ensures list { self.new.list.now ≡ self.old.list.now }
         ensures front { self.new.front ≡ self.old.front }
-        ensures taken { IfOk result (λ found.
-            IsTaken (L.lines self.new.list.now) self.new.front.items self.new.back.items found.stop) }
-        ensures same { IfOk result (λ found.
-            taken_lines (L.lines self.new.list.now) self.new.front.items self.new.back.items found.stop.copy
+        ensures taken { IfOk result (λ found. IsTakenFrom L.lines self.new found.stop) }
+        ensures same { IfOk result (λ found. taken_in L.lines self.new found.stop.copy
             ≡ drafted_at (L.lines self.old.list.now) self.old.front.items (self.old.back.items ++ next ∷ [])) }
         ensures place { IfOk result (λ found.
             StandsAt (L.lines self.new.list.now) self.new.front.items found.stop.copy offset found.column) }
@@ -461,16 +448,12 @@ impl<'a, L: LineList> Draft<'a, L> {
 
     /// Takes the copy of the line that holds an offset out, with the column there; where there is none it is made.
     pub fn take(&mut self, offset: usize) -> Result<Found, AllocError>
-        requires is { IsDraft (L.lines self.old.list.now) self.old.front.items self.old.back.items }
-        requires within { offset
-            < length (whole (drafted_at (L.lines self.old.list.now) self.old.front.items self.old.back.items)).columns }
+        requires is { IsDraftIn L.lines self.old }
+        requires within { offset < length (whole (lines_in L.lines self.old)).columns }
         ensures list { self.new.list.now ≡ self.old.list.now }
         ensures room { OnOk result (vec_len self.new.front < vec_capacity self.new.front) }
-        ensures taken { IfOk result (λ found.
-            IsTaken (L.lines self.new.list.now) self.new.front.items self.new.back.items found.stop) }
-        ensures same { IfOk result (λ found.
-            taken_lines (L.lines self.new.list.now) self.new.front.items self.new.back.items found.stop.copy
-            ≡ drafted_at (L.lines self.old.list.now) self.old.front.items self.old.back.items) }
+        ensures taken { IfOk result (λ found. IsTakenFrom L.lines self.new found.stop) }
+        ensures same { IfOk result (λ found. taken_in L.lines self.new found.stop.copy ≡ lines_in L.lines self.old) }
         ensures place { IfOk result (λ found.
             StandsAt (L.lines self.new.list.now) self.new.front.items found.stop.copy offset found.column) }
     {
@@ -495,28 +478,23 @@ impl<'a, L: LineList> Draft<'a, L> {
     /// Puts a copy that was taken out back to its place, with its line as it is now.
     pub fn put(&mut self, stop: Stop)
         requires room { vec_len self.old.front < vec_capacity self.old.front }
-        requires taken { IsTaken (L.lines self.old.list.now) self.old.front.items self.old.back.items stop }
-        requires counted { length (whole
-            (taken_lines (L.lines self.old.list.now) self.old.front.items self.old.back.items stop.copy)).columns
-            < 2 ^ 64 }
+        requires taken { IsTakenFrom L.lines self.old stop }
+        requires counted { length (whole (taken_in L.lines self.old stop.copy)).columns < 2 ^ 64 }
         ensures list { self.new.list.now ≡ self.old.list.now }
-        ensures is { IsDraft (L.lines self.new.list.now) self.new.front.items self.new.back.items }
-        ensures lines { drafted_at (L.lines self.new.list.now) self.new.front.items self.new.back.items
-            ≡ taken_lines (L.lines self.old.list.now) self.old.front.items self.old.back.items stop.copy }
+        ensures is { IsDraftIn L.lines self.new }
+        ensures lines { lines_in L.lines self.new ≡ taken_in L.lines self.old stop.copy }
     {
         self.front.push_reserved(stop);
     }
 
     /// Toggles each slot of a set before the character at an offset.
     pub fn toggle(&mut self, offset: usize, slots: &TagSet) -> Result<(), AllocError>
-        requires is { IsText (L.lines self.old.list.now) self.old.front.items self.old.back.items }
-        requires within { offset
-            < length (text_at (L.lines self.old.list.now) self.old.front.items self.old.back.items).columns }
+        requires is { IsTextIn L.lines self.old }
+        requires within { offset < length (text_in L.lines self.old).columns }
         ensures list { self.new.list.now ≡ self.old.list.now }
-        ensures is { OnOk result (IsText (L.lines self.new.list.now) self.new.front.items self.new.back.items) }
-        ensures new { OnOk result (text_at (L.lines self.new.list.now) self.new.front.items self.new.back.items
-            ≡ with_toggled offset slots.now
-            (text_at (L.lines self.old.list.now) self.old.front.items self.old.back.items)) }
+        ensures is { OnOk result (IsTextIn L.lines self.new) }
+        ensures new { OnOk result (text_in L.lines self.new
+            ≡ with_toggled offset slots.now (text_in L.lines self.old)) }
     {
         let Found { mut stop, column } = self.take(offset)?;
         stop.copy.line.toggle(column, slots)?;
@@ -526,17 +504,14 @@ impl<'a, L: LineList> Draft<'a, L> {
 
     /// Puts a text without newlines in before the character at an offset.
     pub fn insert_within(&mut self, offset: usize, text: &str) -> Result<(), AllocError>
-        requires is { IsText (L.lines self.old.list.now) self.old.front.items self.old.back.items }
-        requires within { offset
-            < length (text_at (L.lines self.old.list.now) self.old.front.items self.old.back.items).columns }
+        requires is { IsTextIn L.lines self.old }
+        requires within { offset < length (text_in L.lines self.old).columns }
         requires free { lines (chars text.now) ≡ 0 }
-        requires counted { length (text_at (L.lines self.old.list.now) self.old.front.items self.old.back.items).columns
-            + length (chars text.now) < 2 ^ 64 }
+        requires counted { length (text_in L.lines self.old).columns + length (chars text.now) < 2 ^ 64 }
         ensures list { self.new.list.now ≡ self.old.list.now }
-        ensures is { OnOk result (IsText (L.lines self.new.list.now) self.new.front.items self.new.back.items) }
-        ensures new { OnOk result (text_at (L.lines self.new.list.now) self.new.front.items self.new.back.items
-            ≡ after_text offset (chars text.now)
-            (text_at (L.lines self.old.list.now) self.old.front.items self.old.back.items)) }
+        ensures is { OnOk result (IsTextIn L.lines self.new) }
+        ensures new { OnOk result (text_in L.lines self.new
+            ≡ after_text offset (chars text.now) (text_in L.lines self.old)) }
     {
         let Found { mut stop, column } = self.take(offset)?;
         stop.copy.line.insert_text(column, text)?;
@@ -546,16 +521,12 @@ impl<'a, L: LineList> Draft<'a, L> {
 
     /// Puts the mark of a number, which marks nothing, at a place before a character.
     pub fn put_mark(&mut self, number: MarkNo, place: Place) -> Result<(), AllocError>
-        requires is { IsText (L.lines self.old.list.now) self.old.front.items self.old.back.items }
-        requires within { place.offset
-            < length (text_at (L.lines self.old.list.now) self.old.front.items self.old.back.items).columns }
-        requires free { finite.get
-            (text_at (L.lines self.old.list.now) self.old.front.items self.old.back.items).marks number.0 ≡ None }
+        requires is { IsTextIn L.lines self.old }
+        requires within { place.offset < length (text_in L.lines self.old).columns }
+        requires free { finite.get (text_in L.lines self.old).marks number.0 ≡ None }
         ensures list { self.new.list.now ≡ self.old.list.now }
-        ensures is { OnOk result (IsText (L.lines self.new.list.now) self.new.front.items self.new.back.items) }
-        ensures new { OnOk result (text_at (L.lines self.new.list.now) self.new.front.items self.new.back.items
-            ≡ with_mark number.0 place
-            (text_at (L.lines self.old.list.now) self.old.front.items self.old.back.items)) }
+        ensures is { OnOk result (IsTextIn L.lines self.new) }
+        ensures new { OnOk result (text_in L.lines self.new ≡ with_mark number.0 place (text_in L.lines self.old)) }
     {
         let Found { mut stop, column } = self.take(place.offset)?;
         let there = Place {
@@ -570,15 +541,12 @@ impl<'a, L: LineList> Draft<'a, L> {
     /// Takes the mark of a number away, which stands before the character at an offset, or behind that one if it's the
     /// last, or nowhere.
     pub fn take_mark_at(&mut self, offset: usize, number: MarkNo) -> Result<(), AllocError>
-        requires is { IsText (L.lines self.old.list.now) self.old.front.items self.old.back.items }
-        requires within { offset
-            < length (text_at (L.lines self.old.list.now) self.old.front.items self.old.back.items).columns }
-        requires stands { StandsBy number.0 offset
-            (text_at (L.lines self.old.list.now) self.old.front.items self.old.back.items) }
+        requires is { IsTextIn L.lines self.old }
+        requires within { offset < length (text_in L.lines self.old).columns }
+        requires stands { StandsBy number.0 offset (text_in L.lines self.old) }
         ensures list { self.new.list.now ≡ self.old.list.now }
-        ensures is { OnOk result (IsText (L.lines self.new.list.now) self.new.front.items self.new.back.items) }
-        ensures new { OnOk result (text_at (L.lines self.new.list.now) self.new.front.items self.new.back.items
-            ≡ without_mark number.0 (text_at (L.lines self.old.list.now) self.old.front.items self.old.back.items)) }
+        ensures is { OnOk result (IsTextIn L.lines self.new) }
+        ensures new { OnOk result (text_in L.lines self.new ≡ without_mark number.0 (text_in L.lines self.old)) }
     {
         let Found { mut stop, .. } = self.take(offset)?;
         stop.copy.line.take_mark(number);

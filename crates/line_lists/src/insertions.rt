@@ -1,8 +1,8 @@
 ghost use Rattle.std.specs.Prelude.{◌≡◌, ◌+◌, ◌<◌, ◌≤◌, ◌^◌, ◌++◌, IfNone, IfSome, IfOk, OnOk, chars, length};
 ghost use Rattle.text_model.specs.Lines.{lines};
 ghost use Rattle.segments.specs.Columns.{after_text, line_before, line_behind, plain_line};
-ghost use Rattle.line_lists.specs.Drafts.{IsText, text_at};
-ghost use Rattle.line_lists.specs.Insertions.{IsOpen, IsPartly, Opens, place_at};
+ghost use Rattle.line_lists.specs.DraftTexts.{IsTextIn, place_in, text_in};
+ghost use Rattle.line_lists.specs.Insertions.{IsOpen, IsPartly, Opens};
 ghost use Rattle.line_lists.specs.Lists.{IsLine};
 
 use crate::drafts::{Copied, Draft, Found, Stop};
@@ -52,16 +52,14 @@ impl<'a, L: LineList> Draft<'a, L> {
     /// Puts a line with its newline in before the character at an offset, and cuts the text's line behind it: the place
     /// stands there then.
     fn split(&mut self, offset: usize, text: &str) -> Result<(), AllocError>
-        requires is { IsText (L.lines self.old.list.now) self.old.front.items self.old.back.items }
-        requires within { offset
-            < length (text_at (L.lines self.old.list.now) self.old.front.items self.old.back.items).columns }
+        requires is { IsTextIn L.lines self.old }
+        requires within { offset < length (text_in L.lines self.old).columns }
         requires line { IsLine (plain_line (chars text.now)) }
-        requires counted { length (text_at (L.lines self.old.list.now) self.old.front.items self.old.back.items).columns
-            + length (chars text.now) < 2 ^ 64 }
+        requires counted { length (text_in L.lines self.old).columns + length (chars text.now) < 2 ^ 64 }
         ensures list { self.new.list.now ≡ self.old.list.now }
-        ensures opens { OnOk result (Opens (L.lines self.new.list.now) self.new.front.items self.new.back.items
-            offset (chars text.now)
-            (text_at (L.lines self.old.list.now) self.old.front.items self.old.back.items)) }
+        ensures opens { OnOk result
+            (Opens (L.lines self.new.list.now) self.new.front.items self.new.back.items offset (chars text.now)
+            (text_in L.lines self.old)) }
     {
         let Found { mut stop, column } = self.take(offset)?;
         self.back.reserve(1)?;
@@ -79,12 +77,11 @@ impl<'a, L: LineList> Draft<'a, L> {
     fn put_line(&mut self, text: &str) -> Result<(), AllocError>
         requires is { IsOpen (L.lines self.old.list.now) self.old.front.items self.old.back.items }
         requires line { IsLine (plain_line (chars text.now)) }
-        requires counted { length (text_at (L.lines self.old.list.now) self.old.front.items self.old.back.items).columns
-            + length (chars text.now) < 2 ^ 64 }
+        requires counted { length (text_in L.lines self.old).columns + length (chars text.now) < 2 ^ 64 }
         ensures list { self.new.list.now ≡ self.old.list.now }
-        ensures opens { OnOk result (Opens (L.lines self.new.list.now) self.new.front.items self.new.back.items
-            (place_at (L.lines self.old.list.now) self.old.front.items) (chars text.now)
-            (text_at (L.lines self.old.list.now) self.old.front.items self.old.back.items)) }
+        ensures opens { OnOk result
+            (Opens (L.lines self.new.list.now) self.new.front.items self.new.back.items (place_in L.lines self.old)
+            (chars text.now) (text_in L.lines self.old)) }
     {
         self.front.reserve(1)?;
         let reached = self.reached();
@@ -116,13 +113,11 @@ impl<'a, L: LineList> Draft<'a, L> {
     /// Puts the lines of a text that end in a newline in at the place, and gives what is behind them.
     fn put_lines<'t>(&mut self, text: &'t str) -> Result<&'t str, AllocError>
         requires is { IsOpen (L.lines self.old.list.now) self.old.front.items self.old.back.items }
-        requires counted { length (text_at (L.lines self.old.list.now) self.old.front.items self.old.back.items).columns
-            + length (chars text.now) < 2 ^ 64 }
+        requires counted { length (text_in L.lines self.old).columns + length (chars text.now) < 2 ^ 64 }
         ensures list { self.new.list.now ≡ self.old.list.now }
-        ensures partly { IfOk result (λ rest.
-            IsPartly (L.lines self.new.list.now) self.new.front.items self.new.back.items
-            (place_at (L.lines self.old.list.now) self.old.front.items) (chars text.now) (chars rest.now)
-            (text_at (L.lines self.old.list.now) self.old.front.items self.old.back.items)) }
+        ensures partly { IfOk result
+            (λ rest. IsPartly (L.lines self.new.list.now) self.new.front.items self.new.back.items
+            (place_in L.lines self.old) (chars text.now) (chars rest.now) (text_in L.lines self.old)) }
         ensures free { IfOk result (λ rest. lines (chars rest.now) ≡ 0) }
     {
         let mut rest = text;
@@ -139,13 +134,11 @@ impl<'a, L: LineList> Draft<'a, L> {
     /// Puts a text in at the place.
     fn put_text(&mut self, text: &str) -> Result<(), AllocError>
         requires is { IsOpen (L.lines self.old.list.now) self.old.front.items self.old.back.items }
-        requires counted { length (text_at (L.lines self.old.list.now) self.old.front.items self.old.back.items).columns
-            + length (chars text.now) < 2 ^ 64 }
+        requires counted { length (text_in L.lines self.old).columns + length (chars text.now) < 2 ^ 64 }
         ensures list { self.new.list.now ≡ self.old.list.now }
-        ensures is { OnOk result (IsText (L.lines self.new.list.now) self.new.front.items self.new.back.items) }
-        ensures new { OnOk result (text_at (L.lines self.new.list.now) self.new.front.items self.new.back.items
-            ≡ after_text (place_at (L.lines self.old.list.now) self.old.front.items) (chars text.now)
-            (text_at (L.lines self.old.list.now) self.old.front.items self.old.back.items)) }
+        ensures is { OnOk result (IsTextIn L.lines self.new) }
+        ensures new { OnOk result (text_in L.lines self.new
+            ≡ after_text (place_in L.lines self.old) (chars text.now) (text_in L.lines self.old)) }
     {
         let last = self.put_lines(text)?;
         if last.is_empty() {
@@ -157,16 +150,13 @@ impl<'a, L: LineList> Draft<'a, L> {
 
     /// Puts a text in before the character at an offset.
     pub fn insert(&mut self, offset: usize, text: &str) -> Result<(), AllocError>
-        requires is { IsText (L.lines self.old.list.now) self.old.front.items self.old.back.items }
-        requires within { offset
-            < length (text_at (L.lines self.old.list.now) self.old.front.items self.old.back.items).columns }
-        requires counted { length (text_at (L.lines self.old.list.now) self.old.front.items self.old.back.items).columns
-            + length (chars text.now) < 2 ^ 64 }
+        requires is { IsTextIn L.lines self.old }
+        requires within { offset < length (text_in L.lines self.old).columns }
+        requires counted { length (text_in L.lines self.old).columns + length (chars text.now) < 2 ^ 64 }
         ensures list { self.new.list.now ≡ self.old.list.now }
-        ensures is { OnOk result (IsText (L.lines self.new.list.now) self.new.front.items self.new.back.items) }
-        ensures new { OnOk result (text_at (L.lines self.new.list.now) self.new.front.items self.new.back.items
-            ≡ after_text offset (chars text.now)
-            (text_at (L.lines self.old.list.now) self.old.front.items self.old.back.items)) }
+        ensures is { OnOk result (IsTextIn L.lines self.new) }
+        ensures new { OnOk result (text_in L.lines self.new
+            ≡ after_text offset (chars text.now) (text_in L.lines self.old)) }
     {
         match cut_line(text) {
             None => self.insert_within(offset, text),

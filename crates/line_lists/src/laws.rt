@@ -1,7 +1,6 @@
 //! Laws of texts that are kept as lines, each the contract of a function that does nothing.
 
 ghost use Rattle.std.specs.Prelude.{◌≡◌, ℕ, ◌+◌, ◌<◌, ◌≤◌, Bool, false, List, ◌++◌, length, map};
-ghost use Rattle.std.specs.FinSet as set;
 ghost use Rattle.text_model.specs.Content.{Slots};
 ghost use Rattle.text_model.specs.Splices.{changed, inserted, removed};
 ghost use Rattle.text_model.specs.Steps.{cells_of, with_slot, without_slots};

@@ -1,6 +1,7 @@
 ghost use Rattle.std.specs.Prelude.{◌≡◌, ◌-◌, ◌<◌, ◌≤◌, [], ◌∷◌, IfSome, OnOk, None, length, take, drop};
 ghost use Rattle.std.specs.FinMap as finite;
-ghost use Rattle.line_lists.specs.Drafts.{CanFollow, IsText, copies_of, drafted_at, made_lines, text_at};
+ghost use Rattle.line_lists.specs.DraftTexts.{IsTextIn, lines_in, text_in};
+ghost use Rattle.line_lists.specs.Drafts.{CanFollow, copies_of, made_lines};
 ghost use Rattle.line_lists.specs.Edits.{with_mark, without_mark};
 ghost use Rattle.line_lists.specs.Lists.{has_mark, next_line};
 ghost use Rattle.line_lists.specs.Marking.{StandsIn, lines_with};
@@ -26,16 +27,12 @@ fn mark_column(line: &Line, number: MarkNo) -> Option<usize>
 impl<'a, L: LineList> Draft<'a, L> {
     /// Puts the mark of a number, which marks nothing, at the end of the text.
     pub fn put_last_mark(&mut self, number: MarkNo, place: Place) -> Result<(), AllocError>
-        requires is { IsText (L.lines self.old.list.now) self.old.front.items self.old.back.items }
-        requires end { place.offset
-            ≡ length (text_at (L.lines self.old.list.now) self.old.front.items self.old.back.items).columns }
-        requires free { finite.get
-            (text_at (L.lines self.old.list.now) self.old.front.items self.old.back.items).marks number.0 ≡ None }
+        requires is { IsTextIn L.lines self.old }
+        requires end { place.offset ≡ length (text_in L.lines self.old).columns }
+        requires free { finite.get (text_in L.lines self.old).marks number.0 ≡ None }
         ensures list { self.new.list.now ≡ self.old.list.now }
-        ensures is { OnOk result (IsText (L.lines self.new.list.now) self.new.front.items self.new.back.items) }
-        ensures new { OnOk result (text_at (L.lines self.new.list.now) self.new.front.items self.new.back.items
-            ≡ with_mark number.0 place
-            (text_at (L.lines self.old.list.now) self.old.front.items self.old.back.items)) }
+        ensures is { OnOk result (IsTextIn L.lines self.new) }
+        ensures new { OnOk result (text_in L.lines self.new ≡ with_mark number.0 place (text_in L.lines self.old)) }
     {
         let Found { mut stop, column } = self.take(place.offset - 1)?;
         let there = Place {
@@ -99,10 +96,9 @@ impl<'a, L: LineList> Draft<'a, L> {
 
     /// Where the mark of a number stands in the text, if that is in what the copies before the place cover.
     fn find_before(&self, number: MarkNo, marked: Option<usize>) -> Option<usize>
-        requires is { IsText (L.lines self.now.list.now) self.now.front.items self.now.back.items }
+        requires is { IsTextIn L.lines self.now }
         requires marked { marked ≡ next_line (has_mark number.0) 0 (L.lines self.now.list.now) }
-        ensures some { IfSome result (λ offset. StandsIn number.0 offset
-            (drafted_at (L.lines self.now.list.now) self.now.front.items self.now.back.items)) }
+        ensures some { IfSome result (λ offset. StandsIn number.0 offset (lines_in L.lines self.now)) }
         ensures none { result ≡ None → finite.get
             (whole (made_lines (copies_of self.now.front.items) (L.lines self.now.list.now))).marks number.0 ≡ None }
     {
@@ -116,14 +112,12 @@ impl<'a, L: LineList> Draft<'a, L> {
 
     /// Where the mark of a number stands in the text, if it isn't in what the copies before the place cover.
     fn find_behind(&self, number: MarkNo, marked: Option<usize>) -> Option<usize>
-        requires is { IsText (L.lines self.now.list.now) self.now.front.items self.now.back.items }
+        requires is { IsTextIn L.lines self.now }
         requires marked { marked ≡ next_line (has_mark number.0) 0 (L.lines self.now.list.now) }
         requires none { finite.get
             (whole (made_lines (copies_of self.now.front.items) (L.lines self.now.list.now))).marks number.0 ≡ None }
-        ensures some { IfSome result (λ offset. StandsIn number.0 offset
-            (drafted_at (L.lines self.now.list.now) self.now.front.items self.now.back.items)) }
-        ensures none { result ≡ None → finite.get
-            (text_at (L.lines self.now.list.now) self.now.front.items self.now.back.items).marks number.0 ≡ None }
+        ensures some { IfSome result (λ offset. StandsIn number.0 offset (lines_in L.lines self.now)) }
+        ensures none { result ≡ None → finite.get (text_in L.lines self.now).marks number.0 ≡ None }
     {
         let mut reached = self.reached();
         for index in (0..self.back.len()).rev() {
@@ -149,11 +143,9 @@ impl<'a, L: LineList> Draft<'a, L> {
 
     /// Where the mark of a number stands in the text.
     fn find_mark(&self, number: MarkNo) -> Option<usize>
-        requires { IsText (L.lines self.now.list.now) self.now.front.items self.now.back.items }
-        ensures some { IfSome result (λ offset. StandsIn number.0 offset
-            (drafted_at (L.lines self.now.list.now) self.now.front.items self.now.back.items)) }
-        ensures none { result ≡ None → finite.get
-            (text_at (L.lines self.now.list.now) self.now.front.items self.now.back.items).marks number.0 ≡ None }
+        requires { IsTextIn L.lines self.now }
+        ensures some { IfSome result (λ offset. StandsIn number.0 offset (lines_in L.lines self.now)) }
+        ensures none { result ≡ None → finite.get (text_in L.lines self.now).marks number.0 ≡ None }
     {
         if self.front.is_empty() && self.back.is_empty() {
             return self.find_listed(number);
@@ -167,11 +159,10 @@ impl<'a, L: LineList> Draft<'a, L> {
 
     /// Takes the mark of a number away, wherever it stands, if it does.
     pub fn take_mark(&mut self, number: MarkNo) -> Result<(), AllocError>
-        requires is { IsText (L.lines self.old.list.now) self.old.front.items self.old.back.items }
+        requires is { IsTextIn L.lines self.old }
         ensures list { self.new.list.now ≡ self.old.list.now }
-        ensures is { OnOk result (IsText (L.lines self.new.list.now) self.new.front.items self.new.back.items) }
-        ensures new { OnOk result (text_at (L.lines self.new.list.now) self.new.front.items self.new.back.items
-            ≡ without_mark number.0 (text_at (L.lines self.old.list.now) self.old.front.items self.old.back.items)) }
+        ensures is { OnOk result (IsTextIn L.lines self.new) }
+        ensures new { OnOk result (text_in L.lines self.new ≡ without_mark number.0 (text_in L.lines self.old)) }
     {
         match self.find_mark(number) {
             None => Ok(()),

@@ -2,7 +2,8 @@ ghost use Rattle.std.specs.Prelude.{◌≡◌, ℕ, ◌+◌, ◌<◌, ◌≤◌,
 ghost use Rattle.std.specs.List.{All};
 ghost use Rattle.toggle_sums.specs.Counts.{counting, plus};
 ghost use Rattle.segments.specs.Columns.{LineContent, line_count};
-ghost use Rattle.line_lists.specs.Drafts.{IsDraft, IsText, copies_of, drafted_at};
+ghost use Rattle.line_lists.specs.DraftTexts.{IsDraftIn, lines_in};
+ghost use Rattle.line_lists.specs.Drafts.{IsText, copies_of, drafted_at};
 ghost use Rattle.line_lists.specs.Lists.{IsCounted, NumbersBelow, count_of};
 ghost use Rattle.line_lists.specs.Pieces.{CanPlace, copied_lines, freed, lines_more, named, numbers_in, numbers_of};
 ghost use Rattle.line_lists.specs.Pieces.{piece_lines, placed, rows_more};
@@ -247,11 +248,10 @@ pub fn place<L: LineList>(list: &mut L, pieces: Vec<Piece>)
 impl<'a, L: LineList> Draft<'a, L> {
     /// Goes on behind the last copy.
     pub fn forth_to_end(&mut self) -> Result<(), AllocError>
-        requires { IsDraft (L.lines self.old.list.now) self.old.front.items self.old.back.items }
+        requires { IsDraftIn L.lines self.old }
         ensures list { self.new.list.now ≡ self.old.list.now }
-        ensures is { IsDraft (L.lines self.new.list.now) self.new.front.items self.new.back.items }
-        ensures same { drafted_at (L.lines self.new.list.now) self.new.front.items self.new.back.items
-            ≡ drafted_at (L.lines self.old.list.now) self.old.front.items self.old.back.items }
+        ensures is { IsDraftIn L.lines self.new }
+        ensures same { lines_in L.lines self.new ≡ lines_in L.lines self.old }
         ensures end { OnOk result (self.new.back.items ≡ []) }
     {
         while !self.back.is_empty() {

@@ -1,7 +1,8 @@
 ghost use Rattle.std.specs.Prelude.{◌≡◌, ◌+◌, ◌<◌, ◌≤◌, ◌^◌, ◌∷◌, [], ◌++◌, IfOk, OnOk, length, take, drop, vec_len};
 ghost use Rattle.std.specs.Prelude.{vec_capacity};
 ghost use Rattle.segments.specs.Columns.{after_removal, joined};
-ghost use Rattle.line_lists.specs.Drafts.{IsTaken, IsText, copies_of, covered, lines_behind, text_at};
+ghost use Rattle.line_lists.specs.DraftTexts.{IsTakenFrom, IsTextIn, text_in};
+ghost use Rattle.line_lists.specs.Drafts.{IsTaken, copies_of, covered, lines_behind};
 ghost use Rattle.line_lists.specs.Removals.{HoldsMore, IsHeld, JoinsNext, held_at, held_text};
 ghost use Rattle.line_lists.specs.Texts.{whole};
 
@@ -48,8 +49,7 @@ impl<'a, L: LineList> Draft<'a, L> {
         ensures list { self.new.list.now ≡ self.old.list.now }
         ensures front { self.new.front ≡ self.old.front }
         ensures kept { stop.new.copy.kept ≡ stop.old.copy.kept }
-        ensures taken { OnOk result
-            (IsTaken (L.lines self.new.list.now) self.new.front.items self.new.back.items stop.new) }
+        ensures taken { OnOk result (IsTakenFrom L.lines self.new stop.new) }
         ensures joins { OnOk result (JoinsNext stop.old.copy.line stop.new.copy.line
             (lines_behind (copies_of self.old.front.items) stop.old.copy (self.old.back.items ++ next ∷ [])
             (L.lines self.old.list.now))
@@ -67,14 +67,13 @@ impl<'a, L: LineList> Draft<'a, L> {
 
     /// Joins the next line of the text to that of a copy which was taken out.
     fn join_next(&mut self, stop: &mut Stop) -> Result<(), AllocError>
-        requires taken { IsTaken (L.lines self.old.list.now) self.old.front.items self.old.back.items stop.old }
+        requires taken { IsTakenFrom L.lines self.old stop.old }
         requires some { 0 < length (lines_behind (copies_of self.old.front.items) stop.old.copy self.old.back.items
             (L.lines self.old.list.now)) }
         ensures list { self.new.list.now ≡ self.old.list.now }
         ensures front { self.new.front ≡ self.old.front }
         ensures kept { stop.new.copy.kept ≡ stop.old.copy.kept }
-        ensures taken { OnOk result
-            (IsTaken (L.lines self.new.list.now) self.new.front.items self.new.back.items stop.new) }
+        ensures taken { OnOk result (IsTakenFrom L.lines self.new stop.new) }
         ensures joins { OnOk result (JoinsNext stop.old.copy.line stop.new.copy.line
             (lines_behind (copies_of self.old.front.items) stop.old.copy self.old.back.items
             (L.lines self.old.list.now))
@@ -152,14 +151,12 @@ impl<'a, L: LineList> Draft<'a, L> {
     /// Takes the characters from one offset to another out. What was toggled an odd number of times in these is toggled
     /// before the character behind them, and their marks go there.
     pub fn remove(&mut self, from: usize, to: usize) -> Result<(), AllocError>
-        requires is { IsText (L.lines self.old.list.now) self.old.front.items self.old.back.items }
+        requires is { IsTextIn L.lines self.old }
         requires ordered { from ≤ to }
-        requires within { to
-            < length (text_at (L.lines self.old.list.now) self.old.front.items self.old.back.items).columns }
+        requires within { to < length (text_in L.lines self.old).columns }
         ensures list { self.new.list.now ≡ self.old.list.now }
-        ensures is { OnOk result (IsText (L.lines self.new.list.now) self.new.front.items self.new.back.items) }
-        ensures new { OnOk result (text_at (L.lines self.new.list.now) self.new.front.items self.new.back.items
-            ≡ after_removal from to (text_at (L.lines self.old.list.now) self.old.front.items self.old.back.items)) }
+        ensures is { OnOk result (IsTextIn L.lines self.new) }
+        ensures new { OnOk result (text_in L.lines self.new ≡ after_removal from to (text_in L.lines self.old)) }
     {
         let Found { mut stop, column } = self.take(from)?;
         self.remove_behind(&mut stop, column, to - from)?;

@@ -1,13 +1,14 @@
-ghost use Rattle.std.specs.Prelude.{◌≡◌, ◌+◌, ◌<◌, ◌≤◌, IfOk, OnOk, chars, drop, length, take};
+ghost use Rattle.std.specs.Prelude.{◌≡◌, ◌+◌, ◌<◌, ◌≤◌, IfOk, OnOk, chars, length, take};
 ghost use Rattle.text_model.specs.SlotSets.{differing};
 ghost use Rattle.text_model.specs.Steps.{Fits, StepFitsIn, after, set_slot};
 ghost use Rattle.text_model.specs.TagBits.{slot_count};
 ghost use Rattle.text_model.specs.declared.edits.Step.TheVariants.{ClearSlot, ClearTags, Insert, PutMark, SetTag};
 ghost use Rattle.segments.specs.Columns.{tags_before};
-ghost use Rattle.line_lists.specs.Drafts.{IsTaken, IsText, copies_of, drafted_at, lines_before, text_at};
+ghost use Rattle.line_lists.specs.DraftTexts.{IsTakenFrom, IsTextIn, lines_in, text_in};
+ghost use Rattle.line_lists.specs.Drafts.{copies_of, lines_before};
 ghost use Rattle.line_lists.specs.Edits.{made, with_toggled};
 ghost use Rattle.line_lists.specs.Texts.{text_of, whole};
-ghost use Rattle.line_lists.specs.Toggling.{switched, tags_left_of};
+ghost use Rattle.line_lists.specs.Toggling.{switched, tags_behind};
 
 use crate::drafts::{Draft, Found, Stop};
 use crate::lists::LineList;
@@ -30,14 +31,12 @@ impl<'a, L: LineList> Draft<'a, L> {
     /// Toggles each slot of a set before the character at an offset of a text of so many characters; at its end there
     /// is nothing to toggle.
     fn toggle_before(&mut self, offset: usize, slots: &TagSet, len: usize) -> Result<(), AllocError>
-        requires is { IsText (L.lines self.old.list.now) self.old.front.items self.old.back.items }
-        requires len { len
-            ≡ length (text_at (L.lines self.old.list.now) self.old.front.items self.old.back.items).columns }
+        requires is { IsTextIn L.lines self.old }
+        requires len { len ≡ length (text_in L.lines self.old).columns }
         ensures list { self.new.list.now ≡ self.old.list.now }
-        ensures is { OnOk result (IsText (L.lines self.new.list.now) self.new.front.items self.new.back.items) }
-        ensures new { OnOk result (text_at (L.lines self.new.list.now) self.new.front.items self.new.back.items
-            ≡ with_toggled offset slots.now
-            (text_at (L.lines self.old.list.now) self.old.front.items self.old.back.items)) }
+        ensures is { OnOk result (IsTextIn L.lines self.new) }
+        ensures new { OnOk result (text_in L.lines self.new
+            ≡ with_toggled offset slots.now (text_in L.lines self.old)) }
     {
         if len <= offset || slots.is_empty() {
             return Ok(());
@@ -55,14 +54,12 @@ impl<'a, L: LineList> Draft<'a, L> {
         last: &TagSet,
         len: usize,
     ) -> Result<(), AllocError>
-        requires is { IsText (L.lines self.old.list.now) self.old.front.items self.old.back.items }
-        requires len { len
-            ≡ length (text_at (L.lines self.old.list.now) self.old.front.items self.old.back.items).columns }
+        requires is { IsTextIn L.lines self.old }
+        requires len { len ≡ length (text_in L.lines self.old).columns }
         ensures list { self.new.list.now ≡ self.old.list.now }
-        ensures is { OnOk result (IsText (L.lines self.new.list.now) self.new.front.items self.new.back.items) }
-        ensures new { OnOk result (text_at (L.lines self.new.list.now) self.new.front.items self.new.back.items
-            ≡ with_toggled to last.now (with_toggled from first.now
-            (text_at (L.lines self.old.list.now) self.old.front.items self.old.back.items))) }
+        ensures is { OnOk result (IsTextIn L.lines self.new) }
+        ensures new { OnOk result (text_in L.lines self.new
+            ≡ with_toggled to last.now (with_toggled from first.now (text_in L.lines self.old))) }
     {
         if self.covered() > from {
             self.toggle_before(to, last, len)?;
@@ -74,11 +71,11 @@ impl<'a, L: LineList> Draft<'a, L> {
 
     /// The slots that are on behind the lines before that of a copy which was taken out.
     fn tags_up_to(&mut self, stop: &Stop) -> TagSet
-        requires { IsTaken (L.lines self.old.list.now) self.old.front.items self.old.back.items stop.now }
+        requires { IsTakenFrom L.lines self.old stop.now }
         ensures list { self.new.list.now ≡ self.old.list.now }
         ensures front { self.new.front ≡ self.old.front }
         ensures back { self.new.back ≡ self.old.back }
-        ensures value { result ≡ tags_left_of (whole
+        ensures value { result ≡ tags_behind (whole
             (lines_before (copies_of self.old.front.items) stop.now.copy (L.lines self.old.list.now))).columns }
     {
         let mut slots = self.known.all(self.list, &self.front);
@@ -93,15 +90,12 @@ impl<'a, L: LineList> Draft<'a, L> {
 
     /// The slots that are on at a character.
     fn tags_at(&mut self, offset: usize) -> Result<TagSet, AllocError>
-        requires is { IsText (L.lines self.old.list.now) self.old.front.items self.old.back.items }
-        requires within { offset
-            < length (text_at (L.lines self.old.list.now) self.old.front.items self.old.back.items).columns }
+        requires is { IsTextIn L.lines self.old }
+        requires within { offset < length (text_in L.lines self.old).columns }
         ensures list { self.new.list.now ≡ self.old.list.now }
-        ensures is { OnOk result (IsText (L.lines self.new.list.now) self.new.front.items self.new.back.items) }
-        ensures same { OnOk result (drafted_at (L.lines self.new.list.now) self.new.front.items self.new.back.items
-            ≡ drafted_at (L.lines self.old.list.now) self.old.front.items self.old.back.items) }
-        ensures value { IfOk result (λ slots. slots ≡ tags_before offset
-            (text_at (L.lines self.old.list.now) self.old.front.items self.old.back.items).columns) }
+        ensures is { OnOk result (IsTextIn L.lines self.new) }
+        ensures same { OnOk result (lines_in L.lines self.new ≡ lines_in L.lines self.old) }
+        ensures value { IfOk result (λ slots. slots ≡ tags_before offset (text_in L.lines self.old).columns) }
     {
         let Found { stop, column } = self.take(offset)?;
         let mut slots = self.tags_up_to(&stop);
@@ -112,19 +106,16 @@ impl<'a, L: LineList> Draft<'a, L> {
 
     /// The slots that are on behind so many characters of a text; the line of the next one is copied.
     fn left_tags(&mut self, offset: usize) -> Result<TagSet, AllocError>
-        requires is { IsText (L.lines self.old.list.now) self.old.front.items self.old.back.items }
-        requires within { offset
-            < length (text_at (L.lines self.old.list.now) self.old.front.items self.old.back.items).columns }
+        requires is { IsTextIn L.lines self.old }
+        requires within { offset < length (text_in L.lines self.old).columns }
         ensures list { self.new.list.now ≡ self.old.list.now }
-        ensures is { OnOk result (IsText (L.lines self.new.list.now) self.new.front.items self.new.back.items) }
-        ensures same { OnOk result (drafted_at (L.lines self.new.list.now) self.new.front.items self.new.back.items
-            ≡ drafted_at (L.lines self.old.list.now) self.old.front.items self.old.back.items) }
-        ensures value { IfOk result (λ slots. slots ≡ tags_left_of (take offset
-            (text_at (L.lines self.old.list.now) self.old.front.items self.old.back.items).columns)) }
+        ensures is { OnOk result (IsTextIn L.lines self.new) }
+        ensures same { OnOk result (lines_in L.lines self.new ≡ lines_in L.lines self.old) }
+        ensures value { IfOk result (λ slots. slots ≡ tags_behind (take offset (text_in L.lines self.old).columns)) }
     {
         let Found { stop, column } = self.take(offset)?;
         let mut slots = self.tags_up_to(&stop);
-        slots.flip(&stop.copy.line.tags_left_of(column));
+        slots.flip(&stop.copy.line.tags_behind(column));
         self.put(stop);
         Ok(slots)
     }
@@ -138,21 +129,19 @@ impl<'a, L: LineList> Draft<'a, L> {
         is_on: bool,
         len: usize,
     ) -> Result<TagSet, AllocError>
-        requires is { IsText (L.lines self.old.list.now) self.old.front.items self.old.back.items }
+        requires is { IsTextIn L.lines self.old }
         requires slot { slot.0 < slot_count }
-        requires len { len
-            ≡ length (text_at (L.lines self.old.list.now) self.old.front.items self.old.back.items).columns }
+        requires len { len ≡ length (text_in L.lines self.old).columns }
         ensures list { self.new.list.now ≡ self.old.list.now }
-        ensures is { IsText (L.lines self.new.list.now) self.new.front.items self.new.back.items }
-        ensures same { drafted_at (L.lines self.new.list.now) self.new.front.items self.new.back.items
-            ≡ drafted_at (L.lines self.old.list.now) self.old.front.items self.old.back.items }
-        ensures value { IfOk result (λ slots. offset < len → slots ≡ switched (set_slot slot.0 is_on) offset
-            (text_at (L.lines self.old.list.now) self.old.front.items self.old.back.items).columns) }
+        ensures is { IsTextIn L.lines self.new }
+        ensures same { lines_in L.lines self.new ≡ lines_in L.lines self.old }
+        ensures value { IfOk result (λ slots. offset < len → slots
+            ≡ switched (set_slot slot.0 is_on) offset (text_in L.lines self.old).columns) }
     {
         if len <= offset {
             return Ok(TagSet::empty());
         }
-        let before = self.tags_left_of(offset)?;
+        let before = self.tags_behind(offset)?;
         Ok(switched_slots(&before, slot, is_on))
     }
 
@@ -165,15 +154,13 @@ impl<'a, L: LineList> Draft<'a, L> {
         slots: &TagSet,
         len: usize,
     ) -> Result<usize, AllocError>
-        requires is { IsText (L.lines self.old.list.now) self.old.front.items self.old.back.items }
-        requires len { len
-            ≡ length (text_at (L.lines self.old.list.now) self.old.front.items self.old.back.items).columns }
+        requires is { IsTextIn L.lines self.old }
+        requires len { len ≡ length (text_in L.lines self.old).columns }
         requires within { offset < len }
         ensures list { self.new.list.now ≡ self.old.list.now }
-        ensures is { OnOk result (IsText (L.lines self.new.list.now) self.new.front.items self.new.back.items) }
-        ensures new { OnOk result (text_at (L.lines self.new.list.now) self.new.front.items self.new.back.items
-            ≡ made (Insert offset (chars text.now) slots.now)
-            (text_at (L.lines self.old.list.now) self.old.front.items self.old.back.items)) }
+        ensures is { OnOk result (IsTextIn L.lines self.new) }
+        ensures new { OnOk result (text_in L.lines self.new
+            ≡ made (Insert offset (chars text.now) slots.now) (text_in L.lines self.old)) }
         ensures len { IfOk result (λ longer. longer ≡ len + length (chars text.now)) }
     {
         let count = text.chars().count();
@@ -196,17 +183,15 @@ impl<'a, L: LineList> Draft<'a, L> {
         is_on: bool,
         len: usize,
     ) -> Result<(), AllocError>
-        requires is { IsText (L.lines self.old.list.now) self.old.front.items self.old.back.items }
-        requires len { len
-            ≡ length (text_at (L.lines self.old.list.now) self.old.front.items self.old.back.items).columns }
+        requires is { IsTextIn L.lines self.old }
+        requires len { len ≡ length (text_in L.lines self.old).columns }
         requires slot { slot.0 < slot_count }
         requires ordered { from ≤ to }
         requires within { to ≤ len }
         ensures list { self.new.list.now ≡ self.old.list.now }
-        ensures is { OnOk result (IsText (L.lines self.new.list.now) self.new.front.items self.new.back.items) }
-        ensures new { OnOk result (text_at (L.lines self.new.list.now) self.new.front.items self.new.back.items
-            ≡ made (SetTag from to slot is_on)
-            (text_at (L.lines self.old.list.now) self.old.front.items self.old.back.items)) }
+        ensures is { OnOk result (IsTextIn L.lines self.new) }
+        ensures new { OnOk result (text_in L.lines self.new
+            ≡ made (SetTag from to slot is_on) (text_in L.lines self.old)) }
     {
         let first = self.switched(from, slot, is_on, len)?;
         let last = self.switched(to, slot, is_on, len)?;
@@ -216,15 +201,12 @@ impl<'a, L: LineList> Draft<'a, L> {
 
     /// Takes all slots off a character of a text of so many.
     fn clear_tags(&mut self, offset: usize, len: usize) -> Result<(), AllocError>
-        requires is { IsText (L.lines self.old.list.now) self.old.front.items self.old.back.items }
-        requires len { len
-            ≡ length (text_at (L.lines self.old.list.now) self.old.front.items self.old.back.items).columns }
+        requires is { IsTextIn L.lines self.old }
+        requires len { len ≡ length (text_in L.lines self.old).columns }
         requires within { offset < len }
         ensures list { self.new.list.now ≡ self.old.list.now }
-        ensures is { OnOk result (IsText (L.lines self.new.list.now) self.new.front.items self.new.back.items) }
-        ensures new { OnOk result (text_at (L.lines self.new.list.now) self.new.front.items self.new.back.items
-            ≡ made (ClearTags offset)
-            (text_at (L.lines self.old.list.now) self.old.front.items self.old.back.items)) }
+        ensures is { OnOk result (IsTextIn L.lines self.new) }
+        ensures new { OnOk result (text_in L.lines self.new ≡ made (ClearTags offset) (text_in L.lines self.old)) }
     {
         let here = self.tags_at(offset)?;
         self.toggle_before(offset + 1, &here, len)?;
@@ -233,16 +215,13 @@ impl<'a, L: LineList> Draft<'a, L> {
 
     /// Puts the mark of a number at a place of a text of so many characters, wherever it stood.
     fn move_mark(&mut self, number: MarkNo, place: Place, len: usize) -> Result<(), AllocError>
-        requires is { IsText (L.lines self.old.list.now) self.old.front.items self.old.back.items }
-        requires len { len
-            ≡ length (text_at (L.lines self.old.list.now) self.old.front.items self.old.back.items).columns }
+        requires is { IsTextIn L.lines self.old }
+        requires len { len ≡ length (text_in L.lines self.old).columns }
         requires some { 0 < len }
         requires within { place.offset ≤ len }
         ensures list { self.new.list.now ≡ self.old.list.now }
-        ensures is { OnOk result (IsText (L.lines self.new.list.now) self.new.front.items self.new.back.items) }
-        ensures new { OnOk result (text_at (L.lines self.new.list.now) self.new.front.items self.new.back.items
-            ≡ made (PutMark number place)
-            (text_at (L.lines self.old.list.now) self.old.front.items self.old.back.items)) }
+        ensures is { OnOk result (IsTextIn L.lines self.new) }
+        ensures new { OnOk result (text_in L.lines self.new ≡ made (PutMark number place) (text_in L.lines self.old)) }
     {
         self.take_mark(number)?;
         if place.offset < len {
@@ -254,17 +233,14 @@ impl<'a, L: LineList> Draft<'a, L> {
 
     /// Makes a step in a text of so many characters, at least one, and gives how many there are then.
     fn make_step(&mut self, step: &Step, len: usize) -> Result<usize, AllocError>
-        requires is { IsText (L.lines self.old.list.now) self.old.front.items self.old.back.items }
-        requires len { len
-            ≡ length (text_at (L.lines self.old.list.now) self.old.front.items self.old.back.items).columns }
+        requires is { IsTextIn L.lines self.old }
+        requires len { len ≡ length (text_in L.lines self.old).columns }
         requires some { 0 < len }
         requires fits { StepFitsIn step.now len }
         ensures list { self.new.list.now ≡ self.old.list.now }
-        ensures is { OnOk result (IsText (L.lines self.new.list.now) self.new.front.items self.new.back.items) }
-        ensures new { OnOk result (text_at (L.lines self.new.list.now) self.new.front.items self.new.back.items
-            ≡ made step.now (text_at (L.lines self.old.list.now) self.old.front.items self.old.back.items)) }
-        ensures len { IfOk result (λ after. after
-            ≡ length (text_at (L.lines self.new.list.now) self.new.front.items self.new.back.items).columns) }
+        ensures is { OnOk result (IsTextIn L.lines self.new) }
+        ensures new { OnOk result (text_in L.lines self.new ≡ made step.now (text_in L.lines self.old)) }
+        ensures len { IfOk result (λ after. after ≡ length (text_in L.lines self.new).columns) }
         ensures some { IfOk result (λ after. 0 < after) }
     {
         match step {
@@ -288,18 +264,14 @@ impl<'a, L: LineList> Draft<'a, L> {
 
     /// Makes the steps of an edit.
     pub fn make_steps(&mut self, steps: &[Step], len: usize) -> Result<(), AllocError>
-        requires is { IsText (L.lines self.old.list.now) self.old.front.items self.old.back.items }
-        requires len { len
-            ≡ length (text_at (L.lines self.old.list.now) self.old.front.items self.old.back.items).columns }
+        requires is { IsTextIn L.lines self.old }
+        requires len { len ≡ length (text_in L.lines self.old).columns }
         requires some { 0 < len }
-        requires fits { Fits steps.now
-            (text_of (text_at (L.lines self.old.list.now) self.old.front.items self.old.back.items)) }
+        requires fits { Fits steps.now (text_of (text_in L.lines self.old)) }
         ensures list { self.new.list.now ≡ self.old.list.now }
-        ensures is { OnOk result (IsText (L.lines self.new.list.now) self.new.front.items self.new.back.items) }
-        ensures new { OnOk result
-            (text_of (text_at (L.lines self.new.list.now) self.new.front.items self.new.back.items)
-            ≡ after steps.now
-            (text_of (text_at (L.lines self.old.list.now) self.old.front.items self.old.back.items))) }
+        ensures is { OnOk result (IsTextIn L.lines self.new) }
+        ensures new { OnOk result (text_of (text_in L.lines self.new)
+            ≡ after steps.now (text_of (text_in L.lines self.old))) }
     {
         let mut len = len;
         for step in steps {

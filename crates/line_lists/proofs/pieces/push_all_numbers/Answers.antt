@@ -1,5 +1,5 @@
 use Rattle.std.proofs.Common.{◌++◌, ap, ◌∙◌, append_assoc}
-use Rattle.line_lists.specs.Pieces.{named, numbers_in, numbers_of}
+use Rattle.line_lists.specs.Pieces.{named, numbers_of}
 use Rattle.line_lists.proofs.GatherLaws.{numbers-next}
 use Rattle.line_lists.proofs.pieces.push_all_numbers.Goals as goal
 

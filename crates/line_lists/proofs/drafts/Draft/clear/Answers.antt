@@ -1,5 +1,5 @@
 use Rattle.std.proofs.Common.{subst, sym, ap, ◌∙◌, arith}
-use Rattle.line_lists.specs.Drafts.{text_at}
+use Rattle.line_lists.specs.DraftTexts.{text_in}
 use Rattle.line_lists.specs.Lists.{AreRows}
 use Rattle.line_lists.specs.Texts.{whole}
 use Rattle.line_lists.proofs.ClearingLaws.{clears-on}
@@ -7,15 +7,13 @@ use Rattle.line_lists.proofs.drafts.Draft.clear.Goals as goal
 
 pub loop-at-preserved : goal.loop-at-preserved
 loop-at-preserved g c =
-    let first = text_at (g.L.LineList.lines c.args.self.now.list.now) c.args.self.now.front.items
-    c.args.self.now.back.items in
-    let old = text_at (g.L.LineList.lines c.loop-at.self.list.now) c.loop-at.self.front.items c.loop-at.self.back.items
+    let first = text_in g.L.LineList.lines c.args.self.now in
+    let old = text_in g.L.LineList.lines c.loop-at.self
     in
     let lines = g.L.LineList.lines c.clear_line.new.self.list.now in
     let front = c.clear_line.new.self.front.items in
     let back = c.clear_line.new.self.back.items in
-    let new = text_at (g.L.LineList.lines c.next_toggled.new.self.list.now) c.next_toggled.new.self.front.items
-    c.next_toggled.new.self.back.items in
+    let new = text_in g.L.LineList.lines c.next_toggled.new.self in
     let so_far = c.loop-at.invariant in
     let here = c.in_ok-clear_line.ensures in
     let next = c.in_ok-at.ensures in (

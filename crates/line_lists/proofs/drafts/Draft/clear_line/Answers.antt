@@ -1,6 +1,6 @@
 use Rattle.std.proofs.Common.{◌≡◌, ◌<◌, ◌+◌, ◌-◌, min, length, subst, sym, ap, ◌∙◌}
-use Rattle.line_lists.specs.Clearing.{place_of}
-use Rattle.line_lists.specs.Drafts.{IsText, drafted_at, text_at}
+use Rattle.line_lists.specs.DraftTexts.{lines_in}
+use Rattle.line_lists.specs.Drafts.{IsText, place_of, text_at}
 use Rattle.line_lists.specs.Edits.{with_cleared}
 use Rattle.line_lists.specs.Texts.{whole}
 use Rattle.line_lists.proofs.ClearingLaws.{clears-line}
@@ -14,8 +14,7 @@ returns-clause-is g c =
     let front = c.take.new.self.front.items in
     let back = c.take.new.self.back.items in
     let slot = c.args.slot.0 in
-    let old = drafted_at (g.L.LineList.lines c.args.self.now.list.now) c.args.self.now.front.items
-    c.args.self.now.back.items in
+    let old = lines_in g.L.LineList.lines c.args.self.now in
     let end_is = c.min-end.ensures ∙ ap (λ n. min n (found.column + (c.args.to - c.args.from))) c.len.ensures in
     let columns = c.clear.ensures.columns ∙ ap (λ n. (with_cleared slot found.column n line).columns) end_is in
     let new_is : c.clear.new.self ≡ with_cleared slot found.column
@@ -34,8 +33,7 @@ returns-clause-above g c =
     let front = c.take.new.self.front.items in
     let back = c.take.new.self.back.items in
     let slot = c.args.slot.0 in
-    let old = drafted_at (g.L.LineList.lines c.args.self.now.list.now) c.args.self.now.front.items
-    c.args.self.now.back.items in
+    let old = lines_in g.L.LineList.lines c.args.self.now in
     let end_is = c.min-end.ensures ∙ ap (λ n. min n (found.column + (c.args.to - c.args.from))) c.len.ensures in
     let columns = c.clear.ensures.columns ∙ ap (λ n. (with_cleared slot found.column n line).columns) end_is in
     let new_is : c.clear.new.self ≡ with_cleared slot found.column
@@ -54,8 +52,7 @@ returns-clause-new g c =
     let front = c.take.new.self.front.items in
     let back = c.take.new.self.back.items in
     let slot = c.args.slot.0 in
-    let old = drafted_at (g.L.LineList.lines c.args.self.now.list.now) c.args.self.now.front.items
-    c.args.self.now.back.items in
+    let old = lines_in g.L.LineList.lines c.args.self.now in
     let end_is = c.min-end.ensures ∙ ap (λ n. min n (found.column + (c.args.to - c.args.from))) c.len.ensures in
     let columns = c.clear.ensures.columns ∙ ap (λ n. (with_cleared slot found.column n line).columns) end_is in
     let new_is : c.clear.new.self ≡ with_cleared slot found.column

@@ -1,14 +1,13 @@
 use Rattle.std.proofs.Common.{chars, ◌∙◌}
 use Rattle.std.proofs.lemmas.Result.{on_ok_weaker}
-use Rattle.line_lists.specs.Drafts.{text_at}
+use Rattle.line_lists.specs.DraftTexts.{text_in}
 use Rattle.line_lists.proofs.OpenLaws.{partly-first}
 use Rattle.line_lists.proofs.drafts.Draft.insert.Goals as goal
 
 pub returns-in_ok-split-in-Some-clause-new : goal.returns-in_ok-split-in-Some-clause-new
 returns-in_ok-split-in-Some-clause-new g c =
     let lines = g.L.LineList.lines c.split.new.self.list.now in
-    let old = text_at (g.L.LineList.lines c.args.self.now.list.now) c.args.self.now.front.items
-    c.args.self.now.back.items in
+    let old = text_in g.L.LineList.lines c.args.self.now in
     let partly = partly-first lines c.split.new.self.front.items c.split.new.self.back.items c.args.offset
     (chars c.args.text.now) (chars c.in-Some.line.now) (chars c.in-Some.rest.now) old
     c.in_ok-split-in-Some.ensures.opens c.in-Some.ensures.parts c.requires.within c.in-Some.ensures.line

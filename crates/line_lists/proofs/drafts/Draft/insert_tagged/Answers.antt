@@ -3,7 +3,7 @@ use Rattle.std.proofs.lemmas.Iterator.{YieldsList-from_chars}
 use Rattle.std.proofs.lemmas.Iterator.Consumers.{count_from_yields_List}
 use Rattle.text_model.specs.SlotSets.{differing}
 use Rattle.segments.specs.Columns.{after_text}
-use Rattle.line_lists.specs.Drafts.{text_at}
+use Rattle.line_lists.specs.DraftTexts.{text_in}
 use Rattle.line_lists.specs.Texts.{whole}
 use Rattle.line_lists.proofs.StepTexts.{inserted-long, inserted-made, more-there, toggled-long}
 use Rattle.line_lists.proofs.drafts.Draft.insert_tagged.Goals as goal
@@ -20,10 +20,8 @@ insert-requires-clause-counted g c =
 
 pub toggle_before-requires-clause-len : goal.toggle_before-requires-clause-len
 toggle_before-requires-clause-len g c =
-    let old = text_at (g.L.LineList.lines c.args.self.now.list.now) c.args.self.now.front.items
-    c.args.self.now.back.items in
-    let one = text_at (g.L.LineList.lines c.insert.new.self.list.now) c.insert.new.self.front.items
-    c.insert.new.self.back.items in
+    let old = text_in g.L.LineList.lines c.args.self.now in
+    let one = text_in g.L.LineList.lines c.insert.new.self in
     let counted : c.count-count.result ≡ length (chars c.args.text.now) =
     count_from_yields_List c.chars.result c.count-count.result c.count-count.ensures.ran
     (YieldsList-from_chars c.args.text.now c.utf8.text cc) in
@@ -37,12 +35,9 @@ toggle_before-requires-clause-len g c =
 
 pub toggle_before-requires-2-clause-len : goal.toggle_before-requires-2-clause-len
 toggle_before-requires-2-clause-len g c =
-    let old = text_at (g.L.LineList.lines c.args.self.now.list.now) c.args.self.now.front.items
-    c.args.self.now.back.items in
-    let one = text_at (g.L.LineList.lines c.insert.new.self.list.now) c.insert.new.self.front.items
-    c.insert.new.self.back.items in
-    let two = text_at (g.L.LineList.lines c.toggle_before.new.self.list.now) c.toggle_before.new.self.front.items
-    c.toggle_before.new.self.back.items in
+    let old = text_in g.L.LineList.lines c.args.self.now in
+    let one = text_in g.L.LineList.lines c.insert.new.self in
+    let two = text_in g.L.LineList.lines c.toggle_before.new.self in
     let counted : c.count-count.result ≡ length (chars c.args.text.now) =
     count_from_yields_List c.chars.result c.count-count.result c.count-count.ensures.ran
     (YieldsList-from_chars c.args.text.now c.utf8.text cc) in
@@ -58,12 +53,9 @@ toggle_before-requires-2-clause-len g c =
 
 pub returns-clause-new : goal.returns-clause-new
 returns-clause-new g c =
-    let old = text_at (g.L.LineList.lines c.args.self.now.list.now) c.args.self.now.front.items
-    c.args.self.now.back.items in
-    let one = text_at (g.L.LineList.lines c.insert.new.self.list.now) c.insert.new.self.front.items
-    c.insert.new.self.back.items in
-    let two = text_at (g.L.LineList.lines c.toggle_before.new.self.list.now) c.toggle_before.new.self.front.items
-    c.toggle_before.new.self.back.items in
+    let old = text_in g.L.LineList.lines c.args.self.now in
+    let one = text_in g.L.LineList.lines c.insert.new.self in
+    let two = text_in g.L.LineList.lines c.toggle_before.new.self in
     let counted : c.count-count.result ≡ length (chars c.args.text.now) =
     count_from_yields_List c.chars.result c.count-count.result c.count-count.ensures.ran
     (YieldsList-from_chars c.args.text.now c.utf8.text cc) in

@@ -1,7 +1,8 @@
 use Rattle.std.proofs.Common.{length, sym, ap, ◌∙◌, subst, arith}
 use Rattle.std.specs.Prelude.{chars}
 use Rattle.segments.specs.Columns.{LineContent}
-use Rattle.line_lists.specs.Drafts.{copies_of, drafted_at, lines_before, lines_behind}
+use Rattle.line_lists.specs.DraftTexts.{lines_in}
+use Rattle.line_lists.specs.Drafts.{copies_of, lines_before, lines_behind}
 use Rattle.line_lists.specs.Lists.{AreRows}
 use Rattle.line_lists.specs.Texts.{whole}
 use Rattle.line_lists.proofs.EditLaws.{inserted-makes, length-text}
@@ -20,8 +21,7 @@ put-requires-clause-counted g c =
     let makes = inserted-makes before behind _ copy.line c.insert_text.new.self c.args.offset found.column text
     c.in_ok-stop.ensures.same place.place place.inside c.requires.free c.requires.is.rows
     c.in_ok-insert_text.ensures.new in
-    let old = drafted_at (g.L.LineList.lines c.args.self.now.list.now) c.args.self.now.front.items
-    c.args.self.now.back.items in
+    let old = lines_in g.L.LineList.lines c.args.self.now in
     let long = ap (λ (line : LineContent). length line.columns) makes.whole
     ∙ length-text c.args.offset text (whole old).columns (omega (arith, c.requires.within)) in
     omega (arith, long, c.requires.counted)

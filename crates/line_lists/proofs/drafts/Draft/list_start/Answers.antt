@@ -1,9 +1,8 @@
-use Rattle.std.proofs.Common.{◌+◌, length, take, subst, sym, ap, ◌∙◌, arith}
+use Rattle.std.proofs.Common.{◌+◌, subst, ap, arith}
 use Rattle.std.specs.Prelude.{IfSome}
 use Rattle.line_lists.specs.Drafts.{IsSeen}
-use Rattle.line_lists.specs.Texts.{whole}
 use Rattle.line_lists.proofs.CountRows.{count-characters, count-lines}
-use Rattle.line_lists.proofs.FindLaws.{begin-le, seen-next}
+use Rattle.line_lists.proofs.FindLaws.{begin, begin-le, seen-next}
 use Rattle.line_lists.proofs.drafts.Draft.list_start.Goals as goal
 
 pub overflow_add-seen : goal.overflow_add-seen
@@ -32,5 +31,9 @@ pub returns-then-line-seen-2 : goal.returns-then-line-seen-2
 returns-then-line-seen-2 g c =
     let lines = g.L.LineList.lines c.args.self.now.list.now in
     let is = subst (λ found. IfSome found (IsSeen lines)) c.in-Some.is c.args.self.now.shown in
-    ap (λ n. c.in-Some.seen.start + n) c.len.ensures ∙ (seen-next lines c.in-Some.seen is).1
-    ∙ ap (λ n. length (whole (take n lines)).columns) (sym c.if-line-seen-2.true)
+    omega (
+      arith,
+      c.len.ensures,
+      (seen-next lines c.in-Some.seen is).1,
+      ap (begin lines) c.if-line-seen-2.true,
+    )

@@ -1,25 +1,21 @@
 use Rattle.std.proofs.Common.{subst}
 use Rattle.text_model.specs.declared.edits.Step.TheVariants.{Remove, ClearTags}
 use Rattle.text_model.specs.Steps.{StepFitsIn}
-use Rattle.line_lists.specs.Drafts.{text_at}
+use Rattle.line_lists.specs.DraftTexts.{text_in}
 use Rattle.line_lists.proofs.StepTexts.{made-long}
 use Rattle.line_lists.proofs.drafts.Draft.make_step.Goals as goal
 
 pub returns-in-Remove-clause-len : goal.returns-in-Remove-clause-len
 returns-in-Remove-clause-len g c =
-    let old = text_at (g.L.LineList.lines c.args.self.now.list.now) c.args.self.now.front.items
-    c.args.self.now.back.items in
-    let new = text_at (g.L.LineList.lines c.remove.new.self.list.now) c.remove.new.self.front.items
-    c.remove.new.self.back.items in
+    let old = text_in g.L.LineList.lines c.args.self.now in
+    let new = text_in g.L.LineList.lines c.remove.new.self in
     made-long (Remove c.in-Remove.from c.in-Remove.to) old new c.args.len c.requires.len
     (subst (λ step. StepFitsIn step c.args.len) c.in-Remove.is c.requires.fits) c.in_ok-remove-in-Remove.ensures.new
 
 pub returns-in_ok-clear_tags-in-ClearTags-clause-len : goal.returns-in_ok-clear_tags-in-ClearTags-clause-len
 returns-in_ok-clear_tags-in-ClearTags-clause-len g c =
-    let old = text_at (g.L.LineList.lines c.args.self.now.list.now) c.args.self.now.front.items
-    c.args.self.now.back.items in
-    let new = text_at (g.L.LineList.lines c.clear_tags.new.self.list.now) c.clear_tags.new.self.front.items
-    c.clear_tags.new.self.back.items in
+    let old = text_in g.L.LineList.lines c.args.self.now in
+    let new = text_in g.L.LineList.lines c.clear_tags.new.self in
     made-long (ClearTags c.in-ClearTags.offset) old new c.args.len c.requires.len
     (subst (λ step. StepFitsIn step c.args.len) c.in-ClearTags.is c.requires.fits)
     c.in_ok-clear_tags-in-ClearTags.ensures.new

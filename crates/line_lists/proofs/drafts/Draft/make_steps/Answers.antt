@@ -1,14 +1,12 @@
 use Rattle.std.proofs.Common.{◌+◌, drop, ◌∙◌}
-use Rattle.line_lists.specs.Drafts.{text_at}
+use Rattle.line_lists.specs.DraftTexts.{text_in}
 use Rattle.line_lists.proofs.StepTexts.{goes-at, goes-on, step-fits}
 use Rattle.line_lists.proofs.drafts.Draft.make_steps.Goals as goal
 
 pub make_step-requires-clause-fits : goal.make_step-requires-clause-fits
 make_step-requires-clause-fits g c =
-    let first = text_at (g.L.LineList.lines c.args.self.now.list.now) c.args.self.now.front.items
-    c.args.self.now.back.items in
-    let text = text_at (g.L.LineList.lines c.loop-step.self.list.now) c.loop-step.self.front.items
-    c.loop-step.self.back.items in
+    let first = text_in g.L.LineList.lines c.args.self.now in
+    let text = text_in g.L.LineList.lines c.loop-step.self in
     let steps = c.args.steps.now in
     let step = c.step-item.result in
     let goes = goes-at steps first text step c.loop-step.step-index c.loop-step.len c.loop-step-test.true c.step-item.is
@@ -17,12 +15,9 @@ make_step-requires-clause-fits g c =
 
 pub loop-step-preserved : goal.loop-step-preserved
 loop-step-preserved g c =
-    let first = text_at (g.L.LineList.lines c.args.self.now.list.now) c.args.self.now.front.items
-    c.args.self.now.back.items in
-    let text = text_at (g.L.LineList.lines c.loop-step.self.list.now) c.loop-step.self.front.items
-    c.loop-step.self.back.items in
-    let new = text_at (g.L.LineList.lines c.make_step.new.self.list.now) c.make_step.new.self.front.items
-    c.make_step.new.self.back.items in
+    let first = text_in g.L.LineList.lines c.args.self.now in
+    let text = text_in g.L.LineList.lines c.loop-step.self in
+    let new = text_in g.L.LineList.lines c.make_step.new.self in
     let steps = c.args.steps.now in
     let step = c.step-item.result in
     let made = c.in_ok-len.ensures in

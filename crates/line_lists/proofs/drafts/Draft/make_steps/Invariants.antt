@@ -1,13 +1,12 @@
 use Rattle.std.proofs.Common.{◌≡◌, drop}
-use Rattle.line_lists.specs.Drafts.{IsText, text_at}
+use Rattle.line_lists.specs.DraftTexts.{IsTextIn, text_in}
 use Rattle.line_lists.proofs.StepTexts.{Goes}
 use Rattle.line_lists.proofs.drafts.Draft.make_steps.Given as goal
 
 abbrev pub invariant-loop-step : goal.invariant-loop-step
 invariant-loop-step g l =
     (l.self.list.now ≡ l.initial.self.list.now)
-    × IsText (g.L.LineList.lines l.self.list.now) l.self.front.items l.self.back.items
-    × Goes l.steps (text_at (g.L.LineList.lines l.initial.self.list.now) l.initial.self.front.items
-    l.initial.self.back.items)
-    (drop l.step-index l.steps) (text_at (g.L.LineList.lines l.self.list.now) l.self.front.items l.self.back.items)
+    × IsTextIn g.L.LineList.lines l.self
+    × Goes l.steps (text_in g.L.LineList.lines l.initial.self)
+    (drop l.step-index l.steps) (text_in g.L.LineList.lines l.self)
     l.len

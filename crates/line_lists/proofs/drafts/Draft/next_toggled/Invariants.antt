@@ -1,14 +1,15 @@
 use Rattle.std.proofs.Common.{◌≡◌, vec_len}
 use Rattle.line_lists.specs.Clearing.{free_end}
-use Rattle.line_lists.specs.Drafts.{IsDraft, IsReached, copies_of, drafted_at}
+use Rattle.line_lists.specs.DraftTexts.{IsDraftIn, lines_in}
+use Rattle.line_lists.specs.Drafts.{IsReached, copies_of}
 use Rattle.line_lists.proofs.drafts.Draft.next_toggled.Given as goal
 
 abbrev pub invariant-loop-reached : goal.invariant-loop-reached
 invariant-loop-reached g l =
     (l.self.list.now ≡ l.initial.self.list.now)
-    × IsDraft (g.L.LineList.lines l.self.list.now) l.self.front.items l.self.back.items
-    × (drafted_at (g.L.LineList.lines l.self.list.now) l.self.front.items l.self.back.items
-    ≡ drafted_at (g.L.LineList.lines l.initial.self.list.now) l.initial.self.front.items l.initial.self.back.items)
+    × IsDraftIn g.L.LineList.lines l.self
+    × (lines_in g.L.LineList.lines l.self
+    ≡ lines_in g.L.LineList.lines l.initial.self)
     × IsReached l.reached (copies_of l.self.front.items) (g.L.LineList.lines l.self.list.now)
     × (free_end l.slot.0 (g.L.LineList.lines l.self.list.now) l.self.front.items l.self.back.items
     ≡ free_end l.slot.0 (g.L.LineList.lines l.initial.self.list.now) l.initial.self.front.items

@@ -1,7 +1,7 @@
 use Rattle.std.proofs.Common.{◌++◌, ◌∷◌, [], chars, subst, sym, ap, ◌∙◌}
 use Rattle.line_lists.specs.declared.drafts.Stop.{Stop}
-use Rattle.line_lists.specs.Drafts.{IsReached, copies_of, text_at}
-use Rattle.line_lists.specs.Insertions.{Opens, place_at}
+use Rattle.line_lists.specs.Drafts.{IsReached, copies_of, place_of, text_at}
+use Rattle.line_lists.specs.Insertions.{Opens}
 use Rattle.line_lists.proofs.OpenLaws.{line-opens, new_stop}
 use Rattle.line_lists.proofs.drafts.Draft.put_line.Goals as goal
 
@@ -13,7 +13,7 @@ returns-clause-opens g c =
     let text = chars c.args.text.now in
     let stop : Stop = new_stop c.reached-reached.result c.in_ok-new.field-0 in
     let same = c.in_ok-reserve.ensures.items in
-    subst (λ items. Opens lines items back (place_at lines front) text (text_at lines front back))
+    subst (λ items. Opens lines items back (place_of lines front) text (text_at lines front back))
     (sym (c.push_reserved.ensures.items ∙ ap (λ items. items ++ stop ∷ []) same))
     (line-opens lines front back stop.reached c.in_ok-new.field-0 text c.requires.is
     (subst (λ items. IsReached stop.reached (copies_of items) lines) same c.reached-reached.ensures)

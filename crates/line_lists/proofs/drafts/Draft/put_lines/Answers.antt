@@ -1,6 +1,6 @@
 use Rattle.std.proofs.Common.{rules, ap, subst, ◌∙◌, chars, arith}
-use Rattle.line_lists.specs.Drafts.{text_at}
-use Rattle.line_lists.specs.Insertions.{Opens, place_at}
+use Rattle.line_lists.specs.Drafts.{place_of, text_at}
+use Rattle.line_lists.specs.Insertions.{Opens}
 use Rattle.line_lists.proofs.OpenLaws.{partly-next}
 use Rattle.line_lists.proofs.drafts.Draft.put_lines.Goals as goal
 
@@ -16,12 +16,12 @@ loop-line-preserved g c =
     let same = c.reserve_ahead.ensures in
     let Made = Opens next c.put_line.new.self.front.items c.put_line.new.self.back.items in
     let line = chars c.in-Some.line.now in
-    let opens = subst (λ xs. Made (place_at lines front) line (text_at lines front xs)) same.back
-    (subst (λ xs. Made (place_at lines xs) line (text_at lines xs room.back.items)) same.front
-    (subst (λ xs. Made (place_at xs room.front.items) line (text_at xs room.front.items room.back.items))
+    let opens = subst (λ xs. Made (place_of lines front) line (text_at lines front xs)) same.back
+    (subst (λ xs. Made (place_of lines xs) line (text_at lines xs room.back.items)) same.front
+    (subst (λ xs. Made (place_of xs room.front.items) line (text_at xs room.front.items room.back.items))
     (ap (λ list. g.L.LineList.lines list) same.list) c.in_ok-put_line.ensures.opens)) in
     let partly = partly-next lines next front c.put_line.new.self.front.items back c.put_line.new.self.back.items
-    (place_at start c.args.self.now.front.items) (chars c.args.text.now) (chars c.loop-line.rest.now) line
+    (place_of start c.args.self.now.front.items) (chars c.args.text.now) (chars c.loop-line.rest.now) line
     (chars c.in-Some.behind.now) old c.loop-line.invariant.3 opens c.in-Some.ensures.parts c.in-Some.ensures.line in (
       search (rules),
       omega (arith, c.loop-line.invariant.1, c.in-Some.ensures.less),

@@ -1,8 +1,9 @@
 use Rattle.std.proofs.Common.{◌≡◌, ◌+◌, ◌≤◌, chars, length}
 use denote.Text.{Utf8}
 use denote.Shadow.{shadow}
-use Rattle.line_lists.specs.Drafts.{text_at}
-use Rattle.line_lists.specs.Insertions.{IsPartly, place_at}
+use Rattle.line_lists.specs.DraftTexts.{text_in}
+use Rattle.line_lists.specs.Drafts.{place_of}
+use Rattle.line_lists.specs.Insertions.{IsPartly}
 use Rattle.line_lists.proofs.drafts.Draft.put_lines.Given as goal
 
 abbrev pub invariant-loop-line : goal.invariant-loop-line
@@ -11,8 +12,8 @@ invariant-loop-line g l =
     × (l.count + length l.rest ≤ length l.text)
     × (l.self.list.now ≡ l.initial.self.list.now)
     × IsPartly (g.L.LineList.lines l.self.list.now) l.self.front.items l.self.back.items
-    (place_at (g.L.LineList.lines l.initial.self.list.now) l.initial.self.front.items) (chars l.text) (chars l.rest)
-    (text_at (g.L.LineList.lines l.initial.self.list.now) l.initial.self.front.items l.initial.self.back.items)
+    (place_of (g.L.LineList.lines l.initial.self.list.now) l.initial.self.front.items) (chars l.text) (chars l.rest)
+    (text_in g.L.LineList.lines l.initial.self)
 
 abbrev pub decreases-loop-line : goal.decreases-loop-line
 decreases-loop-line g l = length l.rest

@@ -1,7 +1,6 @@
 use Rattle.std.proofs.Common.{◌≡◌, eqb-true, length, sym, ap, ◌∙◌}
 use Rattle.segments.specs.Columns.{after_text}
-use Rattle.line_lists.specs.Drafts.{text_at}
-use Rattle.line_lists.specs.Insertions.{place_at}
+use Rattle.line_lists.specs.Drafts.{place_of, text_at}
 use Rattle.line_lists.proofs.InsertionLaws.{text-none}
 use Rattle.line_lists.proofs.TextCuts.{no-characters}
 use Rattle.line_lists.proofs.drafts.Draft.put_text.Goals as goal
@@ -9,7 +8,7 @@ use Rattle.line_lists.proofs.drafts.Draft.put_text.Goals as goal
 pub returns-then-is_empty-clause-new : goal.returns-then-is_empty-clause-new
 returns-then-is_empty-clause-new g c =
     let lines = g.L.LineList.lines c.put_lines.new.self.list.now in
-    let offset = place_at lines c.put_lines.new.self.front.items in
+    let offset = place_of lines c.put_lines.new.self.front.items in
     let text = text_at lines c.put_lines.new.self.front.items c.put_lines.new.self.back.items in
     let last = c.in_ok-last.last.now in
     let none : length last ≡ 0 = eqb-true (length last) 0 (sym c.if-is_empty.ensures) in

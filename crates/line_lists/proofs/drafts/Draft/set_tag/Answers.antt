@@ -1,7 +1,7 @@
 use Rattle.std.proofs.Common.{ap, ◌∙◌}
 use Rattle.std.proofs.lemmas.Result.{IfOk-equal}
 use Rattle.text_model.specs.Steps.{set_slot}
-use Rattle.line_lists.specs.Drafts.{text_at}
+use Rattle.line_lists.specs.DraftTexts.{text_in}
 use Rattle.line_lists.specs.Edits.{with_cleared}
 use Rattle.line_lists.specs.Texts.{whole}
 use Rattle.line_lists.specs.Toggling.{switched}
@@ -10,10 +10,8 @@ use Rattle.line_lists.proofs.drafts.Draft.set_tag.Goals as goal
 
 pub toggle_ends-requires-clause-len : goal.toggle_ends-requires-clause-len
 toggle_ends-requires-clause-len g c =
-    let old = text_at (g.L.LineList.lines c.args.self.now.list.now) c.args.self.now.front.items
-    c.args.self.now.back.items in
-    let bare = text_at (g.L.LineList.lines c.clear.new.self.list.now) c.clear.new.self.front.items
-    c.clear.new.self.back.items in
+    let old = text_in g.L.LineList.lines c.args.self.now in
+    let bare = text_in g.L.LineList.lines c.clear.new.self in
     let same = c.in_ok-last.ensures.same ∙ c.in_ok-first.ensures.same in
     cleared-long c.args.slot.0 c.args.from c.args.to old bare c.args.len c.requires.ordered c.requires.within
     c.requires.len
@@ -21,12 +19,9 @@ toggle_ends-requires-clause-len g c =
 
 pub returns-clause-new : goal.returns-clause-new
 returns-clause-new g c =
-    let old = text_at (g.L.LineList.lines c.args.self.now.list.now) c.args.self.now.front.items
-    c.args.self.now.back.items in
-    let bare = text_at (g.L.LineList.lines c.clear.new.self.list.now) c.clear.new.self.front.items
-    c.clear.new.self.back.items in
-    let new = text_at (g.L.LineList.lines c.toggle_ends.new.self.list.now) c.toggle_ends.new.self.front.items
-    c.toggle_ends.new.self.back.items in
+    let old = text_in g.L.LineList.lines c.args.self.now in
+    let bare = text_in g.L.LineList.lines c.clear.new.self in
+    let new = text_in g.L.LineList.lines c.toggle_ends.new.self in
     let same = c.in_ok-last.ensures.same ∙ c.in_ok-first.ensures.same in
     IfOk-equal c.toggle_ends.result new _ _ c.toggle_ends.ensures.new
     (tagged-made c.args.from c.args.to c.args.slot c.args.is_on c.in_ok-first.first c.in_ok-last.last c.args.len old

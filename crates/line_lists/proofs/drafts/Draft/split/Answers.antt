@@ -1,5 +1,5 @@
 use Rattle.std.proofs.Common.{◌++◌, ◌∷◌, [], chars, sym, ap, subst, ◌∙◌}
-use Rattle.line_lists.specs.Drafts.{drafted_at}
+use Rattle.line_lists.specs.DraftTexts.{lines_in}
 use Rattle.line_lists.specs.Insertions.{Opens}
 use Rattle.line_lists.specs.Texts.{whole}
 use Rattle.line_lists.proofs.OpenLaws.{new_copy, split-opens}
@@ -10,8 +10,7 @@ returns-clause-opens g c =
     let lines = g.L.LineList.lines c.take.new.self.list.now in
     let front = c.take.new.self.front.items in
     let back = c.take.new.self.back.items in
-    let old = drafted_at (g.L.LineList.lines c.args.self.now.list.now) c.args.self.now.front.items
-    c.args.self.now.back.items in
+    let old = lines_in g.L.LineList.lines c.args.self.now in
     let found = c.in_ok-stop.field-0 in
     let text = chars c.args.text.now in
     let first = c.insert_and_cut.new.line in

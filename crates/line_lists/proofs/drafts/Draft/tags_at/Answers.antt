@@ -1,7 +1,7 @@
 use Rattle.std.proofs.Common.{sym, ap, ◌∙◌}
 use Rattle.text_model.specs.SlotSets.{differing}
 use Rattle.segments.specs.Columns.{tags_before}
-use Rattle.line_lists.specs.Drafts.{drafted_at}
+use Rattle.line_lists.specs.DraftTexts.{lines_in}
 use Rattle.line_lists.proofs.StepTexts.{tags-taken}
 use Rattle.line_lists.proofs.drafts.Draft.tags_at.Goals as goal
 
@@ -10,8 +10,7 @@ returns-clause-value g c =
     let lines = g.L.LineList.lines c.take.new.self.list.now in
     let found = c.in_ok-stop.field-0 in
     let taken = c.in_ok-stop.ensures in
-    let old = drafted_at (g.L.LineList.lines c.args.self.now.list.now) c.args.self.now.front.items
-    c.args.self.now.back.items in
+    let old = lines_in g.L.LineList.lines c.args.self.now in
     c.turn_tags_before.ensures
     ∙ ap (λ s. differing s (tags_before found.column found.stop.copy.line.columns)) c.tags_up_to-slots.ensures.value
     ∙ sym (tags-taken lines old c.take.new.self.front.items c.take.new.self.back.items found.stop.copy c.args.offset

@@ -1,6 +1,7 @@
 use Rattle.std.proofs.Common.{◌≡◌, length, sym, ap, ◌∙◌, subst, arith}
 use Rattle.segments.specs.Columns.{LineContent}
-use Rattle.line_lists.specs.Drafts.{copies_of, drafted_at, lines_before, lines_behind}
+use Rattle.line_lists.specs.DraftTexts.{lines_in}
+use Rattle.line_lists.specs.Drafts.{copies_of, lines_before, lines_behind}
 use Rattle.line_lists.specs.Edits.{with_toggled}
 use Rattle.line_lists.specs.Lists.{AreRows}
 use Rattle.line_lists.specs.Texts.{whole}
@@ -23,8 +24,7 @@ put-requires-clause-counted g c =
     record { columns = columns i; marks = c.toggle.ensures.marks i } in
     let makes = toggled-makes before behind _ copy.line c.toggle.new.self c.args.offset found.column c.args.slots.now
     c.in_ok-stop.ensures.same place.place place.inside new_is in
-    let old = drafted_at (g.L.LineList.lines c.args.self.now.list.now) c.args.self.now.front.items
-    c.args.self.now.back.items in
+    let old = lines_in g.L.LineList.lines c.args.self.now in
     let long = ap (λ (line : LineContent). length line.columns) makes.whole
     ∙ length-toggled c.args.offset c.args.slots.now (whole old).columns in
     omega (arith, long, c.requires.is.draft.counted)

@@ -1,5 +1,5 @@
 use Rattle.std.proofs.Common.{arith}
-use Rattle.line_lists.specs.Drafts.{text_at}
+use Rattle.line_lists.specs.DraftTexts.{text_in}
 use Rattle.line_lists.proofs.StepTexts.{toggled-empty, toggled-end}
 use Rattle.line_lists.proofs.drafts.Draft.toggle_before.Goals.{then-len-offset-via-then-len-offset}
 use Rattle.line_lists.proofs.drafts.Draft.toggle_before.Goals.{then-len-offset-via-else-len-offset+then-is_empty}
@@ -7,8 +7,7 @@ use Rattle.line_lists.proofs.drafts.Draft.toggle_before.Goals as goal
 
 pub returns-then-len-offset-clause-new : goal.returns-then-len-offset-clause-new
 returns-then-len-offset-clause-new g c =
-    let text = text_at (g.L.LineList.lines c.args.self.now.list.now) c.args.self.now.front.items
-    c.args.self.now.back.items in
+    let text = text_in g.L.LineList.lines c.args.self.now in
     elim c.then-len-offset.branch [
       | then-len-offset-via-then-len-offset w ↦ toggled-end c.args.offset c.args.slots.now text
           (omega (arith, w.if-len-offset, c.requires.len))
