@@ -8,7 +8,7 @@ ghost use Rattle.line_lists.specs.Drafts.{IsReached, copies_of, line_start};
 ghost use Rattle.line_lists.specs.Edits.{with_cleared};
 ghost use Rattle.line_lists.specs.Lists.{has_toggle};
 ghost use Rattle.line_lists.specs.Texts.{whole};
-ghost use Rattle.line_lists.specs.Toggling.{tags_behind};
+ghost use Rattle.line_lists.specs.Toggling.{tags_left_of};
 
 use crate::drafts::{Copied, Draft, Found, Reached, Stop, span};
 use crate::lists::LineList;
@@ -53,7 +53,7 @@ impl<'a, L: LineList> Draft<'a, L> {
         ensures list { self.new.list.now ≡ self.old.list.now }
         ensures front { self.new.front ≡ self.old.front }
         ensures back { self.new.back ≡ self.old.back }
-        ensures value { result ≡ tags_behind (take offset (text_in L.lines self.old).columns) }
+        ensures value { result ≡ tags_left_of (take offset (text_in L.lines self.old).columns) }
     {
         let mut slots = self.known.but_last(self.list, &self.front);
         let stop = self.front.last().unwrap();
@@ -64,7 +64,7 @@ impl<'a, L: LineList> Draft<'a, L> {
             stop.copy.kept,
             &mut slots,
         );
-        slots.flip(&stop.copy.line.tags_behind(offset - start));
+        slots.flip(&stop.copy.line.tags_left_of(offset - start));
         slots
     }
 
@@ -78,7 +78,7 @@ impl<'a, L: LineList> Draft<'a, L> {
         ensures list { self.new.list.now ≡ self.old.list.now }
         ensures front { self.new.front ≡ self.old.front }
         ensures back { self.new.back ≡ self.old.back }
-        ensures value { result ≡ tags_behind (take offset (text_in L.lines self.old).columns) }
+        ensures value { result ≡ tags_left_of (take offset (text_in L.lines self.old).columns) }
     {
         let mut slots = self.known.all(self.list, &self.front);
         let (index, column, line) = self.find_line(reached, offset);
@@ -88,18 +88,18 @@ impl<'a, L: LineList> Draft<'a, L> {
             index - reached.used,
             &mut slots,
         );
-        slots.flip(&line.tags_behind(column));
+        slots.flip(&line.tags_left_of(column));
         slots
     }
 
     /// The slots that are on behind so many characters of the text, which are those of the character before the offset.
-    pub fn tags_behind(&mut self, offset: usize) -> Result<TagSet, AllocError>
+    pub fn tags_left_of(&mut self, offset: usize) -> Result<TagSet, AllocError>
         requires is { IsTextIn L.lines self.old }
         requires within { offset < length (text_in L.lines self.old).columns }
         ensures list { self.new.list.now ≡ self.old.list.now }
         ensures is { IsTextIn L.lines self.new }
         ensures same { lines_in L.lines self.new ≡ lines_in L.lines self.old }
-        ensures value { IfOk result (λ slots. slots ≡ tags_behind (take offset (text_in L.lines self.old).columns)) }
+        ensures value { IfOk result (λ slots. slots ≡ tags_left_of (take offset (text_in L.lines self.old).columns)) }
     {
         self.back_to(offset)?;
         self.forth_to(offset)?;

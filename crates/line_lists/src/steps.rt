@@ -8,7 +8,7 @@ ghost use Rattle.line_lists.specs.DraftTexts.{IsTakenFrom, IsTextIn, lines_in, t
 ghost use Rattle.line_lists.specs.Drafts.{copies_of, lines_before};
 ghost use Rattle.line_lists.specs.Edits.{made, with_toggled};
 ghost use Rattle.line_lists.specs.Texts.{text_of, whole};
-ghost use Rattle.line_lists.specs.Toggling.{switched, tags_behind};
+ghost use Rattle.line_lists.specs.Toggling.{switched, tags_left_of};
 
 use crate::drafts::{Draft, Found, Stop};
 use crate::lists::LineList;
@@ -75,7 +75,7 @@ impl<'a, L: LineList> Draft<'a, L> {
         ensures list { self.new.list.now ≡ self.old.list.now }
         ensures front { self.new.front ≡ self.old.front }
         ensures back { self.new.back ≡ self.old.back }
-        ensures value { result ≡ tags_behind (whole
+        ensures value { result ≡ tags_left_of (whole
             (lines_before (copies_of self.old.front.items) stop.now.copy (L.lines self.old.list.now))).columns }
     {
         let mut slots = self.known.all(self.list, &self.front);
@@ -111,11 +111,11 @@ impl<'a, L: LineList> Draft<'a, L> {
         ensures list { self.new.list.now ≡ self.old.list.now }
         ensures is { OnOk result (IsTextIn L.lines self.new) }
         ensures same { OnOk result (lines_in L.lines self.new ≡ lines_in L.lines self.old) }
-        ensures value { IfOk result (λ slots. slots ≡ tags_behind (take offset (text_in L.lines self.old).columns)) }
+        ensures value { IfOk result (λ slots. slots ≡ tags_left_of (take offset (text_in L.lines self.old).columns)) }
     {
         let Found { stop, column } = self.take(offset)?;
         let mut slots = self.tags_up_to(&stop);
-        slots.flip(&stop.copy.line.tags_behind(column));
+        slots.flip(&stop.copy.line.tags_left_of(column));
         self.put(stop);
         Ok(slots)
     }
@@ -141,7 +141,7 @@ impl<'a, L: LineList> Draft<'a, L> {
         if len <= offset {
             return Ok(TagSet::empty());
         }
-        let before = self.tags_behind(offset)?;
+        let before = self.tags_left_of(offset)?;
         Ok(switched_slots(&before, slot, is_on))
     }
 

@@ -27,6 +27,11 @@ loop-index-preserved c =
 
 pub returns-clause-above : goal.returns-clause-above
 returns-clause-above c =
-    let end : finite.len c.args.line.now.marks ≤ c.loop-index.index = omega (arith, c.loop-index-test.false, c.loop-index.auto.index-end, c.marks-index-end.ensures) in
+    let end : finite.len c.args.line.now.marks ≤ c.loop-index.index = omega (
+      arith,
+      c.loop-index-test.false,
+      c.loop-index.auto.index-end,
+      c.marks-index-end.ensures,
+    ) in
     subst (All (λ n. n < c.loop-index.bound)) (all-numbers c.args.line.now c.loop-index.index end)
     c.loop-index.invariant.1

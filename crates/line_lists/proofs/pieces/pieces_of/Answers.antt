@@ -1,4 +1,5 @@
-use Rattle.std.proofs.Common.{◌≡◌, ◌-◌, ◌<◌, ◌++◌, ◌∷◌, [], length, take, sym, ap, subst, ◌∙◌, arith, append_assoc, vec_len}
+use Rattle.std.proofs.Common.{◌≡◌, ◌-◌, ◌<◌, ◌++◌, ◌∷◌, [], length, take, sym, ap, subst, ◌∙◌, arith, append_assoc}
+use Rattle.std.proofs.Common.{vec_len}
 use Rattle.std.specs.Prelude.{reverse}
 use Rattle.std.proofs.lemmas.Bool.Decides.{nat_tests}
 use Rattle.std.proofs.lemmas.List.{append-nil}
@@ -8,7 +9,8 @@ use Rattle.line_lists.specs.Lists.{AreRows, IsCounted, count_of}
 use Rattle.line_lists.specs.Pieces.{copied_lines}
 use Rattle.line_lists.proofs.CountRows.{count-lines}
 use Rattle.line_lists.proofs.DraftLaws.{used-append}
-use Rattle.line_lists.proofs.GatherLaws.{Gathers, Goes, gather-more, gather-new, gathered, gathered-one, last-fits, next-fits}
+use Rattle.line_lists.proofs.GatherLaws.{Gathers, Goes, gather-more, gather-new, gathered, gathered-one, last-fits}
+use Rattle.line_lists.proofs.GatherLaws.{next-fits}
 use Rattle.line_lists.proofs.GatherLaws.{last-of, last-set, no_items}
 use Rattle.line_lists.proofs.pieces.pieces_of.Goals.{else-stop-eq0-via-then-stop-eq0+else-not-is_empty}
 use Rattle.line_lists.proofs.pieces.pieces_of.Goals.{else-stop-eq0-via-else-stop-eq0}
@@ -123,7 +125,9 @@ returns-clause-can g c =
     let rows = subst (λ copies. AreRows (drafted copies lines)) (append-nil (copies_of front)) c.requires.rows in
     (gathered front lines c.loop-stop.pieces.items
     (subst (λ xs. Gathers front xs lines c.loop-stop.pieces.items) same c.loop-stop.invariant.0) are
-    (omega (arith, c.requires.draft.there, used-append (copies_of front) (reverse []))) rows (subst (λ xs. IsCounted (plus (count_of lines) (count_of (copied_lines (copies_of xs))))) c.deref.ensures.value c.in_ok-count.ensures)).0
+    (omega (arith, c.requires.draft.there, used-append (copies_of front) (reverse []))) rows
+    (subst (λ xs. IsCounted (plus (count_of lines) (count_of (copied_lines (copies_of xs)))))
+    c.deref.ensures.value c.in_ok-count.ensures)).0
 
 pub returns-clause-new : goal.returns-clause-new
 returns-clause-new g c =
@@ -138,7 +142,9 @@ returns-clause-new g c =
     let rows = subst (λ copies. AreRows (drafted copies lines)) (append-nil (copies_of front)) c.requires.rows in
     (gathered front lines c.loop-stop.pieces.items
     (subst (λ xs. Gathers front xs lines c.loop-stop.pieces.items) same c.loop-stop.invariant.0) are
-    (omega (arith, c.requires.draft.there, used-append (copies_of front) (reverse []))) rows (subst (λ xs. IsCounted (plus (count_of lines) (count_of (copied_lines (copies_of xs))))) c.deref.ensures.value c.in_ok-count.ensures)).1
+    (omega (arith, c.requires.draft.there, used-append (copies_of front) (reverse []))) rows
+    (subst (λ xs. IsCounted (plus (count_of lines) (count_of (copied_lines (copies_of xs)))))
+    c.deref.ensures.value c.in_ok-count.ensures)).1
     ∙ ap (λ copies. drafted copies lines) (sym (append-nil (copies_of front)))
 
 pub returns-clause-one : goal.returns-clause-one
@@ -154,5 +160,7 @@ returns-clause-one g c = λ few.
     let rows = subst (λ copies. AreRows (drafted copies lines)) (append-nil (copies_of front)) c.requires.rows in
     let found = gathered-one front lines c.loop-stop.pieces.items
     (subst (λ xs. Gathers front xs lines c.loop-stop.pieces.items) same c.loop-stop.invariant.0) are
-    (omega (arith, c.requires.draft.there, used-append (copies_of front) (reverse []))) rows (subst (λ xs. IsCounted (plus (count_of lines) (count_of (copied_lines (copies_of xs))))) c.deref.ensures.value c.in_ok-count.ensures) few
+    (omega (arith, c.requires.draft.there, used-append (copies_of front) (reverse []))) rows
+    (subst (λ xs. IsCounted (plus (count_of lines) (count_of (copied_lines (copies_of xs)))))
+    c.deref.ensures.value c.in_ok-count.ensures) few
     in (found.0, found.1 ∙ ap (λ copies. drafted copies lines) (sym (append-nil (copies_of front))))

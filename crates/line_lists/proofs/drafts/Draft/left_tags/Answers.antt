@@ -10,6 +10,6 @@ returns-clause-value g c =
     let found = c.in_ok-stop.field-0 in
     let taken = c.in_ok-stop.ensures in
     let old = lines_in g.L.LineList.lines c.args.self.now in
-    c.flip.ensures ∙ ap₂ differing c.tags_up_to-slots.ensures.value c.tags_behind.ensures
+    c.flip.ensures ∙ ap₂ differing c.tags_up_to-slots.ensures.value c.tags_left_of.ensures
     ∙ sym (tags-left lines old c.take.new.self.front.items c.take.new.self.back.items found.stop.copy c.args.offset
     found.column taken.same taken.place)
