@@ -2,6 +2,7 @@
 use Rattle.std.proofs.Common.{◌≡◌, ℕ, ◌+◌, ◌-◌, ◌<◌, ◌≤◌, Bool, true, false, cond, List, [], ◌∷◌, ◌++◌, Option, None}
 use Rattle.std.proofs.Common.{Some, length, get_or, set, map, take, drop, refl, sym, ap, ap₂, subst, subst₂, ◌∙◌, arith}
 use Rattle.std.proofs.Common.{append_assoc, length-append}
+use Rattle.std.specs.Prelude.{reverse}
 use Rattle.std.specs.Cmp.{nat_cmp_total}
 use Rattle.std.specs.FinMap as finite
 use Rattle.std.specs.List.{All}
@@ -18,7 +19,7 @@ use Rattle.segments.specs.Columns.{LineContent, line_count}
 use Rattle.line_lists.specs.declared.drafts.Copied.{Copied}
 use Rattle.line_lists.specs.declared.drafts.Stop.{Stop}
 use Rattle.line_lists.specs.declared.pieces.Piece.{Piece}
-use Rattle.line_lists.specs.Drafts.{AreStops, copies_of, drafted, made_lines, used}
+use Rattle.line_lists.specs.Drafts.{AreStops, IsText, copies_of, drafted, drafted_at, made_lines, used}
 use Rattle.line_lists.specs.Edits.{without_mark}
 use Rattle.line_lists.specs.Lists.{AreApart, AreLines, AreRows, IsCounted, count_of, spliced}
 use Rattle.line_lists.specs.Pieces.{CanPlace, Covers, copied_lines, freed, named, numbers_in, numbers_of, piece_lines}
@@ -190,6 +191,15 @@ pub record Goes (front before : List Stop) (lines : List LineContent) (stop : St
   pub are : AreLines lines
   pub stops : AreStops lines [] front
   pub there : used (copies_of front) ≤ length lines
+
+pub goes-of : (front stops : List Stop) (lines : List LineContent) (stop : Stop) (rest : List Stop) → AreLines lines →
+    IsText lines front [] → front ≡ stops ++ stop ∷ rest → Goes front stops lines stop rest
+goes-of front stops lines stop rest are is all = record {
+  all = all;
+  are = are;
+  stops = is.draft.stops;
+  there = omega (arith, is.draft.there, used-append (copies_of front) (reverse []));
+}
 
 next-used : (front stops : List Stop) (lines : List LineContent) (stop : Stop) (rest : List Stop) →
     Goes front stops lines stop rest → used (copies_of stops) + (stop.copy.kept + stop.copy.gone) ≤ length lines
@@ -391,7 +401,7 @@ gather-more front stops rest lines stop pieces before last more gathers goes pie
           (sym brought ∙ ap (λ (p : Piece). p.lines.items) same);
     }
 
-pub gathered : (front : List Stop) (lines : List LineContent) (pieces : List Piece) → Gathers front front lines pieces →
+gathered : (front : List Stop) (lines : List LineContent) (pieces : List Piece) → Gathers front front lines pieces →
     AreLines lines → used (copies_of front) ≤ length lines
     → AreRows (drafted (copies_of front) lines) →
     IsCounted (plus (count_of lines) (count_of (copied_lines (copies_of front))))
@@ -411,7 +421,7 @@ gathered front lines pieces gathers are there rows counted =
     (found.0, found.1 ∙ same)
 
 -- one piece comes in where no mark is taken off before
-pub gathered-one : (front : List Stop) (lines : List LineContent) (pieces : List Piece)
+gathered-one : (front : List Stop) (lines : List LineContent) (pieces : List Piece)
     → Gathers front front lines pieces → AreLines lines → used (copies_of front) ≤ length lines
     → AreRows (drafted (copies_of front) lines)
     → IsCounted (plus (count_of lines) (count_of (copied_lines (copies_of front)))) → length pieces ≡ 1
@@ -435,6 +445,30 @@ gathered-one front lines (piece ∷ []) gathers are there rows counted few =
       ),
       new,
     )
+
+-- what pieces make once all copies went into them
+pub record Makes (front : List Stop) (lines : List LineContent) (pieces : List Piece) : Type 0 where
+  pub can : CanPlace pieces (base_of front lines)
+  pub new : placed pieces (base_of front lines) ≡ drafted_at lines front []
+  pub one : length pieces ≡ 1 → CanPlace pieces lines × (placed pieces lines ≡ drafted_at lines front [])
+
+pub gathered-all : (front stops rest : List Stop) (lines : List LineContent) (pieces : List Piece) →
+    Gathers front stops lines pieces → front ≡ stops ++ rest → length rest ≡ 0 → AreLines lines → IsText lines front []
+    → IsCounted (plus (count_of lines) (count_of (copied_lines (copies_of front)))) → Makes front lines pieces
+gathered-all front stops rest lines pieces gathers all none are is counted =
+    let same : stops ≡ front = sym (all ∙ ap (λ xs. stops ++ xs) (no_items rest none) ∙ append-nil stops) in
+    let whole_front = subst (λ xs. Gathers front xs lines pieces) same gathers in
+    let there : used (copies_of front) ≤ length lines =
+    omega (arith, is.draft.there, used-append (copies_of front) (reverse [])) in
+    let rows = subst (λ copies. AreRows (drafted copies lines)) (append-nil (copies_of front)) is.rows in
+    let as_is = ap (λ copies. drafted copies lines) (sym (append-nil (copies_of front))) in
+    let found = gathered front lines pieces whole_front are there rows counted in
+    record {
+      can = found.0;
+      new = found.1 ∙ as_is;
+      one = λ few. let single = gathered-one front lines pieces whole_front are there rows counted few in
+          (single.0, single.1 ∙ as_is);
+    }
 
 -- ---- what is counted, but for toggles
 pub record SameNumbers (first second : Count) : Type 0 where

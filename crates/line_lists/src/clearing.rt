@@ -142,7 +142,7 @@ impl<'a, L: LineList> Draft<'a, L> {
     }
 
     /// Goes on by one copy, where what the copies before the place cover is known.
-    fn pass(&mut self, reached: Reached) -> Result<(), AllocError>
+    pub fn pass(&mut self, reached: Reached) -> Result<(), AllocError>
         requires is { IsDraftIn L.lines self.old }
         requires reached { IsReached reached (copies_of self.old.front.items) (L.lines self.old.list.now) }
         ensures list { self.new.list.now ≡ self.old.list.now }

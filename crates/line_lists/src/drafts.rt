@@ -221,23 +221,6 @@ impl<'a, L: LineList> Draft<'a, L> {
         Ok(())
     }
 
-    /// Goes on by one copy.
-    pub fn step_forth(&mut self) -> Result<(), AllocError>
-        requires { IsDraftIn L.lines self.old }
-        ensures list { self.new.list.now ≡ self.old.list.now }
-        ensures is { IsDraftIn L.lines self.new }
-        ensures same { lines_in L.lines self.new ≡ lines_in L.lines self.old }
-        ensures moved { OnOk result (vec_len self.new.back ≡ vec_len self.old.back - 1) }
-    {
-        self.front.reserve(1)?;
-        let reached = self.reached();
-        if let Some(copy) = self.back.pop() {
-            let stop = self.stop(reached, copy);
-            self.front.push_reserved(stop);
-        }
-        Ok(())
-    }
-
     /// Whether the line of the last copy before the place begins at an offset or before it, or there is no such copy.
     fn is_begun(&self, offset: usize) -> bool
         requires { IsDraftIn L.lines self.now }

@@ -255,7 +255,8 @@ impl<'a, L: LineList> Draft<'a, L> {
         ensures end { OnOk result (self.new.back.items ≡ []) }
     {
         while !self.back.is_empty() {
-            self.step_forth()?;
+            let reached = self.reached();
+            self.pass(reached)?;
         }
         Ok(())
     }

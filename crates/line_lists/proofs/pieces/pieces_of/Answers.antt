@@ -1,17 +1,13 @@
 use Rattle.std.proofs.Common.{◌≡◌, ◌-◌, ◌<◌, ◌++◌, ◌∷◌, [], length, take, sym, ap, subst, ◌∙◌, arith, append_assoc}
 use Rattle.std.proofs.Common.{vec_len}
-use Rattle.std.specs.Prelude.{reverse}
 use Rattle.std.proofs.lemmas.Bool.Decides.{nat_tests}
-use Rattle.std.proofs.lemmas.List.{append-nil}
-use Rattle.line_lists.specs.Drafts.{copies_of, drafted}
 use Rattle.toggle_sums.specs.Counts.{plus}
-use Rattle.line_lists.specs.Lists.{AreRows, IsCounted, count_of}
+use Rattle.line_lists.specs.Drafts.{copies_of}
+use Rattle.line_lists.specs.Lists.{IsCounted, count_of}
 use Rattle.line_lists.specs.Pieces.{copied_lines}
 use Rattle.line_lists.proofs.CountRows.{count-lines}
-use Rattle.line_lists.proofs.DraftLaws.{used-append}
-use Rattle.line_lists.proofs.GatherLaws.{Gathers, Goes, gather-more, gather-new, gathered, gathered-one, last-fits}
-use Rattle.line_lists.proofs.GatherLaws.{next-fits}
-use Rattle.line_lists.proofs.GatherLaws.{last-of, last-set, no_items}
+use Rattle.line_lists.proofs.GatherLaws.{Gathers, gather-more, gather-new, gathered-all, goes-of, last-fits, last-of}
+use Rattle.line_lists.proofs.GatherLaws.{last-set, next-fits, no_items}
 use Rattle.line_lists.proofs.pieces.pieces_of.Goals.{else-stop-eq0-via-then-stop-eq0+else-not-is_empty}
 use Rattle.line_lists.proofs.pieces.pieces_of.Goals.{else-stop-eq0-via-else-stop-eq0}
 use Rattle.line_lists.proofs.pieces.pieces_of.Goals as goal
@@ -21,36 +17,27 @@ overflow_add-from g c =
     let front = c.args.front.items in
     let lines = g.L.LineList.lines c.args.list.now in
     let are = g.L.LineList.are_lines c.args.list.now in
-    let goes : Goes front c.loop-stop.yielded lines c.in-Some.stop c.next.new.self.rest.items = record {
-      all = c.loop-stop.invariant.1 ∙ ap (λ xs. c.loop-stop.yielded ++ xs) c.in-Some.ensures.steps.0;
-      are = are;
-      stops = c.requires.draft.stops;
-      there = omega (arith, c.requires.draft.there, used-append (copies_of front) (reverse []));
-    } in
-    omega (
-      arith,
-      next-fits front c.loop-stop.yielded lines c.in-Some.stop c.next.new.self.rest.items goes,
-      count-lines lines,
-      are.counted.lines,
-    )
+    let stops = c.loop-stop.yielded in
+    let rest = c.next.new.self.rest.items in
+    let goes = goes-of front stops lines c.in-Some.stop rest are c.requires
+    (c.loop-stop.invariant.1 ∙ ap (λ xs. stops ++ xs) c.in-Some.ensures.steps.0) in
+    omega (arith, next-fits front stops lines c.in-Some.stop rest goes, count-lines lines, are.counted.lines)
 
 pub add-requires : goal.add-requires
 add-requires g c =
     let front = c.args.front.items in
     let lines = g.L.LineList.lines c.args.list.now in
     let are = g.L.LineList.are_lines c.args.list.now in
-    let goes : Goes front c.loop-stop.yielded lines c.in-Some.stop c.next.new.self.rest.items = record {
-      all = c.loop-stop.invariant.1 ∙ ap (λ xs. c.loop-stop.yielded ++ xs) c.in-Some.ensures.steps.0;
-      are = are;
-      stops = c.requires.draft.stops;
-      there = omega (arith, c.requires.draft.there, used-append (copies_of front) (reverse []));
-    } in
+    let stops = c.loop-stop.yielded in
+    let rest = c.next.new.self.rest.items in
+    let goes = goes-of front stops lines c.in-Some.stop rest are c.requires
+    (c.loop-stop.invariant.1 ∙ ap (λ xs. stops ++ xs) c.in-Some.ensures.steps.0) in
     let pieces = c.loop-stop.pieces.items in
     let last = c.len-last.result in
     let some : 0 < last =
     grind (arith, nat_tests, c.len-last.ensures, c.is_empty.ensures, c.if-not-is_empty.true) in
-    let fits = last-fits front c.loop-stop.yielded lines c.in-Some.stop c.next.new.self.rest.items pieces
-    (take (last - 1) pieces) c.index_mut.result.now c.loop-stop.invariant.0 goes
+    let fits = last-fits front stops lines c.in-Some.stop rest pieces (take (last - 1) pieces) c.index_mut.result.now
+    c.loop-stop.invariant.0 goes
     (last-of pieces last c.index_mut.result.now (omega (arith, c.len-last.ensures, c.loop-stop.pieces.ok.0)) some
     c.index_mut.ensures.value) in
     omega (arith, fits, count-lines lines, are.counted.lines)
@@ -64,12 +51,7 @@ loop-stop-preserved g c =
     let stops = c.loop-stop.yielded in
     let pieces = c.loop-stop.pieces.items in
     let all = c.loop-stop.invariant.1 ∙ ap (λ xs. stops ++ xs) c.in-Some.ensures.steps.0 in
-    let goes : Goes front stops lines stop rest = record {
-      all = all;
-      are = g.L.LineList.are_lines c.args.list.now;
-      stops = c.requires.draft.stops;
-      there = omega (arith, c.requires.draft.there, used-append (copies_of front) (reverse []));
-    } in
+    let goes = goes-of front stops lines stop rest (g.L.LineList.are_lines c.args.list.now) c.requires all in
     let first : stop.copy.kept ≡ 0 → pieces ≡ [] = elim c.else-stop-eq0.branch [
       | else-stop-eq0-via-then-stop-eq0+else-not-is_empty w ↦ λ _.
           let none : vec_len c.loop-stop.pieces ≡ 0 =
@@ -93,12 +75,7 @@ loop-stop-preserved-then-not-is_empty g c =
     let stops = c.loop-stop.yielded in
     let pieces = c.loop-stop.pieces.items in
     let all = c.loop-stop.invariant.1 ∙ ap (λ xs. stops ++ xs) c.in-Some.ensures.steps.0 in
-    let goes : Goes front stops lines stop rest = record {
-      all = all;
-      are = g.L.LineList.are_lines c.args.list.now;
-      stops = c.requires.draft.stops;
-      there = omega (arith, c.requires.draft.there, used-append (copies_of front) (reverse []));
-    } in
+    let goes = goes-of front stops lines stop rest (g.L.LineList.are_lines c.args.list.now) c.requires all in
     let last = c.len-last.result in
     let long : last ≡ length pieces = omega (arith, c.len-last.ensures, c.loop-stop.pieces.ok.0) in
     let some : 0 < last =
@@ -114,53 +91,30 @@ loop-stop-preserved-then-not-is_empty g c =
 
 pub returns-clause-can : goal.returns-clause-can
 returns-clause-can g c =
-    let front = c.args.front.items in
     let lines = g.L.LineList.lines c.args.list.now in
-    let are = g.L.LineList.are_lines c.args.list.now in
-    let same : c.loop-stop.yielded ≡ front = sym (c.loop-stop.invariant.1
-    ∙ ap (λ xs. c.loop-stop.yielded ++ xs)
-    (no_items c.loop-stop.stop-iterator.rest.items
-    (omega (arith, c.in-None.ensures.steps.0, c.loop-stop.stop-iterator.rest.ok.0)))
-    ∙ append-nil c.loop-stop.yielded) in
-    let rows = subst (λ copies. AreRows (drafted copies lines)) (append-nil (copies_of front)) c.requires.rows in
-    (gathered front lines c.loop-stop.pieces.items
-    (subst (λ xs. Gathers front xs lines c.loop-stop.pieces.items) same c.loop-stop.invariant.0) are
-    (omega (arith, c.requires.draft.there, used-append (copies_of front) (reverse []))) rows
-    (subst (λ xs. IsCounted (plus (count_of lines) (count_of (copied_lines (copies_of xs)))))
-    c.deref.ensures.value c.in_ok-count.ensures)).0
+    let rest = c.loop-stop.stop-iterator.rest in
+    (gathered-all c.args.front.items c.loop-stop.yielded rest.items lines c.loop-stop.pieces.items
+    c.loop-stop.invariant.0 c.loop-stop.invariant.1 (omega (arith, c.in-None.ensures.steps.0, rest.ok.0))
+    (g.L.LineList.are_lines c.args.list.now) c.requires
+    (subst (λ xs. IsCounted (plus (count_of lines) (count_of (copied_lines (copies_of xs))))) c.deref.ensures.value
+    c.in_ok-count.ensures)).can
 
 pub returns-clause-new : goal.returns-clause-new
 returns-clause-new g c =
-    let front = c.args.front.items in
     let lines = g.L.LineList.lines c.args.list.now in
-    let are = g.L.LineList.are_lines c.args.list.now in
-    let same : c.loop-stop.yielded ≡ front = sym (c.loop-stop.invariant.1
-    ∙ ap (λ xs. c.loop-stop.yielded ++ xs)
-    (no_items c.loop-stop.stop-iterator.rest.items
-    (omega (arith, c.in-None.ensures.steps.0, c.loop-stop.stop-iterator.rest.ok.0)))
-    ∙ append-nil c.loop-stop.yielded) in
-    let rows = subst (λ copies. AreRows (drafted copies lines)) (append-nil (copies_of front)) c.requires.rows in
-    (gathered front lines c.loop-stop.pieces.items
-    (subst (λ xs. Gathers front xs lines c.loop-stop.pieces.items) same c.loop-stop.invariant.0) are
-    (omega (arith, c.requires.draft.there, used-append (copies_of front) (reverse []))) rows
-    (subst (λ xs. IsCounted (plus (count_of lines) (count_of (copied_lines (copies_of xs)))))
-    c.deref.ensures.value c.in_ok-count.ensures)).1
-    ∙ ap (λ copies. drafted copies lines) (sym (append-nil (copies_of front)))
+    let rest = c.loop-stop.stop-iterator.rest in
+    (gathered-all c.args.front.items c.loop-stop.yielded rest.items lines c.loop-stop.pieces.items
+    c.loop-stop.invariant.0 c.loop-stop.invariant.1 (omega (arith, c.in-None.ensures.steps.0, rest.ok.0))
+    (g.L.LineList.are_lines c.args.list.now) c.requires
+    (subst (λ xs. IsCounted (plus (count_of lines) (count_of (copied_lines (copies_of xs))))) c.deref.ensures.value
+    c.in_ok-count.ensures)).new
 
 pub returns-clause-one : goal.returns-clause-one
-returns-clause-one g c = λ few.
-    let front = c.args.front.items in
+returns-clause-one g c =
     let lines = g.L.LineList.lines c.args.list.now in
-    let are = g.L.LineList.are_lines c.args.list.now in
-    let same : c.loop-stop.yielded ≡ front = sym (c.loop-stop.invariant.1
-    ∙ ap (λ xs. c.loop-stop.yielded ++ xs)
-    (no_items c.loop-stop.stop-iterator.rest.items
-    (omega (arith, c.in-None.ensures.steps.0, c.loop-stop.stop-iterator.rest.ok.0)))
-    ∙ append-nil c.loop-stop.yielded) in
-    let rows = subst (λ copies. AreRows (drafted copies lines)) (append-nil (copies_of front)) c.requires.rows in
-    let found = gathered-one front lines c.loop-stop.pieces.items
-    (subst (λ xs. Gathers front xs lines c.loop-stop.pieces.items) same c.loop-stop.invariant.0) are
-    (omega (arith, c.requires.draft.there, used-append (copies_of front) (reverse []))) rows
-    (subst (λ xs. IsCounted (plus (count_of lines) (count_of (copied_lines (copies_of xs)))))
-    c.deref.ensures.value c.in_ok-count.ensures) few
-    in (found.0, found.1 ∙ ap (λ copies. drafted copies lines) (sym (append-nil (copies_of front))))
+    let rest = c.loop-stop.stop-iterator.rest in
+    (gathered-all c.args.front.items c.loop-stop.yielded rest.items lines c.loop-stop.pieces.items
+    c.loop-stop.invariant.0 c.loop-stop.invariant.1 (omega (arith, c.in-None.ensures.steps.0, rest.ok.0))
+    (g.L.LineList.are_lines c.args.list.now) c.requires
+    (subst (λ xs. IsCounted (plus (count_of lines) (count_of (copied_lines (copies_of xs))))) c.deref.ensures.value
+    c.in_ok-count.ensures)).one
