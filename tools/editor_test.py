@@ -85,17 +85,15 @@ def styled_parts(shown):
     parts, codes = [], set()
     for code, character in SGR.findall(shown):
         if character:
-            style = style_of(codes)
-            if parts and parts[-1][0] == style:
-                parts[-1][1] += character
-            else:
-                parts.append([style, character])
+            style = None if character == "\n" else style_of(codes)
+            if not parts or parts[-1][0] != style:
+                parts.append([style, ""])
+            parts[-1][1] += character
             continue
         for number in map(int, (code or "0").split(";")):
             kind = number // 10
             codes = set() if number == 0 else {other for other in codes if kind < 3 or other // 10 != kind} | {number}
-    trimmed = ((style, part.strip("\n")) for style, part in parts if style and f" {NAME}  line" not in part)
-    return [f"{style} {line}" for style, part in trimmed for line in part.split("\n")]
+    return [f"{style} {part}" for style, part in parts if style and f" {NAME}  line" not in part]
 
 
 class Screen:
