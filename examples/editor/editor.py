@@ -9,7 +9,7 @@ import time
 sys.modules.setdefault("_tkinter", None)
 from files import File  # noqa: E402
 from tktext import TclError, Text  # noqa: E402
-from view import Pane, row_of  # noqa: E402
+from view import Pane, columns_of, row_of  # noqa: E402
 
 HELP = """^S save   ^O save as another file   ^Q leave
 ^Z undo   ^Y redo   ^C copy   ^X cut   ^V paste   ^A select all
@@ -45,35 +45,37 @@ class Editor:
             self.open()
             while not self.is_left:
                 self.draw()
-                self.try_key(*self.terminal.key(IDLE_SECONDS))
+                key, characters = self.key()
+                try:
+                    self.do(key, characters)
+                except (TclError, OSError, MemoryError) as error:
+                    self.message = reason(error)
         except SystemExit as ended:
             status = ended.code
         except Exception as error:
             status, said = 1, f"{self.file.path}: {reason(error)}\n"
-        try:
-            self.keep(is_last=True)
-        except OSError as error:
-            said += f"no copy is kept: {reason(error)}\n"
+        self.message = ""
+        self.keep(is_last=True)
+        said += self.message
         return status, said + f"unsaved edits are in {self.file.copy}" * os.path.exists(self.file.copy)
 
-    def try_key(self, key, characters):
-        try:
-            self.do(key, characters)
-        except (TclError, OSError, MemoryError) as error:
-            self.message = reason(error)
+    def key(self):
+        """The next key, and its characters; where none comes for some time a copy is kept."""
+        key, characters = self.terminal.key(IDLE_SECONDS)
+        if not key:
+            self.keep()
+        return key, characters
 
     def do(self, key, characters):
-        """Does what a key says; where none came a copy is kept."""
+        """Does what a key says."""
         name = key.replace("shift-", "")
         is_move = name in PLACES or name in SIGNS
         if key in ("", "resize"):
-            return key or self.keep()
+            return None
         self.message, self.is_kept = "", self.is_kept and is_move
-        if name not in ("up", "down", "pageup", "pagedown"):
-            self.pane.goal = None
         if is_move:
             return self.move(name, name != key or self.pane.is_marking)
-        if key in ("text", "paste"):
+        if characters:
             return self.put(re.sub("\r\n?", "\n", characters), is_apart=key == "paste")
         return KEYS.get(key, lambda editor: None)(self)
 
@@ -92,13 +94,15 @@ class Editor:
             lines, (row, column) = pane.rows(self.found)
             cursor = (len(rows) + row, column) if pane is self.pane else cursor
             rows += [*lines, self.state(pane)]
-        left = max(0, len(self.message) + 1 - width) if is_asking else 0
+        end = columns_of(self.message)[-1]
+        left = max(0, end + 1 - width) if is_asking else 0
         rows = [*rows[: max(1, height - 1)], row_of([(self.message, None)], left, width)][:height]
-        self.terminal.show(rows, (height - 1, len(self.message) - left) if is_asking else cursor)
+        self.terminal.show(rows, (height - 1, end - left) if is_asking else cursor)
 
     def state(self, pane):
         """The row below a pane."""
-        (line, column), is_modified = pane.place(), self.widget.edit_modified()
+        (line, column), is_loaded = pane.place(), self.widget.cget("undo")
+        is_modified = is_loaded and self.widget.edit_modified()
         told = f" {self.file.name}  line {line} of {pane.lines()}, column {column + 1}"
         told += "  modified" * is_modified + "  CHANGED ON DISK" * self.file.is_changed()
         told = told if len(told) <= pane.width else f"{line}:{column + 1}{'*' * is_modified}"
@@ -115,18 +119,18 @@ class Editor:
 
     def ask(self, label, typed="", letters="", is_pattern=False):
         """What is typed in the last row, or one of some letters; None, where that is given up by Esc."""
-        key = ""
-        while key != "escape":
+        key, answer = "", None
+        while key != "escape" and answer is None:
             self.message, self.found = label + typed, typed if is_pattern else self.found
             self.draw(is_asking=not letters)
-            key, characters = self.terminal.key()
-            if key == "enter" and not letters or characters and characters in letters:
-                self.message = ""
-                return characters or typed
-            if not letters:
-                typed = typed[:-1] if key == "backspace" else typed + re.split("[\r\n]", characters)[0]
+            key, characters = self.key()
+            if letters:
+                answer = characters if characters in list(letters) else None
+            elif key == "enter":
+                answer = typed
+            typed = typed[:-1] if key == "backspace" else typed + re.split("[\r\n]", characters)[0] * (not letters)
         self.message = ""
-        return None
+        return answer
 
     def help(self):
         width, height = os.get_terminal_size()
@@ -141,7 +145,7 @@ class Editor:
         answer, hint = "d", self.message
         if self.file.has_copy():
             answer = self.ask("[r]ecover or [d]rop the unsaved edits that were kept?", letters="rd")
-        self.message, self.is_left = hint, not answer
+        self.message, self.is_left = hint if os.path.exists(self.file.path) else "a new file", not answer
         if answer:
             self.tell("loading", self.file.load(self.widget, is_copy=answer == "r"))
             self.widget.configure(undo=True)
@@ -185,16 +189,17 @@ class Editor:
 
     def keep(self, is_last=False):
         """Keeps a copy of edits that aren't saved, if it isn't there yet; later, where a key comes meanwhile."""
-        was_kept, self.is_kept = self.is_kept, True
-        if was_kept:
+        if self.is_kept:
             return
         if not self.widget.edit_modified():
             self.file.drop_copy()
-            return
-        for _ in self.file.write(self.widget, self.file.copy):
-            if not is_last and self.terminal.wait(0):
-                self.is_kept = False
-                return
+        try:
+            for _ in self.file.write(self.widget, self.file.copy) if self.widget.edit_modified() else ():
+                if not is_last and self.terminal.wait(0):
+                    return
+        except OSError as error:
+            self.message = f"no copy is kept: {reason(error)}\n"
+        self.is_kept = True
 
     # Edits
 
@@ -256,10 +261,11 @@ class Editor:
             self.widget.edit_separator()
             self.take()
 
-    def find(self, pattern="", start="insert + 1 chars", **options):
+    def find(self, pattern="", start=None, **options):
         """Selects the next place of a pattern, or of the last one, round the end."""
         if pattern is None:
             return
+        start = start or ("insert" if pattern else "insert + 1 chars")
         self.pattern = pattern or self.pattern
         place = self.pattern and self.pane.search(self.widget.search, self.pattern, start, **options)
         if place:
@@ -320,7 +326,8 @@ class Editor:
 
 KEYS = {
     "ctrl-s": Editor.save, "ctrl-o": Editor.save_as, "ctrl-q": Editor.leave, "f1": Editor.help, "enter": Editor.enter,
-    "tab": lambda editor: editor.put("\t"), "backspace": lambda editor: editor.take("insert - 1 chars"),
+    "tab": lambda editor: editor.put(" " * (4 - editor.pane.column() % 4) if editor.pane.is_python else "\t"),
+    "backspace": lambda editor: editor.take("insert - 1 chars"),
     "delete": lambda editor: editor.take("insert", "insert + 1 chars"), "escape": Editor.select_none,
     "ctrl-c": Editor.copy, "ctrl-x": lambda editor: editor.copy(is_cut=True),
     "ctrl-v": lambda editor: editor.clipboard and editor.put(editor.clipboard, is_apart=True),

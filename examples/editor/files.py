@@ -16,11 +16,9 @@ _UNUSUAL = re.compile("[\udc80-\udcff\U0010fe80-\U0010feff]")
 
 def decoded(data):
     """The characters of any bytes; `encoded` gives the same bytes back."""
-    def private(found):
-        return "".join(chr(BYTES + byte) for byte in found[0].encode("utf-8", "surrogateescape"))
-
-    text = data.decode("utf-8", "surrogateescape")
-    return text if text.isascii() else _UNUSUAL.sub(private, text)
+    text, bytes_of = data.decode("utf-8", "surrogateescape"), lambda found: found[0].encode("utf-8", "surrogateescape")
+    characters_of = lambda found: "".join(chr(BYTES + byte) for byte in bytes_of(found))
+    return text if text.isascii() else _UNUSUAL.sub(characters_of, text)
 
 
 def encoded(text):
@@ -60,7 +58,8 @@ class File:
         if not is_copy and not os.path.exists(self.path):
             return
         with open(self.copy if is_copy else self.path, "rb") as file:
-            stamp, size = stamp_of(self.path if is_copy else file.fileno()), os.stat(file.fileno()).st_size
+            self.stamp = stamp_of(self.path if is_copy else file.fileno())
+            size = os.stat(file.fileno()).st_size
             ends = [[piece.count(end) for end in (b"\n", b"\r\n", b"\r")] for piece in pieces_of(file)]
             newlines, pairs, returns = map(sum, zip((0, 0, 0), *ends))
             # Where each end of a line is \r\n the core keeps \n, and else each \r is a character as any other.
@@ -69,7 +68,6 @@ class File:
             for piece in pieces_of(file):
                 text.insert("end", decoded(piece.replace(b"\r\n", b"\n") if self.has_crlf else piece))
                 yield file.tell() / max(size, file.tell())
-        self.stamp = stamp
 
     def save(self, text):
         """Saves a text, and tells how far it is."""
@@ -79,10 +77,7 @@ class File:
         self.drop_copy()
 
     def write(self, text, path):
-        """Writes a new file, has it on the disk, and only then gives it the name; the owner and the mode stay.
-
-        The newline that the core keeps behind the last line isn't the file's.
-        """
+        """Writes a new file, has it on the disk, and only then gives it the name; the owner and the mode stay."""
         with contextlib.suppress(FileNotFoundError):
             os.unlink(self.new)
         try:
@@ -93,6 +88,7 @@ class File:
                     shutil.copystat(self.path, self.new)
                 count = text.count("1.0", "end", "lines", return_ints=True)
                 for line in range(1, count + 1, PIECE_LINES):
+                    # The newline that the core keeps behind the last line isn't the file's.
                     behind = f"{line + PIECE_LINES}.0" if line + PIECE_LINES <= count else "end - 1 chars"
                     piece = text.get(f"{line}.0", behind)
                     file.write(encoded(piece.replace("\n", "\r\n") if self.has_crlf else piece))
@@ -109,8 +105,8 @@ class File:
 
     def has_copy(self):
         """Whether there is a copy of something else than what the file has."""
-        is_there, is_new = os.path.exists(self.copy), not os.path.exists(self.path)
-        return is_there and (is_new or not filecmp.cmp(self.copy, self.path, shallow=False))
+        is_same = lambda: os.path.exists(self.path) and filecmp.cmp(self.copy, self.path, shallow=False)
+        return os.path.exists(self.copy) and not is_same()
 
     def drop_copy(self):
         with contextlib.suppress(OSError):

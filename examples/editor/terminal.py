@@ -13,7 +13,7 @@ from files import decoded
 
 PASTE, PASTE_END = b"\x1b[200~", b"\x1b[201~"
 # How long the rest of a key may take, and that of a paste.
-KEY_SECONDS, PASTE_SECONDS = 0.03, 2.0
+KEY_SECONDS, PASTE_SECONDS = 0.05, 2.0
 _KEY = re.compile(rb"\x1b[\[O]([\d;]*)([A-Za-z~])|\x1b([^\x1b])|([ -~]|[\xc2-\xf4][\x80-\xbf]+)|(.)", re.DOTALL)
 # The beginning of a key: of an escape sequence, or of a character.
 _BEGUN = re.compile(rb"\x1b([\[O][\d;]*)?|[\xc2-\xdf]|[\xe0-\xef][\x80-\xbf]?|[\xf0-\xf4][\x80-\xbf]{0,2}")

@@ -74,8 +74,8 @@ class Pane:
     def __init__(self, widget):
         self.widget, self.top, self.anchor = widget, f"top{widget}", f"anchor{widget}"
         self.height, self.width, self.left, self.seen = 1, 80, 0, None
-        # The column to which steps up and down go, and whether moves select.
-        self.goal, self.is_marking, self.is_python = None, False, False
+        # Where the last step up or down ended, and to which column it went; and whether moves select.
+        self.goal, self.is_marking, self.is_python = (None, 0), False, False
         widget.mark_set(self.top, "1.0")
         widget.mark_gravity(self.top, "left")
 
@@ -94,10 +94,11 @@ class Pane:
 
     def move_lines(self, count):
         """Goes some lines down, or up, to the column that was left last by another way."""
-        self.goal = self.column() if self.goal is None else self.goal
-        line = min(max(self.place()[0] + count, 1), self.lines())
+        place, goal = self.place(), self.goal[1] if self.goal[0] == self.place() else self.column()
+        line = min(max(place[0] + count, 1), self.lines())
         columns = columns_of(self.widget.get(f"{line}.0", f"{line}.end"))
-        self.go(f"{line}.{bisect.bisect_right(columns, self.goal) - 1}")
+        self.go(f"{line}.{bisect.bisect_right(columns, goal) - 1}")
+        self.goal = self.place(), goal
 
     def move_character(self, sign):
         """Goes to the next character that has columns of its own."""
