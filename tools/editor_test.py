@@ -4,14 +4,14 @@
     python3 tools/editor_test.py [--module out/python] [--show] [--measure]
 
 MODULE is the folder of the Python package that the editor stands on.  The keys and the screens stand in
-tools/editor.screens; with `--show` each screen is printed as it is.  Screens are those of tmux; where it isn't installed
-a line says that they are skipped, and what needs no screen is tried in a pseudo-terminal alone: faults of the disk, kills
-and signals, and how long 20 MB take.  With `--measure` the figures of docs/use.md are taken, and nothing else is done.
+tools/editor.screens; with `--show` each screen is printed as it is.  Screens are those of tmux: where it isn't there
+a line says that they are skipped, and what needs no screen is tried in a pseudo-terminal alone: faults of the disk,
+kills and signals, and how long 20 MB take.  With `--measure` the figures of docs/use.md are taken, and no more is done.
 Ends in a line `N passed, M failed`; the exit status is 1 if anything failed.
 
-In the file of screens `keys` sends keys by the names that tmux has for them, `paste` what stands behind bars as a paste,
-`resize` gives the terminal a size, `screen` has what is shown then, each line behind a bar, `styles` the parts that are
-shown in a style, `written` the lines of the file on disk, and `changed` has lines written to it by another program.
+In the file of screens `keys` sends keys by tmux's names for them, `paste` what stands behind bars as a paste,
+`resize` gives the terminal a size, `screen` has what is shown then, each line behind a bar, `styles` the parts that
+are shown in a style, `written` the lines of the file on disk, and `changed` has lines written to it by another program.
 """
 
 import argparse
@@ -40,11 +40,12 @@ SCREENS = os.path.join(TOP, "tools", "editor.screens")
 NAME = "list.py"
 WIDTH, HEIGHT = 60, 13
 # How long what is waited for may take.
-PATIENCE = 10.0
+PATIENCE = 30.0
 # What ends each drawing of a screen.
 DRAWN = b"\x1b[?25h"
 SAVE, LEAVE = b"\x13", b"\x11"
-KILLS = 20
+# The moments of a save at which the editor is killed, by how long a save took: beside other work one may take longer.
+KILLS = [number / 12 for number in range(14)] + [1.5, 2.0, 3.0, 5.0, 8.0, 12.0]
 # The text that is measured, and what it may take: seconds, seconds, seconds, and times its own size.
 BYTES, LINES, PASTED_LINES = 20_000_000, 300_000, 2_000
 MOST = {"open": 2.0, "key": 0.020, "key, two panes": 0.020, "paste": 1.0, "memory": 4.0}
@@ -143,7 +144,12 @@ class Screen:
                 file.write("\n".join(lines))
 
     def close(self):
+        """Ends the terminal, and waits for the editor, which keeps a copy of its edits then."""
+        editor = self.tmux("display-message", "-p", "#{pane_pid}").strip()
         self.tmux("kill-server")
+        until = time.monotonic() + PATIENCE
+        while os.path.exists(f"/proc/{editor}") and time.monotonic() < until:
+            time.sleep(0.02)
 
 
 def check_part(screen, path, part, name, shows, tally):
@@ -289,7 +295,8 @@ def started_over(environment, top, contents):
 CONTENTS = {
     "no byte": b"", "a line": b"one\n", "no last newline": b"one\ntwo", "CRLF": b"one\r\ntwo\r\n",
     "CRLF and no last newline": b"one\r\ntwo", "ends of both kinds": b"one\r\ntwo\nthree\rfour\r\n",
-    "CR alone": b"one\rtwo\r", "Latin-1": b"caf\xe9 \xc3\xa9\xc3\n", "a byte 0": b"one\0two\n", "UTF-16": "é\n".encode("utf-16"),
+    "CR alone": b"one\rtwo\r", "Latin-1": b"caf\xe9 \xc3\xa9\xc3\n", "a byte 0": b"one\0two\n",
+    "UTF-16": "é\n".encode("utf-16"),
     "private characters": "\U0010fe80\U0010fee9\U0010feff\n".encode(), "surrogates": b"\xed\xa0\x80\xed\xb0\x80\n",
     "a byte order mark": b"\xef\xbb\xbfone\n", "all bytes": bytes(range(256)) * 3, "long": b"x" * 300_000 + b"\xff\n",
 }
@@ -388,7 +395,7 @@ def check_kills(environment, tally):
     old = b"a line of some characters that is to be saved\n" * 50_000
     found, took = [], 0.0
     with tempfile.TemporaryDirectory() as top:
-        for number, editing in enumerate(started_over(environment, top, [old] * (KILLS + 1))):
+        for number, editing in enumerate(started_over(environment, top, [old] * (1 + len(KILLS)))):
             editing.wait_for(b"F1 help", DRAWN)
             editing.send(b"#")
             editing.settle()
@@ -399,7 +406,7 @@ def check_kills(environment, tally):
                 editing.wait_for(b"saved")
                 took = time.monotonic() - began
             else:
-                time.sleep(1.2 * took * (number - 1) / KILLS)
+                time.sleep(took * KILLS[number - 1])
             editing.kill()
             found.append({old: "old", b"#" + old: "new"}.get(read(editing.path), "less"))
         tally.check("less" not in found, f"a save that is killed leaves {found}")
@@ -450,11 +457,14 @@ def check_faults(environment, tally):
         os.mkfifo(os.path.join(folder, "pipe"))
         os.mkdir(os.path.join(folder, "sub"))
         os.symlink("loop", os.path.join(folder, "loop"))
-        refused = {"pipe": "is no regular file", "sub": "is no regular file", "pipe/x": "Not a directory", "loop": "Too many"}
+        refused = {"pipe": "no regular file", "sub": "no regular file", "pipe/x": "Not a directory", "loop": "Too many"}
         for name, editing in {name: Editing(environment, os.path.join(folder, name)) for name in refused}.items():
             status, given = editing.end()
             is_told = refused[name] in given and "Traceback" not in given
             tally.check(status == 1 and is_told, f"{name}: {status}, {given!r}")
+        words = [sys.executable, "-S", "-E", EDITOR, os.path.join(folder, "new")]
+        given = subprocess.run(words, capture_output=True, text=True).stderr
+        tally.check("tktext" in given and "Traceback" not in given, f"without the package: {given!r}")
         with edited(environment, os.path.join(folder, "sub"), b"one\n") as editing:
             shutil.rmtree(os.path.join(folder, "sub"))
             editing.send(b"#" + SAVE + b"o")
@@ -516,8 +526,8 @@ def measured(environment, clock):
                 opened.append(clock(editing.pid) - began)
         with edited(environment, folder) as editing:
             seconds_to(clock, editing, b"\x07150000\r")
-            keys = [bytes([byte]) for byte in b"def typed(words):\r    return 'a string'  # and more\r"]
-            keys += [b"\x1b[B", b"\x1b[A", b"\x1b[6~", b"\x1b[5~", b"\x1b[C", b"\x7f", b"\x1b[1;2B", b"\x1a", b"\x19"] * 4
+            keys = [bytes([byte]) for byte in b"def typed(words):\r    'a'  # b"]
+            keys += [b"\x1b[B", b"\x1b[A", b"\x1b[6~", b"\x1b[5~", b"\x1b[C", b"\x7f", b"\x1b[1;2B", b"\x1a", b"\x19"]
             times = [seconds_to(clock, editing, key) for key in keys]
             seconds_to(clock, editing, b"\x17")
             with_two = [seconds_to(clock, editing, key) for key in keys]
@@ -529,6 +539,17 @@ def measured(environment, clock):
             editing.status, _ = editing.end(LEAVE)
     return {"open": min(opened), "key": statistics.median(times), "key, two panes": statistics.median(with_two),
             "slowest key": max(times + with_two), "paste": pasted, "save": saved, "memory": memory / BYTES}
+
+
+def check_progress(environment, tally):
+    """How far it is, is told while much is loaded and saved."""
+    with tempfile.TemporaryDirectory() as folder:
+        write(os.path.join(folder, NAME), long_text() * 2)
+        editing = Editing(environment, os.path.join(folder, NAME))
+        tally.check(editing.wait_for(b"loading: ", b"F1 help"), "it isn't told how far it is loaded")
+        editing.send(b"#" + SAVE)
+        tally.check(editing.wait_for(b"saving: ", b"saved"), "it isn't told how far it is saved")
+        tally.check(editing.end(LEAVE)[0] == 0, "it doesn't end after a long save")
 
 
 def check_measures(environment, tally):
@@ -556,7 +577,8 @@ def main():
         return 0
     tally = Tally()
     check_screens(environment, options.show, tally)
-    for check in (check_widths, check_contents, check_saving, check_copies, check_kills, check_faults, check_measures):
+    for check in (check_widths, check_contents, check_saving, check_copies, check_kills, check_faults, check_progress,
+                  check_measures):
         began = time.monotonic()
         check(environment, tally)
         if options.show:

@@ -3,7 +3,10 @@
 import os
 import sys
 
-from editor import Editor, reason
+try:
+    from editor import Editor, reason
+except ImportError as error:
+    sys.exit(f"{error}: `pip install .` installs the package (docs/use.md, The editor)")
 from files import File
 from terminal import Terminal
 

@@ -12,8 +12,8 @@ _STRING = r"""'''(?:[^'\\]+|\\(?:.|\Z)|'(?!''))*(?:'''|\Z) | '(?:[^'\\\n]|\\.)*'
 _QUOTED = re.compile(rf"{_STRING} | \#[^\n]*", re.VERBOSE | re.DOTALL)
 _TOKEN = re.compile(
     rf"""(?P<string> {_STRING} ) | (?P<comment> \#[^\n]* ) | (?P<number> \b\d\w* )
-       | (?:(?<=\bdef\ )|(?<=\bclass\ )) (?P<defined> \w+ ) | (?P<keyword> \b(?:{'|'.join(keyword.kwlist)})\b ) | \w+""",
-    re.VERBOSE | re.DOTALL,
+       | (?:(?<=\bdef\ )|(?<=\bclass\ )) (?P<defined> \w+ )
+       | (?P<keyword> \b(?:{'|'.join(keyword.kwlist)})\b ) | \w+""", re.VERBOSE | re.DOTALL,
 )
 # Where no string goes on, most likely.
 _OUTSIDE = re.compile(r"^(?:def |class |@)", re.MULTILINE)

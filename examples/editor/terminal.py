@@ -18,8 +18,8 @@ _KEY = re.compile(rb"\x1b[\[O]([\d;]*)([A-Za-z~])|\x1b([^\x1b])|([ -~]|[\xc2-\xf
 # The beginning of a key: of an escape sequence, or of a character.
 _BEGUN = re.compile(rb"\x1b([\[O][\d;]*)?|[\xc2-\xdf]|[\xe0-\xef][\x80-\xbf]?|[\xf0-\xf4][\x80-\xbf]{0,2}")
 _BYTES = dict(zip("\r\n\t\x7f\b\x1b\0", "enter enter tab backspace backspace escape ctrl-space".split()))
-_NAMES = dict(zip("A B C D H F P R 1~ 3~ 4~ 5~ 6~ 7~ 8~ 11~ 13~".split(), "up down right left home end f1 f3 home delete end "
-              "pageup pagedown home end f1 f3".split()))
+_NAMES = dict(zip("A B C D H F P R 1~ 3~ 4~ 5~ 6~ 7~ 8~ 11~ 13~".split(),
+                  "up down right left home end f1 f3 home delete end pageup pagedown home end f1 f3".split()))
 _HELD = {"2": "shift-", "3": "alt-", "5": "ctrl-", "6": "ctrl-shift-"}
 _SETUP, _RESTORE = "\x1b[?1049h\x1b[?2004h\x1b[?7l\x1b[m\x1b[2J", "\x1b[?7h\x1b[?2004l\x1b[m\x1b[?25h\x1b[?1049l"
 _ENDING = (signal.SIGTERM, signal.SIGHUP, signal.SIGINT)
