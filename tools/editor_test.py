@@ -17,6 +17,7 @@ are shown in a style, `written` the lines of the file on disk, and `changed` has
 import argparse
 import contextlib
 import fcntl
+import glob
 import os
 import pty
 import re
@@ -31,6 +32,7 @@ import sys
 import tempfile
 import termios
 import time
+import tokenize
 
 from harness import Tally
 
@@ -41,6 +43,8 @@ NAME = "list.py"
 WIDTH, HEIGHT = 60, 13
 # How long what is waited for may take.
 PATIENCE = 30.0
+# How many lines of code it may have.
+LINES_OF_CODE = 600
 # What ends each drawing of a screen.
 DRAWN = b"\x1b[?25h"
 SAVE, LEAVE = b"\x13", b"\x11"
@@ -541,10 +545,31 @@ def measured(environment, clock):
             "slowest key": max(times + with_two), "paste": pasted, "save": saved, "memory": memory / BYTES}
 
 
+def lines_of_code(path):
+    """How many lines have more than a comment, or the text that documents something."""
+    with open(path, "rb") as file:
+        tokens = list(tokenize.tokenize(file.readline))
+    plain = [token for token in tokens if token.type not in (tokenize.COMMENT, tokenize.NL, tokenize.ENCODING)]
+    begins = (tokenize.NEWLINE, tokenize.INDENT, tokenize.DEDENT)
+    lines = set()
+    for before, token, after in zip([tokens[0], *plain], plain, [*plain[1:], plain[-1]]):
+        documents = token.type == tokenize.STRING and after.type == tokenize.NEWLINE and (
+            before.type in begins or before.type == tokenize.ENCODING)
+        if not documents and token.type not in (*begins, tokenize.ENDMARKER):
+            lines.update(range(token.start[0], token.end[0] + 1))
+    return len(lines)
+
+
+def check_size(_, tally):
+    """It stays small enough to be read."""
+    count = sum(lines_of_code(path) for path in glob.glob(os.path.join(EDITOR, "*.py")))
+    tally.check(count <= LINES_OF_CODE, f"the editor has {count} lines of code")
+
+
 def check_progress(environment, tally):
     """How far it is, is told while much is loaded and saved."""
     with tempfile.TemporaryDirectory() as folder:
-        write(os.path.join(folder, NAME), long_text() * 2)
+        write(os.path.join(folder, NAME), long_text() * 5)
         editing = Editing(environment, os.path.join(folder, NAME))
         tally.check(editing.wait_for(b"loading: ", b"F1 help"), "it isn't told how far it is loaded")
         editing.send(b"#" + SAVE)
@@ -577,8 +602,8 @@ def main():
         return 0
     tally = Tally()
     check_screens(environment, options.show, tally)
-    for check in (check_widths, check_contents, check_saving, check_copies, check_kills, check_faults, check_progress,
-                  check_measures):
+    for check in (check_size, check_widths, check_contents, check_saving, check_copies, check_kills, check_faults,
+                  check_progress, check_measures):
         began = time.monotonic()
         check(environment, tally)
         if options.show:

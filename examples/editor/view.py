@@ -135,9 +135,11 @@ class Pane:
     def rows(self, pattern):
         """The rows of the pane, all places of a pattern in a style, and where the cursor stands among them."""
         first = self.place(self.top)[0]
-        behind, lines, before = min(first + self.height, self.lines() + 1), [[]], f"{first}.0 - 1 chars"
-        tags = set(self.widget.tag_names(before)) & set(self.widget.tag_names(f"{first}.0")) if first > 1 else set()
-        for kind, value, _ in self.dump(first, behind, pattern):
+        dump, lines = self.dump(first, min(first + self.height, self.lines() + 1), pattern), [[]]
+        # The tags that go on from the line above: the dump tells only where one begins and ends.
+        tags = set(self.widget.tag_names(f"{first}.0 - 1 chars")) if first > 1 else set()
+        tags &= set(self.widget.tag_names(f"{first}.0"))
+        for kind, value, _ in dump:
             if kind == "text":
                 style = next((style for style in STYLES if style in tags), None)
                 lines[-1] += [(value.rstrip("\n"), style)] + [(" ", style)] * (value[-1] == "\n" and style == "sel")
