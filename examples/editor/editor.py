@@ -5,11 +5,11 @@ import re
 import sys
 import time
 
-# TclError is Tk's own where that is installed; its libraries would take 3 MB here, and draw nothing.
+# The package's TclError is Tk's own where that is installed; its libraries would take 3 MB here, and draw nothing.
 sys.modules.setdefault("_tkinter", None)
 from files import File, drop  # noqa: E402
 from terminal import Terminal  # noqa: E402
-from tktext import TclError, Text  # noqa: E402
+from tktext import Text  # noqa: E402
 from view import Pane, columns_of, row_of  # noqa: E402
 
 HELP = "^S save ^Q leave ^F find ^N next ^R replace ^G line ^Z undo ^Y redo ^W pane"
@@ -52,7 +52,7 @@ class Editor:
             return
         name = key.replace("shift-", "")
         is_move = name in PLACES or name in STEPS
-        self.message, self.is_kept = "", self.is_kept and is_move
+        self.message = ""
         try:
             if key not in TYPED or characters.strip() and self.widget.get("insert - 1c").isspace():
                 self.widget.edit_separator()
@@ -64,8 +64,9 @@ class Editor:
                 KEYS[key](self)
             if key not in TYPED:
                 self.widget.edit_separator()
-        except (TclError, OSError, MemoryError) as error:
+        except Exception as error:
             self.message = str(error) or "out of memory"
+        self.is_kept = self.is_kept and is_move
 
     # What the screen shows
 
@@ -142,8 +143,9 @@ class Editor:
     def leave(self):
         if self.widget.edit_modified() and self.ask("[s]ave or [d]rop the edits? Esc stays", "sd") == "s":
             self.save()
+        self.widget.edit_modified(False)
         drop(self.file.copy)
-        self.is_left = self.is_kept = True
+        self.is_left = True
 
     def keep(self, is_last=False):
         """Keeps a copy of edits that aren't saved, if it isn't there yet; later, where a key comes meanwhile."""
@@ -182,8 +184,7 @@ class Editor:
         self.widget.mark_set("insert", place)
         self.widget.mark_set(self.pane.anchor, anchor or "insert")
         self.widget.tag_remove("sel", "1.0", "end")
-        # One of the two ranges is empty.
-        self.widget.tag_add("sel", self.pane.anchor, "insert", "insert", self.pane.anchor)
+        self.widget.tag_add("sel", self.pane.anchor, "insert", "insert", self.pane.anchor)  # one of these is empty
 
     def copy(self):
         if ends := self.widget.tag_ranges("sel"):
@@ -199,21 +200,21 @@ class Editor:
         return place
 
     def replace(self):
-        """Replaces a pattern from the cursor on, round the end, one by one or all; tells how far it is."""
-        pattern, answer, count = self.ask("replace: "), "", 0
+        """Replaces a pattern, one by one from the cursor on and round the end, or all; tells how far it is."""
+        pattern, answer = self.ask("replace: ") or self.pattern, ""
         by = self.ask(f"replace {pattern} by: ")
-        places = self.widget.search_all(pattern, "insert", nocase=pattern.islower()) if pattern else ()
-        for number, _ in enumerate(places):
-            if not self.find("insert", pattern):
-                break
-            answer = answer if answer == "a" else self.ask("[y]es, [n]o, [a]ll, Esc ends", "yna")
-            if answer == "n":
-                self.select("sel.last")
-            else:
+        while answer != "a" and self.find("insert", pattern):
+            answer = self.ask("[y]es, [n]o, [a]ll, Esc ends", "yna")
+            if answer == "y":
                 self.put(by)
-                count += 1
+            else:
+                self.select("sel.last")
+        places = self.widget.search_all(pattern, "1.0", "end", nocase=pattern.islower()) if answer == "a" else ()
+        # From the last one on, so that the places before it stay.
+        for number, place in enumerate(reversed(places)):
+            self.widget.replace(place, f"{place} + {len(pattern)} chars", by)
             yield number / len(places)
-        self.message = f"{count} replaced"
+        self.message = f"{len(places)} replaced" if places else self.message
 
     def change_pane(self):
         """Goes to the other pane; one that wasn't shown begins where this one stands."""
