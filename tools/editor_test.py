@@ -4,19 +4,20 @@
     python3 tools/editor_test.py [--module out/python] [--show] [--measure]
 
 MODULE is the folder of the Python package that the editor stands on.  The keys and the screens stand in
-tools/editor.screens; with `--show` each screen is printed as it is.  Screens are those of tmux; where it isn't installed
-a line says that they are skipped, and what needs no screen is tried in a pseudo-terminal alone: faults of the disk, kills
-and signals, and how long 20 MB take.  With `--measure` the figures of docs/use.md are taken, and nothing else is done.
+tools/editor.screens; with `--show` each screen is printed as it is.  Screens are those of tmux: where it isn't there
+a line says that they are skipped, and what needs no screen is tried in a pseudo-terminal alone: faults of the disk,
+kills and signals, and how long 20 MB take.  With `--measure` the figures of docs/use.md are taken, and no more is done.
 Ends in a line `N passed, M failed`; the exit status is 1 if anything failed.
 
-In the file of screens `keys` sends keys by the names that tmux has for them, `paste` what stands behind bars as a paste,
-`resize` gives the terminal a size, `screen` has what is shown then, each line behind a bar, `styles` the parts that are
-shown in a style, `written` the lines of the file on disk, and `changed` has lines written to it by another program.
+In the file of screens `keys` sends keys by tmux's names for them, `paste` what stands behind bars as a paste,
+`resize` gives the terminal a size, `screen` has what is shown then, each line behind a bar, `styles` the parts that
+are shown in a style, `written` the lines of the file on disk, and `changed` has lines written to it by another program.
 """
 
 import argparse
 import contextlib
 import fcntl
+import glob
 import os
 import pty
 import re
@@ -40,14 +41,17 @@ SCREENS = os.path.join(TOP, "tools", "editor.screens")
 NAME = "list.py"
 WIDTH, HEIGHT = 60, 13
 # How long what is waited for may take.
-PATIENCE = 10.0
-# What ends each drawing of a screen.
-DRAWN = b"\x1b[?25h"
+PATIENCE = 30.0
+# How many lines it may have.
+MOST_LINES = 600
+# What it says when it is opened, and what ends each drawing of a screen.
+OPENED, DRAWN = b"^Q leave", b"\x1b[?25h"
 SAVE, LEAVE = b"\x13", b"\x11"
-KILLS = 20
+# The moments of a save at which the editor is killed, by how long a save took: beside other work one may take longer.
+KILLS = [number / 12 for number in range(14)] + [1.5, 2.0, 3.0, 5.0, 8.0, 12.0]
 # The text that is measured, and what it may take: seconds, seconds, seconds, and times its own size.
 BYTES, LINES, PASTED_LINES = 20_000_000, 300_000, 2_000
-MOST = {"open": 2.0, "key": 0.020, "paste": 1.0, "memory": 4.0}
+MOST = {"open": 2.0, "key": 0.020, "key, two panes": 0.020, "paste": 1.0, "memory": 4.0}
 SGR = re.compile(r"\x1b\[([0-9;]*)m|[\x0e\x0f]|([^\x1b\x0e\x0f])", re.DOTALL)
 
 
@@ -143,7 +147,12 @@ class Screen:
                 file.write("\n".join(lines))
 
     def close(self):
+        """Ends the terminal, and waits for the editor, which keeps a copy of its edits then."""
+        editor = self.tmux("display-message", "-p", "#{pane_pid}").strip()
         self.tmux("kill-server")
+        until = time.monotonic() + PATIENCE
+        while os.path.exists(f"/proc/{editor}") and time.monotonic() < until:
+            time.sleep(0.02)
 
 
 def check_part(screen, path, part, name, shows, tally):
@@ -266,7 +275,7 @@ def edited(environment, folder, data=None, name=NAME, **options):
     if data is not None:
         write(path, data)
     editing = Editing(environment, path, **options)
-    editing.wait_for(b"F1 help", DRAWN)
+    editing.wait_for(OPENED, DRAWN)
     try:
         yield editing
     finally:
@@ -275,10 +284,22 @@ def edited(environment, folder, data=None, name=NAME, **options):
                 editing.kill()
 
 
+def started_over(environment, top, contents):
+    """An editor over a file of its own for each of some contents: they start side by side."""
+    started = []
+    for number, data in enumerate(contents):
+        os.mkdir(os.path.join(top, str(number)))
+        path = os.path.join(top, str(number), NAME)
+        write(path, data)
+        started.append(Editing(environment, path))
+    return started
+
+
 CONTENTS = {
     "no byte": b"", "a line": b"one\n", "no last newline": b"one\ntwo", "CRLF": b"one\r\ntwo\r\n",
     "CRLF and no last newline": b"one\r\ntwo", "ends of both kinds": b"one\r\ntwo\nthree\rfour\r\n",
-    "CR alone": b"one\rtwo\r", "Latin-1": b"caf\xe9 \xc3\xa9\xc3\n", "a byte 0": b"one\0two\n", "UTF-16": "é\n".encode("utf-16"),
+    "CR alone": b"one\rtwo\r", "Latin-1": b"caf\xe9 \xc3\xa9\xc3\n", "a byte 0": b"one\0two\n",
+    "UTF-16": "é\n".encode("utf-16"),
     "private characters": "\U0010fe80\U0010fee9\U0010feff\n".encode(), "surrogates": b"\xed\xa0\x80\xed\xb0\x80\n",
     "a byte order mark": b"\xef\xbb\xbfone\n", "all bytes": bytes(range(256)) * 3, "long": b"x" * 300_000 + b"\xff\n",
 }
@@ -286,14 +307,29 @@ CONTENTS = {
 
 def check_contents(environment, tally):
     """What a file has comes back, but for what was typed."""
-    for name, data in CONTENTS.items():
-        with tempfile.TemporaryDirectory() as folder, edited(environment, folder, data) as editing:
+    with tempfile.TemporaryDirectory() as top:
+        started = started_over(environment, top, CONTENTS.values())
+        for (name, data), editing in zip(CONTENTS.items(), started):
+            editing.wait_for(OPENED, DRAWN)
             editing.send(b"#" + SAVE)
             tally.check(editing.wait_for(b"saved " + NAME.encode()), f"{name}: it isn't saved")
             tally.check(read(editing.path) == b"#" + data, f"{name}: it is saved as {read(editing.path)[:80]}")
-            editing.status, _ = editing.end(LEAVE)
-            tally.check(editing.status == 0, f"{name}: the status is {editing.status}")
-            tally.check(os.listdir(folder) == [NAME], f"{name}: left are {os.listdir(folder)}")
+            status, _ = editing.end(LEAVE)
+            tally.check(status == 0, f"{name}: the status is {status}")
+            left = os.listdir(os.path.dirname(editing.path))
+            tally.check(left == [NAME], f"{name}: left are {left}")
+
+
+WIDTHS = {"世": 2, "e": 1, "\u0301": 0, "é": 1, "\u200b": 6, "\x07": 2, "\U0010fee9": 4, "😀": 2}
+
+
+def check_widths(environment, tally):
+    """How wide characters are, by `wcwidth`, where it is installed, and without it."""
+    for without in ("", "sys.modules['wcwidth'] = None; "):
+        words = f"import sys; {without}sys.path.insert(0, sys.argv[1]); from view import cell\n"
+        words += f"print({{character: cell(character, 1)[1] for character in {WIDTHS!a}}})"
+        done = subprocess.run([sys.executable, "-c", words, EDITOR], capture_output=True, text=True, env=environment)
+        tally.check(done.stdout == f"{WIDTHS}\n", f"the widths are {done.stdout or done.stderr}")
 
 
 def check_saving(environment, tally):
@@ -311,14 +347,14 @@ def check_saving(environment, tally):
             editing.send(b"b" + LEAVE)
             tally.check(editing.wait_for(b"[s]ave or [d]rop"), "edits are dropped unasked")
             editing.send(b"\x1b")
-            editing.settle()
+            editing.wait_for(b"given up")
             write(real, b"another\n")
             editing.send(b"c")
             tally.check(editing.wait_for(b"CHANGED ON DISK"), "a file that changed isn't noticed")
             editing.send(SAVE)
             tally.check(editing.wait_for(b"[o]verwrite?"), "a file that changed is overwritten unasked")
             editing.send(b"\x1b")
-            tally.check(editing.wait_for(b"not saved"), "it doesn't say that it isn't saved")
+            tally.check(editing.wait_for(b"NOT saved"), "it doesn't say that it isn't saved")
             tally.check(read(real) == b"another\n", "a file that changed is overwritten after Esc")
             editing.send(SAVE + b"o")
             tally.check(editing.wait_for(b"saved real.py"), "a file that changed isn't overwritten")
@@ -359,28 +395,25 @@ def check_copies(environment, tally):
 def check_kills(environment, tally):
     """Killed at twenty moments of a save: the file is the old one or the new one."""
     old = b"a line of some characters that is to be saved\n" * 50_000
-    with tempfile.TemporaryDirectory() as folder:
-        with edited(environment, folder, old) as editing:
+    found, took = [], 0.0
+    with tempfile.TemporaryDirectory() as top:
+        for number, editing in enumerate(started_over(environment, top, [old] * (1 + len(KILLS)))):
+            editing.wait_for(OPENED, DRAWN)
             editing.send(b"#")
             editing.settle()
             began = time.monotonic()
             editing.send(SAVE)
-            editing.wait_for(b"saved")
-            took = time.monotonic() - began
-        found = []
-        for number in range(KILLS):
-            write(editing.path, old)
-            with contextlib.suppress(FileNotFoundError):
-                os.unlink(os.path.join(folder, f".{NAME}.copy~"))
-            with edited(environment, folder) as editing:
-                editing.send(b"#")
-                editing.settle(0.02)
-                editing.send(SAVE)
-                time.sleep(1.2 * took * number / KILLS)
-                editing.status, _ = editing.kill()
-                found.append({old: "old", b"#" + old: "new"}.get(read(editing.path), "less"))
+            if number == 0:
+                # The first is let go to its end.
+                editing.wait_for(b"saved")
+                took = time.monotonic() - began
+            else:
+                time.sleep(took * KILLS[number - 1])
+            editing.kill()
+            found.append({old: "old", b"#" + old: "new"}.get(read(editing.path), "less"))
         tally.check("less" not in found, f"a save that is killed leaves {found}")
-        tally.check({"old", "new"} <= set(found), f"no moment was within a save: {found}")
+        tally.check({"old", "new"} <= set(found[1:]), f"no moment was within a save: {found}")
+        folder = next(os.path.join(top, str(number)) for number, state in enumerate(found) if state == "old")
         with contextlib.suppress(FileNotFoundError):
             os.unlink(os.path.join(folder, f".{NAME}.copy~"))
         with edited(environment, folder) as editing:
@@ -426,10 +459,14 @@ def check_faults(environment, tally):
         os.mkfifo(os.path.join(folder, "pipe"))
         os.mkdir(os.path.join(folder, "sub"))
         os.symlink("loop", os.path.join(folder, "loop"))
-        for name, said in (("pipe", "is no regular file"), ("sub", "is no regular file"), ("pipe/x", "Not a directory"),
-                           ("loop", "Too many levels")):
-            status, given = Editing(environment, os.path.join(folder, name)).end()
-            tally.check(status == 1 and said in given and "Traceback" not in given, f"{name}: {status}, {given!r}")
+        refused = {"pipe": "no regular file", "sub": "no regular file", "pipe/x": "Not a directory", "loop": "Too many"}
+        for name, editing in {name: Editing(environment, os.path.join(folder, name)) for name in refused}.items():
+            status, given = editing.end()
+            is_told = refused[name] in given and "Traceback" not in given
+            tally.check(status == 1 and is_told, f"{name}: {status}, {given!r}")
+        words = [sys.executable, "-S", "-E", EDITOR, os.path.join(folder, "new")]
+        given = subprocess.run(words, capture_output=True, text=True).stderr
+        tally.check("tktext" in given and "Traceback" not in given, f"without the package: {given!r}")
         with edited(environment, os.path.join(folder, "sub"), b"one\n") as editing:
             shutil.rmtree(os.path.join(folder, "sub"))
             editing.send(b"#" + SAVE + b"o")
@@ -451,10 +488,19 @@ def long_text():
     ).encode("ascii")
 
 
-def seconds_to(editing, keys, *parts):
+def wall(_):
+    return time.monotonic()
+
+
+def processor(pid):
+    """The processor time of a process so far, or of none yet, by its clock's number in Linux."""
+    return 0.0 if pid is None else time.clock_gettime((~pid << 3) | 2)
+
+
+def seconds_to(clock, editing, keys, *parts):
     """How long it takes from keys to a screen that has some parts."""
     editing.settle(0.01)
-    began = time.monotonic()
+    began = clock(editing.pid)
     while keys:
         # A terminal that is full takes no more before something is read.
         _, writable, _ = select.select([], [editing.terminal], [], 0)
@@ -462,7 +508,7 @@ def seconds_to(editing, keys, *parts):
             keys = keys[os.write(editing.terminal, keys[:2048]) :]
         else:
             editing.take(0.01)
-    return time.monotonic() - began if editing.wait_for(*parts, DRAWN) else PATIENCE
+    return clock(editing.pid) - began if editing.wait_for(*parts, DRAWN) else PATIENCE
 
 
 def greatest_memory(pid):
@@ -471,34 +517,52 @@ def greatest_memory(pid):
         return next(int(line.split()[1]) * 1024 for line in file if line.startswith("VmHWM"))
 
 
-def measured(environment):
+def measured(environment, clock):
     """The figures of a text of 20 MB: seconds to open it, of keys, of a paste and of a save, and the memory."""
     with tempfile.TemporaryDirectory() as folder:
         write(os.path.join(folder, NAME), long_text())
         opened = []
         for _ in range(2):
-            began = time.monotonic()
+            began = clock(None)
             with edited(environment, folder) as editing:
-                opened.append(time.monotonic() - began)
+                opened.append(clock(editing.pid) - began)
         with edited(environment, folder) as editing:
-            seconds_to(editing, b"\x07150000\r")
-            keys = [bytes([byte]) for byte in b"def typed(words):\r    return 'a string'  # and more\r"]
-            keys += [b"\x1b[B", b"\x1b[A", b"\x1b[6~", b"\x1b[5~", b"\x1b[C", b"\x7f", b"\x1b[1;2B", b"\x1a", b"\x19"] * 4
-            times = [seconds_to(editing, key) for key in keys]
-            seconds_to(editing, b"\x17")
-            with_two = [seconds_to(editing, key) for key in keys]
+            seconds_to(clock, editing, b"\x07150000\r")
+            keys = [bytes([byte]) for byte in b"def typed(words):\r    'a'  # b"]
+            keys += [b"\x1b[B", b"\x1b[A", b"\x1b[6~", b"\x1b[5~", b"\x1b[C", b"\x7f", b"\x1b[1;2B", b"\x1a", b"\x19"]
+            times = [seconds_to(clock, editing, key) for key in keys]
+            seconds_to(clock, editing, b"\x17")
+            with_two = [seconds_to(clock, editing, key) for key in keys]
             line = b"    pasted = lines.of(some, words)  # and a remark\r"
-            pasted = seconds_to(editing, b"\x1b[200~" + line * PASTED_LINES + b"\x1b[201~", b"of 302")
+            pasted = seconds_to(clock, editing, b"\x1b[200~" + line * PASTED_LINES + b"\x1b[201~", b"of 302")
             editing.settle(1.0)
             memory = greatest_memory(editing.pid)
-            saved = seconds_to(editing, SAVE, b"saved")
+            saved = seconds_to(clock, editing, SAVE, b"saved")
             editing.status, _ = editing.end(LEAVE)
     return {"open": min(opened), "key": statistics.median(times), "key, two panes": statistics.median(with_two),
             "slowest key": max(times + with_two), "paste": pasted, "save": saved, "memory": memory / BYTES}
 
 
+def check_size(_, tally):
+    """It stays small enough to be read."""
+    count = sum(read(path).count(b"\n") for path in glob.glob(os.path.join(EDITOR, "*.py")))
+    tally.check(count <= MOST_LINES, f"the editor has {count} lines")
+
+
+def check_progress(environment, tally):
+    """How far it is, is told while much is loaded and saved."""
+    with tempfile.TemporaryDirectory() as folder:
+        write(os.path.join(folder, NAME), long_text() * 5)
+        editing = Editing(environment, os.path.join(folder, NAME))
+        tally.check(editing.wait_for(b"loading: ", OPENED), "it isn't told how far it is loaded")
+        editing.send(b"#" + SAVE)
+        tally.check(editing.wait_for(b"saving: ", b"saved"), "it isn't told how far it is saved")
+        tally.check(editing.end(LEAVE)[0] == 0, "it doesn't end after a long save")
+
+
 def check_measures(environment, tally):
-    figures = measured(environment)
+    """The goals, by processor time, which other work on the machine changes little."""
+    figures = measured(environment, processor)
     for name, most in MOST.items():
         tally.check(figures[name] <= most, f"20 MB: {name} takes {figures[name]:.3f}, and {most} at most is asked for")
 
@@ -514,12 +578,15 @@ def main():
         print(f"skipped: the editor, since there is no {options.module} (`make python` makes it)\n0 passed, 0 failed")
         return 0
     if options.measure:
-        for name, figure in measured(environment).items():
-            print(f"{name}: {figure:.2f} times the file" if name == "memory" else f"{name}: {figure * 1000:.1f} ms")
+        by_clock, of_processor = measured(environment, wall), measured(environment, processor)
+        print(f"memory: {by_clock.pop('memory'):.2f} times the file")
+        for name, figure in by_clock.items():
+            print(f"{name}: {figure * 1000:.1f} ms by the clock, {of_processor[name] * 1000:.1f} ms of the processor")
         return 0
     tally = Tally()
     check_screens(environment, options.show, tally)
-    for check in (check_contents, check_saving, check_copies, check_kills, check_faults, check_measures):
+    for check in (check_size, check_widths, check_contents, check_saving, check_copies, check_kills, check_faults,
+                  check_progress, check_measures):
         began = time.monotonic()
         check(environment, tally)
         if options.show:

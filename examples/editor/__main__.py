@@ -3,17 +3,14 @@
 import os
 import sys
 
-from editor import Editor, reason
-from files import File
-from terminal import Terminal
-
-status, said = 1, __doc__
 try:
-    if len(sys.argv) == 2 and os.isatty(0) and os.isatty(1):
-        editor = Editor(File(sys.argv[1]))
-        with Terminal() as editor.terminal:
-            status, said = editor.run()
-except OSError as error:
-    said = f"{sys.argv[1]}: {reason(error)}"
-print(said, end="\n" if said else "", file=sys.stderr)
-sys.exit(status)
+    from editor import Editor
+except ImportError as error:
+    sys.exit(f"{error}: `pip install .` installs the package (docs/use.md, The editor)")
+
+if len(sys.argv) != 2 or not os.isatty(0) or not os.isatty(1):
+    sys.exit(__doc__)
+try:
+    Editor(sys.argv[1]).run()
+except Exception as error:
+    sys.exit(f"{sys.argv[1]}: {error}")

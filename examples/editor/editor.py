@@ -5,77 +5,68 @@ import re
 import sys
 import time
 
-# TclError is Tk's own where that is installed; its libraries would take 3 MB here, and draw nothing.
+# The package's TclError is Tk's own where that is installed; its libraries would take 3 MB here, and draw nothing.
 sys.modules.setdefault("_tkinter", None)
-from files import File  # noqa: E402
-from tktext import TclError, Text  # noqa: E402
-from view import Pane, row_of  # noqa: E402
+from files import File, drop  # noqa: E402
+from terminal import Terminal  # noqa: E402
+from tktext import Text  # noqa: E402
+from view import Pane, columns_of, row_of  # noqa: E402
 
-HELP = """^S save   ^O save as another file   ^Q leave
-^Z undo   ^Y redo   ^C copy   ^X cut   ^V paste   ^A select all
-Shift and a move: select   ^Space: so do all moves   Esc: select nothing
-^F find   ^N the next   ^P the one before   ^R replace   ^G go to a line
-^W the other pane   ^T one pane   Any key goes on"""
+HELP = "^S save ^Q leave ^F find ^N next ^R replace ^G line ^Z undo ^Y redo ^W pane"
+# Where moves go to, and those by lines and by pages.
 PLACES = {
-    "home": "insert linestart", "end": "insert lineend", "ctrl-home": "1.0", "ctrl-end": "end - 1 chars",
-    "ctrl-left": "insert - 1 chars wordstart", "ctrl-right": "insert wordend",
+    "left": "insert - 1c", "right": "insert + 1c", "ctrl-left": "insert - 1c wordstart", "ctrl-right": "insert wordend",
+    "home": "insert linestart", "end": "insert lineend", "ctrl-home": "1.0", "ctrl-end": "end - 1c",
 }
-SIGNS = {"left": "-", "right": "+", "up": -1, "pageup": -1, "down": 1, "pagedown": 1}
-# After how long without a key a copy is kept, and how often it is told how far something is.
-IDLE_SECONDS, TOLD_SECONDS = 0.5, 0.1
-
-
-def reason(error):
-    return getattr(error, "strerror", None) or str(error) or "out of memory"
+STEPS = {"up": (-1, 0), "down": (1, 0), "pageup": (0, -1), "pagedown": (0, 1)}
+# What is undone together with what was typed before it.
+TYPED = ("text", "enter", "tab", "backspace", "delete")
 
 
 class Editor:
     """A file in two panes, which are two peers of one text; one of them alone is shown at first."""
 
-    def __init__(self, file):
-        self.file, self.widget = file, Text(name=".a")
-        self.panes, self.is_split = [Pane(self.widget), Pane(self.widget.peer_create(".b"))], False
-        self.pane, self.message = self.panes[0], "^S save  ^Q leave  F1 help"
-        self.pattern, self.found, self.clipboard, self.is_kept, self.is_left = "", "", "", True, False
+    def __init__(self, path):
+        self.file, self.terminal, self.widget = File(path), Terminal(), Text(name=".a")
+        peers = self.widget, self.widget.peer_create(".b")
+        self.panes = [Pane(peer, is_python=self.file.name.endswith(".py")) for peer in peers]
+        self.pane, self.is_split, self.is_marking, self.is_kept, self.is_left = self.panes[0], False, False, True, False
+        self.message, self.pattern, self.clipboard = "", "", ""
 
     def run(self):
-        """Edits until the user leaves, or has to; gives the exit status, and what is to be said."""
-        status, said = 0, ""
+        """Edits until the user leaves; where it has to end before that, a copy is kept of edits that aren't saved."""
         try:
-            self.open()
-            while not self.is_left:
-                self.draw()
-                self.try_key(*self.terminal.key(IDLE_SECONDS))
-        except SystemExit as ended:
-            status = ended.code
-        except Exception as error:
-            status, said = 1, f"{self.file.path}: {reason(error)}\n"
-        try:
+            with self.terminal:
+                self.open()
+                while not self.is_left:
+                    self.draw()
+                    self.do(*self.terminal.key(self.keep))
+        finally:
             self.keep(is_last=True)
-        except OSError as error:
-            said += f"no copy is kept: {reason(error)}\n"
-        return status, said + f"unsaved edits are in {self.file.copy}" * os.path.exists(self.file.copy)
-
-    def try_key(self, key, characters):
-        try:
-            self.do(key, characters)
-        except (TclError, OSError, MemoryError) as error:
-            self.message = reason(error)
+            if os.path.exists(self.file.copy):
+                print(f"unsaved edits are in {self.file.copy}", file=sys.stderr)
 
     def do(self, key, characters):
-        """Does what a key says; where none came a copy is kept."""
+        """Does what a key says.  What is undone at once is parted by `autoseparators` of the core, and at each word."""
+        if not key:
+            return
         name = key.replace("shift-", "")
-        is_move = name in PLACES or name in SIGNS
-        if key in ("", "resize"):
-            return key or self.keep()
-        self.message, self.is_kept = "", self.is_kept and is_move
-        if name not in ("up", "down", "pageup", "pagedown"):
-            self.pane.goal = None
-        if is_move:
-            return self.move(name, name != key or self.pane.is_marking)
-        if key in ("text", "paste"):
-            return self.put(re.sub("\r\n?", "\n", characters), is_apart=key == "paste")
-        return KEYS.get(key, lambda editor: None)(self)
+        is_move = name in PLACES or name in STEPS
+        self.message = ""
+        try:
+            if key not in TYPED or characters.strip() and self.widget.get("insert - 1c").isspace():
+                self.widget.edit_separator()
+            if is_move:
+                self.move(name, selects=name != key or self.is_marking)
+            elif characters:
+                self.put(characters)
+            elif key in KEYS:
+                KEYS[key](self)
+            if key not in TYPED:
+                self.widget.edit_separator()
+        except Exception as error:
+            self.message = str(error) or "out of memory"
+        self.is_kept = self.is_kept and is_move
 
     # What the screen shows
 
@@ -87,248 +78,168 @@ class Editor:
         panes = self.panes if self.is_split and height > 6 else [self.pane]
         for number, pane in enumerate(panes, 1):
             pane.height, pane.width = max(1, (height - 1) * number // len(panes) - len(rows) - 1), width
-            if pane is self.pane:
-                pane.see_cursor()
-            lines, (row, column) = pane.rows(self.found)
+            lines, (row, column) = pane.rows(self.pattern)
             cursor = (len(rows) + row, column) if pane is self.pane else cursor
             rows += [*lines, self.state(pane)]
-        left = max(0, len(self.message) + 1 - width) if is_asking else 0
-        rows = [*rows[: max(1, height - 1)], row_of([(self.message, None)], left, width)][:height]
-        self.terminal.show(rows, (height - 1, len(self.message) - left) if is_asking else cursor)
+        end = columns_of(self.message)[-1]
+        left = max(0, end + 1 - width) if is_asking else 0
+        rows = [*rows[: height - 1], row_of([(self.message, None)], left, width)]
+        self.terminal.show(rows, (height - 1, end - left) if is_asking else cursor)
 
     def state(self, pane):
         """The row below a pane."""
-        (line, column), is_modified = pane.place(), self.widget.edit_modified()
-        told = f" {self.file.name}  line {line} of {pane.lines()}, column {column + 1}"
-        told += "  modified" * is_modified + "  CHANGED ON DISK" * self.file.is_changed()
-        told = told if len(told) <= pane.width else f"{line}:{column + 1}{'*' * is_modified}"
+        (line, column), lines = pane.place(), pane.place("end - 1c")[0]
+        modified = "  modified" * (self.widget.cget("undo") and self.widget.edit_modified())
+        told = f" {self.file.name}  line {line} of {lines}, column {column + 1}{modified}"
+        told += "  CHANGED ON DISK" * self.file.is_changed()
+        told = told if len(told) <= pane.width else f"{line}:{column + 1}{'*' * bool(modified)}"
         return row_of([(told.ljust(pane.width), "active" if pane is self.pane else "other")], 0, pane.width)
 
     def tell(self, what, steps):
         """Goes through the steps of a long piece of work, and tells now and then how far it is."""
-        told_at, was = time.monotonic(), self.message
+        told_at = time.monotonic()
         for done in steps:
-            if time.monotonic() > told_at + TOLD_SECONDS:
+            if time.monotonic() > told_at + 0.1:
                 told_at, self.message = time.monotonic(), f"{what}: {done:.0%}"
                 self.draw()
-        self.message = was
 
-    def ask(self, label, typed="", letters="", is_pattern=False):
-        """What is typed in the last row, or one of some letters; None, where that is given up by Esc."""
-        key = ""
-        while key != "escape":
-            self.message, self.found = label + typed, typed if is_pattern else self.found
-            self.draw(is_asking=not letters)
-            key, characters = self.terminal.key()
-            if key == "enter" and not letters or characters and characters in letters:
-                self.message = ""
-                return characters or typed
-            if not letters:
-                typed = typed[:-1] if key == "backspace" else typed + re.split("[\r\n]", characters)[0]
+    def ask(self, label, letters=""):
+        """What is typed in the last row, or one of some letters.  Esc ends all that asked."""
+        key, typed = "", ""
+        while typed not in list(letters) if letters else key != "enter":
+            self.message = label + typed
+            self.draw(is_asking=True)
+            key, characters = self.terminal.key(self.keep)
+            typed = typed[:-1] if key == "backspace" else typed * (not letters) + characters.partition("\n")[0]
+            if key == "escape":
+                raise OSError("given up")
         self.message = ""
-        return None
-
-    def help(self):
-        width, height = os.get_terminal_size()
-        rows = [row_of([(row, None)], 0, width) for row in HELP.split("\n")] + [""] * height
-        self.terminal.show(rows[:height], (0, 0))
-        self.terminal.key()
+        return typed
 
     # The file
 
     def open(self):
         """Loads the file, or the copy that an editor which was killed has left."""
-        answer, hint = "d", self.message
-        if self.file.has_copy():
-            answer = self.ask("[r]ecover or [d]rop the unsaved edits that were kept?", letters="rd")
-        self.message, self.is_left = hint, not answer
-        if answer:
-            self.tell("loading", self.file.load(self.widget, is_copy=answer == "r"))
-            self.widget.configure(undo=True)
-            self.widget.edit_modified(answer == "r")
-            self.is_kept = answer == "r" or not self.file.drop_copy()
-            for pane in self.panes:
-                pane.is_python = self.file.name.endswith(".py")
-                pane.go("1.0")
+        is_copy = os.path.exists(self.file.copy) and self.ask("[r]ecover or [d]rop unsaved edits?", "rd") == "r"
+        self.tell("loading", self.file.load(self.widget, is_copy))
+        self.widget.configure(undo=True)
+        self.widget.edit_modified(is_copy)
+        if not is_copy:
+            drop(self.file.copy)
+        self.select("1.0")
+        self.message = HELP if self.file.stamp else "a new file"
 
     def save(self):
-        """Saves; tells whether that is done."""
-        if self.file.is_changed() and not self.ask("[o]verwrite? On the disk is something else", letters="o"):
-            self.message = "not saved"
-            return False
+        """Saves, or raises why it doesn't."""
         try:
+            if self.file.is_changed():
+                self.ask("[o]verwrite? On the disk is something else", "o")
             self.tell("saving", self.file.save(self.widget))
         except OSError as error:
-            self.message = f"NOT saved: {reason(error)}"
-            return False
+            raise OSError(f"NOT saved: {error}") from error
         self.widget.edit_modified(False)
-        self.message, self.is_kept = f"saved {self.file.name}", True
-        return True
-
-    def save_as(self):
-        was, path = self.file, self.ask("save as: ", self.file.path)
-        if path and os.path.realpath(path) != was.path:
-            self.file = File(path)
-            self.file.has_crlf = was.has_crlf
-        if not path or not self.save():
-            self.file = was
-        elif self.file is not was:
-            was.drop_copy()
+        self.message = f"saved {self.file.name}"
 
     def leave(self):
-        is_modified = self.widget.edit_modified()
-        answer = self.ask("[s]ave or [d]rop the edits? Esc stays", letters="sd") if is_modified else "d"
-        self.is_left = answer == "d" or answer == "s" and self.save()
-        if self.is_left:
-            self.file.drop_copy()
-        self.is_kept = self.is_left
+        if self.widget.edit_modified() and self.ask("[s]ave or [d]rop the edits? Esc stays", "sd") == "s":
+            self.save()
+        self.widget.edit_modified(False)
+        drop(self.file.copy)
+        self.is_left = True
 
     def keep(self, is_last=False):
         """Keeps a copy of edits that aren't saved, if it isn't there yet; later, where a key comes meanwhile."""
-        was_kept, self.is_kept = self.is_kept, True
-        if was_kept:
+        if self.is_kept or not self.widget.edit_modified():
             return
-        if not self.widget.edit_modified():
-            self.file.drop_copy()
-            return
-        for _ in self.file.write(self.widget, self.file.copy):
-            if not is_last and self.terminal.wait(0):
-                self.is_kept = False
-                return
+        try:
+            for _ in self.file.write(self.widget, self.file.copy):
+                if not is_last and self.terminal.wait(0):
+                    return
+        except OSError as error:
+            self.message = f"no copy is kept: {error}"
+        self.is_kept = True
 
-    # Edits
+    # The text, and what is selected
 
-    def put(self, characters, is_apart=False):
-        """Puts characters in the place of what is selected, or at the cursor.  Each word is undone by itself."""
-        if is_apart or not characters.isspace() and self.widget.get("insert - 1 chars").isspace():
-            self.widget.edit_separator()
-        if ends := self.widget.tag_ranges("sel"):
+    def put(self, characters, *ends):
+        """Puts characters in the place of what is selected, or else of a range, or at the cursor."""
+        ends = self.widget.tag_ranges("sel") or ends
+        place = self.widget.index(ends[0] if ends else "insert")
+        if ends:
             self.widget.replace(*ends, characters)
-            self.pane.go(f"{ends[0]} + {len(characters)} chars")
         else:
-            self.widget.insert("insert", characters)
-        if is_apart:
-            self.widget.edit_separator()
-        self.select_none()
-
-    def enter(self):
-        """Begins a line as far in as the one before."""
-        self.put("\n" + re.match(r"[ \t]*", self.widget.get("insert linestart", "insert"))[0])
-
-    def take(self, first="insert", last="insert"):
-        """Takes out what is selected, or else a range."""
-        self.widget.delete(*(self.widget.tag_ranges("sel") or (first, last)))
-        self.select_none()
-
-    # What is selected, and what is searched
+            self.widget.insert(place, characters)
+        self.is_kept = False
+        self.select(f"{place} + {len(characters)} chars")
 
     def move(self, name, selects):
-        self.widget.edit_separator()
-        if selects and not self.widget.tag_ranges("sel"):
-            self.widget.mark_set(self.pane.anchor, "insert")
-        if name in PLACES:
-            self.pane.go(PLACES[name])
-        elif name in ("left", "right"):
-            self.pane.move_character(SIGNS[name])
-        else:
-            self.pane.move_lines(SIGNS[name] * (max(1, self.pane.height - 1) if name.startswith("page") else 1))
-        self.select_none(is_marking=selects and self.pane.is_marking)
-        if selects:
-            # One of the two ranges is empty.
-            self.widget.tag_add("sel", self.pane.anchor, "insert", "insert", self.pane.anchor)
+        """Moves the cursor, and selects what is between it and where that began, or nothing."""
+        began = self.pane.anchor if self.widget.tag_ranges("sel") else self.widget.index("insert")
+        place = PLACES.get(name) or self.pane.step(*STEPS[name])
+        self.select(place, began if selects else None, self.is_marking)
 
-    def select(self, first, last):
-        """Selects a range, with the cursor before it."""
-        self.select_none()
-        self.pane.go(first)
-        self.widget.mark_set(self.pane.anchor, last)
-        self.widget.tag_add("sel", first, last)
-
-    def select_none(self, is_marking=False):
-        self.found, self.pane.is_marking = "", is_marking
+    def select(self, place, anchor=None, is_marking=False):
+        """Goes to a place, and selects what is between it and another, or nothing."""
+        self.is_marking = is_marking
+        self.widget.mark_set("insert", place)
+        self.widget.mark_set(self.pane.anchor, anchor or "insert")
         self.widget.tag_remove("sel", "1.0", "end")
+        self.widget.tag_add("sel", self.pane.anchor, "insert", "insert", self.pane.anchor)  # one of these is empty
 
-    def copy(self, is_cut=False):
+    def copy(self):
         if ends := self.widget.tag_ranges("sel"):
             self.clipboard = self.widget.get(*ends)
-        self.message = f"copied {len(self.clipboard)} characters" if ends else "nothing is selected"
-        if is_cut and ends:
-            self.widget.edit_separator()
-            self.take()
 
-    def find(self, pattern="", start="insert + 1 chars", **options):
-        """Selects the next place of a pattern, or of the last one, round the end."""
-        if pattern is None:
-            return
+    def find(self, start="insert + 1c", pattern=""):
+        """Selects the next place of a pattern, or of the last one, round the end; capitals count where it has some."""
         self.pattern = pattern or self.pattern
-        place = self.pattern and self.pane.search(self.widget.search, self.pattern, start, **options)
+        place = self.pattern and self.widget.search(self.pattern, start, nocase=self.pattern.islower())
         if place:
             self.select(place, f"{place} + {len(self.pattern)} chars")
-        self.found, self.message = self.pattern, "" if place else f"'{self.pattern}' isn't there"
+        self.message = "" if place else f"'{self.pattern}' isn't there"
+        return place
 
     def replace(self):
-        """Replaces a pattern from the cursor on and then before it, one by one or all; all is undone at once."""
-        pattern = self.ask("replace: ", is_pattern=True)
-        by = self.ask(f"replace {pattern} by: ") if pattern else None
-        if by is not None:
-            self.pattern, self.count = pattern, 0
-            self.widget.edit_separator()
-            self.tell("replacing", self.replaced(pattern, by))
-            self.widget.edit_separator()
-            self.message = f"{self.count} replaced"
-
-    def replaced(self, pattern, by):
-        """Replaces, and tells how far it is."""
-        self.widget.mark_set("begin", "insert")
-        self.widget.mark_gravity("begin", "left")
-        answer = ""
-        for stop in ("end", "begin"):
-            while place := self.pane.search(self.widget.search, pattern, "insert", stop, strictlimits=True):
-                behind = f"{place} + {len(pattern)} chars"
-                if answer != "a":
-                    self.select(place, behind)
-                    self.found = pattern
-                    answer = self.ask("[y]es, [n]o, [a]ll, Esc ends", letters="yna")
-                    self.select_none()
-                if not answer:
-                    return
-                if answer != "n":
-                    self.widget.replace(place, behind, by)
-                    self.count += 1
-                self.pane.go(behind if answer == "n" else f"{place} + {len(by)} chars")
-                yield self.pane.place()[0] / self.pane.lines()
-            self.pane.go("1.0" if stop == "end" else "begin")
-
-    def go_to_line(self):
-        self.widget.edit_separator()
-        if (wanted := self.ask("line: ") or "").isdecimal():
-            self.select_none()
-            self.pane.go(f"{max(int(wanted), 1)}.0")
-
-    # Panes
+        """Replaces a pattern, one by one from the cursor on and round the end, or all; tells how far it is."""
+        pattern, answer = self.ask("replace: ") or self.pattern, ""
+        by = self.ask(f"replace {pattern} by: ")
+        while answer != "a" and self.find("insert", pattern):
+            answer = self.ask("[y]es, [n]o, [a]ll, Esc ends", "yna")
+            if answer == "y":
+                self.put(by)
+            else:
+                self.select("sel.last")
+        places = self.widget.search_all(pattern, "1.0", "end", nocase=pattern.islower()) if answer == "a" else ()
+        # From the last one on, so that the places before it stay.
+        for number, place in enumerate(reversed(places)):
+            self.widget.replace(place, f"{place} + {len(pattern)} chars", by)
+            yield number / len(places)
+        self.message = f"{len(places)} replaced" if places else self.message
 
     def change_pane(self):
         """Goes to the other pane; one that wasn't shown begins where this one stands."""
-        self.widget.edit_separator()
         was, self.pane = self.pane, self.panes[self.pane is self.panes[0]]
         self.widget = self.pane.widget
         if not self.is_split:
             self.is_split = True
-            self.pane.go(was.widget.index("insert"))
+            self.select(was.widget.index("insert"))
             self.widget.mark_set(self.pane.top, was.top)
 
 
 KEYS = {
-    "ctrl-s": Editor.save, "ctrl-o": Editor.save_as, "ctrl-q": Editor.leave, "f1": Editor.help, "enter": Editor.enter,
-    "tab": lambda editor: editor.put("\t"), "backspace": lambda editor: editor.take("insert - 1 chars"),
-    "delete": lambda editor: editor.take("insert", "insert + 1 chars"), "escape": Editor.select_none,
-    "ctrl-c": Editor.copy, "ctrl-x": lambda editor: editor.copy(is_cut=True),
-    "ctrl-v": lambda editor: editor.clipboard and editor.put(editor.clipboard, is_apart=True),
+    "f1": lambda editor: setattr(editor, "message", HELP), "ctrl-s": Editor.save, "ctrl-q": Editor.leave,
+    "enter": lambda editor: editor.put("\n" + re.match("[ \t]*", editor.widget.get("insert linestart", "insert"))[0]),
+    "tab": lambda editor: editor.put(" " * (4 - editor.pane.column() % 4) if editor.pane.is_python else "\t"),
+    "backspace": lambda editor: editor.put("", "insert - 1c", "insert"),
+    "delete": lambda editor: editor.put("", "insert", "insert + 1c"),
     "ctrl-z": lambda editor: editor.widget.edit_undo(), "ctrl-y": lambda editor: editor.widget.edit_redo(),
-    "ctrl-a": lambda editor: editor.select("1.0", "end - 1 chars"),
-    "ctrl-space": lambda editor: editor.select_none(is_marking=True), "ctrl-g": Editor.go_to_line,
-    "ctrl-f": lambda editor: editor.find(editor.ask("find: ", is_pattern=True)), "ctrl-r": Editor.replace,
-    "ctrl-n": Editor.find, "f3": Editor.find,
-    "ctrl-p": lambda editor: editor.find("", "insert", backwards=True), "ctrl-w": Editor.change_pane,
+    "ctrl-c": Editor.copy, "ctrl-x": lambda editor: editor.copy() or editor.put(""),
+    "ctrl-v": lambda editor: editor.clipboard and editor.put(editor.clipboard), "ctrl-w": Editor.change_pane,
+    "ctrl-a": lambda editor: editor.select("1.0", "end - 1c"),
+    "ctrl-space": lambda editor: editor.select("insert", is_marking=True),
+    "escape": lambda editor: (editor.select("insert"), setattr(editor, "pattern", "")),
+    "ctrl-f": lambda editor: editor.find("insert", editor.ask("find: ")), "ctrl-n": Editor.find,
+    "ctrl-r": lambda editor: editor.tell("replacing", editor.replace()),
+    "ctrl-g": lambda editor: editor.select(f"{editor.ask('line: ')}.0"),
     "ctrl-t": lambda editor: setattr(editor, "is_split", False),
 }
