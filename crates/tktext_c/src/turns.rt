@@ -60,11 +60,9 @@ impl Session {
     {
         let reply = self.world.call(&words);
         let given = given_by(&reply);
+        keep_room(&mut self.words, &mut self.spare);
+        self.words = words;
         self.said = Said::Reply(reply);
-        let before = mem::replace(&mut self.words, words);
-        if are_few(&before) {
-            self.spare = before;
-        }
         given
     }
 
@@ -190,7 +188,10 @@ fn given_by(reply: &Result<Answer, Fault>) -> Given
     }
 }
 
-/// Whether so few words of so few bytes may wait for the next command that no world holds more than it needs.
-fn are_few(words: &[String]) -> bool {
-    words.len() <= FEW_WORDS && words.iter().all(|word| word.capacity() <= FEW_BYTES)
+/// Makes words that were said spare ones, where they are so few, and of so few bytes, that no world holds more than it
+/// needs. What stands in their place is to be replaced.
+fn keep_room(words: &mut Vec<String>, spare: &mut Vec<String>) {
+    if words.len() <= FEW_WORDS && words.iter().all(|word| word.capacity() <= FEW_BYTES) {
+        mem::swap(words, spare);
+    }
 }
