@@ -217,6 +217,7 @@ def check_lines(tally):
     patterns = {
         "crates/*/src/**/*.rt": MOST_CHARACTERS, "crates/*/specs/**/*.antt": MOST_CHARACTERS,
         "crates/*/proofs/**/*.antt": MOST_IN_PROOFS, "docs/*.*": MOST_CHARACTERS, "README.md": MOST_CHARACTERS,
+        "tools/README.md": MOST_CHARACTERS, "crates/*/README.md": MOST_CHARACTERS,
     }
     for pattern, most in patterns.items():
         for path in glob.glob(os.path.join(TOP, pattern), recursive=True):
