@@ -1,5 +1,6 @@
 """What the tools share: running the program, its answers, the memory that it takes, and counting what passed."""
 
+import argparse
 import fcntl
 import subprocess
 import sys
@@ -123,3 +124,13 @@ def ask_program(program, commands):
         if not found:
             break
     return answers
+
+
+def run_checks(description, check, **defaults):
+    """The `main` of a tool of checks: an option for each default, which `check` gets in their order, and then the tally."""
+    parser = argparse.ArgumentParser(description=description)
+    for name, default in defaults.items():
+        parser.add_argument(f"--{name}", type=type(default), default=default)
+    tally = Tally()
+    check(*vars(parser.parse_args()).values(), tally)
+    return tally.close()

@@ -8,13 +8,12 @@ or have one each, in so many rounds.  Where Python has tkinter, random values be
 which needs no display.  Ends in a line `N passed, M failed`; the exit status is 1 if anything failed.
 """
 
-import argparse
 import os
 import shutil
 import subprocess
 import sys
 
-from harness import LONG_TIMEOUT_SECONDS, Tally
+from harness import LONG_TIMEOUT_SECONDS, run_checks
 
 TOP = os.path.dirname(os.path.dirname(os.path.abspath(__file__)))
 MODULE = os.path.join(TOP, "out", "python")
@@ -502,15 +501,5 @@ def check(module, rounds, tally):
     check_types(module, tally)
 
 
-def main():
-    parser = argparse.ArgumentParser(description="what a caller may do to the Python package")
-    parser.add_argument("--module", default=MODULE)
-    parser.add_argument("--rounds", type=int, default=ROUNDS)
-    options = parser.parse_args()
-    tally = Tally()
-    check(options.module, options.rounds, tally)
-    return tally.close()
-
-
 if __name__ == "__main__":
-    sys.exit(main())
+    sys.exit(run_checks("what a caller may do to the Python package", check, module=MODULE, rounds=ROUNDS))

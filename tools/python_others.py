@@ -8,14 +8,13 @@ is tkinter's, under a virtual display.  What is left out is told with the reason
 is said and counted as skipped.  Ends in a line `N passed, M failed`; the exit status is 1 if anything failed.
 """
 
-import argparse
 import json
 import os
 import shutil
 import subprocess
 import sys
 
-from harness import LONG_TIMEOUT_SECONDS, Tally
+from harness import LONG_TIMEOUT_SECONDS, run_checks
 
 TOP = os.path.dirname(os.path.dirname(os.path.abspath(__file__)))
 MODULE = os.path.join(TOP, "out", "python")
@@ -107,15 +106,5 @@ def check(module, python, tally):
         print(f"{name} isn't run: it {reason}")
 
 
-def main():
-    parser = argparse.ArgumentParser(description="runs others' tests with our Text")
-    parser.add_argument("--module", default=MODULE)
-    parser.add_argument("--python", default=PYTHON)
-    options = parser.parse_args()
-    tally = Tally()
-    check(options.module, options.python, tally)
-    return tally.close()
-
-
 if __name__ == "__main__":
-    sys.exit(main())
+    sys.exit(run_checks("runs others' tests with our Text", check, module=MODULE, python=PYTHON))

@@ -9,14 +9,13 @@ object of Tcl's is compared by its text, and of an error its class.  Ends in a l
 status is 1 if anything failed.
 """
 
-import argparse
 import json
 import os
 import shutil
 import subprocess
 import sys
 
-from harness import LONG_TIMEOUT_SECONDS, Tally
+from harness import LONG_TIMEOUT_SECONDS, run_checks
 
 TOP = os.path.dirname(os.path.dirname(os.path.abspath(__file__)))
 MODULE = os.path.join(TOP, "out", "python")
@@ -389,15 +388,5 @@ def check(module, python, tally):
         tally.check(our == OTHERWISE.get(probe, their), f"{probe}: {our}, tkinter gives {their}")
 
 
-def main():
-    parser = argparse.ArgumentParser(description="compares our Text with tkinter's")
-    parser.add_argument("--module", default=MODULE)
-    parser.add_argument("--python", default=PYTHON)
-    options = parser.parse_args()
-    tally = Tally()
-    check(options.module, options.python, tally)
-    return tally.close()
-
-
 if __name__ == "__main__":
-    sys.exit(main())
+    sys.exit(run_checks("compares our Text with tkinter's", check, module=MODULE, python=PYTHON))
