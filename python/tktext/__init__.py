@@ -20,6 +20,8 @@ share a world and its widgets: one call is carried out at a time, with Python's 
 
 from __future__ import annotations
 
+from types import MethodType
+
 try:
     from . import _core
 except ImportError as error:
@@ -31,7 +33,7 @@ from ._errors import TclError, error_of_fault
 from ._events import Event
 from ._values import list_text, word
 
-_core.use(word, error_of_fault)
+_core.use(word, error_of_fault, MethodType)
 
 from ._text import Text  # noqa: E402  (behind what `_core` uses)
 from ._world import World  # noqa: E402

@@ -6,15 +6,31 @@
 #define PY_SSIZE_T_CLEAN
 #define Py_LIMITED_API 0x03090000
 #include <Python.h>
+#include <stddef.h>
 #include <string.h>
+#include <structmember.h>
 #include "tktext.h"
+
+/* These stand in the stable ABI from 3.10 on, and from 3.12 on; each Python since 3.9 has them as they are there. */
+PyAPI_FUNC(const char *) PyUnicode_AsUTF8AndSize(PyObject *text, Py_ssize_t *length);
+#ifndef METH_FASTCALL
+#define METH_FASTCALL 0x0080
+#endif
+enum { HAS_VECTORCALL = 1 << 11 };
+static const size_t COUNT_BITS = SIZE_MAX >> 1;
+typedef PyObject *(*Vectorcall)(PyObject *called, PyObject *const *given, size_t count, PyObject *names);
 
 /* So many words, and bytes of words or of what is said, have their room on the stack. */
 enum { FEW_WORDS = 16, FEW_BYTES = 512 };
 
+/* A text of more characters is asked for bytes of its own: what it lends, if it isn't ASCII, it keeps itself. */
+enum { MOST_LENT = 256 };
+
 /* What the Python side gave to make a word of a value that isn't a `str`, and an error of what was said. */
 static PyObject *word_of_value, *error_of_fault;
-static PyTypeObject *world_type;
+/* The type of a method that is bound to its object. */
+static PyObject *method_type;
+static PyTypeObject *world_type, *widget_type;
 
 typedef struct {
     PyObject_HEAD
@@ -31,10 +47,19 @@ typedef struct {
 
 /* ---- words, and what is said */
 
+/* A word, in UTF-8: bytes that a value of Python's lends while it is kept. */
+struct word {
+    PyObject *keeper;
+    const char *start;
+    size_t length;
+};
+
+/* Words, and how many bytes they have together. */
 struct words {
     Py_ssize_t count;
-    PyObject **at;
-    PyObject *few[FEW_WORDS];
+    size_t size;
+    struct word *at;
+    struct word few[FEW_WORDS];
 };
 
 struct said {
@@ -46,6 +71,7 @@ struct said {
 static int words_begin(struct words *words, Py_ssize_t room)
 {
     words->count = 0;
+    words->size = 0;
     words->at = words->few;
     if (room > FEW_WORDS) {
         words->at = (size_t)room > PY_SSIZE_T_MAX / sizeof *words->at ? NULL : PyMem_Malloc(room * sizeof *words->at);
@@ -57,32 +83,52 @@ static int words_begin(struct words *words, Py_ssize_t room)
     return 0;
 }
 
-/* Takes over a word, which may be NULL after an error. */
-static int words_add(struct words *words, PyObject *word)
+/* Takes over what lends the bytes of a word; `start` is NULL after an error. */
+static int words_add(struct words *words, PyObject *keeper, const char *start, Py_ssize_t length)
 {
-    if (word == NULL)
+    if (start != NULL && (size_t)length > PY_SSIZE_T_MAX - words->size) {
+        PyErr_NoMemory();
+        start = NULL;
+    }
+    if (start == NULL) {
+        Py_XDECREF(keeper);
         return -1;
-    words->at[words->count++] = word;
+    }
+    words->at[words->count++] = (struct word){keeper, start, length};
+    words->size += length;
     return 0;
+}
+
+/* The same of `bytes`, which may be NULL after an error. */
+static int words_add_bytes(struct words *words, PyObject *bytes)
+{
+    const char *start = bytes == NULL ? NULL : PyBytes_AsString(bytes);
+    return words_add(words, bytes, start, start == NULL ? 0 : PyBytes_Size(bytes));
 }
 
 static void words_end(struct words *words)
 {
     for (Py_ssize_t at = 0; at < words->count; at++)
-        Py_DECREF(words->at[at]);
+        Py_DECREF(words->at[at].keeper);
     if (words->at != words->few)
         PyMem_Free(words->at);
 }
 
-/* A value as the bytes of a word, as tkinter makes it. */
-static PyObject *bytes_of_value(PyObject *value)
+/* Adds the word that tkinter makes of a value. */
+static int words_add_value(struct words *words, PyObject *value)
 {
-    if (PyUnicode_CheckExact(value))
-        return PyUnicode_AsUTF8String(value);
-    PyObject *text = PyObject_CallFunctionObjArgs(word_of_value, value, NULL);
-    PyObject *bytes = text == NULL ? NULL : PyUnicode_AsUTF8String(text);
-    Py_XDECREF(text);
-    return bytes;
+    if (!PyUnicode_CheckExact(value)) {
+        PyObject *text = PyObject_CallFunctionObjArgs(word_of_value, value, NULL);
+        PyObject *bytes = text == NULL ? NULL : PyUnicode_AsUTF8String(text);
+        Py_XDECREF(text);
+        return words_add_bytes(words, bytes);
+    }
+    if (PyUnicode_GetLength(value) > MOST_LENT)
+        return words_add_bytes(words, PyUnicode_AsUTF8String(value));
+    Py_ssize_t length = 0;
+    const char *start = PyUnicode_AsUTF8AndSize(value, &length);
+    Py_INCREF(value);
+    return words_add(words, value, start, length);
 }
 
 /* A word of a command of a world as its bytes: `bytes` are UTF-8, of which a copy is made of a subclass's own. */
@@ -142,47 +188,33 @@ static PyObject *raise_misuse(int32_t code)
     return NULL;
 }
 
-/* Puts the words one behind the other; -1 and an error where there is no memory for it. */
-static int32_t call_joined(World *world, const struct words *words, size_t size)
+/* Carries out a command, and gives its code, or -1 and an error where there is no memory for its words in a row. */
+static int32_t call_words(World *world, const struct words *words)
 {
     size_t few_lengths[FEW_WORDS], *lengths = few_lengths;
     uint8_t few_bytes[FEW_BYTES], *bytes = few_bytes;
     int32_t code = -1;
     if (words->count > FEW_WORDS)
         lengths = PyMem_Malloc(words->count * sizeof *lengths);
-    if (size > sizeof few_bytes)
-        bytes = PyMem_Malloc(size);
+    if (words->size > sizeof few_bytes)
+        bytes = PyMem_Malloc(words->size);
     if (lengths == NULL || bytes == NULL) {
         PyErr_NoMemory();
     } else {
-        size_t filled = 0;
+        uint8_t *filled = bytes;
         for (Py_ssize_t at = 0; at < words->count; at++) {
-            lengths[at] = PyBytes_Size(words->at[at]);
-            memcpy(bytes + filled, PyBytes_AsString(words->at[at]), lengths[at]);
-            filled += lengths[at];
+            const struct word *word = &words->at[at];
+            memcpy(filled, word->start, word->length);
+            lengths[at] = word->length;
+            filled += word->length;
         }
-        code = tktext_call(&world->handle, bytes, size, lengths, words->count);
+        code = tktext_call(&world->handle, bytes, words->size, lengths, words->count);
     }
     if (lengths != few_lengths)
         PyMem_Free(lengths);
     if (bytes != few_bytes)
         PyMem_Free(bytes);
     return code;
-}
-
-/* Carries out a command, and gives its code, or -1 and an error. */
-static int32_t call_words(World *world, const struct words *words)
-{
-    size_t size = 0;
-    for (Py_ssize_t at = 0; at < words->count; at++) {
-        size_t length = PyBytes_Size(words->at[at]);
-        if (length > PY_SSIZE_T_MAX - size) {
-            PyErr_NoMemory();
-            return -1;
-        }
-        size += length;
-    }
-    return call_joined(world, words, size);
 }
 
 /* ---- lists */
@@ -329,8 +361,11 @@ static PyObject *raise_fault(const struct words *words, const struct said *said)
 {
     PyObject *list = PyList_New(words->count);
     for (Py_ssize_t at = 0; list != NULL && at < words->count; at++) {
-        Py_INCREF(words->at[at]);
-        PyList_SetItem(list, at, words->at[at]);
+        PyObject *word = PyBytes_FromStringAndSize(words->at[at].start, words->at[at].length);
+        if (word == NULL)
+            Py_CLEAR(list);
+        else
+            PyList_SetItem(list, at, word);
     }
     const char *start = (const char *)said->bytes + TKTEXT_BEFORE_FAULT;
     size_t length = said->length - TKTEXT_BEFORE_FAULT - TKTEXT_BEHIND;
@@ -415,7 +450,7 @@ static int words_of(struct words *words, PyObject *given)
         return -1;
     for (Py_ssize_t at = 0; at < count; at++) {
         PyObject *word = PySequence_GetItem(given, at);
-        int failed = word == NULL || words_add(words, bytes_of_word(word)) < 0;
+        int failed = word == NULL || words_add_bytes(words, bytes_of_word(word)) < 0;
         Py_XDECREF(word);
         if (failed) {
             words_end(words);
@@ -550,29 +585,23 @@ static PyObject *widget_join(Widget *widget, PyObject *arguments)
 }
 
 /* The words of a widget's command: its name, and the values up to the first None. */
-static int words_of_widget(struct words *words, Widget *widget, PyObject *values, Py_ssize_t first)
+static int words_of_widget(struct words *words, Widget *widget, PyObject *const *values, Py_ssize_t count)
 {
-    Py_ssize_t count = PyTuple_Size(values);
     if (words_begin(words, count + 1) < 0)
         return -1;
     Py_INCREF(widget->name);
-    words_add(words, widget->name);
-    for (Py_ssize_t at = first; at < count; at++) {
-        PyObject *value = PyTuple_GetItem(values, at);
-        if (value == Py_None)
-            break;
-        if (words_add(words, bytes_of_value(value)) < 0) {
-            words_end(words);
-            return -1;
-        }
-    }
-    return 0;
+    int failed = words_add_bytes(words, widget->name) < 0;
+    for (Py_ssize_t at = 0; !failed && at < count && values[at] != Py_None; at++)
+        failed = words_add_value(words, values[at]) < 0;
+    if (failed)
+        words_end(words);
+    return failed ? -1 : 0;
 }
 
-static PyObject *run_unwatched(Widget *widget, PyObject *values, Py_ssize_t first, int form)
+static PyObject *run_unwatched(Widget *widget, PyObject *const *values, Py_ssize_t count, int form)
 {
     struct words words;
-    if (words_of_widget(&words, widget, values, first) < 0)
+    if (words_of_widget(&words, widget, values, count) < 0)
         return NULL;
     /* What makes words of values may give the widget another world. */
     World *world = widget->world;
@@ -583,49 +612,66 @@ static PyObject *run_unwatched(Widget *widget, PyObject *values, Py_ssize_t firs
     return answer;
 }
 
-static PyObject *run_widget(Widget *widget, PyObject *values, int form)
+static PyObject *tuple_of(PyObject *const *values, Py_ssize_t count)
+{
+    PyObject *tuple = PyTuple_New(count);
+    for (Py_ssize_t at = 0; tuple != NULL && at < count; at++) {
+        Py_INCREF(values[at]);
+        PyTuple_SetItem(tuple, at, values[at]);
+    }
+    return tuple;
+}
+
+static PyObject *run_watched(Widget *widget, PyObject *const *values, Py_ssize_t count, int form)
+{
+    PyObject *tuple = tuple_of(values, count);
+    if (tuple == NULL)
+        return NULL;
+    PyObject *answer = PyObject_CallMethod((PyObject *)widget->world, "_call_watched", "OOi", widget, tuple, form);
+    Py_DECREF(tuple);
+    return answer;
+}
+
+static PyObject *run_widget(Widget *widget, PyObject *const *values, Py_ssize_t count, int form)
 {
     if (widget->world == NULL) {
         PyErr_SetString(PyExc_ValueError, "the widget wasn't made");
         return NULL;
     }
-    if (widget->world->is_watched)
-        return PyObject_CallMethod((PyObject *)widget->world, "_call_watched", "OOi", widget, values, form);
-    return run_unwatched(widget, values, 0, form);
+    return (widget->world->is_watched ? run_watched : run_unwatched)(widget, values, count, form);
 }
 
 /* The same by the number of a form, and whether the world is watched or not. */
-static PyObject *widget_run(Widget *widget, PyObject *arguments)
+static PyObject *widget_run(Widget *widget, PyObject *const *values, Py_ssize_t count)
 {
-    PyObject *first = PyTuple_Size(arguments) == 0 ? NULL : PyTuple_GetItem(arguments, 0);
-    long form = first == NULL ? -1 : PyLong_AsLong(first);
+    long form = count == 0 ? -1 : PyLong_AsLong(values[0]);
     if (PyErr_Occurred())
         return NULL;
     if (widget->world == NULL || form < AS_TEXT || form > AS_NOTHING) {
         PyErr_SetString(PyExc_ValueError, "no such call");
         return NULL;
     }
-    return run_unwatched(widget, arguments, 1, form);
+    return run_unwatched(widget, values + 1, count - 1, form);
 }
 
-static PyObject *widget_text(Widget *widget, PyObject *values)
+static PyObject *widget_text(Widget *widget, PyObject *const *values, Py_ssize_t count)
 {
-    return run_widget(widget, values, AS_TEXT);
+    return run_widget(widget, values, count, AS_TEXT);
 }
 
-static PyObject *widget_tuple(Widget *widget, PyObject *values)
+static PyObject *widget_tuple(Widget *widget, PyObject *const *values, Py_ssize_t count)
 {
-    return run_widget(widget, values, AS_TUPLE);
+    return run_widget(widget, values, count, AS_TUPLE);
 }
 
-static PyObject *widget_triples(Widget *widget, PyObject *values)
+static PyObject *widget_triples(Widget *widget, PyObject *const *values, Py_ssize_t count)
 {
-    return run_widget(widget, values, AS_TRIPLES);
+    return run_widget(widget, values, count, AS_TRIPLES);
 }
 
-static PyObject *widget_do(Widget *widget, PyObject *values)
+static PyObject *widget_do(Widget *widget, PyObject *const *values, Py_ssize_t count)
 {
-    return run_widget(widget, values, AS_NOTHING);
+    return run_widget(widget, values, count, AS_NOTHING);
 }
 
 /* Whether `edit undo`, or `edit redo`, would find something in the widget's text, as 1 or 0. */
@@ -642,9 +688,10 @@ static PyObject *widget_can(Widget *widget, PyObject *is_redo)
     if (told >= 0)
         return PyLong_FromLong(told);
     /* A command that changes nothing says what is wrong with the widget. */
-    PyObject *words = Py_BuildValue("(ss)", "edit", "modified");
-    PyObject *answer = words == NULL ? NULL : run_widget(widget, words, AS_TEXT);
-    Py_XDECREF(words);
+    PyObject *words[] = {PyUnicode_FromString("edit"), PyUnicode_FromString("modified")};
+    PyObject *answer = words[0] == NULL || words[1] == NULL ? NULL : run_widget(widget, words, 2, AS_TEXT);
+    Py_XDECREF(words[0]);
+    Py_XDECREF(words[1]);
     return answer;
 }
 
@@ -673,11 +720,11 @@ static void widget_dealloc(Widget *widget)
 
 static PyMethodDef widget_methods[] = {
     {"_join", (PyCFunction)widget_join, METH_VARARGS, NULL},
-    {"_run", (PyCFunction)widget_run, METH_VARARGS, NULL},
-    {"_text", (PyCFunction)widget_text, METH_VARARGS, NULL},
-    {"_tuple", (PyCFunction)widget_tuple, METH_VARARGS, NULL},
-    {"_triples", (PyCFunction)widget_triples, METH_VARARGS, NULL},
-    {"_do", (PyCFunction)widget_do, METH_VARARGS, NULL},
+    {"_run", (PyCFunction)(void (*)(void))widget_run, METH_FASTCALL, NULL},
+    {"_text", (PyCFunction)(void (*)(void))widget_text, METH_FASTCALL, NULL},
+    {"_tuple", (PyCFunction)(void (*)(void))widget_tuple, METH_FASTCALL, NULL},
+    {"_triples", (PyCFunction)(void (*)(void))widget_triples, METH_FASTCALL, NULL},
+    {"_do", (PyCFunction)(void (*)(void))widget_do, METH_FASTCALL, NULL},
     {"_can", (PyCFunction)widget_can, METH_O, NULL},
     {NULL, NULL, 0, NULL},
 };
@@ -695,19 +742,159 @@ static PyType_Spec widget_spec = {
     widget_slots,
 };
 
+/* ---- methods without a function of Python's in between */
+
+/* A method of widgets whose words are some first ones and the values that it is given by position, from `least` to
+   `most` of them.  Any other call goes to the function that it stands for. */
+typedef struct {
+    PyObject_HEAD
+    Vectorcall call;
+    PyObject *function;
+    PyObject *attributes;
+    PyObject *words;
+    Py_ssize_t least;
+    Py_ssize_t most;
+    int form;
+} Direct;
+
+static PyObject *call_function(Direct *direct, PyObject *const *given, size_t count, PyObject *names)
+{
+    Py_ssize_t named = names == NULL ? 0 : PyTuple_Size(names);
+    PyObject *tuple = tuple_of(given, count), *by_name = named == 0 ? NULL : PyDict_New(), *answer = NULL;
+    int failed = tuple == NULL || (named != 0 && by_name == NULL);
+    for (Py_ssize_t at = 0; !failed && at < named; at++)
+        failed = PyDict_SetItem(by_name, PyTuple_GetItem(names, at), given[count + at]) < 0;
+    if (!failed)
+        answer = PyObject_Call(direct->function, tuple, by_name);
+    Py_XDECREF(tuple);
+    Py_XDECREF(by_name);
+    return answer;
+}
+
+static PyObject *direct_vectorcall(PyObject *called, PyObject *const *given, size_t count_and_bit, PyObject *names)
+{
+    Direct *direct = (Direct *)called;
+    Py_ssize_t count = count_and_bit & COUNT_BITS, first = PyTuple_Size(direct->words);
+    PyObject *values[FEW_WORDS];
+    if (count <= direct->least || count - 1 > direct->most || first + count - 1 > FEW_WORDS
+        || (names != NULL && PyTuple_Size(names) != 0) || !PyObject_TypeCheck(given[0], widget_type))
+        return call_function(direct, given, count, names);
+    for (Py_ssize_t at = 0; at < first; at++)
+        values[at] = PyTuple_GetItem(direct->words, at);
+    memcpy(values + first, given + 1, (count - 1) * sizeof *values);
+    return run_widget((Widget *)given[0], values, first + count - 1, direct->form);
+}
+
+static PyObject *direct_call(Direct *direct, PyObject *arguments, PyObject *by_name)
+{
+    PyObject *given[FEW_WORDS];
+    Py_ssize_t count = PyTuple_Size(arguments);
+    if (count > FEW_WORDS || (by_name != NULL && PyDict_Size(by_name) != 0))
+        return PyObject_Call(direct->function, arguments, by_name);
+    for (Py_ssize_t at = 0; at < count; at++)
+        given[at] = PyTuple_GetItem(arguments, at);
+    return direct_vectorcall((PyObject *)direct, given, count, NULL);
+}
+
+static PyObject *direct_get(PyObject *direct, PyObject *widget, PyObject *Py_UNUSED(type))
+{
+    if (widget == NULL || widget == Py_None) {
+        Py_INCREF(direct);
+        return direct;
+    }
+    return PyObject_CallFunctionObjArgs(method_type, direct, widget, NULL);
+}
+
+static PyObject *direct_repr(Direct *direct)
+{
+    return PyObject_Repr(direct->function);
+}
+
+static PyObject *direct_new(PyTypeObject *type, PyObject *arguments, PyObject *Py_UNUSED(by_name))
+{
+    PyObject *function, *words;
+    Py_ssize_t least, most;
+    int form;
+    if (!PyArg_ParseTuple(arguments, "OO!nni", &function, &PyTuple_Type, &words, &least, &most, &form))
+        return NULL;
+    Direct *direct = (Direct *)((allocfunc)PyType_GetSlot(type, Py_tp_alloc))(type, 0);
+    if (direct == NULL)
+        return NULL;
+    Py_INCREF(function);
+    Py_INCREF(words);
+    direct->call = direct_vectorcall;
+    direct->function = function;
+    direct->words = words;
+    direct->least = least;
+    direct->most = most;
+    direct->form = form;
+    return (PyObject *)direct;
+}
+
+static int direct_traverse(Direct *direct, visitproc visit, void *arg)
+{
+    Py_VISIT(Py_TYPE(direct));
+    Py_VISIT(direct->function);
+    Py_VISIT(direct->attributes);
+    return 0;
+}
+
+static int direct_clear(Direct *direct)
+{
+    Py_CLEAR(direct->function);
+    Py_CLEAR(direct->attributes);
+    return 0;
+}
+
+static void direct_dealloc(Direct *direct)
+{
+    PyTypeObject *type = Py_TYPE(direct);
+    PyObject_GC_UnTrack(direct);
+    direct_clear(direct);
+    Py_CLEAR(direct->words);
+    ((freefunc)PyType_GetSlot(type, Py_tp_free))(direct);
+    Py_DECREF(type);
+}
+
+static PyMemberDef direct_members[] = {
+    {"__vectorcalloffset__", T_PYSSIZET, offsetof(Direct, call), READONLY, NULL},
+    {"__dictoffset__", T_PYSSIZET, offsetof(Direct, attributes), READONLY, NULL},
+    {NULL, 0, 0, 0, NULL},
+};
+
+static PyType_Slot direct_slots[] = {
+    {Py_tp_new, direct_new},
+    {Py_tp_dealloc, direct_dealloc},
+    {Py_tp_traverse, direct_traverse},
+    {Py_tp_clear, direct_clear},
+    {Py_tp_call, direct_call},
+    {Py_tp_repr, direct_repr},
+    {Py_tp_descr_get, direct_get},
+    {Py_tp_members, direct_members},
+    {0, NULL},
+};
+
+static PyType_Spec direct_spec = {
+    "tktext._core.Direct", sizeof(Direct), 0,
+    Py_TPFLAGS_DEFAULT | Py_TPFLAGS_HAVE_GC | Py_TPFLAGS_METHOD_DESCRIPTOR | HAS_VECTORCALL, direct_slots,
+};
+
 /* ---- the module */
 
 static PyObject *core_use(PyObject *Py_UNUSED(module), PyObject *arguments)
 {
-    PyObject *word, *error;
-    if (!PyArg_ParseTuple(arguments, "OO", &word, &error))
+    PyObject *word, *error, *method;
+    if (!PyArg_ParseTuple(arguments, "OOO", &word, &error, &method))
         return NULL;
     Py_INCREF(word);
     Py_INCREF(error);
+    Py_INCREF(method);
     Py_XDECREF(word_of_value);
     Py_XDECREF(error_of_fault);
+    Py_XDECREF(method_type);
     word_of_value = word;
     error_of_fault = error;
+    method_type = method;
     Py_RETURN_NONE;
 }
 
@@ -786,7 +973,9 @@ PyMODINIT_FUNC PyInit__core(void)
     PyObject *module = PyModule_Create(&core_module);
     if (module == NULL)
         return NULL;
-    if (add_type(module, "World", &world_spec, &world_type) < 0 || add_type(module, "Widget", &widget_spec, NULL) < 0
+    if (add_type(module, "World", &world_spec, &world_type) < 0
+        || add_type(module, "Widget", &widget_spec, &widget_type) < 0
+        || add_type(module, "Direct", &direct_spec, NULL) < 0
         || PyModule_AddStringConstant(module, "version", tktext_version()) < 0) {
         Py_DECREF(module);
         return NULL;

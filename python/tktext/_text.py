@@ -2,7 +2,9 @@
 
 from __future__ import annotations
 
-from typing import Any, Callable, Mapping, Protocol
+import sys
+from functools import WRAPPER_ASSIGNMENTS
+from typing import Any, Callable, Mapping, Protocol, TypeVar, cast
 
 from . import _core, _options
 from ._errors import TclError, refusal
@@ -11,7 +13,8 @@ from ._values import list_text, number_or_text, word
 from ._world import World
 
 # How an answer is given by `_run`.
-_AS_TEXT, _AS_TUPLE = 0, 1
+_AS_TEXT, _AS_TUPLE, _AS_NOTHING = 0, 1, 3
+_HAS_MORE = 0x04  # The flag of a function's code that takes any number of values.
 _SEL = "sel"
 _NO_IMAGES = "images can't be embedded: the widget isn't drawn"
 _NO_WINDOWS = "windows can't be embedded: the widget isn't drawn"
@@ -28,6 +31,23 @@ class Variable(Protocol):
 
 
 _Options = Mapping[str, Any]
+_Method = TypeVar("_Method", bound=Callable[..., Any])
+
+
+def _direct(form: int, *words: str) -> Callable[[_Method], _Method]:
+    """A method that hands its values on, behind words: a call by position alone is made without its function."""
+
+    def made(function: _Method) -> _Method:
+        code, defaults = function.__code__, function.__defaults__ or ()
+        most = code.co_argcount - 1
+        least = most - len(defaults)
+        direct = _core.Direct(function, words, least, sys.maxsize if code.co_flags & _HAS_MORE else most, form)
+        for name in WRAPPER_ASSIGNMENTS:
+            setattr(direct, name, getattr(function, name))
+        setattr(direct, "__wrapped__", function)
+        return cast(_Method, direct)
+
+    return made
 
 
 def _merged(cnf: Any, given: _Options, synonyms: Mapping[str, str] = _options.SYNONYMS) -> dict[str, Any]:
@@ -167,6 +187,7 @@ class Text(_core.Widget):
 
     # ---- texts
 
+    @_direct(_AS_NOTHING, "insert")
     def insert(self, index: object, chars: object, *args: object) -> None:
         """Puts characters in before the one at an index; at the end they go before the last newline.
 
@@ -180,6 +201,7 @@ class Text(_core.Widget):
         """
         self._do("insert", index, chars, *args)
 
+    @_direct(_AS_NOTHING, "delete")
     def delete(self, index1: object, index2: object = None) -> None:
         """Takes out the characters from one index to before another, or the one at it.  The last newline stays.
 
@@ -191,6 +213,7 @@ class Text(_core.Widget):
         """
         self._do("delete", index1, index2)
 
+    @_direct(_AS_NOTHING, "replace")
     def replace(self, index1: object, index2: object, chars: object, *args: object) -> None:
         """Puts characters, and tags as in `insert`, in the place of those from one index to before another.
 
@@ -204,6 +227,7 @@ class Text(_core.Widget):
         """
         self._do("replace", index1, index2, chars, *args)
 
+    @_direct(_AS_TEXT, "get")
     def get(self, index1: object, index2: object = None) -> str:
         """The characters from one index to before another, or the one at it.
 
@@ -214,6 +238,7 @@ class Text(_core.Widget):
         """
         return self._text("get", index1, index2)
 
+    @_direct(_AS_TEXT, "index")
     def index(self, index: object) -> str:
         """The place of an index, as line.character.
 
@@ -319,6 +344,7 @@ class Text(_core.Widget):
 
     # ---- tags
 
+    @_direct(_AS_NOTHING, "tag", "add")
     def tag_add(self, tagName: object, index1: object, *args: object) -> None:
         """Puts a tag on the characters from one index to before another, or on the one at it; further pairs may follow.
 
@@ -332,6 +358,7 @@ class Text(_core.Widget):
         """
         self._do("tag", "add", tagName, index1, *args)
 
+    @_direct(_AS_NOTHING, "tag", "remove")
     def tag_remove(self, tagName: object, index1: object, index2: object = None) -> None:
         """Takes a tag off the characters from one index to before another, or off the one at it.
 
@@ -487,6 +514,7 @@ class Text(_core.Widget):
 
     # ---- marks
 
+    @_direct(_AS_NOTHING, "mark", "set")
     def mark_set(self, markName: object, index: object) -> None:
         """Sets a mark before the character at an index, and makes it if it is new.  Too many are a TclError.
 
