@@ -8,6 +8,9 @@ use indexmap::IndexMap;
 use std::alloc::{AllocError, Global};
 use std::marker::Model;
 
+/// Among so many names one is looked for without its hash.
+const FEW_NAMES: usize = 8;
+
 /// Names in an order, each with a number: the least from 0 on that no other name of the list has. There is a limit on
 /// how many names there may be. Places in the order count from 0.
 #[derive(Drop)]
@@ -58,7 +61,17 @@ impl NameList {
         ensures within { IfSome result (λ place. place < length self.now.entries) }
         ensures sound { AreNames self.now }
     {
+        if self.numbers.len() <= FEW_NAMES {
+            return self.place_of_few(name);
+        }
         self.numbers.get_index_of(name)
+    }
+
+    /// The same, by a look at each name: a few are compared sooner than one is hashed.
+    fn place_of_few(&self, name: &str) -> Option<usize>
+        ensures { result ≡ place_of (chars name.now) self.now.entries }
+    {
+        self.numbers.keys().position(|key| name == key.as_str())
     }
 
     /// A number above all that names have: what is kept by these numbers needs so many places.
