@@ -11,7 +11,7 @@ ghost use Rattle.index_grammar.specs.Names.{known_tags};
 ghost use Rattle.tag_table.specs.Tags.{AreTags, names_of};
 ghost use Rattle.text_model.specs.LimitTable.{AreLimits};
 ghost use Rattle.text_model.specs.declared.limits.TheConstants.Limits.{MOST_TAGS, MOST_WIDGETS};
-ghost use Rattle.command_effects.specs.declared.answers.Fault.TheVariants.{Memory, TooManyTags};
+ghost use Rattle.command_effects.specs.declared.answers.Fault.TheVariants.{Memory};
 ghost use Rattle.command_effects.specs.Edits.{excess, length_replaced};
 ghost use Rattle.command_effects.specs.Lists.{with_name, with_names, all_names, total};
 ghost use Rattle.command_effects.specs.Tagging.{IsFront, piece_of};

@@ -1,7 +1,7 @@
 ghost use Rattle.std.specs.Prelude.{◌≡◌, ◌≤◌, ◌+◌, length, filter, take, chars};
 ghost use Rattle.std.specs.List.{starts_with};
 ghost use Rattle.command_table.specs.Words.{texts_of, lent, is_character};
-ghost use Rattle.command_table.specs.Entries.{ends_switches, switch_words, dashed_words, is_switch, bad_switch};
+ghost use Rattle.command_table.specs.Entries.{ends_switches, dashed_words, is_switch, bad_switch};
 ghost use Rattle.command_table.specs.Spelled.{switch_rule};
 
 use crate::words::{abbreviates, is_among, is_dashed, is_word};

@@ -111,7 +111,8 @@ impl<S: TextStore> Document<S> {
         Ok(document)
     }
 
-    /// Where the document takes its memory from, for what a command makes before it calls the document.
+    /// Where the document takes its memory from, for what a command makes before it calls the document. There is one
+    /// `Global` alone, so its type says which.
     pub fn allocator(&self) -> Global {
         self.alloc
     }

@@ -1,4 +1,4 @@
-ghost use Rattle.std.specs.Prelude.{◌≡◌, ◌+◌, ◌<◌, ◌∷◌, [], ◌++◌, List, IfOk, IfSome, OnOk, Some, None, length};
+ghost use Rattle.std.specs.Prelude.{◌≡◌, ◌+◌, ◌<◌, ◌∷◌, [], ◌++◌, List, IfOk, IfSome, Some, None, length};
 ghost use Rattle.text_model.specs.declared.edits.Step.{Step};
 ghost use Rattle.edit_ops.specs.Orders.{AreAlike, AreWatched, IsBefore, IsLowered, LetsPass, Passes, at_span};
 ghost use Rattle.edit_ops.specs.Orders.{steps_in};

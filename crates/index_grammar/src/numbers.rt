@@ -1,4 +1,4 @@
-ghost use Rattle.std.specs.Prelude.{◌≡◌, ◌^◌, ◌-◌, min, option_map};
+ghost use Rattle.std.specs.Prelude.{◌≡◌, ◌-◌, min, option_map};
 ghost use Rattle.index_grammar.specs.Grammar.{number_of};
 
 /// The number that one or more digits spell; the greatest where it is greater.

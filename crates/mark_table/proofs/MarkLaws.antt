@@ -11,7 +11,7 @@ use Rattle.std.proofs.lemmas.Option.{none-some, same_Some, slice_get-map}
 use Rattle.std.proofs.lemmas.Slice.Eq.{bytes_eq-Decides}
 use Rattle.name_list.specs.Moves.{without}
 use Rattle.name_list.specs.Names as list
-use Rattle.name_list.specs.Names.{Named, Names, AreNames, AreApart, place_of}
+use Rattle.name_list.specs.Names.{Named, Names, AreNames, place_of}
 use Rattle.name_list.proofs.ListLaws.{Stands, stands_from_Contains, Contains-from_stands, stands_map, stood_at}
 use Rattle.name_list.proofs.ListLaws.{map-same, map-map, get_set, get_set_other, get_push_cases}
 use Rattle.name_list.proofs.ListLaws.{get_remove, before_removal}

@@ -13,8 +13,7 @@ use Rattle.std.proofs.lemmas.Slice.Eq.{bytes_eq-Decides}
 use Rattle.std.proofs.lemmas.Str.{encodes-chars, IsUtf8-string_bytes}
 use Rattle.indexmap.specs.IndexMap.{IndexMap, move_index, insert_entry, insert_index, set_value_at}
 use Rattle.std.specs.Option.{option_map_or}
-use Rattle.std.specs.HashMap.{ContainsKey, get}
-use Rattle.std.specs.List.{position_or_len}
+use Rattle.std.specs.HashMap.{ContainsKey}
 use Rattle.std.proofs.lemmas.List.{length-append, length-take, take_all, drop_all, drop_more, length-replicate}
 use Rattle.indexmap.proofs.CallerLemmas.{insert_entry-new}
 use Rattle.indexmap.proofs.MapLemmas.{absent_from_lookup, or_len-absent}

@@ -7,7 +7,7 @@ use mathlib.Core.Bool.{false≢true}
 use mathlib.Core.Logic.{∥∥₁_map, ∥∥₁_elim}
 use base.Stored.{Coded-set, coded_ℕ}
 use Rattle.std.proofs.Math.Bridge.{le_prop}
-use Rattle.std.specs.Prelude.{IfSome, IsSome, ◌≢◌, Option, None, Some, is_some, unwrap_or}
+use Rattle.std.specs.Prelude.{IsSome, ◌≢◌, Option, None, Some, is_some, unwrap_or}
 use Rattle.std.specs.List.{sum_by}
 use Rattle.std.proofs.lemmas.List.{get_or-set_same, get_or-set_other, map-set, map-append, length-map, get_or-map}
 use Rattle.std.proofs.lemmas.List.{get_or_append_left, set-get_or}

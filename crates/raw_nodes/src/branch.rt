@@ -36,7 +36,10 @@ impl Branch {
         }
     }
 
-    pub fn into_room(self) -> Box<Room> {
+    /// The room alone, with what stands in it.
+    pub fn into_room(self) -> Box<Room>
+        ensures { result ≡ self.room }
+    {
         let Branch { room, .. } = self;
         room
     }

@@ -111,7 +111,7 @@ impl Heap {
         self.node_mut(name).before = before;
     }
 
-    /// No node is left.
+    /// Ends a heap in which no node is left, which is all that there is to promise: so nothing is lost.
     pub fn finish(self)
         requires { self.places ≡ [] }
     {

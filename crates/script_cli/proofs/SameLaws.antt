@@ -6,7 +6,6 @@ use Rattle.tcl_words.specs.ScriptGrammar.{ReadsScript}
 use Rattle.tcl_words.specs.declared.fault.ScriptFault.{ScriptFault}
 use Rattle.tcl_words.proofs.Readings.{one_script}
 use Rattle.script_cli.specs.declared.summary.RunSummary.{RunSummary}
-use Rattle.script_cli.specs.PlainRun.{IsPlain, IsPlainUpToRefusal}
 use Rattle.script_cli.specs.Run.{no_documents, run_output}
 use Rattle.script_cli.specs.Told.{WritesRunOf, WantsMemory}
 use Rattle.script_cli.proofs.RunLaws.{plain_up_to_refusal}

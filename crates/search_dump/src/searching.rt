@@ -6,7 +6,7 @@ ghost use Rattle.text_index.specs.Views.{shown, IsView};
 ghost use Rattle.search_dump.specs.Matches.{compared, search_result};
 ghost use Rattle.search_dump.specs.Stretches.{first_stretch, left_behind, left_round, left_to_list, next_of};
 ghost use Rattle.search_dump.specs.Stretches.{second_stretch, IsBehind};
-ghost use Rattle.search_dump.specs.Searched.{searched, nearest_in, listed_in, listed_behind, listed_whole, HasMatchIn};
+ghost use Rattle.search_dump.specs.Searched.{nearest_in, listed_in, listed_behind, listed_whole, HasMatchIn};
 ghost use Rattle.search_dump.specs.Sight.{text_in, ShowsLines};
 
 use crate::listing::push_place;

@@ -1,4 +1,4 @@
-ghost use Rattle.std.specs.Prelude.{◌≡◌, ◌+◌, ◌<◌, ◌≤◌, ◌^◌, [], ◌∷◌, ◌++◌, ℕ, List, encode_utf8, length, take, drop};
+ghost use Rattle.std.specs.Prelude.{◌≡◌, ◌+◌, ◌<◌, ◌≤◌, [], ◌∷◌, ◌++◌, ℕ, List, encode_utf8, length, take, drop};
 ghost use Rattle.std.specs.Prelude.{chars, string_bytes, slice_range, slice_get, None, Some, IfOk, IfSome, OnOk, OnErr};
 ghost use Rattle.std.specs.Prelude.{◌-◌, nat_lt, string_capacity, string_len};
 ghost use Rattle.std.specs.List.{prefix_len, suffix_len};

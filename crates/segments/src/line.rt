@@ -1,4 +1,4 @@
-ghost use Rattle.std.specs.Prelude.{◌≡◌, ℕ, ◌+◌, ◌-◌, ◌++◌, ◌<◌, ◌≤◌, Bool, false, length, map, take, slice_get};
+ghost use Rattle.std.specs.Prelude.{◌≡◌, ◌+◌, ◌-◌, ◌++◌, ◌<◌, ◌≤◌, false, length, take, slice_get};
 ghost use Rattle.std.specs.Prelude.{slice_range, Some, IfSome, IfOk, IfErr, OnOk, OnErr, chars, string_bytes};
 ghost use Rattle.std.specs.Prelude.{drop, option_map};
 ghost use Rattle.std.specs.FinMap as finite;

@@ -1,4 +1,4 @@
-ghost use Rattle.std.specs.Prelude.{◌≡◌, ℕ, ◌+◌, ◌-◌, ◌<◌, ◌≤◌, ◌^◌, T, List, length, map, take, drop, vec_len};
+ghost use Rattle.std.specs.Prelude.{◌≡◌, ℕ, ◌+◌, ◌-◌, ◌<◌, ◌≤◌, ◌^◌, length, map, take, drop};
 ghost use Rattle.std.specs.Prelude.{slice_get, nat_le, nat_lt, if◌then◌else◌, min, OnOk, OnErr, IfOk};
 ghost use Rattle.std.specs.List.{All, filter};
 ghost use Rattle.std.specs.FinMap as finite;
@@ -6,7 +6,7 @@ ghost use Rattle.text_model.specs.declared.places.Place.{Place};
 ghost use Rattle.text_model.specs.MarkOrder.{marks_at, next_mark, previous_mark};
 ghost use Rattle.text_model.specs.Splices.{moved, drawn};
 ghost use Rattle.segments.specs.declared.marks.Mark.{Mark};
-ghost use Rattle.segments.specs.Columns.{earlier, joined_marks, marks_where};
+ghost use Rattle.segments.specs.Columns.{earlier, joined_marks};
 ghost use Rattle.segments.specs.Marks.{Below, HaveRoom, Rise, StandIn, marks_of, with_place};
 
 use std::alloc::{AllocError, Global};

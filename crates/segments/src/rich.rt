@@ -1,5 +1,5 @@
-ghost use Rattle.std.specs.Prelude.{◌≡◌, ℕ, ◌+◌, ◌-◌, ◌++◌, ◌<◌, ◌≤◌, ◌^◌, Bool, false, true, length, map, take};
-ghost use Rattle.std.specs.Prelude.{slice_get, slice_range, Some, IfSome, IfOk, IfErr, OnOk, OnErr, chars};
+ghost use Rattle.std.specs.Prelude.{◌≡◌, ◌+◌, ◌-◌, ◌++◌, ◌<◌, ◌≤◌, ◌^◌, false, true, length, take};
+ghost use Rattle.std.specs.Prelude.{slice_get, slice_range, Some, IfSome, IfOk, OnOk, OnErr, chars};
 ghost use Rattle.std.specs.Prelude.{string_bytes, drop, nat_lt, option_map, vec_capacity, vec_len};
 ghost use Rattle.std.specs.FinMap as finite;
 ghost use Rattle.std.specs.FinSet as set;

@@ -1,5 +1,5 @@
-ghost use Rattle.std.specs.Prelude.{◌≡◌, ℕ, ◌+◌, ◌<◌, ◌≤◌, ◌^◌, ◌==◌, ⊤, true, false, length, map, take, drop, vec_len};
-ghost use Rattle.std.specs.Prelude.{Option, Some, None, option_map, IfSome, OnOk, OnErr, ◌-◌, ◌*◌, if◌then◌else◌, ◌++◌};
+ghost use Rattle.std.specs.Prelude.{◌≡◌, ℕ, ◌+◌, ◌<◌, ◌≤◌, ◌==◌, true, false, length, map, take, drop, vec_len};
+ghost use Rattle.std.specs.Prelude.{Option, Some, None, OnOk, OnErr, ◌-◌, ◌*◌, ◌++◌};
 ghost use Rattle.std.specs.Prelude.{slice_range, vec_capacity};
 ghost use Rattle.std.specs.List.{All, insert};
 ghost use Rattle.std.specs.FinSet as set;

@@ -1,6 +1,6 @@
 //! Elements written into the text of a list.
 
-ghost use Rattle.std.specs.Prelude.{◌≡◌, ◌||◌, ◌++◌, ◌∷◌, [], List, ℕ, IfOk, OnOk, OnErr, chars, string_bytes};
+ghost use Rattle.std.specs.Prelude.{◌≡◌, ◌||◌, ◌++◌, ◌∷◌, [], IfOk, OnOk, OnErr, chars, string_bytes};
 ghost use Rattle.std.specs.Prelude.{encode_utf8_all};
 ghost use Rattle.tcl_words.specs.Characters.{begins_with};
 ghost use Rattle.tcl_words.specs.ListGrowth.{Goes, pushed};

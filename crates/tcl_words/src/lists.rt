@@ -1,6 +1,6 @@
 //! Lists as text.
 
-ghost use Rattle.std.specs.Prelude.{◌≡◌, ◌++◌, ◌∷◌, [], List, ℕ, IfOk, OnOk, OnErr, chars, string_bytes};
+ghost use Rattle.std.specs.Prelude.{◌≡◌, List, ℕ, IfOk, chars};
 ghost use Rattle.tcl_words.specs.ListSteps.{script_stage};
 ghost use Rattle.tcl_words.specs.ListText.{ReadsList};
 ghost use Rattle.tcl_words.specs.Unread.{texts_of};

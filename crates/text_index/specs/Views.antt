@@ -1,6 +1,6 @@
 -- The part of a text that a view shows: from one offset to another.
-use Rattle.std.specs.Prelude.{option_and_then, ◌≡◌, ℕ, ◌≤◌, nat_lt, nat_le, min, ◌-◌, Bool, ◌&&◌, List, slice_range}
-use Rattle.std.specs.Prelude.{length, Option, None, Some, if◌then◌else◌}
+use Rattle.std.specs.Prelude.{option_and_then, ℕ, ◌≤◌, nat_lt, nat_le, min, ◌-◌, Bool, ◌&&◌, List, slice_range}
+use Rattle.std.specs.Prelude.{Option, None, Some, if◌then◌else◌}
 use Rattle.std.specs.FinMap as finite
 use Rattle.text_model.specs.Content.{Content, characters, flags}
 use Rattle.text_model.specs.Lines.{IsLineStart}

@@ -1,4 +1,4 @@
-ghost use Rattle.std.specs.Prelude.{◌≡◌, ◌<◌, ◌≤◌, ◌+◌, ◌-◌, ℕ, length, true, false, IfSome};
+ghost use Rattle.std.specs.Prelude.{◌≡◌, ◌<◌, ◌≤◌, ◌+◌, ◌-◌, ℕ, true, false, IfSome};
 ghost use Rattle.text_model.specs.Changes.{flag_at, next_change, previous_change};
 ghost use Rattle.text_model.specs.TagBits.{slot_count};
 ghost use Rattle.text_index.specs.Ranges.{begins, next_range, previous_range, ranges_from, and_later};

@@ -1,8 +1,7 @@
 //! The calls from C, before their codes.
-ghost use Rattle.std.specs.Prelude.{◌≡◌, IfSome, IfNone};
+ghost use Rattle.std.specs.Prelude.{◌≡◌};
 ghost use Rattle.tktext_c.specs.Calls.{Makes, Calls, Feeds, Takes, Tells, can_by};
 ghost use Rattle.tktext_c.specs.Handles.{state};
-ghost use Rattle.text_model.specs.LimitTable.{LimitTable, AreLimits};
 
 use crate::ends::{CallEnd, FeedEnd, MakeEnd, TurnEnd, Way};
 use crate::handle::Handle;

@@ -2,7 +2,7 @@
 #![tactic(auto)]
 
 ghost use Rattle.std.specs.Prelude.{◌≡◌, Bool, Option, None, min, length, option_map};
-ghost use Rattle.text_model.specs.LimitTable.{LimitTable, most_chars, most_tags, most_marks, most_widgets};
+ghost use Rattle.text_model.specs.LimitTable.{most_chars, most_tags, most_marks, most_widgets};
 ghost use Rattle.peers.specs.History.{can_redo_by, can_undo_by};
 ghost use Rattle.tktext_c.specs.Calls.{Makes, Calls, Feeds, Takes, Tells, finished};
 ghost use Rattle.tktext_c.specs.Codes.{make_code, call_code, feed_code, turn_code, told_code};

@@ -1,4 +1,4 @@
-ghost use Rattle.std.specs.Prelude.{◌≡◌, ℕ, ◌-◌, ◌<◌, Some};
+ghost use Rattle.std.specs.Prelude.{◌≡◌, ◌-◌, ◌<◌, Some};
 ghost use Rattle.raw_nodes.specs.Names.{IsName, records};
 ghost use Rattle.raw_nodes.specs.declared.names.NodePtr.{NodePtr};
 ghost use Rattle.line_tree.specs.Places.{IsChild};

@@ -1,4 +1,4 @@
-ghost use Rattle.std.specs.Prelude.{◌≡◌, ◌≢◌, ◌≤◌, ◌<◌, ◌+◌, [], true, false, pos, drop, OnOk, IsOk, IsSome, IfSome};
+ghost use Rattle.std.specs.Prelude.{◌≡◌, ◌≤◌, ◌<◌, ◌+◌, [], true, false, drop, OnOk, IsOk, IsSome, IfSome};
 ghost use Rattle.std.specs.Prelude.{IfErr, ◌↔◌, length};
 ghost use Rattle.undo_stack.specs.History.{no_history, changes_kind, joined, limit_of, newest, noted, separated};
 ghost use Rattle.undo_stack.specs.History.{limited, next_undo, next_redo, after_undo, after_redo};

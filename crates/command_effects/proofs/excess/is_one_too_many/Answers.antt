@@ -1,4 +1,4 @@
-use Rattle.std.proofs.Common.{◌+◌, length, not, sym, ap, ap₂, ◌∙◌, arith}
+use Rattle.std.proofs.Common.{◌+◌, not, sym, ap, ap₂, ◌∙◌, arith}
 use Rattle.std.specs.Prelude.{chars, nat_lt}
 use Rattle.std.proofs.lemmas.Bool.Decides.{nat_tests}
 use Rattle.std.proofs.lemmas.List.{length-map}

@@ -1,10 +1,8 @@
-use Rattle.std.proofs.Common.{◌≡◌, length, sym, ap, ◌∙◌, subst}
+use Rattle.std.proofs.Common.{◌≡◌, sym, ap, ◌∙◌, subst}
 use Rattle.std.specs.List.{All}
 use Rattle.std.proofs.lemmas.Result.{IfOk-weaker}
-use Rattle.text_model.specs.Content.{Content}
-use Rattle.text_model.specs.Steps.{Fits, after}
 use Rattle.edit_ops.specs.Deletions.{in_spans}
-use Rattle.edit_ops.specs.Tagging.{SpanFits, tagged}
+use Rattle.edit_ops.specs.Tagging.{SpanFits}
 use Rattle.edit_ops.proofs.CoverLaws.{in-reversed, runs-fit, tagged-same}
 use Rattle.edit_ops.proofs.tagging.tag_steps.Goals as goal
 

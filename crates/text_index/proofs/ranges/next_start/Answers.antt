@@ -1,4 +1,4 @@
-use Rattle.std.proofs.Common.{◌≡◌, ◌<◌, nat_lt, true, false, refl, arith}
+use Rattle.std.proofs.Common.{◌≡◌, nat_lt, true, false, refl}
 use Rattle.std.proofs.lemmas.Bool.{ltb-true, ltb-false}
 use Rattle.text_index.specs.Ranges.{begins}
 use Rattle.text_index.specs.Views.{shown_flags}

@@ -1,8 +1,8 @@
-use Rattle.std.proofs.Common.{◌≡◌, refl, sym, ◌∙◌, subst, Some}
+use Rattle.std.proofs.Common.{◌≡◌, refl, sym, ◌∙◌, subst}
 use Rattle.std.specs.Prelude.{IsSome}
 use Rattle.std.specs.FinMap as finite
 use Rattle.std.proofs.lemmas.Option.{same_Some}
-use Rattle.raw_nodes.specs.Names.{entry, records}
+use Rattle.raw_nodes.specs.Names.{records}
 use Rattle.raw_nodes.proofs.MapLaws.{at_some}
 use Rattle.tree_bench.proofs.shape.is_linked.Goals as goal
 

@@ -1,4 +1,4 @@
-use Rattle.std.proofs.Common.{◌≡◌, ◌+◌, ◌-◌, length, min, subst, arith}
+use Rattle.std.proofs.Common.{◌≡◌, ◌+◌, ◌-◌, min, subst, arith}
 use Rattle.line_lists.specs.Lists.{more_lines, row_of}
 use Rattle.line_tree.specs.Room.{HasRoom}
 use Rattle.tree_tests.proofs.scene.splice.Goals as goal

@@ -1,4 +1,4 @@
-use Rattle.std.proofs.Common.{rules, tests, ◌≡◌, sym, ◌∙◌, String, Global}
+use Rattle.std.proofs.Common.{rules, tests, sym, ◌∙◌, String, Global}
 use Rattle.std.specs.Prelude.{bytes_eq, string_bytes}
 use Rattle.std.proofs.lemmas.Iterator.Consumers.{YieldsList-from_rest}
 use Rattle.std.proofs.lemmas.Iterator.Search.{position_from_yields_List}
