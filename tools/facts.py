@@ -6,7 +6,9 @@
 The commands stand in `command_table/specs/Table.antt`; `docs/model.md` and the tools' model say the same of each, and
 the random scripts begin a form with each.  The limits stand in `text_model/specs/LimitTable.antt`.  The crates stand in
 `crates.txt`; the pages on architecture and on what is proved speak of each, and the page of each (`crates/NAME/README.md`)
-of its files of definitions.  A line of code, of a definition or of a page has at most 120 characters.  Ends in a line `N passed, M failed`; the exit status is 1 if anything failed.
+of its files of definitions.  A line of code, of a definition or of a page has at most 120 characters, and no name is
+brought in for a contract, a definition or a proof that isn't used there.  Ends in a line `N passed, M failed`; the exit
+status is 1 if anything failed.
 """
 
 import glob
@@ -28,6 +30,11 @@ MOST_IN_PROOFS = 160
 # A longer line is the output of a program, as it is.
 OUTPUTS = {os.path.join("docs", name) for name in ("tour.md", "performance.svg", "memory.svg")}
 LITERAL = re.compile(r'literal "([^"]*)"')
+# Names that a line brings in from the language of proofs: in a file of code one that begins with `ghost`.
+BROUGHT_IN = {".rt": re.compile(r"^\s*ghost use \S+\.\{(.*)\};$"), ".antt": re.compile(r"^\s*use \S+\.\{(.*)\}$")}
+COMMENT = re.compile(r"^\s*(--|//).*$", re.MULTILINE)
+NAME = re.compile(r"[^\W\d][^\s(){}\[\];,.:]*")
+OPERATOR = re.compile(r"◌|^\W")
 # What stands for two or more words at the end of a command's form in docs/model.md.
 COUNTS = {"any number": (0, None), **{f"{count} and more": (count, None) for count in range(1, 4)}}
 
@@ -228,6 +235,33 @@ def check_lines(tally):
             tally.check(is_short, f"{name} has a line of {longest} characters")
 
 
+def is_named(name, text):
+    """Whether a text has a name, or the parts of an operator, as `◌+◌`."""
+    if OPERATOR.search(name):
+        return all(part in text for part in name.split("◌"))
+    return re.search(rf"(?<![\w'-]){re.escape(name)}(?![\w'-])", text) is not None
+
+
+def unused_names(text, pattern):
+    """The names that lines of a file bring in, and that no other line has."""
+    lines = COMMENT.sub("", text).split("\n")
+    rest = "\n".join(line for line in lines if not pattern.match(line))
+    names = set(NAME.findall(rest))
+    found = [match[1] for line in lines if (match := pattern.match(line))]
+    brought = [name.split(" as ")[-1] for some in found for name in some.split(", ")]
+    return [name for name in brought if name not in names and not is_named(name, rest)]
+
+
+def check_names(tally):
+    """Each name that a file brings in is used there."""
+    for ending, pattern in BROUGHT_IN.items():
+        for path in glob.glob(os.path.join(TOP, "crates", "*", "*", "**", f"*{ending}"), recursive=True):
+            name = os.path.relpath(path, TOP)
+            if os.sep + "out" + os.sep not in name:
+                unused = unused_names(text_of(name), pattern)
+                tally.check(not unused, f"{name} brings in {', '.join(unused)}, and doesn't use it")
+
+
 def main():
     tally = Tally()
     check_commands(tally)
@@ -235,6 +269,7 @@ def main():
     check_crates(tally)
     check_crate_pages(tally)
     check_lines(tally)
+    check_names(tally)
     return tally.close()
 
 
