@@ -420,6 +420,55 @@ x
 None None""".replace("OPTION", 'TclError: bad option "-foo": must be -autoseparators, -endline, -maxundo, -startline, '
                      "-state, or -undo")
 
+# Methods that hand their values on are called by position, by name, with too few or too many, bound, unbound, by a
+# subclass, in a world that is watched, with many words, long ones and what isn't UTF-8, and are functions to who asks.
+DIRECT = """
+import copy, inspect, pydoc
+class Loud(Text):
+    def insert(self, index, chars, *args):
+        super().insert(index, chars.upper(), *args)
+text, loud = Text(), Loud()
+text.insert(index="end", chars="one")
+text.insert("end", chars=" two")
+Text.insert(text, "end", " three", "a", *(part for at in range(20) for part in (str(at % 10), ("b", "c"))))
+bound = text.insert
+bound("end", *("!", "c"))
+loud.insert("1.0", "one")
+print(text.get("1.0", "end"), loud.get("1.0", "end"), text.get("1.0", None), text.get(index2="1.3", index1="1.0"), sep="|")
+for call in (lambda: bound("end"), lambda: text.get(), lambda: text.get("1.0", "1.1", "1.2"), lambda: text.get(index="1.0"),
+             lambda: Text.insert("end", "x"), lambda: Text.get(3, "1.0"), lambda: text.insert("end", chr(0xd800)),
+             lambda: text.insert("end", chr(0xd800) * 300), lambda: Text.index(object.__new__(Text), "1.0")):
+    print(tried(call).replace("Text.", ""))
+text.insert("1.0", "é" * 257 + "\\n")
+print(text.index("1.end"), text.mark_set("m", "1.5"), text.index("m"), text.tag_add("d", "1.0", "1.2"), text.tag_ranges("d"))
+seen = []
+text.bind("<<Modified>>", lambda event: seen.append(event.widget is text))
+text.edit_modified(False)
+text.insert("end", "x")
+text.delete(index1="1.0")
+print(seen)
+print(inspect.signature(Text.mark_set), inspect.isroutine(Text.mark_set), Text.mark_set.__qualname__, text.mark_set.__name__)
+print(pydoc.render_doc(Text.mark_set, renderer=pydoc.plaintext).splitlines()[2], hasattr(Text.get, "__wrapped__"))
+print(tried(lambda: setattr(text.get, "x", 1)), copy.copy(text) is text)
+"""
+DIRECT_SAYS = """one two three01234567890123456789!
+|ONE
+|o|one
+TypeError: insert() missing 1 required positional argument: 'chars'
+TypeError: get() missing 1 required positional argument: 'index1'
+TypeError: get() takes from 2 to 3 positional arguments but 4 were given
+TypeError: get() got an unexpected keyword argument 'index'
+TypeError: insert() missing 1 required positional argument: 'chars'
+AttributeError: 'int' object has no attribute '_text'
+UnicodeEncodeError: 'utf-8' codec can't encode character '\\ud800' in position 0: surrogates not allowed
+UnicodeEncodeError: 'utf-8' codec can't encode characters in position 0-299: surrogates not allowed
+ValueError: the widget wasn't made
+1.257 None 1.5 None ('1.0', '1.2')
+[True, True]
+(self, markName: 'object', index: 'object') -> 'None' True Text.mark_set mark_set
+mark_set(self, markName: 'object', index: 'object') -> 'None' True
+AttributeError: 'method' object has no attribute 'x' True"""
+
 # The examples of the docstrings.
 EXAMPLES = """
 import doctest, tktext
@@ -458,6 +507,7 @@ def cases(rounds):
     yield "values of methods", VALUES, VALUES_SAY
     yield "faults that say more", FAULTS, FAULTS_SAY
     yield "what is left", LEFT, LEFT_SAYS
+    yield "calls by position", DIRECT, DIRECT_SAYS
     yield "the examples of the docstrings", EXAMPLES, "[]\n[]\n[]\n[]\n[]\n0"
     yield "random values", TKINTER, "done"
 
