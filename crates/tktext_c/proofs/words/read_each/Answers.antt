@@ -2,7 +2,7 @@ use Rattle.std.proofs.Common.{◌+◌, drop, rules, ◌∙◌}
 use Rattle.tcl_words.specs.Unread.{texts_of}
 use Rattle.std.proofs.lemmas.List.{drop_more}
 use Rattle.tktext_c.proofs.WordLaws.{reading-more, texts-more}
-use Rattle.tktext_c.proofs.words.read_words.Goals as goal
+use Rattle.tktext_c.proofs.words.read_each.Goals as goal
 
 pub loop-length-preserved : goal.loop-length-preserved
 loop-length-preserved c =

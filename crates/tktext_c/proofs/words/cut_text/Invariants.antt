@@ -1,0 +1,9 @@
+use Rattle.std.proofs.Common.{drop}
+use Rattle.std.specs.Prelude.{IsUtf8}
+use Rattle.tcl_words.specs.Unread.{texts_of}
+use Rattle.tktext_c.proofs.WordLaws.{Reading}
+use Rattle.tktext_c.proofs.words.cut_text.Given as goal
+
+abbrev pub invariant-loop-length : goal.invariant-loop-length
+invariant-loop-length l = IsUtf8 l.rest
+    × Reading l.lengths l.text (drop l.length-index l.lengths) l.rest (texts_of l.words.items)
