@@ -2,9 +2,9 @@
 use Rattle.std.proofs.Common.{◌≡◌, ℕ, zero, suc, ◌+◌, ◌-◌, ◌<◌, ◌≤◌, true, false, cond, Bool, None, Some, List, [], ◌∷◌}
 use Rattle.std.proofs.Common.{◌++◌, length, map, take, drop, get_or, slice_get, slice_set, replicate, filter, refl, sym}
 use Rattle.std.proofs.Common.{ap, ap₂, ◌∙◌, arith, true≢false, append_assoc, append-nil}
-use Rattle.std.specs.Prelude.{chars, string_bytes, String, bytes_eq, IsUtf8, encode_utf8_all, insert, remove}
+use Rattle.std.specs.Prelude.{chars, string_bytes, String, bytes_eq, IsUtf8, encode_utf8_all, insert, position, remove}
 use Rattle.std.specs.List.{AllByRecursion, IsDistinct}
-use Rattle.std.specs.Map.{keys_of, lookup}
+use Rattle.std.specs.Map.{keys_of, lookup, values_of}
 use Rattle.std.specs.String.{string_eq}
 use Rattle.std.proofs.lemmas.Bool.Decides.{same_from_decides}
 use Rattle.std.proofs.lemmas.List.{length-map, map-append, take-map, drop-map}
@@ -16,7 +16,7 @@ use Rattle.std.specs.Option.{option_map_or}
 use Rattle.std.specs.HashMap.{ContainsKey}
 use Rattle.std.proofs.lemmas.List.{length-append, length-take, take_all, drop_all, drop_more, length-replicate}
 use Rattle.indexmap.proofs.CallerLemmas.{insert_entry-new}
-use Rattle.indexmap.proofs.MapLemmas.{absent_from_lookup, or_len-absent}
+use Rattle.indexmap.proofs.MapLemmas.{Found-position, Missing-position, absent_from_lookup, or_len-absent}
 use Rattle.command_effects.specs.Words.{is_same}
 use Rattle.peers.specs.Windows.{Homes, home_in, home_kept, names_in, places_in}
 
@@ -38,6 +38,19 @@ module _ {Z : Type 0} where
   home-seen bytes text (e ∷ es) =
       ap₂ (λ b found. cond b (Some e.1) found)
       (sym (bytes_eq-chars bytes (string_bytes e.0) text (IsUtf8-string_bytes e.0))) (home-seen bytes text es)
+
+  -- a name that stands at an index, and one that stands at none
+  pub home-at : (bytes : List ℕ) → IsUtf8 bytes → (es : List (String Z × ℕ)) (index home : ℕ)
+      → position (λ (k : String Z). bytes_eq bytes (string_bytes k)) (keys_of es) ≡ Some index
+      → slice_get (values_of es) index ≡ Some home → home_in (chars bytes) (map (home_kept {Z = Z}) es) ≡ Some home
+  home-at bytes text es index home found there = home-seen bytes text es
+      ∙ (Found-position (λ k. bytes_eq bytes (string_bytes k)) es index found).value ∙ there
+
+  pub home-none : (bytes : List ℕ) → IsUtf8 bytes → (es : List (String Z × ℕ))
+      → position (λ (k : String Z). bytes_eq bytes (string_bytes k)) (keys_of es) ≡ None
+      → home_in (chars bytes) (map (home_kept {Z = Z}) es) ≡ None
+  home-none bytes text es none =
+      home-seen bytes text es ∙ (Missing-position (λ k. bytes_eq bytes (string_bytes k)) es none).value
 
   -- distinct keys are distinct names
   pub names-distinct : (es : List (String Z × ℕ)) → IsDistinct string_eq (keys_of es) →

@@ -10,6 +10,9 @@ use indexmap::IndexMap;
 use std::alloc::{AllocError, Global};
 use std::marker::Model;
 
+/// Among so many widgets one is looked for without the hash of its name.
+const FEW_WIDGETS: usize = 8;
+
 /// Where widgets are found: for the name of each the place of its document, in an order of names.
 #[derive(Drop)]
 pub struct Windows {
@@ -47,7 +50,18 @@ impl Windows {
     pub fn home(&self, name: &str) -> Option<usize>
         ensures { result ≡ home_in (chars name.now) self.now }
     {
+        if self.homes.len() <= FEW_WIDGETS {
+            return self.home_of_few(name);
+        }
         self.homes.get(name).copied()
+    }
+
+    /// The same, by a look at each name: a few are compared sooner than one is hashed.
+    fn home_of_few(&self, name: &str) -> Option<usize>
+        ensures { result ≡ home_in (chars name.now) self.now }
+    {
+        let index = self.homes.keys().position(|key| name == key.as_str())?;
+        Some(self.homes[index])
     }
 
     /// Puts the name of a new widget in, before the one at an index of the order, with the place of its document.
