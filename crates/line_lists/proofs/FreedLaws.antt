@@ -129,7 +129,7 @@ free-freed q (number ∷ numbers) lines free =
 pub eq_self : (number : ℕ) → eq_by_cmp nat_cmp number number ≡ true
 eq_self number = unsigned_tied number number ∙ grind (arith, nat_tests)
 
-gone-without : (number : ℕ) (lines : List LineContent) →
+pub gone-without : (number : ℕ) (lines : List LineContent) →
     finite.get (whole (map (without_mark number) lines)).marks number ≡ None
 gone-without number lines =
     ap (λ (line : LineContent). finite.get line.marks number) (whole-without number lines)

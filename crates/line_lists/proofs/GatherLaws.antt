@@ -21,7 +21,7 @@ use Rattle.line_lists.specs.declared.drafts.Stop.{Stop}
 use Rattle.line_lists.specs.declared.pieces.Piece.{Piece}
 use Rattle.line_lists.specs.Drafts.{AreStops, IsText, copies_of, drafted, drafted_at, made_lines, used}
 use Rattle.line_lists.specs.Edits.{without_mark}
-use Rattle.line_lists.specs.Lists.{AreApart, AreLines, AreRows, IsCounted, count_of, spliced}
+use Rattle.line_lists.specs.Lists.{AreApart, AreLines, AreRows, IsCounted, SameNumbers, count_of, spliced}
 use Rattle.line_lists.specs.Pieces.{CanPlace, Covers, copied_lines, freed, named, numbers_in, numbers_of, piece_lines}
 use Rattle.line_lists.specs.Pieces.{placed}
 use Rattle.line_lists.specs.Texts.{whole}
@@ -471,19 +471,13 @@ gathered-all front stops rest lines pieces gathers all none are is counted =
     }
 
 -- ---- what is counted, but for toggles
-pub record SameNumbers (first second : Count) : Type 0 where
-  pub lines : first.lines ≡ second.lines
-  pub characters : first.characters ≡ second.characters
-  pub marks : first.marks ≡ second.marks
-
-pub numbers-none : (sum all : Count) (lines characters marks : ℕ) → sum ≡ counting lines characters marks →
-    lines ≡ all.lines → characters ≡ all.characters → marks ≡ all.marks → SameNumbers sum (plus all no_text)
-numbers-none sum all lines characters marks is same same_too same_marks =
+pub numbers-none : (sum all : Count) → SameNumbers sum all → SameNumbers sum (plus all no_text)
+numbers-none sum all same =
     let none : (n : ℕ) → n ≡ n + 0 = λ n. omega arith in
     record {
-      lines = ap (λ (s : Count). s.lines) is ∙ same ∙ none all.lines;
-      characters = ap (λ (s : Count). s.characters) is ∙ same_too ∙ none all.characters;
-      marks = ap (λ (s : Count). s.marks) is ∙ same_marks ∙ none all.marks;
+      lines = same.lines ∙ none all.lines;
+      characters = same.characters ∙ none all.characters;
+      marks = same.marks ∙ none all.marks;
     }
 
 pub numbers-more : (new old all next counted line : Count) → new ≡ plus old counted → SameNumbers counted line →

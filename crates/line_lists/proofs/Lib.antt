@@ -20,6 +20,7 @@ pub mod MadeLaws
 pub mod MarkPlaces
 pub mod MarkRows
 pub mod MarksAtRows
+pub mod MoveLaws
 pub mod NearChanges
 pub mod NearMarks
 pub mod NewlineRows

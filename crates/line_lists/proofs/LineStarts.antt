@@ -64,7 +64,7 @@ column-within lines k column within inside =
     let most : suc k ≤ length lines = omega arith in
     omega (arith, small, start-next lines k within, start-rises lines (suc k) (length lines) most, start-all lines)
 
-lent-there : (lines : List LineContent) (k : ℕ) (line : LineContent) → slice_get lines k ≡ Some line → k < length lines
+pub lent-there : (lines : List LineContent) (k : ℕ) (line : LineContent) → slice_get lines k ≡ Some line → k < length lines
 lent-there [] k line is = absurd (let no : None ≡ Some line = is in cc)
 lent-there (here ∷ lines) zero line is = omega arith
 lent-there (here ∷ lines) (suc k) line is = let less : k < length lines = lent-there lines k line is in

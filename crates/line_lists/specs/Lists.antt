@@ -52,6 +52,12 @@ pub record IsCounted (count : Count) : Type 0 where
   pub characters : count.characters < 2 ^ 64
   pub marks : count.marks < 2 ^ 64
 
+-- two counts that differ in their toggles alone
+pub record SameNumbers (first second : Count) : Type 0 where
+  pub lines : first.lines ≡ second.lines
+  pub characters : first.characters ≡ second.characters
+  pub marks : first.marks ≡ second.marks
+
 -- the lines of a text
 pub record AreLines (lines : List LineContent) : Type 0 where
   pub some : 0 < length lines

@@ -1,10 +1,12 @@
 -- Where the mark of a number stands in lines.
-use Rattle.std.specs.Prelude.{◌≡◌, ℕ, ◌+◌, ◌-◌, min, List, [], ◌∷◌, ◌++◌, Some, length, take, drop}
+use Rattle.std.specs.Prelude.{◌≡◌, ℕ, ◌+◌, ◌-◌, ◌<◌, min, List, [], ◌∷◌, ◌++◌, Some, length, map, take, drop}
 use Rattle.std.specs.FinMap as finite
 use Rattle.text_model.specs.declared.places.Place.{Place}
 use Rattle.segments.specs.Columns.{LineContent}
 use Rattle.line_lists.specs.declared.drafts.Copied.{Copied}
 use Rattle.line_lists.specs.declared.drafts.Reached.{Reached}
+use Rattle.line_lists.specs.Edits.{with_mark, without_mark}
+use Rattle.line_lists.specs.Lists.{AreRows, spliced}
 use Rattle.line_lists.specs.Texts.{whole}
 
 -- it stands in one of the lines, at an offset; a mark at the end of this line counts as one before its last character
@@ -20,3 +22,11 @@ pub record StandsIn (number offset : ℕ) (lines : List LineContent) : Type 0 wh
 -- the lines that are kept before a copy that follows what is covered, and its line
 abbrev pub lines_with : Reached → Copied → List LineContent → List LineContent
 lines_with reached copy lines = take copy.kept (drop reached.used lines) ++ copy.line ∷ []
+
+-- the mark of a number goes to a place in a line, of which a copy has it: what comes of lines that had it elsewhere
+pub record MovesTo (number : ℕ) (place : Place) (lines : List LineContent) (copy : Copied) : Type 0 where
+  pub one : copy.gone ≡ 1
+  pub within : copy.kept < length lines
+  pub rows : AreRows (spliced copy.kept 1 (copy.line ∷ []) (map (without_mark number) lines))
+  pub whole : whole (spliced copy.kept 1 (copy.line ∷ []) (map (without_mark number) lines))
+      ≡ with_mark number place (whole lines)

@@ -9,6 +9,7 @@ pub mod laws;
 mod line_vec;
 mod lists;
 mod marks;
+mod moves;
 mod pieces;
 mod queries;
 mod removals;

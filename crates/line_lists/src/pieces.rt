@@ -4,7 +4,7 @@ ghost use Rattle.toggle_sums.specs.Counts.{counting, plus};
 ghost use Rattle.segments.specs.Columns.{LineContent, line_count};
 ghost use Rattle.line_lists.specs.DraftTexts.{IsDraftIn, lines_in};
 ghost use Rattle.line_lists.specs.Drafts.{IsText, copies_of, drafted_at};
-ghost use Rattle.line_lists.specs.Lists.{IsCounted, NumbersBelow, count_of};
+ghost use Rattle.line_lists.specs.Lists.{IsCounted, NumbersBelow, SameNumbers, count_of};
 ghost use Rattle.line_lists.specs.Pieces.{CanPlace, copied_lines, freed, lines_more, named, numbers_in, numbers_of};
 ghost use Rattle.line_lists.specs.Pieces.{piece_lines, placed, rows_more};
 
@@ -79,7 +79,7 @@ pub fn numbers_brought(alloc: Global, pieces: &[Piece]) -> Result<Vec<MarkNo>, A
 }
 
 /// The least bound, from one on, above the numbers of the marks of a line.
-fn bound_with(bound: usize, line: &Line) -> usize
+pub fn bound_with(bound: usize, line: &Line) -> usize
     ensures more { bound ≤ result }
     ensures above { All (λ number. number < result) (numbers_of line.now) }
 {
@@ -115,13 +115,28 @@ fn add_line(sum: &mut Sums<WORDS>, line: &Line) -> Result<(), AllocError>
     Ok(())
 }
 
+/// What is counted of the lines of a list, but for their toggles.
+fn counts<L: LineList>(list: &L) -> Sums<WORDS>
+    ensures { SameNumbers result (count_of (L.lines list.now)) }
+{
+    let lines = list.len();
+    Sums::counting(lines, list.start(lines), list.marks())
+}
+
+/// Makes sure that a list and one more line can be counted together.
+pub fn count_line<L: LineList>(list: &L, line: &Line) -> Result<(), AllocError>
+    ensures { OnOk result (IsCounted (plus (count_of (L.lines list.now)) (count_of (line.now ∷ [])))) }
+{
+    let mut sum = counts(list);
+    add_line(&mut sum, line)
+}
+
 /// Makes sure that a list and copies of its lines can be counted together.
 fn count<L: LineList>(list: &L, stops: &[Stop]) -> Result<(), AllocError>
     ensures { OnOk result (IsCounted (plus (count_of (L.lines list.now))
         (count_of (copied_lines (copies_of stops.now))))) }
 {
-    let lines = list.len();
-    let mut sum = Sums::counting(lines, list.start(lines), list.marks());
+    let mut sum = counts(list);
     for stop in stops {
         add_line(&mut sum, &stop.copy.line)?;
     }
@@ -172,7 +187,7 @@ impl Piece {
 }
 
 /// A copy as a piece from a line on, with room for so many lines.
-fn piece_of(alloc: Global, from: usize, copy: Copied, room: usize) -> Result<Piece, AllocError>
+pub fn piece_of(alloc: Global, from: usize, copy: Copied, room: usize) -> Result<Piece, AllocError>
     ensures from { IfOk result (λ piece. piece.from ≡ from) }
     ensures count { IfOk result (λ piece. piece.count ≡ copy.gone) }
     ensures lines { IfOk result (λ piece. piece.lines.items ≡ copy.line ∷ []) }

@@ -128,7 +128,7 @@ pub fn line_at<L: LineList>(list: &L, offset: usize) -> LineSpan
 
 /// The line that holds an offset, lent, behind its number and the column there; from the end of the text on it is the
 /// last line.
-fn place_of<L: LineList>(list: &L, offset: usize) -> (usize, usize, &Line)
+pub fn place_of<L: LineList>(list: &L, offset: usize) -> (usize, usize, &Line)
     ensures place { IsAt (L.lines list.now) offset result.0 result.1 }
     ensures line { slice_get (L.lines list.now) result.0 ≡ Some result.2.now }
 {

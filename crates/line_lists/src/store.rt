@@ -1,13 +1,16 @@
-ghost use Rattle.std.specs.Prelude.{◌≡◌, ◌≢◌, [], IfOk, OnOk, length};
+ghost use Rattle.std.specs.Prelude.{◌≡◌, ◌≢◌, ◌≤◌, [], ◌∷◌, IfOk, OnOk, length};
 ghost use Rattle.text_model.specs.Steps.{Fits, after};
+ghost use Rattle.text_model.specs.declared.edits.Step.TheVariants.{PutMark};
 ghost use Rattle.line_lists.specs.Drafts.{IsText, text_at};
 ghost use Rattle.line_lists.specs.Pieces.{CanMake, IsReady, content_made, named, numbers_in, piece_lines};
 ghost use Rattle.line_lists.specs.Texts.{content_of, text_of};
 
 use crate::drafts::{Draft, Stop};
 use crate::lists::LineList;
+use crate::moves::{alone, copy_with_mark, lone_mark};
 use crate::pieces::{
-    Growth, Piece, bound_of, growth_of, numbers_brought, pieces_of, place, take_marks,
+    Growth, Piece, bound_of, bound_with, count_line, growth_of, numbers_brought, piece_of,
+    pieces_of, place, take_marks,
 };
 use crate::queries;
 use std::alloc::{AllocError, Global};
@@ -63,6 +66,33 @@ fn change_of<L: LineList>(alloc: Global, list: &L, front: Vec<Stop>) -> Result<C
     })
 }
 
+/// What the mark of a number makes of a list of lines where it goes to a place. It is taken off the list wherever it
+/// stood, so the line to which it goes is the only one that is copied.
+fn change_by_mark<L: LineList>(
+    alloc: Global,
+    list: &L,
+    number: MarkNo,
+    place: Place,
+) -> Result<Change, AllocError>
+    requires { place.offset ≤ length (content_of (L.lines list.now)).cells }
+    ensures can { IfOk result (CanMake (L.lines list.now)) }
+    ensures new { IfOk result (λ change. content_made change (L.lines list.now)
+        ≡ after (PutMark number place ∷ []) (content_of (L.lines list.now))) }
+{
+    let copy = copy_with_mark(list, number, place)?;
+    count_line(list, &copy.line)?;
+    let bound = bound_with(0, &copy.line);
+    let taken = alone(alloc, number)?;
+    let piece = piece_of(alloc, copy.kept, copy, 1)?;
+    let pieces = alone(alloc, piece)?;
+    Ok(Change {
+        taken,
+        pieces,
+        growth: Growth { lines: 0, rows: 0 },
+        bound,
+    })
+}
+
 /// What steps make of a list of lines, which stays as it is.
 fn change_by<L: LineList>(alloc: Global, list: &L, steps: &[Step]) -> Result<Change, AllocError>
     requires { Fits steps.now (content_of (L.lines list.now)) }
@@ -70,6 +100,9 @@ fn change_by<L: LineList>(alloc: Global, list: &L, steps: &[Step]) -> Result<Cha
     ensures new { IfOk result (λ change. content_made change (L.lines list.now)
         ≡ after steps.now (content_of (L.lines list.now))) }
 {
+    if let Some((number, place)) = lone_mark(steps) {
+        return change_by_mark(alloc, list, number, place);
+    }
     let mut draft = Draft::new(alloc, list);
     draft.make_steps(steps, queries::len(list))?;
     draft.forth_to_end()?;
@@ -87,6 +120,9 @@ fn change_by_owned<L: LineList>(
     ensures new { IfOk result (λ change. content_made change (L.lines list.now)
         ≡ after steps.items (content_of (L.lines list.now))) }
 {
+    if let Some((number, place)) = lone_mark(&steps) {
+        return change_by_mark(alloc, list, number, place);
+    }
     let mut draft = Draft::new(alloc, list);
     draft.make_steps(&steps, queries::len(list))?;
     drop(steps);

@@ -1,12 +1,10 @@
-use Rattle.std.proofs.Common.{length, subst, sym, ap, ◌∙◌, arith}
+use Rattle.std.proofs.Common.{subst, arith}
 use Rattle.std.proofs.lemmas.List.{take_all}
 use Rattle.toggle_sums.specs.Counts.{plus}
 use Rattle.segments.specs.Columns.{line_count}
 use Rattle.line_lists.specs.Drafts.{copies_of}
 use Rattle.line_lists.specs.Lists.{IsCounted, count_of}
 use Rattle.line_lists.specs.Pieces.{copied_lines}
-use Rattle.line_lists.specs.Texts.{whole}
-use Rattle.line_lists.proofs.CountRows.{count-characters, count-lines}
 use Rattle.line_lists.proofs.GatherLaws.{count-stop, counted-none, counted-same, numbers-line, numbers-more}
 use Rattle.line_lists.proofs.GatherLaws.{numbers-none}
 use Rattle.line_lists.proofs.pieces.count.Goals as goal
@@ -14,13 +12,8 @@ use Rattle.line_lists.proofs.pieces.count.Goals as goal
 pub loop-stop-init : goal.loop-stop-init
 loop-stop-init g c =
     let lines = g.L.LineList.lines c.args.list.now in
-    let all = take_all c.len-lines.result lines (omega (arith, c.len-lines.ensures)) in
-    let same = numbers-none c.counting-sum.result (count_of lines) c.len-lines.result c.start.result c.marks.result
-    c.counting-sum.ensures (c.len-lines.ensures ∙ sym (count-lines lines))
-    (c.start.ensures ∙ ap (λ ls. length (whole ls).columns) all ∙ sym (count-characters lines)) c.marks.ensures in (
-      same,
-      counted-none c.counting-sum.result (count_of lines) same (g.L.LineList.are_lines c.args.list.now).counted,
-    )
+    let same = numbers-none c.counts-sum.result (count_of lines) c.counts-sum.ensures in
+    (same, counted-none c.counts-sum.result (count_of lines) same (g.L.LineList.are_lines c.args.list.now).counted)
 
 pub loop-stop-preserved : goal.loop-stop-preserved
 loop-stop-preserved g c =
