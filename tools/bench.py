@@ -41,6 +41,11 @@ class Kind(NamedTuple):
     sizes: tuple = ()
 
 
+def text_of(size):
+    """The commands that make a text of `size` characters."""
+    return ["text .t", ".t insert end " + "a" * size]
+
+
 def appends(size):
     """A text made of words that are put in at its end."""
     return ["text .t"] + [".t insert end x"] * size
@@ -48,38 +53,32 @@ def appends(size):
 
 def middle_inserts(size):
     """A text of `size` characters, into which further ones are put at places all over it."""
-    text = ["text .t", ".t insert end " + "a" * size]
-    return text + [f".t insert 1.{place} x" for place in spread_places(size)]
+    return text_of(size) + [f".t insert 1.{place} x" for place in spread_places(size)]
 
 
 def index_queries(size):
     """A text of `size` characters, asked for the places of positions all over it."""
-    text = ["text .t", ".t insert end " + "a" * size]
-    return text + [f".t index 1.{place}" for place in spread_places(size)]
+    return text_of(size) + [f".t index 1.{place}" for place in spread_places(size)]
 
 
 def line_queries(size):
     """A text of `size` characters, asked for lines by their number, that of a line past the last too."""
-    text = ["text .t", ".t insert end " + "a" * size]
-    return text + [f".t index {number % 3}.end" for number in range(size)]
+    return text_of(size) + [f".t index {number % 3}.end" for number in range(size)]
 
 
 def character_queries(size):
     """A text of `size` characters, asked for the characters at positions all over it."""
-    text = ["text .t", ".t insert end " + "a" * size]
-    return text + [f".t get 1.{place}" for place in spread_places(size)]
+    return text_of(size) + [f".t get 1.{place}" for place in spread_places(size)]
 
 
 def middle_deletes(size):
     """A text of `size` characters, from which single ones go all over it."""
-    text = ["text .t", ".t insert end " + "a" * size]
-    return text + [f".t delete 1.{place}" for place in spread_places(size // 4)]
+    return text_of(size) + [f".t delete 1.{place}" for place in spread_places(size // 4)]
 
 
 def middle_replaces(size):
     """A text of `size` characters, of which single ones are replaced all over it."""
-    text = ["text .t", ".t insert end " + "a" * size]
-    return text + [f".t replace 1.{place} 1.{place + 1} x" for place in spread_places(size // 4)]
+    return text_of(size) + [f".t replace 1.{place} 1.{place + 1} x" for place in spread_places(size // 4)]
 
 
 RANGES = 1_000
@@ -87,7 +86,7 @@ RANGES = 1_000
 
 def many_ranges(size):
     """A text of `size` characters and twice as many as there are ranges, of which many go by one command, and come back."""
-    text = ["text .t", ".t insert end " + "a" * (size + 2 * RANGES)]
+    text = text_of(size + 2 * RANGES)
     ranges = " ".join(f"1.{2 * number} 1.{2 * number + 1}" for number in range(RANGES))
     return text + [f".t delete {ranges}", ".t insert 1.0 " + "b" * RANGES] * (size // RANGES)
 
@@ -119,7 +118,7 @@ MARKS = 4_000
 def with_marks(commands):
     """These commands behind those that make a text of `size` characters with 4,000 marks spread over it."""
     return lambda size: (
-        ["text .t", ".t insert end " + "a" * size]
+        text_of(size)
         + [f".t mark set m{number} 1.{number * size // MARKS}" for number in range(MARKS)]
         + commands(size)
     )
