@@ -1,13 +1,13 @@
 -- A mark that goes to one of the lines of a list, wherever it stood.
 use Rattle.std.proofs.Common.{◌≡◌, ℕ, suc, ◌+◌, ◌-◌, ◌<◌, ◌≤◌, List, [], ◌∷◌, ◌++◌, Some, length, map, None, take, drop}
-use Rattle.std.proofs.Common.{inl, inr, sym, ap, ap₂, subst, subst₂, ◌∙◌, arith, append_assoc, length-append}
+use Rattle.std.proofs.Common.{inl, inr, refl, sym, ap, ap₂, subst, subst₂, ◌∙◌, arith, append_assoc, length-append}
 use Rattle.std.proofs.Common.{take-append-drop}
 use Rattle.std.specs.FinMap as finite
 use Rattle.std.specs.List.{All}
 use Rattle.std.specs.Prelude.{slice_get}
 use Rattle.std.proofs.lemmas.Bool.{cases_lt}
 use Rattle.std.proofs.lemmas.List.{append-nil, drop-map, drop_more, length-map, map-append, take-map}
-use Rattle.text_model.specs.declared.edits.Step.TheVariants.{PutMark}
+use Rattle.text_model.specs.declared.edits.Step.TheVariants.{PutMark, TakeMark}
 use Rattle.text_model.specs.declared.places.MarkNo.{MarkNo}
 use Rattle.text_model.specs.declared.places.Place.{Place}
 use Rattle.text_model.specs.Steps.{after}
@@ -236,3 +236,27 @@ moved-can number place lines copy change piece moves is none counted below =
           (subst (λ new. bounded (new ++ [])) (sym is.brings.lines)
           (subst (All (λ n. n < change.bound)) (sym (append-nil (numbers_of copy.line))) below));
     }
+
+-- ---- marks that are taken away alone
+freed-content : (numbers : List MarkNo) (lines : List LineContent) → content_of (freed (named numbers) lines)
+    ≡ after (map (λ number. TakeMark number) numbers) (content_of lines)
+freed-content [] lines = refl
+freed-content (number ∷ numbers) lines =
+    freed-content numbers (map (without_mark number.0) lines)
+    ∙ ap (λ line. after (map (λ number. TakeMark number) numbers) (text_of line)) (whole-without number.0 lines)
+
+pub taken-new : (lines : List LineContent) (change : Change) → change.pieces.items ≡ [] →
+    content_made change lines ≡ after (map (λ number. TakeMark number) change.taken.items) (content_of lines)
+taken-new lines change none =
+    ap (λ pieces. content_of (placed pieces (freed (named change.taken.items) lines))) none
+    ∙ freed-content change.taken.items lines
+
+pub taken-can : (lines : List LineContent) (change : Change) → change.pieces.items ≡ [] →
+    change.growth ≡ record { lines = 0; rows = 0 } → CanMake lines change
+taken-can lines change none growth = record {
+  can = subst (λ pieces. CanPlace pieces (freed (named change.taken.items) lines)) (sym none) tt;
+  lines = ap (λ (growth : Growth). growth.lines) growth ∙ sym (ap lines_more none);
+  rows = ap (λ (growth : Growth). growth.rows) growth ∙ sym (ap rows_more none);
+  below = subst (λ pieces. All (λ n. n < change.bound) (numbers_in (piece_lines pieces))) (sym none)
+      (λ k d less. absurd (omega (arith, less)));
+}

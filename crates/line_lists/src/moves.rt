@@ -1,7 +1,7 @@
-//! A mark that goes to a place in a list of lines, with nothing else.
+//! Marks of a list of lines that go, with nothing else: one to a place, or some away.
 
-ghost use Rattle.std.specs.Prelude.{◌≡◌, ◌≤◌, [], ◌∷◌, IfOk, IfSome, length};
-ghost use Rattle.text_model.specs.declared.edits.Step.TheVariants.{PutMark};
+ghost use Rattle.std.specs.Prelude.{◌≡◌, ◌≤◌, [], ◌∷◌, IfOk, IfSome, length, map};
+ghost use Rattle.text_model.specs.declared.edits.Step.TheVariants.{PutMark, TakeMark};
 ghost use Rattle.line_lists.specs.Marking.{MovesTo};
 ghost use Rattle.line_lists.specs.Texts.{content_of};
 
@@ -31,6 +31,21 @@ pub fn lone_mark(steps: &[Step]) -> Option<(MarkNo, Place)>
         Step::PutMark(number, place) => Some((*number, *place)),
         _ => None,
     }
+}
+
+/// The numbers of the marks that steps take away, if they do nothing else.
+pub fn lone_takes(alloc: Global, steps: &[Step]) -> Result<Option<Vec<MarkNo>>, AllocError>
+    ensures { IfOk result (λ found.
+        IfSome found (λ numbers. steps.now ≡ map (λ number. TakeMark number) numbers.items)) }
+{
+    let mut numbers = Vec::new(alloc);
+    for step in steps {
+        let Step::TakeMark(number) = step else {
+            return Ok(None);
+        };
+        numbers.push(*number)?;
+    }
+    Ok(Some(numbers))
 }
 
 /// A copy of the line of a list to which the mark of a number goes, with it.

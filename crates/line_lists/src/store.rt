@@ -1,13 +1,14 @@
-ghost use Rattle.std.specs.Prelude.{◌≡◌, ◌≢◌, ◌≤◌, [], ◌∷◌, IfOk, OnOk, length};
+ghost use Rattle.std.specs.Prelude.{◌≡◌, ◌≢◌, ◌≤◌, List, [], ◌∷◌, IfOk, OnOk, length, map};
 ghost use Rattle.text_model.specs.Steps.{Fits, after};
-ghost use Rattle.text_model.specs.declared.edits.Step.TheVariants.{PutMark};
+ghost use Rattle.text_model.specs.declared.edits.Step.TheVariants.{PutMark, TakeMark};
+ghost use Rattle.segments.specs.Columns.{LineContent};
 ghost use Rattle.line_lists.specs.Drafts.{IsText, text_at};
 ghost use Rattle.line_lists.specs.Pieces.{CanMake, IsReady, content_made, named, numbers_in, piece_lines};
 ghost use Rattle.line_lists.specs.Texts.{content_of, text_of};
 
 use crate::drafts::{Draft, Stop};
 use crate::lists::LineList;
-use crate::moves::{alone, copy_with_mark, lone_mark};
+use crate::moves::{alone, copy_with_mark, lone_mark, lone_takes};
 use crate::pieces::{
     Growth, Piece, bound_of, bound_with, count_line, growth_of, numbers_brought, piece_of,
     pieces_of, place, take_marks,
@@ -93,6 +94,20 @@ fn change_by_mark<L: LineList>(
     })
 }
 
+/// What it makes of any list of lines that marks are taken away.
+fn change_by_taking(alloc: Global, numbers: Vec<MarkNo>) -> Change
+    ensures can { (lines : List LineContent) → CanMake lines result }
+    ensures new { (lines : List LineContent) → content_made result lines
+        ≡ after (map (λ number. TakeMark number) numbers.items) (content_of lines) }
+{
+    Change {
+        taken: numbers,
+        pieces: Vec::new(alloc),
+        growth: Growth { lines: 0, rows: 0 },
+        bound: 0,
+    }
+}
+
 /// What steps make of a list of lines, which stays as it is.
 fn change_by<L: LineList>(alloc: Global, list: &L, steps: &[Step]) -> Result<Change, AllocError>
     requires { Fits steps.now (content_of (L.lines list.now)) }
@@ -102,6 +117,9 @@ fn change_by<L: LineList>(alloc: Global, list: &L, steps: &[Step]) -> Result<Cha
 {
     if let Some((number, place)) = lone_mark(steps) {
         return change_by_mark(alloc, list, number, place);
+    }
+    if let Some(numbers) = lone_takes(alloc, steps)? {
+        return Ok(change_by_taking(alloc, numbers));
     }
     let mut draft = Draft::new(alloc, list);
     draft.make_steps(steps, queries::len(list))?;
@@ -122,6 +140,9 @@ fn change_by_owned<L: LineList>(
 {
     if let Some((number, place)) = lone_mark(&steps) {
         return change_by_mark(alloc, list, number, place);
+    }
+    if let Some(numbers) = lone_takes(alloc, &steps)? {
+        return Ok(change_by_taking(alloc, numbers));
     }
     let mut draft = Draft::new(alloc, list);
     draft.make_steps(&steps, queries::len(list))?;

@@ -1,0 +1,6 @@
+use Rattle.std.proofs.Common.{◌≡◌, map, take}
+use Rattle.text_model.specs.declared.edits.Step.TheVariants.{TakeMark}
+use Rattle.line_lists.proofs.moves.lone_takes.Given as goal
+
+abbrev pub invariant-loop-step : goal.invariant-loop-step
+invariant-loop-step l = map (λ number. TakeMark number) l.numbers.items ≡ take l.step-index l.steps
