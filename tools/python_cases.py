@@ -438,7 +438,7 @@ print(text.get("1.0", "end"), loud.get("1.0", "end"), text.get("1.0", None), tex
 for call in (lambda: bound("end"), lambda: text.get(), lambda: text.get("1.0", "1.1", "1.2"), lambda: text.get(index="1.0"),
              lambda: Text.insert("end", "x"), lambda: Text.get(3, "1.0"), lambda: text.insert("end", chr(0xd800)),
              lambda: text.insert("end", chr(0xd800) * 300), lambda: Text.index(object.__new__(Text), "1.0")):
-    print(tried(call).replace("Text.", ""))
+    print(tried(call).replace("Text.", "").partition(". Did")[0])
 text.insert("1.0", "é" * 257 + "\\n")
 print(text.index("1.end"), text.mark_set("m", "1.5"), text.index("m"), text.tag_add("d", "1.0", "1.2"), text.tag_ranges("d"))
 seen = []
@@ -449,7 +449,7 @@ text.delete(index1="1.0")
 print(seen)
 print(inspect.signature(Text.mark_set), inspect.isroutine(Text.mark_set), Text.mark_set.__qualname__, text.mark_set.__name__)
 print(pydoc.render_doc(Text.mark_set, renderer=pydoc.plaintext).splitlines()[2], hasattr(Text.get, "__wrapped__"))
-print(tried(lambda: setattr(text.get, "x", 1)), copy.copy(text) is text)
+print(tried(lambda: setattr(text.get, "x", 1)).partition(":")[0], copy.copy(text) is text)
 """
 DIRECT_SAYS = """one two three01234567890123456789!
 |ONE
@@ -467,7 +467,7 @@ ValueError: the widget wasn't made
 [True, True]
 (self, markName: 'object', index: 'object') -> 'None' True Text.mark_set mark_set
 mark_set(self, markName: 'object', index: 'object') -> 'None' True
-AttributeError: 'method' object has no attribute 'x' True"""
+AttributeError True"""
 
 # The examples of the docstrings.
 EXAMPLES = """
