@@ -73,6 +73,10 @@ pub record IsChanged (limits : LimitTable) (old new : Parts) (document : Documen
   pub marks : length old.marks.marks ≤ limits.marks → length new.marks.marks ≤ limits.marks
   pub seats : new.seats.entries ≡ old.seats.entries
 
+-- limits for what holds by any
+pub some_limits : LimitTable
+some_limits = record { chars = 1; tags = 0; marks = 0; widgets = 0; reads = 0 }
+
 -- what a change leaves is sound, and it does what the definition says
 pub record Leaves (limits : LimitTable) (new : Parts) (document : Document) (result : Result Answer Fault)
     (change : Change) : Type 0 where

@@ -1,5 +1,6 @@
 ghost use Rattle.std.specs.Prelude.{◌≡◌, ◌<◌, ◌≤◌, false, length};
 ghost use Rattle.std.specs.List.{All};
+ghost use Rattle.text_model.specs.LimitTable.{LimitTable};
 ghost use Rattle.documents.specs.Deletions.{delete_places, replace_span};
 ghost use Rattle.documents.specs.Documents.{widget_at};
 ghost use Rattle.documents.specs.Promise.{Does};
@@ -14,16 +15,11 @@ use text_model::{Limits, MarkNo, TagSlot, TextStore};
 
 impl<S: TextStore> Document<S> {
     /// Deletes the ranges between pairs of places.
-    pub fn delete_places(
-        &mut self,
-        limits: &Limits,
-        seat: usize,
-        places: &[usize],
-    ) -> Result<Answer, Fault>
+    pub fn delete_places(&mut self, seat: usize, places: &[usize]) -> Result<Answer, Fault>
         requires shown { seat < length self.old.widgets }
         requires active { is_idle self.old (widget_at self.old seat) ≡ false }
         requires within { All (λ place. place ≤ length (shown self.old (widget_at self.old seat))) places.now }
-        ensures { Does limits.now self.old self.new result
+        ensures { (limits : LimitTable) → Does limits self.old self.new result
             (delete_places self.old (widget_at self.old seat) places.now) }
     {
         let slot = self.seats.number(seat);

@@ -1,4 +1,5 @@
 ghost use Rattle.std.specs.Prelude.{◌≡◌, ◌<◌, length, Ok};
+ghost use Rattle.text_model.specs.LimitTable.{LimitTable};
 ghost use Rattle.documents.specs.Documents.{widget_at};
 ghost use Rattle.documents.specs.History.{can_redo, can_undo};
 ghost use Rattle.documents.specs.History.{edit_redo, edit_reset, edit_separator, edit_undo, modified_set};
@@ -19,8 +20,8 @@ impl<S: TextStore> Document<S> {
     }
 
     /// Says whether the text is modified.
-    pub fn set_modified(&mut self, limits: &Limits, modified: bool) -> Answer
-        ensures { Does limits.now self.old self.new (Ok result) (modified_set self.old modified) }
+    pub fn set_modified(&mut self, modified: bool) -> Answer
+        ensures { (limits : LimitTable) → Does limits self.old self.new (Ok result) (modified_set self.old modified) }
     {
         self.text.history.set_modified(modified);
         Answer::Empty
@@ -41,8 +42,8 @@ impl<S: TextStore> Document<S> {
     }
 
     /// `W edit separator` (text(n), "edit separator").
-    pub fn edit_separator(&mut self, limits: &Limits) -> Answer
-        ensures { Does limits.now self.old self.new (Ok result) (edit_separator self.old) }
+    pub fn edit_separator(&mut self) -> Answer
+        ensures { (limits : LimitTable) → Does limits self.old self.new (Ok result) (edit_separator self.old) }
     {
         if !self.settings.undo {
             return Answer::Empty;
@@ -52,8 +53,8 @@ impl<S: TextStore> Document<S> {
     }
 
     /// `W edit reset` (text(n), "edit reset").
-    pub fn edit_reset(&mut self, limits: &Limits) -> Answer
-        ensures { Does limits.now self.old self.new (Ok result) (edit_reset self.old) }
+    pub fn edit_reset(&mut self) -> Answer
+        ensures { (limits : LimitTable) → Does limits self.old self.new (Ok result) (edit_reset self.old) }
     {
         self.text.history.reset();
         self.text.history.give_back_room();

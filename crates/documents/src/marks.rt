@@ -1,5 +1,6 @@
 ghost use Rattle.std.specs.Prelude.{◌≡◌, true, None, Some, is_some, ◌+◌, ◌-◌, ◌<◌, ◌≤◌, min, length, chars, option_map};
 ghost use Rattle.std.specs.Prelude.{Ok, Err, IfOk, [], IfSome, slice_index_or};
+ghost use Rattle.text_model.specs.LimitTable.{LimitTable};
 ghost use Rattle.documents.specs.Documents.{widget_at};
 ghost use Rattle.documents.specs.Views.{shown};
 ghost use Rattle.documents.specs.Promise.{Does, answered};
@@ -163,10 +164,10 @@ impl<S: TextStore> Document<S> {
 
 impl<S: TextStore> Document<S> {
     /// Puts the widget's `insert` at a place.
-    fn put_insert(&mut self, limits: &Limits, seat: usize, place: Place) -> Result<Answer, Fault>
+    fn put_insert(&mut self, seat: usize, place: Place) -> Result<Answer, Fault>
         requires shown { seat < length self.old.widgets }
         requires stands { place.offset ≤ length self.old.cells }
-        ensures { Does limits.now self.old self.new result
+        ensures { (limits : LimitTable) → Does limits self.old self.new result
             (answered (with_insert self.old (widget_at self.old seat) place) Empty) }
     {
         match put_mark(
@@ -181,10 +182,10 @@ impl<S: TextStore> Document<S> {
     }
 
     /// Puts the widget's `current` at a place.
-    fn put_current(&mut self, limits: &Limits, seat: usize, place: Place) -> Result<Answer, Fault>
+    fn put_current(&mut self, seat: usize, place: Place) -> Result<Answer, Fault>
         requires shown { seat < length self.old.widgets }
         requires stands { place.offset ≤ length self.old.cells }
-        ensures { Does limits.now self.old self.new result
+        ensures { (limits : LimitTable) → Does limits self.old self.new result
             (answered (with_current self.old (widget_at self.old seat) place) Empty) }
     {
         match put_mark(
@@ -199,9 +200,9 @@ impl<S: TextStore> Document<S> {
     }
 
     /// Puts the shared mark of a name at a place, if there is one.
-    fn put_shared(&mut self, limits: &Limits, name: &str, place: Place) -> Result<Answer, Fault>
+    fn put_shared(&mut self, name: &str, place: Place) -> Result<Answer, Fault>
         requires { place.offset ≤ length self.old.cells }
-        ensures { Does limits.now self.old self.new result
+        ensures { (limits : LimitTable) → Does limits self.old self.new result
             (answered (with_shared self.old (chars name.now) place) Empty) }
     {
         let Some(number) = self.marks.find(name) else {
@@ -221,24 +222,18 @@ impl<S: TextStore> Document<S> {
     }
 
     /// Puts the mark of a name at a place, if there is one.
-    pub fn put_mark(
-        &mut self,
-        limits: &Limits,
-        seat: usize,
-        name: &str,
-        place: Place,
-    ) -> Result<Answer, Fault>
+    pub fn put_mark(&mut self, seat: usize, name: &str, place: Place) -> Result<Answer, Fault>
         requires shown { seat < length self.old.widgets }
         requires stands { place.offset ≤ length self.old.cells }
-        ensures { Does limits.now self.old self.new result
+        ensures { (limits : LimitTable) → Does limits self.old self.new result
             (answered (with_mark self.old (widget_at self.old seat) (chars name.now) place) Empty) }
     {
         if is_word(name, "insert") {
-            self.put_insert(limits, seat, place)
+            self.put_insert(seat, place)
         } else if is_word(name, "current") {
-            self.put_current(limits, seat, place)
+            self.put_current(seat, place)
         } else {
-            self.put_shared(limits, name, place)
+            self.put_shared(name, place)
         }
     }
 
@@ -274,8 +269,9 @@ impl<S: TextStore> Document<S> {
     }
 
     /// Takes the shared marks of these names out. The widget's own and unknown names are skipped.
-    pub fn unset_marks(&mut self, limits: &Limits, names: &[String]) -> Result<Answer, Fault>
-        ensures { Does limits.now self.old self.new result (mark_unset self.old (texts_of names.now)) }
+    pub fn unset_marks(&mut self, names: &[String]) -> Result<Answer, Fault>
+        ensures { (limits : LimitTable) → Does limits self.old self.new result
+            (mark_unset self.old (texts_of names.now)) }
     {
         let numbers = numbers_named(self.alloc, &self.marks, names)?;
         match take_marks(self.alloc, &mut self.text.store, &numbers) {

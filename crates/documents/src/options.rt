@@ -5,12 +5,13 @@ ghost use Rattle.documents.specs.Documents.{characters, widget_at};
 ghost use Rattle.documents.specs.Options.{AreLines, IsLine, settings_of, with_settings};
 ghost use Rattle.documents.specs.Promise.{Does, answered};
 ghost use Rattle.text_model.specs.Content as model;
+ghost use Rattle.text_model.specs.LimitTable.{LimitTable};
 ghost use Rattle.text_model.specs.Lines.{line_of, line_start, lines};
 
 use crate::documents::Document;
 use command_effects::{Answer, Settings};
 use edit_ops::Anchors;
-use text_model::{Limits, TextStore};
+use text_model::TextStore;
 
 /// Where a line begins, by its number counted from 1.
 pub fn anchor_at<S: TextStore>(store: &S, line: Option<usize>) -> Option<usize>
@@ -49,11 +50,11 @@ impl<S: TextStore> Document<S> {
     }
 
     /// Gives the document and a widget options.
-    pub fn put_settings(&mut self, limits: &Limits, seat: usize, settings: Settings) -> Answer
+    pub fn put_settings(&mut self, seat: usize, settings: Settings) -> Answer
         requires shown { seat < length self.old.widgets }
         requires lines { AreLines (lines (characters self.old.cells)) settings }
         requires ordered { is_behind settings.start settings.end ≡ false }
-        ensures { Does limits.now self.old self.new (Ok result)
+        ensures { (limits : LimitTable) → Does limits self.old self.new (Ok result)
             (answered (with_settings (widget_at self.old seat) settings self.old) Empty) }
     {
         let slot = self.seats.number(seat) as usize;

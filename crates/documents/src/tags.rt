@@ -1,6 +1,7 @@
 ghost use Rattle.std.specs.Prelude.{◌≡◌, Some, ◌+◌, ◌-◌, ◌<◌, ◌≤◌, length, chars, option_map, nat_lt, nat_le, Ok, Err};
 ghost use Rattle.std.specs.Prelude.{IfOk};
 ghost use Rattle.std.specs.List.{All};
+ghost use Rattle.text_model.specs.LimitTable.{LimitTable};
 ghost use Rattle.documents.specs.Documents.{widget_at};
 ghost use Rattle.documents.specs.Views.{shown};
 ghost use Rattle.documents.specs.Promise.{Does};
@@ -162,14 +163,13 @@ impl<S: TextStore> Document<S> {
     /// Takes a tag off the ranges between pairs of places, if there is one of that name.
     pub fn remove_spans(
         &mut self,
-        limits: &Limits,
         seat: usize,
         name: &str,
         places: &[usize],
     ) -> Result<Answer, Fault>
         requires shown { seat < length self.old.widgets }
         requires within { All (λ place. place ≤ length (shown self.old (widget_at self.old seat))) places.now }
-        ensures { Does limits.now self.old self.new result
+        ensures { (limits : LimitTable) → Does limits self.old self.new result
             (remove_spans self.old (widget_at self.old seat) (chars name.now) places.now) }
     {
         let number = self.seats.number(seat);
@@ -184,8 +184,9 @@ impl<S: TextStore> Document<S> {
     }
 
     /// Takes tags off all characters, and their names out. `sel` and unknown names are skipped.
-    pub fn delete_tags(&mut self, limits: &Limits, names: &[String]) -> Result<Answer, Fault>
-        ensures { Does limits.now self.old self.new result (tag_delete self.old (texts_of names.now)) }
+    pub fn delete_tags(&mut self, names: &[String]) -> Result<Answer, Fault>
+        ensures { (limits : LimitTable) → Does limits self.old self.new result
+            (tag_delete self.old (texts_of names.now)) }
     {
         let slots = deleted_slots(self.alloc, &self.tags, names)?;
         match clear_slots(self.alloc, &mut self.text, &slots) {
@@ -202,13 +203,12 @@ impl<S: TextStore> Document<S> {
     /// Puts a tag highest, or just above another one. The tag is the word at a position, the other one that behind it.
     pub fn raise(
         &mut self,
-        limits: &Limits,
         position: usize,
         name: &str,
         above: Option<&str>,
     ) -> Result<Answer, Fault>
         requires { position + 1 ≤ usize.MAX }
-        ensures { Does limits.now self.old self.new result
+        ensures { (limits : LimitTable) → Does limits self.old self.new result
             (reordered self.old position raised (chars name.now, option_map (λ word. chars word.now) above.entry)) }
     {
         match self.tags.raise(name, above) {
@@ -225,13 +225,12 @@ impl<S: TextStore> Document<S> {
     /// Puts a tag lowest, or just below another one. The tag is the word at a position, the other one that behind it.
     pub fn lower(
         &mut self,
-        limits: &Limits,
         position: usize,
         name: &str,
         below: Option<&str>,
     ) -> Result<Answer, Fault>
         requires { position + 1 ≤ usize.MAX }
-        ensures { Does limits.now self.old self.new result
+        ensures { (limits : LimitTable) → Does limits self.old self.new result
             (reordered self.old position lowered (chars name.now, option_map (λ word. chars word.now) below.entry)) }
     {
         match self.tags.lower(name, below) {

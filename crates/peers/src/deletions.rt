@@ -1,5 +1,6 @@
 ghost use Rattle.std.specs.Prelude.{◌+◌, ◌≤◌, length, chars, ◌<◌, IfOk};
 ghost use Rattle.std.specs.List.{All};
+ghost use Rattle.text_model.specs.LimitTable.{LimitTable};
 ghost use Rattle.documents.specs.Views.{shown};
 ghost use Rattle.tcl_words.specs.Unread.{texts_of};
 ghost use Rattle.command_effects.specs.Lists.{pairs_at};
@@ -17,38 +18,36 @@ use text_model::{Limits, TextStore};
 /// Deletes the ranges between pairs of places, unless the widget is disabled.
 fn delete_found<S: TextStore>(
     document: &mut Document<S>,
-    limits: &Limits,
     seat: usize,
     places: &[usize],
 ) -> Result<Answer, Fault>
     requires shown { seat < length document.old.widgets }
     requires within { All (λ place. place ≤ length (shown document.old (widget_at document.old seat))) places.now }
-    ensures { Does limits.now document.old document.new result
+    ensures { (limits : LimitTable) → Does limits document.old document.new result
         (unless_idle (widget_at document.old seat) document.old
         (delete_places document.old (widget_at document.old seat) places.now)) }
 {
     if document.is_idle(seat) {
         return Ok(Answer::Empty);
     }
-    document.delete_places(limits, seat, places)
+    document.delete_places(seat, places)
 }
 
 /// `W delete I ?I ..?` (text(n), "delete"). The arguments stand from a position on.
 pub fn delete<S: TextStore>(
     document: &mut Document<S>,
-    limits: &Limits,
     seat: usize,
     position: usize,
     arguments: &[String],
 ) -> Result<Answer, Fault>
     requires shown { seat < length document.old.widgets }
     requires near { position + length arguments.now ≤ usize.MAX }
-    ensures { Does limits.now document.old document.new result
+    ensures { (limits : LimitTable) → Does limits document.old document.new result
         (delete document.old (widget_at document.old seat) position (texts_of arguments.now)) }
 {
     match places_at(document, seat, position, arguments) {
         Err(fault) => Err(fault),
-        Ok(places) => delete_found(document, limits, seat, &places),
+        Ok(places) => delete_found(document, seat, &places),
     }
 }
 

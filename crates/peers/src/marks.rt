@@ -1,4 +1,5 @@
 ghost use Rattle.std.specs.Prelude.{◌≡◌, ◌+◌, ◌≤◌, length, chars, option_map, IfOk, ◌<◌};
+ghost use Rattle.text_model.specs.LimitTable.{LimitTable};
 ghost use Rattle.tcl_words.specs.Unread.{texts_of};
 ghost use Rattle.documents.specs.Documents.{widget_at};
 ghost use Rattle.documents.specs.Views.{shown};
@@ -38,7 +39,7 @@ fn set_at<S: TextStore>(
                 offset,
                 gravity: old.gravity,
             };
-            document.put_mark(limits, seat, name, place)
+            document.put_mark(seat, name, place)
         }
     }
 }
@@ -115,7 +116,6 @@ fn gravity_asked<S: TextStore>(
 /// Gives the mark of a name, which stands at a place, another gravity.
 fn gravity_given<S: TextStore>(
     document: &mut Document<S>,
-    limits: &Limits,
     seat: usize,
     position: usize,
     name: &str,
@@ -123,7 +123,7 @@ fn gravity_given<S: TextStore>(
 ) -> Result<Answer, Fault>
     requires shown { seat < length document.old.widgets }
     requires near { position + 1 ≤ usize.MAX }
-    ensures { Does limits.now document.old document.new result
+    ensures { (limits : LimitTable) → Does limits document.old document.new result
         (gravity_given document.old (widget_at document.old seat) position (chars name.now)
         (place_named document.old (widget_at document.old seat) (chars name.now)) gravity) }
 {
@@ -135,14 +135,13 @@ fn gravity_given<S: TextStore>(
                 offset: old.offset,
                 gravity,
             };
-            document.put_mark(limits, seat, name, place)
+            document.put_mark(seat, name, place)
         }
     }
 }
 
 fn gravity_words<S: TextStore>(
     document: &mut Document<S>,
-    limits: &Limits,
     seat: usize,
     position: usize,
     name: &str,
@@ -150,7 +149,7 @@ fn gravity_words<S: TextStore>(
 ) -> Result<Answer, Fault>
     requires shown { seat < length document.old.widgets }
     requires near { position + 1 ≤ usize.MAX }
-    ensures { Does limits.now document.old document.new result
+    ensures { (limits : LimitTable) → Does limits document.old document.new result
         (gravity_words document.old (widget_at document.old seat) position (
           chars name.now,
           option_map (λ word. chars word.now) word.entry,
@@ -158,26 +157,25 @@ fn gravity_words<S: TextStore>(
 {
     match word {
         None => gravity_asked(document, position, document.place_named(seat, name)),
-        Some(word) => gravity_given(document, limits, seat, position, name, read_gravity(word)),
+        Some(word) => gravity_given(document, seat, position, name, read_gravity(word)),
     }
 }
 
 /// `W mark gravity M ?left or right?` (text(n), "mark gravity"). The arguments stand from a position on.
 pub fn mark_gravity<S: TextStore>(
     document: &mut Document<S>,
-    limits: &Limits,
     seat: usize,
     position: usize,
     arguments: &[String],
 ) -> Result<Answer, Fault>
     requires shown { seat < length document.old.widgets }
     requires near { position + 1 ≤ usize.MAX }
-    ensures { Does limits.now document.old document.new result
+    ensures { (limits : LimitTable) → Does limits document.old document.new result
         (mark_gravity document.old (widget_at document.old seat) position (texts_of arguments.now)) }
 {
     match one_or_two(arguments) {
         Err(fault) => Err(fault),
-        Ok((name, word)) => gravity_words(document, limits, seat, position, name, word),
+        Ok((name, word)) => gravity_words(document, seat, position, name, word),
     }
 }
 

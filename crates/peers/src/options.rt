@@ -1,4 +1,5 @@
 ghost use Rattle.std.specs.Prelude.{◌≡◌, ◌+◌, ◌≤◌, length, chars, Ok, ◌<◌, false, IfOk};
+ghost use Rattle.text_model.specs.LimitTable.{LimitTable};
 ghost use Rattle.tcl_words.specs.Unread.{texts_of};
 ghost use Rattle.command_effects.specs.Settings.{setting_answer};
 ghost use Rattle.documents.specs.Options.{settings_of};
@@ -11,7 +12,7 @@ ghost use Rattle.documents.specs.Options.{AreLines};
 
 use command_effects::{Answer, Fault, Settings, one};
 use documents::Document;
-use text_model::{Limits, TextStore};
+use text_model::TextStore;
 
 /// The settings with the values of options, of which the first stands at a position, for a document of so many lines:
 /// each value is decided, and then whether the view begins behind its end.
@@ -36,19 +37,18 @@ pub fn settings_given(
 /// `W configure option value ?option value ..?` (text(n), "configure"). The first option stands at a position.
 pub fn configure<S: TextStore>(
     document: &mut Document<S>,
-    limits: &Limits,
     seat: usize,
     position: usize,
     words: &[String],
 ) -> Result<Answer, Fault>
     requires shown { seat < length document.old.widgets }
     requires near { position + length words.now ≤ usize.MAX }
-    ensures { Does limits.now document.old document.new result
+    ensures { (limits : LimitTable) → Does limits document.old document.new result
         (configure document.old (widget_at document.old seat) position (texts_of words.now)) }
 {
     match settings_given(document.settings(seat), position, words, document.lines()) {
         Err(fault) => Err(fault),
-        Ok(settings) => Ok(document.put_settings(limits, seat, settings)),
+        Ok(settings) => Ok(document.put_settings(seat, settings)),
     }
 }
 

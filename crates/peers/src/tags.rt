@@ -1,4 +1,5 @@
 ghost use Rattle.std.specs.Prelude.{◌+◌, ◌≤◌, length, chars, option_map, IfOk, ◌<◌};
+ghost use Rattle.text_model.specs.LimitTable.{LimitTable};
 ghost use Rattle.tcl_words.specs.Unread.{texts_of};
 ghost use Rattle.documents.specs.Documents.{widget_at};
 ghost use Rattle.documents.specs.Views.{shown};
@@ -54,7 +55,6 @@ pub fn tag_add<S: TextStore>(
 
 fn remove_words<S: TextStore>(
     document: &mut Document<S>,
-    limits: &Limits,
     seat: usize,
     position: usize,
     name: &str,
@@ -62,31 +62,30 @@ fn remove_words<S: TextStore>(
 ) -> Result<Answer, Fault>
     requires shown { seat < length document.old.widgets }
     requires near { position + 1 + length words.now ≤ usize.MAX }
-    ensures { Does limits.now document.old document.new result
+    ensures { (limits : LimitTable) → Does limits document.old document.new result
         (remove_words document.old (widget_at document.old seat) position (chars name.now, texts_of words.now)) }
 {
     match places_at(document, seat, position + 1, words) {
         Err(fault) => Err(fault),
-        Ok(places) => document.remove_spans(limits, seat, name, &places),
+        Ok(places) => document.remove_spans(seat, name, &places),
     }
 }
 
 /// `W tag remove T I ?I ..?` (text(n), "tag remove"). The arguments stand from a position on.
 pub fn tag_remove<S: TextStore>(
     document: &mut Document<S>,
-    limits: &Limits,
     seat: usize,
     position: usize,
     arguments: &[String],
 ) -> Result<Answer, Fault>
     requires shown { seat < length document.old.widgets }
     requires near { position + length arguments.now ≤ usize.MAX }
-    ensures { Does limits.now document.old document.new result
+    ensures { (limits : LimitTable) → Does limits document.old document.new result
         (tag_remove document.old (widget_at document.old seat) position (texts_of arguments.now)) }
 {
     match first(arguments) {
         Err(fault) => Err(fault),
-        Ok((name, words)) => remove_words(document, limits, seat, position, name, words),
+        Ok((name, words)) => remove_words(document, seat, position, name, words),
     }
 }
 
@@ -299,33 +298,31 @@ pub fn tag_prevrange<S: TextStore>(
 /// `W tag raise T ?U?` (text(n), "tag raise"). The arguments stand from a position on.
 pub fn tag_raise<S: TextStore>(
     document: &mut Document<S>,
-    limits: &Limits,
     position: usize,
     arguments: &[String],
 ) -> Result<Answer, Fault>
     requires { position + 1 ≤ usize.MAX }
-    ensures { Does limits.now document.old document.new result
+    ensures { (limits : LimitTable) → Does limits document.old document.new result
         (tag_raise document.old position (texts_of arguments.now)) }
 {
     match one_or_two(arguments) {
         Err(fault) => Err(fault),
-        Ok((name, above)) => document.raise(limits, position, name, above),
+        Ok((name, above)) => document.raise(position, name, above),
     }
 }
 
 /// `W tag lower T ?U?` (text(n), "tag lower"). The arguments stand from a position on.
 pub fn tag_lower<S: TextStore>(
     document: &mut Document<S>,
-    limits: &Limits,
     position: usize,
     arguments: &[String],
 ) -> Result<Answer, Fault>
     requires { position + 1 ≤ usize.MAX }
-    ensures { Does limits.now document.old document.new result
+    ensures { (limits : LimitTable) → Does limits document.old document.new result
         (tag_lower document.old position (texts_of arguments.now)) }
 {
     match one_or_two(arguments) {
         Err(fault) => Err(fault),
-        Ok((name, below)) => document.lower(limits, position, name, below),
+        Ok((name, below)) => document.lower(position, name, below),
     }
 }

@@ -4,6 +4,7 @@ use Rattle.edit_ops.specs.States.{log_of, state_of}
 use Rattle.command_effects.specs.Settings.{recording_of}
 use Rattle.documents.specs.Inside.{parts_of}
 use Rattle.documents.specs.Kept.{Stands}
+use Rattle.documents.proofs.ChangeLaws.{some_limits}
 use Rattle.documents.proofs.PartsLaws.{sits}
 use Rattle.documents.proofs.RemovalLaws.{leaves-places}
 use Rattle.documents.proofs.SpanLaws.{spans-in}
@@ -109,12 +110,12 @@ invariant_of-self g c =
     let edited = edited-is (λ recording state.
     deleted recording c.start_of-start.result c.end_of-end.result spans state) (state_of content old.text.anchors.items (log_of old.text.history))
     (state_of changed kept (log_of new.text.history)) (recording_of old.settings) c.recording.result c.recording.ensures c.in-Ok.ensures.ok in
-    (leaves-places c.args.limits.now parts (state_of changed kept (log_of new.text.history)) document c.args.seat slot
+    (leaves-places some_limits parts (state_of changed kept (log_of new.text.history)) document c.args.seat slot
     c.start_of-start.result c.end_of-end.result c.args.places.now spans stands seated
     c.requires.active start end within edited).sound
 
 pub returns-in-Ok : goal.returns-in-Ok
-returns-in-Ok g c =
+returns-in-Ok g c = λ limits.
     let old = c.self.inside in
     let document = c.args.self.now in
     let parts = parts_of g.S.TextStore.content old in
@@ -139,6 +140,6 @@ returns-in-Ok g c =
     let edited = edited-is (λ recording state.
     deleted recording c.start_of-start.result c.end_of-end.result spans state) (state_of content old.text.anchors.items (log_of old.text.history))
     (state_of changed kept (log_of new.text.history)) (recording_of old.settings) c.recording.result c.recording.ensures c.in-Ok.ensures.ok in
-    (leaves-places c.args.limits.now parts (state_of changed kept (log_of new.text.history)) document c.args.seat slot
+    (leaves-places limits parts (state_of changed kept (log_of new.text.history)) document c.args.seat slot
     c.start_of-start.result c.end_of-end.result c.args.places.now spans stands seated
     c.requires.active start end within edited).does

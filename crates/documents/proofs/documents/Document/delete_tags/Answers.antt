@@ -4,6 +4,7 @@ use Rattle.text_model.specs.declared.places.TagSlot.{TagSlot}
 use Rattle.edit_ops.specs.States.{log_of}
 use Rattle.documents.specs.Inside.{parts_of}
 use Rattle.documents.specs.Kept.{Stands}
+use Rattle.documents.proofs.ChangeLaws.{some_limits}
 use Rattle.documents.proofs.TagLaws.{leaves-deleted}
 use Rattle.documents.proofs.documents.Document.delete_tags.Goals as goal
 
@@ -14,7 +15,7 @@ invariant_of-self-in-Ok g c =
     let parts = parts_of g.S.TextStore.content old in
     let stands : Stands parts document = record { sound = c.self.invariant; is = c.self.view_is } in
     let new = c.clear_slots.new in
-    let leaves = leaves-deleted c.args.limits.now parts c.delete_names.new.tags (g.S.TextStore.content new.text.store)
+    let leaves = leaves-deleted some_limits parts c.delete_names.new.tags (g.S.TextStore.content new.text.store)
     (log_of new.text.history) document (texts_of c.args.names.now)
     (map (λ (slot : TagSlot). slot.0) c.deref.result.now) stands c.len-count.ensures.sound c.delete_names.ensures
     (ap (map (λ (slot : TagSlot). slot.0)) c.deref.ensures.value ∙ c.in_ok-slots.ensures.value)
@@ -22,13 +23,13 @@ invariant_of-self-in-Ok g c =
     rw c.in-Ok.ensures.anchors leaves.sound
 
 pub returns : goal.returns
-returns g c =
+returns g c = λ limits.
     let old = c.self.inside in
     let document = c.args.self.now in
     let parts = parts_of g.S.TextStore.content old in
     let stands : Stands parts document = record { sound = c.self.invariant; is = c.self.view_is } in
     let new = c.clear_slots.new in
-    let leaves = leaves-deleted c.args.limits.now parts c.delete_names.new.tags (g.S.TextStore.content new.text.store)
+    let leaves = leaves-deleted limits parts c.delete_names.new.tags (g.S.TextStore.content new.text.store)
     (log_of new.text.history) document (texts_of c.args.names.now)
     (map (λ (slot : TagSlot). slot.0) c.deref.result.now) stands c.len-count.ensures.sound c.delete_names.ensures
     (ap (map (λ (slot : TagSlot). slot.0)) c.deref.ensures.value ∙ c.in_ok-slots.ensures.value)

@@ -8,6 +8,7 @@ use Rattle.documents.specs.Inside.{parts_of}
 use Rattle.documents.specs.Kept.{Stands}
 use Rattle.documents.specs.Promise.{Does}
 use Rattle.documents.specs.Tags.{lowered, reordered}
+use Rattle.documents.proofs.ChangeLaws.{some_limits}
 use Rattle.documents.proofs.OrderLaws.{length-lowered, lowered-ordered}
 use Rattle.documents.proofs.ReorderLaws.{IsUnknown, lowered-unknown}
 use Rattle.documents.proofs.TagLaws.{does-unordered, leaves-ordered}
@@ -27,13 +28,13 @@ invariant_of-self g c =
       | in-Ok w ↦
           let ordered = lowered-ordered word other old.tags.tags new.tags stands.sound.kept.tags.names_apart
           w.in-Ok.ensures.ok in
-          (leaves-ordered c.args.limits.now parts new document c.args.position lowered word other stands ordered
+          (leaves-ordered some_limits parts new document c.args.position lowered word other stands ordered
           w.len-count.ensures.sound w.in-Ok.ensures.limit (length-lowered _ word other ordered.known)).sound
-      | in-Err-Moved w ↦ (does-unordered c.args.limits.now parts new document c.args.position lowered word other Moved stands
+      | in-Err-Moved w ↦ (does-unordered some_limits parts new document c.args.position lowered word other Moved stands
           w.in-Err-Moved.ensures.err
           (subst (IsUnknown word other old.tags.tags) w.in-Err-Moved.field-0-is
           (lowered-unknown word other old.tags.tags w.in-Err-Moved.field-0 w.in-Err-Moved.ensures.fault))).sound
-      | in-Err-Neighbour w ↦ (does-unordered c.args.limits.now parts new document c.args.position lowered word other Neighbour
+      | in-Err-Neighbour w ↦ (does-unordered some_limits parts new document c.args.position lowered word other Neighbour
           stands w.in-Err-Neighbour.ensures.err
           (subst (IsUnknown word other old.tags.tags) w.in-Err-Neighbour.field-0-is
           (lowered-unknown word other old.tags.tags w.in-Err-Neighbour.field-0
@@ -41,7 +42,7 @@ invariant_of-self g c =
     ]
 
 pub returns : goal.returns
-returns g c =
+returns g c = λ limits.
     let old = c.self.inside in
     let document = c.args.self.now in
     let parts = parts_of g.S.TextStore.content old in
@@ -50,22 +51,22 @@ returns g c =
     let word = chars c.args.name.now in
     let other = option_map (λ w. chars w.now) c.args.below in
     let P : Result Answer Fault → Type 0 = λ result.
-    Does c.args.limits.now document (document_of (record parts { tags = new })) result
+    Does limits document (document_of (record parts { tags = new })) result
     (reordered document c.args.position lowered (word, other)) in
     elim c.match-lower.branch [
       | in-Ok w ↦
           let ordered = lowered-ordered word other old.tags.tags new.tags stands.sound.kept.tags.names_apart
           w.in-Ok.ensures.ok in
-          subst P (sym w.result-is) (leaves-ordered c.args.limits.now parts new document c.args.position lowered word other
+          subst P (sym w.result-is) (leaves-ordered limits parts new document c.args.position lowered word other
           stands ordered w.len-count.ensures.sound w.in-Ok.ensures.limit
           (length-lowered _ word other ordered.known)).does
       | in-Err-Moved w ↦ subst P (sym w.result-is)
-          (does-unordered c.args.limits.now parts new document c.args.position lowered word other Moved stands
+          (does-unordered limits parts new document c.args.position lowered word other Moved stands
           w.in-Err-Moved.ensures.err
           (subst (IsUnknown word other old.tags.tags) w.in-Err-Moved.field-0-is
           (lowered-unknown word other old.tags.tags w.in-Err-Moved.field-0 w.in-Err-Moved.ensures.fault))).does
       | in-Err-Neighbour w ↦ subst P (sym w.result-is)
-          (does-unordered c.args.limits.now parts new document c.args.position lowered word other Neighbour stands
+          (does-unordered limits parts new document c.args.position lowered word other Neighbour stands
           w.in-Err-Neighbour.ensures.err
           (subst (IsUnknown word other old.tags.tags) w.in-Err-Neighbour.field-0-is
           (lowered-unknown word other old.tags.tags w.in-Err-Neighbour.field-0

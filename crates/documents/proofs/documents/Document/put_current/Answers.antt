@@ -10,7 +10,7 @@ use Rattle.documents.specs.Inside.{parts_of}
 use Rattle.documents.specs.Kept.{Stands}
 use Rattle.documents.specs.Marks.{with_current}
 use Rattle.documents.specs.Promise.{Change, Does, answered}
-use Rattle.documents.proofs.ChangeLaws.{does-left, stands-same}
+use Rattle.documents.proofs.ChangeLaws.{does-left, some_limits, stands-same}
 use Rattle.documents.proofs.MarkLaws.{leaves-current}
 use Rattle.documents.proofs.PartsLaws.{cells-kept, sits}
 use Rattle.documents.proofs.documents.Document.put_current.Goals as goal
@@ -31,13 +31,13 @@ invariant_of-self g c =
     elim c.match-put_mark.branch [
       | in-Err w ↦ (stands-same parts (record parts { content = changed }) document stands
           (ap (λ (content : Content). record parts { content = content }) w.in-Err.ensures.err)).sound
-      | in-Ok w ↦ (leaves-current c.args.limits.now parts document c.args.seat c.number.result c.args.place changed
+      | in-Ok w ↦ (leaves-current some_limits parts document c.args.seat c.number.result c.args.place changed
           stands (sits parts document c.args.seat c.number.result stands c.number.ensures.value) within
           w.in-Ok.ensures.ok).sound
     ]
 
 pub returns : goal.returns
-returns g c =
+returns g c = λ limits.
     let old = c.self.inside in
     let document = c.args.self.now in
     let parts = parts_of g.S.TextStore.content old in
@@ -50,14 +50,14 @@ returns g c =
     ) in
     let new : Parts = record parts { content = changed } in
     let change : Change = answered (with_current document (widget_at document c.args.seat) c.args.place) Empty in
-    let P : Result Answer Fault → Type 0 = λ result. Does c.args.limits.now document (document_of new) result change in
+    let P : Result Answer Fault → Type 0 = λ result. Does limits document (document_of new) result change in
     elim c.match-put_mark.branch [
       | in-Err w ↦
           let left = stands-same parts new document stands
           (ap (λ (content : Content). record parts { content = content }) w.in-Err.ensures.err) in
-          subst P (sym w.result-is) (does-left c.args.limits.now document (document_of new) Memory change left.is
+          subst P (sym w.result-is) (does-left limits document (document_of new) Memory change left.is
           (λ other. absurd (other refl)))
-      | in-Ok w ↦ subst P (sym w.result-is) (leaves-current c.args.limits.now parts document c.args.seat
+      | in-Ok w ↦ subst P (sym w.result-is) (leaves-current limits parts document c.args.seat
           c.number.result c.args.place changed stands
           (sits parts document c.args.seat c.number.result stands c.number.ensures.value) within
           w.in-Ok.ensures.ok).does

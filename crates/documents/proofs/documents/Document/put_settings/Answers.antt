@@ -2,6 +2,7 @@ use Rattle.std.proofs.Common.{arith}
 use Rattle.edit_ops.specs.declared.anchors.Anchors.{Anchors}
 use Rattle.documents.specs.Inside.{parts_of}
 use Rattle.documents.specs.Kept.{Stands}
+use Rattle.documents.proofs.ChangeLaws.{some_limits}
 use Rattle.documents.proofs.PartsLaws.{sits}
 use Rattle.documents.proofs.WidgetLaws.{leaves-settings}
 use Rattle.documents.proofs.documents.Document.put_settings.Goals as goal
@@ -32,20 +33,20 @@ invariant_of-self g c =
     let stands : Stands parts document = record { sound = c.self.invariant; is = c.self.view_is } in
     let seated = sits parts document c.args.seat c.number-slot.result stands c.number-slot.ensures.value in
     let anchors : Anchors = record { start = c.anchor_at-start.result; end = c.anchor_at-end.result } in
-    (leaves-settings c.args.limits.now parts old.text.history c.bound.new.history document c.args.seat c.number-slot.result
+    (leaves-settings some_limits parts old.text.history c.bound.new.history document c.args.seat c.number-slot.result
     c.args.settings anchors stands seated c.requires.lines c.requires.ordered
     (λ i. record { start = c.anchor_at-start.ensures i; end = c.anchor_at-end.ensures i }) c.bound.ensures.history
     c.bound.ensures.modified c.bound.ensures.most).sound
 
 pub returns : goal.returns
-returns g c =
+returns g c = λ limits.
     let old = c.self.inside in
     let document = c.args.self.now in
     let parts = parts_of g.S.TextStore.content old in
     let stands : Stands parts document = record { sound = c.self.invariant; is = c.self.view_is } in
     let seated = sits parts document c.args.seat c.number-slot.result stands c.number-slot.ensures.value in
     let anchors : Anchors = record { start = c.anchor_at-start.result; end = c.anchor_at-end.result } in
-    (leaves-settings c.args.limits.now parts old.text.history c.bound.new.history document c.args.seat c.number-slot.result
+    (leaves-settings limits parts old.text.history c.bound.new.history document c.args.seat c.number-slot.result
     c.args.settings anchors stands seated c.requires.lines c.requires.ordered
     (λ i. record { start = c.anchor_at-start.ensures i; end = c.anchor_at-end.ensures i }) c.bound.ensures.history
     c.bound.ensures.modified c.bound.ensures.most).does

@@ -11,14 +11,14 @@ use Rattle.documents.specs.Inside.{parts_of}
 use Rattle.documents.specs.Kept.{Stands}
 use Rattle.documents.specs.Marks.{with_shared}
 use Rattle.documents.specs.Promise.{Change, Does, answered}
-use Rattle.documents.proofs.ChangeLaws.{does-left}
+use Rattle.documents.proofs.ChangeLaws.{does-left, some_limits}
 use Rattle.documents.proofs.MarkLaws.{does-unnamed, leaves-turned, stands-unmarked}
 use Rattle.documents.proofs.PartsLaws.{cells-kept}
 use Rattle.documents.proofs.documents.Document.put_shared.Goals as goal
 use Rattle.documents.proofs.documents.Document.put_shared.Goals.{in-Err, in-Ok}
 
 pub returns-in_default : goal.returns-in_default
-returns-in_default g c =
+returns-in_default g c = λ limits.
     let old = c.self.inside in
     let document = c.args.self.now in
     let parts = parts_of g.S.TextStore.content old in
@@ -26,7 +26,7 @@ returns-in_default g c =
     let word = chars c.args.name.now in
     let none : number_of word parts.marks.marks ≡ None = sym c.find.ensures
     ∙ ap (option_map (λ (n : MarkNo). n.0)) c.in_default.is in
-    does-unnamed c.args.limits.now parts document word c.args.place stands none
+    does-unnamed limits parts document word c.args.place stands none
 
 pub invariant_of-self : goal.invariant_of-self
 invariant_of-self g c =
@@ -47,12 +47,12 @@ invariant_of-self g c =
     elim c.match-turn_mark.branch [
       | in-Err w ↦ (stands-unmarked parts new changed document stands w.in-Err.ensures.err.1
           w.in-Err.ensures.err.0).sound
-      | in-Ok w ↦ (leaves-turned c.args.limits.now parts new changed document word c.in-Some.number.0 c.args.place
+      | in-Ok w ↦ (leaves-turned some_limits parts new changed document word c.in-Some.number.0 c.args.place
           stands within known w.in-Ok.ensures.sound w.in-Ok.ensures.table w.in-Ok.ensures.ok).sound
     ]
 
 pub returns : goal.returns
-returns g c =
+returns g c = λ limits.
     let old = c.self.inside in
     let document = c.args.self.now in
     let parts = parts_of g.S.TextStore.content old in
@@ -69,13 +69,13 @@ returns g c =
     ) in
     let made : Parts = record parts { marks = new; content = changed } in
     let change : Change = answered (with_shared document word c.args.place) Empty in
-    let P : Result Answer Fault → Type 0 = λ result. Does c.args.limits.now document (document_of made) result change in
+    let P : Result Answer Fault → Type 0 = λ result. Does limits document (document_of made) result change in
     elim c.match-turn_mark.branch [
       | in-Err w ↦
           let left = stands-unmarked parts new changed document stands w.in-Err.ensures.err.1 w.in-Err.ensures.err.0 in
-          subst P (sym w.result-is) (does-left c.args.limits.now document (document_of made) Memory change left.is
+          subst P (sym w.result-is) (does-left limits document (document_of made) Memory change left.is
           (λ other. absurd (other refl)))
-      | in-Ok w ↦ subst P (sym w.result-is) (leaves-turned c.args.limits.now parts new changed document word
+      | in-Ok w ↦ subst P (sym w.result-is) (leaves-turned limits parts new changed document word
           c.in-Some.number.0 c.args.place stands within known w.in-Ok.ensures.sound
           w.in-Ok.ensures.table w.in-Ok.ensures.ok).does
     ]

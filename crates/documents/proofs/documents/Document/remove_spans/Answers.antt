@@ -6,17 +6,18 @@ use Rattle.edit_ops.specs.Tagging.{SpanFits}
 use Rattle.command_effects.proofs.MadeLaws.{front_same}
 use Rattle.documents.specs.Inside.{parts_of}
 use Rattle.documents.specs.Kept.{Stands}
+use Rattle.documents.proofs.ChangeLaws.{some_limits}
 use Rattle.documents.proofs.PartsLaws.{cells-kept, sits}
 use Rattle.documents.proofs.SpanLaws.{IsTagged, does-remove_none, leaves-removed}
 use Rattle.documents.proofs.documents.Document.remove_spans.Goals as goal
 
 pub returns-in_default : goal.returns-in_default
-returns-in_default g c =
+returns-in_default g c = λ limits.
     let old = c.self.inside in
     let document = c.args.self.now in
     let parts = parts_of g.S.TextStore.content old in
     let stands : Stands parts document = record { sound = c.self.invariant; is = c.self.view_is } in
-    does-remove_none c.args.limits.now parts document c.args.seat c.number-number.result (chars c.args.name.now)
+    does-remove_none limits parts document c.args.seat c.number-number.result (chars c.args.name.now)
     c.args.places.now stands c.in_default.ensures.value
 
 pub set_slot-requires-clause-spans : goal.set_slot-requires-clause-spans
@@ -52,13 +53,13 @@ invariant_of-self g c =
       fit = fit;
       content_is = c.in-Ok.ensures.ok;
     } in
-    let leaves = leaves-removed c.args.limits.now parts content (log_of new.text.history) document c.args.seat widget word
+    let leaves = leaves-removed some_limits parts content (log_of new.text.history) document c.args.seat widget word
     c.args.places.now given c.in_ok-spans.spans.items stands seat made c.in-Ok.ensures.log
     spans c.in_ok-spans.ensures.value in
     rw c.in-Ok.ensures.anchors leaves.sound
 
 pub returns-in-Ok : goal.returns-in-Ok
-returns-in-Ok g c =
+returns-in-Ok g c = λ limits.
     let old = c.self.inside in
     let document = c.args.self.now in
     let parts = parts_of g.S.TextStore.content old in
@@ -81,7 +82,7 @@ returns-in-Ok g c =
       fit = fit;
       content_is = c.in-Ok.ensures.ok;
     } in
-    let leaves = leaves-removed c.args.limits.now parts content (log_of new.text.history) document c.args.seat widget word
+    let leaves = leaves-removed limits parts content (log_of new.text.history) document c.args.seat widget word
     c.args.places.now given c.in_ok-spans.spans.items stands seat made c.in-Ok.ensures.log
     spans c.in_ok-spans.ensures.value in
     rw c.in-Ok.ensures.anchors leaves.does

@@ -1,5 +1,6 @@
 use Rattle.documents.specs.Inside.{parts_of}
 use Rattle.documents.specs.Kept.{Stands}
+use Rattle.documents.proofs.ChangeLaws.{some_limits}
 use Rattle.documents.proofs.JournalLaws.{leaves-modified}
 use Rattle.documents.proofs.documents.Document.set_modified.Goals as goal
 
@@ -8,13 +9,13 @@ invariant_of-self g c =
     let old = c.self.inside in
     let parts = parts_of g.S.TextStore.content old in
     let stands : Stands parts c.args.self.now = record { sound = c.self.invariant; is = c.self.view_is } in
-    (leaves-modified c.args.limits.now parts old.text.history c.set_modified.new.self c.args.self.now c.args.modified stands
+    (leaves-modified some_limits parts old.text.history c.set_modified.new.self c.args.self.now c.args.modified stands
     c.set_modified.ensures).sound
 
 pub returns : goal.returns
-returns g c =
+returns g c = λ limits.
     let old = c.self.inside in
     let parts = parts_of g.S.TextStore.content old in
     let stands : Stands parts c.args.self.now = record { sound = c.self.invariant; is = c.self.view_is } in
-    (leaves-modified c.args.limits.now parts old.text.history c.set_modified.new.self c.args.self.now c.args.modified stands
+    (leaves-modified limits parts old.text.history c.set_modified.new.self c.args.self.now c.args.modified stands
     c.set_modified.ensures).does
