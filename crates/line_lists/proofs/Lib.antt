@@ -1,3 +1,4 @@
+pub mod BareLaws
 pub mod BeginLaws
 pub mod ClearingLaws
 pub mod CountRows

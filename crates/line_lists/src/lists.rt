@@ -1,8 +1,8 @@
 ghost use Rattle.std.specs.Prelude.{◌≡◌, ℕ, ◌+◌, ◌<◌, ◌≤◌, List, [], ◌∷◌, length, map, take, slice_get, Some, IfOk};
-ghost use Rattle.std.specs.Prelude.{◌++◌, IfSome, None, OnOk, chars, slice_range, string_bytes};
+ghost use Rattle.std.specs.Prelude.{◌++◌, IfSome, None, OnOk, chars, slice_range, string_bytes, true};
 ghost use Rattle.std.specs.List.{All};
 ghost use Rattle.text_model.specs.TagBits.{slot_count};
-ghost use Rattle.toggle_sums.specs.Counts.{plus};
+ghost use Rattle.toggle_sums.specs.Counts.{IsBare, plus};
 ghost use Rattle.segments.specs.Columns.{LineContent, characters, plain_line};
 ghost use Rattle.line_lists.specs.Edits.{without_mark};
 ghost use Rattle.line_lists.specs.Lists.{AreLines, Holds, IsCounted, IsMarked, NumbersBelow, count_of, has_mark};
@@ -86,6 +86,14 @@ pub trait LineList: Drop {
         ensures { result ≡ (count_of (lines self.now)).marks }
     {
         self.prefix(self.len()).marks()
+    }
+
+    /// Whether no slot is toggled in any line.
+    fn is_bare(&self) -> bool
+        ensures yes { result ≡ true → IsBare (count_of (lines self.now)) }
+        ensures no { IsBare (count_of (lines self.now)) → result ≡ true }
+    {
+        self.prefix(self.len()).is_bare()
     }
 
     /// The first line from one on in which a slot is toggled.

@@ -45,6 +45,9 @@ pub fn tags_at<L: LineList>(list: &L, offset: usize) -> TagSet
     requires { offset < length (content_of (L.lines list.now)).cells }
     ensures { slice_get (slot_sets (content_of (L.lines list.now)).cells) offset ≡ Some result }
 {
+    if list.is_bare() {
+        return TagSet::empty();
+    }
     let (index, column, line) = list.line_at(offset);
     let mut tags = list.odd_slots(index);
     line.turn_tags_before(column, &mut tags);
@@ -57,6 +60,9 @@ pub fn tags_around<L: LineList>(list: &L, offset: usize) -> (TagSet, TagSet)
     ensures before { result.0 ≡ slots_left_of offset (content_of (L.lines list.now)).cells }
     ensures at { slice_get (slot_sets (content_of (L.lines list.now)).cells) offset ≡ Some result.1 }
 {
+    if list.is_bare() {
+        return (TagSet::empty(), TagSet::empty());
+    }
     let (index, column, line) = list.line_at(offset);
     let mut here = list.odd_slots(index);
     let before = here.differing(&line.tags_left_of(column));

@@ -54,11 +54,16 @@ pub added_is : (m : Records) (q : NodePtr) (old new : Count) → IsSome (finite.
     IfSome (finite.get m q) (λ r. new ≡ plus old r.sum) → new ≡ plus old (sum_at m q)
 added_is m q old = said (plus old) m q
 
--- what is asked of a record's sum is asked of the node's
+-- what is asked of a record's sum is asked of the node's, and what is so of the record's is so of the node's
 pub asks : (ask : Count → Type 0) (m : Records) (q : NodePtr) → IsSome (finite.get m q) → ask (sum_at m q) →
     IfSome (finite.get m q) (λ r. ask r.sum)
 asks ask m q named holds = let r = some_of (finite.get m q) named in
     subst (λ o. IfSome o (λ r. ask r.sum)) (sym r.1) (subst (λ o. ask (sum_of o)) r.1 holds)
+
+pub tells : (so : Count → Type 0) (m : Records) (q : NodePtr) → IsSome (finite.get m q) →
+    IfSome (finite.get m q) (λ r. so r.sum) → so (sum_at m q)
+tells so m q named says = let r = some_of (finite.get m q) named in
+    subst (λ o. so (sum_of o)) (sym r.1) (at_some (finite.get m q) (λ y. so y.sum) r.0 says r.1)
 
 -- ---- a step over the children
 pub step_yes : (f : NodePtr → ℕ) (cs : List NodePtr) (i : ℕ) (c : NodePtr) → slice_get cs i ≡ Some c →

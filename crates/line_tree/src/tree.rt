@@ -60,9 +60,9 @@ impl<C: Ticks> Model for LineTree<C> {
 
 impl<C: Ticks> LineTree<C> {
     ghost use Rattle.std.specs.Prelude.{◌≡◌, ℕ, ◌+◌, ◌-◌, ◌*◌, ◌/◌, ◌^◌, ◌≤◌, ◌<◌, OnOk, IfOk, IfSome};
-    ghost use Rattle.std.specs.Prelude.{[], ◌∷◌, Some, length, min, option_map, slice_get, take};
+    ghost use Rattle.std.specs.Prelude.{[], ◌∷◌, Some, length, min, option_map, slice_get, take, true};
     ghost use Rattle.std.specs.List.{insert, remove};
-    ghost use Rattle.toggle_sums.specs.Counts.{plus};
+    ghost use Rattle.toggle_sums.specs.Counts.{IsBare, plus};
     ghost use Rattle.text_model.specs.Splices.{removed};
     ghost use Rattle.text_model.specs.TagBits.{slot_count};
     ghost use Rattle.raw_nodes.specs.Names.{records};
@@ -367,6 +367,14 @@ impl<C: Ticks> LineTree<C> {
         ensures { result ≡ (count_of (contents self.now.lines)).marks }
     {
         self.store.marks(self.root, ticks)
+    }
+
+    /// Whether no slot is toggled in any line.
+    pub(crate) fn is_bare(&self, ticks: &mut C) -> bool
+        ensures yes { result ≡ true → IsBare (count_of (contents self.now.lines)) }
+        ensures no { IsBare (count_of (contents self.now.lines)) → result ≡ true }
+    {
+        self.store.is_bare(self.root, ticks)
     }
 
     /// The first line from one on in which a slot is toggled.

@@ -119,6 +119,10 @@ impl LineList for TreeLines {
         self.tree.marks(&mut Steps::new())
     }
 
+    fn is_bare(&self) -> bool {
+        self.tree.is_bare(&mut Steps::new())
+    }
+
     fn next_with(&self, slot: TagSlot, from: usize) -> Option<usize> {
         self.tree.next_with(slot, from, &mut Steps::new())
     }

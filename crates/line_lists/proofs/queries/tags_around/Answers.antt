@@ -2,8 +2,21 @@ use Rattle.std.proofs.Common.{◌<◌, ◌∙◌, ap, ap₂, sym, subst}
 use Rattle.std.specs.Prelude.{Some}
 use Rattle.text_model.specs.SlotSets.{differing}
 use Rattle.segments.specs.Columns.{tags_before}
+use Rattle.line_lists.proofs.BareLaws.{bare-at, bare-before}
 use Rattle.line_lists.proofs.PlaceRows.{length-content, tags-at, tags-before}
 use Rattle.line_lists.proofs.queries.tags_around.Goals as goal
+
+pub returns-then-is_bare-clause-before : goal.returns-then-is_bare-clause-before
+returns-then-is_bare-clause-before g c =
+    let bare = c.is_bare.ensures.yes c.if-is_bare.true in
+    c.empty.ensures
+    ∙ sym (bare-before (g.L.LineList.lines c.args.list.now) c.args.offset bare.presence c.requires)
+
+pub returns-then-is_bare-clause-at : goal.returns-then-is_bare-clause-at
+returns-then-is_bare-clause-at g c =
+    let bare = c.is_bare.ensures.yes c.if-is_bare.true in
+    bare-at (g.L.LineList.lines c.args.list.now) c.args.offset bare.presence c.requires
+    ∙ ap (λ s. Some s) (sym c.empty-then-is_bare.ensures)
 
 pub line_at-index-requires : goal.line_at-index-requires
 line_at-index-requires g c =

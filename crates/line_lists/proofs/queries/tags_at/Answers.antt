@@ -2,15 +2,20 @@ use Rattle.std.proofs.Common.{◌<◌, ◌∙◌, sym, ap, subst}
 use Rattle.std.specs.Prelude.{Some}
 use Rattle.text_model.specs.SlotSets.{differing}
 use Rattle.segments.specs.Columns.{tags_before}
+use Rattle.line_lists.proofs.BareLaws.{bare-at}
 use Rattle.line_lists.proofs.PlaceRows.{length-content, tags-at}
 use Rattle.line_lists.proofs.queries.tags_at.Goals as goal
 
--- src/queries.rt:40:27
+pub returns-then-is_bare : goal.returns-then-is_bare
+returns-then-is_bare g c =
+    let bare = c.is_bare.ensures.yes c.if-is_bare.true in
+    bare-at (g.L.LineList.lines c.args.list.now) c.args.offset bare.presence c.requires
+    ∙ ap (λ s. Some s) (sym c.empty.ensures)
+
 pub line_at-index-requires : goal.line_at-index-requires
 line_at-index-requires g c =
     subst (λ n. c.args.offset < n) (length-content (g.L.LineList.lines c.args.list.now)) c.requires
 
--- src/queries.rt:36:1
 pub returns : goal.returns
 returns g c =
     let list = g.L.LineList.lines c.args.list.now in

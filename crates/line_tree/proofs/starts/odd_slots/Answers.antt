@@ -3,14 +3,12 @@ use Rattle.text_model.specs.SlotSets.{differing}
 use Rattle.toggle_sums.specs.CountLaws.{empty-differing}
 use Rattle.toggle_sums.specs.Counts.{Count, IsBare}
 use Rattle.raw_nodes.specs.Names.{records}
-use Rattle.std.specs.FinMap as finite
-use Rattle.raw_nodes.proofs.MapLaws.{at_some, some_of}
-use Rattle.line_tree.specs.Shape.{lines_in, sum_at, sum_of}
+use Rattle.line_tree.specs.Shape.{lines_in, sum_at}
 use Rattle.line_tree.specs.Trees.{total}
 use Rattle.line_tree.specs.declared.aims.SlotsBefore.{SlotsBefore}
 use Rattle.line_tree.proofs.BareLaws.{bare-front}
 use Rattle.line_tree.proofs.PrefixLaws.{all-lines, some-left}
-use Rattle.line_tree.proofs.RowLaws.{lines_is, said}
+use Rattle.line_tree.proofs.RowLaws.{lines_is, said, tells}
 use Rattle.line_tree.proofs.SearchLaws.{arrives-before}
 use Rattle.line_tree.proofs.TreeLaws.{named-tree, sum-tree, total-lines}
 use Rattle.line_tree.proofs.starts.odd_slots.Goals as goal
@@ -24,12 +22,10 @@ is_bare-requires g c = named-tree (records c.args.store.now) c.args.height c.arg
 pub returns-then-is_bare : goal.returns-then-is_bare
 returns-then-is_bare g c = let m = records c.args.store.now in let r = c.args.root in let h = c.args.height in
     let tree = c.requires.tree in
-    let found = some_of (finite.get m r) (named-tree m h r tree) in
-    let bare = at_some (finite.get m r) (λ y. c.is_bare.result ≡ true → IsBare y.sum) found.0 c.is_bare.ensures.yes found.1
-    c.if-is_bare.true in
-    let sum = ap sum_of (sym found.1) ∙ sum-tree m h r tree in
+    let bare = tells (λ (s : Count). c.is_bare.result ≡ true → IsBare s) m r (named-tree m h r tree)
+    c.is_bare.ensures.yes c.if-is_bare.true in
     c.empty.ensures ∙ sym (bare-front (lines_in m h r) c.args.k
-    (ap (λ (s : Count). s.presence) (sym sum) ∙ bare.presence))
+    (ap (λ (s : Count). s.presence) (sym (sum-tree m h r tree)) ∙ bare.presence))
 
 pub turn_odd_slots-requires : goal.turn_odd_slots-requires
 turn_odd_slots-requires g c = named-tree (records c.args.store.now) c.args.height c.args.root c.requires.tree

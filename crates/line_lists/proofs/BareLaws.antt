@@ -1,0 +1,70 @@
+-- Lines in which no slot is toggled: none is on before any of their columns.
+use Rattle.std.proofs.Common.{◌≡◌, ℕ, ◌+◌, ◌<◌, Bool, true, false, ◌||◌, List, [], ◌∷◌, Some, length, take, drop}
+use Rattle.std.proofs.Common.{refl, sym, ap, ◌∙◌, arith, take-append-drop}
+use Rattle.std.specs.Prelude.{slice_get}
+use Rattle.std.specs.Cmp.{nat_cmp_total}
+use Rattle.std.specs.FinSet as set
+use Rattle.std.specs.Ordering.{nat_cmp}
+use Rattle.std.proofs.lemmas.List.{take-map}
+use Rattle.text_model.specs.Content.{Slots, slot_sets, slots_left_of}
+use Rattle.text_model.specs.SlotSets.{differing}
+use Rattle.toggle_sums.specs.CountLaws.{differing-empty, same_slots, union-commutative}
+use Rattle.toggle_sums.specs.Toggles.{parity, presence}
+use Rattle.toggle_sums.proofs.ToggleLaws.{presence-append}
+use Rattle.segments.specs.Columns.{Column, LineContent, toggles}
+use Rattle.line_lists.specs.Lists.{count_of}
+use Rattle.line_lists.specs.Texts.{content_of, whole}
+use Rattle.line_lists.specs.Toggling.{tags_left_of}
+use Rattle.line_lists.proofs.CountRows.{count-presence}
+use Rattle.line_lists.proofs.PlaceRows.{length-content, tags-behind, tags-column}
+
+left_false : (a b : Bool) → (a || b) ≡ false → a ≡ false
+left_false true b none = none
+left_false false b none = refl
+
+pub none-first : (s t : Slots) → set.union s t ≡ set.empty → s ≡ set.empty
+none-first s t none =
+    same_slots _ _ (λ q. left_false (set.contains s q) (set.contains t q)
+    (sym (set.contains-union nat_cmp_total s t q) ∙ ap (λ u. set.contains u q) none ∙ set.contains-empty nat_cmp q)
+    ∙ sym (set.contains-empty nat_cmp q))
+
+pub none-second : (s t : Slots) → set.union s t ≡ set.empty → t ≡ set.empty
+none-second s t none = none-first t s (union-commutative t s ∙ none)
+
+pub both-none : (s t : Slots) → s ≡ set.empty → t ≡ set.empty → differing s t ≡ set.empty
+both-none s t first second = (λ i. differing (first i) (second i)) ∙ differing-empty set.empty
+
+pub none-odd : (ts : List Slots) → presence ts ≡ set.empty → parity ts ≡ set.empty
+none-odd [] none = refl
+none-odd (here ∷ ts) none =
+    both-none here (parity ts) (none-first here (presence ts) none) (none-odd ts (none-second here (presence ts) none))
+
+none-front : (n : ℕ) (ts : List Slots) → presence ts ≡ set.empty → presence (take n ts) ≡ set.empty
+none-front n ts none =
+    none-first (presence (take n ts)) (presence (drop n ts))
+    (sym (presence-append (take n ts) (drop n ts)) ∙ ap presence (take-append-drop n ts) ∙ none)
+
+none-left : (n : ℕ) (columns : List Column) → presence (toggles columns) ≡ set.empty →
+    tags_left_of (take n columns) ≡ set.empty
+none-left n columns none =
+    ap parity (sym (take-map (λ (column : Column). column.toggled) n columns))
+    ∙ none-odd (take n (toggles columns)) (none-front n (toggles columns) none)
+
+none-in : (lines : List LineContent) → (count_of lines).presence ≡ set.empty →
+    presence (toggles (whole lines).columns) ≡ set.empty
+none-in lines none = sym (count-presence lines) ∙ none
+
+-- no slot is on at an offset, and none before it
+pub bare-at : (lines : List LineContent) (offset : ℕ) → (count_of lines).presence ≡ set.empty →
+    offset < length (content_of lines).cells → slice_get (slot_sets (content_of lines).cells) offset ≡ Some set.empty
+bare-at lines offset none within =
+    let columns = (whole lines).columns in
+    tags-column columns offset (omega (arith, length-content lines, within))
+    ∙ ap (λ s. Some s) (none-left (offset + 1) columns (none-in lines none))
+
+pub bare-before : (lines : List LineContent) (offset : ℕ) → (count_of lines).presence ≡ set.empty →
+    offset < length (content_of lines).cells → slots_left_of offset (content_of lines).cells ≡ set.empty
+bare-before lines offset none within =
+    let columns = (whole lines).columns in
+    tags-behind columns offset (omega (arith, length-content lines, within))
+    ∙ none-left offset columns (none-in lines none)
