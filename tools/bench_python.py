@@ -18,7 +18,7 @@ from harness import LONG_TIMEOUT_SECONDS
 
 TOP = os.path.dirname(os.path.dirname(os.path.abspath(__file__)))
 MODULE = os.path.join(TOP, "out", "python")
-TAKES = 3
+TAKES = 9
 RUNNER = """
 import json, sys, time
 if sys.argv[1] == "tkinter":
