@@ -757,6 +757,15 @@ typedef struct {
     int form;
 } Direct;
 
+/* The function is gone where the collector has begun to take the method apart. */
+static PyObject *call_tuple(Direct *direct, PyObject *tuple, PyObject *by_name)
+{
+    if (direct->function != NULL)
+        return PyObject_Call(direct->function, tuple, by_name);
+    PyErr_SetString(PyExc_RuntimeError, "the method is gone");
+    return NULL;
+}
+
 static PyObject *call_function(Direct *direct, PyObject *const *given, size_t count, PyObject *names)
 {
     Py_ssize_t named = names == NULL ? 0 : PyTuple_Size(names);
@@ -765,7 +774,7 @@ static PyObject *call_function(Direct *direct, PyObject *const *given, size_t co
     for (Py_ssize_t at = 0; !failed && at < named; at++)
         failed = PyDict_SetItem(by_name, PyTuple_GetItem(names, at), given[count + at]) < 0;
     if (!failed)
-        answer = PyObject_Call(direct->function, tuple, by_name);
+        answer = call_tuple(direct, tuple, by_name);
     Py_XDECREF(tuple);
     Py_XDECREF(by_name);
     return answer;
@@ -790,7 +799,7 @@ static PyObject *direct_call(Direct *direct, PyObject *arguments, PyObject *by_n
     PyObject *given[FEW_WORDS];
     Py_ssize_t count = PyTuple_Size(arguments);
     if (count > FEW_WORDS || (by_name != NULL && PyDict_Size(by_name) != 0))
-        return PyObject_Call(direct->function, arguments, by_name);
+        return call_tuple(direct, arguments, by_name);
     for (Py_ssize_t at = 0; at < count; at++)
         given[at] = PyTuple_GetItem(arguments, at);
     return direct_vectorcall((PyObject *)direct, given, count, NULL);
@@ -817,6 +826,10 @@ static PyObject *direct_new(PyTypeObject *type, PyObject *arguments, PyObject *P
     int form;
     if (!PyArg_ParseTuple(arguments, "OO!nni", &function, &PyTuple_Type, &words, &least, &most, &form))
         return NULL;
+    if (least < 0 || form < AS_TEXT || form > AS_NOTHING) {
+        PyErr_SetString(PyExc_ValueError, "no such call");
+        return NULL;
+    }
     Direct *direct = (Direct *)((allocfunc)PyType_GetSlot(type, Py_tp_alloc))(type, 0);
     if (direct == NULL)
         return NULL;
@@ -836,6 +849,7 @@ static int direct_traverse(Direct *direct, visitproc visit, void *arg)
     Py_VISIT(Py_TYPE(direct));
     Py_VISIT(direct->function);
     Py_VISIT(direct->attributes);
+    Py_VISIT(direct->words);
     return 0;
 }
 
