@@ -53,7 +53,7 @@ slice-front from to border xs ys ordered within same =
     slice-is from to xs ordered ∙ ap (drop from) (front-shorter to border xs ys within same)
     ∙ sym (slice-is from to ys ordered)
 
-length-slice : (from to : ℕ) (xs : List ℕ) → from ≤ to → to ≤ length xs → length (slice_range xs from to) ≡ to - from
+pub length-slice : (from to : ℕ) (xs : List ℕ) → from ≤ to → to ≤ length xs → length (slice_range xs from to) ≡ to - from
 length-slice from to xs ordered within =
     length-take (to - from) (drop from xs) ∙ (let h = length-drop from xs in omega (arith, h))
 
@@ -290,11 +290,21 @@ bare-made : (b : Bool) (at : ℕ) (content : Content) (anchors : List Anchors) (
 bare-made true at content anchors log = refl
 bare-made false at content anchors log = refl
 
+-- the runs that go of those that hold the spans
+pub runs-left : (text : List ℕ) (len start end : ℕ) (spans runs left : List Span) → end ≤ len
+    → ((offset : ℕ) → in_spans runs offset ≡ in_spans spans offset) → AreApart end left
+    → ((offset : ℕ) → in_spans left offset ≡ delete_set text start end (in_spans runs) offset)
+    → left ≡ runs_below len (delete_set text start end (in_spans spans))
+runs-left text len start end spans runs left within covers apart left_is =
+    let same : in_spans runs ≡ in_spans spans = λ i offset. covers offset i in
+    sym (runs-are len (delete_set text start end (in_spans spans)) left
+    (apart-wider end (len + 1) left apart (omega (arith, within)))
+    (λ offset _. ap (λ set. delete_set text start end set offset) (sym same) ∙ sym (left_is offset)))
+
 pub delete-made : (keeps : Bool) (outline new : Outline) (content : Content) (anchors : List Anchors) (start end : ℕ)
-    (spans runs left : List Span) (takes : Bool) (steps : List Step) → start < end → end ≤ length content.cells
-    → ((offset : ℕ) → in_spans runs offset ≡ in_spans spans offset) → takes ≡ in_spans runs (end - 1) →
-    AreApart end left
-    → ((offset : ℕ) → in_spans left offset ≡ delete_set (characters content.cells) start end (in_spans runs) offset)
+    (spans left : List Span) (takes : Bool) (steps : List Step) → start < end → end ≤ length content.cells
+    → takes ≡ in_spans spans (end - 1)
+    → left ≡ runs_below (length content.cells) (delete_set (characters content.cells) start end (in_spans spans))
     → steps ≡ (if takes then ClearTags (end - 1) ∷ [] else []) →
     outline ≡ record { steps = steps; anchors = anchors; actions = [] }
     → ((recording : Recording) (kind : EditKind) (state : State) → (recording.undo ≡ true → keeps ≡ true) →
@@ -304,19 +314,12 @@ pub delete-made : (keeps : Bool) (outline new : Outline) (content : Content) (an
     → (recording : Recording) (log : Log) → (recording.undo ≡ true → keeps ≡ true)
     → Fits new.steps content × (outlineed recording Delete new (state_of content anchors log)
     ≡ deleted recording start end spans (state_of content anchors log))
-delete-made keeps outline new content anchors start end spans runs left takes steps shows within covers takes_is apart
-    left_is steps_are begun goes recording log kept =
-    let text = characters content.cells in
+delete-made keeps outline new content anchors start end spans left takes steps shows within takes_is left_is
+    steps_are begun goes recording log kept =
     let state = state_of content anchors log in
     let bared = (if takes then ClearTags (end - 1) ∷ [] else []) in
     let first : outline ≡ record { steps = bared; anchors = anchors; actions = [] } = begun
     ∙ ap (λ (s : List Step). record { steps = s; anchors = anchors; actions = [] }) steps_are in
-    let same : in_spans runs ≡ in_spans spans = λ i offset. covers offset i in
-    let runs_are : runs_below (length content.cells) (delete_set text start end (in_spans spans)) ≡ left =
-    runs-are (length content.cells) (delete_set text start end (in_spans spans)) left
-    (apart-wider end (length content.cells + 1) left apart (omega (arith, within)))
-    (λ offset _. ap (λ set. delete_set text start end set offset) (sym same) ∙ sym (left_is offset)) in
-    let takes_last : takes ≡ in_spans spans (end - 1) = takes_is ∙ covers (end - 1) in
     let done = goes recording Delete state kept
     (subst (λ (d : Outline). Fits d.steps content) (sym first)
     (bare-fits takes (end - 1) content (omega (arith, shows, within))))
@@ -326,6 +329,5 @@ delete-made keeps outline new content anchors start end spans runs left takes st
           ∙ ap (λ (d : Outline). removed_spans recording Delete left (outlineed recording Delete d state)) first
           ∙ ap (removed_spans recording Delete left) (bare-made takes (end - 1) content anchors log)
           ∙ ap₂ (λ rs b. removed_spans recording Delete rs (if b
-          then state_of (after_step (ClearTags (end - 1)) content) anchors log else state)) (sym runs_are)
-          takes_last,
+          then state_of (after_step (ClearTags (end - 1)) content) anchors log else state)) left_is takes_is,
     )

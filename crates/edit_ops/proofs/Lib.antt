@@ -13,3 +13,4 @@ pub mod RunLaws
 pub mod StartLaws
 pub mod CoverLaws
 pub mod OrderLaws
+pub mod ToldLaws

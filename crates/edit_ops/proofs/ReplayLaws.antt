@@ -200,7 +200,7 @@ repeated-append limit (action ∷ actions) others text =
       | Some next ↦ repeated-append limit actions others next
     ]
 
-one-repeated : (limit : ℕ) (action : Action) (text : List ℕ) →
+pub one-repeated : (limit : ℕ) (action : Action) (text : List ℕ) →
     repeated_group limit (action ∷ []) text ≡ repeated limit action text
 one-repeated limit action text = elim (repeated limit action text) as (λ found.
     option_and_then (repeated_group limit []) found ≡ found) [ None ↦ refl | Some next ↦ refl ]

@@ -9,3 +9,4 @@ pub mod Replays
 pub mod Reversals
 pub mod States
 pub mod Tagging
+pub mod Told

@@ -3,6 +3,7 @@
 #![tactic(auto)]
 
 mod anchors;
+mod changes;
 mod deletions;
 mod faults;
 mod insertions;
@@ -19,7 +20,8 @@ mod tagging;
 mod texts;
 
 pub use anchors::{Anchors, anchors_stand};
-pub use deletions::plan_delete;
+pub use changes::{ChangeList, TextChange};
+pub use deletions::{deleted_runs, plan_delete};
 pub use faults::EditFault;
 pub use insertions::{count_of, plan_insert};
 pub use plans::{Effects, Notes, Plan, Recording, commit};

@@ -36,7 +36,7 @@ impl Model for Outline {
 }
 
 /// The same text once more.
-fn copy_of(alloc: Global, text: &Text) -> Result<Text, AllocError>
+pub fn copy_of(alloc: Global, text: &Text) -> Result<Text, AllocError>
     ensures { IfOk result (λ copy. copy ≡ text.now) }
 {
     Ok(Text::new(String::from_str(alloc, text.as_str())?))

@@ -25,7 +25,7 @@ use text_model::{Limits, MarkNo, Place, Text, TextStore};
 use undo_stack::{Action, Group};
 
 /// Whether an action puts its text in, as it is made once more, or reverted.
-fn puts_in(action: &Action, back: bool) -> bool
+pub fn puts_in(action: &Action, back: bool) -> bool
     ensures { result ≡ (if back then not action.now.inserts else action.now.inserts) }
 {
     if back {
@@ -36,7 +36,7 @@ fn puts_in(action: &Action, back: bool) -> bool
 }
 
 /// Which of so many actions is the one at an index, counted from the last where they are reverted.
-fn nth_of(index: usize, count: usize, back: bool) -> usize
+pub fn nth_of(index: usize, count: usize, back: bool) -> usize
     requires { index < count }
     ensures place { result ≡ (if back then count - 1 - index else index) }
     ensures within { result < count }
