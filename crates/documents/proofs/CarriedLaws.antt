@@ -76,19 +76,10 @@ carried-reordered P document position order (name, Some other) same next =
 
 -- ---- edits
 
--- It holds of a document, and after each edit of a widget that a command may make.
-pub record IsCarried (limits : LimitTable) (document : Document) (widget : Widget) (P : Document →
+-- It holds of a document, and after each edit of a widget that leaves the characters.
+pub record IsStill (limits : LimitTable) (document : Document) (widget : Widget) (P : Document →
     Type 0) : Type 0 where
   pub same : P document
-  pub inserted : (place : ℕ) (pairs : List Pair) → is_idle document widget ≡ false
-      → P (insert_at limits document widget (insertion_offset document widget place) pairs).document
-  pub replaced : (from to : ℕ) (pairs : List Pair) → is_idle document widget ≡ false → from ≤ to
-      → P (replace_span limits document widget (insertion_offset document widget from)
-      (insertion_offset document widget to) pairs).document
-  pub deleted : (places : List ℕ) → is_idle document widget ≡ false
-      → (view_end document widget ≤ length document.cells →
-      All (λ place. place ≤ length (shown document widget)) places)
-      → P (delete_places document widget places).document
   pub set : (name : List ℕ) (offset : ℕ) (found : Option Place) →
       P (set_found limits document widget name offset found).document
   pub turned : (name : List ℕ) (place : Place) → P (with_mark document widget name place)
@@ -101,5 +92,19 @@ pub record IsCarried (limits : LimitTable) (document : Document) (widget : Widge
       → P (reordered document position order words).document
   pub modified : (flag : Bool) → P (modified_set document flag).document
   pub separated : P (edit_separator document).document
+
+-- It holds of a document, and after each edit of a widget that a command may make.
+pub record IsCarried (limits : LimitTable) (document : Document) (widget : Widget) (P : Document →
+    Type 0) : Type 0 where
+  pub still : IsStill limits document widget P
+  pub inserted : (place : ℕ) (pairs : List Pair) → is_idle document widget ≡ false
+      → P (insert_at limits document widget (insertion_offset document widget place) pairs).document
+  pub replaced : (from to : ℕ) (pairs : List Pair) → is_idle document widget ≡ false → from ≤ to
+      → P (replace_span limits document widget (insertion_offset document widget from)
+      (insertion_offset document widget to) pairs).document
+  pub deleted : (places : List ℕ) → is_idle document widget ≡ false
+      → (view_end document widget ≤ length document.cells →
+      All (λ place. place ≤ length (shown document widget)) places)
+      → P (delete_places document widget places).document
   pub undone : P (edit_undo document widget).document
   pub redone : P (edit_redo document widget).document

@@ -37,9 +37,11 @@ pub mod SlotLaws
 pub mod SpanLaws
 pub mod StateLaws
 pub mod StillLeadLaws
+pub mod StillTextLaws
 pub mod TableLaws
 pub mod TagLaws
 pub mod TaggedLaws
+pub mod ToldLaws
 pub mod UndoLaws
 pub mod UndoRunLaws
 pub mod UnseatedLaws

@@ -41,25 +41,27 @@ named-carried limits windows document widget =
     let kept : (new : Document) → HasNamesOf document new →
     AreNamed windows document new = named-same windows document in
     record {
-      same = kept document refl;
+      still = record {
+        same = kept document refl;
+        set = λ name offset found. kept _ (set-kept limits document widget name offset found);
+        turned = λ name place. kept _ (mark-kept document widget name place);
+        unset = λ names. kept _ refl;
+        added = λ name places. kept _ (add-kept limits document widget name places);
+        removed = λ name places. kept _ (remove-kept document widget name places);
+        untagged = λ names. kept _ refl;
+        ordered = λ position order words. carried-reordered (AreNamed windows document) document position order words
+            (kept document refl) (λ tags. kept _ refl);
+        modified = λ flag. kept _ refl;
+        separated = kept _ (elim document.undo as
+            (λ b. HasNamesOf document (if b then record document { history = separated document.history }
+            else document)) [ true ↦ refl | false ↦ refl ]);
+      };
       inserted =
           λ place pairs _. kept _ (insert-kept limits document widget (insertion_offset document widget place) pairs);
       replaced = λ from to pairs _ _.
           kept _ (replace-kept limits document widget (insertion_offset document widget from)
           (insertion_offset document widget to) pairs);
       deleted = λ places _ _. kept _ (delete-kept document widget (spans_shown document widget places));
-      set = λ name offset found. kept _ (set-kept limits document widget name offset found);
-      turned = λ name place. kept _ (mark-kept document widget name place);
-      unset = λ names. kept _ refl;
-      added = λ name places. kept _ (add-kept limits document widget name places);
-      removed = λ name places. kept _ (remove-kept document widget name places);
-      untagged = λ names. kept _ refl;
-      ordered = λ position order words. carried-reordered (AreNamed windows document) document position order words
-          (kept document refl) (λ tags. kept _ refl);
-      modified = λ flag. kept _ refl;
-      separated = kept _ (elim document.undo as
-          (λ b. HasNamesOf document (if b then record document { history = separated document.history } else document))
-          [ true ↦ refl | false ↦ refl ]);
       undone = kept _ (undo-kept document widget);
       redone = kept _ (redo-kept document widget);
     }

@@ -33,7 +33,7 @@ use Rattle.documents.proofs.StillLeadLaws.{leads-mark, leads-modified, leads-sep
 use Rattle.documents.proofs.StillLeadLaws.{leads-unset, leads-untagged}
 use Rattle.documents.proofs.ViewLaws.{part-length}
 
-ordered-spans : (start len : ℕ) (places : List ℕ) →
+pub ordered-spans : (start len : ℕ) (places : List ℕ) →
     AllByRecursion (λ (span : Span). span.from ≤ span.to) (spans_of start len places)
 ordered-spans start len [] = tt
 ordered-spans start len (from ∷ []) = (omega arith, tt)
@@ -110,7 +110,20 @@ pub leads-carried : (limits : LimitTable) (start : List ℕ) (document : Documen
     → AreAnchored (characters document.cells) (anchors_of widget) →
     IsCarried limits document widget (Leads limits.chars start)
 leads-carried limits start document widget leads anchored = record {
-  same = leads;
+  still = record {
+    same = leads;
+    set = λ name offset found. leads-set limits limits.chars start document widget name offset found leads;
+    turned = λ name place. leads-mark limits.chars start document widget name place leads;
+    unset = λ names. leads-unset limits.chars start document names leads;
+    added = λ name places. leads-added limits limits.chars start document widget name places leads;
+    removed = λ name places. leads-removed limits.chars start document widget name places leads;
+    untagged = λ names. leads-untagged limits.chars start document names leads;
+    ordered = λ position order words. carried-reordered (Leads limits.chars start) document position order words leads
+        (λ tags. leads-still limits.chars start document (record document { tags = tags }) leads refl refl refl refl
+        refl);
+    modified = λ flag. leads-modified limits.chars start document flag leads;
+    separated = leads-separated limits.chars start document leads;
+  };
   inserted = λ place pairs busy. leads-inserted limits start document widget (insertion_offset document widget place)
       pairs leads
       (offset-inside document widget place (active document widget anchored busy));
@@ -122,17 +135,6 @@ leads-carried limits start document widget leads anchored = record {
       let is = active document widget anchored busy in
       leads-deleted limits.chars start document widget (spans_shown document widget places) leads is
       (spans-inside document widget places is (within is.within));
-  set = λ name offset found. leads-set limits limits.chars start document widget name offset found leads;
-  turned = λ name place. leads-mark limits.chars start document widget name place leads;
-  unset = λ names. leads-unset limits.chars start document names leads;
-  added = λ name places. leads-added limits limits.chars start document widget name places leads;
-  removed = λ name places. leads-removed limits.chars start document widget name places leads;
-  untagged = λ names. leads-untagged limits.chars start document names leads;
-  ordered = λ position order words. carried-reordered (Leads limits.chars start) document position order words leads
-      (λ tags. leads-still limits.chars start document (record document { tags = tags }) leads refl refl refl refl
-      refl);
-  modified = λ flag. leads-modified limits.chars start document flag leads;
-  separated = leads-separated limits.chars start document leads;
   undone = leads-undo limits.chars start document widget leads;
   redone = leads-redo limits.chars start document widget leads;
 }

@@ -15,6 +15,7 @@ pub mod Ranges
 pub mod Seats
 pub mod Tags
 pub mod Texts
+pub mod Told
 pub mod Views
 pub mod WellFormed
 pub mod Widgets

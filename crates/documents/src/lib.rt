@@ -12,8 +12,10 @@ mod ranges;
 mod seats;
 mod tags;
 mod texts;
+mod told;
 mod views;
 mod widgets;
 
 pub use documents::Document;
+pub use edit_ops::{ChangeList, TextChange};
 pub use widgets::drop_widgets;

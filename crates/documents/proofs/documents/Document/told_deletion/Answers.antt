@@ -1,0 +1,122 @@
+use Rattle.std.proofs.Common.{◌-◌, ap, ap₂, arith, length, subst, sym}
+use Rattle.edit_ops.specs.Deletions.{AreApart}
+use Rattle.documents.specs.Inside.{parts_of}
+use Rattle.documents.specs.Kept.{Stands}
+use Rattle.documents.proofs.PartsLaws.{sits}
+use Rattle.documents.proofs.SpanLaws.{spans-in}
+use Rattle.documents.proofs.ToldLaws.{apart-ordered, deletion-told}
+use Rattle.documents.proofs.ViewLaws.{active-is, end-found, shown-length, start-found, within-is}
+use Rattle.documents.proofs.documents.Document.told_deletion.Goals as goal
+
+pub start_of-start-requires : goal.start_of-start-requires
+start_of-start-requires g c =
+    let old = c.self.inside in
+    let document = c.args.self.now in
+    let parts = parts_of g.S.TextStore.content old in
+    let stands : Stands parts document = record { sound = c.self.invariant; is = c.self.view_is } in
+    let slot = c.number-slot.result in
+    let seated = sits parts document c.args.seat slot stands c.number-slot.ensures.value in
+    omega (arith, seated.anchors, ap length c.deref.ensures.value)
+
+pub end_of-end-requires : goal.end_of-end-requires
+end_of-end-requires g c =
+    let old = c.self.inside in
+    let document = c.args.self.now in
+    let parts = parts_of g.S.TextStore.content old in
+    let stands : Stands parts document = record { sound = c.self.invariant; is = c.self.view_is } in
+    let slot = c.number-slot.result in
+    let seated = sits parts document c.args.seat slot stands c.number-slot.ensures.value in
+    omega (arith, seated.anchors, ap length c.deref-2.ensures.value)
+
+pub spans_of-requires-clause-within : goal.spans_of-requires-clause-within
+spans_of-requires-clause-within g c =
+    let old = c.self.inside in
+    let document = c.args.self.now in
+    let parts = parts_of g.S.TextStore.content old in
+    let stands : Stands parts document = record { sound = c.self.invariant; is = c.self.view_is } in
+    let slot = c.number-slot.result in
+    let seated = sits parts document c.args.seat slot stands c.number-slot.ensures.value in
+    let start = start-found parts slot c.deref.result.now c.start_of-start.result c.deref.ensures.value
+    c.start_of-start.ensures in
+    let end = end-found parts slot c.deref-2.result.now c.len.result c.end_of-end.result c.deref-2.ensures.value
+    c.len.ensures c.end_of-end.ensures in
+    λ k d inside. (let h = c.requires.within k d inside in
+    omega (arith, h, start, end, shown-length parts document c.args.seat slot stands seated))
+
+pub deleted_runs-requires-clause-shows : goal.deleted_runs-requires-clause-shows
+deleted_runs-requires-clause-shows g c =
+    let old = c.self.inside in
+    let document = c.args.self.now in
+    let parts = parts_of g.S.TextStore.content old in
+    let stands : Stands parts document = record { sound = c.self.invariant; is = c.self.view_is } in
+    let slot = c.number-slot.result in
+    let seated = sits parts document c.args.seat slot stands c.number-slot.ensures.value in
+    let start = start-found parts slot c.deref.result.now c.start_of-start.result c.deref.ensures.value
+    c.start_of-start.ensures in
+    let end = end-found parts slot c.deref-2.result.now c.len.result c.end_of-end.result c.deref-2.ensures.value
+    c.len.ensures c.end_of-end.ensures in
+    let shows = active-is parts document c.args.seat slot stands seated c.requires.active in
+    omega (arith, start, end, shows.1)
+
+pub deleted_runs-requires-clause-within : goal.deleted_runs-requires-clause-within
+deleted_runs-requires-clause-within g c =
+    let old = c.self.inside in
+    let document = c.args.self.now in
+    let parts = parts_of g.S.TextStore.content old in
+    let stands : Stands parts document = record { sound = c.self.invariant; is = c.self.view_is } in
+    let slot = c.number-slot.result in
+    let seated = sits parts document c.args.seat slot stands c.number-slot.ensures.value in
+    let end = end-found parts slot c.deref-2.result.now c.len.result c.end_of-end.result c.deref-2.ensures.value
+    c.len.ensures c.end_of-end.ensures in
+    omega (arith, end, within-is parts document c.args.seat slot stands seated)
+
+pub deleted_runs-requires-clause-spans : goal.deleted_runs-requires-clause-spans
+deleted_runs-requires-clause-spans g c =
+    let old = c.self.inside in
+    let document = c.args.self.now in
+    let parts = parts_of g.S.TextStore.content old in
+    let stands : Stands parts document = record { sound = c.self.invariant; is = c.self.view_is } in
+    let slot = c.number-slot.result in
+    let seated = sits parts document c.args.seat slot stands c.number-slot.ensures.value in
+    let start = start-found parts slot c.deref.result.now c.start_of-start.result c.deref.ensures.value
+    c.start_of-start.ensures in
+    let end = end-found parts slot c.deref-2.result.now c.len.result c.end_of-end.result c.deref-2.ensures.value
+    c.len.ensures c.end_of-end.ensures in
+    let shows = active-is parts document c.args.seat slot stands seated c.requires.active in
+    let spans = c.deref-3.result.now in
+    let within = spans-in parts document c.args.seat slot c.start_of-start.result
+    (c.end_of-end.result - c.start_of-start.result) c.args.places.now c.in_ok-spans.spans.items spans stands seated
+    start
+    (ap₂ (λ e s. e - s) end start) c.requires.within (omega (arith, shows.1)) c.in_ok-spans.ensures
+    c.deref-3.ensures.value in
+    λ k d inside. (let h = (within.1 k d inside).within in omega (arith, h, end))
+
+pub remove_spans-requires : goal.remove_spans-requires
+remove_spans-requires g c =
+    let long = length (g.S.TextStore.content c.self.inside.text.store).cells in
+    apart-ordered long c.deref-4.result.now
+    (subst (AreApart long) (sym c.deref-4.ensures.value) c.in_ok-runs.ensures.apart)
+
+pub returns : goal.returns
+returns g c =
+    let old = c.self.inside in
+    let document = c.args.self.now in
+    let parts = parts_of g.S.TextStore.content old in
+    let stands : Stands parts document = record { sound = c.self.invariant; is = c.self.view_is } in
+    let slot = c.number-slot.result in
+    let seated = sits parts document c.args.seat slot stands c.number-slot.ensures.value in
+    let start = start-found parts slot c.deref.result.now c.start_of-start.result c.deref.ensures.value
+    c.start_of-start.ensures in
+    let end = end-found parts slot c.deref-2.result.now c.len.result c.end_of-end.result c.deref-2.ensures.value
+    c.len.ensures c.end_of-end.ensures in
+    let shows = active-is parts document c.args.seat slot stands seated c.requires.active in
+    let spans = c.deref-3.result.now in
+    let within = spans-in parts document c.args.seat slot c.start_of-start.result
+    (c.end_of-end.result - c.start_of-start.result) c.args.places.now c.in_ok-spans.spans.items spans stands seated
+    start
+    (ap₂ (λ e s. e - s) end start) c.requires.within (omega (arith, shows.1)) c.in_ok-spans.ensures
+    c.deref-3.ensures.value in
+    deletion-told parts document c.args.seat slot c.start_of-start.result c.end_of-end.result c.args.places.now spans
+    c.in_ok-runs.runs.items c.deref-4.result.now c.new-told.result c.remove_spans.new.self stands seated start end
+    within.0 c.deref-4.ensures.value c.in_ok-runs.ensures.runs c.in_ok-runs.ensures.apart c.new-told.ensures
+    c.in_ok-remove_spans.ensures

@@ -1,0 +1,122 @@
+ghost use Rattle.std.specs.Prelude.{◌≡◌, ◌+◌, ◌<◌, ◌≤◌, ◌^◌, ℕ, List, false, length, map, OnOk, IfOk};
+ghost use Rattle.std.specs.List.{All};
+ghost use Rattle.text_model.specs.LimitTable.{LimitTable, AreLimits};
+ghost use Rattle.edit_ops.specs.Told.{Goes};
+ghost use Rattle.command_effects.specs.Lists.{Pair as PairOfWords, total};
+ghost use Rattle.documents.specs.Deletions.{delete_places, replace_span};
+ghost use Rattle.documents.specs.Documents.{Widget, widget_at};
+ghost use Rattle.documents.specs.History.{edit_redo, edit_undo};
+ghost use Rattle.documents.specs.Texts.{insert_at, insertion_offset};
+ghost use Rattle.documents.specs.Told.{put_all, Foretells};
+ghost use Rattle.documents.specs.Views.{is_idle, shown};
+ghost use Rattle.documents.specs.WellFormed.{IsWellFormedDocument};
+
+use crate::documents::Document;
+use crate::views::{end_of, start_of};
+use command_effects::{Pair, spans_of};
+use edit_ops::{ChangeList, count_of, deleted_runs};
+use std::alloc::AllocError;
+use text_model::{Limits, TextStore};
+
+/// Tells that texts are put in at an offset, each behind the one before it.
+fn tell_texts(told: &mut ChangeList, at: usize, pairs: &[Pair]) -> Result<(), AllocError>
+    ensures { OnOk result ((old : List ℕ) → at ≤ length old → at + total pairs.now < 2 ^ 64 →
+        Goes told.old told.new old (put_all at (map (λ (pair : PairOfWords). pair.text) pairs.now) old)) }
+{
+    let mut at = at;
+    for pair in pairs {
+        let end = at.saturating_add(count_of(&pair.text));
+        told.insert(at, &pair.text)?;
+        at = end;
+    }
+    Ok(())
+}
+
+impl<S: TextStore> Document<S> {
+    /// What `insert_at` changes of the text, unless it is refused.
+    pub fn told_insertion(&self, at: usize, pairs: &[Pair]) -> Result<ChangeList, AllocError>
+        requires { at < length self.now.cells }
+        ensures { IfOk result (λ told. (limits : LimitTable) (widget : Widget) → AreLimits limits →
+            Foretells self.now (insert_at limits self.now widget at pairs.now) told) }
+    {
+        let mut told = ChangeList::new(self.alloc);
+        tell_texts(&mut told, at, pairs)?;
+        Ok(told)
+    }
+
+    /// What `delete_places` changes of the text, unless it is refused.
+    pub fn told_deletion(&self, seat: usize, places: &[usize]) -> Result<ChangeList, AllocError>
+        requires shown { seat < length self.now.widgets }
+        requires active { is_idle self.now (widget_at self.now seat) ≡ false }
+        requires within { All (λ place. place ≤ length (shown self.now (widget_at self.now seat))) places.now }
+        ensures { IfOk result (λ told.
+            Foretells self.now (delete_places self.now (widget_at self.now seat) places.now) told) }
+    {
+        let slot = self.seats.number(seat);
+        let store = &self.text.store;
+        let start = start_of(&self.text.anchors, slot);
+        let end = end_of(&self.text.anchors, slot, store.len());
+        let spans = spans_of(self.alloc, start, end - start, places)?;
+        let runs = deleted_runs(self.alloc, store, start, end, &spans)?;
+        let mut told = ChangeList::new(self.alloc);
+        told.remove_spans(&runs)?;
+        Ok(told)
+    }
+
+    /// What `replace_between` changes of the text, unless it is refused.
+    pub fn told_replacement(
+        &self,
+        seat: usize,
+        from: usize,
+        to: usize,
+        pairs: &[Pair],
+    ) -> Result<ChangeList, AllocError>
+        requires shown { seat < length self.now.widgets }
+        requires active { is_idle self.now (widget_at self.now seat) ≡ false }
+        requires ordered { from ≤ to }
+        requires within { to ≤ length (shown self.now (widget_at self.now seat)) }
+        ensures { IfOk result (λ told. (limits : LimitTable) → AreLimits limits →
+            Foretells self.now (replace_span limits self.now (widget_at self.now seat)
+            (insertion_offset self.now (widget_at self.now seat) from)
+            (insertion_offset self.now (widget_at self.now seat) to) pairs.now) told) }
+    {
+        let start = self.insertion_offset(seat, from);
+        let end = self.insertion_offset(seat, to);
+        let mut told = ChangeList::new(self.alloc);
+        told.remove(start, end)?;
+        tell_texts(&mut told, start, pairs)?;
+        Ok(told)
+    }
+
+    /// What `edit_undo` changes of the text, unless it is refused.
+    pub fn told_undo(&self, limits: &Limits, seat: usize) -> Result<ChangeList, AllocError>
+        requires shown { seat < length self.now.widgets }
+        requires formed { IsWellFormedDocument limits.now self.now }
+        ensures { IfOk result (λ told. Foretells self.now (edit_undo self.now (widget_at self.now seat)) told) }
+    {
+        let mut told = ChangeList::new(self.alloc);
+        if !self.settings.undo || self.is_idle(seat) {
+            return Ok(told);
+        }
+        if let Some(group) = self.text.history.last_undo() {
+            told.replay_group(&group, true)?;
+        }
+        Ok(told)
+    }
+
+    /// What `edit_redo` changes of the text, unless it is refused.
+    pub fn told_redo(&self, limits: &Limits, seat: usize) -> Result<ChangeList, AllocError>
+        requires shown { seat < length self.now.widgets }
+        requires formed { IsWellFormedDocument limits.now self.now }
+        ensures { IfOk result (λ told. Foretells self.now (edit_redo self.now (widget_at self.now seat)) told) }
+    {
+        let mut told = ChangeList::new(self.alloc);
+        if !self.settings.undo || self.is_idle(seat) {
+            return Ok(told);
+        }
+        if let Some(group) = self.text.history.last_redo() {
+            told.replay_group(&group, false)?;
+        }
+        Ok(told)
+    }
+}
