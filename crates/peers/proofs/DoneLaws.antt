@@ -31,7 +31,7 @@ use Rattle.documents.specs.Promise.{change_with, refused, unless_idle}
 use Rattle.documents.specs.Tags.{add_spans, lowered, raised, remove_spans, reordered}
 use Rattle.documents.specs.Texts.{insert_at, insertion_offset}
 use Rattle.documents.specs.Views.{shown, view_end}
-use Rattle.documents.proofs.CarriedLaws.{IsCarried, carried-active, carried-with}
+use Rattle.documents.proofs.CarriedLaws.{IsCarried, IsStill, carried-active, carried-with}
 use Rattle.documents.proofs.IndexPlaceLaws.{place-within}
 use Rattle.peers.specs.Commands.{Call, done}
 use Rattle.peers.specs.Deletions.{delete, replace, replace_places, replace_words}
@@ -87,6 +87,15 @@ IsOther EditReset = ⊤
 IsOther PeerCreate = ⊤
 IsOther command = ⊥
 
+-- a command that edits the text
+abbrev pub IsTextEdit : Command → Type 0
+IsTextEdit Insert = ⊤
+IsTextEdit Delete = ⊤
+IsTextEdit Replace = ⊤
+IsTextEdit EditUndo = ⊤
+IsTextEdit EditRedo = ⊤
+IsTextEdit command = ⊥
+
 -- the call of a widget's command with these words
 abbrev pub calling : LimitTable → List (List ℕ) → Widget → List (List ℕ) → ℕ → List (List ℕ) → Call
 calling limits windows widget switches position arguments = record {
@@ -98,18 +107,112 @@ calling limits windows widget switches position arguments = record {
   arguments = arguments;
 }
 
+-- ---- commands that leave the characters
+
+module _ (limits : LimitTable) (document : Document) (widget : Widget) (P : Document →
+    Type 0) (still : IsStill limits document widget P) where
+  sets : (position : ℕ) (words : List (List ℕ)) → P (mark_set limits document widget position words).document
+  sets position words =
+      carried-with P document (two_of words) (set_words limits document widget position) still.same (λ given _.
+      carried-with P document (place_at document widget (position + 1) given.1) (set_at limits document widget given.0)
+      still.same (λ place _.
+      still.set given.0 (mark_offset document widget given.0 place) (place_named document widget given.0)))
+
+  asks-gravity : (position : ℕ) (found : Option Place) → P (gravity_asked document position found).document
+  asks-gravity position None = still.same
+  asks-gravity position (Some place) = still.same
+
+  gives-gravity : (position : ℕ) (name : List ℕ) (found : Option Place) (gravity : Option Gravity) →
+      P (gravity_given document widget position name found gravity).document
+  gives-gravity position name None gravity = still.same
+  gives-gravity position name (Some place) None = still.same
+  gives-gravity position name (Some place) (Some gravity) = still.turned name (record place { gravity = gravity })
+
+  turns-words : (position : ℕ) (words : List ℕ × Option (List ℕ)) →
+      P (gravity_words document widget position words).document
+  turns-words position (name, None) = asks-gravity position (place_named document widget name)
+  turns-words position (name, Some word) =
+      gives-gravity position name (place_named document widget name) (gravity_of word)
+
+  turns : (position : ℕ) (words : List (List ℕ)) → P (mark_gravity document widget position words).document
+  turns position words =
+      carried-with P document (one_or_two_of words) (gravity_words document widget position) still.same (λ given _. turns-words position given)
+
+  adds : (position : ℕ) (words : List (List ℕ)) → P (tag_add limits document widget position words).document
+  adds position words =
+      carried-with P document (first_of words) (add_words limits document widget position) still.same (λ given _.
+      carried-with P document (places_at document widget (position + 1) given.1)
+      (add_spans limits document widget given.0) still.same (λ places _.
+      still.added given.0 places))
+
+  removes : (position : ℕ) (words : List (List ℕ)) → P (tag_remove document widget position words).document
+  removes position words =
+      carried-with P document (first_of words) (remove_words document widget position) still.same (λ given _.
+      carried-with P document (places_at document widget (position + 1) given.1) (remove_spans document widget given.0)
+      still.same (λ places _.
+      still.removed given.0 places))
+
+  raises : (position : ℕ) (words : List (List ℕ)) → P (tag_raise document position words).document
+  raises position words = carried-with P document (one_or_two_of words) (reordered document position raised) still.same
+      (λ given _. still.ordered position raised given)
+
+  lowers : (position : ℕ) (words : List (List ℕ)) → P (tag_lower document position words).document
+  lowers position words = carried-with P document (one_or_two_of words) (reordered document position lowered) still.same
+      (λ given _. still.ordered position lowered given)
+
+  modifies-word : (position : ℕ) (word : Option (List ℕ)) → P (modified_word document position word).document
+  modifies-word position None = still.same
+  modifies-word position (Some word) =
+      carried-with P document (ok_or (boolean_of word) (BadBoolean position)) (modified_set document) still.same
+      (λ flag _. still.modified flag)
+
+  modifies : (position : ℕ) (words : List (List ℕ)) → P (edit_modified document position words).document
+  modifies position words =
+      carried-with P document (none_or_one_of words) (modified_word document position) still.same (λ word _.
+      modifies-word position word)
+
+  -- any command, where it holds after those that edit the text, and after three others
+  pub still-done : (command : Command) (windows switches : List (List ℕ)) (position : ℕ) (arguments : List (List ℕ))
+      → (IsTextEdit command →
+      P (done command document (calling limits windows widget switches position arguments)).document)
+      → (IsOther command →
+      P (done command document (calling limits windows widget switches position arguments)).document)
+      → P (done command document (calling limits windows widget switches position arguments)).document
+  still-done Insert windows switches position arguments edit other = edit tt
+  still-done Delete windows switches position arguments edit other = edit tt
+  still-done Replace windows switches position arguments edit other = edit tt
+  still-done MarkGravity windows switches position arguments edit other = turns position arguments
+  still-done MarkSet windows switches position arguments edit other = sets position arguments
+  still-done MarkUnset windows switches position arguments edit other = still.unset arguments
+  still-done TagAdd windows switches position arguments edit other = adds position arguments
+  still-done TagRemove windows switches position arguments edit other = removes position arguments
+  still-done TagDelete windows switches position arguments edit other = still.untagged arguments
+  still-done TagRaise windows switches position arguments edit other = raises position arguments
+  still-done TagLower windows switches position arguments edit other = lowers position arguments
+  still-done Configure windows switches position arguments edit other = other tt
+  still-done EditUndo windows switches position arguments edit other = edit tt
+  still-done EditRedo windows switches position arguments edit other = edit tt
+  still-done EditModified windows switches position arguments edit other = modifies position arguments
+  still-done EditReset windows switches position arguments edit other = other tt
+  still-done EditSeparator windows switches position arguments edit other = still.separated
+  still-done PeerCreate windows switches position arguments edit other = other tt
+  still-done command windows switches position arguments edit other = still.same
+
+-- ---- commands that edit the text
+
 module _ (limits : LimitTable) (document : Document) (widget : Widget) (P : Document →
     Type 0) (carried : IsCarried limits document widget P) where
   inserts : (position : ℕ) (words : List (List ℕ)) → P (insert limits document widget position words).document
   inserts position words =
-      carried-with P document (first_of words) (insert_words limits document widget position) carried.same (λ given _.
+      carried-with P document (first_of words) (insert_words limits document widget position) carried.still.same
+      (λ given _.
       carried-with P document (place_at document widget position given.0)
-      (insert_pairs limits document widget (pairs_at (position + 1) given.1)) carried.same (λ place _.
+      (insert_pairs limits document widget (pairs_at (position + 1) given.1)) carried.still.same (λ place _.
       carried-with P document (pairs_at (position + 1) given.1)
       (λ pairs. unless_idle widget document (insert_at limits document widget (insertion_offset document widget place)
-      pairs)) carried.same (λ pairs _.
+      pairs)) carried.still.same (λ pairs _.
       carried-active P document widget (insert_at limits document widget (insertion_offset document widget place) pairs)
-      carried.same
+      carried.still.same
       (carried.inserted place pairs))))
 
   replaces-places : (second from to : ℕ) (pairs : List Pair) →
@@ -119,111 +222,50 @@ module _ (limits : LimitTable) (document : Document) (widget : Widget) (P : Docu
       (insertion_offset document widget to) pairs in
       elim (nat_lt to from) as (λ b. nat_lt to from ≡ b →
       P (if b then refused document (IndexOrder second) else unless_idle widget document change).document) [
-        | true ↦ λ _. carried.same
-        | false ↦ λ ordered. carried-active P document widget change carried.same (λ busy.
+        | true ↦ λ _. carried.still.same
+        | false ↦ λ ordered. carried-active P document widget change carried.still.same (λ busy.
             carried.replaced from to pairs busy (ltb-false to from ordered))
       ] refl
 
   replaces : (position : ℕ) (words : List (List ℕ)) → P (replace limits document widget position words).document
   replaces position words =
-      carried-with P document (first_two_of words) (replace_words limits document widget position) carried.same (λ given _.
+      carried-with P document (first_two_of words) (replace_words limits document widget position) carried.still.same
+      (λ given _.
       carried-with P document (place_at document widget position given.0) (λ from.
       change_with document (place_at document widget (position + 1) given.1) (λ to.
       change_with document (pairs_at (position + 2) given.2) (replace_places limits document widget (position + 1) from to)))
-      carried.same (λ from _.
+      carried.still.same (λ from _.
       carried-with P document (place_at document widget (position + 1) given.1) (λ to.
       change_with document (pairs_at (position + 2) given.2) (replace_places limits document widget (position + 1) from to))
-      carried.same (λ to _.
+      carried.still.same (λ to _.
       carried-with P document (pairs_at (position + 2) given.2) (replace_places limits document widget (position + 1) from to)
-      carried.same (λ pairs _.
+      carried.still.same (λ pairs _.
       replaces-places (position + 1) from to pairs))))
 
   deletes : (position : ℕ) (words : List (List ℕ)) → P (delete document widget position words).document
   deletes position words =
       carried-with P document (places_at document widget position words) (λ places.
-      unless_idle widget document (delete_places document widget places)) carried.same
+      unless_idle widget document (delete_places document widget places)) carried.still.same
       (λ places is.
-      carried-active P document widget (delete_places document widget places) carried.same (λ busy.
+      carried-active P document widget (delete_places document widget places) carried.still.same (λ busy.
       carried.deleted places busy (λ within. places-within document widget position words places within is)))
 
-  sets : (position : ℕ) (words : List (List ℕ)) → P (mark_set limits document widget position words).document
-  sets position words =
-      carried-with P document (two_of words) (set_words limits document widget position) carried.same (λ given _.
-      carried-with P document (place_at document widget (position + 1) given.1) (set_at limits document widget given.0)
-      carried.same (λ place _.
-      carried.set given.0 (mark_offset document widget given.0 place) (place_named document widget given.0)))
-
-  asks-gravity : (position : ℕ) (found : Option Place) → P (gravity_asked document position found).document
-  asks-gravity position None = carried.same
-  asks-gravity position (Some place) = carried.same
-
-  gives-gravity : (position : ℕ) (name : List ℕ) (found : Option Place) (gravity : Option Gravity) →
-      P (gravity_given document widget position name found gravity).document
-  gives-gravity position name None gravity = carried.same
-  gives-gravity position name (Some place) None = carried.same
-  gives-gravity position name (Some place) (Some gravity) = carried.turned name (record place { gravity = gravity })
-
-  turns-words : (position : ℕ) (words : List ℕ × Option (List ℕ)) → P (gravity_words document widget position words).document
-  turns-words position (name, None) = asks-gravity position (place_named document widget name)
-  turns-words position (name, Some word) = gives-gravity position name (place_named document widget name) (gravity_of word)
-
-  turns : (position : ℕ) (words : List (List ℕ)) → P (mark_gravity document widget position words).document
-  turns position words = carried-with P document (one_or_two_of words) (gravity_words document widget position) carried.same
-      (λ given _. turns-words position given)
-
-  adds : (position : ℕ) (words : List (List ℕ)) → P (tag_add limits document widget position words).document
-  adds position words =
-      carried-with P document (first_of words) (add_words limits document widget position) carried.same (λ given _.
-      carried-with P document (places_at document widget (position + 1) given.1) (add_spans limits document widget given.0)
-      carried.same (λ places _.
-      carried.added given.0 places))
-
-  removes : (position : ℕ) (words : List (List ℕ)) → P (tag_remove document widget position words).document
-  removes position words =
-      carried-with P document (first_of words) (remove_words document widget position) carried.same (λ given _.
-      carried-with P document (places_at document widget (position + 1) given.1) (remove_spans document widget given.0)
-      carried.same (λ places _.
-      carried.removed given.0 places))
-
-  raises : (position : ℕ) (words : List (List ℕ)) → P (tag_raise document position words).document
-  raises position words = carried-with P document (one_or_two_of words) (reordered document position raised) carried.same
-      (λ given _. carried.ordered position raised given)
-
-  lowers : (position : ℕ) (words : List (List ℕ)) → P (tag_lower document position words).document
-  lowers position words = carried-with P document (one_or_two_of words) (reordered document position lowered) carried.same
-      (λ given _. carried.ordered position lowered given)
-
-  modifies-word : (position : ℕ) (word : Option (List ℕ)) → P (modified_word document position word).document
-  modifies-word position None = carried.same
-  modifies-word position (Some word) =
-      carried-with P document (ok_or (boolean_of word) (BadBoolean position)) (modified_set document) carried.same (λ flag _.
-      carried.modified flag)
-
-  modifies : (position : ℕ) (words : List (List ℕ)) → P (edit_modified document position words).document
-  modifies position words = carried-with P document (none_or_one_of words) (modified_word document position) carried.same (λ word _.
-      modifies-word position word)
+  edits : (command : Command) (windows switches : List (List ℕ)) (position : ℕ) (arguments : List (List ℕ)) →
+      IsTextEdit command
+      → P (done command document (calling limits windows widget switches position arguments)).document
+  edits Insert windows switches position arguments is = inserts position arguments
+  edits Delete windows switches position arguments is = deletes position arguments
+  edits Replace windows switches position arguments is = replaces position arguments
+  edits EditUndo windows switches position arguments is = carried.undone
+  edits EditRedo windows switches position arguments is = carried.redone
+  edits command windows switches position arguments is = absurd is
 
   -- ---- any command but three
 
   pub carried-done : (command : Command) (windows switches : List (List ℕ)) (position : ℕ) (arguments : List (List ℕ))
-      → (IsOther command → P (done command document (calling limits windows widget switches position arguments)).document)
+      → (IsOther command →
+      P (done command document (calling limits windows widget switches position arguments)).document)
       → P (done command document (calling limits windows widget switches position arguments)).document
-  carried-done Insert windows switches position arguments other = inserts position arguments
-  carried-done Delete windows switches position arguments other = deletes position arguments
-  carried-done Replace windows switches position arguments other = replaces position arguments
-  carried-done MarkGravity windows switches position arguments other = turns position arguments
-  carried-done MarkSet windows switches position arguments other = sets position arguments
-  carried-done MarkUnset windows switches position arguments other = carried.unset arguments
-  carried-done TagAdd windows switches position arguments other = adds position arguments
-  carried-done TagRemove windows switches position arguments other = removes position arguments
-  carried-done TagDelete windows switches position arguments other = carried.untagged arguments
-  carried-done TagRaise windows switches position arguments other = raises position arguments
-  carried-done TagLower windows switches position arguments other = lowers position arguments
-  carried-done Configure windows switches position arguments other = other tt
-  carried-done EditUndo windows switches position arguments other = carried.undone
-  carried-done EditRedo windows switches position arguments other = carried.redone
-  carried-done EditModified windows switches position arguments other = modifies position arguments
-  carried-done EditReset windows switches position arguments other = other tt
-  carried-done EditSeparator windows switches position arguments other = carried.separated
-  carried-done PeerCreate windows switches position arguments other = other tt
-  carried-done command windows switches position arguments other = carried.same
+  carried-done command windows switches position arguments other =
+      still-done limits document widget P carried.still command windows switches position arguments
+      (edits command windows switches position arguments) other

@@ -1,6 +1,6 @@
 -- A document that keeps all its actions leads back to the text from the start, through commands that spare it.
 use Rattle.std.proofs.Common.{◌≡◌, ℕ, zero, suc, ◌<◌, ◌==◌, ◌||◌, Bool, true, false, not, List, [], ◌∷◌, ◌++◌, Option}
-use Rattle.std.proofs.Common.{Some, None, Ok, Err, filter, length, map, take, refl, sym, ap, ◌∙◌, arith, subst}
+use Rattle.std.proofs.Common.{Some, None, Ok, Err, filter, length, take, refl, sym, ap, ◌∙◌, arith, subst}
 use Rattle.std.proofs.Common.{true≢false, inl, inr}
 use Rattle.std.specs.Prelude.{Result, ◌&&◌, is_ok, is_some, nat_le, slice_set, if◌then◌else◌}
 use Rattle.std.specs.List.{AllByRecursion, IsDistinct}
@@ -27,7 +27,7 @@ use Rattle.documents.specs.Documents.{Document, Widget, characters}
 use Rattle.documents.specs.History.{edit_reset}
 use Rattle.documents.specs.Kept.{is_window_name}
 use Rattle.documents.specs.Promise.{Change}
-use Rattle.documents.specs.WellFormed.{IsPlaced, IsWellFormedDocument, window_names}
+use Rattle.documents.specs.WellFormed.{IsWellFormedDocument, window_names}
 use Rattle.documents.specs.Widgets.{bare_document, keeps_some, new_document, widget_named}
 use Rattle.documents.proofs.EditLeadLaws.{found-anchored}
 use Rattle.documents.proofs.LeadLaws.{Leads}
@@ -46,6 +46,7 @@ use Rattle.peers.proofs.DoneLaws.{IsOther, calling, carried-done}
 use Rattle.peers.proofs.FrontLaws.{IsBefore, before-grown, front-changed, front-stays, left-among, left-at, left-front}
 use Rattle.peers.proofs.FrontLaws.{neither, set-at, set-length, set-other}
 use Rattle.peers.proofs.KeepingLaws.{leads-configured, leads-peered, named-configured, named-peered}
+use Rattle.peers.proofs.NameLaws.{placed-window}
 use Rattle.peers.proofs.WorldLaws.{all-at, own-absent}
 
 -- a document among others, which leads back to a text; each of its widgets has the name of a window, and is found as
@@ -337,18 +338,6 @@ follows-all start (words ∷ commands) world place follows spared =
     (follows-step start world place words follows spared.0) spared.1
 
 -- ---- the start
-
-placed-window : (document : Document) (name : List ℕ) (widgets : List Widget) →
-    AllByRecursion (IsPlaced document) widgets
-    → is_among name (map (λ (w : Widget). w.name) widgets) ≡ true → is_window_name name ≡ true
-placed-window document name [] placed there = absurd (true≢false (sym there))
-placed-window document name (widget ∷ widgets) placed there =
-    elim (is_same name widget.name) as (λ b. is_same name widget.name ≡ b →
-    (b || is_among name (map (λ (w : Widget). w.name) widgets)) ≡ true
-    → is_window_name name ≡ true) [
-      | true ↦ λ same _. ap is_window_name ((bytes_eq-Decides name widget.name).0 same) ∙ placed.0.name
-      | false ↦ λ _ later. placed-window document name widgets placed.1 later
-    ] refl there
 
 none-among : (name : List ℕ) (names : List (List ℕ)) → AllByRecursion (λ other. is_same name other ≡ false) names →
     is_among name names ≡ false

@@ -13,6 +13,8 @@ pub mod PeerLaws
 pub mod PlaceLaws
 pub mod PromiseLaws
 pub mod SwitchLaws
+pub mod ToldLaws
+pub mod ToldStepLaws
 pub mod UndoBackLaws
 pub mod UndoStepLaws
 pub mod WindowLaws

@@ -1,7 +1,9 @@
 -- What a command makes of a world, where it is refused.
 use Rattle.std.proofs.Common.{◌≡◌, ℕ, refl, sym, ap, subst}
-use Rattle.std.specs.Prelude.{Err}
+use Rattle.std.specs.Prelude.{Err, Result}
+use Rattle.command_effects.specs.declared.answers.Answer.{Answer}
 use Rattle.command_effects.specs.declared.answers.Fault.{Fault}
+use Rattle.command_effects.specs.declared.answers.Fault.TheVariants.{Memory}
 use Rattle.documents.specs.Promise.{refused}
 use Rattle.peers.specs.Step.{Makes, Outcome, changed, refuses}
 use Rattle.peers.specs.WellFormed.{IsWellFormed}
@@ -14,6 +16,17 @@ pub makes-refused : (world : World) (fault : Fault) (outcome : Outcome) → IsWe
 makes-refused world fault outcome formed is =
     subst (Makes world world (Err fault)) (sym is)
     (record { reply = λ _. refl; world = λ _. refl; refused = refl; well_formed = formed })
+
+-- a command that wants memory leaves the world
+pub makes-memory : (world : World) (result : Result Answer Fault) (outcome : Outcome) → IsWellFormed world →
+    result ≡ Err Memory → Makes world world result outcome
+makes-memory world result outcome formed is =
+    subst (λ r. Makes world world r outcome) (sym is) (record {
+      reply = λ other. absurd (other refl);
+      world = λ other. absurd (other refl);
+      refused = refl;
+      well_formed = formed;
+    })
 
 -- a document that refuses a command changes no world
 pub changed-refuses : (world : World) (place : ℕ) (fault : Fault) →

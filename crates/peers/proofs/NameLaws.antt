@@ -1,11 +1,16 @@
 -- The names of widgets, by their bytes.
 use Rattle.std.proofs.Common.{◌≡◌, ℕ, ◌<◌, ◌≤◌, Bool, true, false, List, [], ◌∷◌, ◌++◌, length, get_or, refl, sym, ap}
-use Rattle.std.proofs.Common.{◌∙◌, arith}
-use Rattle.std.specs.Prelude.{chars, IsUtf8, encode_utf8, encode_utf8_all, ◌==◌}
+use Rattle.std.proofs.Common.{◌∙◌, arith, map, true≢false}
+use Rattle.std.specs.Prelude.{chars, IsUtf8, encode_utf8, encode_utf8_all, ◌==◌, ◌||◌}
+use Rattle.std.specs.List.{AllByRecursion}
 use Rattle.std.proofs.lemmas.Bool.{false≢true}
 use Rattle.std.proofs.lemmas.Bool.Decides.{Decides-eqb}
 use Rattle.std.proofs.lemmas.Str.{chars-nil, chars_past_char, encodes-chars, encode_ascii, IsUtf8-past_char}
+use Rattle.std.proofs.lemmas.Slice.Eq.{bytes_eq-Decides}
+use Rattle.command_effects.specs.Words.{is_among, is_same}
+use Rattle.documents.specs.Documents.{Document, Widget}
 use Rattle.documents.specs.Kept.{is_window_name}
+use Rattle.documents.specs.WellFormed.{IsPlaced}
 
 -- a character, and more
 abbrev begins : Bool → List ℕ → Bool
@@ -67,3 +72,16 @@ pub is_window_name-long : (bytes : List ℕ) → 2 ≤ length bytes → is_windo
 is_window_name-long [] long = absurd (omega arith)
 is_window_name-long (b ∷ []) long = absurd (omega arith)
 is_window_name-long (b ∷ c ∷ bytes) long = refl
+
+-- the name of a widget is that of a window
+pub placed-window : (document : Document) (name : List ℕ) (widgets : List Widget) →
+    AllByRecursion (IsPlaced document) widgets
+    → is_among name (map (λ (w : Widget). w.name) widgets) ≡ true → is_window_name name ≡ true
+placed-window document name [] placed there = absurd (true≢false (sym there))
+placed-window document name (widget ∷ widgets) placed there =
+    elim (is_same name widget.name) as (λ b. is_same name widget.name ≡ b →
+    (b || is_among name (map (λ (w : Widget). w.name) widgets)) ≡ true
+    → is_window_name name ≡ true) [
+      | true ↦ λ same _. ap is_window_name ((bytes_eq-Decides name widget.name).0 same) ∙ placed.0.name
+      | false ↦ λ _ later. placed-window document name widgets placed.1 later
+    ] refl there

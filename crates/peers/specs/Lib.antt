@@ -10,6 +10,7 @@ pub mod Ranges
 pub mod Step
 pub mod Tags
 pub mod Texts
+pub mod Told
 pub mod WellFormed
 pub mod Widgets
 pub mod Windows

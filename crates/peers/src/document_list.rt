@@ -25,7 +25,7 @@ use text_model::TextStore;
 /// The documents in the order of their creation, and where each widget is found.
 #[derive(Drop)]
 pub struct Documents<S: TextStore> {
-    alloc: Global,
+    pub alloc: Global,
     pub list: Vec<Document<S>>,
     pub windows: Windows,
 }

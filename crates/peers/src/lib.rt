@@ -13,10 +13,12 @@ mod queries;
 mod ranges;
 mod tags;
 mod texts;
+mod told;
 mod widgets;
 mod windows;
 mod words;
 mod world;
 
 pub use command_effects::{Answer, Fault};
-pub use world::World;
+pub use documents::{ChangeList, TextChange};
+pub use world::{Told, World};

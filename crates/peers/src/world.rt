@@ -1,5 +1,5 @@
 ghost use Rattle.std.specs.Prelude.{◌≡◌, ◌≢◌, ◌<◌, Some, Ok, [], false, true, nat_le, length, chars, ◌+◌, ◌≤◌};
-ghost use Rattle.std.specs.Prelude.{option_map};
+ghost use Rattle.std.specs.Prelude.{option_map, None, IfOk, is_ok};
 ghost use Rattle.text_model.specs.Lines.{lines};
 ghost use Rattle.tcl_words.specs.Unread.{texts_of};
 ghost use Rattle.command_table.specs.Reading.{reading};
@@ -14,19 +14,28 @@ ghost use Rattle.peers.specs.Commands.{is_frugal, is_frugal_reading};
 ghost use Rattle.peers.specs.Widgets.{peer_create, peer_with};
 ghost use Rattle.peers.specs.WellFormed.{IsWellFormed};
 ghost use Rattle.peers.specs.World.{all_windows, document_at, home};
+ghost use Rattle.peers.specs.Told.{answer_of, TellsAt, TellsOf};
 ghost use Rattle.documents.specs.Options.{AreLines};
 
 use crate::commands::command;
 use crate::document_list::Documents;
 use crate::options::settings_given;
+use crate::told::told_of;
 use crate::widgets::peer_settings;
 use crate::words::is_window_name;
 use command_effects::{Answer, Fault, Settings, first, is_word};
 use command_table::{Command, Shape, shape};
-use documents::Document;
-use std::alloc::Global;
+use documents::{ChangeList, Document};
+use std::alloc::{AllocError, Global};
 use std::marker::Model;
 use text_model::{Limits, TextStore};
+
+/// What a command answered, and what it changed of the text that its widget shows.
+#[derive(Drop)]
+pub struct Told {
+    pub answer: Answer,
+    pub changes: ChangeList,
+}
 
 /// All that a session of commands can see later: the limits, and the documents with their widgets.
 #[derive(Drop)]
@@ -291,6 +300,48 @@ impl<S: TextStore> World<S> {
         ensures { result ≡ can_redo_by self.now (chars name.now) }
     {
         Some(self.document(name)?.can_redo())
+    }
+
+    /// What a command of the widget of a name tells, of all its words: each change that it makes of the text that the
+    /// widget shows, unless it is refused. Nothing, where no widget has the name.
+    fn told_of(&self, name: &str, words: &[String]) -> Result<ChangeList, AllocError>
+        requires { 0 < length words.now }
+        ensures none { home (chars name.now) self.now.documents ≡ None → IfOk result (λ told. told ≡ []) }
+        ensures some { IfOk result (λ told. let outcome = on_widget self.now (chars name.now) (texts_of words.now) in
+            is_ok outcome.reply ≡ true →
+            TellsAt self.now outcome.world (home (chars name.now) self.now.documents) told) }
+    {
+        let nothing = ChangeList::new(self.documents.alloc);
+        let Some(place) = self.documents.windows.home(name) else {
+            return Ok(nothing);
+        };
+        let document = &self.documents.list[place];
+        let Some(seat) = document.find_widget(name) else {
+            unreachable!()
+        };
+        match shape(words) {
+            Err(_) => Ok(nothing),
+            Ok(shape) => told_of(document, &self.limits, seat, shape, words),
+        }
+    }
+
+    /// Carries out a command as `call` does, and tells what it changed of the text that its widget shows, if its first
+    /// word names one. All that is told is there before anything changes, so where memory is refused the world is as it
+    /// was.
+    pub fn call_told(&mut self, words: &[String]) -> Result<Told, Fault>
+        requires { 0 < length words.now }
+        ensures makes { Makes self.old self.new (answer_of result)
+            (step self.old (texts_of words.now)) }
+        ensures tells { IfOk result (λ told. TellsOf self.old self.new (texts_of words.now) told.changes) }
+    {
+        // Read first, so that every return knows that the world is well formed.
+        let _documents = &self.documents;
+        let [name, ..] = words else { unreachable!() };
+        let changes = self.told_of(name.as_str(), words)?;
+        match self.call(words) {
+            Err(fault) => Err(fault),
+            Ok(answer) => Ok(Told { answer, changes }),
+        }
     }
 
     /// Carries out a command of one word or more. A fault leaves the world as it was.

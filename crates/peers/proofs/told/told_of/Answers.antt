@@ -1,0 +1,50 @@
+use Rattle.std.proofs.Common.{List, ℕ, sym, subst}
+use Rattle.tcl_words.specs.Unread.{texts_of}
+use Rattle.command_table.specs.declared.commands.Command.TheVariants.{Delete, Insert, Replace}
+use Rattle.documents.specs.Documents.{widget_at}
+use Rattle.documents.specs.Told.{Foretells}
+use Rattle.peers.specs.Commands.{command}
+use Rattle.peers.specs.Deletions.{delete, replace}
+use Rattle.peers.specs.Texts.{insert}
+use Rattle.peers.proofs.ArgumentLaws.{arguments-part}
+use Rattle.peers.proofs.ToldLaws.{foretells-command, foretells-other, told-through}
+use Rattle.peers.proofs.told.told_of.Goals as goal
+
+pub returns-in-Insert : goal.returns-in-Insert
+returns-in-Insert g c =
+    let document = c.args.document.now in let widget = widget_at document c.args.seat in
+    let shape = c.args.shape in let limits = c.args.limits.now in let words = texts_of c.args.words.now in
+    told-through _ (λ told. (windows : List (List ℕ)) → Foretells document
+    (command limits windows document widget words) told) c.told_insert.result
+    (λ told foretold windows. foretells-command limits windows document widget words shape c.requires.shape Insert told
+    c.in-Insert.is (subst (λ arguments. Foretells document (insert limits document widget shape.arguments arguments)
+    told) (arguments-part c.args.words.now shape) (foretold limits c.requires.limits))) c.told_insert.ensures
+
+pub returns-in-Delete : goal.returns-in-Delete
+returns-in-Delete g c =
+    let document = c.args.document.now in let widget = widget_at document c.args.seat in
+    let shape = c.args.shape in let limits = c.args.limits.now in let words = texts_of c.args.words.now in
+    told-through _ (λ told. (windows : List (List ℕ)) → Foretells document
+    (command limits windows document widget words) told) c.told_delete.result
+    (λ told foretold windows. foretells-command limits windows document widget words shape c.requires.shape Delete told
+    c.in-Delete.is (subst (λ arguments. Foretells document (delete document widget shape.arguments arguments)
+    told) (arguments-part c.args.words.now shape) foretold)) c.told_delete.ensures
+
+pub returns-in-Replace : goal.returns-in-Replace
+returns-in-Replace g c =
+    let document = c.args.document.now in let widget = widget_at document c.args.seat in
+    let shape = c.args.shape in let limits = c.args.limits.now in let words = texts_of c.args.words.now in
+    told-through _ (λ told. (windows : List (List ℕ)) → Foretells document
+    (command limits windows document widget words) told) c.told_replace.result
+    (λ told foretold windows. foretells-command limits windows document widget words shape c.requires.shape Replace told
+    c.in-Replace.is (subst (λ arguments. Foretells document (replace limits document widget shape.arguments arguments)
+    told) (arguments-part c.args.words.now shape) (foretold limits c.requires.limits))) c.told_replace.ensures
+
+pub returns-in_default : goal.returns-in_default
+returns-in_default g c = λ windows.
+    let document = c.args.document.now in let widget = widget_at document c.args.seat in
+    let other = c.in_default in
+    subst (λ told. Foretells document (command c.args.limits.now windows document widget
+    (texts_of c.args.words.now)) told) (sym c.new.ensures)
+    (foretells-other c.args.limits.now windows document widget (texts_of c.args.words.now) c.args.shape
+    c.requires.shape other.not-Insert other.not-Delete other.not-Replace other.not-EditUndo other.not-EditRedo)
