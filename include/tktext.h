@@ -88,6 +88,28 @@ size_t tktext_said(tktext *handle, uint8_t *room, size_t size);
    Where that is refused it gives SIZE_MAX, and both are as they were.  The caller frees `*line` at last. */
 size_t tktext_said_line(tktext *handle, char **line, size_t *room);
 
+/* Copies a word of the command that was given last, counted from 0, as tktext_said does; no text where there is none. */
+size_t tktext_word(tktext *handle, size_t word, uint8_t *room, size_t size);
+
+/* Carries out a command as tktext_call does, and keeps what it changed of the text that its widget shows: changes, each of
+   the text that those before it leave, from an offset so many characters taken out, and others put in.  Made one after
+   the other on the old characters they give the new ones, and none changes nothing.  They are there before anything
+   changes, so TKTEXT_NO_MEMORY leaves all as it was.  After any other code than TKTEXT_ANSWER nothing is told. */
+int32_t tktext_call_told(tktext *handle, const uint8_t *bytes, size_t size, const size_t *lengths, size_t count);
+
+/* How many changes the last call that tells told of: 0 too of an empty handle. */
+size_t tktext_told(tktext *handle);
+
+/* The offset of one of them, counted from 0, in characters from the start of the text, whatever part of it the widget
+   shows; 0 of one that there isn't. */
+size_t tktext_told_at(tktext *handle, size_t change);
+
+/* How many characters were taken out there; 0 of one that there isn't. */
+size_t tktext_told_removed(tktext *handle, size_t change);
+
+/* Copies the text that was put in there, as tktext_said does; no text of one that there isn't. */
+size_t tktext_told_inserted(tktext *handle, size_t change, uint8_t *room, size_t size);
+
 /* Whether `edit undo` would find something to undo in the text that a widget shows, by the widget's name in UTF-8, as Tk's
    `edit canundo` tells: 1 or 0, and -1 where no widget has the name.  Nothing changes, what was said last neither. */
 int32_t tktext_can_undo(tktext *handle, const uint8_t *widget, size_t size);
@@ -106,6 +128,9 @@ void tktext_finish(tktext *handle);
    TKTEXT_ANSWER, TKTEXT_FAULT, TKTEXT_NO_MEMORY or TKTEXT_SCRIPT_FAULT, after which tktext_said has a line, and after the
    last of which no further command comes; TKTEXT_END or TKTEXT_WRONG_HANDLE. */
 int32_t tktext_next(tktext *handle);
+
+/* Carries out the next command as tktext_next does, and keeps what it changed as tktext_call_told does. */
+int32_t tktext_next_told(tktext *handle);
 
 /* The exit status that the program has after so much of the script: 2 after a script fault, 1 after a command that was
    refused, else 0; 255 of an empty handle. */

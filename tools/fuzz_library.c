@@ -547,12 +547,26 @@ static void drop_both(void)
     check_empty(&by_words);
 }
 
+/* What a call that tells told: none of a refused command, and no idle change. */
+static void check_told(tktext *world, int32_t code)
+{
+    uint8_t room[4];
+    size_t count = tktext_told(world);
+    check(code == TKTEXT_ANSWER || count == 0, "a refused command tells of a change");
+    for (size_t at = 0; at < count; at++)
+        check(tktext_told_removed(world, at) > 0 || tktext_told_inserted(world, at, room, 4) > 0, "an idle change is told");
+    check(tktext_told_at(world, count) == 0 && tktext_told_inserted(world, count, room, 4) == 0, "a change too many");
+}
+
 static int32_t call(tktext *world, const struct command *command)
 {
+    int tells = in(2);
     uint8_t *bytes = copy_of(command->bytes, command->size);
     size_t *lengths = (size_t *)(void *)copy_of(command->lengths, command->count * sizeof *lengths);
-    int32_t code = tktext_call(world, bytes, command->size, lengths, command->count);
+    int32_t code = (tells ? tktext_call_told : tktext_call)(world, bytes, command->size, lengths, command->count);
     shared->calls++;
+    if (tells)
+        check_told(world, code);
     free(bytes);
     free(lengths);
     return code;
@@ -598,10 +612,13 @@ static void feed(const uint8_t *bytes, size_t size, int is_refused)
 /* The next command of the script, which is this one; where a growth is refused for it, it is given by its words. */
 static int32_t take_turn(const struct command *command, int is_refused)
 {
+    int tells = in(2);
     if (is_refused)
         refuse(1 + below(12), in(2));
-    int32_t code = tktext_next(&by_script);
+    int32_t code = (tells ? tktext_next_told : tktext_next)(&by_script);
     refuse_none();
+    if (tells)
+        check_told(&by_script, code);
     shared->calls++;
     if (!is_refused || code != TKTEXT_NO_MEMORY)
         return code;

@@ -224,6 +224,47 @@ static void check_undo(void)
     tktext_drop(&world);
 }
 
+/* Whether one change was told, and it is this one. */
+static bool told_is(tktext *world, size_t at, size_t removed, const char *inserted)
+{
+    uint8_t room[8];
+    size_t length = tktext_told_inserted(world, 0, room, sizeof room);
+    return tktext_told(world) == 1 && tktext_told_at(world, 0) == at && tktext_told_removed(world, 0) == removed
+        && length == strlen(inserted) && memcmp(room, inserted, length) == 0;
+}
+
+static int32_t call_told(tktext *world, const char *words, const size_t *lengths, size_t count)
+{
+    return tktext_call_told(world, (const uint8_t *)words, strlen(words), lengths, count);
+}
+
+#define LENGTHS(...) (const size_t[]){__VA_ARGS__}, sizeof((const size_t[]){__VA_ARGS__}) / sizeof(size_t)
+
+/* What a command changed, by whichever widget and whether it came by its words or by a script. */
+static void check_told(void)
+{
+    uint8_t room[4] = "abcd";
+    tktext world = TKTEXT_EMPTY;
+    check(call_told(&world, "text.t", LENGTHS(4, 2)) == TKTEXT_WRONG_HANDLE && tktext_told(&world) == 0, "told by no world");
+    check(tktext_told_inserted(&world, 0, room, 4) == 0 && tktext_word(&world, 0, room, 4) == 0, "what no world told");
+    tktext_new_greatest(&world);
+    check(call_told(&world, "text.t-undo1", LENGTHS(4, 2, 5, 1)) == TKTEXT_ANSWER && tktext_told(&world) == 0, "a widget tells nothing");
+    check(call_told(&world, ".tinsert1.0\xc3\xa9\\b", LENGTHS(2, 6, 3, 4)) == TKTEXT_ANSWER && told_is(&world, 0, 0, "\xc3\xa9\\b"), "an insertion");
+    check(tktext_told_inserted(&world, 0, room, 1) == 4 && memcmp(room, "\xc3" "bcd", 4) == 0, "a change in too little room");
+    check(tktext_told_at(&world, 1) == 0 && tktext_told_removed(&world, SIZE_MAX) == 0 && tktext_told_inserted(&world, 1, room, 4) == 0, "no such change");
+    tktext_call_words(&world, WORDS(".t", "peer", "create", ".p"));
+    check(told_is(&world, 0, 0, "\xc3\xa9\\b"), "a plain call leaves what was told");
+    check(call_told(&world, ".pdelete1.1end", LENGTHS(2, 6, 3, 3)) == TKTEXT_ANSWER && told_is(&world, 1, 2, ""), "a deletion by a peer");
+    check(tktext_word(&world, 0, room, 4) == 2 && memcmp(room, ".p", 2) == 0 && tktext_word(&world, 4, room, 4) == 0, "whose words they were");
+    check(call_told(&world, ".tdelete5.0", LENGTHS(2, 6, 3)) == TKTEXT_ANSWER && tktext_told(&world) == 0, "nothing that is deleted");
+    tktext_feed(&world, (const uint8_t *)".t edit undo\n.t insert x y\n", 27);
+    check(tktext_next_told(&world) == TKTEXT_ANSWER && told_is(&world, 1, 0, "\\b"), "an undo by a script");
+    check(tktext_next_told(&world) == TKTEXT_FAULT && tktext_told(&world) == 0, "a refused command tells nothing");
+    check(call_told(&world, ".tinsert1.0a", LENGTHS(2, 6, 3, 1)) == TKTEXT_ANSWER && told_is(&world, 0, 0, "a"), "a further one");
+    check(call_told(&world, ".t\xff", LENGTHS(2, 1)) == TKTEXT_NOT_TEXT && tktext_told(&world) == 0, "no words tell nothing");
+    tktext_drop(&world);
+}
+
 static void check_comfort(void)
 {
     static char text[100001];
@@ -329,6 +370,7 @@ static int try_uses(void)
     check_words(&world);
     check_script(&world);
     check_undo();
+    check_told();
     tktext_drop(&world);
     check_empty(&world);
     printf("%d passed, %d failed\n", passed, failed);

@@ -34,11 +34,18 @@ fn main(rt: HostRuntime) {
     let _ = tktext_new_greatest(alloc, &mut handle);
     let _ = tktext_call(alloc, &mut handle, b"text.t", &lengths);
     let _ = tktext_said(alloc, &mut handle, &mut room);
+    let _ = tktext_call_told(alloc, &mut handle, b"text.t", &lengths);
+    let _ = tktext_word(alloc, &mut handle, 0, &mut room);
+    let _ = tktext_told(alloc, &mut handle);
+    let _ = tktext_told_at(alloc, &mut handle, 0);
+    let _ = tktext_told_removed(alloc, &mut handle, 0);
+    let _ = tktext_told_inserted(alloc, &mut handle, 0, &mut room);
     let _ = tktext_can_undo(alloc, &mut handle, b".t");
     let _ = tktext_can_redo(alloc, &mut handle, b".t");
     let _ = tktext_feed(alloc, &mut handle, b"text .u");
     tktext_finish(alloc, &mut handle);
     let _ = tktext_next(alloc, &mut handle);
+    let _ = tktext_next_told(alloc, &mut handle);
     let _ = tktext_status(alloc, &mut handle);
     tktext_drop(alloc, &mut handle);
     handle.spent();

@@ -11,6 +11,7 @@ use Rattle.tktext_c.specs.declared.ends.CallEnd.{CallEnd}
 use Rattle.tktext_c.specs.declared.ends.FeedEnd.{FeedEnd}
 use Rattle.tktext_c.specs.Calls.{Gives, Called, Calls, Fed, Feeds, Turns, Takes, status_after}
 use Rattle.tktext_c.specs.State.{State, state_of}
+use Rattle.tktext_c.specs.Told.{CalledTold, CallsTold, TurnsTold, TakesTold}
 
 pub feeds-held : (was is : Option Session) (old new : Session) (bytes : List ℕ) (ended : FeedEnd) → was ≡ Some old →
     is ≡ Some new
@@ -33,6 +34,21 @@ pub takes-held : (was is : Option Session) (old new : Session) (ended : TurnEnd)
 takes-held was is old new ended before after turns =
     subst (λ w. Takes (option_map state_of w) (option_map state_of is) ended) (sym before)
     (subst (λ i. Takes (Some (state_of old)) (option_map state_of i) ended) (sym after) turns)
+
+pub calls_told-held : (was is : Option Session) (old new : Session) (lengths bytes : List ℕ) (ended : CallEnd) →
+    was ≡ Some old → is ≡ Some new
+    → CalledTold (state_of old) lengths bytes (state_of new) ended →
+    CallsTold (option_map state_of was) lengths bytes (option_map state_of is) ended
+calls_told-held was is old new lengths bytes ended before after called =
+    subst (λ w. CallsTold (option_map state_of w) lengths bytes (option_map state_of is) ended) (sym before)
+    (subst (λ i. CallsTold (Some (state_of old)) lengths bytes (option_map state_of i) ended) (sym after) called)
+
+pub takes_told-held : (was is : Option Session) (old new : Session) (ended : TurnEnd) → was ≡ Some old → is ≡ Some new
+    → TurnsTold (state_of old) (state_of new) ended →
+    TakesTold (option_map state_of was) (option_map state_of is) ended
+takes_told-held was is old new ended before after turns =
+    subst (λ w. TakesTold (option_map state_of w) (option_map state_of is) ended) (sym before)
+    (subst (λ i. TakesTold (Some (state_of old)) (option_map state_of i) ended) (sym after) turns)
 
 -- a command is taken off the script and given to the world
 turns-after : (old : State) (script : Unread) (said : State) (words : List (List ℕ)) (given : Given)

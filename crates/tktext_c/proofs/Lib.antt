@@ -1,5 +1,7 @@
 mod CallLaws
 mod KeptSteps
+mod ReadLaws
 mod RoomLaws
+mod ToldLaws
 mod Values
 mod WordLaws

@@ -1,6 +1,6 @@
 -- Texts that are copied one behind the other.
 use Rattle.std.proofs.Common.{◌≡◌, ℕ, suc, zero, ◌+◌, ◌≤◌, min, arith, List, [], ◌∷◌, ◌++◌, length, take, drop, refl}
-use Rattle.std.proofs.Common.{sym, ap, ◌∙◌, append_assoc}
+use Rattle.std.proofs.Common.{sym, ap, subst, ◌∙◌, append_assoc}
 use Rattle.std.proofs.lemmas.List.{length-append}
 use Rattle.tktext_c.specs.Room.{over, Copied}
 
@@ -47,3 +47,19 @@ grouped a b c d e = append_assoc ((a ++ b) ++ c) d e ∙ append_assoc (a ++ b) c
 pub copied-text : (text other start : List ℕ) (total : ℕ) (room : List ℕ) → text ≡ other →
     Copied text start total room → Copied other start total room
 copied-text text other start total room same is = rw same at is
+
+-- no text is copied
+pub copied-nothing : (text room : List ℕ) → text ≡ [] →
+    (0 ≡ min (length text) 18446744073709551615) × (room ≡ over text room)
+copied-nothing text room none =
+    let count : length text ≡ 0 = ap length none in
+    (omega (arith, count), subst (λ (t : List ℕ). room ≡ over t room) (sym none) (over-none room))
+
+-- a text is copied that stands for another
+pub copied-as : (text wanted start room : List ℕ) (total : ℕ) → text ≡ wanted
+    → total ≡ min (length text) 18446744073709551615 → room ≡ over text start →
+    (total ≡ min (length wanted) 18446744073709551615) × (room ≡ over wanted start)
+copied-as text wanted start room total same count copied = (
+  subst (λ (t : List ℕ). total ≡ min (length t) 18446744073709551615) same count,
+  subst (λ (t : List ℕ). room ≡ over t start) same copied,
+)

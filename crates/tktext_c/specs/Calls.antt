@@ -36,6 +36,7 @@ given_of (Err fault) = given.Fault
 abbrev pub stepped : State → List (List ℕ) → State
 stepped old words = record old {
   world = (step old.world words).world;
+  words = words;
   said = encode_utf8_all (piece words (step old.world words).reply);
 }
 
@@ -44,7 +45,7 @@ abbrev pub Gives : State → List (List ℕ) → State → Given → Type 0
 Gives old words new given.Answer = (is_ok (step old.world words).reply ≡ true) × (new ≡ stepped old words)
 Gives old words new given.Fault =
     (is_err (step old.world words).reply ≡ true) × (new ≡ stepped old words) × (new.world ≡ old.world)
-Gives old words new given.Memory = new ≡ record old { said = memory_said }
+Gives old words new given.Memory = new ≡ record old { words = new.words; said = memory_said }
 
 -- The same of words that stand in bytes, unless they are none, which changes nothing.
 abbrev pub Called : State → List ℕ → List ℕ → State → CallEnd → Type 0

@@ -4,4 +4,5 @@ pub mod Handles
 pub mod Held
 pub mod Room
 pub mod State
+pub mod Told
 pub mod Words

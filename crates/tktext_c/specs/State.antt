@@ -2,6 +2,7 @@
 use Rattle.std.specs.Prelude.{ℕ, List, [], Some, Err, encode_utf8_all}
 use Rattle.text_model.specs.LimitTable.{LimitTable}
 use Rattle.tcl_words.specs.Unread.{Unread, nothing_fed, texts_of}
+use Rattle.edit_ops.specs.declared.changes.TextChange.{TextChange}
 use Rattle.command_effects.specs.declared.answers.Fault.TheVariants.{Memory}
 use Rattle.peers.specs.World.{World}
 use Rattle.printing.specs.Lines.{piece}
@@ -10,11 +11,14 @@ use Rattle.tktext_c.specs.declared.session.Said.{Said}
 use Rattle.tktext_c.specs.declared.session.Said.TheVariants.{Nothing, Reply, Fault}
 use Rattle.tktext_c.specs.declared.session.Session.{Session}
 
--- the world, what is still to be read of the script that is fed, the bytes that were said last, and the script's status
+-- the world, what is still to be read of the script that is fed, the words of the command that was given last, the
+-- bytes that were said then, what the last command that tells told, and the script's status
 pub record State : Type 0 where
   pub world : World
   pub script : Unread
+  pub words : List (List ℕ)
   pub said : List ℕ
+  pub told : List TextChange
   pub status : ℕ
 
 -- the bytes that the program prints for it
@@ -31,10 +35,19 @@ abbrev pub state_of : Session → State
 state_of session = record {
   world = session.world;
   script = session.splitter;
+  words = texts_of session.words.items;
   said = said_text (texts_of session.words.items) session.said;
+  told = session.told;
   status = session.status;
 }
 
 -- a world without documents, and a script of which nothing was fed
 abbrev pub start : LimitTable → State
-start limits = record { world = no_documents limits; script = nothing_fed; said = []; status = 0 }
+start limits = record {
+  world = no_documents limits;
+  script = nothing_fed;
+  words = [];
+  said = [];
+  told = [];
+  status = 0;
+}

@@ -1,7 +1,8 @@
 //! The calls from C, before their codes.
-ghost use Rattle.std.specs.Prelude.{◌≡◌};
+ghost use Rattle.std.specs.Prelude.{◌≡◌, true, false};
 ghost use Rattle.tktext_c.specs.Calls.{Makes, Calls, Feeds, Takes, Tells, can_by};
 ghost use Rattle.tktext_c.specs.Handles.{state};
+ghost use Rattle.tktext_c.specs.Told.{told_of, place_told, CallsTold, TakesTold};
 
 use crate::ends::{CallEnd, FeedEnd, MakeEnd, TurnEnd, Way};
 use crate::handle::Handle;
@@ -27,15 +28,22 @@ pub(crate) fn make(alloc: Global, handle: &mut Handle, limits: Limits) -> MakeEn
     }
 }
 
-/// Carries out a command.
-pub(crate) fn call(alloc: Global, handle: &mut Handle, bytes: &[u8], lengths: &[usize]) -> CallEnd
-    ensures { Calls (state handle.old) lengths.now bytes.now (state handle.new) result }
+/// Carries out a command, and keeps what it tells where that is wanted.
+pub(crate) fn call(
+    alloc: Global,
+    handle: &mut Handle,
+    tells: bool,
+    bytes: &[u8],
+    lengths: &[usize],
+) -> CallEnd
+    ensures plain { tells ≡ false → Calls (state handle.old) lengths.now bytes.now (state handle.new) result }
+    ensures told { tells ≡ true → CallsTold (state handle.old) lengths.now bytes.now (state handle.new) result }
 {
     if !handle.full {
         return CallEnd::WrongHandle;
     }
     let mut session = handle.take(alloc);
-    let ended = session.call_bytes(alloc, bytes, lengths);
+    let ended = session.call_bytes(alloc, tells, bytes, lengths);
     handle.put(session);
     ended
 }
@@ -53,15 +61,16 @@ pub(crate) fn feed(alloc: Global, handle: &mut Handle, bytes: &[u8]) -> FeedEnd
     ended
 }
 
-/// Takes the next turn of the script.
-pub(crate) fn take_turn(alloc: Global, handle: &mut Handle) -> TurnEnd
-    ensures { Takes (state handle.old) (state handle.new) result }
+/// Takes the next turn of the script, and keeps what it tells where that is wanted.
+pub(crate) fn take_turn(alloc: Global, handle: &mut Handle, tells: bool) -> TurnEnd
+    ensures plain { tells ≡ false → Takes (state handle.old) (state handle.new) result }
+    ensures told { tells ≡ true → TakesTold (state handle.old) (state handle.new) result }
 {
     if !handle.full {
         return TurnEnd::WrongHandle;
     }
     let mut session = handle.take(alloc);
-    let ended = session.take_turn();
+    let ended = session.take_turn(alloc, tells);
     handle.put(session);
     ended
 }
@@ -78,4 +87,18 @@ pub(crate) fn can(alloc: Global, handle: &mut Handle, way: Way, name: &[u8]) -> 
     let told = session.can(way, name);
     handle.put(session);
     told
+}
+
+/// The offset of a change that was told, and how many characters it took out; 0 where there is none.
+pub(crate) fn change_place(alloc: Global, handle: &mut Handle, index: usize) -> (usize, usize)
+    ensures place { result ≡ place_told (told_of (state handle.old)) index }
+    ensures unchanged { state handle.new ≡ state handle.old }
+{
+    if !handle.full {
+        return (0, 0);
+    }
+    let session = handle.take(alloc);
+    let place = session.change_place(index);
+    handle.put(session);
+    place
 }

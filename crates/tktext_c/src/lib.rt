@@ -8,6 +8,7 @@ ghost use Rattle.tktext_c.specs.Calls.{Makes, Calls, Feeds, Takes, Tells, finish
 ghost use Rattle.tktext_c.specs.Codes.{make_code, call_code, feed_code, turn_code, told_code};
 ghost use Rattle.tktext_c.specs.Handles.{state, status_of, said_of};
 ghost use Rattle.tktext_c.specs.Room.{over};
+ghost use Rattle.tktext_c.specs.Told.{told_of, place_told, text_told, word_given, words_of, CallsTold, TakesTold};
 
 mod ends;
 mod exports;
@@ -70,7 +71,7 @@ pub extern "C" fn tktext_call(
     ensures { (ended : CallEnd) × (result ≡ call_code ended)
         × Calls (state handle.old) lengths.now bytes.now (state handle.new) ended }
 {
-    exports::call(alloc, handle, bytes, lengths).code()
+    exports::call(alloc, handle, false, bytes, lengths).code()
 }
 
 /// Copies what was said last to the front of the room, as far as it goes, and gives the length of all.
@@ -85,6 +86,96 @@ pub extern "C" fn tktext_said(alloc: Global, handle: &mut Handle, room: &mut [u8
     }
     let session = handle.take(alloc);
     let length = session.copy_said(room);
+    handle.put(session);
+    length
+}
+
+/// Carries out a command as `tktext_call` does, and keeps what it changed of the text that its widget shows.
+#[unsafe(no_mangle)]
+pub extern "C" fn tktext_call_told(
+    alloc: Global,
+    handle: &mut Handle,
+    bytes: &[u8],
+    lengths: &[usize],
+) -> i32
+    ensures { (ended : CallEnd) × (result ≡ call_code ended)
+        × CallsTold (state handle.old) lengths.now bytes.now (state handle.new) ended }
+{
+    exports::call(alloc, handle, true, bytes, lengths).code()
+}
+
+/// Copies a word of the command that was given last to the front of the room, as far as it goes, and gives the length
+/// of all.
+#[unsafe(no_mangle)]
+pub extern "C" fn tktext_word(
+    alloc: Global,
+    handle: &mut Handle,
+    index: usize,
+    room: &mut [u8],
+) -> usize
+    ensures length { result ≡ min (length (word_given (words_of (state handle.old)) index)) usize.MAX }
+    ensures copied { room.new ≡ over (word_given (words_of (state handle.old)) index) room.old }
+    ensures unchanged { state handle.new ≡ state handle.old }
+{
+    if !handle.full {
+        return 0;
+    }
+    let session = handle.take(alloc);
+    let length = session.copy_word(index, room);
+    handle.put(session);
+    length
+}
+
+/// How many changes the last call that tells told of.
+#[unsafe(no_mangle)]
+pub extern "C" fn tktext_told(alloc: Global, handle: &mut Handle) -> usize
+    ensures count { result ≡ length (told_of (state handle.old)) }
+    ensures unchanged { state handle.new ≡ state handle.old }
+{
+    if !handle.full {
+        return 0;
+    }
+    let session = handle.take(alloc);
+    let count = session.count_told();
+    handle.put(session);
+    count
+}
+
+/// The offset of one of these changes, in characters; 0 where there is none.
+#[unsafe(no_mangle)]
+pub extern "C" fn tktext_told_at(alloc: Global, handle: &mut Handle, index: usize) -> usize
+    ensures place { result ≡ (place_told (told_of (state handle.old)) index).0 }
+    ensures unchanged { state handle.new ≡ state handle.old }
+{
+    exports::change_place(alloc, handle, index).0
+}
+
+/// How many characters it took out; 0 where there is none.
+#[unsafe(no_mangle)]
+pub extern "C" fn tktext_told_removed(alloc: Global, handle: &mut Handle, index: usize) -> usize
+    ensures count { result ≡ (place_told (told_of (state handle.old)) index).1 }
+    ensures unchanged { state handle.new ≡ state handle.old }
+{
+    exports::change_place(alloc, handle, index).1
+}
+
+/// Copies the text that it put in to the front of the room, as far as it goes, and gives the length of all.
+#[unsafe(no_mangle)]
+pub extern "C" fn tktext_told_inserted(
+    alloc: Global,
+    handle: &mut Handle,
+    index: usize,
+    room: &mut [u8],
+) -> usize
+    ensures length { result ≡ min (length (text_told (told_of (state handle.old)) index)) usize.MAX }
+    ensures copied { room.new ≡ over (text_told (told_of (state handle.old)) index) room.old }
+    ensures unchanged { state handle.new ≡ state handle.old }
+{
+    if !handle.full {
+        return 0;
+    }
+    let session = handle.take(alloc);
+    let length = session.copy_inserted(index, room);
     handle.put(session);
     length
 }
@@ -136,7 +227,16 @@ pub extern "C" fn tktext_finish(alloc: Global, handle: &mut Handle)
 pub extern "C" fn tktext_next(alloc: Global, handle: &mut Handle) -> i32
     ensures { (ended : TurnEnd) × (result ≡ turn_code ended) × Takes (state handle.old) (state handle.new) ended }
 {
-    exports::take_turn(alloc, handle).code()
+    exports::take_turn(alloc, handle, false).code()
+}
+
+/// The same, and keeps what it changed of the text that the command's widget shows.
+#[unsafe(no_mangle)]
+pub extern "C" fn tktext_next_told(alloc: Global, handle: &mut Handle) -> i32
+    ensures { (ended : TurnEnd) × (result ≡ turn_code ended)
+        × TakesTold (state handle.old) (state handle.new) ended }
+{
+    exports::take_turn(alloc, handle, true).code()
 }
 
 /// The exit status of the script so far; 255 where the handle is empty.

@@ -18,6 +18,14 @@ pub(crate) fn copy_line(line: &Line, room: &mut [u8]) -> usize
     copy_next(room, total, after)
 }
 
+/// Copies a text to the front of the room, as far as it goes, and gives the length of it all.
+pub(crate) fn copy_whole(text: &str, room: &mut [u8]) -> usize
+    ensures length { result ≡ min (length text.now) usize.MAX }
+    ensures copied { room.new ≡ over text.now room.old }
+{
+    copy_next(room, 0, text)
+}
+
 /// Copies a text behind those of which so many bytes were copied, as far as the room goes, and gives the length of all.
 fn copy_next(room: &mut [u8], total: usize, text: &str) -> usize
     ensures { (done start : List ℕ) → Copied done start total room.old

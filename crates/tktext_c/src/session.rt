@@ -2,7 +2,7 @@
 ghost use Rattle.std.specs.Prelude.{◌≡◌};
 
 use line_tree::TreeStore;
-use peers::{Answer, Fault, World};
+use peers::{Answer, ChangeList, Fault, World};
 use tcl_words::{ScriptFault, Splitter};
 
 /// What was said last.
@@ -17,7 +17,7 @@ pub(crate) enum Said {
 }
 
 /// A world, the words of the command that was given last and what was said then, words whose room the next command may
-/// use, and a script that is fed.
+/// use, what the last command that tells told, and a script that is fed.
 #[derive(Drop)]
 pub struct Session {
     pub(crate) world: World<TreeStore>,
@@ -26,6 +26,7 @@ pub struct Session {
     pub(crate) words: Vec<String>,
     pub(crate) spare: Vec<String>,
     pub(crate) said: Said,
+    pub(crate) told: ChangeList,
     pub(crate) status: u8,
     ghost agrees: { is_finished ≡ splitter.finished },
 }

@@ -1,15 +1,18 @@
 //! What each call from C makes of a session.
-ghost use Rattle.std.specs.Prelude.{◌≡◌, ◌<◌, [], Some, min, length, vec_len};
+ghost use Rattle.std.specs.Prelude.{◌≡◌, ◌≢◌, ◌<◌, true, false, if◌then◌else◌, [], Some, min, length, vec_len};
+ghost use Rattle.std.specs.Prelude.{encode_utf8_all};
 ghost use Rattle.tcl_words.specs.Unread.{texts_of};
+ghost use Rattle.printing.specs.Lines.{piece};
 ghost use Rattle.tktext_c.specs.Calls.{Called, Fed, Gives, Tells, Turns, can_by, finished, given_of, status_after};
+ghost use Rattle.tktext_c.specs.Told.{CalledTold, GivesTold, TurnsTold, place_told, text_told, untold, word_given};
 ghost use Rattle.tktext_c.specs.Room.{over};
 ghost use Rattle.tktext_c.specs.State.{said_text, start, state_of};
 
 use crate::ends::{CallEnd, FeedEnd, Given, TurnEnd, Way};
-use crate::room::copy_line;
+use crate::room::{copy_line, copy_whole};
 use crate::session::{Said, Session};
 use crate::words::{WordsFault, read_words};
-use peers::{Answer, Fault, World};
+use peers::{Answer, ChangeList, Fault, World};
 use printing::Line;
 use std::alloc::Global;
 use std::mem;
@@ -33,17 +36,27 @@ impl Session {
             words: Vec::new(alloc),
             spare: Vec::new(alloc),
             said: Said::Nothing,
+            told: ChangeList::new(alloc),
             status: 0,
         }
     }
 
-    /// Carries out the command of some words, which stand one behind the other in the bytes.
-    pub(crate) fn call_bytes(&mut self, alloc: Global, bytes: &[u8], lengths: &[usize]) -> CallEnd
-        ensures { Called (state_of self.old) lengths.now bytes.now (state_of self.new) result }
+    /// Carries out the command of some words, which stand one behind the other in the bytes, and keeps what it tells
+    /// where that is wanted.
+    pub(crate) fn call_bytes(
+        &mut self,
+        alloc: Global,
+        tells: bool,
+        bytes: &[u8],
+        lengths: &[usize],
+    ) -> CallEnd
+        ensures plain { tells ≡ false → Called (state_of self.old) lengths.now bytes.now (state_of self.new) result }
+        ensures told { tells ≡ true → CalledTold (state_of self.old) lengths.now bytes.now (state_of self.new) result }
     {
+        self.forget_told(alloc, tells);
         let spare = mem::replace(&mut self.spare, Vec::new(alloc));
         match read_words(alloc, spare, bytes, lengths) {
-            Ok(words) => CallEnd::Given(self.call(words)),
+            Ok(words) => CallEnd::Given(self.call(tells, words)),
             Err(WordsFault::Memory) => {
                 self.said = Said::Reply(Err(Fault::Memory));
                 CallEnd::Given(Given::Memory)
@@ -53,17 +66,97 @@ impl Session {
         }
     }
 
-    /// Carries out the command of some words.
-    fn call(&mut self, words: Vec<String>) -> Given
-        requires { 0 < vec_len words }
-        ensures { Gives (state_of self.old) (texts_of words.items) (state_of self.new) result }
+    /// Forgets what was told last, where the next command tells.
+    fn forget_told(&mut self, alloc: Global, tells: bool)
+        ensures { state_of self.new ≡ (if tells then untold (state_of self.old) else state_of self.old) }
     {
-        let reply = self.world.call(&words);
+        if tells {
+            self.told = ChangeList::new(alloc);
+        }
+    }
+
+    /// Carries out the command of some words, and keeps what it tells where that is wanted.
+    fn call(&mut self, tells: bool, words: Vec<String>) -> Given
+        requires { 0 < vec_len words }
+        ensures plain { tells ≡ false → Gives (state_of self.old) (texts_of words.items) (state_of self.new) result }
+        ensures told { tells ≡ true → GivesTold (state_of self.old) (texts_of words.items) (state_of self.new) result }
+    {
+        if tells {
+            self.call_told(words)
+        } else {
+            let reply = self.world.call(&words);
+            self.say(words, reply)
+        }
+    }
+
+    /// Carries out the command of some words, and keeps what it tells.
+    fn call_told(&mut self, words: Vec<String>) -> Given
+        requires { 0 < vec_len words }
+        ensures { GivesTold (state_of self.old) (texts_of words.items) (state_of self.new) result }
+    {
+        match self.world.call_told(&words) {
+            Ok(told) => {
+                self.told = told.changes;
+                self.say(words, Ok(told.answer))
+            }
+            Err(fault) => self.say(words, Err(fault)),
+        }
+    }
+
+    /// Says what the command of some words was given.
+    fn say(&mut self, words: Vec<String>, reply: Result<Answer, Fault>) -> Given
+        ensures state { state_of self.new
+            ≡ record (state_of self.old) {
+              words = texts_of words.items;
+              said = encode_utf8_all (piece (texts_of words.items) reply);
+            } }
+        ensures given { result ≡ given_of reply }
+    {
         let given = given_by(&reply);
         keep_room(&mut self.words, &mut self.spare);
         self.words = words;
         self.said = Said::Reply(reply);
         given
+    }
+
+    /// Copies a word of the command that was given last to the front of the room, as far as it goes, and gives the
+    /// length of all.
+    pub(crate) fn copy_word(&self, index: usize, room: &mut [u8]) -> usize
+        ensures length { result ≡ min (length (word_given (state_of self.now).words index)) usize.MAX }
+        ensures copied { room.new ≡ over (word_given (state_of self.now).words index) room.old }
+    {
+        match self.words.as_slice().get(index) {
+            None => 0,
+            Some(word) => copy_whole(word.as_str(), room),
+        }
+    }
+
+    /// How many changes the last command that tells told of.
+    pub(crate) fn count_told(&self) -> usize
+        ensures { result ≡ length (state_of self.now).told }
+    {
+        self.told.as_slice().len()
+    }
+
+    /// The offset of a change that was told, and how many characters it took out; 0 where there is none.
+    pub(crate) fn change_place(&self, index: usize) -> (usize, usize)
+        ensures { result ≡ place_told (state_of self.now).told index }
+    {
+        match self.told.as_slice().get(index) {
+            None => (0, 0),
+            Some(change) => (change.at, change.removed),
+        }
+    }
+
+    /// Copies the text that a change put in to the front of the room, as far as it goes, and gives the length of all.
+    pub(crate) fn copy_inserted(&self, index: usize, room: &mut [u8]) -> usize
+        ensures length { result ≡ min (length (text_told (state_of self.now).told index)) usize.MAX }
+        ensures copied { room.new ≡ over (text_told (state_of self.now).told index) room.old }
+    {
+        match self.told.as_slice().get(index) {
+            None => 0,
+            Some(change) => copy_whole(change.inserted.as_str(), room),
+        }
     }
 
     /// Whether `edit undo` or `edit redo` would find a group in the text that the widget of a name shows.
@@ -100,13 +193,16 @@ impl Session {
         self.is_finished = true;
     }
 
-    /// Takes the next command of the script that is at hand, and carries it out.
-    pub(crate) fn take_turn(&mut self) -> TurnEnd
-        ensures { Turns (state_of self.old) (state_of self.new) result }
+    /// Takes the next command of the script that is at hand, and carries it out, and keeps what it tells where that is
+    /// wanted.
+    pub(crate) fn take_turn(&mut self, alloc: Global, tells: bool) -> TurnEnd
+        ensures plain { tells ≡ false → Turns (state_of self.old) (state_of self.new) result }
+        ensures told { tells ≡ true → TurnsTold (state_of self.old) (state_of self.new) result }
     {
+        self.forget_told(alloc, tells);
         match self.splitter.next_command() {
             Ok(Some(words)) => {
-                let given = self.call(words);
+                let given = self.call(tells, words);
                 self.note(given);
                 TurnEnd::Command(given)
             }
@@ -121,7 +217,8 @@ impl Session {
 
     /// Drops a command whose words found no memory.
     fn skip(&mut self) -> TurnEnd
-        ensures { Turns (state_of self.old) (state_of self.new) result }
+        ensures turns { Turns (state_of self.old) (state_of self.new) result }
+        ensures refused { result ≢ TurnEnd.Command Given.Answer }
     {
         match self.splitter.skip_command() {
             Ok(true) => {

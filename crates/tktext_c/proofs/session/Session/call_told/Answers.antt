@@ -1,0 +1,18 @@
+use Rattle.std.proofs.Common.{ap}
+use Rattle.tcl_words.specs.Unread.{texts_of}
+use Rattle.tktext_c.specs.State.{state_of}
+use Rattle.tktext_c.proofs.ToldLaws.{gives_told-answer, gives_told-fault}
+use Rattle.tktext_c.proofs.session.Session.call_told.Goals as goal
+
+pub returns-in-Ok : goal.returns-in-Ok
+returns-in-Ok c =
+    gives_told-answer (state_of c.args.self.now) (state_of c.say.new.self) c.call_told.new.self
+    (texts_of c.args.words.items) (texts_of c.deref.result.now) c.in-Ok.told.answer c.in-Ok.told.changes
+    c.say.result (ap texts_of c.deref.ensures.value) c.in-Ok.ensures.makes c.in-Ok.ensures.tells
+    c.say.ensures.state c.say.ensures.given
+
+pub returns-in-Err : goal.returns-in-Err
+returns-in-Err c =
+    gives_told-fault (state_of c.args.self.now) (state_of c.say-in-Err.new.self) c.call_told.new.self
+    (texts_of c.args.words.items) (texts_of c.deref.result.now) c.in-Err.fault c.say-in-Err.result
+    (ap texts_of c.deref.ensures.value) c.in-Err.ensures.makes c.say-in-Err.ensures.state c.say-in-Err.ensures.given

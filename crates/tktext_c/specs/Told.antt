@@ -1,0 +1,84 @@
+-- What a command that tells makes of a session, and what C reads of it.
+use Rattle.std.specs.Prelude.{◌≡◌, ℕ, true, List, [], Option, Some, None, is_ok, slice_get}
+use Rattle.std.specs.Prelude.{encode_utf8_all, option_map}
+use Rattle.tcl_words.specs.Unread.{TakesCommand}
+use Rattle.edit_ops.specs.declared.changes.TextChange.{TextChange}
+use Rattle.peers.specs.Step.{step}
+use Rattle.peers.specs.Told.{TellsOf}
+use Rattle.tktext_c.specs.declared.ends.Given.{Given}
+use Rattle.tktext_c.specs.declared.ends.Given.TheVariants as given
+use Rattle.tktext_c.specs.declared.ends.CallEnd.{CallEnd}
+use Rattle.tktext_c.specs.declared.ends.CallEnd.TheVariants as call
+use Rattle.tktext_c.specs.declared.ends.TurnEnd.{TurnEnd}
+use Rattle.tktext_c.specs.declared.ends.TurnEnd.TheVariants as turn
+use Rattle.tktext_c.specs.Calls.{Called, Gives, Turns, stepped}
+use Rattle.tktext_c.specs.State.{State}
+use Rattle.tktext_c.specs.Words.{cut, words_at, AreLengths, AreTexts}
+
+-- nothing is told yet
+abbrev pub untold : State → State
+untold old = record old { told = [] }
+
+-- From old to new a command is answered, and its changes are told; or it is refused, which tells nothing.
+abbrev pub GivesTold : State → List (List ℕ) → State → Given → Type 0
+GivesTold old words new given.Answer =
+    (is_ok (step old.world words).reply ≡ true) × (new ≡ record (stepped old words) { told = new.told })
+    × TellsOf old.world new.world words new.told
+GivesTold old words new given = Gives old words new given
+
+-- The same of words that stand in bytes, unless they are none.
+abbrev pub CalledTold : State → List ℕ → List ℕ → State → CallEnd → Type 0
+CalledTold old lengths bytes new (call.Given given.Answer) =
+    AreLengths lengths bytes × AreTexts (cut lengths bytes)
+    × GivesTold (untold old) (words_at lengths bytes) new given.Answer
+CalledTold old lengths bytes new ended = Called (untold old) lengths bytes new ended
+
+abbrev pub CallsTold : Option State → List ℕ → List ℕ → Option State → CallEnd → Type 0
+CallsTold None lengths bytes new ended = (new ≡ None) × (ended ≡ call.WrongHandle)
+CallsTold (Some old) lengths bytes None ended = ⊥
+CallsTold (Some old) lengths bytes (Some new) ended = CalledTold old lengths bytes new ended
+
+-- From old to new the next command of the script is carried out, and its changes are told.
+abbrev pub TurnsTold : State → State → TurnEnd → Type 0
+TurnsTold old new (turn.Command given.Answer) =
+    (words : List (List ℕ)) × TakesCommand old.script words new.script
+    × GivesTold (untold old) words (record new { script = old.script; status = old.status }) given.Answer
+    × (new.status ≡ old.status)
+TurnsTold old new ended = Turns (untold old) new ended
+
+abbrev pub TakesTold : Option State → Option State → TurnEnd → Type 0
+TakesTold None new ended = (new ≡ None) × (ended ≡ turn.WrongHandle)
+TakesTold (Some old) None ended = ⊥
+TakesTold (Some old) (Some new) ended = TurnsTold old new ended
+
+-- ---- what C reads
+
+-- the bytes of a text, if there is one
+abbrev pub bytes_of : Option (List ℕ) → List ℕ
+bytes_of None = []
+bytes_of (Some text) = encode_utf8_all text
+
+-- a word of the command that was given last
+abbrev pub word_given : List (List ℕ) → ℕ → List ℕ
+word_given words index = bytes_of (slice_get words index)
+
+abbrev pub words_of : Option State → List (List ℕ)
+words_of None = []
+words_of (Some state) = state.words
+
+-- what was told last
+abbrev pub told_of : Option State → List TextChange
+told_of None = []
+told_of (Some state) = state.told
+
+-- where one of the changes is, and how many characters it took out; 0 where there is none
+abbrev pub place_of : Option TextChange → ℕ × ℕ
+place_of None = (0, 0)
+place_of (Some change) = (change.at, change.removed)
+
+abbrev pub place_told : List TextChange → ℕ → ℕ × ℕ
+place_told changes index = place_of (slice_get changes index)
+
+-- the bytes of what it put in
+abbrev pub text_told : List TextChange → ℕ → List ℕ
+text_told changes index = bytes_of (option_map (λ (change : TextChange). change.inserted) (slice_get changes index))
