@@ -148,6 +148,7 @@ test: $(SHIM) $(WEIGH)
 	  'python3 tools/manual.py --program $(PROGRAM)' \
 	  'python3 tools/tk.py --program $(PROGRAM)' \
 	  'python3 tools/library.py --build' \
+	  'python3 tools/mirror.py' \
 	  'python3 tools/editor_test.py' \
 	  'python3 tools/install_test.py' \
 	  'python3 tools/fuzz_library.py'

@@ -485,6 +485,49 @@ for shown in (Text, World, Event, list_text, split_list):
 print(runner.summarize().failed)
 """
 
+# What changed is told to each who follows the text, by whichever peer and way it came, once and in order.
+FOLLOWED = """
+text, told = Text(undo=True, name=".t"), []
+peer, other = text.peer_create(".p"), Text(text.world, name=".u")
+end = text.on_change(lambda changes: told.append([tuple(change) for change in changes]))
+peer.on_change(lambda changes: told.append(sum(change.removed for change in changes)))
+def show(answer):
+    print(answer, told)
+    told.clear()
+show(text.insert("1.0", "one\\U0001f600", "x"))
+show(text.world.call(".p", "delete", "1.0", "1.1", "1.2"))
+show(text.edit_undo())
+show(other.insert("1.0", "another text"))
+show([text.tag_add("x", "1.0"), text.mark_set("m", "1.0"), text.insert("1.0", ""), text.delete("9.0")])
+show(tried(text.insert, "nowhere", "x"))
+text.world.feed(b".p insert 1.0 y; .t get 1.0 1.1; .u insert 1.0 z\\n")
+show(list(text.world.lines()))
+show((text.world.give([b".t", b"get", b"1.0"]), text.world.said()))
+show((text.world.give([b".t", b"replace", b"1.0", b"1.1", b"q"]), text.world.said()))
+answered = text.on_change(lambda changes: len(text.get("1.0", "end")) < 9 and text.insert("end", "!"))
+show(text.insert("1.0", "a"))
+answered(), answered(), end()
+show((peer.changes(), text.insert("1.0", "b"), peer.changes(), peer.changes()))
+text.destroy()
+show(peer.insert("1.0", "c"))
+peer.destroy()
+show(other.delete("1.0", "end"))
+"""
+FOLLOWED_SAYS = """None [[(0, 0, 'one😀')], 0]
+ [[(2, 1, ''), (0, 1, '')], 2]
+ [[(0, 0, 'o'), (2, 0, 'e')], 0]
+None []
+[None, None, None, None] []
+TclError: bad text index "nowhere" []
+[b'\\n', b'y\\n', b'\\n'] [[(0, 0, 'y')], 0]
+(0, b'y\\n') []
+(0, b'\\n') [[(0, 1, ''), (0, 0, 'q')], 1]
+None [[(0, 0, 'a')], 0, [(6, 0, '!')], 0, [(7, 0, '!')], 0]
+([], None, [Change(at=0, removed=0, inserted='b')], []) [0]
+None [0]
+None []
+"""
+
 
 def cases(rounds):
     """The name of each case, its script, and what it prints."""
@@ -508,6 +551,7 @@ def cases(rounds):
     yield "faults that say more", FAULTS, FAULTS_SAY
     yield "what is left", LEFT, LEFT_SAYS
     yield "calls by position", DIRECT, DIRECT_SAYS
+    yield "a text that is followed", FOLLOWED, FOLLOWED_SAYS.rstrip()
     yield "the examples of the docstrings", EXAMPLES, "[]\n[]\n[]\n[]\n[]\n0"
     yield "random values", TKINTER, "done"
 

@@ -37,6 +37,8 @@ typedef struct {
     tktext handle;
     /* Whether commands of widgets go by the world's method `_call_watched`. */
     char is_watched;
+    /* Whether it is kept what a command changes of a text. */
+    char is_told;
 } World;
 
 typedef struct {
@@ -208,7 +210,7 @@ static int32_t call_words(World *world, const struct words *words)
             lengths[at] = word->length;
             filled += word->length;
         }
-        code = tktext_call(&world->handle, bytes, words->size, lengths, words->count);
+        code = (world->is_told ? tktext_call_told : tktext_call)(&world->handle, bytes, words->size, lengths, words->count);
     }
     if (lengths != few_lengths)
         PyMem_Free(lengths);
@@ -515,7 +517,7 @@ static PyObject *world_finish(World *world, PyObject *Py_UNUSED(nothing))
 /* The code and the line of the script's next command, or None where none is at hand. */
 static PyObject *world_next(World *world, PyObject *Py_UNUSED(nothing))
 {
-    int32_t code = tktext_next(&world->handle);
+    int32_t code = (world->is_told ? tktext_next_told : tktext_next)(&world->handle);
     if (code == TKTEXT_END)
         Py_RETURN_NONE;
     if (code > TKTEXT_SCRIPT_FAULT)
@@ -541,6 +543,52 @@ static PyObject *world_watch(World *world, PyObject *is_watched)
     Py_RETURN_NONE;
 }
 
+static PyObject *world_tell(World *world, PyObject *is_told)
+{
+    world->is_told = PyObject_IsTrue(is_told) == 1;
+    Py_RETURN_NONE;
+}
+
+/* A text of a world, by a call that copies it to some room and gives its length. */
+static PyObject *text_of_world(World *world, size_t (*copy)(tktext *, size_t, uint8_t *, size_t), size_t index)
+{
+    uint8_t few[FEW_BYTES], *bytes = few;
+    size_t length = copy(&world->handle, index, few, sizeof few);
+    if (length > sizeof few) {
+        bytes = PyMem_Malloc(length);
+        if (bytes == NULL)
+            return PyErr_NoMemory();
+        copy(&world->handle, index, bytes, length);
+    }
+    PyObject *text = PyUnicode_DecodeUTF8((const char *)bytes, length, NULL);
+    if (bytes != few)
+        PyMem_Free(bytes);
+    return text;
+}
+
+/* The first word of the command that was given last. */
+static PyObject *world_word(World *world, PyObject *Py_UNUSED(nothing))
+{
+    return text_of_world(world, tktext_word, 0);
+}
+
+/* What the last command changed of a text, where that is kept: of each change the offset, how many characters were taken
+   out, and what was put in. */
+static PyObject *world_told(World *world, PyObject *Py_UNUSED(nothing))
+{
+    PyObject *told = PyList_New(0);
+    size_t count = tktext_told(&world->handle);
+    for (size_t at = 0; told != NULL && at < count; at++) {
+        PyObject *text = text_of_world(world, tktext_told_inserted, at);
+        PyObject *change = text == NULL ? NULL
+            : Py_BuildValue("nnN", (Py_ssize_t)tktext_told_at(&world->handle, at),
+                            (Py_ssize_t)tktext_told_removed(&world->handle, at), text);
+        if (append(told, change) < 0)
+            Py_CLEAR(told);
+    }
+    return told;
+}
+
 static PyMethodDef world_methods[] = {
     {"_make", (PyCFunction)world_make, METH_VARARGS, NULL},
     {"_run", (PyCFunction)world_run, METH_O, NULL},
@@ -552,6 +600,9 @@ static PyMethodDef world_methods[] = {
     {"_status", (PyCFunction)world_status, METH_NOARGS, NULL},
     {"_drop", (PyCFunction)world_drop, METH_NOARGS, NULL},
     {"_watch", (PyCFunction)world_watch, METH_O, NULL},
+    {"_tell", (PyCFunction)world_tell, METH_O, NULL},
+    {"_word", (PyCFunction)world_word, METH_NOARGS, NULL},
+    {"_told", (PyCFunction)world_told, METH_NOARGS, NULL},
     {NULL, NULL, 0, NULL},
 };
 

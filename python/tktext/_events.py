@@ -30,6 +30,22 @@ class Event:
         return f"<{self.type} of {self.widget}>"
 
 
+class Change(NamedTuple):
+    """A change of a text: from the character `at`, counted from 0, so many were `removed`, and others `inserted`.
+
+    >>> Change(1, 2, "o").made_in("aXXb")
+    'aob'
+    """
+
+    at: int
+    removed: int
+    inserted: str
+
+    def made_in(self, text: str) -> str:
+        """A text after the change of it."""
+        return text[: self.at] + self.inserted + text[self.at + self.removed :]
+
+
 class _Bound(NamedTuple):
     name: str
     handler: Handler
@@ -63,11 +79,17 @@ class Bindings:
         return any(sequence in self._bound for sequence in sequences)
 
     def send(self, event: Event) -> None:
-        """Calls the handlers of an event until one gives "break".  What one raises is printed, as by tkinter."""
+        """Calls the handlers of an event until one gives "break"."""
         for bound in list(self._bound.get(event.type, ())):
-            try:
-                if bound.handler(event) == "break":
-                    break
-            except Exception:
-                print("Exception in Tkinter callback", file=sys.stderr)
-                traceback.print_exc()
+            if called(bound.handler, event) == "break":
+                break
+
+
+def called(handler: Callable[[Any], Any], value: object) -> Any:
+    """What a handler gives for a value.  What it raises is printed, as by tkinter."""
+    try:
+        return handler(value)
+    except Exception:
+        print("Exception in Tkinter callback", file=sys.stderr)
+        traceback.print_exc()
+        return None

@@ -3,12 +3,12 @@
 from __future__ import annotations
 
 import sys
-from functools import WRAPPER_ASSIGNMENTS
+from functools import WRAPPER_ASSIGNMENTS, partial
 from typing import Any, Callable, Mapping, Protocol, TypeVar, cast
 
 from . import _core, _options
 from ._errors import TclError, refusal
-from ._events import MODIFIED, SELECTION, Bindings, Event, Handler
+from ._events import MODIFIED, SELECTION, Bindings, Change, Event, Handler, called
 from ._values import list_text, number_or_text, word
 from ._world import World
 
@@ -139,6 +139,9 @@ class Text(_core.Widget):
         self._tags: dict[str, dict[str, str]] = {} if shared is None else shared
         self._own_tags: dict[str, dict[str, str]] = {}
         self._bindings = Bindings()
+        self._followers: list[Callable[[list[Change]], Any]] = []
+        # None as long as nobody asks for what changed.
+        self._changed: list[Change] | None = None
         self._virtual: dict[str, dict[str, None]] = {}
         self._tag_bindings: dict[str, Bindings] = {}
         self._known: tuple[str, tuple[str, ...]] = ("0", ())
@@ -739,6 +742,7 @@ class Text(_core.Widget):
         _tkinter.TclError: invalid command name ".!text"
         """
         self.world._watch_text(self, False)
+        self.world._follow_text(self, False)
         self.world._texts.pop(self._name, None)
         self.world.call("destroy", self._name)
 
@@ -780,7 +784,7 @@ class Text(_core.Widget):
         >>> text.event_generate("<<Paste>>")
         <<<Paste>> of .!text>
         """
-        self.world._events.append(Event(self, sequence))
+        self.world._events.append(partial(self._bindings.send, Event(self, sequence)))
         self.world._send()
 
     def event_add(self, virtual: str, *sequences: str) -> None:
@@ -828,13 +832,58 @@ class Text(_core.Widget):
         except (TclError, ValueError):
             return None
 
-    def _changes(self) -> list[Event]:
+    def _news(self) -> list[Event]:
         """The events of what has changed since this was asked last."""
         state, known = self._state(), self._known
         if state is None or state == known:
             return []
         self._known = state
         return [Event(self, name) for name, was, now in zip((MODIFIED, SELECTION), known, state) if was != now]
+
+    # ---- what changed
+
+    def on_change(self, function: Callable[[list[Change]], Any]) -> Callable[[], None]:
+        """Has a function called behind each command that changes the text, by whichever peer, with its changes.
+
+        They are `Change`s in order, each of the text that those before it leave, the last newline included; made one
+        after the other on the old text they give the new one.  It gives a function that ends this.
+
+        >>> text = Text()
+        >>> end = text.on_change(print)
+        >>> text.insert("1.0", "one")
+        [Change(at=0, removed=0, inserted='one')]
+        >>> end()
+        """
+        self._followers.append(function)
+        self.world._follow_text(self, True)
+        return partial(self._end_following, function)
+
+    def _end_following(self, function: Callable[[list[Change]], Any]) -> None:
+        if function in self._followers:
+            self._followers.remove(function)
+        self.world._follow_text(self, bool(self._followers) or self._changed is not None)
+
+    def changes(self) -> list[Change]:
+        """The changes of the text since this was asked last, as `on_change` tells them; the first time there are none.
+
+        >>> text = Text()
+        >>> text.changes()
+        []
+        >>> text.insert("1.0", "one"), text.delete("1.0")
+        (None, None)
+        >>> text.changes()
+        [Change(at=0, removed=0, inserted='one'), Change(at=0, removed=1, inserted='')]
+        """
+        changed = self._changed or []
+        self._changed = []
+        self.world._follow_text(self, True)
+        return changed
+
+    def _take_changes(self, changes: list[Change]) -> None:
+        if self._changed is not None:
+            self._changed.extend(changes)
+        for function in list(self._followers):
+            called(function, list(changes))
 
     # ---- what a widget answers that isn't shown
 

@@ -6,10 +6,11 @@ import collections
 import operator
 import struct
 import weakref
-from typing import TYPE_CHECKING, Any, Iterable, Iterator, Sequence
+from functools import partial
+from typing import TYPE_CHECKING, Any, Callable, Iterable, Iterator, Sequence
 
 from . import _core
-from ._events import Event
+from ._events import Change, Event
 
 if TYPE_CHECKING:
     from ._text import Text
@@ -55,8 +56,11 @@ class World(_core.World):
         self._made: dict[tuple[str, str], int] = {}
         self._texts: weakref.WeakValueDictionary[str, Text] = weakref.WeakValueDictionary()
         self._watched: list[Text] = []
-        self._events: collections.deque[Event] = collections.deque()
+        self._followed: list[Text] = []
+        self._events: collections.deque[Callable[[], None]] = collections.deque()
         self._is_sending = False
+        # What was said last, where what came of the command was asked for behind it.
+        self._last_line: bytes | None = None
 
     def __enter__(self) -> World:
         return self
@@ -93,7 +97,7 @@ class World(_core.World):
         _tkinter.TclError: wrong # args: should be ".t index index"
         """
         answer = self._run(words)
-        if self._watched:
+        if self._is_noticed():
             self._notice()
         return answer
 
@@ -105,8 +109,10 @@ class World(_core.World):
         (0, b'.t\\n')
         """
         code = self._give(list(map(_bytes_of, words)))
-        if self._watched:
+        if self._is_noticed():
+            line = self._said()
             self._notice()
+            self._last_line = line
         return code
 
     def said(self) -> bytes:
@@ -116,7 +122,7 @@ class World(_core.World):
         >>> world.give([b"foo"]), world.said()
         (1, b'error: invalid command name "foo"\\n')
         """
-        return self._said()
+        return self._said() if self._last_line is None else self._last_line
 
     def feed(self, piece: Any) -> None:
         """Takes the next bytes of the script, as they come: UTF-8, cut anywhere.  Nothing is carried out yet.
@@ -162,8 +168,9 @@ class World(_core.World):
     def _turns(self) -> Iterator[tuple[int, bytes]]:
         """What `lines` gives, each behind its code of include/tktext.h."""
         while self._status() != _SCRIPT_FAULT and (turn := self._next()) is not None:
-            if self._watched:
+            if self._is_noticed():
                 self._notice()
+                self._last_line = turn[1]
             yield turn
 
     def status(self) -> int:
@@ -185,7 +192,22 @@ class World(_core.World):
     def _watch_text(self, text: Text, is_watched: bool) -> None:
         """Looks after each command whether there is something to tell of a widget, or no longer."""
         self._watched = [other for other in self._watched if other is not text] + [text] * is_watched
-        self._watch(bool(self._watched))
+        self._set_noticed()
+
+    def _follow_text(self, text: Text, is_followed: bool) -> None:
+        """Has each command tell what it changes, and a widget know of the changes of its text, or no longer."""
+        if is_followed != any(other is text for other in self._followed):
+            self._followed = [other for other in self._followed if other is not text] + [text] * is_followed
+        self._tell(bool(self._followed))
+        self._set_noticed()
+
+    def _set_noticed(self) -> None:
+        self._last_line = None
+        self._watch(self._is_noticed())
+
+    def _is_noticed(self) -> bool:
+        """Whether it is looked after a command what came of it."""
+        return bool(self._watched or self._followed)
 
     def _call_watched(self, widget: Text, values: tuple[object, ...], form: int) -> Any:
         """Carries out a widget's command, and sends the events that come of it."""
@@ -195,9 +217,19 @@ class World(_core.World):
 
     def _notice(self) -> None:
         """Sends the events of the last command, and those that come of their handlers, one after the other."""
+        self._last_line = None
+        if self._followed and (told := self._told()):
+            self._tell_peers(self._word(), [Change(*change) for change in told])
         for text in self._watched:
-            self._events.extend(text._changes())
+            self._events.extend(partial(text._bindings.send, event) for event in text._news())
         self._send()
+
+    def _tell_peers(self, name: str, changes: list[Change]) -> None:
+        """Tells the widgets on the text that the one of a name shows what changed of it."""
+        shown = _core.split_list(self._run((name, "peer", "names")))
+        for text in self._followed:
+            if text._name == name or text._name in shown:
+                self._events.append(partial(text._take_changes, changes))
 
     def _send(self) -> None:
         if self._is_sending:
@@ -205,7 +237,6 @@ class World(_core.World):
         self._is_sending = True
         try:
             while self._events:
-                event = self._events.popleft()
-                event.widget._bindings.send(event)
+                self._events.popleft()()
         finally:
             self._is_sending = False
