@@ -4,8 +4,10 @@
 
    makes a widget without a display, and a command `.t` that takes the words of Tk's own widget.  `.t peer create .u`
    makes a command `.u` too; `tktext::destroy ?W ..?` takes widgets away, with their commands, whatever these are called
-   by then, and a command that is renamed to the empty name takes its own widget with it.  All widgets of an interpreter
-   stand in one world, which goes with it.  A refused command is an error of its text, behind which stands what that
+   by then, and a command that is renamed to the empty name takes its own widget with it.  `tktext::onchange W prefix` has
+   a command called behind each change of the text that W shows, by whichever peer, with a list of the changes: each is
+   a list of an offset in characters, how many characters were taken out there, and what was put in.  All widgets of an
+   interpreter stand in one world, which goes with it.  A refused command is an error of its text, behind which stands what that
    leaves unsaid, as the form of a command; its error code is `TKTEXT FAULT` and the text alone.  The code is `TKTEXT
    MEMORY` where memory was refused, and `TKTEXT SIZE` where words or an answer have more bytes than a value of Tcl can
    hold; then the text of the error says whether the command was carried out. */
@@ -30,11 +32,13 @@
 
 typedef struct Widget Widget;
 
-/* One world, its widgets that have a command, and how many hold it: the package's two commands and each widget. */
+/* One world, its widgets that have a command, how many hold it: the package's three commands and each widget; and of how
+   many widgets the text is followed. */
 typedef struct World {
     tktext handle;
     Widget *widgets;
     int holders;
+    int followed;
 } World;
 
 /* Whether a widget stands in the world; or it was destroyed, and its command is yet to be deleted, or is just then. */
@@ -46,6 +50,8 @@ struct Widget {
     Tcl_Obj *name;
     Tcl_Command command;
     int state;
+    /* The words that are called with what changed of its text, or NULL. */
+    Tcl_Obj *follower;
 };
 
 static void let_go(void *data)
@@ -117,19 +123,28 @@ static void convert(Tcl_Obj *value, const uint8_t *text, size_t length)
     Tcl_SetObjLength(value, written);
 }
 
-/* Sets the interpreter's result to a text, and gives whether it could be. */
-static int set_result(Tcl_Interp *interp, const uint8_t *text, size_t length, size_t growth)
+/* A text that fits as a value, without a reference yet; NULL where there is no memory for it. */
+static Tcl_Obj *value_of(const uint8_t *text, size_t length, size_t growth)
 {
     Tcl_Obj *value = Tcl_NewObj();
     size_t room = growth == 0 ? length : length + growth + SLACK;
     if (!Tcl_AttemptSetObjLength(value, (int)room)) {
         Tcl_DecrRefCount(value);
-        return 0;
+        return NULL;
     }
     if (growth == 0)
         memcpy(value->bytes, text, length);
     else
         convert(value, text, length);
+    return value;
+}
+
+/* Sets the interpreter's result to a text, and gives whether it could be. */
+static int set_result(Tcl_Interp *interp, const uint8_t *text, size_t length, size_t growth)
+{
+    Tcl_Obj *value = value_of(text, length, growth);
+    if (value == NULL)
+        return 0;
     Tcl_SetObjResult(interp, value);
     return 1;
 }
@@ -278,7 +293,9 @@ static int32_t call(World *world, Tcl_Obj *first, int count, Tcl_Obj *const word
     int32_t code = TKTEXT_NO_MEMORY;
     if (lengths != NULL && bytes != NULL) {
         size_t size = join(bytes, lengths, first, count, words);
-        code = tktext_call(&world->handle, (uint8_t *)bytes, size, lengths, (size_t)count + 1);
+        int32_t (*carry_out)(tktext *, const uint8_t *, size_t, const size_t *, size_t) =
+            world->followed > 0 ? tktext_call_told : tktext_call;
+        code = carry_out(&world->handle, (uint8_t *)bytes, size, lengths, (size_t)count + 1);
     }
     free_unless(lengths, fixed_lengths);
     free_unless(bytes, fixed);
@@ -300,7 +317,129 @@ static int give(Tcl_Interp *interp, World *world, Tcl_Obj *first, int count, Tcl
     return code == TOO_LONG ? fail_for_words(interp) : fail(interp, "WORDS", "a word isn't UTF-8");
 }
 
+/* ---- What changed */
+
+/* What a change put in; NULL where there is no memory for it, or Tcl can't hold it. */
+static Tcl_Obj *inserted(World *world, size_t change)
+{
+    uint8_t fixed[FIXED_BYTES], *text = fixed;
+    size_t length = tktext_told_inserted(&world->handle, change, fixed, sizeof fixed);
+    if (length > sizeof fixed) {
+        text = fits(length, 0) ? malloc(length) : NULL;
+        if (text == NULL)
+            return NULL;
+        tktext_told_inserted(&world->handle, change, text, length);
+    }
+    size_t growth = growth_of(text, length);
+    Tcl_Obj *value = fits(length, growth) ? value_of(text, length, growth) : NULL;
+    free_unless(text, fixed);
+    return value;
+}
+
+/* The changes that were told, each as a list; NULL where there is no memory for them. */
+static Tcl_Obj *changes_of(World *world)
+{
+    Tcl_Obj *changes = Tcl_NewListObj(0, NULL);
+    size_t count = tktext_told(&world->handle);
+    for (size_t change = 0; change < count; change++) {
+        Tcl_Obj *text = inserted(world, change);
+        if (text == NULL) {
+            Tcl_DecrRefCount(changes);
+            return NULL;
+        }
+        Tcl_Obj *parts[] = {Tcl_NewWideIntObj((Tcl_WideInt)tktext_told_at(&world->handle, change)),
+                            Tcl_NewWideIntObj((Tcl_WideInt)tktext_told_removed(&world->handle, change)), text};
+        Tcl_ListObjAppendElement(NULL, changes, Tcl_NewListObj(3, parts));
+    }
+    return changes;
+}
+
+/* The names of the peers of a widget, as a list in the interpreter's result. */
+static int peers_of(Tcl_Interp *interp, Widget *widget)
+{
+    int is_done;
+    Tcl_Obj *words[] = {widget->name, Tcl_NewStringObj("peer", -1), Tcl_NewStringObj("names", -1)};
+    Tcl_IncrRefCount(words[1]);
+    Tcl_IncrRefCount(words[2]);
+    int result = give(interp, widget->world, widget->name, 2, words + 1, &is_done);
+    Tcl_DecrRefCount(words[1]);
+    Tcl_DecrRefCount(words[2]);
+    return result;
+}
+
+static int is_listed(Tcl_Obj *names, Tcl_Obj *name)
+{
+    int count;
+    Tcl_Obj **all;
+    if (Tcl_ListObjGetElements(NULL, names, &count, &all) != TCL_OK)
+        return 0;
+    for (int number = 0; number < count; number++)
+        if (strcmp(Tcl_GetString(all[number]), Tcl_GetString(name)) == 0)
+            return 1;
+    return 0;
+}
+
+/* The words to be called of the widgets on the text of one, as a list, each with the changes behind them. */
+static Tcl_Obj *calls_of(Widget *changed, Tcl_Obj *peers, Tcl_Obj *changes)
+{
+    Tcl_Obj *calls = Tcl_NewListObj(0, NULL);
+    for (Widget *widget = changed->world->widgets; widget != NULL; widget = widget->next) {
+        if (widget->follower == NULL || (widget != changed && !is_listed(peers, widget->name)))
+            continue;
+        Tcl_Obj *words = Tcl_DuplicateObj(widget->follower);
+        Tcl_ListObjAppendElement(NULL, words, changes);
+        Tcl_ListObjAppendElement(NULL, calls, words);
+    }
+    return calls;
+}
+
+/* The same, of what the last command told; NULL where there is no memory for that. */
+static Tcl_Obj *calls_behind(Tcl_Interp *interp, Widget *changed)
+{
+    Tcl_Obj *changes = changes_of(changed->world), *calls = NULL;
+    if (changes == NULL)
+        return NULL;
+    Tcl_IncrRefCount(changes);
+    if (peers_of(interp, changed) == TCL_OK)
+        calls = calls_of(changed, Tcl_GetObjResult(interp), changes);
+    Tcl_DecrRefCount(changes);
+    return calls;
+}
+
+/* Calls what follows the text of a widget behind a command of it; the interpreter's result stays.  What is called may do
+   anything, and what goes wrong in it is a background error. */
+static void tell(Tcl_Interp *interp, Widget *widget)
+{
+    int count;
+    Tcl_Obj **all;
+    Tcl_InterpState state = Tcl_SaveInterpState(interp, TCL_OK);
+    Tcl_Obj *calls = calls_behind(interp, widget);
+    if (calls == NULL) {
+        Tcl_BackgroundException(interp, fail_for_memory(interp));
+    } else {
+        Tcl_IncrRefCount(calls);
+        Tcl_ListObjGetElements(NULL, calls, &count, &all);
+        for (int number = 0; number < count; number++) {
+            int result = Tcl_EvalObjEx(interp, all[number], TCL_EVAL_GLOBAL | TCL_EVAL_DIRECT);
+            if (result != TCL_OK)
+                Tcl_BackgroundException(interp, result);
+        }
+        Tcl_DecrRefCount(calls);
+    }
+    Tcl_RestoreInterpState(interp, state);
+}
+
 /* ---- Widgets */
+
+static void set_follower(Widget *widget, Tcl_Obj *follower)
+{
+    widget->world->followed += (follower != NULL) - (widget->follower != NULL);
+    if (follower != NULL)
+        Tcl_IncrRefCount(follower);
+    if (widget->follower != NULL)
+        Tcl_DecrRefCount(widget->follower);
+    widget->follower = follower;
+}
 
 static void unlink_widget(Widget *widget)
 {
@@ -321,6 +460,7 @@ static void forget(void *data)
         Tcl_DecrRefCount(destroy);
     }
     unlink_widget(widget);
+    set_follower(widget, NULL);
     Tcl_DecrRefCount(widget->name);
     let_go(widget->world);
     free(widget);
@@ -346,7 +486,10 @@ static int run_widget(void *data, Tcl_Interp *interp, int count, Tcl_Obj *const 
     }
     if (count > 3 && is_word(words[1], "peer") && is_word(words[2], "create"))
         return make_widget(interp, widget->world, widget->name, count - 1, words + 1, words[3]);
-    return give(interp, widget->world, widget->name, count - 1, words + 1, &is_done);
+    int result = give(interp, widget->world, widget->name, count - 1, words + 1, &is_done);
+    if (is_done && widget->world->followed > 0 && tktext_told(&widget->world->handle) > 0)
+        tell(interp, widget);
+    return result;
 }
 
 /* Deletes the command that a new one would stand in the place of; what its traces do is done then. */
@@ -388,7 +531,7 @@ static int make_widget(Tcl_Interp *interp, World *world, Tcl_Obj *first, int cou
         free(widget);
         return result;
     }
-    *widget = (Widget){world, world->widgets, name, NULL, STANDS};
+    *widget = (Widget){world, world->widgets, name, NULL, STANDS, NULL};
     world->widgets = widget;
     world->holders++;
     Tcl_IncrRefCount(name);
@@ -462,6 +605,38 @@ static int destroy(void *data, Tcl_Interp *interp, int count, Tcl_Obj *const wor
     return result;
 }
 
+static Widget *find_widget(World *world, Tcl_Obj *name)
+{
+    Widget *widget = world->widgets;
+    while (widget != NULL && !(widget->state == STANDS && is_word(widget->name, Tcl_GetString(name))))
+        widget = widget->next;
+    return widget;
+}
+
+/* tktext::onchange W ?prefix? */
+static int follow(void *data, Tcl_Interp *interp, int count, Tcl_Obj *const words[])
+{
+    int length;
+    if (count != 2 && count != 3) {
+        Tcl_WrongNumArgs(interp, 1, words, "window ?prefix?");
+        return TCL_ERROR;
+    }
+    Widget *widget = find_widget(data, words[1]);
+    if (widget == NULL) {
+        Tcl_SetObjResult(interp, Tcl_ObjPrintf("invalid command name \"%s\"", Tcl_GetString(words[1])));
+        return TCL_ERROR;
+    }
+    if (count == 2) {
+        if (widget->follower != NULL)
+            Tcl_SetObjResult(interp, widget->follower);
+        return TCL_OK;
+    }
+    if (Tcl_ListObjLength(interp, words[2], &length) != TCL_OK)
+        return TCL_ERROR;
+    set_follower(widget, length == 0 ? NULL : words[2]);
+    return TCL_OK;
+}
+
 int DLLEXPORT Tktext_Init(Tcl_Interp *interp)
 {
     if (Tcl_InitStubs(interp, "8.6", 0) == NULL)
@@ -469,12 +644,13 @@ int DLLEXPORT Tktext_Init(Tcl_Interp *interp)
     World *world = malloc(sizeof *world);
     if (world == NULL)
         return fail_for_memory(interp);
-    *world = (World){TKTEXT_EMPTY, NULL, 2};
+    *world = (World){TKTEXT_EMPTY, NULL, 3, 0};
     if (tktext_new_greatest(&world->handle) != TKTEXT_ANSWER) {
         free(world);
         return fail_for_memory(interp);
     }
     Tcl_CreateObjCommand(interp, "tktext::text", make, world, let_go);
     Tcl_CreateObjCommand(interp, "tktext::destroy", destroy, world, let_go);
+    Tcl_CreateObjCommand(interp, "tktext::onchange", follow, world, let_go);
     return Tcl_PkgProvide(interp, "tktext", "1.0");
 }

@@ -71,6 +71,56 @@ error: window name ".u" already exists (TKTEXT FAULT {window name ".u" already e
 
 """
 
+# A copy follows a text by its changes alone, by whichever peer; what is called may fail, or take the widget away.
+FOLLOWED = r"""
+tktext::text .t -undo 1
+.t peer create .p
+set string "\n"
+proc follow {who changes} {
+    puts [list $who $changes]
+    foreach change $changes {
+        lassign $change at removed inserted
+        set before [string range $::string 0 [expr {$at - 1}]]
+        set ::string $before$inserted[string range $::string [expr {$at + $removed}] end]
+    }
+}
+tktext::onchange .t {follow t}
+puts [tktext::onchange .t]
+.t insert 1.0 "one\ntwo\u00e9"
+.p delete 1.1 1.2 2.0 2.1
+puts [.t edit undo]
+.t tag add x 1.0
+tried {.t insert foo bar}
+puts [expr {$string eq [.t get 1.0 end]}]
+proc bgerror said { puts "background: $said" }
+tktext::onchange .p {error bad}
+.t insert end x
+update
+tktext::onchange .p {}
+tktext::onchange .t {apply {changes { rename .t {} }}}
+puts [list [.t insert end gone] [info commands .t]]
+tried {.p get 1.0 1.end}
+tried {tktext::onchange .t x}
+tried {tktext::onchange .p "a {b}c"}
+tried {tktext::onchange}
+"""
+FOLLOWED_PRINTS = """follow t
+t {{0 0 {one
+twoé}}}
+t {{4 1 {}} {1 1 {}}}
+t {{1 0 n} {4 0 t}}
+
+error: bad text index "foo" (TKTEXT FAULT {bad text index "foo"})
+1
+t {{8 0 x}}
+background: bad
+{} {}
+one
+error: invalid command name ".t" (NONE)
+error: list element in braces followed by "c" instead of space (TCL VALUE LIST JUNK)
+error: wrong # args: should be "tktext::onchange window ?prefix?" (TCL WRONGARGS)
+"""
+
 # The command of a destroyed widget doesn't come to act on a later one.
 HIDDEN = r"""
 interp create child
@@ -340,6 +390,7 @@ def cases(extension, small):
     """The name of each case, what runs it, its extension, its script, and what this prints."""
     watched = VALGRIND if shutil.which("valgrind") else []
     yield "a wrapped widget", [*watched, TCLSH], extension, WRAPPED, WRAPPED_PRINTS
+    yield "a text that is followed", [*watched, TCLSH], extension, FOLLOWED, FOLLOWED_PRINTS
     yield "hidden commands", [*watched, TCLSH], extension, HIDDEN, HIDDEN_PRINTS
     yield "traces", [*watched, TCLSH], extension, TRACED, TRACED_PRINTS
     yield "interpreters that end", [*watched, TCLSH], extension, ENDED, ENDED_PRINTS
