@@ -3,8 +3,7 @@
 import keyword
 import re
 
-# A tag's name, and how a terminal shows it.
-STYLES = {"keyword": "1;34", "defined": "1", "string": "32", "comment": "36", "number": "35"}
+STYLES = {"keyword": "1;34", "defined": "1", "string": "32", "comment": "36", "number": "35"}  # a terminal's, by tags
 # A string that began further above than so many lines isn't seen, and longer lines stay as they are.
 LINES_ABOVE, MOST_CHARACTERS = 100, 200_000
 _STRING = r"""'''(?:[^'\\]+|\\(?:.|\Z)|'(?!''))*(?:'''|\Z) | '(?:[^'\\\n]|\\.)*'?
@@ -14,8 +13,7 @@ _TOKEN = re.compile(
        | (?:(?<=\bdef\ )|(?<=\bclass\ )) (?P<defined> \w+ )
        | (?P<keyword> \b(?:{'|'.join(keyword.kwlist)})\b ) | \w+""", re.VERBOSE | re.DOTALL,
 )
-# Where no string goes on, most likely.
-_OUTSIDE = re.compile(r"^(?:def |class |@)", re.MULTILINE)
+_OUTSIDE = re.compile(r"^(?:def |class |@)", re.MULTILINE)  # where no string goes on, most likely
 
 
 def colour(widget, above, first, behind):

@@ -50,9 +50,8 @@ class Editor:
         """Does what a key says.  What is undone at once is parted by `autoseparators` of the core, and at each word."""
         if not key:
             return
-        name = key.replace("shift-", "")
+        name, self.message = key.replace("shift-", ""), ""
         is_move = name in PLACES or name in STEPS
-        self.message = ""
         try:
             if key not in TYPED or characters.strip() and self.widget.get("insert - 1c").isspace():
                 self.widget.edit_separator()

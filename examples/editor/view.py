@@ -31,8 +31,7 @@ def cell(character, at=0):
     try:
         from wcwidth import wcwidth  # here, since it takes memory, and plain texts don't want it
     except ImportError:
-        is_wide = unicodedata.east_asian_width(character) in "WF"
-        return character, 0 if category in ("Mn", "Me", "Cf") else 1 + is_wide
+        return character, 0 if category in ("Mn", "Me", "Cf") else 1 + (unicodedata.east_asian_width(character) in "WF")
     return character, wcwidth(character)
 
 
@@ -49,8 +48,7 @@ def row_of(parts, left, width):
     for part, style in parts:
         columns = columns_of(part, column)
         first, behind = bisect.bisect_left(columns, left), bisect.bisect_right(columns, left + width) - 1
-        # What begins before the row is blank.
-        blank = columns[first] - left if 0 < first < len(columns) else 0
+        blank = columns[first] - left if 0 < first < len(columns) else 0  # what begins before the row
         cells = "".join(cell(part[at], columns[at] % TAB)[0] for at in range(first, behind))
         row.append(f"\x1b[0;{STYLES.get(style, '')}m{' ' * blank}{cells}")
         column = columns[-1]
@@ -62,8 +60,9 @@ class Pane:
 
     def __init__(self, widget, is_python):
         self.widget, self.is_python, self.top, self.anchor = widget, is_python, f"top{widget}", f"anchor{widget}"
-        self.height, self.width, self.left, self.seen = 1, 80, 0, None
+        self.height, self.width, self.left, self.seen, self.behind = 1, 80, 0, None, 0
         self.goal = None, 0  # where the last step up or down ended, and to which column it went
+        widget.on_change(self.follow)
         widget.mark_set(self.top, "1.0")
         widget.mark_gravity(self.top, "left")
 
@@ -84,18 +83,22 @@ class Pane:
         self.goal = (line, character), goal
         return f"{line}.{character}"
 
+    def follow(self, changes):
+        """Forgets what was seen, where a change isn't all behind it."""
+        if any(change.at <= self.behind for change in changes):
+            self.seen = None
+
     def tagged(self, first, pattern):
-        """What the core has in the lines that are shown; where that has changed, their tags are set anew first."""
+        """What the core has in the lines that are shown; where others are, or something changed, tags are set first."""
         shown, above = (f"{first}.0", f"{first + self.height}.0"), f"{max(1, first - colours.LINES_ABOVE)}.0"
-        look = lambda: (pattern, self.widget.get(above, shown[0]), self.widget.dump(*shown, text=True, tag=True))
-        if self.seen != look():
+        if self.seen != (first, self.height, pattern):
             if self.is_python:
                 colours.colour(self.widget, above, *shown)
             self.widget.tag_remove("found", *shown)
             for place in self.widget.search_all(pattern, *shown, nocase=pattern.islower()) if pattern else ():
                 self.widget.tag_add("found", place, f"{place} + {len(pattern)} chars")
-            self.seen = look()
-        return self.seen[-1]
+            self.seen, self.behind = (first, self.height, pattern), self.widget.count("1.0", shown[1], "chars")[0]
+        return self.widget.dump(*shown, text=True, tag=True)
 
     def rows(self, pattern):
         """The rows of the pane, all places of a pattern in a style, and where the cursor stands among them."""
