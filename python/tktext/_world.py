@@ -97,7 +97,7 @@ class World(_core.World):
         _tkinter.TclError: wrong # args: should be ".t index index"
         """
         answer = self._run(words)
-        if self._is_noticed():
+        if self._watched or self._followed:
             self._notice()
         return answer
 
@@ -109,7 +109,7 @@ class World(_core.World):
         (0, b'.t\\n')
         """
         code = self._give(list(map(_bytes_of, words)))
-        if self._is_noticed():
+        if self._watched or self._followed:
             line = self._said()
             self._notice()
             self._last_line = line
@@ -168,7 +168,7 @@ class World(_core.World):
     def _turns(self) -> Iterator[tuple[int, bytes]]:
         """What `lines` gives, each behind its code of include/tktext.h."""
         while self._status() != _SCRIPT_FAULT and (turn := self._next()) is not None:
-            if self._is_noticed():
+            if self._watched or self._followed:
                 self._notice()
                 self._last_line = turn[1]
             yield turn
@@ -202,12 +202,9 @@ class World(_core.World):
         self._set_noticed()
 
     def _set_noticed(self) -> None:
+        """Says whether it is looked after each command what came of it."""
         self._last_line = None
-        self._watch(self._is_noticed())
-
-    def _is_noticed(self) -> bool:
-        """Whether it is looked after a command what came of it."""
-        return bool(self._watched or self._followed)
+        self._watch(bool(self._watched or self._followed))
 
     def _call_watched(self, widget: Text, values: tuple[object, ...], form: int) -> Any:
         """Carries out a widget's command, and sends the events that come of it."""
