@@ -5,7 +5,8 @@
 
 MODULE is the folder of the Python package.  The scripts are those of tools/fuzz.py.  After each command the string and the
 text of the other world have to be what the text is, and what is told has to be no idle change of what stood there.
-Ends in a line `N passed, M failed`; the exit status is 1 if anything failed.
+Where there is no such package a line says that it is skipped.  Ends in a line `N passed, M failed`; the exit status is 1
+if anything failed.
 """
 
 import argparse
@@ -80,6 +81,9 @@ def main():
     parser.add_argument("--seeds", type=int, default=300)
     parser.add_argument("--first", type=int, default=0)
     options = parser.parse_args()
+    if not os.path.isdir(os.path.join(options.module, "tktext")):
+        print(f"skipped: the mirror, since there is no {options.module} (`make python` makes it)\n0 passed, 0 failed")
+        return 0
     sys.path[:0] = [options.module, os.path.join(TOP, "examples")]
     import mirror
     import tktext
