@@ -3,10 +3,10 @@
 
     python3 tools/mirror.py [--module out/python] [--seeds 300] [--first 0]
 
-MODULE is the folder of the Python package.  The scripts are those of tools/fuzz.py.  After each command the string and the
-text of the other world have to be what the text is, and what is told has to be no idle change of what stood there.
-Where there is no such package a line says that it is skipped.  Ends in a line `N passed, M failed`; the exit status is 1
-if anything failed.
+MODULE is the folder of the Python package, and the scripts are those of tools/fuzz.py.  After each command the string
+and the text of the other world have to be what the text is, and what is told has to be no idle change of what stood
+there.  Where there is no such package a line says that it is skipped.  Ends in a line `N passed, M failed`; the exit
+status is 1 if anything failed.
 """
 
 import argparse
