@@ -58,20 +58,18 @@ here g c k at = let m = records c.args.store.now in let s = c.loop-level.invaria
     (level m c.args.height c.loop-level.level c.args.root c.loop-level.at s.0 c.loop-level-test.true s.1)
     c.parent.result c.parent.ensures.value c.in-Some.up c.in-Some.is c.slot-slot.result c.slot-slot.ensures
 
-pub ahead-rank-requires-clause-tree : goal.ahead-rank-requires-clause-tree
-ahead-rank-requires-clause-tree g c = (here g c c.requires.named.0 c.requires.named.1).child.tree
-
-pub ahead-rank-requires-clause-within : goal.ahead-rank-requires-clause-within
-ahead-rank-requires-clause-within g c = let m = records c.args.store.now in
-    let less = slice_get_within (kids m c.in-Some.up) c.slot-slot.result c.loop-level.at
-    (here g c c.requires.named.0 c.requires.named.1).child.at in omega arith
-
-pub ahead-rank-requires-clause-fits : goal.ahead-rank-requires-clause-fits
-ahead-rank-requires-clause-fits g c = let m = records c.args.store.now in
-    let k = c.requires.named.0 in let at = c.requires.named.1 in
-    let offset = (here g c k at).offset in let sum = (c.loop-level.invariant.sits k at).2 in
-    let fits = c.requires.fits in
-    let within = line-within (lines_in m c.args.height c.args.root) k c.args.name at in omega arith
+pub ahead-rank-requires : goal.ahead-rank-requires
+ahead-rank-requires g c = let m = records c.args.store.now in
+    record {
+      tree = (here g c c.requires.named.0 c.requires.named.1).child.tree;
+      within =
+          let less = slice_get_within (kids m c.in-Some.up) c.slot-slot.result c.loop-level.at
+          (here g c c.requires.named.0 c.requires.named.1).child.at in omega arith;
+      fits =
+          let k = c.requires.named.0 in let at = c.requires.named.1 in let offset = (here g c k at).offset in
+          let sum = (c.loop-level.invariant.sits k at).2 in let fits = c.requires.fits in
+          let within = line-within (lines_in m c.args.height c.args.root) k c.args.name at in omega arith;
+    }
 
 pub overflow_add-rank : goal.overflow_add-rank
 overflow_add-rank g c =

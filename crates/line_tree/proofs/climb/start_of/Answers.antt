@@ -56,27 +56,21 @@ here g c k at = let m = records c.args.store.now in let s = c.loop-level.invaria
     (begins-level m c.args.height c.loop-level.level c.args.root c.loop-level.at s.0 c.loop-level-test.true s.1)
     c.parent.result c.parent.ensures.value c.in-Some.up c.in-Some.is c.slot-slot.result c.slot-slot.ensures
 
-pub characters_ahead-start-requires-clause-row : goal.characters_ahead-start-requires-clause-row
-characters_ahead-start-requires-clause-row g c =
-    row-tree (records c.args.store.now) c.loop-level.level c.in-Some.up
-    (here g c c.requires.named.0 c.requires.named.1).child.tree
-
-pub characters_ahead-start-requires-clause-whole : goal.characters_ahead-start-requires-clause-whole
-characters_ahead-start-requires-clause-whole g c =
-    ap (λ (n : ℕ × ℕ). n.1) (size-below (records c.args.store.now) c.loop-level.level c.in-Some.up
-    (here g c c.requires.named.0 c.requires.named.1).child.tree)
-
-pub characters_ahead-start-requires-clause-within : goal.characters_ahead-start-requires-clause-within
-characters_ahead-start-requires-clause-within g c = let m = records c.args.store.now in
-    let less = slice_get_within (kids m c.in-Some.up) c.slot-slot.result c.loop-level.at
-    (here g c c.requires.named.0 c.requires.named.1).child.at in omega arith
-
-pub characters_ahead-start-requires-clause-fits : goal.characters_ahead-start-requires-clause-fits
-characters_ahead-start-requires-clause-fits g c = let m = records c.args.store.now in
-    let k = c.requires.named.0 in let at = c.requires.named.1 in
-    let offset = (here g c k at).offset in let sum = (c.loop-level.invariant.begins k at).2 in
-    let fits = c.requires.fits.characters in
-    let most = first-characters k (lines_in m c.args.height c.args.root) in omega arith
+pub characters_ahead-start-requires : goal.characters_ahead-start-requires
+characters_ahead-start-requires g c = let m = records c.args.store.now in
+    record {
+      row = row-tree (records c.args.store.now) c.loop-level.level c.in-Some.up
+          (here g c c.requires.named.0 c.requires.named.1).child.tree;
+      whole = ap (λ (n : ℕ × ℕ). n.1) (size-below (records c.args.store.now) c.loop-level.level c.in-Some.up
+          (here g c c.requires.named.0 c.requires.named.1).child.tree);
+      within =
+          let less = slice_get_within (kids m c.in-Some.up) c.slot-slot.result c.loop-level.at
+          (here g c c.requires.named.0 c.requires.named.1).child.at in omega arith;
+      fits =
+          let k = c.requires.named.0 in let at = c.requires.named.1 in let offset = (here g c k at).offset in
+          let sum = (c.loop-level.invariant.begins k at).2 in let fits = c.requires.fits.characters in
+          let most = first-characters k (lines_in m c.args.height c.args.root) in omega arith;
+    }
 
 pub overflow_add-start : goal.overflow_add-start
 overflow_add-start g c = let m = records c.args.store.now in

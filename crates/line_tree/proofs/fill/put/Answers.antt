@@ -40,26 +40,18 @@ pub shift-requires-clause-few : goal.shift-requires-clause-few
 shift-requires-clause-few g c = has-room (records c.args.store.now) c.args.node c.requires.put.row c.child.result
     c.child.ensures.value (c.is_none.ensures ∙ ap not c.if-is_none.true)
 
-pub add-requires-clause-row : goal.add-requires-clause-row
-add-requires-clause-row g c = let m = records c.args.store.now in
-    let few = has-room m c.args.node c.requires.put.row c.child.result c.child.ensures.value (c.is_none.ensures
-    ∙ ap not c.if-is_none.true) in
-    shifted-row m c.args.node c.args.at c.args.extra c.requires.put few (records c.shift.new.store)
-    c.shift.ensures.records
-
-pub add-requires-clause-sum : goal.add-requires-clause-sum
-add-requires-clause-sum g c = let m = records c.args.store.now in
-    let few = has-room m c.args.node c.requires.put.row c.child.result c.child.ensures.value (c.is_none.ensures
-    ∙ ap not c.if-is_none.true) in
-    shifted-sum m c.args.node c.args.at c.args.extra c.requires.put few (records c.shift.new.store)
-    c.shift.ensures.records c.args.more.now c.requires.sum
-
-pub add-requires-clause-fits : goal.add-requires-clause-fits
-add-requires-clause-fits g c = let m = records c.args.store.now in
-    let few = has-room m c.args.node c.requires.put.row c.child.result c.child.ensures.value (c.is_none.ensures
-    ∙ ap not c.if-is_none.true) in
-    shifted-fits m c.args.node c.args.at c.args.extra c.requires.put few (records c.shift.new.store)
-    c.shift.ensures.records
+pub add-requires : goal.add-requires
+add-requires g c = let m = records c.args.store.now in
+    let few = has-room m c.args.node c.requires.put.row c.child.result c.child.ensures.value
+    (c.is_none.ensures ∙ ap not c.if-is_none.true) in
+    record {
+      row = shifted-row m c.args.node c.args.at c.args.extra c.requires.put few (records c.shift.new.store)
+          c.shift.ensures.records;
+      sum = shifted-sum m c.args.node c.args.at c.args.extra c.requires.put few (records c.shift.new.store)
+          c.shift.ensures.records c.args.more.now c.requires.sum;
+      fits = shifted-fits m c.args.node c.args.at c.args.extra c.requires.put few (records c.shift.new.store)
+          c.shift.ensures.records;
+    }
 
 pub returns-then-is_none-clause-puts : goal.returns-then-is_none-clause-puts
 returns-then-is_none-clause-puts g c = let m = records c.args.store.now in

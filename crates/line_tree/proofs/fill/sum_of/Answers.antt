@@ -35,21 +35,19 @@ pub loop-slot-init : goal.loop-slot-init
 loop-slot-init g c = let m = records c.args.store.now in let os = c.args.nodes.now in
     record { sum = ap (λ s. plus s (sums m os)) c.zero-sum.ensures ∙ no_text-plus (sums m os) }
 
-pub add_sum_to-requires-clause-name : goal.add_sum_to-requires-clause-name
-add_sum_to-requires-clause-name g c = let os = c.args.nodes.now in let i = c.loop-slot.slot in
+pub add_sum_to-requires : goal.add_sum_to-requires
+add_sum_to-requires g c = let os = c.args.nodes.now in let i = c.loop-slot.slot in
     let within : i < length os = omega (arith, c.told-nodes, c.loop-slot-test.true) in
-    c.requires.nodes i c.in-Some.node (at os i _ c.in-Some.node within c.in-Some.is)
-
-pub add_sum_to-requires-clause-fits : goal.add_sum_to-requires-clause-fits
-add_sum_to-requires-clause-fits g c = let m = records c.args.store.now in let os = c.args.nodes.now in
-    let i = c.loop-slot.slot in let rest = sums m (drop (i + 1) os) in
-    let within : i < length os = omega (arith, c.told-nodes, c.loop-slot-test.true) in
-    let n = c.in-Some.node in let named = c.requires.nodes i n (at os i _ n within c.in-Some.is) in
-    let sum = c.loop-slot.sum in let more = sum_at m n in
-    let step = some_step m os i _ n within c.in-Some.is in
-    asks (CountsFit sum) m n named (fits-both sum more (fits-left (plus sum more) rest
-    (subst FitsSum (sym (plus-associative sum more rest ∙ ap (plus sum) (sym step) ∙ c.loop-slot.invariant.sum))
-    c.requires.fits)))
+    record {
+      name = c.requires.nodes i c.in-Some.node (at os i _ c.in-Some.node within c.in-Some.is);
+      fits =
+          let m = records c.args.store.now in let rest = sums m (drop (i + 1) os) in let n = c.in-Some.node in
+          let named = c.requires.nodes i n (at os i _ n within c.in-Some.is) in let sum = c.loop-slot.sum in
+          let more = sum_at m n in let step = some_step m os i _ n within c.in-Some.is in
+          asks (CountsFit sum) m n named (fits-both sum more (fits-left (plus sum more) rest (subst FitsSum
+          (sym (plus-associative sum more rest ∙ ap (plus sum) (sym step) ∙ c.loop-slot.invariant.sum))
+          c.requires.fits)));
+    }
 
 pub loop-slot-preserved : goal.loop-slot-preserved
 loop-slot-preserved g c = let m = records c.args.store.now in let os = c.args.nodes.now in let i = c.loop-slot.slot in

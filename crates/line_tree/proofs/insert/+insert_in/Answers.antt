@@ -115,29 +115,27 @@ put-requires-in-Some-clause-put g t c = let m = records c.lead_to_room-found.new
     (subst (λ o. Inserts m l (c.args.height - 1) c.lead_to_room-found.result.child c.lead_to_room-found.result.rest c.args.added.now.line o)
     c.in-Some.is c.insert_in.ensures.inserts)
 
-pub add-requires-clause-row : goal.add-requires-clause-row
-add-requires-clause-row g t c = let m = records c.lead_to_room-found.new.store in let l = records c.insert_in.new.store in
-    has-now m (c.args.height - 1) c.args.node c.args.k c.args.added.now.line
-    (above m c.args.height c.args.node c.args.k c.args.added.now.line c.lead_to_room-found.ensures.insert c.requires.node) c.lead_to_room-found.result
-    c.lead_to_room-found.ensures.leads l c.insert_in.result c.insert_in.ensures.inserts
-
-pub add-requires-clause-fits : goal.add-requires-clause-fits
-add-requires-clause-fits g t c = let m = records c.lead_to_room-found.new.store in let l = records c.insert_in.new.store in
-    one-fits m (c.args.height - 1) c.args.node c.args.k c.args.added.now.line
-    (above m c.args.height c.args.node c.args.k c.args.added.now.line c.lead_to_room-found.ensures.insert c.requires.node) c.lead_to_room-found.result
-    c.lead_to_room-found.ensures.leads l
-    (subst (λ o. Inserts m l (c.args.height - 1) c.lead_to_room-found.result.child c.lead_to_room-found.result.rest c.args.added.now.line o)
-    c.in-None.is c.insert_in.ensures.inserts)
-
-pub add-requires-clause-sum : goal.add-requires-clause-sum
-add-requires-clause-sum g t c = let m = records c.lead_to_room-found.new.store in let l = records c.insert_in.new.store in
-    ap (λ s. plus (sum_at l c.args.node) s) (more-yet (records c.args.store.now) m c.args.height c.args.node c.args.k c.args.added.now.line
-    c.args.added.now.more c.requires.insert c.lead_to_room-found.ensures.keeps c.requires.more)
-    ∙ one-sum m (c.args.height - 1) c.args.node c.args.k c.args.added.now.line
-    (above m c.args.height c.args.node c.args.k c.args.added.now.line c.lead_to_room-found.ensures.insert c.requires.node) c.lead_to_room-found.result
-    c.lead_to_room-found.ensures.leads l
-    (subst (λ o. Inserts m l (c.args.height - 1) c.lead_to_room-found.result.child c.lead_to_room-found.result.rest c.args.added.now.line o)
-    c.in-None.is c.insert_in.ensures.inserts)
+pub add-requires : goal.add-requires
+add-requires g t c = let m = records c.lead_to_room-found.new.store in let l = records c.insert_in.new.store in
+    record {
+      row = has-now m (c.args.height - 1) c.args.node c.args.k c.args.added.now.line (above m c.args.height c.args.node
+          c.args.k c.args.added.now.line c.lead_to_room-found.ensures.insert c.requires.node)
+          c.lead_to_room-found.result c.lead_to_room-found.ensures.leads l c.insert_in.result
+          c.insert_in.ensures.inserts;
+      sum = ap (λ s. plus (sum_at l c.args.node) s) (more-yet (records c.args.store.now) m c.args.height c.args.node
+          c.args.k c.args.added.now.line c.args.added.now.more c.requires.insert c.lead_to_room-found.ensures.keeps
+          c.requires.more)
+          ∙ one-sum m (c.args.height - 1) c.args.node c.args.k c.args.added.now.line (above m c.args.height c.args.node
+          c.args.k c.args.added.now.line c.lead_to_room-found.ensures.insert c.requires.node)
+          c.lead_to_room-found.result c.lead_to_room-found.ensures.leads l (subst (λ o. Inserts m l (c.args.height - 1)
+          c.lead_to_room-found.result.child c.lead_to_room-found.result.rest c.args.added.now.line o) c.in-None.is
+          c.insert_in.ensures.inserts);
+      fits = one-fits m (c.args.height - 1) c.args.node c.args.k c.args.added.now.line (above m c.args.height
+          c.args.node c.args.k c.args.added.now.line c.lead_to_room-found.ensures.insert c.requires.node)
+          c.lead_to_room-found.result c.lead_to_room-found.ensures.leads l (subst (λ o. Inserts m l (c.args.height - 1)
+          c.lead_to_room-found.result.child c.lead_to_room-found.result.rest c.args.added.now.line o) c.in-None.is
+          c.insert_in.ensures.inserts);
+    }
 
 pub returns-in-Some-clause-inserts : goal.returns-in-Some-clause-inserts
 returns-in-Some-clause-inserts g t c = let m = records c.lead_to_room-found.new.store in let l = records c.insert_in.new.store in

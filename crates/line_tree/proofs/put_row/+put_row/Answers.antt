@@ -70,25 +70,18 @@ returns-then-branch-eq1-clause-takes g t c =
     (c.remake.ensures.ends all refl))
 
 -- ---- above it
-pub lead-found-requires-clause-row : goal.lead-found-requires-clause-row
-lead-found-requires-clause-row g t c = let m = records c.args.store.now in let p = c.args.branch.node in
-    row-tree m (c.args.branch.height - 1) p
-    (above m c.args.branch.height p c.args.k c.args.row.now.items c.requires.take c.requires.node).tree
-
-pub lead-found-requires-clause-some : goal.lead-found-requires-clause-some
-lead-found-requires-clause-some g t c = let m = records c.args.store.now in let p = c.args.branch.node in
-    some-kids m (c.args.branch.height - 1) p c.args.k c.args.row.now.items
-    (above m c.args.branch.height p c.args.k c.args.row.now.items c.requires.take c.requires.node)
-
-pub lead-found-requires-clause-within : goal.lead-found-requires-clause-within
-lead-found-requires-clause-within g t c = let m = records c.args.store.now in let p = c.args.branch.node in
-    within-kids m (c.args.branch.height - 1) p c.args.k c.args.row.now.items
-    (above m c.args.branch.height p c.args.k c.args.row.now.items c.requires.take c.requires.node)
-
-pub lead-found-requires-clause-whole : goal.lead-found-requires-clause-whole
-lead-found-requires-clause-whole g t c = let m = records c.args.store.now in let p = c.args.branch.node in
-    whole-below m (c.args.branch.height - 1) p
-    (above m c.args.branch.height p c.args.k c.args.row.now.items c.requires.take c.requires.node).tree
+pub lead-found-requires : goal.lead-found-requires
+lead-found-requires g t c = let m = records c.args.store.now in let p = c.args.branch.node in
+    record {
+      row = row-tree m (c.args.branch.height - 1) p
+          (above m c.args.branch.height p c.args.k c.args.row.now.items c.requires.take c.requires.node).tree;
+      some = some-kids m (c.args.branch.height - 1) p c.args.k c.args.row.now.items
+          (above m c.args.branch.height p c.args.k c.args.row.now.items c.requires.take c.requires.node);
+      within = within-kids m (c.args.branch.height - 1) p c.args.k c.args.row.now.items
+          (above m c.args.branch.height p c.args.k c.args.row.now.items c.requires.take c.requires.node);
+      whole = whole-below m (c.args.branch.height - 1) p
+          (above m c.args.branch.height p c.args.k c.args.row.now.items c.requires.take c.requires.node).tree;
+    }
 
 pub put_row-requires : goal.put_row-requires
 put_row-requires g t c κs within =
