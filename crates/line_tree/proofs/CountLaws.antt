@@ -43,13 +43,6 @@ pub pow-more : (h : ℕ) → h < 6 ^ h
 pow-more zero = omega arith
 pow-more (suc h) = let r = pow-more h in let p = pow-succ' 6 h in omega arith
 
-pub height-below : (m : Records) (h : ℕ) (t : Tree h) → Holds m h t → IsBalancedRoot h t → h ≤ length (lines h t)
-height-below m zero t holds balanced = omega arith
-height-below m (suc zero) t holds balanced = let all = many-lines m 0 (6 ^ 0) (least-lines m 0) t.1 holds.2 balanced.2
-    in let low = balanced.0 in omega arith
-height-below m (suc (suc h)) t holds balanced = let r = least-lines-root m h t holds balanced in
-    let p = pow-more (suc h) in omega arith
-
 -- ---- how many records a tree has
 names-sum : (m : Records) (h : ℕ) → ((t : Tree h) → Holds m h t → IsBalanced h t →
     5 * length (names h t) + 1 ≤ 6 * length (lines h t)) → (ts : List (Tree h)) → AllByRecursion (Holds m h) ts →

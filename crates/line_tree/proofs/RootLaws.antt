@@ -31,7 +31,7 @@ use Rattle.line_tree.proofs.FillLaws.{at-update, relinked-row, relinked-sums, su
 use Rattle.line_tree.proofs.FrameLaws.{all-same, holds-same, names-all-held, names-held, tops-among}
 use Rattle.line_tree.proofs.GrowLaws.{of-one, to-one, unnamed}
 use Rattle.line_tree.proofs.StepLaws.{total-with_line}
-use Rattle.line_tree.proofs.TreeLaws.{named-tree, top-tree_at, total-lines}
+use Rattle.line_tree.proofs.TreeLaws.{top-tree_at, total-lines}
 use Rattle.line_tree.proofs.UpdateLaws.{refilled-named}
 
 -- ---- records that are the same for a tree
