@@ -1,15 +1,10 @@
 -- A node that was given children is a tree of theirs.
 use Rattle.std.proofs.Common.{◌≡◌, ℕ, zero, suc, ◌-◌, inl, inr, List, [], ◌∷◌, ◌++◌, length, map, replicate, refl, sym}
-use Rattle.std.proofs.Common.{ap, ◌∙◌, subst}
-use Rattle.std.specs.Prelude.{◌≢◌, IsSome}
+use Rattle.std.proofs.Common.{ap, ◌∙◌, subst, ◌≢◌, IsSome, Option, None, Some}
 use Rattle.std.specs.FinMap as finite
 use Rattle.std.specs.List.{AllByRecursion, filter_map}
-use Rattle.std.specs.declared.option.Option.{Option}
-use Rattle.std.specs.declared.option.Option.TheVariants.{None, Some}
-use Rattle.toggle_sums.specs.Counts.{plus}
-use Rattle.raw_nodes.specs.Records.{Record, Records, update, with_child, with_parent, with_sum}
-use Rattle.raw_nodes.specs.Rows.{kids, kids_of, row}
-use Rattle.raw_nodes.specs.declared.names.NodePtr.{NodePtr}
+use Rattle.line_tree.proofs.Words.{NodePtr, Record, Records, kids, kids_of, plus, row, update, with_child, with_parent}
+use Rattle.line_tree.proofs.Words.{with_sum}
 use Rattle.raw_nodes.proofs.MapLaws.{some_of}
 use Rattle.raw_nodes.proofs.PlaceLaws.{same_or_other}
 use Rattle.raw_nodes.proofs.RowLaws.{somes, somes-row}

@@ -1,15 +1,10 @@
 -- How many lines a balanced tree has.
 use Rattle.std.proofs.Common.{◌≡◌, ℕ, zero, suc, ◌+◌, ◌*◌, ◌^◌, ◌<◌, ◌≤◌, List, [], ◌∷◌, length, refl, arith}
-use Rattle.std.proofs.Common.{length-append}
-use Rattle.std.specs.Prelude.{IsSome}
+use Rattle.std.proofs.Common.{length-append, IsSome, Option, None, Some}
 use Rattle.std.specs.List.{AllByRecursion}
-use Rattle.std.specs.declared.option.Option.{Option}
-use Rattle.std.specs.declared.option.Option.TheVariants.{None, Some}
 use Rattle.std.proofs.Math.Nat.{mul-le-mul_right, pow-succ'}
 use mathlib.Core.Bool.{false≢true}
-use Rattle.segments.specs.Columns.{LineContent}
-use Rattle.raw_nodes.specs.Records.{Records}
-use Rattle.raw_nodes.specs.declared.names.NodePtr.{NodePtr}
+use Rattle.line_tree.proofs.Words.{LineContent, NodePtr, Records}
 use Rattle.line_tree.specs.Growth.{lines_of, names_of}
 use Rattle.line_tree.specs.Shape.{Holds}
 use Rattle.line_tree.specs.Trees.{IsBalanced, IsBalancedRoot, Tree, lines, names}

@@ -1,17 +1,12 @@
 -- A lowest node and its lines are given back.
 use Rattle.std.proofs.Common.{◌≡◌, ℕ, zero, suc, ◌+◌, ◌-◌, ◌<◌, ◌⊎◌, ◌++◌, inl, inr, List, [], ◌∷◌, get_or, length, map}
-use Rattle.std.proofs.Common.{take, refl, sym, ap, ◌∙◌, subst, arith}
-use Rattle.std.specs.Prelude.{IfSome, IsSome, slice_get}
+use Rattle.std.proofs.Common.{take, refl, sym, ap, ◌∙◌, subst, arith, IfSome, IsSome, slice_get, Option, None, Some}
 use Rattle.std.specs.FinMap as finite
-use Rattle.std.specs.declared.option.Option.{Option}
-use Rattle.std.specs.declared.option.Option.TheVariants.{None, Some}
 use Rattle.std.proofs.lemmas.List.{take_more}
 use Rattle.std.proofs.lemmas.Option.{get_or_from_slice_get, none-some, same_Some, slice_get_within}
 use Rattle.text_model.specs.Splices.{removed}
 use Rattle.raw_nodes.specs.Chain.{rooms_for}
-use Rattle.raw_nodes.specs.Records.{Record, Records}
-use Rattle.raw_nodes.specs.Rows.{kids}
-use Rattle.raw_nodes.specs.declared.names.NodePtr.{NodePtr}
+use Rattle.line_tree.proofs.Words.{NodePtr, Record, Records, kids}
 use Rattle.raw_nodes.proofs.MapLaws.{at_some, get_removed, get_unmoved, some_of}
 use Rattle.raw_nodes.proofs.PlaceLaws.{same_or_other}
 use Rattle.line_tree.specs.Changes.{Among}

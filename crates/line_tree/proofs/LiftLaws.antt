@@ -5,8 +5,7 @@ use Rattle.std.specs.FinMap as finite
 use Rattle.std.specs.List.{AllByRecursion}
 use Rattle.std.proofs.Math.Nat.{mul-le-mul_right}
 use Rattle.std.proofs.lemmas.List.{length-map}
-use Rattle.raw_nodes.specs.Records.{Records}
-use Rattle.raw_nodes.specs.declared.names.NodePtr.{NodePtr}
+use Rattle.line_tree.proofs.Words.{NodePtr, Records}
 use Rattle.line_tree.specs.Changes.{FitsSum, sum_all}
 use Rattle.line_tree.specs.Growth.{IsWide, lines_of, names_of}
 use Rattle.line_tree.specs.Raising.{CanLift, CanRaise, Lifted, Raises, trees_at}

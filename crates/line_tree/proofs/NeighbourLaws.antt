@@ -1,15 +1,11 @@
 -- Two neighbours among the trees below a node, which share their children or become one.
-use Rattle.std.proofs.Common.{◌≡◌, ℕ, suc, inl, inr, List, [], ◌∷◌, ◌++◌, length, take, drop, map, sym, ap}
-use Rattle.std.proofs.Common.{◌∙◌, subst, arith, length-take, length-drop}
-use Rattle.std.specs.Prelude.{◌≢◌, IsSome, slice_get}
+use Rattle.std.proofs.Common.{◌≡◌, ℕ, suc, inl, inr, List, [], ◌∷◌, ◌++◌, length, take, drop, map, sym, ap, ◌∙◌, subst}
+use Rattle.std.proofs.Common.{arith, length-take, length-drop, ◌≢◌, IsSome, slice_get, Some}
 use Rattle.std.specs.FinMap as finite
 use Rattle.std.specs.List.{AllByRecursion}
-use Rattle.std.specs.declared.option.Option.TheVariants.{Some}
 use Rattle.std.proofs.lemmas.List.{length-map, map-append}
 use Rattle.std.proofs.lemmas.List.Concat.{flat_map-append}
-use Rattle.raw_nodes.specs.Records.{Records}
-use Rattle.raw_nodes.specs.Rows.{kids, row}
-use Rattle.raw_nodes.specs.declared.names.NodePtr.{NodePtr}
+use Rattle.line_tree.proofs.Words.{NodePtr, Records, kids, row}
 use Rattle.raw_nodes.proofs.PlaceLaws.{same_or_other}
 use Rattle.line_tree.specs.Changes.{Among, CanEven, Distinct, FitsSum, Merges, Shares, refilled, sum_all}
 use Rattle.line_tree.specs.Growth.{KeepsLink, lines_of, names_of}

@@ -4,9 +4,7 @@ use Rattle.std.specs.Prelude.{◌≢◌}
 use Rattle.std.specs.List.{AllByRecursion}
 use Rattle.std.proofs.lemmas.List.{append-nil, drop-map, map-append, take-append-drop, take-map}
 use Rattle.std.proofs.lemmas.List.Concat.{flat_map-append}
-use Rattle.raw_nodes.specs.Records.{Records}
-use Rattle.raw_nodes.specs.Rows.{kids, row}
-use Rattle.raw_nodes.specs.declared.names.NodePtr.{NodePtr}
+use Rattle.line_tree.proofs.Words.{NodePtr, Records, kids, row}
 use Rattle.line_tree.specs.Changes.{Among, CanEven, CanFill, Distinct, Merges, Shares, refilled}
 use Rattle.line_tree.specs.Growth.{lines_of, names_of}
 use Rattle.line_tree.specs.Shape.{Holds}

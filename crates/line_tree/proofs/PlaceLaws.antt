@@ -1,19 +1,13 @@
 -- Where names stand in a tree.
 use Rattle.std.proofs.Common.{◌≡◌, ℕ, zero, suc, ◌+◌, ◌-◌, ◌<◌, inl, inr, List, [], ◌∷◌, length, take, map, refl, sym}
-use Rattle.std.proofs.Common.{ap, ◌∙◌, subst, arith}
-use Rattle.std.specs.Prelude.{IfSome, IsSome, slice_get}
+use Rattle.std.proofs.Common.{ap, ◌∙◌, subst, arith, IfSome, IsSome, slice_get, Option, None, Some}
 use Rattle.std.specs.FinMap as finite
 use Rattle.std.specs.List.{AllByRecursion, flat_map, sum_by}
 use Rattle.std.specs.Option.{option_map}
-use Rattle.std.specs.declared.option.Option.{Option}
-use Rattle.std.specs.declared.option.Option.TheVariants.{None, Some}
 use Rattle.std.proofs.lemmas.Bool.{cases_lt}
 use Rattle.std.proofs.lemmas.List.Sums.{sum_by-cons}
 use Rattle.std.proofs.lemmas.Option.{none-some, same_Some, slice_get_within}
-use Rattle.segments.specs.Columns.{LineContent}
-use Rattle.raw_nodes.specs.Records.{Records}
-use Rattle.raw_nodes.specs.Rows.{kids}
-use Rattle.raw_nodes.specs.declared.names.NodePtr.{NodePtr}
+use Rattle.line_tree.proofs.Words.{LineContent, NodePtr, Records, kids}
 use Rattle.raw_nodes.proofs.MapLaws.{at_some}
 use Rattle.line_tree.specs.Places.{IsChild, IsLineAt, Sits, lines_before}
 use Rattle.line_tree.specs.Shape.{Holds, IsLinked, IsTree, Links, line_of, lines_at, lines_in, tree_at}

@@ -5,10 +5,7 @@ use Rattle.std.specs.FinMap as finite
 use Rattle.std.specs.List.{AllByRecursion}
 use Rattle.std.proofs.lemmas.List.{length-map}
 use Rattle.text_model.specs.Splices.{removed}
-use Rattle.toggle_sums.specs.Counts.{Count, plus}
-use Rattle.raw_nodes.specs.Records.{Records}
-use Rattle.raw_nodes.specs.Rows.{kids, row}
-use Rattle.raw_nodes.specs.declared.names.NodePtr.{NodePtr}
+use Rattle.line_tree.proofs.Words.{Count, NodePtr, Records, kids, plus, row}
 use Rattle.raw_nodes.proofs.MapLaws.{get_unmoved}
 use Rattle.raw_nodes.proofs.RowLaws.{length-row}
 use Rattle.line_tree.specs.Changes.{Among, CanFill, FitsSum, refilled}

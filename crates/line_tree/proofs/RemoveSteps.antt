@@ -1,20 +1,13 @@
 -- One level of a removal.
 use Rattle.std.proofs.Common.{◌≡◌, ℕ, zero, suc, ◌+◌, ◌<◌, ◌≤◌, inl, inr, List, [], ◌∷◌, ◌++◌, length, take, drop, map}
-use Rattle.std.proofs.Common.{refl, sym, ap, ◌∙◌, subst, arith, length-take}
-use Rattle.std.specs.Prelude.{◌≢◌, IsSome, slice_get}
+use Rattle.std.proofs.Common.{refl, sym, ap, ◌∙◌, subst, arith, length-take, ◌≢◌, IsSome, slice_get, Option, None, Some}
 use Rattle.std.specs.FinMap as finite
 use Rattle.std.specs.List.{AllByRecursion, remove}
-use Rattle.std.specs.declared.option.Option.{Option}
-use Rattle.std.specs.declared.option.Option.TheVariants.{None, Some}
 use Rattle.std.proofs.lemmas.List.{length-map, map-append}
 use Rattle.std.proofs.lemmas.List.Concat.{flat_map-append}
 use Rattle.std.proofs.lemmas.List.Edits.{length-remove}
 use Rattle.std.proofs.lemmas.Option.{none-some, same_Some, slice_get-map, slice_get_within}
-use Rattle.toggle_sums.specs.Counts.{plus}
-use Rattle.segments.specs.Columns.{LineContent}
-use Rattle.raw_nodes.specs.Records.{Records}
-use Rattle.raw_nodes.specs.Rows.{kids, kids_of, row}
-use Rattle.raw_nodes.specs.declared.names.NodePtr.{NodePtr}
+use Rattle.line_tree.proofs.Words.{LineContent, NodePtr, Records, kids, kids_of, plus, row}
 use Rattle.raw_nodes.proofs.PlaceLaws.{same_or_other}
 use Rattle.line_tree.specs.Changes.{Among, CanFill, Distinct, FitsSum, refilled, sum_all}
 use Rattle.line_tree.specs.Finds.{Finds, HasRow}

@@ -12,11 +12,7 @@ use Rattle.std.proofs.Common.{◌≡◌, ℕ, zero, suc, ◌+◌, ◌-◌, ◌<�
 use Rattle.std.proofs.Common.{ap, ◌∙◌, subst, arith}
 use Rattle.std.specs.FinSet as set
 use Rattle.toggle_sums.specs.CountLaws.{plus-commutative, union-associative, union-commutative, union-self}
-use Rattle.toggle_sums.specs.Counts.{Count, IsWithin, no_text, plus}
-use Rattle.segments.specs.Columns.{LineContent, line_count}
-use Rattle.raw_nodes.specs.Records.{Records}
-use Rattle.raw_nodes.specs.Rows.{kids, row}
-use Rattle.raw_nodes.specs.declared.names.NodePtr.{NodePtr}
+use Rattle.line_tree.proofs.Words.{Count, IsWithin, LineContent, NodePtr, Records, kids, line_count, no_text, plus, row}
 use Rattle.line_tree.specs.Changes.{FitsSum, resummed, sums}
 use Rattle.line_tree.specs.Finds.{Finds, HasRow}
 use Rattle.line_tree.specs.Replacing.{PutsOver}

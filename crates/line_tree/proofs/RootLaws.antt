@@ -1,22 +1,16 @@
 -- A new line, and a new root.
 use Rattle.std.proofs.Common.{◌≡◌, ℕ, zero, suc, ◌-◌, ◌*◌, ◌^◌, ◌<◌, ◌≤◌, ◌⊎◌, inl, inr, List, [], ◌∷◌, ◌++◌, length}
-use Rattle.std.proofs.Common.{take, drop, refl, sym, ap, ◌∙◌, subst, arith}
-use Rattle.std.specs.Prelude.{◌≢◌, IsSome, chars, slice_index}
+use Rattle.std.proofs.Common.{take, drop, refl, sym, ap, ◌∙◌, subst, arith, ◌≢◌, IsSome, chars, slice_index, Option}
+use Rattle.std.proofs.Common.{None, Some}
 use Rattle.std.specs.FinMap as finite
 use Rattle.std.specs.FinMap.{len-empty}
 use Rattle.std.specs.List.{AllByRecursion, insert}
-use Rattle.std.specs.declared.option.Option.{Option}
-use Rattle.std.specs.declared.option.Option.TheVariants.{None, Some}
 use Rattle.std.proofs.lemmas.List.{append-nil}
 use Rattle.std.proofs.lemmas.Option.{same_Some}
 use Rattle.std.proofs.lemmas.Str.{chars-IsAscii}
 use mathlib.Core.Bool.{Bool, true, false, false≢true}
 use Rattle.toggle_sums.specs.CountLaws.{plus-no_text}
-use Rattle.toggle_sums.specs.Counts.{plus}
-use Rattle.segments.specs.Columns.{LineContent, line_count, plain_line}
-use Rattle.raw_nodes.specs.Records.{Records, blank, with_sum}
-use Rattle.raw_nodes.specs.Rows.{row}
-use Rattle.raw_nodes.specs.declared.names.NodePtr.{NodePtr}
+use Rattle.line_tree.proofs.Words.{LineContent, NodePtr, Records, blank, line_count, plain_line, plus, row, with_sum}
 use Rattle.raw_nodes.proofs.MapLaws.{get_inserted, get_other, kept_insert}
 use Rattle.raw_nodes.proofs.UpdateLaws.{insert-named}
 use Rattle.line_tree.specs.Changes.{Among, CanFill, Distinct, FitsSum, refilled, relinked, sum_all, sums}

@@ -1,13 +1,10 @@
 -- A row of lines in a whole tree.
 use Rattle.std.proofs.Common.{◌≡◌, ℕ, zero, suc, ◌+◌, ◌≤◌, inl, inr, List, [], ◌∷◌, ◌++◌, length, take, drop, refl, sym}
-use Rattle.std.proofs.Common.{ap, ◌∙◌, subst, arith, length-append, length-take, length-drop}
-use Rattle.std.specs.Prelude.{IsSome}
+use Rattle.std.proofs.Common.{ap, ◌∙◌, subst, arith, length-append, length-take, length-drop, IsSome}
 use Rattle.std.specs.FinMap as finite
 use Rattle.std.specs.List.{AllByRecursion}
 use Rattle.std.proofs.lemmas.List.{append-nil}
-use Rattle.toggle_sums.specs.Counts.{plus}
-use Rattle.raw_nodes.specs.Records.{Records}
-use Rattle.raw_nodes.specs.declared.names.NodePtr.{NodePtr}
+use Rattle.line_tree.proofs.Words.{NodePtr, Records, plus}
 use Rattle.line_tree.specs.Changes.{Among, Distinct, FitsSum}
 use Rattle.line_tree.specs.Growth.{IsWide, Stands, StandsAlone, lines_of, names_of}
 use Rattle.line_tree.specs.Raising.{Becomes, CanLift, CanTakeRow, Lifts, TakesRow, trees_at, with_lines}

@@ -2,8 +2,7 @@
 use Rattle.std.proofs.Common.{◌≡◌, ℕ, ◌≤◌, List, ◌++◌, length, take, drop, sym, ap}
 use Rattle.std.proofs.Common.{◌∙◌, subst, append_assoc, arith, length-take}
 use Rattle.std.proofs.lemmas.List.{drop-append-le, map-append, take-append-drop, take-append-le}
-use Rattle.toggle_sums.specs.Counts.{Count, plus}
-use Rattle.segments.specs.Columns.{LineContent}
+use Rattle.line_tree.proofs.Words.{Count, LineContent, plus}
 use Rattle.line_lists.specs.Lists.{count_of}
 use Rattle.line_lists.proofs.CountRows.{count-append}
 use Rattle.line_tree.specs.Changes.{FitsSum}

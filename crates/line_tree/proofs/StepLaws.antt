@@ -1,19 +1,14 @@
 -- One level of an insertion.
 use Rattle.std.proofs.Common.{◌≡◌, ℕ, zero, suc, ◌+◌, ◌≤◌, inl, inr, List, [], ◌∷◌, ◌++◌, length, take, drop, map, refl}
-use Rattle.std.proofs.Common.{sym, ap, ◌∙◌, subst, arith, length-take, length-drop}
-use Rattle.std.specs.Prelude.{◌≢◌, IsSome, slice_get}
+use Rattle.std.proofs.Common.{sym, ap, ◌∙◌, subst, arith, length-take, length-drop, ◌≢◌, IsSome, slice_get, Option}
+use Rattle.std.proofs.Common.{None, Some}
 use Rattle.std.specs.FinMap as finite
 use Rattle.std.specs.List.{AllByRecursion, insert}
-use Rattle.std.specs.declared.option.Option.{Option}
-use Rattle.std.specs.declared.option.Option.TheVariants.{None, Some}
 use Rattle.std.proofs.lemmas.List.{take-append-drop}
 use Rattle.std.proofs.lemmas.Option.{none-some, same_Some}
 use mathlib.Core.Bool.{false≢true}
 use Rattle.toggle_sums.specs.CountLaws.{plus-associative, plus-commutative}
-use Rattle.toggle_sums.specs.Counts.{Count, plus}
-use Rattle.raw_nodes.specs.Records.{Record, Records, blank, with_sum}
-use Rattle.raw_nodes.specs.Rows.{kids, row}
-use Rattle.raw_nodes.specs.declared.names.NodePtr.{NodePtr}
+use Rattle.line_tree.proofs.Words.{Count, NodePtr, Record, Records, blank, kids, plus, row, with_sum}
 use Rattle.raw_nodes.proofs.MapLaws.{get_other, some_of}
 use Rattle.line_tree.specs.Changes.{Among, CanFill, CanPut, FitsSum, Puts, refilled, relinked, sum_all, sums}
 use Rattle.line_tree.specs.Finds.{HasRow}

@@ -6,8 +6,7 @@
 --     fits-both               two parts can be added where the sum fits
 use Rattle.std.proofs.Common.{◌≡◌, List, [], ◌∷◌, ◌++◌, sym, ap, ◌∙◌, subst, arith}
 use Rattle.toggle_sums.specs.CountLaws.{no_text-plus, plus-associative, plus-no_text}
-use Rattle.toggle_sums.specs.Counts.{Count, CountsFit, no_text, plus}
-use Rattle.segments.specs.Columns.{line_count}
+use Rattle.line_tree.proofs.Words.{Count, CountsFit, line_count, no_text, plus}
 use Rattle.line_tree.specs.Changes.{FitsSum}
 use Rattle.line_tree.specs.Trees.{Named, total}
 

@@ -5,10 +5,7 @@ use Rattle.std.specs.FinMap as finite
 use Rattle.std.specs.List.{AllByRecursion}
 use Rattle.std.proofs.lemmas.List.{append-nil, length-map, take-append-drop, take-map}
 use Rattle.std.proofs.lemmas.List.Concat.{flat_map-append}
-use Rattle.toggle_sums.specs.Counts.{Count, plus}
-use Rattle.raw_nodes.specs.Records.{Records}
-use Rattle.raw_nodes.specs.Rows.{kids, kids_of, row}
-use Rattle.raw_nodes.specs.declared.names.NodePtr.{NodePtr}
+use Rattle.line_tree.proofs.Words.{Count, NodePtr, Records, kids, kids_of, plus, row}
 use Rattle.line_tree.specs.Changes.{Among, Distinct, FitsSum}
 use Rattle.line_tree.specs.Finds.{HasRow, Leads, lines_below}
 use Rattle.line_tree.specs.Growth.{lines_of, names_of}

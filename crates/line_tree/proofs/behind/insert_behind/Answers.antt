@@ -1,9 +1,7 @@
 use Rattle.std.proofs.Common.{◌≡◌, ◌+◌, ◌-◌, suc, sym, ap, ◌∙◌, subst, arith, None}
 use Rattle.std.specs.FinMap as finite
 use Rattle.std.specs.List.{insert}
-use Rattle.raw_nodes.specs.Names.{records}
-use Rattle.raw_nodes.specs.Rows.{kids, row}
-use Rattle.toggle_sums.specs.Counts.{plus}
+use Rattle.line_tree.proofs.Words.{kids, plus, records, row}
 use Rattle.line_tree.specs.Changes.{CanPut, Fills, sum_all}
 use Rattle.line_tree.specs.Shape.{sum_at}
 use Rattle.line_tree.proofs.BehindLaws.{Base, Climbs, above-of, base-of, climbed, named-behind, parent-behind, some-parent}

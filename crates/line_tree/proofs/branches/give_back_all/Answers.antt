@@ -1,5 +1,4 @@
-use Rattle.std.proofs.Common.{◌+◌, sym, ap, ◌∙◌, subst}
-use Rattle.std.specs.Prelude.{IsSome}
+use Rattle.std.proofs.Common.{◌+◌, sym, ap, ◌∙◌, subst, IsSome}
 use Rattle.raw_nodes.specs.Names.{records}
 use Rattle.line_tree.specs.Giving.{Without}
 use Rattle.line_tree.specs.Shape.{tree_at}

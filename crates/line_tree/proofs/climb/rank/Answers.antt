@@ -1,9 +1,6 @@
 use Rattle.std.proofs.Common.{◌≡◌, ℕ, ◌+◌, ◌-◌, suc, subst, arith}
 use Rattle.std.proofs.lemmas.Option.{slice_get_within}
-use Rattle.raw_nodes.specs.Names.{records}
-use Rattle.raw_nodes.specs.Records.{Records}
-use Rattle.raw_nodes.specs.Rows.{kids}
-use Rattle.raw_nodes.specs.declared.names.NodePtr.{NodePtr}
+use Rattle.line_tree.proofs.Words.{NodePtr, Records, kids, records}
 use Rattle.line_tree.specs.Places.{IsLineAt, Sits}
 use Rattle.line_tree.specs.Shape.{lines_in}
 use Rattle.line_tree.proofs.PlaceLaws.{Up, level, line-within, named-below, parent-below, sits, up_from}

@@ -1,17 +1,10 @@
 use Rattle.std.proofs.Common.{◌≡◌, ◌-◌, ◌≤◌, ℕ, List, Some, length, take, drop, ap, refl, sym, ◌∙◌, subst, arith}
-use Rattle.std.proofs.Common.{length-drop, None, not}
+use Rattle.std.proofs.Common.{length-drop, None, not, IfSome, IsSome, slice_get, Option}
 use Rattle.std.specs.FinMap as finite
 use Rattle.std.specs.List.{insert}
 use Rattle.std.proofs.lemmas.List.{take_all}
 use Rattle.std.proofs.lemmas.List.Edits.{length-insert}
-use Rattle.raw_nodes.specs.Names.{records}
-use Rattle.raw_nodes.specs.Records.{blank}
-use Rattle.raw_nodes.specs.Rows.{kids, row}
-use Rattle.raw_nodes.specs.declared.names.NodePtr.{NodePtr}
-use Rattle.std.specs.Prelude.{IfSome, IsSome, slice_get}
-use Rattle.std.specs.declared.option.Option.{Option}
-use Rattle.toggle_sums.specs.Counts.{Count, plus}
-use Rattle.raw_nodes.specs.Records.{Records}
+use Rattle.line_tree.proofs.Words.{Count, NodePtr, Records, blank, kids, plus, records, row}
 use Rattle.line_tree.specs.Changes.{Among, CanFill, CanPut, FitsSum, Stay, refilled, sum_all, sums}
 use Rattle.line_tree.specs.Finds.{HasRow}
 use Rattle.line_tree.specs.Shape.{sum_at}

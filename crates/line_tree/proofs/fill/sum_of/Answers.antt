@@ -1,13 +1,9 @@
 use Rattle.std.proofs.Common.{◌≡◌, ◌+◌, ◌≤◌, ◌<◌, ℕ, List, drop, length, get_or, sym, ap, ◌∙◌, subst, Some, None, arith}
-use Rattle.std.specs.Prelude.{slice_get}
-use Rattle.std.specs.declared.option.Option.{Option}
+use Rattle.std.proofs.Common.{slice_get, Option}
 use Rattle.std.proofs.lemmas.List.{at_drop_more, drop_all}
 use Rattle.std.proofs.lemmas.Option.{slice_get-get_or}
 use Rattle.toggle_sums.specs.CountLaws.{no_text-plus, plus-associative, plus-no_text}
-use Rattle.toggle_sums.specs.Counts.{CountsFit, plus}
-use Rattle.raw_nodes.specs.Names.{records}
-use Rattle.raw_nodes.specs.Records.{Records}
-use Rattle.raw_nodes.specs.declared.names.NodePtr.{NodePtr}
+use Rattle.line_tree.proofs.Words.{CountsFit, NodePtr, Records, plus, records}
 use Rattle.line_tree.specs.Changes.{FitsSum, sum_or_none, sums}
 use Rattle.line_tree.specs.Shape.{sum_at}
 use Rattle.line_tree.proofs.RowLaws.{added_is, asks, none_of}

@@ -1,12 +1,8 @@
-use Rattle.std.proofs.Common.{◌≡◌, ℕ, ◌-◌, ◌<◌, suc, sym, subst, arith, None, ◌+◌, ap, ◌∙◌}
+use Rattle.std.proofs.Common.{◌≡◌, ℕ, ◌-◌, ◌<◌, suc, sym, subst, arith, None, ◌+◌, ap, ◌∙◌, Option}
 use Rattle.std.specs.FinMap as finite
 use Rattle.std.specs.List.{insert}
-use Rattle.std.specs.declared.option.Option.{Option}
 use Rattle.std.proofs.lemmas.Option.{slice_get_within}
-use Rattle.raw_nodes.specs.Names.{records}
-use Rattle.raw_nodes.specs.Records.{Records}
-use Rattle.raw_nodes.specs.Rows.{kids, row}
-use Rattle.raw_nodes.specs.declared.names.NodePtr.{NodePtr}
+use Rattle.line_tree.proofs.Words.{Count, NodePtr, Records, kids, plus, records, row}
 use Rattle.line_tree.specs.Finds.{Leads}
 use Rattle.line_tree.specs.Growth.{CanInsert, Inserts}
 use Rattle.line_tree.specs.Shape.{sum_at}
@@ -16,7 +12,6 @@ use Rattle.line_tree.proofs.InsertLaws.{can-child, has-node, has-now, low-can_pu
 use Rattle.line_tree.proofs.InsertLaws.{one-inserts, one-sum, two-can_put, two-inserts, two-sum}
 use Rattle.line_tree.proofs.RoomLaws.{len-puts, len-resummed}
 use Rattle.line_tree.proofs.SpreadLaws.{inserts-yet, sum-yet}
-use Rattle.toggle_sums.specs.Counts.{Count, plus}
 use Rattle.line_tree.specs.Changes.{sum_all}
 use Rattle.line_tree.proofs.insert.+insert_in.Goals as goal
 

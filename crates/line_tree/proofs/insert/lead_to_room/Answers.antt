@@ -1,8 +1,5 @@
-use Rattle.std.proofs.Common.{◌≡◌, ℕ, ◌-◌, ◌<◌, sym, suc, arith, subst}
-use Rattle.raw_nodes.specs.Names.{records}
-use Rattle.raw_nodes.specs.Records.{Records}
-use Rattle.raw_nodes.specs.declared.names.NodePtr.{NodePtr}
-use Rattle.std.specs.Prelude.{Bool}
+use Rattle.std.proofs.Common.{◌≡◌, ℕ, ◌-◌, ◌<◌, sym, suc, arith, subst, Bool}
+use Rattle.line_tree.proofs.Words.{NodePtr, Records, records}
 use Rattle.line_tree.specs.declared.find.Found.{Found}
 use Rattle.line_tree.specs.Growth.{CanInsert}
 use Rattle.line_tree.specs.Spreading.{Moves, Respreads}

@@ -1,10 +1,5 @@
-use Rattle.std.specs.Prelude.{slice_get}
-use Rattle.std.specs.declared.option.Option.TheVariants.{None, Some}
-use Rattle.std.proofs.Common.{◌≡◌, ℕ, ◌+◌, ◌-◌, suc, min, sym, ap, ◌∙◌, subst, arith}
-use Rattle.raw_nodes.specs.Names.{records}
-use Rattle.raw_nodes.specs.Records.{Records}
-use Rattle.raw_nodes.specs.Rows.{kids}
-use Rattle.raw_nodes.specs.declared.names.NodePtr.{NodePtr}
+use Rattle.std.proofs.Common.{◌≡◌, ℕ, ◌+◌, ◌-◌, suc, min, sym, ap, ◌∙◌, subst, arith, slice_get, None, Some}
+use Rattle.line_tree.proofs.Words.{NodePtr, Records, kids, records}
 use Rattle.line_lists.specs.Lists.{previous_line}
 use Rattle.line_lists.proofs.SearchRows.{FailFrom}
 use Rattle.line_tree.specs.Nearest.{passes, shows}
@@ -18,8 +13,7 @@ use Rattle.line_tree.proofs.RowLaws.{child_is, lines_is, none_of, said, step_no,
 use Rattle.line_tree.proofs.TreeLaws.{count-tree, named-tree, row-above, sum-tree}
 use Rattle.line_tree.proofs.nearest.+previous.Given.{Over}
 use Rattle.line_tree.proofs.nearest.+previous.Goals as goal
-use Rattle.line_tree.proofs.nearest.+previous.Goals.{After-min-rest}
-use Rattle.line_tree.proofs.nearest.+previous.Goals.{else-rest-gt0-via-else-rest-gt0}
+use Rattle.line_tree.proofs.nearest.+previous.Goals.{After-min-rest, else-rest-gt0-via-else-rest-gt0}
 use Rattle.line_tree.proofs.nearest.+previous.Goals.{else-rest-gt0-via-then-rest-gt0+else-is_in}
 use Rattle.line_tree.proofs.nearest.+previous.Goals.{then-to-eq0-via-then-to-eq0}
 use Rattle.line_tree.proofs.nearest.+previous.Goals.{then-to-eq0-via-else-to-eq0+then-not-is_in}

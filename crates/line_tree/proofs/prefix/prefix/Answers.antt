@@ -1,7 +1,6 @@
 use Rattle.std.proofs.Common.{◌≡◌, ◌-◌, suc, take, sym, ap, ◌∙◌, subst, arith}
 use Rattle.toggle_sums.specs.CountLaws.{no_text-plus}
-use Rattle.toggle_sums.specs.Counts.{Count, no_text}
-use Rattle.raw_nodes.specs.Names.{records}
+use Rattle.line_tree.proofs.Words.{Count, no_text, records}
 use Rattle.line_tree.specs.Aims.{sum-adds, sum_behind}
 use Rattle.line_tree.specs.Changes.{FitsSum}
 use Rattle.line_tree.specs.Shape.{IsTree, lines_in}

@@ -1,5 +1,4 @@
-use Rattle.std.proofs.Common.{◌≤◌, length, take, drop, length-take, sym, ap, ◌∙◌, subst, arith}
-use Rattle.std.specs.Prelude.{slice_get}
+use Rattle.std.proofs.Common.{◌≤◌, length, take, drop, length-take, sym, ap, ◌∙◌, subst, arith, slice_get}
 use Rattle.std.specs.FinMap as finite
 use Rattle.raw_nodes.specs.Names.{records}
 use Rattle.line_tree.specs.Changes.{CanFill, FitsSum, sums}

@@ -1,19 +1,14 @@
 use Rattle.std.proofs.Common.{◌≡◌, ℕ, zero, suc, ◌+◌, ◌-◌, ◌<◌, ◌≤◌, ◌⊎◌, inl, inr, length, refl, sym, subst, arith}
-use Rattle.std.proofs.Common.{Some, None, ap, ◌∙◌}
-use Rattle.std.specs.Prelude.{IsSome}
+use Rattle.std.proofs.Common.{Some, None, ap, ◌∙◌, IsSome}
 use Rattle.std.specs.FinMap as finite
 use Rattle.std.specs.List.{remove}
-use Rattle.raw_nodes.specs.Names.{records}
-use Rattle.raw_nodes.specs.Records.{Records}
-use Rattle.raw_nodes.specs.Rows.{kids, row}
-use Rattle.raw_nodes.specs.declared.names.NodePtr.{NodePtr}
+use Rattle.line_tree.proofs.Words.{NodePtr, Records, kids, plus, records, row}
 use Rattle.line_tree.specs.Changes.{FitsSum, resummed, sum_all}
 use Rattle.line_tree.specs.Shape.{IsTree, Links, lines_in, sum_at, sum_of}
 use Rattle.line_tree.proofs.FillLaws.{sums-row}
 use Rattle.line_tree.proofs.KeptLaws.{kept-whole}
 use Rattle.line_tree.proofs.RowLaws.{lines_is, sum_is}
 use Rattle.std.proofs.lemmas.Option.{same_Some}
-use Rattle.toggle_sums.specs.Counts.{plus}
 use Rattle.line_tree.specs.declared.find.Found.{Found}
 use Rattle.line_tree.specs.Shrinking.{CanRemove, Cleans, Removes, Settles}
 use Rattle.line_tree.proofs.RemovePairs.{sum-ready, below-now, can-mend, cleans-gone, cleans-ready, fill-ready}

@@ -1,11 +1,7 @@
-use Rattle.std.proofs.Common.{◌≡◌, sym, ap, ◌∙◌, subst, arith}
+use Rattle.std.proofs.Common.{◌≡◌, sym, ap, ◌∙◌, subst, arith, IfSome}
 use Rattle.std.specs.FinSet as set
-use Rattle.std.specs.Prelude.{IfSome}
-use Rattle.raw_nodes.specs.Names.{records}
-use Rattle.raw_nodes.specs.Records.{with_sum}
-use Rattle.raw_nodes.specs.Rows.{kids, row}
+use Rattle.line_tree.proofs.Words.{CanExchange, Count, IsWithin, exchanged, kids, plus, records, row, with_sum, without}
 use Rattle.toggle_sums.specs.CountLaws.{same_slots}
-use Rattle.toggle_sums.specs.Counts.{CanExchange, Count, IsWithin, exchanged, plus, without}
 use Rattle.toggle_sums.proofs.ExchangeLaws.{union-part}
 use Rattle.line_tree.specs.Changes.{FitsSum, sums}
 use Rattle.line_tree.specs.Shape.{sum_of}

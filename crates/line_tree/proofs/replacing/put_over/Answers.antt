@@ -1,5 +1,4 @@
-use Rattle.std.proofs.Common.{◌≡◌, ap, sym, ◌∙◌, subst}
-use Rattle.std.specs.Prelude.{OnSome, option_map}
+use Rattle.std.proofs.Common.{◌≡◌, ap, sym, ◌∙◌, subst, OnSome, option_map}
 use Rattle.raw_nodes.specs.LineLending.{WroteLine}
 use Rattle.raw_nodes.proofs.MapLaws.{at_some}
 use Rattle.line_tree.specs.Shape.{line_of}

@@ -1,6 +1,5 @@
 use Rattle.std.proofs.Common.{◌≡◌, ℕ, ◌≤◌}
-use Rattle.toggle_sums.specs.Counts.{IsWithin}
-use Rattle.raw_nodes.specs.Names.{records, rooms, spares}
+use Rattle.line_tree.proofs.Words.{IsWithin, records, rooms, spares}
 use Rattle.line_tree.specs.Places.{IsLineAt}
 use Rattle.line_tree.specs.Shape.{lines_in}
 use Rattle.line_tree.specs.Trees.{total}

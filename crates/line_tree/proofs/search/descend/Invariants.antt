@@ -1,5 +1,4 @@
-use Rattle.std.proofs.Common.{◌≡◌, ◌+◌, ◌-◌, ◌*◌, ◌≤◌}
-use Rattle.std.specs.Prelude.{IfSome}
+use Rattle.std.proofs.Common.{◌≡◌, ◌+◌, ◌-◌, ◌*◌, ◌≤◌, IfSome}
 use Rattle.raw_nodes.specs.Names.{records}
 use Rattle.line_tree.specs.Shape.{IsTree, lines_in, sum_at}
 use Rattle.line_tree.proofs.SearchLaws.{Passes}

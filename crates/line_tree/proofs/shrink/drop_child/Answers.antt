@@ -1,12 +1,7 @@
-use Rattle.std.proofs.Common.{◌≡◌, List, refl, sym, ap, subst, ◌∙◌}
-use Rattle.std.specs.Prelude.{IsSome}
+use Rattle.std.proofs.Common.{◌≡◌, List, refl, sym, ap, subst, ◌∙◌, IsSome}
 use Rattle.std.specs.List.{remove}
 use Rattle.std.proofs.lemmas.Option.{slice_get-get_or}
-use Rattle.raw_nodes.specs.Names.{records}
-use Rattle.raw_nodes.specs.Records.{Records}
-use Rattle.raw_nodes.specs.Rows.{kids, row}
-use Rattle.raw_nodes.specs.declared.names.NodePtr.{NodePtr}
-use Rattle.toggle_sums.specs.Counts.{plus}
+use Rattle.line_tree.proofs.Words.{NodePtr, Records, kids, plus, records, row}
 use Rattle.line_tree.specs.Changes.{CanFill, FitsSum, relinked, resummed, sum_all, sums}
 use Rattle.line_tree.specs.Finds.{HasRow}
 use Rattle.line_tree.specs.Shape.{sum_at}

@@ -1,14 +1,9 @@
-use Rattle.std.proofs.Common.{◌≡◌, ◌-◌, ◌<◌, ◌≤◌, ◌++◌, ℕ, List, length, take, drop, sym, ap, subst, ◌∙◌, arith}
-use Rattle.std.specs.Prelude.{IfSome}
-use Rattle.std.specs.declared.option.Option.{Option}
+use Rattle.std.proofs.Common.{◌≡◌, ◌-◌, ◌<◌, ◌≤◌, ◌++◌, ℕ, List, length, take, drop, sym, ap, subst, ◌∙◌, arith, IfSome}
+use Rattle.std.proofs.Common.{Option}
 use Rattle.std.specs.FinMap as finite
 use Rattle.std.proofs.lemmas.List.{take-append-drop}
 use Rattle.toggle_sums.specs.CountLaws.{plus-commutative}
-use Rattle.toggle_sums.specs.Counts.{Count, plus}
-use Rattle.raw_nodes.specs.Names.{records}
-use Rattle.raw_nodes.specs.Records.{Records}
-use Rattle.raw_nodes.specs.Rows.{kids, row}
-use Rattle.raw_nodes.specs.declared.names.NodePtr.{NodePtr}
+use Rattle.line_tree.proofs.Words.{Count, NodePtr, Records, kids, plus, records, row}
 use Rattle.line_tree.specs.Changes.{CanEven, FitsSum, sum_all, sums}
 use Rattle.line_tree.proofs.AmongLaws.{among-drop, among-take}
 use Rattle.line_tree.proofs.EvenLaws.{halves, named-part}

@@ -1,10 +1,7 @@
-use Rattle.std.proofs.Common.{◌≡◌, ap, sym, ◌∙◌, subst}
-use Rattle.std.specs.Prelude.{OnSome, length, option_map, option_to_list}
+use Rattle.std.proofs.Common.{◌≡◌, ap, sym, ◌∙◌, subst, OnSome, length, option_map, option_to_list}
 use Rattle.line_lists.specs.Edits.{without_mark}
-use Rattle.segments.specs.Columns.{LineContent}
+use Rattle.line_tree.proofs.Words.{LineContent, records, update, with_line}
 use Rattle.raw_nodes.specs.LineLending.{WroteLine}
-use Rattle.raw_nodes.specs.Names.{records}
-use Rattle.raw_nodes.specs.Records.{update, with_line}
 use Rattle.raw_nodes.proofs.MapLaws.{at_some}
 use Rattle.line_tree.specs.Shape.{line_of}
 use Rattle.line_tree.proofs.TakingLaws.{how-many}

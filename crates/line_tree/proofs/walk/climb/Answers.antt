@@ -1,7 +1,6 @@
 use Rattle.std.proofs.Common.{ℕ, ◌+◌, ◌-◌, suc, refl, sym, ◌∙◌, arith}
 use Rattle.std.proofs.lemmas.Option.{none-some, slice_get_within}
-use Rattle.raw_nodes.specs.Names.{records}
-use Rattle.raw_nodes.specs.Rows.{kids}
+use Rattle.line_tree.proofs.Words.{kids, records}
 use Rattle.line_tree.specs.Finds.{HasRow}
 use Rattle.line_tree.specs.Places.{IsLineAt}
 use Rattle.line_tree.specs.Shape.{lines_in}

@@ -1,5 +1,4 @@
-use Rattle.std.proofs.Common.{◌≡◌, ◌+◌, ◌≤◌}
-use Rattle.std.specs.Prelude.{slice_get}
+use Rattle.std.proofs.Common.{◌≡◌, ◌+◌, ◌≤◌, slice_get}
 use Rattle.raw_nodes.specs.Names.{records}
 use Rattle.line_tree.specs.Shape.{IsTree, lines_in, tree_at}
 use Rattle.line_tree.specs.Trees.{IsBalanced}

@@ -1,10 +1,7 @@
 use Rattle.std.proofs.Common.{◌≡◌, ◌≤◌, ◌+◌, ◌-◌, suc, length, ap, sym, ◌∙◌, subst, arith, Some, [], ◌∷◌}
 use Rattle.std.specs.List.{insert}
 use Rattle.std.proofs.lemmas.List.Edits.{length-insert}
-use Rattle.toggle_sums.specs.Counts.{plus}
-use Rattle.segments.specs.Columns.{line_count}
-use Rattle.raw_nodes.specs.Names.{records, spares}
-use Rattle.raw_nodes.specs.Records.{Records, blank}
+use Rattle.line_tree.proofs.Words.{Records, blank, line_count, plus, records, spares}
 use Rattle.raw_nodes.proofs.MapLaws.{get_inserted}
 use Rattle.std.specs.FinMap as finite
 use Rattle.line_tree.specs.Changes.{FitsSum}

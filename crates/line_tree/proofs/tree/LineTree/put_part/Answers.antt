@@ -1,11 +1,8 @@
 use Rattle.std.proofs.Common.{◌≡◌, ◌≤◌, List, [], ◌∷◌, length, get_or, take, drop, refl, sym, ap, ◌∙◌, subst}
 use Rattle.std.proofs.Common.{append_assoc, arith, length-drop}
 use Rattle.std.proofs.lemmas.List.{length-map, length_push}
-use Rattle.toggle_sums.specs.Counts.{plus}
+use Rattle.line_tree.proofs.Words.{LineContent, NodePtr, plus, records, spares}
 use Rattle.line_lists.specs.Lists.{count_of}
-use Rattle.segments.specs.Columns.{LineContent}
-use Rattle.raw_nodes.specs.Names.{records, spares}
-use Rattle.raw_nodes.specs.declared.names.NodePtr.{NodePtr}
 use Rattle.line_tree.specs.Changes.{FitsSum}
 use Rattle.line_tree.specs.Growth.{lines_of}
 use Rattle.line_tree.specs.Raising.{Lifts, trees_at, with_lines}

@@ -1,6 +1,5 @@
 use Rattle.std.proofs.Common.{length, take, sym, subst, ap, ◌∙◌}
-use Rattle.toggle_sums.specs.Counts.{Count}
-use Rattle.raw_nodes.specs.Names.{records}
+use Rattle.line_tree.proofs.Words.{Count, records}
 use Rattle.line_lists.specs.Texts.{whole}
 use Rattle.line_lists.proofs.CountRows.{count-characters}
 use Rattle.line_tree.specs.Places.{IsLineAt}

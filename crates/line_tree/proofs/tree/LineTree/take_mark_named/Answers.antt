@@ -1,7 +1,6 @@
 use Rattle.std.proofs.Common.{◌+◌, length, ap, sym, ◌∙◌, subst}
-use Rattle.toggle_sums.specs.Counts.{counting, no_text}
+use Rattle.line_tree.proofs.Words.{counting, no_text, records}
 use Rattle.line_lists.specs.Edits.{without_mark}
-use Rattle.raw_nodes.specs.Names.{records}
 use Rattle.line_tree.specs.Places.{IsLineAt}
 use Rattle.line_tree.specs.Room.{line_room}
 use Rattle.line_tree.specs.Shape.{lines_in}

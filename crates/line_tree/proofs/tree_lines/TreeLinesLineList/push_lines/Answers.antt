@@ -1,5 +1,4 @@
-use Rattle.std.proofs.Common.{◌≡◌, ◌+◌, ◌++◌, ◌∙◌, ap, arith}
-use Rattle.std.specs.Prelude.{chars, slice_range, string_bytes}
+use Rattle.std.proofs.Common.{◌≡◌, ◌+◌, ◌++◌, ◌∙◌, ap, arith, chars, slice_range, string_bytes}
 use Rattle.segments.specs.Columns.{characters}
 use Rattle.line_lists.specs.Texts.{whole}
 use Rattle.line_lists.proofs.TextRows.{pushed-line, pushed-none}

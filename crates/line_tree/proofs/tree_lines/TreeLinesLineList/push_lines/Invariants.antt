@@ -1,5 +1,4 @@
-use Rattle.std.proofs.Common.{◌≡◌, ◌++◌}
-use Rattle.std.specs.Prelude.{IfSome, chars, slice_range, string_bytes}
+use Rattle.std.proofs.Common.{◌≡◌, ◌++◌, IfSome, chars, slice_range, string_bytes}
 use Rattle.segments.specs.Columns.{characters}
 use Rattle.line_lists.specs.Texts.{whole}
 use Rattle.line_tree.specs.Places.{IsLineAt}

@@ -1,6 +1,5 @@
-use Rattle.std.proofs.Common.{◌≡◌, ◌+◌, length, vec_len, subst, sym, ap, ◌∙◌, arith}
+use Rattle.std.proofs.Common.{◌≡◌, ◌+◌, length, vec_len, subst, sym, ap, ◌∙◌, arith, slice_range}
 use Rattle.std.specs.List.{All}
-use Rattle.std.specs.Prelude.{slice_range}
 use Rattle.segments.specs.Columns.{LineContent}
 use Rattle.line_lists.specs.Lists.{AreLines, NumbersBelow, more_lines, row_of}
 use Rattle.line_tree.specs.Room.{HasRoom}
