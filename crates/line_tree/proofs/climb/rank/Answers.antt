@@ -3,7 +3,7 @@ use Rattle.std.proofs.lemmas.Option.{slice_get_within}
 use Rattle.line_tree.proofs.Words.{NodePtr, Records, kids, records}
 use Rattle.line_tree.specs.Places.{IsLineAt, Sits}
 use Rattle.line_tree.specs.Shape.{lines_in}
-use Rattle.line_tree.proofs.PlaceLaws.{Up, level, line-within, named-below, parent-below, sits, up_from}
+use Rattle.line_tree.proofs.PlaceLaws.{Up, child-named, child-parent, level, line-within, sits, up_from}
 use Rattle.line_tree.proofs.TreeLaws.{row-tree}
 use Rattle.line_tree.proofs.climb.rank.Given.{Over}
 use Rattle.line_tree.proofs.climb.rank.Goals as goal
@@ -30,21 +30,21 @@ loop-level-init g c = let m = records c.args.store.now in record {
 pub parent-requires : goal.parent-requires
 parent-requires g c = let m = records c.args.store.now in
     let s = c.loop-level.invariant.sits c.requires.named.0 c.requires.named.1 in
-    named-below m (c.args.height - suc c.loop-level.level) c.loop-level.level c.args.root c.loop-level.at s.0
-    (level m c.args.height c.loop-level.level c.args.root c.loop-level.at s.0 c.loop-level-test.true s.1)
+    let up = level m c.args.height c.loop-level.level c.args.root c.loop-level.at s.0 c.loop-level-test.true s.1 in
+    child-named m c.loop-level.level up.0 up.1 c.loop-level.at up.4
 
 pub slot-slot-requires : goal.slot-slot-requires
 slot-slot-requires g c = let m = records c.args.store.now in
     let s = c.loop-level.invariant.sits c.requires.named.0 c.requires.named.1 in
-    named-below m (c.args.height - suc c.loop-level.level) c.loop-level.level c.args.root c.loop-level.at s.0
-    (level m c.args.height c.loop-level.level c.args.root c.loop-level.at s.0 c.loop-level-test.true s.1)
+    let up = level m c.args.height c.loop-level.level c.args.root c.loop-level.at s.0 c.loop-level-test.true s.1 in
+    child-named m c.loop-level.level up.0 up.1 c.loop-level.at up.4
 
 pub returns-in_default-clause-value : goal.returns-in_default-clause-value
 returns-in_default-clause-value g c k at = let m = records c.args.store.now in
     let s = c.loop-level.invariant.sits k at in
-    absurd (c.in_default.not-Some _ (parent-below m (c.args.height - suc c.loop-level.level) c.loop-level.level
-    c.args.root c.loop-level.at s.0 (level m c.args.height c.loop-level.level c.args.root c.loop-level.at s.0
-    c.loop-level-test.true s.1) c.parent.result c.parent.ensures.value))
+    let up = level m c.args.height c.loop-level.level c.args.root c.loop-level.at s.0 c.loop-level-test.true s.1 in
+    absurd (c.in_default.not-Some _ (child-parent m c.loop-level.level up.0 up.1 c.loop-level.at up.4 c.parent.result
+    c.parent.ensures.value))
 
 here : (g : Over) (c : After-ahead-arg-1 g) (k : ℕ)
     (at : IsLineAt (lines_in (records c.args.store.now) c.args.height c.args.root) k c.args.name)
