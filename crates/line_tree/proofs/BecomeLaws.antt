@@ -4,14 +4,12 @@ use Rattle.std.proofs.Common.{IsSome, Option, None, Some}
 use Rattle.std.specs.FinMap as finite
 use Rattle.std.specs.List.{AllByRecursion}
 use Rattle.std.proofs.lemmas.List.{append-nil}
-use Rattle.line_tree.proofs.Words.{LineContent, NodePtr, Records, blank, row, with_sum}
+use Rattle.line_tree.proofs.Words.{Among, Distinct, FitsSum, Holds, LineContent, NodePtr, Records, Tree, blank}
+use Rattle.line_tree.proofs.Words.{relinked, row, sum_all, sums, tops, tree_at, with_sum}
 use Rattle.raw_nodes.proofs.MapLaws.{get_inserted, get_other, get_unmoved}
 use Rattle.raw_nodes.proofs.UpdateLaws.{insert-named, remove-named}
-use Rattle.line_tree.specs.Changes.{Among, Distinct, FitsSum, relinked, sum_all, sums}
 use Rattle.line_tree.specs.Growth.{HasNoParent, NewLine, NewRoot, names_of}
 use Rattle.line_tree.specs.Raising.{Becomes}
-use Rattle.line_tree.specs.Shape.{Holds, tree_at}
-use Rattle.line_tree.specs.Trees.{Tree, tops}
 use Rattle.line_tree.proofs.AmongLaws.{among-cases, among-left, among-right}
 use Rattle.line_tree.proofs.BuildLaws.{built}
 use Rattle.line_tree.proofs.DistinctLaws.{distinct-append, distinct-apart, distinct-left, distinct-right}

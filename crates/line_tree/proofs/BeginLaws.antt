@@ -5,12 +5,9 @@ use Rattle.std.specs.FinMap as finite
 use Rattle.std.specs.Option.{option_map}
 use Rattle.std.proofs.lemmas.List.{take-append-drop}
 use Rattle.std.proofs.lemmas.Option.{same_Some, slice_get_within}
-use Rattle.line_tree.proofs.Words.{NodePtr, Records, kids}
+use Rattle.line_tree.proofs.Words.{IsTree, Named, NodePtr, Records, kids, lines_in, sum_all, total}
 use Rattle.line_tree.specs.Aims.{characters-add, characters_behind, lines-add, nothing-adds}
-use Rattle.line_tree.specs.Changes.{sum_all}
 use Rattle.line_tree.specs.Places.{Begins, IsChild, IsLineAt, characters_before}
-use Rattle.line_tree.specs.Shape.{IsTree, lines_in}
-use Rattle.line_tree.specs.Trees.{Named, total}
 use Rattle.line_tree.specs.declared.aims.CharactersBefore.{CharactersBefore}
 use Rattle.line_tree.proofs.PlaceLaws.{child-parent, child-slot, line-within, named_line, through}
 use Rattle.line_tree.proofs.SearchLaws.{Passes, arrives-before, passes-line, passes-start, passes-step, wide-all}

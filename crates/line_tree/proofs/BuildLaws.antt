@@ -3,16 +3,15 @@ use Rattle.std.proofs.Common.{◌≡◌, ℕ, zero, suc, ◌-◌, inl, inr, List
 use Rattle.std.proofs.Common.{ap, ◌∙◌, subst, ◌≢◌, IsSome, Option, None, Some}
 use Rattle.std.specs.FinMap as finite
 use Rattle.std.specs.List.{AllByRecursion, filter_map}
-use Rattle.line_tree.proofs.Words.{NodePtr, Record, Records, kids, kids_of, plus, row, update, with_child, with_parent}
-use Rattle.line_tree.proofs.Words.{with_sum}
+use Rattle.line_tree.proofs.Words.{Among, CanFill, Distinct, Holds, IsNode, IsTree, Links, NodePtr, Record, Records}
+use Rattle.line_tree.proofs.Words.{Tree, inner, kids, kids_of, line_of, lines, link_one, names, plus, refilled}
+use Rattle.line_tree.proofs.Words.{relinked, row, sum_all, sum_at, sums, tops, total, tree_at, update, with_child}
+use Rattle.line_tree.proofs.Words.{with_parent, with_sum}
 use Rattle.raw_nodes.proofs.MapLaws.{some_of}
 use Rattle.raw_nodes.proofs.PlaceLaws.{same_or_other}
 use Rattle.raw_nodes.proofs.RowLaws.{somes, somes-row}
 use Rattle.raw_nodes.proofs.UpdateLaws.{get-update-other}
-use Rattle.line_tree.specs.Changes.{Among, CanFill, Distinct, link_one, refilled, relinked, sum_all, sums}
 use Rattle.line_tree.specs.Growth.{lines_of, names_of}
-use Rattle.line_tree.specs.Shape.{Holds, IsNode, IsTree, Links, line_of, sum_at, tree_at}
-use Rattle.line_tree.specs.Trees.{Tree, inner, lines, names, tops, total}
 use Rattle.line_tree.proofs.AmongLaws.{among-left, among-right}
 use Rattle.line_tree.proofs.DistinctLaws.{distinct-right}
 use Rattle.line_tree.proofs.FillLaws.{at-update, refilled-other, relinked-other, relinked-row, relinked-sums}

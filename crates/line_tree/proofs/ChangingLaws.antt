@@ -8,16 +8,15 @@ use Rattle.std.proofs.lemmas.List.{length-map, map-append}
 use Rattle.std.proofs.lemmas.List.Concat.{flat_map-append}
 use Rattle.std.proofs.lemmas.Option.{none-some, same_Some}
 use Rattle.toggle_sums.specs.CountLaws.{plus-associative, plus-commutative, plus-no_text}
-use Rattle.line_tree.proofs.Words.{Count, LineContent, NodePtr, Record, Records, kids, kids_of, line_count, plus, row}
-use Rattle.line_tree.proofs.Words.{update, with_line, with_sum}
+use Rattle.line_tree.proofs.Words.{Among, Count, Distinct, FitsSum, Holds, IsBalanced, IsBalancedRoot, LineContent}
+use Rattle.line_tree.proofs.Words.{Links, Named, NodePtr, Record, Records, Tree, kids, kids_of, least_below_root}
+use Rattle.line_tree.proofs.Words.{line_count, line_of, lines, lines_in, names, plus, row, sum_at, sum_of, sums, tops}
+use Rattle.line_tree.proofs.Words.{total, tree_at, update, with_line, with_sum}
 use Rattle.raw_nodes.proofs.PlaceLaws.{same_or_other}
 use Rattle.raw_nodes.proofs.UpdateLaws.{get-update, get-update-other, len-update}
-use Rattle.line_tree.specs.Changes.{Among, Distinct, FitsSum, sums}
 use Rattle.line_tree.specs.Finds.{Finds, HasRow}
 use Rattle.line_tree.specs.Growth.{HasNoParent, StandsAlone, lines_of, names_of}
-use Rattle.line_tree.specs.Shape.{Holds, Links, line_of, lines_in, sum_at, sum_of, tree_at}
 use Rattle.line_tree.specs.Taking.{CanChange, Changes, Linked, SameLinks, changed, linked}
-use Rattle.line_tree.specs.Trees.{IsBalanced, IsBalancedRoot, Named, Tree, least_below_root, lines, names, tops, total}
 use Rattle.line_tree.specs.declared.find.Found.{Found}
 use Rattle.line_tree.proofs.AmongLaws.{among-left}
 use Rattle.line_tree.proofs.BuildLaws.{sum-trees, tree-is}

@@ -9,14 +9,12 @@ use Rattle.std.proofs.Common.{◌≡◌, ℕ, zero, suc, ◌+◌, ◌-◌, ◌<�
 use Rattle.std.proofs.Common.{Option, Some}
 use Rattle.std.specs.FinMap as finite
 use Rattle.std.proofs.lemmas.Option.{same_Some}
-use Rattle.line_tree.proofs.Words.{Count, LineContent, NodePtr, Records}
+use Rattle.line_tree.proofs.Words.{Count, Distinct, IsTree, LineContent, NodePtr, Records, lines_at, lines_in, names}
+use Rattle.line_tree.proofs.Words.{tree_at}
 use Rattle.raw_nodes.proofs.MapLaws.{at_some}
-use Rattle.line_tree.specs.Changes.{Distinct}
 use Rattle.line_tree.specs.Finds.{Finds}
 use Rattle.line_tree.specs.Places.{IsChild, IsLineAt, Sits, lines_before}
-use Rattle.line_tree.specs.Shape.{IsTree, lines_at, lines_in, tree_at}
 use Rattle.line_tree.specs.Taking.{CanChange, Changes}
-use Rattle.line_tree.specs.Trees.{names}
 use Rattle.line_tree.specs.declared.find.Found.{Found}
 use Rattle.line_tree.proofs.BehindLaws.{at-root, child-within, led}
 use Rattle.line_tree.proofs.ChangingLaws.{named-as-linked, record-linked}

@@ -7,13 +7,12 @@ use Rattle.std.specs.Option.{option_map}
 use Rattle.std.proofs.lemmas.List.{at_drop_more, get_or-set_other}
 use Rattle.std.proofs.lemmas.List.Edits.{length-remove}
 use Rattle.std.proofs.lemmas.Option.{slice_get-get_or, slice_get_past, slice_get_within}
-use Rattle.line_tree.proofs.Words.{NodePtr, Record, Records, kids, row, update, with_child, with_parent}
+use Rattle.line_tree.proofs.Words.{Among, CanFill, Links, NodePtr, Record, Records, kids, link_one, relinked, row}
+use Rattle.line_tree.proofs.Words.{update, with_child, with_parent}
 use Rattle.raw_nodes.proofs.MapLaws.{at_some}
 use Rattle.raw_nodes.proofs.RowLaws.{get_or-row, length-row}
 use Rattle.raw_nodes.proofs.UpdateLaws.{get-update, get-update-other}
-use Rattle.line_tree.specs.Changes.{Among, CanFill, link_one, relinked}
 use Rattle.line_tree.specs.Finds.{HasRow}
-use Rattle.line_tree.specs.Shape.{Links}
 use Rattle.line_tree.proofs.AmongLaws.{get-among}
 use Rattle.line_tree.proofs.EvenLaws.{kept-remove, remove-above}
 use Rattle.line_tree.proofs.KeptLaws.{drop-front, empty-same}

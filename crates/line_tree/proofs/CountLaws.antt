@@ -4,10 +4,8 @@ use Rattle.std.proofs.Common.{length-append, IsSome, Option, None, Some}
 use Rattle.std.specs.List.{AllByRecursion}
 use Rattle.std.proofs.Math.Nat.{mul-le-mul_right, pow-succ'}
 use mathlib.Core.Bool.{false≢true}
-use Rattle.line_tree.proofs.Words.{LineContent, NodePtr, Records}
+use Rattle.line_tree.proofs.Words.{Holds, IsBalanced, IsBalancedRoot, LineContent, NodePtr, Records, Tree, lines, names}
 use Rattle.line_tree.specs.Growth.{lines_of, names_of}
-use Rattle.line_tree.specs.Shape.{Holds}
-use Rattle.line_tree.specs.Trees.{IsBalanced, IsBalancedRoot, Tree, lines, names}
 
 pub one-line : (p : NodePtr) (o : Option LineContent) → IsSome o → length (lines zero (p, o)) ≡ 1
 one-line p None s = absurd (false≢true s)

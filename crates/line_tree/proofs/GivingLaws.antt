@@ -6,16 +6,13 @@ use Rattle.std.proofs.lemmas.List.{take_more}
 use Rattle.std.proofs.lemmas.Option.{get_or_from_slice_get, none-some, same_Some, slice_get_within}
 use Rattle.text_model.specs.Splices.{removed}
 use Rattle.raw_nodes.specs.Chain.{rooms_for}
-use Rattle.line_tree.proofs.Words.{NodePtr, Record, Records, kids}
+use Rattle.line_tree.proofs.Words.{Among, IsTree, NodePtr, Record, Records, kids, lines, lines_in, names, tree_at}
 use Rattle.raw_nodes.proofs.MapLaws.{at_some, get_removed, get_unmoved, some_of}
 use Rattle.raw_nodes.proofs.PlaceLaws.{same_or_other}
-use Rattle.line_tree.specs.Changes.{Among}
 use Rattle.line_tree.specs.Giving.{Without}
 use Rattle.line_tree.specs.Growth.{StandsAlone, names_of}
 use Rattle.line_tree.specs.Places.{IsLineAt, Sits}
-use Rattle.line_tree.specs.Shape.{IsTree, lines_in, tree_at}
 use Rattle.line_tree.specs.Shrinking.{Cleans, Lowers, Removes}
-use Rattle.line_tree.specs.Trees.{lines, names}
 use Rattle.line_tree.proofs.AmongLaws.{among-cases, among-get, among-left, among-right, among-take}
 use Rattle.line_tree.proofs.LowerLaws.{branch-after, gone-of, taken-out}
 use Rattle.line_tree.proofs.PlaceLaws.{linked, sits}

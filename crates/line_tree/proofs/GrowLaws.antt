@@ -7,12 +7,9 @@ use Rattle.std.proofs.lemmas.List.{append-nil, drop-append-le, take-append-drop,
 use Rattle.std.proofs.lemmas.List.Concat.{flat_map-append}
 use Rattle.std.proofs.lemmas.Option.{none-some}
 use mathlib.Core.Bool.{false≢true}
-use Rattle.line_tree.proofs.Words.{LineContent, NodePtr, Records}
+use Rattle.line_tree.proofs.Words.{Among, Distinct, Holds, LineContent, NodePtr, Records, Tree, lines, names, tops}
 use Rattle.raw_nodes.proofs.MapLaws.{some_of}
-use Rattle.line_tree.specs.Changes.{Among, Distinct}
 use Rattle.line_tree.specs.Growth.{Grows, lines_of, names_of, with_line}
-use Rattle.line_tree.specs.Shape.{Holds}
-use Rattle.line_tree.specs.Trees.{Tree, lines, names, tops}
 use Rattle.line_tree.proofs.AmongLaws.{among-cases, among-left, among-right}
 use Rattle.line_tree.proofs.DistinctLaws.{distinct-apart, distinct-more, distinct-replace, distinct-right}
 use Rattle.line_tree.proofs.FrameLaws.{all-same, names-all-held, tops-among}

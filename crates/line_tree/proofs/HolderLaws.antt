@@ -6,7 +6,7 @@ use Rattle.std.specs.FinMap as finite
 use Rattle.std.proofs.lemmas.Option.{none-some, same_Some}
 use mathlib.Core.Bool.{false≢true}
 use Rattle.text_model.specs.declared.places.Place.{Place}
-use Rattle.line_tree.proofs.Words.{LineContent, NodePtr}
+use Rattle.line_tree.proofs.Words.{LineContent, Named, NodePtr, contents}
 use Rattle.line_lists.specs.Lists.{AreRows, has_mark, has_marks, next_line}
 use Rattle.line_lists.specs.Texts.{whole}
 use Rattle.line_lists.proofs.FindLaws.{drop_after}
@@ -15,7 +15,6 @@ use Rattle.line_lists.proofs.RowLaws.{free-parts}
 use Rattle.line_lists.proofs.SearchRows.{FailFrom, next-found, next-none}
 use Rattle.line_tree.specs.MarkTable.{AreBare, IsMarkedBelow, holder, lines_without}
 use Rattle.line_tree.specs.Places.{IsLineAt}
-use Rattle.line_tree.specs.Trees.{Named, contents}
 use Rattle.line_tree.proofs.NearestLaws.{long}
 
 -- ---- the first of two

@@ -9,13 +9,12 @@ use Rattle.std.proofs.lemmas.List.Concat.{flat_map-append}
 use Rattle.std.proofs.lemmas.List.Edits.{length-insert}
 use Rattle.std.proofs.lemmas.Option.{none-some, same_Some, slice_get_within}
 use mathlib.Core.Bool.{false≢true}
-use Rattle.line_tree.proofs.Words.{Count, LineContent, NodePtr, Records, kids, kids_of, plus, row, with_sum}
+use Rattle.line_tree.proofs.Words.{Among, CanPut, Count, Distinct, FitsSum, Holds, IsBalanced, IsTree, LineContent}
+use Rattle.line_tree.proofs.Words.{Links, NodePtr, Puts, Records, Tree, inner, kids, kids_of, lines, lines_in, names}
+use Rattle.line_tree.proofs.Words.{plus, resummed, row, sum_all, sum_at, sum_of, sums, tops, total, tree_at, with_sum}
 use Rattle.raw_nodes.proofs.PlaceLaws.{same_or_other}
-use Rattle.line_tree.specs.Changes.{Among, CanPut, Distinct, FitsSum, Puts, resummed, sum_all, sums}
 use Rattle.line_tree.specs.Finds.{HasRow, Leads, lines_below}
 use Rattle.line_tree.specs.Growth.{CanInsert, Grows, Inserts, KeepsLink, KeepsWide, lines_of, names_of, trees}
-use Rattle.line_tree.specs.Shape.{Holds, IsTree, Links, lines_in, sum_at, tree_at, sum_of}
-use Rattle.line_tree.specs.Trees.{IsBalanced, Tree, inner, lines, names, tops, total}
 use Rattle.line_tree.specs.declared.find.Found.{Found}
 use Rattle.line_tree.proofs.AmongLaws.{among-get, among-left, among-right}
 use Rattle.line_tree.proofs.BuildLaws.{sum-kids, sum-trees}

@@ -3,10 +3,8 @@ use Rattle.std.proofs.Common.{◌≡◌, ℕ, zero, suc, List, refl, sym, ap, �
 use Rattle.std.specs.FinMap as finite
 use Rattle.std.specs.Option.{option_map}
 use Rattle.std.proofs.lemmas.Option.{none-some, same_Some}
-use Rattle.line_tree.proofs.Words.{LineContent, NodePtr, Record, Records, kids}
+use Rattle.line_tree.proofs.Words.{IsTree, LineContent, Named, NodePtr, Record, Records, kids, line_of, lines, lines_in}
 use Rattle.line_tree.specs.Places.{IsLineAt}
-use Rattle.line_tree.specs.Shape.{IsTree, line_of, lines_in}
-use Rattle.line_tree.specs.Trees.{Named, lines}
 use Rattle.line_tree.proofs.PlaceLaws.{named_line, through}
 use Rattle.line_tree.proofs.TreeLaws.{child-tree}
 

@@ -8,17 +8,15 @@ use Rattle.std.specs.Ordering.{nat_cmp}
 use Rattle.std.proofs.Math.Seq.{drop-append_seam, take-append_seam}
 use Rattle.std.proofs.lemmas.List.{append_assoc, drop-map, length-drop, length-take-le, map-append, take-map}
 use Rattle.std.proofs.lemmas.Option.{none-some, same_Some, slice_get-map, slice_get_within}
-use Rattle.line_tree.proofs.Words.{Count, LineContent, NodePtr, plain_line, plus}
+use Rattle.line_tree.proofs.Words.{Count, FitsSum, LineContent, Named, NodePtr, contents, plain_line, plus, total}
 use Rattle.line_lists.specs.Lists.{AreLines, Holds, IsCounted, NumbersBelow, count_of, has_mark, next_line, spliced}
 use Rattle.line_lists.specs.Texts.{whole}
 use Rattle.line_lists.proofs.CountRows.{count-characters, count-lines}
 use Rattle.line_lists.proofs.SearchRows.{FailFrom, NextAt}
 use Rattle.line_lists.proofs.VecLaws.{new-lines}
-use Rattle.line_tree.specs.Changes.{FitsSum}
 use Rattle.line_tree.specs.Locating.{IsPlaceAt}
 use Rattle.line_tree.specs.MarkTable.{IsTable, holder, lines_without, noted}
 use Rattle.line_tree.specs.Places.{IsLineAt}
-use Rattle.line_tree.specs.Trees.{Named, contents, total}
 use Rattle.line_tree.proofs.HolderLaws.{not-first}
 use Rattle.line_tree.proofs.NearestLaws.{long, next-is, next-no}
 use Rattle.line_tree.proofs.PrefixLaws.{count-contents, count-first}

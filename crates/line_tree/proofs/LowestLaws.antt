@@ -5,11 +5,10 @@ use Rattle.std.specs.FinMap as finite
 use Rattle.std.specs.List.{AllByRecursion, sum_by}
 use Rattle.std.proofs.lemmas.List.Sums.{sum_by-cons}
 use mathlib.Core.Bool.{false≢true}
-use Rattle.line_tree.proofs.Words.{LineContent, NodePtr, Records, kids}
+use Rattle.line_tree.proofs.Words.{Holds, IsTree, LineContent, NodePtr, Records, kids, line_of, lines, lines_at}
+use Rattle.line_tree.proofs.Words.{tree_at}
 use Rattle.line_tree.specs.Finds.{lines_below}
 use Rattle.line_tree.specs.Places.{lines_before}
-use Rattle.line_tree.specs.Shape.{Holds, IsTree, line_of, lines_at, tree_at}
-use Rattle.line_tree.specs.Trees.{lines}
 use Rattle.line_tree.proofs.TreeLaws.{child-tree, count-tree}
 
 -- a line is one line

@@ -12,15 +12,14 @@ use Rattle.std.proofs.lemmas.List.{length-map, take_all}
 use Rattle.std.proofs.lemmas.List.Sums.{sum_by-take-le}
 use mathlib.Core.Bool.{false≢true}
 use Rattle.toggle_sums.specs.CountLaws.{plus-no_text}
-use Rattle.line_tree.proofs.Words.{Count, LineContent, NodePtr, Records, kids, line_count, plain_line, plus}
+use Rattle.line_tree.proofs.Words.{Count, IsTree, LineContent, Named, NodePtr, Records, contents, kids, line_count}
+use Rattle.line_tree.proofs.Words.{line_of, lines, lines_at, lines_in, plain_line, plus, total}
 use Rattle.line_lists.specs.Lists.{next_line, previous_line}
 use Rattle.line_lists.proofs.ListLaws.{no-marks, some-marks}
 use Rattle.line_lists.proofs.SearchRows.{FailFrom, NextAt, PreviousAt, line_at, next-found, next-none, previous-found}
 use Rattle.line_lists.proofs.SearchRows.{previous-none}
 use Rattle.line_tree.specs.Nearest.{passes, shows}
 use Rattle.line_tree.specs.Places.{lines_before}
-use Rattle.line_tree.specs.Shape.{IsTree, line_of, lines_at, lines_in}
-use Rattle.line_tree.specs.Trees.{Named, contents, lines, total}
 use Rattle.line_tree.specs.declared.nearest.Wanted.{Wanted}
 use Rattle.line_tree.specs.declared.nearest.Wanted.TheVariants.{Toggle, Mark}
 use Rattle.line_tree.proofs.RowLaws.{step_yes}

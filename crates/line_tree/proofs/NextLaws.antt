@@ -5,10 +5,9 @@ use Rattle.std.specs.FinMap as finite
 use Rattle.std.specs.List.{AllByRecursion, sum_by}
 use Rattle.std.proofs.lemmas.List.{take_all}
 use Rattle.std.proofs.lemmas.Option.{none-some, same_Some, slice_get_within}
-use Rattle.line_tree.proofs.Words.{NodePtr, Records, kids}
+use Rattle.line_tree.proofs.Words.{IsBalanced, IsBalancedRoot, IsTree, Named, NodePtr, Records, Tree, kids, lines_at}
+use Rattle.line_tree.proofs.Words.{lines_in, tree_at}
 use Rattle.line_tree.specs.Places.{IsChild, IsLineAt, Sits, lines_before}
-use Rattle.line_tree.specs.Shape.{IsTree, lines_at, lines_in, tree_at}
-use Rattle.line_tree.specs.Trees.{IsBalanced, IsBalancedRoot, Named, Tree}
 use Rattle.line_tree.specs.Walks.{IsFirstLine}
 use Rattle.line_tree.specs.declared.walk.Subtree.{Subtree}
 use Rattle.line_tree.proofs.CountLaws.{least-lines, one-line, pow-more}

@@ -2,12 +2,10 @@
 use Rattle.std.proofs.Common.{◌≡◌, ℕ, suc, [], ◌∷◌, ◌+◌, ◌-◌, ◌≤◌, ◌++◌, cond, List, length, take, drop, refl, sym, ap}
 use Rattle.std.proofs.Common.{◌∙◌, subst, arith, append_assoc, option_map, slice_get, Option, None, Some}
 use Rattle.toggle_sums.specs.CountLaws.{plus-no_text}
-use Rattle.line_tree.proofs.Words.{LineContent, NodePtr, line_count, plus}
+use Rattle.line_tree.proofs.Words.{FitsSum, LineContent, Named, NodePtr, contents, line_count, plus, total}
 use Rattle.line_lists.specs.Lists.{AreLines, IsCounted, NumbersBelow, count_of, has_mark, spliced}
-use Rattle.line_tree.specs.Changes.{FitsSum}
 use Rattle.line_tree.specs.MarkTable.{AreBare, IsTable, holder, lines_without, noted}
 use Rattle.line_tree.specs.Taking.{changed}
-use Rattle.line_tree.specs.Trees.{Named, contents, total}
 use Rattle.line_tree.proofs.ChangingLaws.{changed-at}
 use Rattle.line_tree.proofs.HolderLaws.{none-out}
 use Rattle.line_tree.proofs.ListedLaws.{Comes, comes-contents, comes-others, fits-counted}

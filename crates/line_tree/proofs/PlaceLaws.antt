@@ -7,11 +7,10 @@ use Rattle.std.specs.Option.{option_map}
 use Rattle.std.proofs.lemmas.Bool.{cases_lt}
 use Rattle.std.proofs.lemmas.List.Sums.{sum_by-cons}
 use Rattle.std.proofs.lemmas.Option.{none-some, same_Some, slice_get_within}
-use Rattle.line_tree.proofs.Words.{LineContent, NodePtr, Records, kids}
+use Rattle.line_tree.proofs.Words.{Holds, IsLinked, IsTree, LineContent, Links, Named, NodePtr, Records, kids, line_of}
+use Rattle.line_tree.proofs.Words.{lines, lines_at, lines_in, tree_at}
 use Rattle.raw_nodes.proofs.MapLaws.{at_some}
 use Rattle.line_tree.specs.Places.{IsChild, IsLineAt, Sits, lines_before}
-use Rattle.line_tree.specs.Shape.{Holds, IsLinked, IsTree, Links, line_of, lines_at, lines_in, tree_at}
-use Rattle.line_tree.specs.Trees.{Named, lines}
 use Rattle.line_tree.proofs.TreeLaws.{child-tree, count-tree, get-left, get-right, tops-tree_at}
 
 -- ---- links

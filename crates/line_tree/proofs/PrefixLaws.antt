@@ -5,11 +5,9 @@ use Rattle.std.specs.List.{AllByRecursion, flat_map}
 use Rattle.std.proofs.lemmas.List.{take-map, take_all, take_more}
 use Rattle.std.proofs.lemmas.Option.{get_or_from_slice_get, slice_get_within}
 use Rattle.toggle_sums.specs.CountLaws.{plus-no_text}
-use Rattle.line_tree.proofs.Words.{Count, NodePtr, Records, kids, line_count, plus}
+use Rattle.line_tree.proofs.Words.{Count, Holds, IsTree, Named, NodePtr, Records, contents, kids, line_count, lines}
+use Rattle.line_tree.proofs.Words.{lines_in, plus, sum_all, sum_at, total, tree_at}
 use Rattle.line_lists.specs.Lists.{count_of}
-use Rattle.line_tree.specs.Changes.{sum_all}
-use Rattle.line_tree.specs.Shape.{Holds, IsTree, lines_in, sum_at, tree_at}
-use Rattle.line_tree.specs.Trees.{Named, contents, lines, total}
 use Rattle.line_tree.proofs.BuildLaws.{sum-trees}
 use Rattle.line_tree.proofs.FillLaws.{sum_all-append}
 use Rattle.line_tree.proofs.RowLaws.{past}

@@ -7,12 +7,11 @@ use Rattle.std.specs.List.{count_by, insert}
 use Rattle.std.proofs.lemmas.List.{take-append-drop, take-append-le}
 use Rattle.std.proofs.lemmas.List.Sums.{sum_by-cons}
 use Rattle.std.proofs.lemmas.Option.{none-some}
-use Rattle.line_tree.proofs.Words.{NodePtr, Records, blank, kids, kids_of, plus, row}
+use Rattle.line_tree.proofs.Words.{Among, CanFill, CanPut, FitsSum, Links, NodePtr, Puts, Records, Stay, blank, kids}
+use Rattle.line_tree.proofs.Words.{kids_of, plus, refilled, relinked, row, sum_all, sum_at, sum_of, sums}
 use Rattle.raw_nodes.proofs.MapLaws.{at_some, get_inserted, get_other, kept_insert, some_of}
 use Rattle.raw_nodes.proofs.RowLaws.{length-row}
-use Rattle.line_tree.specs.Changes.{Among, CanFill, CanPut, FitsSum, Puts, Stay, refilled, relinked, sum_all, sums}
 use Rattle.line_tree.specs.Finds.{HasRow}
-use Rattle.line_tree.specs.Shape.{Links, sum_at, sum_of}
 use Rattle.line_tree.proofs.AmongLaws.{among-drop, among-get, among-insert, among-take}
 use Rattle.line_tree.proofs.FillLaws.{refilled-other, refilled-sum, sum_all-append, sum_all-same, sums-row}
 use Rattle.line_tree.proofs.FrameLaws.{links-same}

@@ -5,12 +5,10 @@ use Rattle.std.specs.FinMap as finite
 use Rattle.std.specs.List.{AllByRecursion}
 use Rattle.std.proofs.lemmas.List.{append-nil, length-map, map-append, take-append-drop}
 use Rattle.std.proofs.lemmas.List.Concat.{flat_map-append}
-use Rattle.line_tree.proofs.Words.{Count, NodePtr, Records, plus}
-use Rattle.line_tree.specs.Changes.{Among, Distinct, FitsSum, sum_all}
+use Rattle.line_tree.proofs.Words.{Among, Count, Distinct, FitsSum, Holds, NodePtr, Records, Tree, plus, sum_all}
+use Rattle.line_tree.proofs.Words.{sum_of, tops, tree_at}
 use Rattle.line_tree.specs.Growth.{HasNoParent, NewRoot, names_of}
 use Rattle.line_tree.specs.Raising.{Becomes, CanRaise, HasKids, Raises, below_all, trees_at}
-use Rattle.line_tree.specs.Shape.{Holds, sum_of, tree_at}
-use Rattle.line_tree.specs.Trees.{Tree, tops}
 use Rattle.line_tree.proofs.AmongLaws.{among-cases, among-left}
 use Rattle.line_tree.proofs.BecomeLaws.{both, node-becomes, node-loose}
 use Rattle.line_tree.proofs.BuildLaws.{trees-is}

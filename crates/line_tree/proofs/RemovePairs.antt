@@ -8,15 +8,14 @@ use Rattle.std.proofs.lemmas.Bool.{cases_eq}
 use Rattle.std.proofs.lemmas.List.{length-map}
 use Rattle.std.proofs.lemmas.List.Edits.{length-remove}
 use Rattle.std.proofs.lemmas.Option.{none-some, same_Some, slice_get_within}
-use Rattle.line_tree.proofs.Words.{NodePtr, Records, kids, kids_of, plus, row}
+use Rattle.line_tree.proofs.Words.{Among, CanFill, Distinct, Holds, IsBalanced, Links, Mends, Merges, NodePtr, Records}
+use Rattle.line_tree.proofs.Words.{Shares, Tree, kids, kids_of, lines_in, names, plus, refilled, row, sum_all, sum_at}
+use Rattle.line_tree.proofs.Words.{sum_of, tops, total, tree_at}
 use Rattle.raw_nodes.proofs.MapLaws.{get_removed, get_unmoved}
 use Rattle.raw_nodes.proofs.PlaceLaws.{same_or_other}
-use Rattle.line_tree.specs.Changes.{Among, CanFill, Distinct, Mends, Merges, Shares, refilled, sum_all}
 use Rattle.line_tree.specs.Finds.{Finds, HasRow}
 use Rattle.line_tree.specs.Growth.{IsWide, lines_of, names_of}
-use Rattle.line_tree.specs.Shape.{Holds, Links, lines_in, sum_at, sum_of, tree_at}
 use Rattle.line_tree.specs.Shrinking.{CanMend, CanRemove, Cleans, Removes, Settles, Shrinks, Turns}
-use Rattle.line_tree.specs.Trees.{IsBalanced, Tree, names, tops, total}
 use Rattle.line_tree.specs.declared.find.Found.{Found}
 use Rattle.line_tree.proofs.AmongLaws.{among-or, get-among}
 use Rattle.line_tree.proofs.BuildLaws.{built, sum-trees, tree-is}

@@ -7,14 +7,13 @@ use Rattle.std.proofs.lemmas.List.{length-map, map-append}
 use Rattle.std.proofs.lemmas.List.Concat.{flat_map-append}
 use Rattle.std.proofs.lemmas.List.Edits.{length-remove}
 use Rattle.std.proofs.lemmas.Option.{none-some, same_Some, slice_get-map, slice_get_within}
-use Rattle.line_tree.proofs.Words.{LineContent, NodePtr, Records, kids, kids_of, plus, row}
+use Rattle.line_tree.proofs.Words.{Among, CanFill, Distinct, FitsSum, Holds, IsBalanced, IsTree, LineContent, Links}
+use Rattle.line_tree.proofs.Words.{NodePtr, Records, Tree, inner, kids, kids_of, lines, lines_in, names, plus, refilled}
+use Rattle.line_tree.proofs.Words.{row, sum_all, sum_at, tops, total, tree_at}
 use Rattle.raw_nodes.proofs.PlaceLaws.{same_or_other}
-use Rattle.line_tree.specs.Changes.{Among, CanFill, Distinct, FitsSum, refilled, sum_all}
 use Rattle.line_tree.specs.Finds.{Finds, HasRow}
 use Rattle.line_tree.specs.Growth.{IsWide, KeepsLink, lines_of, names_of}
-use Rattle.line_tree.specs.Shape.{Holds, IsTree, Links, lines_in, sum_at, tree_at}
 use Rattle.line_tree.specs.Shrinking.{CanRemove, Cleans, Removes, Shrinks}
-use Rattle.line_tree.specs.Trees.{IsBalanced, Tree, inner, lines, names, tops, total}
 use Rattle.line_tree.specs.declared.find.Found.{Found}
 use Rattle.line_tree.proofs.AmongLaws.{among-cases, among-get, among-left, among-right}
 use Rattle.line_tree.proofs.BuildLaws.{sum-kids, tree-is, trees-is}

@@ -12,13 +12,11 @@ use Rattle.std.proofs.Common.{◌≡◌, ℕ, zero, suc, ◌+◌, ◌-◌, ◌<�
 use Rattle.std.proofs.Common.{ap, ◌∙◌, subst, arith}
 use Rattle.std.specs.FinSet as set
 use Rattle.toggle_sums.specs.CountLaws.{plus-commutative, union-associative, union-commutative, union-self}
-use Rattle.line_tree.proofs.Words.{Count, IsWithin, LineContent, NodePtr, Records, kids, line_count, no_text, plus, row}
-use Rattle.line_tree.specs.Changes.{FitsSum, resummed, sums}
+use Rattle.line_tree.proofs.Words.{Count, FitsSum, IsWithin, LineContent, Named, NodePtr, Records, kids, line_count}
+use Rattle.line_tree.proofs.Words.{lines_in, no_text, plus, resummed, row, sum_at, sums, total}
 use Rattle.line_tree.specs.Finds.{Finds, HasRow}
 use Rattle.line_tree.specs.Replacing.{PutsOver}
-use Rattle.line_tree.specs.Shape.{lines_in, sum_at}
 use Rattle.line_tree.specs.Taking.{CanChange, Changes, changed}
-use Rattle.line_tree.specs.Trees.{Named, total}
 use Rattle.line_tree.specs.declared.find.Found.{Found}
 use Rattle.line_tree.proofs.ChangingLaws.{can-child, changes-line, changes-node, lines-changed, node-row, node-sum}
 use Rattle.line_tree.proofs.ChangingLaws.{row-sum, sum-changed, was-parts}

@@ -7,13 +7,11 @@ use Rattle.std.proofs.lemmas.List.{append-nil, take_at}
 use Rattle.std.proofs.lemmas.List.Concat.{flat_map-append}
 use Rattle.std.proofs.lemmas.List.Sums.{sum_by-cons}
 use Rattle.toggle_sums.specs.CountLaws.{plus-no_text}
-use Rattle.line_tree.proofs.Words.{Count, LineContent, NodePtr, Records, kids, line_count, plus}
+use Rattle.line_tree.proofs.Words.{Count, Holds, IsTree, LineContent, Named, NodePtr, Records, kids, line_count}
+use Rattle.line_tree.proofs.Words.{line_of, lines, lines_in, plus, sum_all, sum_at, total, tree_at}
 use Rattle.line_tree.specs.Aims.{AddsUp}
-use Rattle.line_tree.specs.Changes.{sum_all}
 use Rattle.line_tree.specs.Places.{IsLineAt}
 use Rattle.line_tree.specs.Searches.{Arrives}
-use Rattle.line_tree.specs.Shape.{Holds, IsTree, line_of, lines_in, sum_at, tree_at}
-use Rattle.line_tree.specs.Trees.{Named, lines, total}
 use Rattle.line_tree.specs.declared.search.Arrived.{Arrived}
 use Rattle.line_tree.proofs.FillLaws.{sum_all-append}
 use Rattle.line_tree.proofs.GrowLaws.{all-left}

@@ -6,12 +6,10 @@ use Rattle.std.proofs.lemmas.List.{append-nil, drop-append-le, drop_all, drop_at
 use Rattle.std.proofs.lemmas.List.Concat.{flat_map-append}
 use Rattle.text_model.specs.Splices.{removed}
 use Rattle.text_model.proofs.SpliceLaws.{removed-append_left, removed-append_right}
-use Rattle.line_tree.proofs.Words.{NodePtr, Records, row}
-use Rattle.line_tree.specs.Changes.{Among, CanFill, Distinct, refilled}
+use Rattle.line_tree.proofs.Words.{Among, CanFill, Distinct, Holds, IsTree, NodePtr, Records, Tree, lines, lines_in}
+use Rattle.line_tree.proofs.Words.{names, refilled, row, tops, tree_at}
 use Rattle.line_tree.specs.Growth.{lines_of, names_of}
-use Rattle.line_tree.specs.Shape.{Holds, IsTree, lines_in, tree_at}
 use Rattle.line_tree.specs.Shrinking.{Shrinks, Turns}
-use Rattle.line_tree.specs.Trees.{Tree, lines, names, tops}
 use Rattle.line_tree.proofs.AmongLaws.{among-left, among-right}
 use Rattle.line_tree.proofs.BuildLaws.{built}
 use Rattle.line_tree.proofs.DistinctLaws.{distinct-apart, distinct-replace, distinct-right}

@@ -9,16 +9,14 @@ use Rattle.std.proofs.lemmas.List.{append-nil, drop-drop, length-drop, length-ma
 use Rattle.std.proofs.lemmas.List.{take-append-drop, take-append-le, take-take}
 use Rattle.std.proofs.lemmas.List.Edits.{insert-append_left, insert_end, remove-append_right}
 use Rattle.toggle_sums.specs.CountLaws.{no_text-plus}
-use Rattle.line_tree.proofs.Words.{Count, LineContent, NodePtr, line_count, no_text, plus}
+use Rattle.line_tree.proofs.Words.{Count, FitsSum, LineContent, Named, NodePtr, line_count, no_text, plus, total}
 use Rattle.line_lists.specs.Lists.{count_of}
 use Rattle.line_lists.proofs.CountRows.{count-append, count-lines}
-use Rattle.line_tree.specs.Changes.{FitsSum}
 use Rattle.std.specs.Option.{option_map}
 use Rattle.line_tree.specs.Places.{IsLineAt}
 use Rattle.line_tree.specs.Room.{PutsRoom}
 use Rattle.line_tree.specs.Taking.{changed}
 use Rattle.line_tree.specs.TreeState.{TreeState}
-use Rattle.line_tree.specs.Trees.{Named, total}
 use Rattle.line_tree.proofs.ChangingLaws.{changed-at}
 use Rattle.line_tree.proofs.PlaceLaws.{named_line}
 use Rattle.line_tree.proofs.SumLaws.{total-append}

@@ -6,14 +6,13 @@ use Rattle.std.specs.List.{AllByRecursion}
 use Rattle.std.proofs.lemmas.List.{append-nil, length-map}
 use Rattle.std.proofs.lemmas.Option.{same_Some, slice_get_within}
 use mathlib.Core.Bool.{false≢true}
-use Rattle.line_tree.proofs.Words.{NodePtr, Records, kids, kids_of, plus, row}
-use Rattle.line_tree.specs.Changes.{Among, Distinct, FitsSum, Halves, refilled}
+use Rattle.line_tree.proofs.Words.{Among, Distinct, FitsSum, Halves, Holds, IsBalanced, IsTree, Links, NodePtr, Records}
+use Rattle.line_tree.proofs.Words.{Tree, kids, kids_of, line_of, lines_in, names, plus, refilled, row, sum_at, sum_of}
+use Rattle.line_tree.proofs.Words.{tops, total, tree_at}
 use Rattle.line_tree.specs.Growth.{CanInsert, Grows, Inserts, IsWide, lines_of, names_of, trees, with_line}
-use Rattle.line_tree.specs.Shape.{Holds, IsTree, Links, line_of, lines_in, sum_at, sum_of, tree_at}
 use Rattle.line_tree.specs.Shrinking.{Turns}
 use Rattle.line_tree.specs.Spreading.{CanSpread, IsPair, Moves, Respreads, first_part}
 use Rattle.line_tree.specs.declared.find.Found.{Found}
-use Rattle.line_tree.specs.Trees.{IsBalanced, Tree, names, tops, total}
 use Rattle.line_tree.proofs.AmongLaws.{among-or}
 use Rattle.line_tree.proofs.BuildLaws.{trees-is}
 use Rattle.line_tree.proofs.FrameLaws.{holds-same}

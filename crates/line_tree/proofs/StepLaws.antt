@@ -8,13 +8,12 @@ use Rattle.std.proofs.lemmas.List.{take-append-drop}
 use Rattle.std.proofs.lemmas.Option.{none-some, same_Some}
 use mathlib.Core.Bool.{false≢true}
 use Rattle.toggle_sums.specs.CountLaws.{plus-associative, plus-commutative}
-use Rattle.line_tree.proofs.Words.{Count, NodePtr, Record, Records, blank, kids, plus, row, with_sum}
+use Rattle.line_tree.proofs.Words.{Among, CanFill, CanPut, Count, FitsSum, IsBalanced, Links, Named, NodePtr, Puts}
+use Rattle.line_tree.proofs.Words.{Record, Records, Tree, blank, kids, lines, plus, refilled, relinked, row, sum_all}
+use Rattle.line_tree.proofs.Words.{sums, tops, total, with_sum}
 use Rattle.raw_nodes.proofs.MapLaws.{get_other, some_of}
-use Rattle.line_tree.specs.Changes.{Among, CanFill, CanPut, FitsSum, Puts, refilled, relinked, sum_all, sums}
 use Rattle.line_tree.specs.Finds.{HasRow}
 use Rattle.line_tree.specs.Growth.{Grows, IsWide, KeepsLink, KeepsWide, lines_of, names_of, parted, with_line}
-use Rattle.line_tree.specs.Shape.{Links}
-use Rattle.line_tree.specs.Trees.{IsBalanced, Named, Tree, lines, tops, total}
 use Rattle.line_tree.proofs.AmongLaws.{among-right}
 use Rattle.line_tree.proofs.BuildLaws.{sum-trees}
 use Rattle.line_tree.proofs.FillLaws.{at-update, refilled-other, relinked-row}

@@ -6,7 +6,7 @@ use Rattle.std.specs.FinMap as finite
 use Rattle.std.specs.Ordering.{eq_by_cmp, nat_cmp}
 use Rattle.std.proofs.lemmas.List.{append_assoc, map-append}
 use mathlib.Core.Bool.{false≢true}
-use Rattle.line_tree.proofs.Words.{LineContent, NodePtr}
+use Rattle.line_tree.proofs.Words.{LineContent, Named, NodePtr, contents}
 use Rattle.segments.proofs.MarkLaws.{tied_same}
 use Rattle.line_lists.specs.Edits.{without_mark}
 use Rattle.line_lists.specs.Lists.{AreLines, has_mark}
@@ -15,7 +15,6 @@ use Rattle.line_lists.proofs.FreedLaws.{same-line}
 use Rattle.line_lists.proofs.VecLaws.{lines-are-without}
 use Rattle.line_tree.specs.MarkTable.{IsTable, holder, noted}
 use Rattle.line_tree.specs.Taking.{changed}
-use Rattle.line_tree.specs.Trees.{Named, contents}
 use Rattle.line_tree.proofs.HolderLaws.{alone, first, holder-append, not-first, whole-list}
 use Rattle.line_tree.proofs.ListedLaws.{HeldAt}
 use Rattle.line_tree.proofs.TableLaws.{noted-set, noted-within}

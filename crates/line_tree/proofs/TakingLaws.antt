@@ -9,13 +9,11 @@ use mir.Val.{bool_byte}
 use Rattle.text_model.specs.Content.{Marks}
 use Rattle.text_model.specs.declared.places.Place.{Place}
 use Rattle.toggle_sums.specs.CountLaws.{differing-empty, plus-no_text, union-empty}
-use Rattle.line_tree.proofs.Words.{Count, HasCounts, LineContent, NodePtr, Records, counting, less, line_count, no_text}
-use Rattle.line_tree.proofs.Words.{plus, update, with_sum}
+use Rattle.line_tree.proofs.Words.{Count, HasCounts, LineContent, NodePtr, Records, counting, less, line_count}
+use Rattle.line_tree.proofs.Words.{lines_in, no_text, plus, sum_at, sum_of, total, update, with_sum}
 use Rattle.line_lists.specs.Edits.{without_mark}
 use Rattle.line_tree.specs.Finds.{Finds, HasRow}
-use Rattle.line_tree.specs.Shape.{lines_in, sum_at, sum_of}
 use Rattle.line_tree.specs.Taking.{CanChange, Changes, TakesOff, marked}
-use Rattle.line_tree.specs.Trees.{total}
 use Rattle.line_tree.specs.declared.find.Found.{Found}
 use Rattle.line_tree.proofs.ChangingLaws.{can-child, changes-line, changes-node, node-row, node-sum, sum-changed}
 use Rattle.line_tree.proofs.ClimbingLaws.{Above, Climbs, down, next}

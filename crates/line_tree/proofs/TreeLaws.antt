@@ -6,10 +6,9 @@ use Rattle.std.specs.List.{AllByRecursion, flat_map, sum_by}
 use Rattle.std.specs.Option.{option_map}
 use Rattle.std.proofs.lemmas.List.Sums.{sum_by-cons}
 use Rattle.std.proofs.lemmas.Option.{none-some, same_Some}
-use Rattle.line_tree.proofs.Words.{LineContent, NodePtr, Records, kids, row}
+use Rattle.line_tree.proofs.Words.{Holds, IsTree, LineContent, Named, NodePtr, Records, Tree, kids, line_of, lines}
+use Rattle.line_tree.proofs.Words.{lines_at, lines_in, row, sum_at, sum_of, tops, total, tree_at}
 use Rattle.line_tree.specs.Finds.{Finds, HasRow, lines_below}
-use Rattle.line_tree.specs.Shape.{Holds, IsTree, line_of, lines_at, lines_in, sum_at, sum_of, tree_at}
-use Rattle.line_tree.specs.Trees.{Named, Tree, lines, tops, total}
 use Rattle.line_tree.specs.declared.find.Found.{Found}
 
 -- ---- lists

@@ -4,11 +4,10 @@ use Rattle.std.proofs.Common.{ap, ap₂, ◌∙◌, subst, arith, is_some, slice
 use Rattle.std.specs.List.{All}
 use Rattle.std.proofs.lemmas.List.{get_or-drop, get_or-take, length-drop, length-take-le}
 use Rattle.std.proofs.lemmas.Option.{none-some, same_Some}
-use Rattle.line_tree.proofs.Words.{LineContent, NodePtr}
+use Rattle.line_tree.proofs.Words.{LineContent, Named, NodePtr, contents}
 use Rattle.line_lists.specs.Lists.{AreLines, NumbersBelow, has_mark}
 use Rattle.line_lists.proofs.FindLaws.{drop_after}
 use Rattle.line_tree.specs.MarkTable.{AreBare, IsMarkedBelow, IsTable, holder, lines_without, noted}
-use Rattle.line_tree.specs.Trees.{Named, contents}
 use Rattle.line_tree.proofs.HolderLaws.{all-noted, alone, bare-drop, first, forget-line, forgotten, holder-append}
 use Rattle.line_tree.proofs.HolderLaws.{none-before, note-line}
 use Rattle.line_tree.proofs.NearestLaws.{long}

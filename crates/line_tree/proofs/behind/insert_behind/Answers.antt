@@ -1,9 +1,7 @@
 use Rattle.std.proofs.Common.{◌≡◌, ◌+◌, ◌-◌, suc, sym, ap, ◌∙◌, subst, arith, None}
 use Rattle.std.specs.FinMap as finite
 use Rattle.std.specs.List.{insert}
-use Rattle.line_tree.proofs.Words.{kids, plus, records, row}
-use Rattle.line_tree.specs.Changes.{CanPut, Fills, sum_all}
-use Rattle.line_tree.specs.Shape.{sum_at}
+use Rattle.line_tree.proofs.Words.{CanPut, Fills, kids, plus, records, row, sum_all, sum_at}
 use Rattle.line_tree.proofs.BehindLaws.{Base, Climbs, above-of, base-of, climbed, named-behind, parent-behind, some-parent}
 use Rattle.line_tree.proofs.InsertLaws.{has-now, low-can_put, low-inserts, low-sum, one-fits, one-inserts, one-sum}
 use Rattle.line_tree.proofs.RoomLaws.{len-puts, len-resummed}

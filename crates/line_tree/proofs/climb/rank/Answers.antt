@@ -1,8 +1,7 @@
 use Rattle.std.proofs.Common.{◌≡◌, ℕ, ◌+◌, ◌-◌, suc, subst, arith}
 use Rattle.std.proofs.lemmas.Option.{slice_get_within}
-use Rattle.line_tree.proofs.Words.{NodePtr, Records, kids, records}
+use Rattle.line_tree.proofs.Words.{NodePtr, Records, kids, lines_in, records}
 use Rattle.line_tree.specs.Places.{IsLineAt, Sits}
-use Rattle.line_tree.specs.Shape.{lines_in}
 use Rattle.line_tree.proofs.PlaceLaws.{Up, child-named, child-parent, level, line-within, sits, up_from}
 use Rattle.line_tree.proofs.TreeLaws.{row-tree}
 use Rattle.line_tree.proofs.climb.rank.Given.{Over}

@@ -1,8 +1,7 @@
 use Rattle.std.proofs.Common.{◌≡◌, ℕ, ◌+◌, ◌-◌, suc, ap, subst, arith}
 use Rattle.std.proofs.lemmas.Option.{slice_get_within}
-use Rattle.line_tree.proofs.Words.{NodePtr, Records, kids, records}
+use Rattle.line_tree.proofs.Words.{NodePtr, Records, kids, lines_in, records}
 use Rattle.line_tree.specs.Places.{Begins, IsLineAt}
-use Rattle.line_tree.specs.Shape.{lines_in}
 use Rattle.line_tree.proofs.BeginLaws.{BeginsUp, begins-level, begins-named, begins-up, first-characters}
 use Rattle.line_tree.proofs.LocateLaws.{size-below}
 use Rattle.line_tree.proofs.PlaceLaws.{child-named, child-parent}

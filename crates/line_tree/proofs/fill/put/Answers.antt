@@ -4,10 +4,9 @@ use Rattle.std.specs.FinMap as finite
 use Rattle.std.specs.List.{insert}
 use Rattle.std.proofs.lemmas.List.{take_all}
 use Rattle.std.proofs.lemmas.List.Edits.{length-insert}
-use Rattle.line_tree.proofs.Words.{Count, NodePtr, Records, blank, kids, plus, records, row}
-use Rattle.line_tree.specs.Changes.{Among, CanFill, CanPut, FitsSum, Stay, refilled, sum_all, sums}
+use Rattle.line_tree.proofs.Words.{Among, CanFill, CanPut, Count, FitsSum, NodePtr, Records, Stay, blank, kids, plus}
+use Rattle.line_tree.proofs.Words.{records, refilled, row, sum_all, sum_at, sums}
 use Rattle.line_tree.specs.Finds.{HasRow}
-use Rattle.line_tree.specs.Shape.{sum_at}
 use Rattle.line_tree.proofs.AmongLaws.{among-drop, among-take, get-among}
 use Rattle.line_tree.proofs.FillLaws.{row-some, sums-row}
 use Rattle.line_tree.proofs.RowLaws.{sum_is}

@@ -1,6 +1,5 @@
 use Rattle.std.proofs.Common.{◌≡◌, drop}
-use Rattle.line_tree.proofs.Words.{kids, plus, records, row}
-use Rattle.line_tree.specs.Changes.{sums}
+use Rattle.line_tree.proofs.Words.{kids, plus, records, row, sums}
 use Rattle.line_tree.proofs.fill.sum_below.Given as goal
 
 abbrev pub invariant-loop-slot : goal.invariant-loop-slot

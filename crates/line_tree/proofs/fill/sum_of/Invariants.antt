@@ -1,6 +1,5 @@
 use Rattle.std.proofs.Common.{◌≡◌, drop}
-use Rattle.line_tree.proofs.Words.{plus, records}
-use Rattle.line_tree.specs.Changes.{sums}
+use Rattle.line_tree.proofs.Words.{plus, records, sums}
 use Rattle.line_tree.proofs.fill.sum_of.Given as goal
 
 abbrev pub invariant-loop-slot : goal.invariant-loop-slot

@@ -3,17 +3,15 @@ use Rattle.std.proofs.Common.{option_to_list}
 use Rattle.std.specs.FinMap as finite
 use Rattle.std.specs.List.{insert}
 use Rattle.std.proofs.lemmas.Option.{slice_get_within}
-use Rattle.line_tree.proofs.Words.{Count, NodePtr, Records, kids, plus, records, row}
+use Rattle.line_tree.proofs.Words.{Count, NodePtr, Records, kids, plus, records, row, sum_all, sum_at}
 use Rattle.line_tree.specs.Finds.{Leads}
 use Rattle.line_tree.specs.Growth.{CanInsert, Inserts}
-use Rattle.line_tree.specs.Shape.{sum_at}
 use Rattle.line_tree.specs.Spreading.{Respreads}
 use Rattle.line_tree.specs.declared.find.Found.{Found}
 use Rattle.line_tree.proofs.InsertLaws.{can-child, has-node, has-now, low-can_put, low-inserts, low-sum, one-fits}
 use Rattle.line_tree.proofs.InsertLaws.{one-inserts, one-sum, two-can_put, two-inserts, two-sum}
 use Rattle.line_tree.proofs.RoomLaws.{len-puts, len-resummed}
 use Rattle.line_tree.proofs.SpreadLaws.{inserts-yet, sum-yet}
-use Rattle.line_tree.specs.Changes.{sum_all}
 use Rattle.line_tree.proofs.insert.+insert_in.Goals as goal
 
 -- the height as one more than another

@@ -1,7 +1,6 @@
 use Rattle.std.proofs.Common.{sym, ap, ◌∙◌, subst, arith}
-use Rattle.raw_nodes.specs.Names.{records}
+use Rattle.line_tree.proofs.Words.{records, sum_at}
 use Rattle.line_tree.specs.Growth.{CanInsert, Inserts}
-use Rattle.line_tree.specs.Shape.{sum_at}
 use Rattle.line_tree.proofs.insert.insert_next.Goals as goal
 
 pub insert_in-requires : goal.insert_in-requires

@@ -1,11 +1,9 @@
 use Rattle.std.proofs.Common.{◌≡◌, ℕ, ◌+◌, ◌-◌, suc, min, sym, ap, ◌∙◌, subst, arith, slice_get, None, Some}
-use Rattle.line_tree.proofs.Words.{NodePtr, Records, kids, records}
+use Rattle.line_tree.proofs.Words.{IsTree, NodePtr, Records, contents, kids, lines_at, lines_in, records}
 use Rattle.line_lists.specs.Lists.{previous_line}
 use Rattle.line_lists.proofs.SearchRows.{FailFrom}
 use Rattle.line_tree.specs.Nearest.{passes, shows}
 use Rattle.line_tree.specs.Places.{lines_before}
-use Rattle.line_tree.specs.Shape.{IsTree, lines_at, lines_in}
-use Rattle.line_tree.specs.Trees.{contents}
 use Rattle.line_tree.specs.declared.nearest.Wanted.{Wanted}
 use Rattle.line_tree.proofs.NearestLaws.{Reaches, child-is, first-previous, last-before, line-previous, none-previous}
 use Rattle.line_tree.proofs.NearestLaws.{previous-end, previous-hit, previous-missed, reaches}

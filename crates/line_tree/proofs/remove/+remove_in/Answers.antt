@@ -2,9 +2,8 @@ use Rattle.std.proofs.Common.{◌≡◌, ℕ, zero, suc, ◌+◌, ◌-◌, ◌<�
 use Rattle.std.proofs.Common.{Some, None, ap, ◌∙◌, IsSome}
 use Rattle.std.specs.FinMap as finite
 use Rattle.std.specs.List.{remove}
-use Rattle.line_tree.proofs.Words.{NodePtr, Records, kids, plus, records, row}
-use Rattle.line_tree.specs.Changes.{FitsSum, resummed, sum_all}
-use Rattle.line_tree.specs.Shape.{IsTree, Links, lines_in, sum_at, sum_of}
+use Rattle.line_tree.proofs.Words.{FitsSum, IsTree, Links, NodePtr, Records, kids, lines_in, plus, records, resummed}
+use Rattle.line_tree.proofs.Words.{row, sum_all, sum_at, sum_of}
 use Rattle.line_tree.proofs.FillLaws.{sums-row}
 use Rattle.line_tree.proofs.KeptLaws.{kept-whole}
 use Rattle.line_tree.proofs.RowLaws.{lines_is, sum_is}

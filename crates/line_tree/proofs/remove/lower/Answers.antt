@@ -2,12 +2,10 @@ use Rattle.std.proofs.Common.{◌≡◌, ℕ, ◌-◌, ◌<◌, suc, length, [],
 use Rattle.std.specs.FinMap as finite
 use Rattle.std.proofs.lemmas.List.{length-map}
 use Rattle.std.proofs.lemmas.Option.{slice_get-get_or}
-use Rattle.line_tree.proofs.Words.{NodePtr, Records, kids, records, update, with_parent}
+use Rattle.line_tree.proofs.Words.{IsBalancedRoot, NodePtr, Records, kids, records, tree_at, update, with_parent}
 use Rattle.raw_nodes.proofs.UpdateLaws.{len-update, named-update}
 use Rattle.line_tree.specs.Finds.{HasRow}
-use Rattle.line_tree.specs.Shape.{tree_at}
 use Rattle.line_tree.specs.Shrinking.{CanLower, Lowers}
-use Rattle.line_tree.specs.Trees.{IsBalancedRoot}
 use Rattle.line_tree.proofs.LowerLaws.{lowers-child, lowers-same, only-child}
 use Rattle.line_tree.proofs.PutLaws.{count-row}
 use Rattle.line_tree.proofs.RoomLaws.{len-gone}

@@ -1,10 +1,9 @@
 use Rattle.std.proofs.Common.{◌≡◌, sym, ap, ◌∙◌, subst, arith, IfSome}
 use Rattle.std.specs.FinSet as set
-use Rattle.line_tree.proofs.Words.{CanExchange, Count, IsWithin, exchanged, kids, plus, records, row, with_sum, without}
+use Rattle.line_tree.proofs.Words.{CanExchange, Count, FitsSum, IsWithin, exchanged, kids, plus, records, row, sum_of}
+use Rattle.line_tree.proofs.Words.{sums, with_sum, without}
 use Rattle.toggle_sums.specs.CountLaws.{same_slots}
 use Rattle.toggle_sums.proofs.ExchangeLaws.{union-part}
-use Rattle.line_tree.specs.Changes.{FitsSum, sums}
-use Rattle.line_tree.specs.Shape.{sum_of}
 use Rattle.line_tree.proofs.KeptLaws.{update-as}
 use Rattle.line_tree.proofs.LessLaws.{without-plus}
 use Rattle.line_tree.proofs.ReplacingLaws.{within-both}

@@ -1,8 +1,6 @@
 use Rattle.std.proofs.Common.{◌≡◌, ℕ, ◌≤◌}
-use Rattle.line_tree.proofs.Words.{IsWithin, records, rooms, spares}
+use Rattle.line_tree.proofs.Words.{IsWithin, lines_in, records, rooms, spares, total}
 use Rattle.line_tree.specs.Places.{IsLineAt}
-use Rattle.line_tree.specs.Shape.{lines_in}
-use Rattle.line_tree.specs.Trees.{total}
 use Rattle.line_tree.proofs.ClimbingLaws.{Climbs}
 use Rattle.line_tree.proofs.replacing.replace_up.Given as goal
 

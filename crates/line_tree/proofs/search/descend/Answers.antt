@@ -1,6 +1,5 @@
 use Rattle.std.proofs.Common.{◌≡◌, ◌+◌, ◌-◌, ◌*◌, ◌≤◌, suc, subst, arith}
-use Rattle.raw_nodes.specs.Names.{records}
-use Rattle.line_tree.specs.Shape.{IsTree, lines_in}
+use Rattle.line_tree.proofs.Words.{IsTree, lines_in, records}
 use Rattle.line_tree.proofs.PrefixLaws.{sum-below}
 use Rattle.line_tree.proofs.SearchLaws.{Passes, passes-below, passes-fits, passes-line, passes-start, passes-step}
 use Rattle.line_tree.proofs.SearchLaws.{steps-deeper}

@@ -2,9 +2,8 @@ use Rattle.std.proofs.Common.{◌≡◌, ◌+◌, ◌/◌, ◌≤◌, ◌++◌, 
 use Rattle.std.proofs.Common.{length-append, IfSome}
 use Rattle.std.specs.FinMap as finite
 use Rattle.std.proofs.lemmas.List.{take-append-le, take_all}
-use Rattle.line_tree.proofs.Words.{Count, CountsFit, NodePtr, Records, kids, plus, records, row}
-use Rattle.line_tree.specs.Changes.{CanEven, FitsSum, Halves, refilled, sum_all, sums}
-use Rattle.line_tree.specs.Shape.{sum_at}
+use Rattle.line_tree.proofs.Words.{CanEven, Count, CountsFit, FitsSum, Halves, NodePtr, Records, kids, plus, records}
+use Rattle.line_tree.proofs.Words.{refilled, row, sum_all, sum_at, sums}
 use Rattle.line_tree.proofs.EvenLaws.{fill-whole, kept-part, whole-sum}
 use Rattle.line_tree.proofs.FillLaws.{sums-row}
 use Rattle.line_tree.proofs.PutLaws.{count-row}

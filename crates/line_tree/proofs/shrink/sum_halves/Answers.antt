@@ -3,8 +3,7 @@ use Rattle.std.proofs.Common.{Option}
 use Rattle.std.specs.FinMap as finite
 use Rattle.std.proofs.lemmas.List.{take-append-drop}
 use Rattle.toggle_sums.specs.CountLaws.{plus-commutative}
-use Rattle.line_tree.proofs.Words.{Count, NodePtr, Records, kids, plus, records, row}
-use Rattle.line_tree.specs.Changes.{CanEven, FitsSum, sum_all, sums}
+use Rattle.line_tree.proofs.Words.{CanEven, Count, FitsSum, NodePtr, Records, kids, plus, records, row, sum_all, sums}
 use Rattle.line_tree.proofs.AmongLaws.{among-drop, among-take}
 use Rattle.line_tree.proofs.EvenLaws.{halves, named-part}
 use Rattle.line_tree.proofs.FillLaws.{sum_all-append, sums-row}

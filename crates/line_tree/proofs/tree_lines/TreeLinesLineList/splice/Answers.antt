@@ -1,10 +1,9 @@
 use Rattle.std.proofs.Common.{◌≡◌, ◌+◌, length, vec_len, subst, sym, ap, ◌∙◌, arith, slice_range}
 use Rattle.std.specs.List.{All}
-use Rattle.segments.specs.Columns.{LineContent}
+use Rattle.line_tree.proofs.Words.{LineContent, contents}
 use Rattle.line_lists.specs.Lists.{AreLines, NumbersBelow, more_lines, row_of}
 use Rattle.line_tree.specs.Room.{HasRoom}
 use Rattle.line_tree.specs.MarkTable.{holder, lines_without}
-use Rattle.line_tree.specs.Trees.{contents}
 use Rattle.line_tree.proofs.ListedLaws.{Comes, comes-below, comes-contents, comes-long, comes-others, end-fits}
 use Rattle.line_tree.proofs.ListedLaws.{fits-counted, gone-fits, some-left}
 use Rattle.line_tree.proofs.SpendingLaws.{keeps-room}
