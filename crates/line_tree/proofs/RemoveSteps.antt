@@ -60,19 +60,17 @@ in-drop (suc n) [] j x at = absurd (none-some x at)
 in-drop (suc n) (y ∷ xs) j x at = let e : suc n + j ≡ suc (n + j) = omega arith in
     ap (slice_get (y ∷ xs)) e ∙ in-drop n xs j x at
 
-pub pair-place : {X Y : Type 0} (f : X → Y) (xs : List X) (i : ℕ) (a b : X) → slice_get xs i ≡ Some a →
-    slice_get xs (suc i) ≡ Some b → map f xs ≡ map f (take i xs) ++ ((f a ∷ f b ∷ []) ++ map f (drop (suc (suc i)) xs))
-pair-place f [] i a b at_a at_b = absurd (none-some a at_a)
-pair-place f (x ∷ []) zero a b at_a at_b = absurd (none-some b at_b)
-pair-place f (x ∷ y ∷ xs) zero a b at_a at_b = λ i. f (same_Some x a at_a i) ∷ f (same_Some y b at_b i) ∷ map f xs
-pair-place f (x ∷ xs) (suc i) a b at_a at_b = ap (λ zs. f x ∷ zs) (pair-place f xs i a b at_a at_b)
-
 pub pair-same : {X : Type 0} (xs : List X) (i : ℕ) (a b : X) → slice_get xs i ≡ Some a → slice_get xs (suc i) ≡ Some b →
     xs ≡ take i xs ++ (a ∷ b ∷ drop (suc (suc i)) xs)
 pair-same [] i a b at_a at_b = absurd (none-some a at_a)
 pair-same (x ∷ []) zero a b at_a at_b = absurd (none-some b at_b)
 pair-same (x ∷ y ∷ xs) zero a b at_a at_b = λ i. same_Some x a at_a i ∷ same_Some y b at_b i ∷ xs
 pair-same (x ∷ xs) (suc i) a b at_a at_b = ap (λ zs. x ∷ zs) (pair-same xs i a b at_a at_b)
+
+pub pair-place : {X Y : Type 0} (f : X → Y) (xs : List X) (i : ℕ) (a b : X) → slice_get xs i ≡ Some a →
+    slice_get xs (suc i) ≡ Some b → map f xs ≡ map f (take i xs) ++ ((f a ∷ f b ∷ []) ++ map f (drop (suc (suc i)) xs))
+pair-place f xs i a b at_a at_b = ap (map f) (pair-same xs i a b at_a at_b)
+    ∙ map-append f (take i xs) (a ∷ b ∷ drop (suc (suc i)) xs)
 
 pub pair-remove : {X : Type 0} (xs : List X) (i : ℕ) (a b : X) → slice_get xs i ≡ Some a →
     slice_get xs (suc i) ≡ Some b → remove xs (suc i) ≡ take i xs ++ (a ∷ drop (suc (suc i)) xs)

@@ -4,7 +4,7 @@ use Rattle.std.proofs.Common.{sym, ap, ◌∙◌, subst, arith, length-take, len
 use Rattle.std.proofs.Common.{None, Some}
 use Rattle.std.specs.FinMap as finite
 use Rattle.std.specs.List.{AllByRecursion, insert}
-use Rattle.std.proofs.lemmas.List.{take-append-drop}
+use Rattle.std.proofs.lemmas.List.{map-append, take-append-drop}
 use Rattle.std.proofs.lemmas.Option.{none-some, same_Some}
 use mathlib.Core.Bool.{false≢true}
 use Rattle.toggle_sums.specs.CountLaws.{plus-associative, plus-commutative}
@@ -24,17 +24,15 @@ use Rattle.line_tree.proofs.SumLaws.{total-append}
 use Rattle.line_tree.proofs.TreeLaws.{named-row}
 
 -- ---- a list at one of its places
-pub at-place : {X Y : Type 0} (f : X → Y) (xs : List X) (i : ℕ) (x : X) → slice_get xs i ≡ Some x →
-    map f xs ≡ map f (take i xs) ++ (f x ∷ map f (drop (suc i) xs))
-at-place f [] i x is = absurd (none-some x is)
-at-place f (y ∷ xs) zero x is = ap (λ z. f z ∷ map f xs) (same_Some y x is)
-at-place f (y ∷ xs) (suc i) x is = ap (λ zs. f y ∷ zs) (at-place f xs i x is)
-
 pub split-same : {X : Type 0} (xs : List X) (i : ℕ) (x : X) → slice_get xs i ≡ Some x →
     xs ≡ take i xs ++ (x ∷ drop (suc i) xs)
 split-same [] i x is = absurd (none-some x is)
 split-same (y ∷ xs) zero x is = ap (λ z. z ∷ xs) (same_Some y x is)
 split-same (y ∷ xs) (suc i) x is = ap (λ zs. y ∷ zs) (split-same xs i x is)
+
+pub at-place : {X Y : Type 0} (f : X → Y) (xs : List X) (i : ℕ) (x : X) → slice_get xs i ≡ Some x →
+    map f xs ≡ map f (take i xs) ++ (f x ∷ map f (drop (suc i) xs))
+at-place f xs i x is = ap (map f) (split-same xs i x is) ∙ map-append f (take i xs) (x ∷ drop (suc i) xs)
 
 pub split-insert : {X : Type 0} (xs : List X) (i j : ℕ) (x y : X) → slice_get xs i ≡ Some x → j ≡ suc i →
     insert xs j y ≡ take i xs ++ (x ∷ y ∷ drop (suc i) xs)

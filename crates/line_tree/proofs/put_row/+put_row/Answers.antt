@@ -67,16 +67,14 @@ returns-then-branch-eq1-clause-takes g t c =
 
 -- ---- above it
 pub lead-found-requires : goal.lead-found-requires
-lead-found-requires g t c = let m = records c.args.store.now in let p = c.args.branch.node in
+lead-found-requires g t c = let m = records c.args.store.now in let p = c.args.branch.node in let k = c.args.k in
+    let n = c.args.branch.height - 1 in let xs = c.args.row.now.items in
+    let can = above m c.args.branch.height p k xs c.requires.take c.requires.node in
     record {
-      row = row-tree m (c.args.branch.height - 1) p
-          (above m c.args.branch.height p c.args.k c.args.row.now.items c.requires.take c.requires.node).tree;
-      some = some-kids m (c.args.branch.height - 1) p c.args.k c.args.row.now.items
-          (above m c.args.branch.height p c.args.k c.args.row.now.items c.requires.take c.requires.node);
-      within = within-kids m (c.args.branch.height - 1) p c.args.k c.args.row.now.items
-          (above m c.args.branch.height p c.args.k c.args.row.now.items c.requires.take c.requires.node);
-      whole = whole-below m (c.args.branch.height - 1) p
-          (above m c.args.branch.height p c.args.k c.args.row.now.items c.requires.take c.requires.node).tree;
+      row = row-tree m n p can.tree;
+      some = some-kids m n p k xs can;
+      within = within-kids m n p k xs can;
+      whole = whole-below m n p can.tree;
     }
 
 pub put_row-requires : goal.put_row-requires
