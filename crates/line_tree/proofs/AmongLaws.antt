@@ -1,13 +1,11 @@
 -- Names among others.
 use Rattle.std.proofs.Common.{◌≡◌, ℕ, zero, suc, ◌⊎◌, inl, inr, List, [], ◌∷◌, ◌++◌, take, drop, sym, ap, subst}
-use Rattle.std.specs.Prelude.{slice_get}
+use Rattle.std.proofs.Common.{slice_get, Some}
 use Rattle.std.specs.List.{insert}
-use Rattle.std.specs.declared.option.Option.TheVariants.{Some}
 use Rattle.std.proofs.lemmas.List.{take-append-drop}
 use Rattle.std.proofs.lemmas.Option.{none-some, same_Some}
-use Rattle.raw_nodes.specs.declared.names.NodePtr.{NodePtr}
+use Rattle.line_tree.proofs.Words.{Among, NodePtr}
 use Rattle.raw_nodes.proofs.PlaceLaws.{same_or_other}
-use Rattle.line_tree.specs.Changes.{Among}
 
 pub among-left : (q : NodePtr) (xs ys : List NodePtr) → Among q xs → Among q (xs ++ ys)
 among-left q [] ys a = absurd a

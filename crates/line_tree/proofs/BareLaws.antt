@@ -2,9 +2,8 @@
 use Rattle.std.proofs.Common.{◌≡◌, ℕ, zero, suc, List, [], ◌∷◌, take, refl}
 use Rattle.std.specs.FinSet as set
 use Rattle.toggle_sums.specs.Toggles.{parity, presence}
-use Rattle.segments.specs.Columns.{toggles}
+use Rattle.line_tree.proofs.Words.{Named, toggles, total}
 use Rattle.line_lists.proofs.BareLaws.{both-none, none-first, none-odd, none-second}
-use Rattle.line_tree.specs.Trees.{Named, total}
 
 -- where no slot is toggled in any line, none is toggled an odd number of times in the first ones
 pub bare-front : (ls : List Named) (k : ℕ) → (total ls).presence ≡ set.empty → (total (take k ls)).parity ≡ set.empty

@@ -1,22 +1,15 @@
 -- Trees in the place of records.
-use Rattle.std.proofs.Common.{◌≡◌, ℕ, suc, ◌≤◌, inl, inr, List, [], ◌∷◌, ◌++◌, length, refl, sym, ap, ◌∙◌, subst}
-use Rattle.std.specs.Prelude.{◌≢◌, IsSome}
+use Rattle.std.proofs.Common.{◌≡◌, ℕ, suc, ◌≤◌, inl, inr, List, [], ◌∷◌, ◌++◌, length, refl, sym, ap, ◌∙◌, subst, ◌≢◌}
+use Rattle.std.proofs.Common.{IsSome, Option, None, Some}
 use Rattle.std.specs.FinMap as finite
 use Rattle.std.specs.List.{AllByRecursion}
-use Rattle.std.specs.declared.option.Option.{Option}
-use Rattle.std.specs.declared.option.Option.TheVariants.{None, Some}
 use Rattle.std.proofs.lemmas.List.{append-nil}
-use Rattle.segments.specs.Columns.{LineContent}
-use Rattle.raw_nodes.specs.Records.{Records, blank, with_sum}
-use Rattle.raw_nodes.specs.Rows.{row}
-use Rattle.raw_nodes.specs.declared.names.NodePtr.{NodePtr}
+use Rattle.line_tree.proofs.Words.{Among, Distinct, FitsSum, Holds, LineContent, NodePtr, Records, Tree, blank}
+use Rattle.line_tree.proofs.Words.{relinked, row, sum_all, sums, tops, tree_at, with_sum}
 use Rattle.raw_nodes.proofs.MapLaws.{get_inserted, get_other, get_unmoved}
 use Rattle.raw_nodes.proofs.UpdateLaws.{insert-named, remove-named}
-use Rattle.line_tree.specs.Changes.{Among, Distinct, FitsSum, relinked, sum_all, sums}
 use Rattle.line_tree.specs.Growth.{HasNoParent, NewLine, NewRoot, names_of}
 use Rattle.line_tree.specs.Raising.{Becomes}
-use Rattle.line_tree.specs.Shape.{Holds, tree_at}
-use Rattle.line_tree.specs.Trees.{Tree, tops}
 use Rattle.line_tree.proofs.AmongLaws.{among-cases, among-left, among-right}
 use Rattle.line_tree.proofs.BuildLaws.{built}
 use Rattle.line_tree.proofs.DistinctLaws.{distinct-append, distinct-apart, distinct-left, distinct-right}

@@ -1,23 +1,15 @@
 -- How many characters stand before a line, from its name up to the root.
 use Rattle.std.proofs.Common.{◌≡◌, ℕ, zero, suc, ◌+◌, ◌-◌, ◌<◌, ◌≤◌, List, take, drop, refl, sym, ap, ◌∙◌, subst, arith}
-use Rattle.std.specs.Prelude.{IfSome, IsSome}
+use Rattle.std.proofs.Common.{IfSome, Option, Some}
 use Rattle.std.specs.FinMap as finite
 use Rattle.std.specs.Option.{option_map}
-use Rattle.std.specs.declared.option.Option.{Option}
-use Rattle.std.specs.declared.option.Option.TheVariants.{Some}
 use Rattle.std.proofs.lemmas.List.{take-append-drop}
 use Rattle.std.proofs.lemmas.Option.{same_Some, slice_get_within}
-use Rattle.raw_nodes.specs.Records.{Records}
-use Rattle.raw_nodes.specs.Rows.{kids}
-use Rattle.raw_nodes.specs.declared.names.NodePtr.{NodePtr}
-use Rattle.raw_nodes.proofs.MapLaws.{at_some}
+use Rattle.line_tree.proofs.Words.{IsTree, Named, NodePtr, Records, kids, lines_in, sum_all, total}
 use Rattle.line_tree.specs.Aims.{characters-add, characters_behind, lines-add, nothing-adds}
-use Rattle.line_tree.specs.Changes.{sum_all}
 use Rattle.line_tree.specs.Places.{Begins, IsChild, IsLineAt, characters_before}
-use Rattle.line_tree.specs.Shape.{IsTree, lines_in}
-use Rattle.line_tree.specs.Trees.{Named, total}
 use Rattle.line_tree.specs.declared.aims.CharactersBefore.{CharactersBefore}
-use Rattle.line_tree.proofs.PlaceLaws.{line-within, linked, named_line, through}
+use Rattle.line_tree.proofs.PlaceLaws.{child-parent, child-slot, line-within, named_line, through}
 use Rattle.line_tree.proofs.SearchLaws.{Passes, arrives-before, passes-line, passes-start, passes-step, wide-all}
 use Rattle.line_tree.proofs.SumLaws.{total-append}
 use Rattle.line_tree.proofs.TreeLaws.{at_line, child-tree, count-tree, total-lines}
@@ -78,19 +70,6 @@ pub begins-level : (m : Records) (h j : ℕ) (r p : NodePtr) (b : ℕ) → j < h
 begins-level m h j r p b less s = let e : h - j ≡ suc (h - suc j) = omega arith in
     subst (λ x. Begins m x j r p b) e s
 
-pub begins-below : (m : Records) (d j : ℕ) (r p : NodePtr) (b : ℕ) → Begins m (suc d) j r p b → IsSome (finite.get m p)
-begins-below m d j r p b s = subst (λ x. IsSome x) (sym (linked m j s.0 s.1 p s.4).is) refl
-
-pub parent-of : (m : Records) (d j : ℕ) (r p : NodePtr) (b : ℕ) (s : Begins m (suc d) j r p b) (up : Option NodePtr) →
-    IfSome (finite.get m p) (λ x. up ≡ x.parent) → up ≡ Some s.0
-parent-of m d j r p b s up says = let l = linked m j s.0 s.1 p s.4 in
-    at_some (finite.get m p) (λ x. up ≡ x.parent) l.found says l.is ∙ l.parent
-
-slot-of : (m : Records) (d j : ℕ) (r p : NodePtr) (b : ℕ) (s : Begins m (suc d) j r p b) (slot : ℕ) →
-    IfSome (finite.get m p) (λ x. slot ≡ x.slot) → slot ≡ s.1
-slot-of m d j r p b s slot says = let l = linked m j s.0 s.1 p s.4 in
-    at_some (finite.get m p) (λ x. slot ≡ x.slot) l.found says l.is ∙ l.slot
-
 pub record BeginsUp (m : Records) (d j : ℕ) (r p : NodePtr) (b : ℕ) (up : NodePtr) (slot : ℕ) : Type 0 where
   pub base : ℕ
   pub begins : Begins m d (suc j) r up base
@@ -101,8 +80,8 @@ pub begins-up : (m : Records) (d j : ℕ) (r p : NodePtr) (b : ℕ) → Begins m
     IfSome (finite.get m p) (λ x. parent ≡ x.parent) → (up : NodePtr) → parent ≡ Some up
     → (slot : ℕ) → IfSome (finite.get m p) (λ x. slot ≡ x.slot) → BeginsUp m d j r p b up slot
 begins-up m d j r p b s parent says up is slot slot_says =
-    let q = same_Some s.0 up (sym (parent-of m d j r p b s parent says) ∙ is) in
-    let i = sym (slot-of m d j r p b s slot slot_says) in
+    let q = same_Some s.0 up (sym (child-parent m j s.0 s.1 p s.4 parent says) ∙ is) in
+    let i = sym (child-slot m j s.0 s.1 p s.4 slot slot_says) in
     let at_up : BeginsUp m d j r p b up s.1 = subst (λ x. BeginsUp m d j r p b x s.1) q
     (record { base = s.2; begins = s.3; child = s.4; offset = s.5 }) in
     subst (λ x. BeginsUp m d j r p b up x) i at_up

@@ -1,26 +1,20 @@
 -- A line put in behind another, from there up to the root.
-use Rattle.std.proofs.Common.{◌≡◌, ℕ, zero, suc, ◌+◌, ◌-◌, ◌<◌, ◌≤◌, take, refl, sym, ap, ◌∙◌, subst, arith}
-use Rattle.std.proofs.Common.{drop}
-use Rattle.std.specs.Prelude.{IfSome, IsSome}
+use Rattle.std.proofs.Common.{◌≡◌, ℕ, zero, suc, ◌+◌, ◌-◌, ◌<◌, ◌≤◌, take, refl, sym, ap, ◌∙◌, subst, arith, drop}
+use Rattle.std.proofs.Common.{IfSome, IsSome, Option, None, Some}
 use Rattle.std.specs.FinMap as finite
 use Rattle.std.specs.List.{sum_by}
-use Rattle.std.specs.declared.option.Option.{Option}
-use Rattle.std.specs.declared.option.Option.TheVariants.{None, Some}
 use Rattle.std.proofs.lemmas.List.{take-append-drop}
 use Rattle.std.proofs.lemmas.List.Sums.{sum_by-append}
 use Rattle.std.proofs.lemmas.Option.{same_Some, slice_get_within}
-use Rattle.raw_nodes.specs.Records.{Record, Records}
-use Rattle.raw_nodes.specs.Rows.{kids}
-use Rattle.raw_nodes.specs.declared.names.NodePtr.{NodePtr}
+use Rattle.line_tree.proofs.Words.{IsTree, NodePtr, Record, Records, kids, lines_at, lines_in}
 use Rattle.raw_nodes.proofs.MapLaws.{at_some}
 use Rattle.line_tree.specs.Finds.{Leads}
 use Rattle.line_tree.specs.Growth.{CanInsert, Inserts}
 use Rattle.line_tree.specs.Places.{IsChild, IsLineAt, Sits, lines_before}
-use Rattle.line_tree.specs.Shape.{IsTree, lines_at, lines_in}
 use Rattle.line_tree.specs.declared.find.Found.{Found}
 use Rattle.line_tree.proofs.InsertLaws.{can-child}
 use Rattle.line_tree.proofs.LowestLaws.{lowest-before}
-use Rattle.line_tree.proofs.PlaceLaws.{level, linked, named-below, parent-below, sits, up_from}
+use Rattle.line_tree.proofs.PlaceLaws.{child-named, child-parent, level, linked, sits, up_from}
 use Rattle.line_tree.proofs.RowLaws.{step_yes}
 use Rattle.line_tree.proofs.TreeLaws.{row-tree, whole-below}
 
@@ -157,11 +151,11 @@ module _ (m : Records) (h : ℕ) (r : NodePtr) (k : ℕ) (x name : NodePtr) (som
       level m h 0 r name (k - 1) some (subst (λ d. Sits m d 0 r name (k - 1)) e (sits m h r name (k - 1) can.tree at))
 
   pub named-behind : IsSome (finite.get m name)
-  named-behind = named-below m (h - suc 0) 0 r name (k - 1) sits-name
+  named-behind = child-named m 0 sits-name.0 sits-name.1 name sits-name.4
 
   pub parent-behind : (up : Option NodePtr) → IfSome (finite.get m name) (λ y. up ≡ y.parent) → IsSome up
   parent-behind up says =
-      subst (λ o. IsSome o) (sym (parent-below m (h - suc 0) 0 r name (k - 1) sits-name up says)) refl
+      subst (λ o. IsSome o) (sym (child-parent m 0 sits-name.0 sits-name.1 name sits-name.4 up says)) refl
 
   pub base-of : (up : Option NodePtr) → IfSome (finite.get m name) (λ y. up ≡ y.parent) → (node : NodePtr) →
       up ≡ Some node → (slot : ℕ) → IfSome (finite.get m name) (λ y. slot ≡ y.slot) → Base m h r k x node slot

@@ -1,23 +1,17 @@
 -- A node that was given children is a tree of theirs.
 use Rattle.std.proofs.Common.{◌≡◌, ℕ, zero, suc, ◌-◌, inl, inr, List, [], ◌∷◌, ◌++◌, length, map, replicate, refl, sym}
-use Rattle.std.proofs.Common.{ap, ◌∙◌, subst}
-use Rattle.std.specs.Prelude.{◌≢◌, IsSome}
+use Rattle.std.proofs.Common.{ap, ◌∙◌, subst, ◌≢◌, IsSome, Option, None, Some}
 use Rattle.std.specs.FinMap as finite
 use Rattle.std.specs.List.{AllByRecursion, filter_map}
-use Rattle.std.specs.declared.option.Option.{Option}
-use Rattle.std.specs.declared.option.Option.TheVariants.{None, Some}
-use Rattle.toggle_sums.specs.Counts.{plus}
-use Rattle.raw_nodes.specs.Records.{Record, Records, update, with_child, with_parent, with_sum}
-use Rattle.raw_nodes.specs.Rows.{kids, kids_of, row}
-use Rattle.raw_nodes.specs.declared.names.NodePtr.{NodePtr}
+use Rattle.line_tree.proofs.Words.{Among, CanFill, Distinct, Holds, IsNode, IsTree, Links, NodePtr, Record, Records}
+use Rattle.line_tree.proofs.Words.{Tree, inner, kids, kids_of, line_of, lines, link_one, names, plus, refilled}
+use Rattle.line_tree.proofs.Words.{relinked, row, sum_all, sum_at, sums, tops, total, tree_at, update, with_child}
+use Rattle.line_tree.proofs.Words.{with_parent, with_sum}
 use Rattle.raw_nodes.proofs.MapLaws.{some_of}
 use Rattle.raw_nodes.proofs.PlaceLaws.{same_or_other}
 use Rattle.raw_nodes.proofs.RowLaws.{somes, somes-row}
 use Rattle.raw_nodes.proofs.UpdateLaws.{get-update-other}
-use Rattle.line_tree.specs.Changes.{Among, CanFill, Distinct, link_one, refilled, relinked, sum_all, sums}
 use Rattle.line_tree.specs.Growth.{lines_of, names_of}
-use Rattle.line_tree.specs.Shape.{Holds, IsNode, IsTree, Links, line_of, sum_at, tree_at}
-use Rattle.line_tree.specs.Trees.{Tree, inner, lines, names, tops, total}
 use Rattle.line_tree.proofs.AmongLaws.{among-left, among-right}
 use Rattle.line_tree.proofs.DistinctLaws.{distinct-right}
 use Rattle.line_tree.proofs.FillLaws.{at-update, refilled-other, relinked-other, relinked-row, relinked-sums}

@@ -5,23 +5,16 @@
 --     Above, above-of one level up, where it isn't counted yet
 --     next            where it is
 --     climbed         at the root
-use Rattle.std.proofs.Common.{◌≡◌, ℕ, zero, suc, ◌+◌, ◌-◌, ◌<◌, ◌≤◌, refl, sym, ap, ◌∙◌, subst, arith}
-use Rattle.std.specs.Prelude.{IfSome, IsSome}
+use Rattle.std.proofs.Common.{◌≡◌, ℕ, zero, suc, ◌+◌, ◌-◌, ◌<◌, ◌≤◌, refl, sym, ap, ◌∙◌, subst, arith, IfSome, IsSome}
+use Rattle.std.proofs.Common.{Option, Some}
 use Rattle.std.specs.FinMap as finite
-use Rattle.std.specs.declared.option.Option.{Option}
-use Rattle.std.specs.declared.option.Option.TheVariants.{Some}
 use Rattle.std.proofs.lemmas.Option.{same_Some}
-use Rattle.toggle_sums.specs.Counts.{Count}
-use Rattle.segments.specs.Columns.{LineContent}
-use Rattle.raw_nodes.specs.Records.{Records}
-use Rattle.raw_nodes.specs.declared.names.NodePtr.{NodePtr}
+use Rattle.line_tree.proofs.Words.{Count, Distinct, IsTree, LineContent, NodePtr, Records, lines_at, lines_in, names}
+use Rattle.line_tree.proofs.Words.{tree_at}
 use Rattle.raw_nodes.proofs.MapLaws.{at_some}
-use Rattle.line_tree.specs.Changes.{Distinct}
 use Rattle.line_tree.specs.Finds.{Finds}
 use Rattle.line_tree.specs.Places.{IsChild, IsLineAt, Sits, lines_before}
-use Rattle.line_tree.specs.Shape.{IsTree, lines_at, lines_in, tree_at}
 use Rattle.line_tree.specs.Taking.{CanChange, Changes}
-use Rattle.line_tree.specs.Trees.{names}
 use Rattle.line_tree.specs.declared.find.Found.{Found}
 use Rattle.line_tree.proofs.BehindLaws.{at-root, child-within, led}
 use Rattle.line_tree.proofs.ChangingLaws.{named-as-linked, record-linked}

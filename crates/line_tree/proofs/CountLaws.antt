@@ -1,18 +1,11 @@
 -- How many lines a balanced tree has.
 use Rattle.std.proofs.Common.{◌≡◌, ℕ, zero, suc, ◌+◌, ◌*◌, ◌^◌, ◌<◌, ◌≤◌, List, [], ◌∷◌, length, refl, arith}
-use Rattle.std.proofs.Common.{length-append}
-use Rattle.std.specs.Prelude.{IsSome}
+use Rattle.std.proofs.Common.{length-append, IsSome, Option, None, Some}
 use Rattle.std.specs.List.{AllByRecursion}
-use Rattle.std.specs.declared.option.Option.{Option}
-use Rattle.std.specs.declared.option.Option.TheVariants.{None, Some}
 use Rattle.std.proofs.Math.Nat.{mul-le-mul_right, pow-succ'}
 use mathlib.Core.Bool.{false≢true}
-use Rattle.segments.specs.Columns.{LineContent}
-use Rattle.raw_nodes.specs.Records.{Records}
-use Rattle.raw_nodes.specs.declared.names.NodePtr.{NodePtr}
+use Rattle.line_tree.proofs.Words.{Holds, IsBalanced, IsBalancedRoot, LineContent, NodePtr, Records, Tree, lines, names}
 use Rattle.line_tree.specs.Growth.{lines_of, names_of}
-use Rattle.line_tree.specs.Shape.{Holds}
-use Rattle.line_tree.specs.Trees.{IsBalanced, IsBalancedRoot, Tree, lines, names}
 
 pub one-line : (p : NodePtr) (o : Option LineContent) → IsSome o → length (lines zero (p, o)) ≡ 1
 one-line p None s = absurd (false≢true s)
@@ -42,13 +35,6 @@ least-lines-root m h t holds balanced =
 pub pow-more : (h : ℕ) → h < 6 ^ h
 pow-more zero = omega arith
 pow-more (suc h) = let r = pow-more h in let p = pow-succ' 6 h in omega arith
-
-pub height-below : (m : Records) (h : ℕ) (t : Tree h) → Holds m h t → IsBalancedRoot h t → h ≤ length (lines h t)
-height-below m zero t holds balanced = omega arith
-height-below m (suc zero) t holds balanced = let all = many-lines m 0 (6 ^ 0) (least-lines m 0) t.1 holds.2 balanced.2
-    in let low = balanced.0 in omega arith
-height-below m (suc (suc h)) t holds balanced = let r = least-lines-root m h t holds balanced in
-    let p = pow-more (suc h) in omega arith
 
 -- ---- how many records a tree has
 names-sum : (m : Records) (h : ℕ) → ((t : Tree h) → Holds m h t → IsBalanced h t →

@@ -1,7 +1,6 @@
 -- Distinct names.
 use Rattle.std.proofs.Common.{inl, inr, List, [], ◌∷◌, ◌++◌, refl, subst}
-use Rattle.raw_nodes.specs.declared.names.NodePtr.{NodePtr}
-use Rattle.line_tree.specs.Changes.{Among, Distinct}
+use Rattle.line_tree.proofs.Words.{Among, Distinct, NodePtr}
 use Rattle.line_tree.proofs.AmongLaws.{among-cases, among-left, among-right}
 
 pub distinct-left : (xs ys : List NodePtr) → Distinct (xs ++ ys) → Distinct xs

@@ -1,26 +1,20 @@
 -- What new children of a node leave at each name.
 use Rattle.std.proofs.Common.{◌≡◌, ℕ, zero, suc, ◌+◌, ◌-◌, ◌<◌, ◌≤◌, inl, inr, List, [], ◌∷◌, ◌++◌, length, get_or, map}
-use Rattle.std.proofs.Common.{replicate, refl, sym, ap, ◌∙◌, subst, arith}
-use Rattle.std.specs.Prelude.{◌≢◌, slice_get}
+use Rattle.std.proofs.Common.{replicate, refl, sym, ap, ◌∙◌, subst, arith, ◌≢◌, slice_get, Option, None, Some}
 use Rattle.std.specs.FinMap as finite
 use Rattle.std.specs.List.{filter_map, insert}
 use Rattle.std.specs.Option.{option_map}
-use Rattle.std.specs.declared.option.Option.{Option}
-use Rattle.std.specs.declared.option.Option.TheVariants.{None, Some}
 use Rattle.std.proofs.lemmas.List.{append-nil, ext_get_or, drop_all}
 use Rattle.std.proofs.lemmas.List.Edits.{sets, sets-eq}
 use Rattle.std.proofs.lemmas.Option.{get_or_from_slice_get}
 use Rattle.toggle_sums.specs.CountLaws.{no_text-plus, plus-associative, plus-commutative}
-use Rattle.toggle_sums.specs.Counts.{no_text, plus}
-use Rattle.raw_nodes.specs.Records.{Record, Records, update, with_child, with_parent, with_sum}
-use Rattle.raw_nodes.specs.Rows.{kids, kids_of, row}
-use Rattle.raw_nodes.specs.declared.names.NodePtr.{NodePtr}
+use Rattle.line_tree.proofs.Words.{Among, CanFill, NodePtr, Record, Records, kids, kids_of, link_one, no_text, plus}
+use Rattle.line_tree.proofs.Words.{refilled, relinked, row, sum_all, sum_at, sum_of, sums, update, with_child}
+use Rattle.line_tree.proofs.Words.{with_parent, with_sum}
 use Rattle.raw_nodes.proofs.PlaceLaws.{same_or_other}
 use Rattle.raw_nodes.proofs.RowLaws.{get_or-row, length-row, somes-row}
 use Rattle.raw_nodes.proofs.UpdateLaws.{get-update, get-update-other}
-use Rattle.line_tree.specs.Changes.{Among, CanFill, link_one, refilled, relinked, sum_all, sums}
 use Rattle.line_tree.specs.Finds.{HasRow}
-use Rattle.line_tree.specs.Shape.{sum_at, sum_of}
 use Rattle.line_tree.proofs.AmongLaws.{get-among}
 use Rattle.line_tree.proofs.UpdateLaws.{named-relinked}
 

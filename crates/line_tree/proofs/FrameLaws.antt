@@ -1,16 +1,9 @@
 -- A tree stands where its records stay, but for the links of its top.
-use Rattle.std.proofs.Common.{◌≡◌, ℕ, zero, suc, inl, inr, List, [], ◌∷◌, refl, sym, ◌∙◌, subst}
-use Rattle.std.specs.Prelude.{IsSome}
+use Rattle.std.proofs.Common.{◌≡◌, ℕ, zero, suc, inl, inr, List, [], ◌∷◌, refl, sym, ◌∙◌, subst, IsSome, Option, Some}
 use Rattle.std.specs.FinMap as finite
 use Rattle.std.specs.List.{AllByRecursion}
-use Rattle.std.specs.declared.option.Option.{Option}
-use Rattle.std.specs.declared.option.Option.TheVariants.{Some}
-use Rattle.raw_nodes.specs.Records.{Record, Records}
-use Rattle.raw_nodes.specs.declared.names.NodePtr.{NodePtr}
-use Rattle.line_tree.specs.Changes.{Among, Distinct}
+use Rattle.line_tree.proofs.Words.{Among, Distinct, Holds, Links, NodePtr, Record, Records, Tree, inner, names, tops}
 use Rattle.line_tree.specs.Growth.{names_of}
-use Rattle.line_tree.specs.Shape.{Holds, Links}
-use Rattle.line_tree.specs.Trees.{Tree, inner, names, tops}
 use Rattle.line_tree.proofs.AmongLaws.{among-cases, among-left, among-right}
 use Rattle.line_tree.proofs.DistinctLaws.{distinct-apart, distinct-left, distinct-right}
 use Rattle.line_tree.proofs.TreeLaws.{named-held}

@@ -3,10 +3,7 @@ use Rattle.std.proofs.Common.{◌≡◌, ℕ, ◌+◌, ◌-◌, ◌≤◌, List,
 use Rattle.std.proofs.Math.Seq.{drop-append-add, drop-append_seam, take-append-add, take-append_seam}
 use Rattle.std.proofs.lemmas.List.{drop-append-le, take-append-drop, take-append-le}
 use Rattle.toggle_sums.specs.CountLaws.{plus-commutative}
-use Rattle.toggle_sums.specs.Counts.{plus}
-use Rattle.raw_nodes.specs.Records.{Records}
-use Rattle.raw_nodes.specs.declared.names.NodePtr.{NodePtr}
-use Rattle.line_tree.specs.Changes.{sum_all}
+use Rattle.line_tree.proofs.Words.{NodePtr, Records, plus, sum_all}
 use Rattle.line_tree.proofs.FillLaws.{sum_all-append}
 
 -- ---- some of the right one's children go to the left one

@@ -10,13 +10,10 @@ use Rattle.std.specs.FinMap.{same_map}
 use Rattle.std.proofs.lemmas.List.{append-nil, map-append, take-append-drop}
 use Rattle.std.proofs.lemmas.Option.{none-some, same_Some}
 use Rattle.raw_nodes.specs.Records.{Record, Records, update, updated, with_child, with_parent}
-use Rattle.raw_nodes.specs.Rows.{kids, row}
-use Rattle.raw_nodes.specs.declared.names.NodePtr.{NodePtr}
+use Rattle.line_tree.proofs.Words.{IsLinked, Links, NodePtr, Stay, kids, link_one, relinked, row}
 use Rattle.raw_nodes.proofs.MapLaws.{get_inserted, get_other}
 use Rattle.raw_nodes.proofs.PlaceLaws.{name_antisym, name_total, same_or_other}
-use Rattle.line_tree.specs.Changes.{Stay, link_one, relinked}
 use Rattle.line_tree.specs.Finds.{HasRow}
-use Rattle.line_tree.specs.Shape.{IsLinked, Links}
 
 -- ---- one record
 insert-same : (m : Records) (p : NodePtr) (r : Record) → finite.get m p ≡ Some r → finite.insert m p r ≡ m

@@ -12,12 +12,8 @@ use Rattle.text_model.specs.SlotSets.{differing}
 use Rattle.text_model.specs.Splices.{removed}
 use Rattle.toggle_sums.specs.CountLaws.{differing-associative, differing-empty, differing-self, plus-associative}
 use Rattle.toggle_sums.specs.CountLaws.{plus-commutative, union-empty}
-use Rattle.toggle_sums.specs.Counts.{Count, IsBare, IsWithin, less, plus, without}
-use Rattle.raw_nodes.specs.Records.{Records}
-use Rattle.raw_nodes.specs.declared.names.NodePtr.{NodePtr}
-use Rattle.line_tree.specs.Changes.{sum_all}
-use Rattle.line_tree.specs.Shape.{sum_at}
-use Rattle.line_tree.specs.Trees.{Named, total}
+use Rattle.line_tree.proofs.Words.{Count, IsBare, IsWithin, Named, NodePtr, Records, less, plus, sum_all, sum_at, total}
+use Rattle.line_tree.proofs.Words.{without}
 use Rattle.line_tree.proofs.SumLaws.{total-append}
 use Rattle.std.specs.FinSet as set
 

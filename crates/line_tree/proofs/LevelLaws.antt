@@ -1,16 +1,12 @@
 -- How many levels a tree of so many lines has at most.
 use Rattle.std.proofs.Common.{◌≡◌, ℕ, zero, suc, ◌+◌, ◌-◌, ◌*◌, ◌/◌, ◌^◌, ◌<◌, ◌≤◌, max, inl, inr, ap, subst, arith}
-use Rattle.std.proofs.Common.{lit≤, lit<, length}
-use Rattle.std.specs.Prelude.{nat_le}
+use Rattle.std.proofs.Common.{lit≤, lit<, length, nat_le}
 use Rattle.std.specs.FinMap as finite
 use Rattle.std.proofs.Math.Nat.{pow-le-pow_right, pow-succ'}
 use Rattle.std.proofs.lemmas.Bool.{cases_lt, cond-false, cond-true, le-leb, lt-leb}
-use Rattle.raw_nodes.specs.Records.{Records}
-use Rattle.raw_nodes.specs.declared.names.NodePtr.{NodePtr}
+use Rattle.line_tree.proofs.Words.{NodePtr, Records, lines_in, names, tree_at}
 use Rattle.line_tree.specs.Growth.{Stands}
 use Rattle.line_tree.specs.Room.{levels_at_most, levels_up_to}
-use Rattle.line_tree.specs.Shape.{lines_in, tree_at}
-use Rattle.line_tree.specs.Trees.{names}
 use Rattle.line_tree.proofs.CountLaws.{names-many-root}
 use Rattle.line_tree.proofs.FrameLaws.{names-held}
 use Rattle.line_tree.proofs.RoomLaws.{len-many}

@@ -5,14 +5,11 @@ use Rattle.std.specs.FinMap as finite
 use Rattle.std.specs.List.{AllByRecursion}
 use Rattle.std.proofs.Math.Nat.{mul-le-mul_right}
 use Rattle.std.proofs.lemmas.List.{length-map}
-use Rattle.raw_nodes.specs.Records.{Records}
-use Rattle.raw_nodes.specs.declared.names.NodePtr.{NodePtr}
-use Rattle.line_tree.specs.Changes.{FitsSum, sum_all}
+use Rattle.line_tree.proofs.Words.{FitsSum, IsBalanced, IsBalancedRoot, NodePtr, Records, Tree, least_below_root}
+use Rattle.line_tree.proofs.Words.{sum_all, total, tree_at}
 use Rattle.line_tree.specs.Growth.{IsWide, lines_of, names_of}
 use Rattle.line_tree.specs.Raising.{CanLift, CanRaise, Lifted, Raises, trees_at}
 use Rattle.line_tree.specs.Room.{levels_at_most}
-use Rattle.line_tree.specs.Shape.{tree_at}
-use Rattle.line_tree.specs.Trees.{IsBalanced, IsBalancedRoot, Tree, least_below_root, total}
 use Rattle.line_tree.proofs.BecomeLaws.{and-then}
 use Rattle.line_tree.proofs.BuildLaws.{sum-trees}
 use Rattle.line_tree.proofs.CountLaws.{least-lines, lines-sum, lines-within, many-lines}

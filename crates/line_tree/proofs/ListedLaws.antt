@@ -1,28 +1,22 @@
 -- A tree with a table of names as a list of lines.
 use Rattle.std.proofs.Common.{◌≡◌, ℕ, zero, suc, ◌+◌, ◌-◌, ◌^◌, ◌<◌, ◌≤◌, Bool, true, false, cond, List, [], ◌∷◌, ◌++◌}
-use Rattle.std.proofs.Common.{length, take, drop, refl, sym, ap, ap₂, ◌∙◌, subst, arith, length-append}
-use Rattle.std.specs.Prelude.{IfSome, is_some, option_map, slice_get, slice_range}
+use Rattle.std.proofs.Common.{length, take, drop, refl, sym, ap, ap₂, ◌∙◌, subst, arith, length-append, IfSome, is_some}
+use Rattle.std.proofs.Common.{option_map, slice_get, slice_range, Option, None, Some}
 use Rattle.std.specs.FinMap as finite
 use Rattle.std.specs.List.{All}
 use Rattle.std.specs.Ordering.{nat_cmp}
-use Rattle.std.specs.declared.option.Option.{Option}
-use Rattle.std.specs.declared.option.Option.TheVariants.{None, Some}
 use Rattle.std.proofs.Math.Seq.{drop-append_seam, take-append_seam}
 use Rattle.std.proofs.lemmas.List.{append_assoc, drop-map, length-drop, length-take-le, map-append, take-map}
 use Rattle.std.proofs.lemmas.Option.{none-some, same_Some, slice_get-map, slice_get_within}
-use Rattle.toggle_sums.specs.Counts.{Count, plus}
-use Rattle.segments.specs.Columns.{LineContent, plain_line}
-use Rattle.raw_nodes.specs.declared.names.NodePtr.{NodePtr}
+use Rattle.line_tree.proofs.Words.{Count, FitsSum, LineContent, Named, NodePtr, contents, plain_line, plus, total}
 use Rattle.line_lists.specs.Lists.{AreLines, Holds, IsCounted, NumbersBelow, count_of, has_mark, next_line, spliced}
 use Rattle.line_lists.specs.Texts.{whole}
 use Rattle.line_lists.proofs.CountRows.{count-characters, count-lines}
 use Rattle.line_lists.proofs.SearchRows.{FailFrom, NextAt}
 use Rattle.line_lists.proofs.VecLaws.{new-lines}
-use Rattle.line_tree.specs.Changes.{FitsSum}
 use Rattle.line_tree.specs.Locating.{IsPlaceAt}
 use Rattle.line_tree.specs.MarkTable.{IsTable, holder, lines_without, noted}
 use Rattle.line_tree.specs.Places.{IsLineAt}
-use Rattle.line_tree.specs.Trees.{Named, contents, total}
 use Rattle.line_tree.proofs.HolderLaws.{not-first}
 use Rattle.line_tree.proofs.NearestLaws.{long, next-is, next-no}
 use Rattle.line_tree.proofs.PrefixLaws.{count-contents, count-first}

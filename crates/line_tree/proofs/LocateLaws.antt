@@ -1,15 +1,10 @@
 -- Ways down by characters.
-use Rattle.std.proofs.Common.{◌≡◌, ℕ, suc, List, [], ◌∷◌, map, refl, sym}
-use Rattle.std.proofs.Common.{ap, ◌∙◌, arith}
+use Rattle.std.proofs.Common.{◌≡◌, ℕ, suc, List, [], ◌∷◌, map, refl, sym, ap, ◌∙◌, arith}
 use Rattle.std.specs.List.{AllByRecursion, flat_map, sum_by}
 use Rattle.std.proofs.lemmas.List.Sums.{sum_by-cons}
-use Rattle.raw_nodes.specs.Records.{Records}
-use Rattle.raw_nodes.specs.Rows.{kids}
-use Rattle.raw_nodes.specs.declared.names.NodePtr.{NodePtr}
+use Rattle.line_tree.proofs.Words.{Holds, IsTree, NodePtr, Records, kids, lines, lines_at, lines_in, total, tree_at}
 use Rattle.line_tree.specs.Finds.{lines_below}
 use Rattle.line_tree.specs.Locating.{characters_at, characters_below}
-use Rattle.line_tree.specs.Shape.{Holds, IsTree, lines_at, lines_in, tree_at}
-use Rattle.line_tree.specs.Trees.{lines, total}
 use Rattle.line_tree.proofs.SumLaws.{total-append}
 use Rattle.line_tree.proofs.TreeLaws.{sum-tree, whole-below}
 

@@ -1,27 +1,20 @@
 -- A root with one child, and what was taken out of a tree: given back, and the lines that are left.
 use Rattle.std.proofs.Common.{◌≡◌, ℕ, zero, suc, ◌+◌, ◌-◌, ◌<◌, ◌≤◌, inl, inr, List, [], ◌∷◌, ◌++◌, length, map, take}
-use Rattle.std.proofs.Common.{drop, refl, sym, ap, ◌∙◌, subst, arith}
-use Rattle.std.specs.Prelude.{◌≢◌, IsSome, slice_get}
+use Rattle.std.proofs.Common.{drop, refl, sym, ap, ◌∙◌, subst, arith, ◌≢◌, IsSome, slice_get, Option, None, Some}
 use Rattle.std.specs.FinMap as finite
 use Rattle.std.specs.List.{AllByRecursion}
-use Rattle.std.specs.declared.option.Option.{Option}
-use Rattle.std.specs.declared.option.Option.TheVariants.{None, Some}
 use Rattle.std.proofs.lemmas.List.{append-nil}
 use Rattle.std.proofs.lemmas.Option.{none-some, same_Some}
 use mathlib.Core.Bool.{false≢true}
 use Rattle.text_model.specs.Splices.{removed}
-use Rattle.segments.specs.Columns.{LineContent}
-use Rattle.raw_nodes.specs.Records.{Record, Records, update, with_parent}
-use Rattle.raw_nodes.specs.Rows.{kids}
-use Rattle.raw_nodes.specs.declared.names.NodePtr.{NodePtr}
+use Rattle.line_tree.proofs.Words.{Among, Distinct, FitsSum, Holds, IsBalanced, IsBalancedRoot, IsTree, LineContent}
+use Rattle.line_tree.proofs.Words.{Named, NodePtr, Record, Records, Tree, inner, kids, line_of, lines, lines_in, names}
+use Rattle.line_tree.proofs.Words.{total, tree_at, update, with_parent}
 use Rattle.raw_nodes.proofs.MapLaws.{get_unmoved, some_of}
 use Rattle.raw_nodes.proofs.UpdateLaws.{get-update-other, remove-named, update-named}
-use Rattle.line_tree.specs.Changes.{Among, Distinct, FitsSum}
 use Rattle.line_tree.specs.Giving.{Without}
 use Rattle.line_tree.specs.Growth.{IsWide, Stands, StandsAlone, lines_of, names_of}
-use Rattle.line_tree.specs.Shape.{Holds, IsTree, line_of, lines_in, tree_at}
 use Rattle.line_tree.specs.Shrinking.{CanLower, CanRemove, Cleans, Lowers, Removes}
-use Rattle.line_tree.specs.Trees.{IsBalanced, IsBalancedRoot, Named, Tree, inner, lines, names, total}
 use Rattle.line_tree.proofs.AmongLaws.{among-left, among-or}
 use Rattle.line_tree.proofs.BuildLaws.{tree-is}
 use Rattle.line_tree.proofs.DistinctLaws.{distinct-left}

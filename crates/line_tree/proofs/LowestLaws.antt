@@ -1,20 +1,14 @@
 -- The lowest level of a tree, where each child is a line.
-use Rattle.std.proofs.Common.{◌≡◌, ℕ, zero, suc, ◌<◌, ◌≤◌, List, [], ◌∷◌, length, take, map, refl, ◌∙◌, arith}
-use Rattle.std.specs.Prelude.{IsSome, slice_get}
+use Rattle.std.proofs.Common.{◌≡◌, ℕ, zero, suc, ◌<◌, ◌≤◌, List, [], ◌∷◌, length, take, map, refl, ◌∙◌, arith, IsSome}
+use Rattle.std.proofs.Common.{slice_get, Option, None, Some}
 use Rattle.std.specs.FinMap as finite
 use Rattle.std.specs.List.{AllByRecursion, sum_by}
-use Rattle.std.specs.declared.option.Option.{Option}
-use Rattle.std.specs.declared.option.Option.TheVariants.{None, Some}
 use Rattle.std.proofs.lemmas.List.Sums.{sum_by-cons}
 use mathlib.Core.Bool.{false≢true}
-use Rattle.segments.specs.Columns.{LineContent}
-use Rattle.raw_nodes.specs.Records.{Records}
-use Rattle.raw_nodes.specs.Rows.{kids}
-use Rattle.raw_nodes.specs.declared.names.NodePtr.{NodePtr}
+use Rattle.line_tree.proofs.Words.{Holds, IsTree, LineContent, NodePtr, Records, kids, line_of, lines, lines_at}
+use Rattle.line_tree.proofs.Words.{tree_at}
 use Rattle.line_tree.specs.Finds.{lines_below}
 use Rattle.line_tree.specs.Places.{lines_before}
-use Rattle.line_tree.specs.Shape.{Holds, IsTree, line_of, lines_at, tree_at}
-use Rattle.line_tree.specs.Trees.{lines}
 use Rattle.line_tree.proofs.TreeLaws.{child-tree, count-tree}
 
 -- a line is one line

@@ -1,14 +1,9 @@
 -- The names of a tree's lines are distinct.
-use Rattle.std.proofs.Common.{ℕ, zero, suc, inl, inr, List, [], ◌∷◌, sym, subst}
-use Rattle.std.specs.declared.option.Option.{Option}
-use Rattle.std.specs.declared.option.Option.TheVariants.{None, Some}
+use Rattle.std.proofs.Common.{ℕ, zero, suc, inl, inr, List, [], ◌∷◌, sym, subst, Option, None, Some}
 use Rattle.std.proofs.lemmas.List.{map-append}
-use Rattle.segments.specs.Columns.{LineContent}
-use Rattle.raw_nodes.specs.declared.names.NodePtr.{NodePtr}
-use Rattle.line_tree.specs.Changes.{Among, Distinct}
+use Rattle.line_tree.proofs.Words.{Among, Distinct, LineContent, Named, NodePtr, Tree, lines, names}
 use Rattle.line_tree.specs.Growth.{lines_of, names_of}
 use Rattle.line_tree.specs.Places.{line_names}
-use Rattle.line_tree.specs.Trees.{Named, Tree, lines, names}
 use Rattle.line_tree.proofs.AmongLaws.{among-cases, among-left, among-right}
 use Rattle.line_tree.proofs.DistinctLaws.{distinct-apart, distinct-append, distinct-left, distinct-right}
 

@@ -1,32 +1,25 @@
 -- Ways down to the nearest line that has what is wanted.
 use Rattle.std.proofs.Common.{◌≡◌, ℕ, zero, suc, ◌+◌, ◌-◌, ◌<◌, ◌≤◌, ◌⊎◌, inl, inr, Bool, true, false, ◌||◌, min}
-use Rattle.std.proofs.Common.{nat_lt, List, [], ◌∷◌, length, refl, sym, ap, ◌∙◌, subst, arith}
-use Rattle.std.specs.Prelude.{slice_get}
+use Rattle.std.proofs.Common.{nat_lt, List, [], ◌∷◌, length, refl, sym, ap, ◌∙◌, subst, arith, slice_get, Option, None}
+use Rattle.std.proofs.Common.{Some}
 use Rattle.std.specs.Cmp.{nat_cmp_total}
 use Rattle.std.specs.FinMap as finite
 use Rattle.std.specs.FinSet as set
 use Rattle.std.specs.List.{sum_by}
-use Rattle.std.specs.declared.option.Option.{Option}
-use Rattle.std.specs.declared.option.Option.TheVariants.{None, Some}
 use Rattle.std.proofs.Math.Nat.{le-min, min-le_left, min-le_right}
 use Rattle.std.proofs.lemmas.Bool.{cases_lt}
 use Rattle.std.proofs.lemmas.List.{length-map, take_all}
 use Rattle.std.proofs.lemmas.List.Sums.{sum_by-take-le}
 use mathlib.Core.Bool.{false≢true}
 use Rattle.toggle_sums.specs.CountLaws.{plus-no_text}
-use Rattle.toggle_sums.specs.Counts.{Count, plus}
-use Rattle.segments.specs.Columns.{LineContent, line_count, plain_line}
-use Rattle.raw_nodes.specs.Records.{Records}
-use Rattle.raw_nodes.specs.Rows.{kids}
-use Rattle.raw_nodes.specs.declared.names.NodePtr.{NodePtr}
+use Rattle.line_tree.proofs.Words.{Count, IsTree, LineContent, Named, NodePtr, Records, contents, kids, line_count}
+use Rattle.line_tree.proofs.Words.{line_of, lines, lines_at, lines_in, plain_line, plus, total}
 use Rattle.line_lists.specs.Lists.{next_line, previous_line}
 use Rattle.line_lists.proofs.ListLaws.{no-marks, some-marks}
 use Rattle.line_lists.proofs.SearchRows.{FailFrom, NextAt, PreviousAt, line_at, next-found, next-none, previous-found}
 use Rattle.line_lists.proofs.SearchRows.{previous-none}
 use Rattle.line_tree.specs.Nearest.{passes, shows}
 use Rattle.line_tree.specs.Places.{lines_before}
-use Rattle.line_tree.specs.Shape.{IsTree, line_of, lines_at, lines_in}
-use Rattle.line_tree.specs.Trees.{Named, contents, lines, total}
 use Rattle.line_tree.specs.declared.nearest.Wanted.{Wanted}
 use Rattle.line_tree.specs.declared.nearest.Wanted.TheVariants.{Toggle, Mark}
 use Rattle.line_tree.proofs.RowLaws.{step_yes}

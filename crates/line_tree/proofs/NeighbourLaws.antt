@@ -1,21 +1,16 @@
 -- Two neighbours among the trees below a node, which share their children or become one.
-use Rattle.std.proofs.Common.{◌≡◌, ℕ, suc, inl, inr, List, [], ◌∷◌, ◌++◌, length, take, drop, map, sym, ap}
-use Rattle.std.proofs.Common.{◌∙◌, subst, arith, length-take, length-drop}
-use Rattle.std.specs.Prelude.{◌≢◌, IsSome, slice_get}
+use Rattle.std.proofs.Common.{◌≡◌, ℕ, suc, inl, inr, List, [], ◌∷◌, ◌++◌, length, take, drop, map, sym, ap, ◌∙◌, subst}
+use Rattle.std.proofs.Common.{arith, length-take, length-drop, ◌≢◌, IsSome, slice_get, Some}
 use Rattle.std.specs.FinMap as finite
 use Rattle.std.specs.List.{AllByRecursion}
-use Rattle.std.specs.declared.option.Option.TheVariants.{Some}
 use Rattle.std.proofs.lemmas.List.{length-map, map-append}
 use Rattle.std.proofs.lemmas.List.Concat.{flat_map-append}
-use Rattle.raw_nodes.specs.Records.{Records}
-use Rattle.raw_nodes.specs.Rows.{kids, row}
-use Rattle.raw_nodes.specs.declared.names.NodePtr.{NodePtr}
+use Rattle.line_tree.proofs.Words.{Among, CanEven, Distinct, FitsSum, Holds, IsBalanced, Links, Merges, NodePtr}
+use Rattle.line_tree.proofs.Words.{Records, Shares, Tree, inner, kids, lines, names, refilled, row, sum_all, tops}
+use Rattle.line_tree.proofs.Words.{total, tree_at}
 use Rattle.raw_nodes.proofs.PlaceLaws.{same_or_other}
-use Rattle.line_tree.specs.Changes.{Among, CanEven, Distinct, FitsSum, Merges, Shares, refilled, sum_all}
 use Rattle.line_tree.specs.Growth.{KeepsLink, lines_of, names_of}
-use Rattle.line_tree.specs.Shape.{Holds, Links, tree_at}
 use Rattle.line_tree.specs.Shrinking.{Turns}
-use Rattle.line_tree.specs.Trees.{IsBalanced, Tree, inner, lines, names, tops, total}
 use Rattle.line_tree.proofs.AmongLaws.{among-drop, among-get, among-take}
 use Rattle.line_tree.proofs.BuildLaws.{sum-kids, sum-trees}
 use Rattle.line_tree.proofs.DistinctLaws.{distinct-left, distinct-right}

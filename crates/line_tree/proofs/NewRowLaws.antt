@@ -2,13 +2,9 @@
 use Rattle.std.proofs.Common.{◌≡◌, List, [], ◌∷◌, ◌++◌, length, take, drop, reverse, refl, sym, ap, ◌∙◌, subst}
 use Rattle.std.proofs.Common.{append_assoc}
 use Rattle.std.proofs.lemmas.List.{reverse-append, take-append-drop}
-use Rattle.segments.specs.Columns.{LineContent}
-use Rattle.raw_nodes.specs.Records.{Records}
-use Rattle.raw_nodes.specs.declared.names.NodePtr.{NodePtr}
+use Rattle.line_tree.proofs.Words.{LineContent, NodePtr, Records, contents, tree_at}
 use Rattle.line_tree.specs.Growth.{NewLine, lines_of}
 use Rattle.line_tree.specs.Raising.{Becomes, trees_at}
-use Rattle.line_tree.specs.Shape.{tree_at}
-use Rattle.line_tree.specs.Trees.{contents}
 use Rattle.line_tree.proofs.BecomeLaws.{both, new-becomes, swapped}
 use Rattle.line_tree.proofs.BuildLaws.{trees-is}
 use Rattle.line_tree.proofs.RootLaws.{new-lines}

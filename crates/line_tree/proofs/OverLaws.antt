@@ -1,18 +1,11 @@
 -- A line in another one's place, under its name, and what a table of names says then.
-use Rattle.std.proofs.Common.{◌≡◌, ℕ, suc, [], ◌∷◌, ◌+◌, ◌-◌, ◌≤◌, ◌++◌, cond, List, length, take, drop, refl, sym, ap, ◌∙◌}
-use Rattle.std.proofs.Common.{subst, arith, append_assoc}
-use Rattle.std.specs.Prelude.{option_map, slice_get}
-use Rattle.std.specs.declared.option.Option.{Option}
-use Rattle.std.specs.declared.option.Option.TheVariants.{None, Some}
+use Rattle.std.proofs.Common.{◌≡◌, ℕ, suc, [], ◌∷◌, ◌+◌, ◌-◌, ◌≤◌, ◌++◌, cond, List, length, take, drop, refl, sym, ap}
+use Rattle.std.proofs.Common.{◌∙◌, subst, arith, append_assoc, option_map, slice_get, Option, None, Some}
 use Rattle.toggle_sums.specs.CountLaws.{plus-no_text}
-use Rattle.toggle_sums.specs.Counts.{plus}
-use Rattle.segments.specs.Columns.{LineContent, line_count}
-use Rattle.raw_nodes.specs.declared.names.NodePtr.{NodePtr}
+use Rattle.line_tree.proofs.Words.{FitsSum, LineContent, Named, NodePtr, contents, line_count, plus, total}
 use Rattle.line_lists.specs.Lists.{AreLines, IsCounted, NumbersBelow, count_of, has_mark, spliced}
-use Rattle.line_tree.specs.Changes.{FitsSum}
 use Rattle.line_tree.specs.MarkTable.{AreBare, IsTable, holder, lines_without, noted}
 use Rattle.line_tree.specs.Taking.{changed}
-use Rattle.line_tree.specs.Trees.{Named, contents, total}
 use Rattle.line_tree.proofs.ChangingLaws.{changed-at}
 use Rattle.line_tree.proofs.HolderLaws.{none-out}
 use Rattle.line_tree.proofs.ListedLaws.{Comes, comes-contents, comes-others, fits-counted}

@@ -4,14 +4,10 @@ use Rattle.std.specs.Prelude.{◌≢◌}
 use Rattle.std.specs.List.{AllByRecursion}
 use Rattle.std.proofs.lemmas.List.{append-nil, drop-map, map-append, take-append-drop, take-map}
 use Rattle.std.proofs.lemmas.List.Concat.{flat_map-append}
-use Rattle.raw_nodes.specs.Records.{Records}
-use Rattle.raw_nodes.specs.Rows.{kids, row}
-use Rattle.raw_nodes.specs.declared.names.NodePtr.{NodePtr}
-use Rattle.line_tree.specs.Changes.{Among, CanEven, CanFill, Distinct, Merges, Shares, refilled}
+use Rattle.line_tree.proofs.Words.{Among, CanEven, CanFill, Distinct, Holds, Merges, NodePtr, Records, Shares, Tree}
+use Rattle.line_tree.proofs.Words.{kids, lines, refilled, row, tops}
 use Rattle.line_tree.specs.Growth.{lines_of, names_of}
-use Rattle.line_tree.specs.Shape.{Holds}
 use Rattle.line_tree.specs.Shrinking.{Turns}
-use Rattle.line_tree.specs.Trees.{Tree, lines, tops}
 use Rattle.line_tree.proofs.AmongLaws.{among-cases, among-left, among-right}
 use Rattle.line_tree.proofs.BuildLaws.{built, kids-held}
 use Rattle.line_tree.proofs.DistinctLaws.{distinct-apart, distinct-append, distinct-left, distinct-right}

@@ -1,23 +1,16 @@
 -- Where names stand in a tree.
 use Rattle.std.proofs.Common.{◌≡◌, ℕ, zero, suc, ◌+◌, ◌-◌, ◌<◌, inl, inr, List, [], ◌∷◌, length, take, map, refl, sym}
-use Rattle.std.proofs.Common.{ap, ◌∙◌, subst, arith}
-use Rattle.std.specs.Prelude.{IfSome, IsSome, slice_get}
+use Rattle.std.proofs.Common.{ap, ◌∙◌, subst, arith, IfSome, IsSome, slice_get, Option, None, Some}
 use Rattle.std.specs.FinMap as finite
 use Rattle.std.specs.List.{AllByRecursion, flat_map, sum_by}
 use Rattle.std.specs.Option.{option_map}
-use Rattle.std.specs.declared.option.Option.{Option}
-use Rattle.std.specs.declared.option.Option.TheVariants.{None, Some}
 use Rattle.std.proofs.lemmas.Bool.{cases_lt}
 use Rattle.std.proofs.lemmas.List.Sums.{sum_by-cons}
 use Rattle.std.proofs.lemmas.Option.{none-some, same_Some, slice_get_within}
-use Rattle.segments.specs.Columns.{LineContent}
-use Rattle.raw_nodes.specs.Records.{Records}
-use Rattle.raw_nodes.specs.Rows.{kids}
-use Rattle.raw_nodes.specs.declared.names.NodePtr.{NodePtr}
+use Rattle.line_tree.proofs.Words.{Holds, IsLinked, IsTree, LineContent, Links, Named, NodePtr, Records, kids, line_of}
+use Rattle.line_tree.proofs.Words.{lines, lines_at, lines_in, tree_at}
 use Rattle.raw_nodes.proofs.MapLaws.{at_some}
 use Rattle.line_tree.specs.Places.{IsChild, IsLineAt, Sits, lines_before}
-use Rattle.line_tree.specs.Shape.{Holds, IsLinked, IsTree, Links, line_of, lines_at, lines_in, tree_at}
-use Rattle.line_tree.specs.Trees.{Named, lines}
 use Rattle.line_tree.proofs.TreeLaws.{child-tree, count-tree, get-left, get-right, tops-tree_at}
 
 -- ---- links
@@ -122,18 +115,20 @@ pub level : (m : Records) (h j : ℕ) (r p : NodePtr) (o : ℕ) → j < h → Si
     Sits m (suc (h - suc j)) j r p o
 level m h j r p o less s = let e : h - j ≡ suc (h - suc j) = omega arith in subst (λ x. Sits m x j r p o) e s
 
-pub named-below : (m : Records) (d j : ℕ) (r p : NodePtr) (o : ℕ) → Sits m (suc d) j r p o → IsSome (finite.get m p)
-named-below m d j r p o s = subst (λ x. IsSome x) (sym (linked m j s.0 s.1 p s.4).is) refl
+-- what the record of a child says
+pub child-named : (m : Records) (h : ℕ) (q : NodePtr) (i : ℕ) (c : NodePtr) → IsChild m h q i c →
+    IsSome (finite.get m c)
+child-named m h q i c child = subst (λ x. IsSome x) (sym (linked m h q i c child).is) refl
 
-pub parent-below : (m : Records) (d j : ℕ) (r p : NodePtr) (o : ℕ) (s : Sits m (suc d) j r p o) (up : Option NodePtr) →
-    IfSome (finite.get m p) (λ x. up ≡ x.parent) → up ≡ Some s.0
-parent-below m d j r p o s up says = let l = linked m j s.0 s.1 p s.4 in
-    at_some (finite.get m p) (λ x. up ≡ x.parent) l.found says l.is ∙ l.parent
+pub child-parent : (m : Records) (h : ℕ) (q : NodePtr) (i : ℕ) (c : NodePtr) → IsChild m h q i c →
+    (up : Option NodePtr) → IfSome (finite.get m c) (λ x. up ≡ x.parent) → up ≡ Some q
+child-parent m h q i c child up says = let l = linked m h q i c child in
+    at_some (finite.get m c) (λ x. up ≡ x.parent) l.found says l.is ∙ l.parent
 
-pub slot-below : (m : Records) (d j : ℕ) (r p : NodePtr) (o : ℕ) (s : Sits m (suc d) j r p o) (slot : ℕ) →
-    IfSome (finite.get m p) (λ x. slot ≡ x.slot) → slot ≡ s.1
-slot-below m d j r p o s slot says = let l = linked m j s.0 s.1 p s.4 in
-    at_some (finite.get m p) (λ x. slot ≡ x.slot) l.found says l.is ∙ l.slot
+pub child-slot : (m : Records) (h : ℕ) (q : NodePtr) (i : ℕ) (c : NodePtr) → IsChild m h q i c → (slot : ℕ) →
+    IfSome (finite.get m c) (λ x. slot ≡ x.slot) → slot ≡ i
+child-slot m h q i c child slot says = let l = linked m h q i c child in
+    at_some (finite.get m c) (λ x. slot ≡ x.slot) l.found says l.is ∙ l.slot
 
 pub record Up (m : Records) (d j : ℕ) (r p : NodePtr) (o : ℕ) (up : NodePtr) (slot : ℕ) : Type 0 where
   pub base : ℕ
@@ -145,8 +140,8 @@ pub up_from : (m : Records) (d j : ℕ) (r p : NodePtr) (o : ℕ) → Sits m (su
     IfSome (finite.get m p) (λ x. parent ≡ x.parent) → (up : NodePtr) → parent ≡ Some up
     → (slot : ℕ) → IfSome (finite.get m p) (λ x. slot ≡ x.slot) → Up m d j r p o up slot
 up_from m d j r p o s parent says up is slot slot_says =
-    let q = same_Some s.0 up (sym (parent-below m d j r p o s parent says) ∙ is) in
-    let i = sym (slot-below m d j r p o s slot slot_says) in
+    let q = same_Some s.0 up (sym (child-parent m j s.0 s.1 p s.4 parent says) ∙ is) in
+    let i = sym (child-slot m j s.0 s.1 p s.4 slot slot_says) in
     let at_up : Up m d j r p o up s.1 = subst (λ x. Up m d j r p o x s.1) q
     (record { base = s.2; sits = s.3; child = s.4; offset = s.5 }) in
     subst (λ x. Up m d j r p o up x) i at_up

@@ -1,21 +1,13 @@
 -- Ways down with the sum of the lines before.
-use Rattle.std.proofs.Common.{◌≡◌, ℕ, suc, ◌+◌, ◌<◌, ◌≤◌, List, [], ◌∷◌, ◌++◌, length, take, map, refl, sym}
-use Rattle.std.proofs.Common.{ap, ◌∙◌, arith}
-use Rattle.std.specs.Prelude.{slice_get}
+use Rattle.std.proofs.Common.{◌≡◌, ℕ, suc, ◌+◌, ◌<◌, ◌≤◌, List, [], ◌∷◌, ◌++◌, length, take, map, refl, sym, ap, ◌∙◌}
+use Rattle.std.proofs.Common.{arith, slice_get, None, Some}
 use Rattle.std.specs.List.{AllByRecursion, flat_map}
-use Rattle.std.specs.declared.option.Option.TheVariants.{None, Some}
 use Rattle.std.proofs.lemmas.List.{take-map, take_all, take_more}
 use Rattle.std.proofs.lemmas.Option.{get_or_from_slice_get, slice_get_within}
 use Rattle.toggle_sums.specs.CountLaws.{plus-no_text}
-use Rattle.toggle_sums.specs.Counts.{Count, plus}
-use Rattle.segments.specs.Columns.{line_count}
-use Rattle.raw_nodes.specs.Records.{Records}
-use Rattle.raw_nodes.specs.Rows.{kids}
-use Rattle.raw_nodes.specs.declared.names.NodePtr.{NodePtr}
+use Rattle.line_tree.proofs.Words.{Count, Holds, IsTree, Named, NodePtr, Records, contents, kids, line_count, lines}
+use Rattle.line_tree.proofs.Words.{lines_in, plus, sum_all, sum_at, total, tree_at}
 use Rattle.line_lists.specs.Lists.{count_of}
-use Rattle.line_tree.specs.Changes.{sum_all}
-use Rattle.line_tree.specs.Shape.{Holds, IsTree, lines_in, sum_at, tree_at}
-use Rattle.line_tree.specs.Trees.{Named, contents, lines, total}
 use Rattle.line_tree.proofs.BuildLaws.{sum-trees}
 use Rattle.line_tree.proofs.FillLaws.{sum_all-append}
 use Rattle.line_tree.proofs.RowLaws.{past}

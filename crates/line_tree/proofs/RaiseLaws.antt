@@ -1,19 +1,14 @@
 -- One more node above the trees of a level.
-use Rattle.std.proofs.Common.{◌≡◌, ℕ, zero, suc, ◌+◌, ◌-◌, ◌≤◌, inl, inr, List, [], ◌∷◌, ◌++◌, length, refl, sym, ap, ◌∙◌}
-use Rattle.std.proofs.Common.{subst, append_assoc, arith, take, drop}
-use Rattle.std.specs.Prelude.{IsSome, slice_get, option_to_list}
+use Rattle.std.proofs.Common.{◌≡◌, ℕ, zero, suc, ◌+◌, ◌-◌, ◌≤◌, inl, inr, List, [], ◌∷◌, ◌++◌, length, refl, sym, ap}
+use Rattle.std.proofs.Common.{◌∙◌, subst, append_assoc, arith, take, drop, IsSome, slice_get, option_to_list}
 use Rattle.std.specs.FinMap as finite
 use Rattle.std.specs.List.{AllByRecursion}
 use Rattle.std.proofs.lemmas.List.{append-nil, length-map, map-append, take-append-drop}
 use Rattle.std.proofs.lemmas.List.Concat.{flat_map-append}
-use Rattle.toggle_sums.specs.Counts.{Count, plus}
-use Rattle.raw_nodes.specs.Records.{Records}
-use Rattle.raw_nodes.specs.declared.names.NodePtr.{NodePtr}
-use Rattle.line_tree.specs.Changes.{Among, Distinct, FitsSum, sum_all}
+use Rattle.line_tree.proofs.Words.{Among, Count, Distinct, FitsSum, Holds, NodePtr, Records, Tree, plus, sum_all}
+use Rattle.line_tree.proofs.Words.{sum_of, tops, tree_at}
 use Rattle.line_tree.specs.Growth.{HasNoParent, NewRoot, names_of}
 use Rattle.line_tree.specs.Raising.{Becomes, CanRaise, HasKids, Raises, below_all, trees_at}
-use Rattle.line_tree.specs.Shape.{Holds, sum_of, tree_at}
-use Rattle.line_tree.specs.Trees.{Tree, tops}
 use Rattle.line_tree.proofs.AmongLaws.{among-cases, among-left}
 use Rattle.line_tree.proofs.BecomeLaws.{both, node-becomes, node-loose}
 use Rattle.line_tree.proofs.BuildLaws.{trees-is}

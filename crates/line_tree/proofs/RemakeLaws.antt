@@ -1,21 +1,15 @@
 -- A node that is made anew with other trees among its children.
 use Rattle.std.proofs.Common.{◌≡◌, ℕ, suc, ◌+◌, ◌*◌, ◌≤◌, inl, inr, List, [], ◌∷◌, ◌++◌, length, take, drop, refl, sym}
-use Rattle.std.proofs.Common.{ap, ◌∙◌, subst, arith, length-append}
-use Rattle.std.specs.Prelude.{IsSome}
+use Rattle.std.proofs.Common.{ap, ◌∙◌, subst, arith, length-append, IsSome}
 use Rattle.std.specs.FinMap as finite
 use Rattle.std.specs.List.{AllByRecursion}
 use Rattle.std.proofs.lemmas.List.{length-map, map-append, take-append-drop}
 use Rattle.std.proofs.lemmas.List.Concat.{flat_map-append}
 use Rattle.toggle_sums.specs.CountLaws.{plus-associative, plus-commutative}
-use Rattle.toggle_sums.specs.Counts.{plus}
-use Rattle.raw_nodes.specs.Records.{Records}
-use Rattle.raw_nodes.specs.Rows.{kids}
-use Rattle.raw_nodes.specs.declared.names.NodePtr.{NodePtr}
-use Rattle.line_tree.specs.Changes.{Among, Distinct, FitsSum, sum_all}
+use Rattle.line_tree.proofs.Words.{Among, Distinct, FitsSum, Holds, IsBalanced, IsTree, Named, NodePtr, Records, Tree}
+use Rattle.line_tree.proofs.Words.{kids, lines, lines_in, names, plus, sum_all, tops, total, tree_at}
 use Rattle.line_tree.specs.Growth.{IsWide, lines_of, names_of}
 use Rattle.line_tree.specs.Raising.{Becomes, CanRaise, HasKids, Raises, TakesRow, below_all, trees_at, with_lines}
-use Rattle.line_tree.specs.Shape.{Holds, IsTree, lines_in, tree_at}
-use Rattle.line_tree.specs.Trees.{IsBalanced, Named, Tree, lines, names, tops, total}
 use Rattle.line_tree.proofs.AmongLaws.{among-cases, among-left, among-right}
 use Rattle.line_tree.proofs.BecomeLaws.{and-then, both, gone, renamed, stays}
 use Rattle.line_tree.proofs.BuildLaws.{sum-trees, trees-is}

@@ -5,18 +5,13 @@ use Rattle.std.specs.FinMap as finite
 use Rattle.std.specs.List.{AllByRecursion}
 use Rattle.std.proofs.lemmas.List.{length-map}
 use Rattle.text_model.specs.Splices.{removed}
-use Rattle.toggle_sums.specs.Counts.{Count, plus}
-use Rattle.raw_nodes.specs.Records.{Records}
-use Rattle.raw_nodes.specs.Rows.{kids, row}
-use Rattle.raw_nodes.specs.declared.names.NodePtr.{NodePtr}
+use Rattle.line_tree.proofs.Words.{Among, CanFill, Count, FitsSum, IsBalanced, Named, NodePtr, Records, Tree, kids}
+use Rattle.line_tree.proofs.Words.{lines_in, names, plus, refilled, row, tops, total, tree_at}
 use Rattle.raw_nodes.proofs.MapLaws.{get_unmoved}
 use Rattle.raw_nodes.proofs.RowLaws.{length-row}
-use Rattle.line_tree.specs.Changes.{Among, CanFill, FitsSum, refilled}
 use Rattle.line_tree.specs.Finds.{HasRow}
 use Rattle.line_tree.specs.Growth.{IsWide, KeepsLink, lines_of, names_of}
-use Rattle.line_tree.specs.Shape.{lines_in, tree_at}
 use Rattle.line_tree.specs.Shrinking.{CanRemove, Removes, Shrinks}
-use Rattle.line_tree.specs.Trees.{IsBalanced, Named, Tree, names, tops, total}
 use Rattle.line_tree.proofs.BuildLaws.{sum-trees, tree-is}
 use Rattle.line_tree.proofs.FrameLaws.{holds-same, names-all-held, tops-among}
 use Rattle.line_tree.proofs.GrowLaws.{to-one}

@@ -1,28 +1,21 @@
 -- A removal at a node whose child shares with a neighbour.
 use Rattle.std.proofs.Common.{◌≡◌, ℕ, suc, ◌+◌, ◌<◌, ◌≤◌, ◌⊎◌, inl, inr, List, [], ◌∷◌, ◌++◌, length, take, drop, map}
-use Rattle.std.proofs.Common.{refl, sym, ap, ◌∙◌, subst, arith, length-append}
-use Rattle.std.specs.Prelude.{◌≢◌, IsSome, slice_get}
+use Rattle.std.proofs.Common.{refl, sym, ap, ◌∙◌, subst, arith, length-append, ◌≢◌, IsSome, slice_get, Option, None}
+use Rattle.std.proofs.Common.{Some}
 use Rattle.std.specs.FinMap as finite
 use Rattle.std.specs.List.{AllByRecursion, remove}
-use Rattle.std.specs.declared.option.Option.{Option}
-use Rattle.std.specs.declared.option.Option.TheVariants.{None, Some}
 use Rattle.std.proofs.lemmas.Bool.{cases_eq}
 use Rattle.std.proofs.lemmas.List.{length-map}
 use Rattle.std.proofs.lemmas.List.Edits.{length-remove}
 use Rattle.std.proofs.lemmas.Option.{none-some, same_Some, slice_get_within}
-use Rattle.raw_nodes.specs.Records.{Records}
-use Rattle.raw_nodes.specs.Rows.{kids, kids_of, row}
-use Rattle.raw_nodes.specs.declared.names.NodePtr.{NodePtr}
+use Rattle.line_tree.proofs.Words.{Among, CanFill, Distinct, Holds, IsBalanced, Links, Mends, Merges, NodePtr, Records}
+use Rattle.line_tree.proofs.Words.{Shares, Tree, kids, kids_of, lines_in, names, plus, refilled, row, sum_all, sum_at}
+use Rattle.line_tree.proofs.Words.{sum_of, tops, total, tree_at}
 use Rattle.raw_nodes.proofs.MapLaws.{get_removed, get_unmoved}
 use Rattle.raw_nodes.proofs.PlaceLaws.{same_or_other}
-use Rattle.line_tree.specs.Changes.{Among, CanFill, Distinct, Mends, Merges, Shares, refilled}
-use Rattle.line_tree.specs.Changes.{sum_all}
 use Rattle.line_tree.specs.Finds.{Finds, HasRow}
 use Rattle.line_tree.specs.Growth.{IsWide, lines_of, names_of}
-use Rattle.toggle_sums.specs.Counts.{plus}
-use Rattle.line_tree.specs.Shape.{Holds, Links, lines_in, sum_at, sum_of, tree_at}
 use Rattle.line_tree.specs.Shrinking.{CanMend, CanRemove, Cleans, Removes, Settles, Shrinks, Turns}
-use Rattle.line_tree.specs.Trees.{IsBalanced, Tree, names, tops, total}
 use Rattle.line_tree.specs.declared.find.Found.{Found}
 use Rattle.line_tree.proofs.AmongLaws.{among-or, get-among}
 use Rattle.line_tree.proofs.BuildLaws.{built, sum-trees, tree-is}
@@ -31,8 +24,7 @@ use Rattle.line_tree.proofs.FillLaws.{refilled-other}
 use Rattle.line_tree.proofs.FrameLaws.{tops-among}
 use Rattle.line_tree.proofs.GrowLaws.{all-append, in-cases, in-left, in-right, names-append, of-one}
 use Rattle.line_tree.proofs.InsertLaws.{has-kept}
-use Rattle.line_tree.proofs.PairLaws.{merge-inside, share-inside}
-use Rattle.line_tree.proofs.PairLaws.{two-right}
+use Rattle.line_tree.proofs.PairLaws.{merge-inside, share-inside, two-right}
 use Rattle.line_tree.proofs.NeighbourLaws.{Siblings, can-even, hold-left, hold-right, merge-links, merge-turns}
 use Rattle.line_tree.proofs.NeighbourLaws.{pair-apart, pair-facts, pair-long, pair-placed, pair-right-apart, pair-two-apart}
 use Rattle.line_tree.proofs.NeighbourLaws.{share-balanced, share-links, share-named, share-turns, tops-among-two}

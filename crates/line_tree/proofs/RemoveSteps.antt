@@ -1,27 +1,19 @@
 -- One level of a removal.
 use Rattle.std.proofs.Common.{◌≡◌, ℕ, zero, suc, ◌+◌, ◌<◌, ◌≤◌, inl, inr, List, [], ◌∷◌, ◌++◌, length, take, drop, map}
-use Rattle.std.proofs.Common.{refl, sym, ap, ◌∙◌, subst, arith, length-take}
-use Rattle.std.specs.Prelude.{◌≢◌, IsSome, slice_get}
+use Rattle.std.proofs.Common.{refl, sym, ap, ◌∙◌, subst, arith, length-take, ◌≢◌, IsSome, slice_get, Option, None, Some}
 use Rattle.std.specs.FinMap as finite
 use Rattle.std.specs.List.{AllByRecursion, remove}
-use Rattle.std.specs.declared.option.Option.{Option}
-use Rattle.std.specs.declared.option.Option.TheVariants.{None, Some}
 use Rattle.std.proofs.lemmas.List.{length-map, map-append}
 use Rattle.std.proofs.lemmas.List.Concat.{flat_map-append}
 use Rattle.std.proofs.lemmas.List.Edits.{length-remove}
 use Rattle.std.proofs.lemmas.Option.{none-some, same_Some, slice_get-map, slice_get_within}
-use Rattle.toggle_sums.specs.Counts.{plus}
-use Rattle.segments.specs.Columns.{LineContent}
-use Rattle.raw_nodes.specs.Records.{Records}
-use Rattle.raw_nodes.specs.Rows.{kids, kids_of, row}
-use Rattle.raw_nodes.specs.declared.names.NodePtr.{NodePtr}
+use Rattle.line_tree.proofs.Words.{Among, CanFill, Distinct, FitsSum, Holds, IsBalanced, IsTree, LineContent, Links}
+use Rattle.line_tree.proofs.Words.{NodePtr, Records, Tree, inner, kids, kids_of, lines, lines_in, names, plus, refilled}
+use Rattle.line_tree.proofs.Words.{row, sum_all, sum_at, tops, total, tree_at}
 use Rattle.raw_nodes.proofs.PlaceLaws.{same_or_other}
-use Rattle.line_tree.specs.Changes.{Among, CanFill, Distinct, FitsSum, refilled, sum_all}
 use Rattle.line_tree.specs.Finds.{Finds, HasRow}
 use Rattle.line_tree.specs.Growth.{IsWide, KeepsLink, lines_of, names_of}
-use Rattle.line_tree.specs.Shape.{Holds, IsTree, Links, lines_in, sum_at, tree_at}
 use Rattle.line_tree.specs.Shrinking.{CanRemove, Cleans, Removes, Shrinks}
-use Rattle.line_tree.specs.Trees.{IsBalanced, Tree, inner, lines, names, tops, total}
 use Rattle.line_tree.specs.declared.find.Found.{Found}
 use Rattle.line_tree.proofs.AmongLaws.{among-cases, among-get, among-left, among-right}
 use Rattle.line_tree.proofs.BuildLaws.{sum-kids, tree-is, trees-is}
@@ -68,19 +60,17 @@ in-drop (suc n) [] j x at = absurd (none-some x at)
 in-drop (suc n) (y ∷ xs) j x at = let e : suc n + j ≡ suc (n + j) = omega arith in
     ap (slice_get (y ∷ xs)) e ∙ in-drop n xs j x at
 
-pub pair-place : {X Y : Type 0} (f : X → Y) (xs : List X) (i : ℕ) (a b : X) → slice_get xs i ≡ Some a →
-    slice_get xs (suc i) ≡ Some b → map f xs ≡ map f (take i xs) ++ ((f a ∷ f b ∷ []) ++ map f (drop (suc (suc i)) xs))
-pair-place f [] i a b at_a at_b = absurd (none-some a at_a)
-pair-place f (x ∷ []) zero a b at_a at_b = absurd (none-some b at_b)
-pair-place f (x ∷ y ∷ xs) zero a b at_a at_b = λ i. f (same_Some x a at_a i) ∷ f (same_Some y b at_b i) ∷ map f xs
-pair-place f (x ∷ xs) (suc i) a b at_a at_b = ap (λ zs. f x ∷ zs) (pair-place f xs i a b at_a at_b)
-
 pub pair-same : {X : Type 0} (xs : List X) (i : ℕ) (a b : X) → slice_get xs i ≡ Some a → slice_get xs (suc i) ≡ Some b →
     xs ≡ take i xs ++ (a ∷ b ∷ drop (suc (suc i)) xs)
 pair-same [] i a b at_a at_b = absurd (none-some a at_a)
 pair-same (x ∷ []) zero a b at_a at_b = absurd (none-some b at_b)
 pair-same (x ∷ y ∷ xs) zero a b at_a at_b = λ i. same_Some x a at_a i ∷ same_Some y b at_b i ∷ xs
 pair-same (x ∷ xs) (suc i) a b at_a at_b = ap (λ zs. x ∷ zs) (pair-same xs i a b at_a at_b)
+
+pub pair-place : {X Y : Type 0} (f : X → Y) (xs : List X) (i : ℕ) (a b : X) → slice_get xs i ≡ Some a →
+    slice_get xs (suc i) ≡ Some b → map f xs ≡ map f (take i xs) ++ ((f a ∷ f b ∷ []) ++ map f (drop (suc (suc i)) xs))
+pair-place f xs i a b at_a at_b = ap (map f) (pair-same xs i a b at_a at_b)
+    ∙ map-append f (take i xs) (a ∷ b ∷ drop (suc (suc i)) xs)
 
 pub pair-remove : {X : Type 0} (xs : List X) (i : ℕ) (a b : X) → slice_get xs i ≡ Some a →
     slice_get xs (suc i) ≡ Some b → remove xs (suc i) ≡ take i xs ++ (a ∷ drop (suc (suc i)) xs)

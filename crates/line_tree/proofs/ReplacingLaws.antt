@@ -12,17 +12,11 @@ use Rattle.std.proofs.Common.{◌≡◌, ℕ, zero, suc, ◌+◌, ◌-◌, ◌<�
 use Rattle.std.proofs.Common.{ap, ◌∙◌, subst, arith}
 use Rattle.std.specs.FinSet as set
 use Rattle.toggle_sums.specs.CountLaws.{plus-commutative, union-associative, union-commutative, union-self}
-use Rattle.toggle_sums.specs.Counts.{Count, IsWithin, no_text, plus}
-use Rattle.segments.specs.Columns.{LineContent, line_count}
-use Rattle.raw_nodes.specs.Records.{Records}
-use Rattle.raw_nodes.specs.Rows.{kids, row}
-use Rattle.raw_nodes.specs.declared.names.NodePtr.{NodePtr}
-use Rattle.line_tree.specs.Changes.{FitsSum, resummed, sums}
+use Rattle.line_tree.proofs.Words.{Count, FitsSum, IsWithin, LineContent, Named, NodePtr, Records, kids, line_count}
+use Rattle.line_tree.proofs.Words.{lines_in, no_text, plus, resummed, row, sum_at, sums, total}
 use Rattle.line_tree.specs.Finds.{Finds, HasRow}
 use Rattle.line_tree.specs.Replacing.{PutsOver}
-use Rattle.line_tree.specs.Shape.{lines_in, sum_at}
 use Rattle.line_tree.specs.Taking.{CanChange, Changes, changed}
-use Rattle.line_tree.specs.Trees.{Named, total}
 use Rattle.line_tree.specs.declared.find.Found.{Found}
 use Rattle.line_tree.proofs.ChangingLaws.{can-child, changes-line, changes-node, lines-changed, node-row, node-sum}
 use Rattle.line_tree.proofs.ChangingLaws.{row-sum, sum-changed, was-parts}

@@ -1,18 +1,14 @@
 -- How many records there are.
 use Rattle.std.proofs.Common.{◌≡◌, ℕ, suc, ◌+◌, List, [], ◌∷◌, length, take, drop, Bool, cond, true, false, inl, inr}
-use Rattle.std.proofs.Common.{◌-◌, ◌<◌, ◌≤◌, ◌++◌, refl, sym, ap, ◌∙◌, subst, arith}
-use Rattle.std.specs.Prelude.{IsSome, is_some, option_to_list}
+use Rattle.std.proofs.Common.{◌-◌, ◌<◌, ◌≤◌, ◌++◌, refl, sym, ap, ◌∙◌, subst, arith, IsSome, is_some, option_to_list}
+use Rattle.std.proofs.Common.{Option, None, Some}
 use Rattle.std.specs.FinMap as finite
 use Rattle.std.specs.FinMap.{empty_of_len, get-empty, len-empty, len-insert, len-remove, same_map}
-use Rattle.std.specs.declared.option.Option.{Option}
-use Rattle.std.specs.declared.option.Option.TheVariants.{None, Some}
 use Rattle.std.proofs.lemmas.Bool.{cases_lt}
 use mathlib.Core.Bool.{false≢true}
-use Rattle.segments.specs.Columns.{LineContent}
+use Rattle.line_tree.proofs.Words.{LineContent, NodePtr, Record, Records, blank, kids, row, update, with_child}
+use Rattle.line_tree.proofs.Words.{with_parent, with_sum}
 use Rattle.raw_nodes.specs.Cells.{name_cmp}
-use Rattle.raw_nodes.specs.Records.{Record, Records, blank, update, with_child, with_parent, with_sum}
-use Rattle.raw_nodes.specs.Rows.{kids, row}
-use Rattle.raw_nodes.specs.declared.names.NodePtr.{NodePtr}
 use Rattle.raw_nodes.proofs.MapLaws.{get_unmoved}
 use Rattle.raw_nodes.proofs.PlaceLaws.{name_antisym, name_total}
 use Rattle.raw_nodes.proofs.UpdateLaws.{len-update, remove-named}

@@ -1,22 +1,16 @@
 -- A new line, and a new root.
 use Rattle.std.proofs.Common.{◌≡◌, ℕ, zero, suc, ◌-◌, ◌*◌, ◌^◌, ◌<◌, ◌≤◌, ◌⊎◌, inl, inr, List, [], ◌∷◌, ◌++◌, length}
-use Rattle.std.proofs.Common.{take, drop, refl, sym, ap, ◌∙◌, subst, arith}
-use Rattle.std.specs.Prelude.{◌≢◌, IsSome, chars, slice_index}
+use Rattle.std.proofs.Common.{take, drop, refl, sym, ap, ◌∙◌, subst, arith, ◌≢◌, IsSome, chars, slice_index, Option}
+use Rattle.std.proofs.Common.{None, Some}
 use Rattle.std.specs.FinMap as finite
 use Rattle.std.specs.FinMap.{len-empty}
 use Rattle.std.specs.List.{AllByRecursion, insert}
-use Rattle.std.specs.declared.option.Option.{Option}
-use Rattle.std.specs.declared.option.Option.TheVariants.{None, Some}
 use Rattle.std.proofs.lemmas.List.{append-nil}
 use Rattle.std.proofs.lemmas.Option.{same_Some}
 use Rattle.std.proofs.lemmas.Str.{chars-IsAscii}
 use mathlib.Core.Bool.{Bool, true, false, false≢true}
 use Rattle.toggle_sums.specs.CountLaws.{plus-no_text}
-use Rattle.toggle_sums.specs.Counts.{plus}
-use Rattle.segments.specs.Columns.{LineContent, line_count, plain_line}
-use Rattle.raw_nodes.specs.Records.{Records, blank, with_sum}
-use Rattle.raw_nodes.specs.Rows.{row}
-use Rattle.raw_nodes.specs.declared.names.NodePtr.{NodePtr}
+use Rattle.line_tree.proofs.Words.{LineContent, NodePtr, Records, blank, line_count, plain_line, plus, row, with_sum}
 use Rattle.raw_nodes.proofs.MapLaws.{get_inserted, get_other, kept_insert}
 use Rattle.raw_nodes.proofs.UpdateLaws.{insert-named}
 use Rattle.line_tree.specs.Changes.{Among, CanFill, Distinct, FitsSum, refilled, relinked, sum_all, sums}
@@ -31,7 +25,7 @@ use Rattle.line_tree.proofs.FillLaws.{at-update, relinked-row, relinked-sums, su
 use Rattle.line_tree.proofs.FrameLaws.{all-same, holds-same, names-all-held, names-held, tops-among}
 use Rattle.line_tree.proofs.GrowLaws.{of-one, to-one, unnamed}
 use Rattle.line_tree.proofs.StepLaws.{total-with_line}
-use Rattle.line_tree.proofs.TreeLaws.{named-tree, top-tree_at, total-lines}
+use Rattle.line_tree.proofs.TreeLaws.{top-tree_at, total-lines}
 use Rattle.line_tree.proofs.UpdateLaws.{refilled-named}
 
 -- ---- records that are the same for a tree
@@ -181,97 +175,6 @@ same-root m n l x line new h r k stands ins fits =
       sym one ∙ lines-now m n l x line new h r k stands None ins fits,
     )
 
--- ---- and with a new one above it
-pub can-root : (l : Records) (h : ℕ) (r s : NodePtr) → AllByRecursion (Holds l h) (trees l h r (Some s)) →
-    FitsSum (total (lines_of h (trees l h r (Some s)))) → FitsSum (sum_all l (r ∷ s ∷ []))
-can-root l h r s all fits =
-    subst FitsSum (sym (ap (sum_all l) (sym (two-tops l h r s)) ∙ sum-trees l h (trees l h r (Some s)) all)) fits
-  where
-    two-tops : (l : Records) (h : ℕ) (r s : NodePtr) → tops h (trees l h r (Some s)) ≡ r ∷ s ∷ []
-    two-tops l h r s = λ i. top-tree_at l h r i ∷ top-tree_at l h s i ∷ []
-
-pub root-tree : (m n l u : Records) (x : NodePtr) (line : LineContent) (new : NewLine m n x line) (h : ℕ) (r : NodePtr)
-    (k : ℕ) → Stands m h r → (s : NodePtr) → Inserts n l h r k x (Some s) →
-    FitsSum (plus (total (lines_in m h r)) (line_count line))
-    → (a : NodePtr) → NewRoot l u a (r ∷ s ∷ []) → tree_at u (suc h) a ≡ (a, trees l h r (Some s))
-root-tree m n l u x line new h r k stands s ins fits a root =
-    let us = trees l h r (Some s) in let made = finite.insert l a (blank None) in
-    let last = refilled made a (row (r ∷ s ∷ [])) in
-    let named = names-all-held l h us ins.grows.holds in
-    let not_a : (q : NodePtr) → IsSome (finite.get l q) →
-    q ≢ a = λ q c e. unnamed l q c (ap (finite.get l) e ∙ root.fresh) in
-    let a_out : Among a (names_of h us) → ⊥ = λ b. not_a a (named a b) refl in
-    let tops_are : tops h us ≡ r ∷ s ∷ [] = λ i. top-tree_at l h r i ∷ top-tree_at l h s i ∷ [] in
-    let all_made = all-same l made h us ins.grows.holds (λ q b. get_other l a (blank None) q (not_a q (named q b))) in
-    let whole = fits-now m n l x line new h r k stands (Some s) ins fits in
-    let sums_same = sum_all-same l made (tops h us) (λ c b.
-    ap sum_of (get_other l a (blank None) c (not_a c (named c (tops-among h us c b))))) in
-    let can : CanFill made a (tops h us) = record {
-      found = blank None;
-      is = get_inserted l a (blank None);
-      inner = refl;
-      long = refl;
-      few = omega arith;
-      each = λ c b. kept_insert l a (blank None) c (named c (tops-among h us c b));
-      apart = λ b. a_out (tops-among h us a b);
-      fits = subst FitsSum (sym (sums_same ∙ sum-trees l h us ins.grows.holds)) whole;
-    } in
-    let same : u ≡ refilled made a (row (tops h us)) = root.same ∙ ap (λ cs. refilled made a (row cs)) (sym tops_are) in
-    let holds : Holds u (suc h) (a, us) = subst (λ z. Holds z (suc h) (a, us)) (sym same)
-    (built made h a us can all_made (a_out, ins.grows.distinct)) in
-    tree-is u (suc h) (a, us) holds
-
-pub new-root : (m n l u : Records) (x : NodePtr) (line : LineContent) (new : NewLine m n x line) (h : ℕ) (r : NodePtr)
-    (k : ℕ) → Stands m h r → (s : NodePtr) → Inserts n l h r k x (Some s) →
-    FitsSum (plus (total (lines_in m h r)) (line_count line))
-    → (a : NodePtr) → NewRoot l u a (r ∷ s ∷ []) → Stands u (suc h) a
-    × (lines_in u (suc h) a ≡ insert (lines_in m h r) k (x, line))
-new-root m n l u x line new h r k stands s ins fits a root =
-    let us = trees l h r (Some s) in let made = finite.insert l a (blank None) in
-    let last = refilled made a (row (r ∷ s ∷ [])) in
-    let named = names-all-held l h us ins.grows.holds in
-    let not_a : (q : NodePtr) → IsSome (finite.get l q) →
-    q ≢ a = λ q c e. unnamed l q c (ap (finite.get l) e ∙ root.fresh) in
-    let a_out : Among a (names_of h us) → ⊥ = λ b. not_a a (named a b) refl in
-    let tops_are : tops h us ≡ r ∷ s ∷ [] = λ i. top-tree_at l h r i ∷ top-tree_at l h s i ∷ [] in
-    let all_made = all-same l made h us ins.grows.holds (λ q b. get_other l a (blank None) q (not_a q (named q b))) in
-    let whole = fits-now m n l x line new h r k stands (Some s) ins fits in
-    let sums_same = sum_all-same l made (tops h us) (λ c b.
-    ap sum_of (get_other l a (blank None) c (not_a c (named c (tops-among h us c b))))) in
-    let can : CanFill made a (tops h us) = record {
-      found = blank None;
-      is = get_inserted l a (blank None);
-      inner = refl;
-      long = refl;
-      few = omega arith;
-      each = λ c b. kept_insert l a (blank None) c (named c (tops-among h us c b));
-      apart = λ b. a_out (tops-among h us a b);
-      fits = subst FitsSum (sym (sums_same ∙ sum-trees l h us ins.grows.holds)) whole;
-    } in
-    let same : u ≡ refilled made a (row (tops h us)) = root.same ∙ ap (λ cs. refilled made a (row cs)) (sym tops_are) in
-    let holds : Holds u (suc h) (a, us) = subst (λ z. Holds z (suc h) (a, us)) (sym same)
-    (built made h a us can all_made (a_out, ins.grows.distinct)) in
-    let tree = tree-is u (suc h) (a, us) holds in
-    let cs = tops h us in let links = relinked made a 0 (row cs) in let sum = sums links (row cs) in
-    let at = at-update links a (λ y. with_sum y sum) (record (blank None) { children = row cs })
-    (relinked-row made a cs can.found can.is can.long can.few can.apart) in (
-      record {
-        tree = subst (Holds u (suc h)) (sym tree) holds;
-        balanced = subst (IsBalancedRoot (suc h)) (sym tree) (two-wide h a us (positive-root m h r stands) refl
-            (ins.wide.split refl (subst (λ t. IsWide 1 h t)
-            (sym (old-tree m n l x line new h r k stands (Some s) ins fits))
-            (wide-root h (tree_at m h r) stands.balanced))));
-        distinct = subst (λ t. Distinct (names (suc h) t)) (sym tree) (a_out, ins.grows.distinct);
-        root = record {
-          found = with_sum (record (blank None) { children = row cs }) sum;
-          is = ap (λ z. finite.get z a) same ∙ at;
-          parent = refl;
-        };
-        fits = subst (λ t. FitsSum (total (lines (suc h) t))) (sym tree) whole;
-      },
-      ap (lines (suc h)) tree ∙ lines-now m n l x line new h r k stands (Some s) ins fits,
-    )
-
 pub can-top : (m : Records) (a : NodePtr) (cs : List NodePtr) → finite.get m a ≡ None → length cs ≤ 12 →
     ((c : NodePtr) → Among c cs → IsSome (finite.get m c)) → FitsSum (sum_all m cs) →
     CanFill (finite.insert m a (blank None)) a cs
@@ -290,6 +193,66 @@ can-top m a cs fresh few named fits =
       fits = subst FitsSum (sym (sum_all-same m made cs (λ c b.
           ap sum_of (get_other m a (blank None) c (not_a c (named c b)))))) fits;
     }
+
+-- ---- and with a new one above it
+pub can-root : (l : Records) (h : ℕ) (r s : NodePtr) → AllByRecursion (Holds l h) (trees l h r (Some s)) →
+    FitsSum (total (lines_of h (trees l h r (Some s)))) → FitsSum (sum_all l (r ∷ s ∷ []))
+can-root l h r s all fits =
+    subst FitsSum (sym (ap (sum_all l) (sym (two-tops l h r s)) ∙ sum-trees l h (trees l h r (Some s)) all)) fits
+  where
+    two-tops : (l : Records) (h : ℕ) (r s : NodePtr) → tops h (trees l h r (Some s)) ≡ r ∷ s ∷ []
+    two-tops l h r s = λ i. top-tree_at l h r i ∷ top-tree_at l h s i ∷ []
+
+-- a root with no parent above nodes that stand by themselves
+above : (l u : Records) (h : ℕ) (us : List (Tree h)) (a : NodePtr) → AllByRecursion (Holds l h) us →
+    Distinct (names_of h us) → FitsSum (total (lines_of h us)) → length (tops h us) ≤ 12 →
+    IsBalancedRoot (suc h) (a, us) → NewRoot l u a (tops h us) →
+    (tree_at u (suc h) a ≡ (a, us)) × Stands u (suc h) a
+above l u h us a all apart fits few balanced root =
+    let made = finite.insert l a (blank None) in let cs = tops h us in let named = names-all-held l h us all in
+    let not_a : (q : NodePtr) → IsSome (finite.get l q) →
+    q ≢ a = λ q c e. unnamed l q c (ap (finite.get l) e ∙ root.fresh) in
+    let can = can-top l a cs root.fresh few (λ c b. named c (tops-among h us c b))
+    (subst FitsSum (sym (sum-trees l h us all)) fits) in
+    let all_made = all-same l made h us all (λ q b. get_other l a (blank None) q (not_a q (named q b))) in
+    let distinct : Distinct (a ∷ names_of h us) = ((λ b. not_a a (named a b) refl), apart) in
+    let holds : Holds u (suc h) (a, us) = subst (λ z. Holds z (suc h) (a, us)) (sym root.same)
+    (built made h a us can all_made distinct) in
+    let tree = tree-is u (suc h) (a, us) holds in let links = relinked made a 0 (row cs) in
+    let sum = sums links (row cs) in
+    let at = at-update links a (λ y. with_sum y sum) (record (blank None) { children = row cs })
+    (relinked-row made a cs (blank None) (get_inserted l a (blank None)) refl few can.apart) in (
+      tree,
+      record {
+        tree = subst (Holds u (suc h)) (sym tree) holds;
+        balanced = subst (IsBalancedRoot (suc h)) (sym tree) balanced;
+        distinct = subst (λ t. Distinct (names (suc h) t)) (sym tree) distinct;
+        root = record {
+          found = with_sum (record (blank None) { children = row cs }) sum;
+          is = ap (λ z. finite.get z a) root.same ∙ at;
+          parent = refl;
+        };
+        fits = subst (λ t. FitsSum (total (lines (suc h) t))) (sym tree) fits;
+      },
+    )
+
+module _ (m n l u : Records) (x : NodePtr) (line : LineContent) (new : NewLine m n x line) (h : ℕ) (r : NodePtr) (k : ℕ)
+    (stands : Stands m h r) (s : NodePtr) (ins : Inserts n l h r k x (Some s))
+    (fits : FitsSum (plus (total (lines_in m h r)) (line_count line))) (a : NodePtr)
+    (root : NewRoot l u a (r ∷ s ∷ [])) where
+  both-above : (tree_at u (suc h) a ≡ (a, trees l h r (Some s))) × Stands u (suc h) a
+  both-above = above l u h (trees l h r (Some s)) a ins.grows.holds ins.grows.distinct
+      (fits-now m n l x line new h r k stands (Some s) ins fits) (omega arith)
+      (two-wide h a (trees l h r (Some s)) (positive-root m h r stands) refl
+      (ins.wide.split refl (subst (λ t. IsWide 1 h t) (sym (old-tree m n l x line new h r k stands (Some s) ins fits))
+      (wide-root h (tree_at m h r) stands.balanced))))
+      (subst (NewRoot l u a) (λ i. sym (top-tree_at l h r) i ∷ sym (top-tree_at l h s) i ∷ []) root)
+
+  pub root-tree : tree_at u (suc h) a ≡ (a, trees l h r (Some s))
+  root-tree = both-above.0
+
+  pub new-root : Stands u (suc h) a × (lines_in u (suc h) a ≡ insert (lines_in m h r) k (x, line))
+  new-root = (both-above.1, ap (lines (suc h)) root-tree ∙ lines-now m n l x line new h r k stands (Some s) ins fits)
 
 pub named-two : (m : Records) (left right : NodePtr) → IsSome (finite.get m left) → IsSome (finite.get m right) →
     (c : NodePtr) → Among c (left ∷ right ∷ []) → IsSome (finite.get m c)
@@ -323,37 +286,12 @@ lone-fits = let none : finite.len (plain_line (10 ∷ [])).marks ≡ 0 = len-emp
 pub first-root : (m n u : Records) (x : NodePtr) (line : LineContent) → NewLine m n x line → FitsSum (line_count line) →
     (a : NodePtr) → NewRoot n u a (x ∷ []) → Stands u 1 a × (lines_in u 1 a ≡ (x, line) ∷ [])
 first-root m n u x line new fits a root =
-    let t = tree_at n 0 x in let made = finite.insert n a (blank None) in
-    let holds = new-line m n x line new in let named = named-tree n 0 x holds in
-    let not_a : x ≢ a = λ e. unnamed n x named (ap (finite.get n) e ∙ root.fresh) in
-    let whole : sum_all n (x ∷ []) ≡ line_count line = plus-no_text (sum_at n x) ∙ new-sum m n x line new in
-    let few : length (x ∷ []) ≤ 12 = omega arith in
-    let can = can-top n a (x ∷ []) root.fresh few (named-one n x named) (subst FitsSum (sym whole) fits) in
-    let all = all-same n made 0 (t ∷ []) (holds, tt) (λ q b.
-    get_other n a (blank None) q (λ e. not_a (elim b [ inl f ↦ sym f ∙ e | inr f ↦ absurd f ]))) in
-    let d : Distinct (a ∷ x ∷ []) = ((λ b. elim b [ inl e ↦ not_a (sym e) | inr e ↦ e ]), ((λ e. e), tt)) in
-    let holds_now : Holds u 1 (a, t ∷ []) = subst (λ z. Holds z 1 (a, t ∷ [])) (sym root.same)
-    (built made 0 a (t ∷ []) can all d) in
-    let tree = tree-is u 1 (a, t ∷ []) holds_now in
-    let cs = x ∷ [] in let links = relinked made a 0 (row cs) in let sum = sums links (row cs) in
-    let at = at-update links a (λ y. with_sum y sum) (record (blank None) { children = row cs })
-    (relinked-row made a cs (blank None) (get_inserted n a (blank None)) refl few (λ b.
-    elim b [ inl e ↦ not_a (sym e) | inr e ↦ e ])) in
-    let lines_are : lines_in u 1 a ≡ (x, line) ∷ [] = ap (lines 1) tree ∙ append-nil (lines zero t)
-    ∙ new-lines m n x line new in (
-      record {
-        tree = subst (Holds u 1) (sym tree) holds_now;
-        balanced = subst (IsBalancedRoot 1) (sym tree) (omega arith, omega arith, (tt, tt));
-        distinct = subst (λ z. Distinct (names 1 z)) (sym tree) d;
-        root = record {
-          found = with_sum (record (blank None) { children = row cs }) sum;
-          is = ap (λ z. finite.get z a) root.same ∙ at;
-          parent = refl;
-        };
-        fits = subst FitsSum (sym (ap total lines_are ∙ plus-no_text (line_count line))) fits;
-      },
-      lines_are,
-    )
+    let t = tree_at n 0 x in
+    let is : lines_of 0 (t ∷ []) ≡ (x, line) ∷ [] = append-nil (lines zero t) ∙ new-lines m n x line new in
+    let now = subst FitsSum (sym (ap total is ∙ plus-no_text (line_count line))) fits in
+    let up = above n u 0 (t ∷ []) a (new-line m n x line new, tt) ((λ e. e), tt) now (omega arith)
+    (omega arith, omega arith, (tt, tt)) root in
+    (up.1, ap (lines 1) up.0 ∙ is)
 
 one-line : (x : NodePtr) (line : LineContent) (ts : List (Tree 0)) → lines_of 0 ts ≡ (x, line) ∷ [] →
     Among x (names_of 0 ts)

@@ -1,18 +1,13 @@
 -- A row of lines in a whole tree.
 use Rattle.std.proofs.Common.{◌≡◌, ℕ, zero, suc, ◌+◌, ◌≤◌, inl, inr, List, [], ◌∷◌, ◌++◌, length, take, drop, refl, sym}
-use Rattle.std.proofs.Common.{ap, ◌∙◌, subst, arith, length-append, length-take, length-drop}
-use Rattle.std.specs.Prelude.{IsSome}
+use Rattle.std.proofs.Common.{ap, ◌∙◌, subst, arith, length-append, length-take, length-drop, IsSome}
 use Rattle.std.specs.FinMap as finite
 use Rattle.std.specs.List.{AllByRecursion}
 use Rattle.std.proofs.lemmas.List.{append-nil}
-use Rattle.toggle_sums.specs.Counts.{plus}
-use Rattle.raw_nodes.specs.Records.{Records}
-use Rattle.raw_nodes.specs.declared.names.NodePtr.{NodePtr}
-use Rattle.line_tree.specs.Changes.{Among, Distinct, FitsSum}
+use Rattle.line_tree.proofs.Words.{Among, Distinct, FitsSum, Holds, IsBalancedRoot, Named, NodePtr, Records, Tree}
+use Rattle.line_tree.proofs.Words.{least_below_root, lines, lines_in, names, plus, total, tree_at}
 use Rattle.line_tree.specs.Growth.{IsWide, Stands, StandsAlone, lines_of, names_of}
 use Rattle.line_tree.specs.Raising.{Becomes, CanLift, CanTakeRow, Lifts, TakesRow, trees_at, with_lines}
-use Rattle.line_tree.specs.Shape.{Holds, lines_in, tree_at}
-use Rattle.line_tree.specs.Trees.{IsBalancedRoot, Named, Tree, least_below_root, lines, names, total}
 use Rattle.line_tree.proofs.AmongLaws.{among-left, among-or, among-right}
 use Rattle.line_tree.proofs.DistinctLaws.{distinct-append}
 use Rattle.line_tree.proofs.FrameLaws.{holds-same, names-held}

@@ -2,13 +2,10 @@
 use Rattle.std.proofs.Common.{◌≡◌, ℕ, ◌≤◌, List, ◌++◌, length, take, drop, sym, ap}
 use Rattle.std.proofs.Common.{◌∙◌, subst, append_assoc, arith, length-take}
 use Rattle.std.proofs.lemmas.List.{drop-append-le, map-append, take-append-drop, take-append-le}
-use Rattle.toggle_sums.specs.Counts.{Count, plus}
-use Rattle.segments.specs.Columns.{LineContent}
+use Rattle.line_tree.proofs.Words.{Count, FitsSum, LineContent, Named, contents, plus, total}
 use Rattle.line_lists.specs.Lists.{count_of}
 use Rattle.line_lists.proofs.CountRows.{count-append}
-use Rattle.line_tree.specs.Changes.{FitsSum}
 use Rattle.line_tree.specs.Raising.{with_lines}
-use Rattle.line_tree.specs.Trees.{Named, contents, total}
 use Rattle.line_tree.proofs.NewRowLaws.{drop-length, take-length}
 use Rattle.line_tree.proofs.PrefixLaws.{count-contents}
 use Rattle.line_tree.proofs.RemakeLaws.{total-with_lines}

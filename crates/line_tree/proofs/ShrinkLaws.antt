@@ -1,20 +1,15 @@
 -- Trees without one subtree.
 use Rattle.std.proofs.Common.{◌≡◌, ℕ, suc, ◌+◌, ◌-◌, ◌≤◌, inl, inr, List, [], ◌∷◌, ◌++◌, length, take, drop, refl, sym}
-use Rattle.std.proofs.Common.{ap, ◌∙◌, subst, arith, drop-drop, length-drop, length-take, take_all}
-use Rattle.std.specs.Prelude.{◌≢◌, slice_range}
+use Rattle.std.proofs.Common.{ap, ◌∙◌, subst, arith, drop-drop, length-drop, length-take, take_all, ◌≢◌, slice_range}
 use Rattle.std.specs.List.{AllByRecursion}
 use Rattle.std.proofs.lemmas.List.{append-nil, drop-append-le, drop_all, drop_at, take-append-le}
 use Rattle.std.proofs.lemmas.List.Concat.{flat_map-append}
 use Rattle.text_model.specs.Splices.{removed}
 use Rattle.text_model.proofs.SpliceLaws.{removed-append_left, removed-append_right}
-use Rattle.raw_nodes.specs.Records.{Records}
-use Rattle.raw_nodes.specs.Rows.{row}
-use Rattle.raw_nodes.specs.declared.names.NodePtr.{NodePtr}
-use Rattle.line_tree.specs.Changes.{Among, CanFill, Distinct, refilled}
+use Rattle.line_tree.proofs.Words.{Among, CanFill, Distinct, Holds, IsTree, NodePtr, Records, Tree, lines, lines_in}
+use Rattle.line_tree.proofs.Words.{names, refilled, row, tops, tree_at}
 use Rattle.line_tree.specs.Growth.{lines_of, names_of}
-use Rattle.line_tree.specs.Shape.{Holds, IsTree, lines_in, tree_at}
 use Rattle.line_tree.specs.Shrinking.{Shrinks, Turns}
-use Rattle.line_tree.specs.Trees.{Tree, lines, names, tops}
 use Rattle.line_tree.proofs.AmongLaws.{among-left, among-right}
 use Rattle.line_tree.proofs.BuildLaws.{built}
 use Rattle.line_tree.proofs.DistinctLaws.{distinct-apart, distinct-replace, distinct-right}

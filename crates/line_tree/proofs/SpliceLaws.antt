@@ -1,6 +1,7 @@
 -- Lines put in one after the other, and taken out.
-use Rattle.std.proofs.Common.{◌≡◌, ℕ, zero, suc, ◌+◌, ◌-◌, ◌^◌, ◌<◌, ◌≤◌, List, [], ◌∷◌, ◌++◌, length, map, take, drop, min}
-use Rattle.std.proofs.Common.{inl, inr, refl, sym, ap, ◌∙◌, subst, arith, append_assoc, length-append}
+use Rattle.std.proofs.Common.{◌≡◌, ℕ, zero, suc, ◌+◌, ◌-◌, ◌^◌, ◌<◌, ◌≤◌, List, [], ◌∷◌, ◌++◌, length, map, take, drop}
+use Rattle.std.proofs.Common.{min, inl, inr, refl, sym, ap, ◌∙◌, subst, arith, append_assoc, length-append, slice_get}
+use Rattle.std.proofs.Common.{Option, Some}
 use Rattle.std.specs.List.{insert, remove}
 use Rattle.std.proofs.lemmas.Bool.{cases_lt}
 use Rattle.std.proofs.Math.Seq.{drop-append-add, take-append_seam}
@@ -8,21 +9,14 @@ use Rattle.std.proofs.lemmas.List.{append-nil, drop-drop, length-drop, length-ma
 use Rattle.std.proofs.lemmas.List.{take-append-drop, take-append-le, take-take}
 use Rattle.std.proofs.lemmas.List.Edits.{insert-append_left, insert_end, remove-append_right}
 use Rattle.toggle_sums.specs.CountLaws.{no_text-plus}
-use Rattle.toggle_sums.specs.Counts.{Count, no_text, plus}
-use Rattle.segments.specs.Columns.{LineContent, line_count}
-use Rattle.raw_nodes.specs.declared.names.NodePtr.{NodePtr}
+use Rattle.line_tree.proofs.Words.{Count, FitsSum, LineContent, Named, NodePtr, line_count, no_text, plus, total}
 use Rattle.line_lists.specs.Lists.{count_of}
 use Rattle.line_lists.proofs.CountRows.{count-append, count-lines}
-use Rattle.line_tree.specs.Changes.{FitsSum}
-use Rattle.std.specs.Prelude.{slice_get}
 use Rattle.std.specs.Option.{option_map}
-use Rattle.std.specs.declared.option.Option.{Option}
-use Rattle.std.specs.declared.option.Option.TheVariants.{Some}
 use Rattle.line_tree.specs.Places.{IsLineAt}
 use Rattle.line_tree.specs.Room.{PutsRoom}
 use Rattle.line_tree.specs.Taking.{changed}
 use Rattle.line_tree.specs.TreeState.{TreeState}
-use Rattle.line_tree.specs.Trees.{Named, total}
 use Rattle.line_tree.proofs.ChangingLaws.{changed-at}
 use Rattle.line_tree.proofs.PlaceLaws.{named_line}
 use Rattle.line_tree.proofs.SumLaws.{total-append}

@@ -1,23 +1,16 @@
 -- A node with one more child, with room and without.
 use Rattle.std.proofs.Common.{◌≡◌, ℕ, suc, ◌+◌, ◌≤◌, ◌⊎◌, inl, inr, List, [], ◌∷◌, ◌++◌, length, take, drop, refl, sym}
-use Rattle.std.proofs.Common.{ap, ◌∙◌, subst, arith}
-use Rattle.std.specs.Prelude.{◌≢◌, IsSome}
+use Rattle.std.proofs.Common.{ap, ◌∙◌, subst, arith, ◌≢◌, IsSome, Option, None, Some}
 use Rattle.std.specs.FinMap as finite
 use Rattle.std.specs.List.{AllByRecursion, insert}
-use Rattle.std.specs.declared.option.Option.{Option}
-use Rattle.std.specs.declared.option.Option.TheVariants.{None, Some}
 use Rattle.std.proofs.lemmas.List.{append-nil, take-append-drop, take-map, drop-map}
 use Rattle.std.proofs.lemmas.List.Concat.{flat_map-append}
-use Rattle.raw_nodes.specs.Records.{Records, blank, with_sum}
-use Rattle.raw_nodes.specs.Rows.{kids, row}
-use Rattle.raw_nodes.specs.declared.names.NodePtr.{NodePtr}
+use Rattle.line_tree.proofs.Words.{Among, CanFill, CanPut, Distinct, Holds, Links, NodePtr, Puts, Records, Tree, blank}
+use Rattle.line_tree.proofs.Words.{kids, lines, refilled, resummed, row, sums, tops, with_sum}
 use Rattle.raw_nodes.proofs.MapLaws.{get_other, kept_insert}
 use Rattle.raw_nodes.proofs.UpdateLaws.{get-update-other, insert-named, named-update, update-named}
-use Rattle.line_tree.specs.Changes.{Among, CanFill, CanPut, Distinct, Puts, refilled, resummed, sums}
 use Rattle.line_tree.specs.Finds.{HasRow}
 use Rattle.line_tree.specs.Growth.{Grows, lines_of, names_of, parted, trees, with_line}
-use Rattle.line_tree.specs.Shape.{Holds, Links}
-use Rattle.line_tree.specs.Trees.{Tree, lines, tops}
 use Rattle.line_tree.proofs.AmongLaws.{among-cases, among-left, among-right}
 use Rattle.line_tree.proofs.BuildLaws.{built, sum-trees, tree-is}
 use Rattle.line_tree.proofs.DistinctLaws.{distinct-apart, distinct-append, distinct-left, distinct-right}

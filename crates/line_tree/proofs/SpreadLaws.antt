@@ -1,25 +1,18 @@
 -- Sharing before a line goes in.
-use Rattle.std.proofs.Common.{◌≡◌, ℕ, suc, ◌+◌, ◌-◌, ◌<◌, ◌≤◌, inl, inr, List, [], ◌∷◌, ◌++◌, length, take, drop, map, sym}
-use Rattle.std.proofs.Common.{ap, ◌∙◌, subst, arith}
-use Rattle.std.specs.Prelude.{false, is_some, slice_get, true, Bool}
+use Rattle.std.proofs.Common.{◌≡◌, ℕ, suc, ◌+◌, ◌-◌, ◌<◌, ◌≤◌, inl, inr, List, [], ◌∷◌, ◌++◌, length, take, drop, map}
+use Rattle.std.proofs.Common.{sym, ap, ◌∙◌, subst, arith, false, is_some, slice_get, true, Bool, Option, None, Some}
 use Rattle.std.specs.FinMap as finite
 use Rattle.std.specs.List.{AllByRecursion}
-use Rattle.std.specs.declared.option.Option.{Option}
-use Rattle.std.specs.declared.option.Option.TheVariants.{None, Some}
 use Rattle.std.proofs.lemmas.List.{append-nil, length-map}
 use Rattle.std.proofs.lemmas.Option.{same_Some, slice_get_within}
 use mathlib.Core.Bool.{false≢true}
-use Rattle.toggle_sums.specs.Counts.{plus}
-use Rattle.raw_nodes.specs.Records.{Records}
-use Rattle.raw_nodes.specs.Rows.{kids, kids_of, row}
-use Rattle.raw_nodes.specs.declared.names.NodePtr.{NodePtr}
-use Rattle.line_tree.specs.Changes.{Among, Distinct, FitsSum, Halves, refilled}
+use Rattle.line_tree.proofs.Words.{Among, Distinct, FitsSum, Halves, Holds, IsBalanced, IsTree, Links, NodePtr, Records}
+use Rattle.line_tree.proofs.Words.{Tree, kids, kids_of, line_of, lines_in, names, plus, refilled, row, sum_at, sum_of}
+use Rattle.line_tree.proofs.Words.{tops, total, tree_at}
 use Rattle.line_tree.specs.Growth.{CanInsert, Grows, Inserts, IsWide, lines_of, names_of, trees, with_line}
-use Rattle.line_tree.specs.Shape.{Holds, IsTree, Links, line_of, lines_in, sum_at, sum_of, tree_at}
 use Rattle.line_tree.specs.Shrinking.{Turns}
 use Rattle.line_tree.specs.Spreading.{CanSpread, IsPair, Moves, Respreads, first_part}
 use Rattle.line_tree.specs.declared.find.Found.{Found}
-use Rattle.line_tree.specs.Trees.{IsBalanced, Tree, names, tops, total}
 use Rattle.line_tree.proofs.AmongLaws.{among-or}
 use Rattle.line_tree.proofs.BuildLaws.{trees-is}
 use Rattle.line_tree.proofs.FrameLaws.{holds-same}

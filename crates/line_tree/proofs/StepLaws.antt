@@ -1,25 +1,19 @@
 -- One level of an insertion.
 use Rattle.std.proofs.Common.{◌≡◌, ℕ, zero, suc, ◌+◌, ◌≤◌, inl, inr, List, [], ◌∷◌, ◌++◌, length, take, drop, map, refl}
-use Rattle.std.proofs.Common.{sym, ap, ◌∙◌, subst, arith, length-take, length-drop}
-use Rattle.std.specs.Prelude.{◌≢◌, IsSome, slice_get}
+use Rattle.std.proofs.Common.{sym, ap, ◌∙◌, subst, arith, length-take, length-drop, ◌≢◌, IsSome, slice_get, Option}
+use Rattle.std.proofs.Common.{None, Some}
 use Rattle.std.specs.FinMap as finite
 use Rattle.std.specs.List.{AllByRecursion, insert}
-use Rattle.std.specs.declared.option.Option.{Option}
-use Rattle.std.specs.declared.option.Option.TheVariants.{None, Some}
-use Rattle.std.proofs.lemmas.List.{take-append-drop}
+use Rattle.std.proofs.lemmas.List.{map-append, take-append-drop}
 use Rattle.std.proofs.lemmas.Option.{none-some, same_Some}
 use mathlib.Core.Bool.{false≢true}
 use Rattle.toggle_sums.specs.CountLaws.{plus-associative, plus-commutative}
-use Rattle.toggle_sums.specs.Counts.{Count, plus}
-use Rattle.raw_nodes.specs.Records.{Record, Records, blank, with_sum}
-use Rattle.raw_nodes.specs.Rows.{kids, row}
-use Rattle.raw_nodes.specs.declared.names.NodePtr.{NodePtr}
+use Rattle.line_tree.proofs.Words.{Among, CanFill, CanPut, Count, FitsSum, IsBalanced, Links, Named, NodePtr, Puts}
+use Rattle.line_tree.proofs.Words.{Record, Records, Tree, blank, kids, lines, plus, refilled, relinked, row, sum_all}
+use Rattle.line_tree.proofs.Words.{sums, tops, total, with_sum}
 use Rattle.raw_nodes.proofs.MapLaws.{get_other, some_of}
-use Rattle.line_tree.specs.Changes.{Among, CanFill, CanPut, FitsSum, Puts, refilled, relinked, sum_all, sums}
 use Rattle.line_tree.specs.Finds.{HasRow}
 use Rattle.line_tree.specs.Growth.{Grows, IsWide, KeepsLink, KeepsWide, lines_of, names_of, parted, with_line}
-use Rattle.line_tree.specs.Shape.{Links}
-use Rattle.line_tree.specs.Trees.{IsBalanced, Named, Tree, lines, tops, total}
 use Rattle.line_tree.proofs.AmongLaws.{among-right}
 use Rattle.line_tree.proofs.BuildLaws.{sum-trees}
 use Rattle.line_tree.proofs.FillLaws.{at-update, refilled-other, relinked-row}
@@ -30,17 +24,15 @@ use Rattle.line_tree.proofs.SumLaws.{total-append}
 use Rattle.line_tree.proofs.TreeLaws.{named-row}
 
 -- ---- a list at one of its places
-pub at-place : {X Y : Type 0} (f : X → Y) (xs : List X) (i : ℕ) (x : X) → slice_get xs i ≡ Some x →
-    map f xs ≡ map f (take i xs) ++ (f x ∷ map f (drop (suc i) xs))
-at-place f [] i x is = absurd (none-some x is)
-at-place f (y ∷ xs) zero x is = ap (λ z. f z ∷ map f xs) (same_Some y x is)
-at-place f (y ∷ xs) (suc i) x is = ap (λ zs. f y ∷ zs) (at-place f xs i x is)
-
 pub split-same : {X : Type 0} (xs : List X) (i : ℕ) (x : X) → slice_get xs i ≡ Some x →
     xs ≡ take i xs ++ (x ∷ drop (suc i) xs)
 split-same [] i x is = absurd (none-some x is)
 split-same (y ∷ xs) zero x is = ap (λ z. z ∷ xs) (same_Some y x is)
 split-same (y ∷ xs) (suc i) x is = ap (λ zs. y ∷ zs) (split-same xs i x is)
+
+pub at-place : {X Y : Type 0} (f : X → Y) (xs : List X) (i : ℕ) (x : X) → slice_get xs i ≡ Some x →
+    map f xs ≡ map f (take i xs) ++ (f x ∷ map f (drop (suc i) xs))
+at-place f xs i x is = ap (map f) (split-same xs i x is) ∙ map-append f (take i xs) (x ∷ drop (suc i) xs)
 
 pub split-insert : {X : Type 0} (xs : List X) (i j : ℕ) (x y : X) → slice_get xs i ≡ Some x → j ≡ suc i →
     insert xs j y ≡ take i xs ++ (x ∷ y ∷ drop (suc i) xs)

@@ -6,10 +6,7 @@
 --     fits-both               two parts can be added where the sum fits
 use Rattle.std.proofs.Common.{◌≡◌, List, [], ◌∷◌, ◌++◌, sym, ap, ◌∙◌, subst, arith}
 use Rattle.toggle_sums.specs.CountLaws.{no_text-plus, plus-associative, plus-no_text}
-use Rattle.toggle_sums.specs.Counts.{Count, CountsFit, no_text, plus}
-use Rattle.segments.specs.Columns.{line_count}
-use Rattle.line_tree.specs.Changes.{FitsSum}
-use Rattle.line_tree.specs.Trees.{Named, total}
+use Rattle.line_tree.proofs.Words.{Count, CountsFit, FitsSum, Named, line_count, no_text, plus, total}
 
 pub total-append : (xs ys : List Named) → total (xs ++ ys) ≡ plus (total xs) (total ys)
 total-append [] ys = sym (no_text-plus (total ys))

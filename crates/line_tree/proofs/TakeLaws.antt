@@ -1,17 +1,13 @@
 -- The mark of a number is taken off its line.
-use Rattle.std.proofs.Common.{◌≡◌, ℕ, suc, ◌<◌, Bool, true, false, cond, List, [], ◌∷◌, ◌++◌, length, map, take}
-use Rattle.std.proofs.Common.{drop, set, refl, sym, ap, ap₂, ◌∙◌, subst}
-use Rattle.std.specs.Prelude.{is_some, slice_get}
+use Rattle.std.proofs.Common.{◌≡◌, ℕ, suc, ◌<◌, Bool, true, false, cond, List, [], ◌∷◌, ◌++◌, length, map, take, drop}
+use Rattle.std.proofs.Common.{set, refl, sym, ap, ap₂, ◌∙◌, subst, is_some, slice_get, Option, None, Some}
 use Rattle.std.specs.Cmp.{nat_cmp_total}
 use Rattle.std.specs.FinMap as finite
 use Rattle.std.specs.Ordering.{eq_by_cmp, nat_cmp}
-use Rattle.std.specs.declared.option.Option.{Option}
-use Rattle.std.specs.declared.option.Option.TheVariants.{None, Some}
 use Rattle.std.proofs.lemmas.List.{append_assoc, map-append}
 use mathlib.Core.Bool.{false≢true}
-use Rattle.segments.specs.Columns.{LineContent}
+use Rattle.line_tree.proofs.Words.{LineContent, Named, NodePtr, contents}
 use Rattle.segments.proofs.MarkLaws.{tied_same}
-use Rattle.raw_nodes.specs.declared.names.NodePtr.{NodePtr}
 use Rattle.line_lists.specs.Edits.{without_mark}
 use Rattle.line_lists.specs.Lists.{AreLines, has_mark}
 use Rattle.line_lists.proofs.FindLaws.{drop_after}
@@ -19,7 +15,6 @@ use Rattle.line_lists.proofs.FreedLaws.{same-line}
 use Rattle.line_lists.proofs.VecLaws.{lines-are-without}
 use Rattle.line_tree.specs.MarkTable.{IsTable, holder, noted}
 use Rattle.line_tree.specs.Taking.{changed}
-use Rattle.line_tree.specs.Trees.{Named, contents}
 use Rattle.line_tree.proofs.HolderLaws.{alone, first, holder-append, not-first, whole-list}
 use Rattle.line_tree.proofs.ListedLaws.{HeldAt}
 use Rattle.line_tree.proofs.TableLaws.{noted-set, noted-within}

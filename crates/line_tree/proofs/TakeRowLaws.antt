@@ -5,16 +5,11 @@ use Rattle.std.specs.FinMap as finite
 use Rattle.std.specs.List.{AllByRecursion}
 use Rattle.std.proofs.lemmas.List.{append-nil, length-map, take-append-drop, take-map}
 use Rattle.std.proofs.lemmas.List.Concat.{flat_map-append}
-use Rattle.toggle_sums.specs.Counts.{Count, plus}
-use Rattle.raw_nodes.specs.Records.{Records}
-use Rattle.raw_nodes.specs.Rows.{kids, kids_of, row}
-use Rattle.raw_nodes.specs.declared.names.NodePtr.{NodePtr}
-use Rattle.line_tree.specs.Changes.{Among, Distinct, FitsSum}
+use Rattle.line_tree.proofs.Words.{Among, Count, Distinct, FitsSum, Holds, IsBalanced, IsTree, NodePtr, Records, Tree}
+use Rattle.line_tree.proofs.Words.{kids, kids_of, lines, lines_in, names, plus, row, total, tree_at}
 use Rattle.line_tree.specs.Finds.{HasRow, Leads, lines_below}
 use Rattle.line_tree.specs.Growth.{lines_of, names_of}
 use Rattle.line_tree.specs.Raising.{Becomes, CanRaise, CanTakeRow, HasSlots, Raises, TakesRow, trees_at, with_lines}
-use Rattle.line_tree.specs.Shape.{Holds, IsTree, lines_in, tree_at}
-use Rattle.line_tree.specs.Trees.{IsBalanced, Tree, lines, names, total}
 use Rattle.line_tree.specs.declared.find.Found.{Found}
 use Rattle.line_tree.proofs.AmongLaws.{among-left, among-right}
 use Rattle.line_tree.proofs.BecomeLaws.{stays}

@@ -1,26 +1,19 @@
 -- A mark that is taken off a line, and its node's sum.
 use Rattle.std.proofs.Common.{◌≡◌, ℕ, zero, suc, ◌+◌, ◌-◌, ◌<◌, ◌≤◌, Bool, cond, length, refl, sym, ap, ◌∙◌, subst}
-use Rattle.std.proofs.Common.{arith}
-use Rattle.std.specs.Prelude.{IfSome, is_some, option_to_list}
+use Rattle.std.proofs.Common.{arith, IfSome, is_some, option_to_list, Option, None, Some}
 use Rattle.std.specs.Cmp.{nat_cmp_total}
 use Rattle.std.specs.FinMap as finite
 use Rattle.std.specs.Ordering.{nat_cmp}
-use Rattle.std.specs.declared.option.Option.{Option}
-use Rattle.std.specs.declared.option.Option.TheVariants.{None, Some}
 use Rattle.std.proofs.lemmas.Option.{none-some}
 use mir.Val.{bool_byte}
 use Rattle.text_model.specs.Content.{Marks}
 use Rattle.text_model.specs.declared.places.Place.{Place}
 use Rattle.toggle_sums.specs.CountLaws.{differing-empty, plus-no_text, union-empty}
-use Rattle.toggle_sums.specs.Counts.{Count, HasCounts, counting, less, no_text, plus}
-use Rattle.segments.specs.Columns.{LineContent, line_count}
+use Rattle.line_tree.proofs.Words.{Count, HasCounts, LineContent, NodePtr, Records, counting, less, line_count}
+use Rattle.line_tree.proofs.Words.{lines_in, no_text, plus, sum_at, sum_of, total, update, with_sum}
 use Rattle.line_lists.specs.Edits.{without_mark}
-use Rattle.raw_nodes.specs.Records.{Records, update, with_sum}
-use Rattle.raw_nodes.specs.declared.names.NodePtr.{NodePtr}
 use Rattle.line_tree.specs.Finds.{Finds, HasRow}
-use Rattle.line_tree.specs.Shape.{lines_in, sum_at, sum_of}
 use Rattle.line_tree.specs.Taking.{CanChange, Changes, TakesOff, marked}
-use Rattle.line_tree.specs.Trees.{total}
 use Rattle.line_tree.specs.declared.find.Found.{Found}
 use Rattle.line_tree.proofs.ChangingLaws.{can-child, changes-line, changes-node, node-row, node-sum, sum-changed}
 use Rattle.line_tree.proofs.ClimbingLaws.{Above, Climbs, down, next}

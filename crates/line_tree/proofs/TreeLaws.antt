@@ -1,21 +1,14 @@
 -- What holds of a tree that stands in records.
 use Rattle.std.proofs.Common.{◌≡◌, ℕ, zero, suc, ◌+◌, ◌-◌, ◌<◌, ◌≤◌, List, [], ◌∷◌, ◌++◌, length, take, map, refl, sym}
-use Rattle.std.proofs.Common.{ap, ◌∙◌, subst, arith, length-append}
-use Rattle.std.specs.Prelude.{IsSome, slice_get}
+use Rattle.std.proofs.Common.{ap, ◌∙◌, subst, arith, length-append, IsSome, slice_get, Option, None, Some}
 use Rattle.std.specs.FinMap as finite
 use Rattle.std.specs.List.{AllByRecursion, flat_map, sum_by}
 use Rattle.std.specs.Option.{option_map}
-use Rattle.std.specs.declared.option.Option.{Option}
-use Rattle.std.specs.declared.option.Option.TheVariants.{None, Some}
 use Rattle.std.proofs.lemmas.List.Sums.{sum_by-cons}
 use Rattle.std.proofs.lemmas.Option.{none-some, same_Some}
-use Rattle.segments.specs.Columns.{LineContent}
-use Rattle.raw_nodes.specs.Records.{Records}
-use Rattle.raw_nodes.specs.Rows.{kids, row}
-use Rattle.raw_nodes.specs.declared.names.NodePtr.{NodePtr}
+use Rattle.line_tree.proofs.Words.{Holds, IsTree, LineContent, Named, NodePtr, Records, Tree, kids, line_of, lines}
+use Rattle.line_tree.proofs.Words.{lines_at, lines_in, row, sum_at, sum_of, tops, total, tree_at}
 use Rattle.line_tree.specs.Finds.{Finds, HasRow, lines_below}
-use Rattle.line_tree.specs.Shape.{Holds, IsTree, line_of, lines_at, lines_in, sum_at, sum_of, tree_at}
-use Rattle.line_tree.specs.Trees.{Named, Tree, lines, tops, total}
 use Rattle.line_tree.specs.declared.find.Found.{Found}
 
 -- ---- lists

@@ -1,14 +1,10 @@
 -- What new children of a node leave of the names, and of what is no line.
-use Rattle.std.proofs.Common.{◌≡◌, ℕ, suc, inl, inr, List, [], ◌∷◌, refl, sym, ap, ◌∙◌, subst}
-use Rattle.std.specs.Prelude.{IfSome, IsSome}
+use Rattle.std.proofs.Common.{◌≡◌, ℕ, suc, inl, inr, List, [], ◌∷◌, refl, sym, ap, ◌∙◌, subst, IfSome, IsSome, Option}
+use Rattle.std.proofs.Common.{None, Some}
 use Rattle.std.specs.FinMap as finite
 use Rattle.std.specs.Option.{option_map}
-use Rattle.std.specs.declared.option.Option.{Option}
-use Rattle.std.specs.declared.option.Option.TheVariants.{None, Some}
-use Rattle.segments.specs.Columns.{LineContent}
+use Rattle.line_tree.proofs.Words.{LineContent, NodePtr, Record, Records, update, with_child, with_parent, with_sum}
 use Rattle.raw_nodes.specs.Chain.{rooms_for}
-use Rattle.raw_nodes.specs.Records.{Record, Records, update, with_child, with_parent, with_sum}
-use Rattle.raw_nodes.specs.declared.names.NodePtr.{NodePtr}
 use Rattle.raw_nodes.proofs.MapLaws.{at_some, some_of}
 use Rattle.raw_nodes.proofs.PlaceLaws.{same_or_other}
 use Rattle.raw_nodes.proofs.UpdateLaws.{get-update, get-update-other, named-update, update-named}

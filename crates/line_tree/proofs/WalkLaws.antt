@@ -1,18 +1,13 @@
 -- Walks over the marked lines of a tree, by which a table follows what becomes of them.
 use Rattle.std.proofs.Common.{◌≡◌, ℕ, zero, suc, [], ◌∷◌, ◌+◌, ◌-◌, ◌≤◌, true, cond, List, length, take, drop, get_or}
-use Rattle.std.proofs.Common.{ap, ap₂, ◌∙◌, subst, arith}
-use Rattle.std.specs.Prelude.{is_some, slice_get, slice_range}
+use Rattle.std.proofs.Common.{ap, ap₂, ◌∙◌, subst, arith, is_some, slice_get, slice_range, Option, None, Some}
 use Rattle.std.specs.List.{All}
-use Rattle.std.specs.declared.option.Option.{Option}
-use Rattle.std.specs.declared.option.Option.TheVariants.{None, Some}
 use Rattle.std.proofs.lemmas.List.{get_or-drop, get_or-take, length-drop, length-take-le}
 use Rattle.std.proofs.lemmas.Option.{none-some, same_Some}
-use Rattle.segments.specs.Columns.{LineContent}
-use Rattle.raw_nodes.specs.declared.names.NodePtr.{NodePtr}
+use Rattle.line_tree.proofs.Words.{LineContent, Named, NodePtr, contents}
 use Rattle.line_lists.specs.Lists.{AreLines, NumbersBelow, has_mark}
 use Rattle.line_lists.proofs.FindLaws.{drop_after}
 use Rattle.line_tree.specs.MarkTable.{AreBare, IsMarkedBelow, IsTable, holder, lines_without, noted}
-use Rattle.line_tree.specs.Trees.{Named, contents}
 use Rattle.line_tree.proofs.HolderLaws.{all-noted, alone, bare-drop, first, forget-line, forgotten, holder-append}
 use Rattle.line_tree.proofs.HolderLaws.{none-before, note-line}
 use Rattle.line_tree.proofs.NearestLaws.{long}

@@ -1,17 +1,15 @@
 use Rattle.std.proofs.Common.{◌≡◌, ◌+◌, ◌-◌, suc, sym, ap, ◌∙◌, subst, arith, None}
 use Rattle.std.specs.FinMap as finite
 use Rattle.std.specs.List.{insert}
-use Rattle.raw_nodes.specs.Names.{records}
-use Rattle.raw_nodes.specs.Rows.{kids, row}
-use Rattle.toggle_sums.specs.Counts.{plus}
-use Rattle.line_tree.specs.Changes.{CanPut, Fills, sum_all}
-use Rattle.line_tree.specs.Shape.{sum_at}
-use Rattle.line_tree.proofs.BehindLaws.{Climbs, above-of, base-of, climbed, named-behind, parent-behind, some-parent}
+use Rattle.line_tree.proofs.Words.{CanPut, Fills, kids, plus, records, row, sum_all, sum_at}
+use Rattle.line_tree.proofs.BehindLaws.{Base, Climbs, above-of, base-of, climbed, named-behind, parent-behind, some-parent}
 use Rattle.line_tree.proofs.InsertLaws.{has-now, low-can_put, low-inserts, low-sum, one-fits, one-inserts, one-sum}
 use Rattle.line_tree.proofs.RoomLaws.{len-puts, len-resummed}
 use Rattle.line_tree.proofs.ShiftLaws.{has-room, shifted-fills, shifted-fits, shifted-row, shifted-sum}
 use Rattle.line_tree.proofs.TreeLaws.{named-tree, row-tree}
+use Rattle.line_tree.proofs.behind.insert_behind.Given.{Over}
 use Rattle.line_tree.proofs.behind.insert_behind.Goals as goal
+use Rattle.line_tree.proofs.behind.insert_behind.Goals.{After-slot-slot}
 
 pub parent-requires : goal.parent-requires
 parent-requires g c = let m = records c.args.store.now in
@@ -31,91 +29,62 @@ slot-slot-requires g c = let m = records c.args.store.now in
     (c.requires.behind c.in-Some.name c.in-Some.is).0
     (c.requires.behind c.in-Some.name c.in-Some.is).1
 
+-- the node above the line that is named, and that the new one can stand in its row
+base : (g : Over) (c : After-slot-slot g) → Base (records c.args.store.now) c.args.height c.args.root c.args.k
+    c.args.added.now.line c.unwrap-node.result c.slot-slot.result
+base g c = let at = c.requires.behind c.in-Some.name c.in-Some.is in
+    base-of (records c.args.store.now) c.args.height c.args.root c.args.k c.args.added.now.line c.in-Some.name
+    c.requires.node c.requires.insert at.0 at.1 c.parent.result c.parent.ensures.value c.unwrap-node.result
+    c.unwrap-node.ensures c.slot-slot.result c.slot-slot.ensures
+
+can-put : (g : Over) (c : After-slot-slot g) →
+    CanPut (records c.args.store.now) c.unwrap-node.result (c.slot-slot.result + 1) c.args.added.now.line
+can-put g c = let m = records c.args.store.now in let b = base g c in let p = c.unwrap-node.result in
+    let x = c.args.added.now.line in
+    subst (λ n. CanPut m p n x) b.place (low-can_put m p (c.args.k - b.before) x b.can)
+
 pub overflow_add-slot : goal.overflow_add-slot
 overflow_add-slot g c = let m = records c.args.store.now in
-    let b = base-of m c.args.height c.args.root c.args.k c.args.added.now.line c.in-Some.name c.requires.node
-    c.requires.insert (c.requires.behind c.in-Some.name c.in-Some.is).0
-    (c.requires.behind c.in-Some.name c.in-Some.is).1 c.parent.result c.parent.ensures.value c.unwrap-node.result
-    c.unwrap-node.ensures c.slot-slot.result c.slot-slot.ensures in
+    let b = base g (goal.at.overflow_add-slot g c).After-slot-slot in
     let small = b.small in omega (arith, small)
 
 pub child-requires-clause-name : goal.child-requires-clause-name
 child-requires-clause-name g c = let m = records c.args.store.now in
-    let b = base-of m c.args.height c.args.root c.args.k c.args.added.now.line c.in-Some.name c.requires.node
-    c.requires.insert (c.requires.behind c.in-Some.name c.in-Some.is).0
-    (c.requires.behind c.in-Some.name c.in-Some.is).1 c.parent.result c.parent.ensures.value c.unwrap-node.result
-    c.unwrap-node.ensures c.slot-slot.result c.slot-slot.ensures in
+    let b = base g (goal.at.child-requires-clause-name g c).After-slot-slot in
     named-tree m 1 c.unwrap-node.result b.tree
 
-pub shift-requires-clause-put : goal.shift-requires-clause-put
-shift-requires-clause-put g c = let m = records c.args.store.now in
-    let b = base-of m c.args.height c.args.root c.args.k c.args.added.now.line c.in-Some.name c.requires.node
-    c.requires.insert (c.requires.behind c.in-Some.name c.in-Some.is).0
-    (c.requires.behind c.in-Some.name c.in-Some.is).1 c.parent.result c.parent.ensures.value c.unwrap-node.result
-    c.unwrap-node.ensures c.slot-slot.result c.slot-slot.ensures in
-    subst (λ n. CanPut m c.unwrap-node.result n c.args.added.now.line) b.place (low-can_put m
-    c.unwrap-node.result (c.args.k - b.before) c.args.added.now.line b.can)
+pub shift-requires : goal.shift-requires
+shift-requires g c = let m = records c.args.store.now in
+    let b = base g (goal.at.shift-requires g c).After-slot-slot in
+    record {
+      put = can-put g (goal.at.shift-requires g c).After-slot-slot;
+      few = has-room m c.unwrap-node.result (row-tree m 0 c.unwrap-node.result b.tree) c.child.result
+          c.child.ensures.value (sym c.is_some.ensures ∙ c.if-is_some.false);
+    }
 
-pub shift-requires-clause-few : goal.shift-requires-clause-few
-shift-requires-clause-few g c = let m = records c.args.store.now in
-    let b = base-of m c.args.height c.args.root c.args.k c.args.added.now.line c.in-Some.name c.requires.node
-    c.requires.insert (c.requires.behind c.in-Some.name c.in-Some.is).0
-    (c.requires.behind c.in-Some.name c.in-Some.is).1 c.parent.result c.parent.ensures.value c.unwrap-node.result
-    c.unwrap-node.ensures c.slot-slot.result c.slot-slot.ensures in
-    has-room m c.unwrap-node.result (row-tree m 0 c.unwrap-node.result b.tree) c.child.result
-    c.child.ensures.value (sym c.is_some.ensures ∙ c.if-is_some.false)
-
-pub add-requires-clause-row : goal.add-requires-clause-row
-add-requires-clause-row g c = let m = records c.args.store.now in
-    let b = base-of m c.args.height c.args.root c.args.k c.args.added.now.line c.in-Some.name c.requires.node
-    c.requires.insert (c.requires.behind c.in-Some.name c.in-Some.is).0
-    (c.requires.behind c.in-Some.name c.in-Some.is).1 c.parent.result c.parent.ensures.value c.unwrap-node.result
-    c.unwrap-node.ensures c.slot-slot.result c.slot-slot.ensures in
-    let can = subst (λ n. CanPut m c.unwrap-node.result n c.args.added.now.line) b.place (low-can_put m
-    c.unwrap-node.result (c.args.k - b.before) c.args.added.now.line b.can) in
+pub add-requires : goal.add-requires
+add-requires g c = let m = records c.args.store.now in
+    let b = base g (goal.at.add-requires g c).After-slot-slot in
+    let can = can-put g (goal.at.add-requires g c).After-slot-slot in
     let few = has-room m c.unwrap-node.result (row-tree m 0 c.unwrap-node.result b.tree) c.child.result
     c.child.ensures.value (sym c.is_some.ensures ∙ c.if-is_some.false) in
-    shifted-row m c.unwrap-node.result (c.slot-slot.result + 1) c.args.added.now.line can few (records c.shift.new.store)
-    c.shift.ensures.records
-
-pub add-requires-clause-sum : goal.add-requires-clause-sum
-add-requires-clause-sum g c = let m = records c.args.store.now in
-    let b = base-of m c.args.height c.args.root c.args.k c.args.added.now.line c.in-Some.name c.requires.node
-    c.requires.insert (c.requires.behind c.in-Some.name c.in-Some.is).0
-    (c.requires.behind c.in-Some.name c.in-Some.is).1 c.parent.result c.parent.ensures.value c.unwrap-node.result
-    c.unwrap-node.ensures c.slot-slot.result c.slot-slot.ensures in
-    let can = subst (λ n. CanPut m c.unwrap-node.result n c.args.added.now.line) b.place (low-can_put m
-    c.unwrap-node.result (c.args.k - b.before) c.args.added.now.line b.can) in
-    let few = has-room m c.unwrap-node.result (row-tree m 0 c.unwrap-node.result b.tree) c.child.result
-    c.child.ensures.value (sym c.is_some.ensures ∙ c.if-is_some.false) in
-    let p = c.unwrap-node.result in
-    shifted-sum m c.unwrap-node.result (c.slot-slot.result + 1) c.args.added.now.line can few (records c.shift.new.store)
-    c.shift.ensures.records
-    c.args.added.now.more (ap (plus (sum_at m p)) c.requires.more
-    ∙ low-sum m p (c.args.k - b.before) c.args.added.now.line b.can
-    ∙ ap (λ n. sum_all m (insert (kids m p) n c.args.added.now.line)) b.place)
-
-pub add-requires-clause-fits : goal.add-requires-clause-fits
-add-requires-clause-fits g c = let m = records c.args.store.now in
-    let b = base-of m c.args.height c.args.root c.args.k c.args.added.now.line c.in-Some.name c.requires.node
-    c.requires.insert (c.requires.behind c.in-Some.name c.in-Some.is).0
-    (c.requires.behind c.in-Some.name c.in-Some.is).1 c.parent.result c.parent.ensures.value c.unwrap-node.result
-    c.unwrap-node.ensures c.slot-slot.result c.slot-slot.ensures in
-    let can = subst (λ n. CanPut m c.unwrap-node.result n c.args.added.now.line) b.place (low-can_put m
-    c.unwrap-node.result (c.args.k - b.before) c.args.added.now.line b.can) in
-    let few = has-room m c.unwrap-node.result (row-tree m 0 c.unwrap-node.result b.tree) c.child.result
-    c.child.ensures.value (sym c.is_some.ensures ∙ c.if-is_some.false) in
-    shifted-fits m c.unwrap-node.result (c.slot-slot.result + 1) c.args.added.now.line can few (records c.shift.new.store)
-    c.shift.ensures.records
+    record {
+      row = shifted-row m c.unwrap-node.result (c.slot-slot.result + 1) c.args.added.now.line can few
+          (records c.shift.new.store) c.shift.ensures.records;
+      sum =
+          let p = c.unwrap-node.result in
+          shifted-sum m c.unwrap-node.result (c.slot-slot.result + 1) c.args.added.now.line can few
+          (records c.shift.new.store) c.shift.ensures.records c.args.added.now.more (ap (plus (sum_at m p))
+          c.requires.more ∙ low-sum m p (c.args.k - b.before) c.args.added.now.line b.can
+          ∙ ap (λ n. sum_all m (insert (kids m p) n c.args.added.now.line)) b.place);
+      fits = shifted-fits m c.unwrap-node.result (c.slot-slot.result + 1) c.args.added.now.line can few
+          (records c.shift.new.store) c.shift.ensures.records;
+    }
 
 pub loop-level-init : goal.loop-level-init
 loop-level-init g c = let m = records c.args.store.now in
-    let b = base-of m c.args.height c.args.root c.args.k c.args.added.now.line c.in-Some.name c.requires.node
-    c.requires.insert (c.requires.behind c.in-Some.name c.in-Some.is).0
-    (c.requires.behind c.in-Some.name c.in-Some.is).1 c.parent.result c.parent.ensures.value c.unwrap-node.result
-    c.unwrap-node.ensures c.slot-slot.result c.slot-slot.ensures in
-    let can = subst (λ n. CanPut m c.unwrap-node.result n c.args.added.now.line) b.place (low-can_put m
-    c.unwrap-node.result (c.args.k - b.before) c.args.added.now.line b.can) in
+    let b = base g (goal.at.loop-level-init g c).After-slot-slot in
+    let can = can-put g (goal.at.loop-level-init g c).After-slot-slot in
     let few = has-room m c.unwrap-node.result (row-tree m 0 c.unwrap-node.result b.tree) c.child.result
     c.child.ensures.value (sym c.is_some.ensures ∙ c.if-is_some.false) in
     let p = c.unwrap-node.result in let n = records c.add.new.store in
@@ -144,30 +113,20 @@ unwrap-at-requires g c = let m = records c.args.store.now in let l = records c.l
     c.loop-level-test.true c.loop-level.invariant.climbs c.parent-in-loop-level.result
     c.parent-in-loop-level.ensures.value
 
-pub add-requires-in-loop-level-clause-row : goal.add-requires-in-loop-level-clause-row
-add-requires-in-loop-level-clause-row g c = let m = records c.args.store.now in
-    let l = records c.loop-level.store in
+pub add-requires-in-loop-level : goal.add-requires-in-loop-level
+add-requires-in-loop-level g c = let m = records c.args.store.now in let l = records c.loop-level.store in
     let a = above-of m l c.args.height c.args.root c.args.k c.args.added.now.line c.loop-level.level c.loop-level.at
     c.loop-level-test.true c.requires.insert c.loop-level.invariant.climbs c.parent-in-loop-level.result
     c.parent-in-loop-level.ensures.value c.unwrap-at.result c.unwrap-at.ensures in
-    has-now m c.loop-level.level c.unwrap-at.result (c.args.k - a.before) c.args.added.now.line a.can a.found a.leads l None a.inserts
-
-pub add-requires-in-loop-level-clause-sum : goal.add-requires-in-loop-level-clause-sum
-add-requires-in-loop-level-clause-sum g c = let m = records c.args.store.now in
-    let l = records c.loop-level.store in
-    let a = above-of m l c.args.height c.args.root c.args.k c.args.added.now.line c.loop-level.level c.loop-level.at
-    c.loop-level-test.true c.requires.insert c.loop-level.invariant.climbs c.parent-in-loop-level.result
-    c.parent-in-loop-level.ensures.value c.unwrap-at.result c.unwrap-at.ensures in
-    ap (plus (sum_at l c.unwrap-at.result)) c.requires.more
-    ∙ one-sum m c.loop-level.level c.unwrap-at.result (c.args.k - a.before) c.args.added.now.line a.can a.found a.leads l a.inserts
-
-pub add-requires-in-loop-level-clause-fits : goal.add-requires-in-loop-level-clause-fits
-add-requires-in-loop-level-clause-fits g c = let m = records c.args.store.now in
-    let l = records c.loop-level.store in
-    let a = above-of m l c.args.height c.args.root c.args.k c.args.added.now.line c.loop-level.level c.loop-level.at
-    c.loop-level-test.true c.requires.insert c.loop-level.invariant.climbs c.parent-in-loop-level.result
-    c.parent-in-loop-level.ensures.value c.unwrap-at.result c.unwrap-at.ensures in
-    one-fits m c.loop-level.level c.unwrap-at.result (c.args.k - a.before) c.args.added.now.line a.can a.found a.leads l a.inserts
+    record {
+      row = has-now m c.loop-level.level c.unwrap-at.result (c.args.k - a.before) c.args.added.now.line a.can a.found
+          a.leads l None a.inserts;
+      sum = ap (plus (sum_at l c.unwrap-at.result)) c.requires.more
+          ∙ one-sum m c.loop-level.level c.unwrap-at.result (c.args.k - a.before) c.args.added.now.line a.can a.found
+          a.leads l a.inserts;
+      fits = one-fits m c.loop-level.level c.unwrap-at.result (c.args.k - a.before) c.args.added.now.line a.can a.found
+          a.leads l a.inserts;
+    }
 
 pub loop-level-preserved : goal.loop-level-preserved
 loop-level-preserved g c = let m = records c.args.store.now in

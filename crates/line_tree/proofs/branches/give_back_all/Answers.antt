@@ -1,9 +1,6 @@
-use Rattle.std.proofs.Common.{◌+◌, sym, ap, ◌∙◌, subst}
-use Rattle.std.specs.Prelude.{IsSome}
-use Rattle.raw_nodes.specs.Names.{records}
+use Rattle.std.proofs.Common.{◌+◌, sym, ap, ◌∙◌, subst, IsSome}
+use Rattle.line_tree.proofs.Words.{names, records, tree_at}
 use Rattle.line_tree.specs.Giving.{Without}
-use Rattle.line_tree.specs.Shape.{tree_at}
-use Rattle.line_tree.specs.Trees.{names}
 use Rattle.line_tree.proofs.GivingLaws.{no-line, node-room, without-node}
 use Rattle.line_tree.proofs.LowestLaws.{lowest-below}
 use Rattle.line_tree.proofs.RowLaws.{lines_is}

@@ -1,7 +1,5 @@
-use Rattle.std.proofs.Common.{◌+◌, take, sym, ap, ◌∙◌, subst, arith}
-use Rattle.std.specs.Prelude.{IsSome}
-use Rattle.raw_nodes.specs.Names.{nodes, records, rooms, spares}
-use Rattle.raw_nodes.specs.Rows.{kids}
+use Rattle.std.proofs.Common.{◌+◌, take, sym, ap, ◌∙◌, subst, arith, IsSome}
+use Rattle.line_tree.proofs.Words.{kids, nodes, records, rooms, spares}
 use Rattle.line_tree.specs.Giving.{Without}
 use Rattle.line_tree.proofs.AmongLaws.{among-take}
 use Rattle.line_tree.proofs.GivingLaws.{gives-line, line-apart, line-named, line-roomless, no-line, without-line}

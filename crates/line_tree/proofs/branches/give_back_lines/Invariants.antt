@@ -1,6 +1,5 @@
 use Rattle.std.proofs.Common.{◌≡◌, ◌+◌, take}
-use Rattle.raw_nodes.specs.Names.{nodes, records, rooms, spares}
-use Rattle.raw_nodes.specs.Rows.{kids}
+use Rattle.line_tree.proofs.Words.{kids, nodes, records, rooms, spares}
 use Rattle.line_tree.specs.Giving.{Without}
 use Rattle.line_tree.proofs.branches.give_back_lines.Given as goal
 

@@ -1,6 +1,5 @@
 use Rattle.std.proofs.Common.{suc, sym, ap, subst}
-use Rattle.raw_nodes.specs.Names.{records}
-use Rattle.line_tree.specs.Shape.{IsTree}
+use Rattle.line_tree.proofs.Words.{IsTree, records}
 use Rattle.line_tree.proofs.LowestLaws.{lowest-before}
 use Rattle.line_tree.proofs.TreeLaws.{row-tree}
 use Rattle.line_tree.proofs.climb.ahead.Goals as goal

@@ -1,14 +1,10 @@
 use Rattle.std.proofs.Common.{◌≡◌, ℕ, ap, sym, ◌∙◌, arith}
 use Rattle.std.specs.List.{sum_by}
 use Rattle.std.proofs.lemmas.List.{take_all}
-use Rattle.raw_nodes.specs.Names.{records}
-use Rattle.raw_nodes.specs.Records.{Records}
-use Rattle.raw_nodes.specs.Rows.{kids}
-use Rattle.raw_nodes.specs.declared.names.NodePtr.{NodePtr}
+use Rattle.line_tree.proofs.Words.{NodePtr, Records, kids, lines_at, records}
 use Rattle.line_tree.specs.Finds.{HasRow}
 use Rattle.line_tree.specs.Locating.{characters_at, characters_below}
 use Rattle.line_tree.specs.Places.{characters_before}
-use Rattle.line_tree.specs.Shape.{lines_at}
 use Rattle.line_tree.proofs.RowLaws.{size_is}
 use Rattle.line_tree.proofs.TreeLaws.{named-row}
 use Rattle.line_tree.proofs.climb.characters_ahead.Goals as goal

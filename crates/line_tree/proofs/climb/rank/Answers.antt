@@ -1,12 +1,8 @@
 use Rattle.std.proofs.Common.{◌≡◌, ℕ, ◌+◌, ◌-◌, suc, subst, arith}
 use Rattle.std.proofs.lemmas.Option.{slice_get_within}
-use Rattle.raw_nodes.specs.Names.{records}
-use Rattle.raw_nodes.specs.Records.{Records}
-use Rattle.raw_nodes.specs.Rows.{kids}
-use Rattle.raw_nodes.specs.declared.names.NodePtr.{NodePtr}
+use Rattle.line_tree.proofs.Words.{NodePtr, Records, kids, lines_in, records}
 use Rattle.line_tree.specs.Places.{IsLineAt, Sits}
-use Rattle.line_tree.specs.Shape.{lines_in}
-use Rattle.line_tree.proofs.PlaceLaws.{Up, level, line-within, named-below, parent-below, sits, up_from}
+use Rattle.line_tree.proofs.PlaceLaws.{Up, child-named, child-parent, level, line-within, sits, up_from}
 use Rattle.line_tree.proofs.TreeLaws.{row-tree}
 use Rattle.line_tree.proofs.climb.rank.Given.{Over}
 use Rattle.line_tree.proofs.climb.rank.Goals as goal
@@ -33,21 +29,21 @@ loop-level-init g c = let m = records c.args.store.now in record {
 pub parent-requires : goal.parent-requires
 parent-requires g c = let m = records c.args.store.now in
     let s = c.loop-level.invariant.sits c.requires.named.0 c.requires.named.1 in
-    named-below m (c.args.height - suc c.loop-level.level) c.loop-level.level c.args.root c.loop-level.at s.0
-    (level m c.args.height c.loop-level.level c.args.root c.loop-level.at s.0 c.loop-level-test.true s.1)
+    let up = level m c.args.height c.loop-level.level c.args.root c.loop-level.at s.0 c.loop-level-test.true s.1 in
+    child-named m c.loop-level.level up.0 up.1 c.loop-level.at up.4
 
 pub slot-slot-requires : goal.slot-slot-requires
 slot-slot-requires g c = let m = records c.args.store.now in
     let s = c.loop-level.invariant.sits c.requires.named.0 c.requires.named.1 in
-    named-below m (c.args.height - suc c.loop-level.level) c.loop-level.level c.args.root c.loop-level.at s.0
-    (level m c.args.height c.loop-level.level c.args.root c.loop-level.at s.0 c.loop-level-test.true s.1)
+    let up = level m c.args.height c.loop-level.level c.args.root c.loop-level.at s.0 c.loop-level-test.true s.1 in
+    child-named m c.loop-level.level up.0 up.1 c.loop-level.at up.4
 
 pub returns-in_default-clause-value : goal.returns-in_default-clause-value
 returns-in_default-clause-value g c k at = let m = records c.args.store.now in
     let s = c.loop-level.invariant.sits k at in
-    absurd (c.in_default.not-Some _ (parent-below m (c.args.height - suc c.loop-level.level) c.loop-level.level
-    c.args.root c.loop-level.at s.0 (level m c.args.height c.loop-level.level c.args.root c.loop-level.at s.0
-    c.loop-level-test.true s.1) c.parent.result c.parent.ensures.value))
+    let up = level m c.args.height c.loop-level.level c.args.root c.loop-level.at s.0 c.loop-level-test.true s.1 in
+    absurd (c.in_default.not-Some _ (child-parent m c.loop-level.level up.0 up.1 c.loop-level.at up.4 c.parent.result
+    c.parent.ensures.value))
 
 here : (g : Over) (c : After-ahead-arg-1 g) (k : ℕ)
     (at : IsLineAt (lines_in (records c.args.store.now) c.args.height c.args.root) k c.args.name)
@@ -58,20 +54,18 @@ here g c k at = let m = records c.args.store.now in let s = c.loop-level.invaria
     (level m c.args.height c.loop-level.level c.args.root c.loop-level.at s.0 c.loop-level-test.true s.1)
     c.parent.result c.parent.ensures.value c.in-Some.up c.in-Some.is c.slot-slot.result c.slot-slot.ensures
 
-pub ahead-rank-requires-clause-tree : goal.ahead-rank-requires-clause-tree
-ahead-rank-requires-clause-tree g c = (here g c c.requires.named.0 c.requires.named.1).child.tree
-
-pub ahead-rank-requires-clause-within : goal.ahead-rank-requires-clause-within
-ahead-rank-requires-clause-within g c = let m = records c.args.store.now in
-    let less = slice_get_within (kids m c.in-Some.up) c.slot-slot.result c.loop-level.at
-    (here g c c.requires.named.0 c.requires.named.1).child.at in omega arith
-
-pub ahead-rank-requires-clause-fits : goal.ahead-rank-requires-clause-fits
-ahead-rank-requires-clause-fits g c = let m = records c.args.store.now in
-    let k = c.requires.named.0 in let at = c.requires.named.1 in
-    let offset = (here g c k at).offset in let sum = (c.loop-level.invariant.sits k at).2 in
-    let fits = c.requires.fits in
-    let within = line-within (lines_in m c.args.height c.args.root) k c.args.name at in omega arith
+pub ahead-rank-requires : goal.ahead-rank-requires
+ahead-rank-requires g c = let m = records c.args.store.now in
+    record {
+      tree = (here g c c.requires.named.0 c.requires.named.1).child.tree;
+      within =
+          let less = slice_get_within (kids m c.in-Some.up) c.slot-slot.result c.loop-level.at
+          (here g c c.requires.named.0 c.requires.named.1).child.at in omega arith;
+      fits =
+          let k = c.requires.named.0 in let at = c.requires.named.1 in let offset = (here g c k at).offset in
+          let sum = (c.loop-level.invariant.sits k at).2 in let fits = c.requires.fits in
+          let within = line-within (lines_in m c.args.height c.args.root) k c.args.name at in omega arith;
+    }
 
 pub overflow_add-rank : goal.overflow_add-rank
 overflow_add-rank g c =

@@ -1,14 +1,10 @@
 use Rattle.std.proofs.Common.{◌≡◌, ℕ, ◌+◌, ◌-◌, suc, ap, subst, arith}
 use Rattle.std.proofs.lemmas.Option.{slice_get_within}
-use Rattle.raw_nodes.specs.Names.{records}
-use Rattle.raw_nodes.specs.Records.{Records}
-use Rattle.raw_nodes.specs.Rows.{kids}
-use Rattle.raw_nodes.specs.declared.names.NodePtr.{NodePtr}
+use Rattle.line_tree.proofs.Words.{NodePtr, Records, kids, lines_in, records}
 use Rattle.line_tree.specs.Places.{Begins, IsLineAt}
-use Rattle.line_tree.specs.Shape.{lines_in}
-use Rattle.line_tree.proofs.BeginLaws.{BeginsUp, begins-below, begins-level, begins-named, begins-up}
-use Rattle.line_tree.proofs.BeginLaws.{first-characters, parent-of}
+use Rattle.line_tree.proofs.BeginLaws.{BeginsUp, begins-level, begins-named, begins-up, first-characters}
 use Rattle.line_tree.proofs.LocateLaws.{size-below}
+use Rattle.line_tree.proofs.PlaceLaws.{child-named, child-parent}
 use Rattle.line_tree.proofs.TreeLaws.{row-tree}
 use Rattle.line_tree.proofs.climb.start_of.Given.{Over}
 use Rattle.line_tree.proofs.climb.start_of.Goals as goal
@@ -31,21 +27,21 @@ loop-level-init g c = let m = records c.args.store.now in record {
 pub parent-requires : goal.parent-requires
 parent-requires g c = let m = records c.args.store.now in
     let s = c.loop-level.invariant.begins c.requires.named.0 c.requires.named.1 in
-    begins-below m (c.args.height - suc c.loop-level.level) c.loop-level.level c.args.root c.loop-level.at s.0
-    (begins-level m c.args.height c.loop-level.level c.args.root c.loop-level.at s.0 c.loop-level-test.true s.1)
+    let up = begins-level m c.args.height c.loop-level.level c.args.root c.loop-level.at s.0 c.loop-level-test.true s.1 in
+    child-named m c.loop-level.level up.0 up.1 c.loop-level.at up.4
 
 pub slot-slot-requires : goal.slot-slot-requires
 slot-slot-requires g c = let m = records c.args.store.now in
     let s = c.loop-level.invariant.begins c.requires.named.0 c.requires.named.1 in
-    begins-below m (c.args.height - suc c.loop-level.level) c.loop-level.level c.args.root c.loop-level.at s.0
-    (begins-level m c.args.height c.loop-level.level c.args.root c.loop-level.at s.0 c.loop-level-test.true s.1)
+    let up = begins-level m c.args.height c.loop-level.level c.args.root c.loop-level.at s.0 c.loop-level-test.true s.1 in
+    child-named m c.loop-level.level up.0 up.1 c.loop-level.at up.4
 
 pub returns-in_default : goal.returns-in_default
 returns-in_default g c k at = let m = records c.args.store.now in
     let s = c.loop-level.invariant.begins k at in
-    absurd (c.in_default.not-Some _ (parent-of m (c.args.height - suc c.loop-level.level) c.loop-level.level
-    c.args.root c.loop-level.at s.0 (begins-level m c.args.height c.loop-level.level c.args.root c.loop-level.at s.0
-    c.loop-level-test.true s.1) c.parent.result c.parent.ensures.value))
+    let up = begins-level m c.args.height c.loop-level.level c.args.root c.loop-level.at s.0 c.loop-level-test.true s.1 in
+    absurd (c.in_default.not-Some _ (child-parent m c.loop-level.level up.0 up.1 c.loop-level.at up.4 c.parent.result
+    c.parent.ensures.value))
 
 here : (g : Over) (c : After-characters_ahead-arg-1 g) (k : ℕ)
     (at : IsLineAt (lines_in (records c.args.store.now) c.args.height c.args.root) k c.args.name)
@@ -56,27 +52,21 @@ here g c k at = let m = records c.args.store.now in let s = c.loop-level.invaria
     (begins-level m c.args.height c.loop-level.level c.args.root c.loop-level.at s.0 c.loop-level-test.true s.1)
     c.parent.result c.parent.ensures.value c.in-Some.up c.in-Some.is c.slot-slot.result c.slot-slot.ensures
 
-pub characters_ahead-start-requires-clause-row : goal.characters_ahead-start-requires-clause-row
-characters_ahead-start-requires-clause-row g c =
-    row-tree (records c.args.store.now) c.loop-level.level c.in-Some.up
-    (here g c c.requires.named.0 c.requires.named.1).child.tree
-
-pub characters_ahead-start-requires-clause-whole : goal.characters_ahead-start-requires-clause-whole
-characters_ahead-start-requires-clause-whole g c =
-    ap (λ (n : ℕ × ℕ). n.1) (size-below (records c.args.store.now) c.loop-level.level c.in-Some.up
-    (here g c c.requires.named.0 c.requires.named.1).child.tree)
-
-pub characters_ahead-start-requires-clause-within : goal.characters_ahead-start-requires-clause-within
-characters_ahead-start-requires-clause-within g c = let m = records c.args.store.now in
-    let less = slice_get_within (kids m c.in-Some.up) c.slot-slot.result c.loop-level.at
-    (here g c c.requires.named.0 c.requires.named.1).child.at in omega arith
-
-pub characters_ahead-start-requires-clause-fits : goal.characters_ahead-start-requires-clause-fits
-characters_ahead-start-requires-clause-fits g c = let m = records c.args.store.now in
-    let k = c.requires.named.0 in let at = c.requires.named.1 in
-    let offset = (here g c k at).offset in let sum = (c.loop-level.invariant.begins k at).2 in
-    let fits = c.requires.fits.characters in
-    let most = first-characters k (lines_in m c.args.height c.args.root) in omega arith
+pub characters_ahead-start-requires : goal.characters_ahead-start-requires
+characters_ahead-start-requires g c = let m = records c.args.store.now in
+    record {
+      row = row-tree (records c.args.store.now) c.loop-level.level c.in-Some.up
+          (here g c c.requires.named.0 c.requires.named.1).child.tree;
+      whole = ap (λ (n : ℕ × ℕ). n.1) (size-below (records c.args.store.now) c.loop-level.level c.in-Some.up
+          (here g c c.requires.named.0 c.requires.named.1).child.tree);
+      within =
+          let less = slice_get_within (kids m c.in-Some.up) c.slot-slot.result c.loop-level.at
+          (here g c c.requires.named.0 c.requires.named.1).child.at in omega arith;
+      fits =
+          let k = c.requires.named.0 in let at = c.requires.named.1 in let offset = (here g c k at).offset in
+          let sum = (c.loop-level.invariant.begins k at).2 in let fits = c.requires.fits.characters in
+          let most = first-characters k (lines_in m c.args.height c.args.root) in omega arith;
+    }
 
 pub overflow_add-start : goal.overflow_add-start
 overflow_add-start g c = let m = records c.args.store.now in

@@ -1,8 +1,6 @@
 use Rattle.std.proofs.Common.{◌≡◌, ℕ, ◌+◌, ◌-◌, take}
-use Rattle.raw_nodes.specs.Names.{records}
+use Rattle.line_tree.proofs.Words.{lines_in, records, total}
 use Rattle.line_tree.specs.Places.{Begins, IsLineAt}
-use Rattle.line_tree.specs.Shape.{lines_in}
-use Rattle.line_tree.specs.Trees.{total}
 use Rattle.line_tree.proofs.climb.start_of.Given as goal
 
 abbrev pub invariant-loop-level : goal.invariant-loop-level

@@ -1,11 +1,5 @@
-use Rattle.std.proofs.Common.{sym, ap, ◌∙◌, subst, arith}
-use Rattle.std.specs.Prelude.{IfSome}
-use Rattle.raw_nodes.specs.Names.{records}
-use Rattle.raw_nodes.specs.Records.{with_sum}
-use Rattle.raw_nodes.specs.Rows.{kids, row}
-use Rattle.toggle_sums.specs.Counts.{Count, HasCounts, counting, less}
-use Rattle.line_tree.specs.Changes.{sums}
-use Rattle.line_tree.specs.Shape.{sum_of}
+use Rattle.std.proofs.Common.{sym, ap, ◌∙◌, subst, arith, IfSome}
+use Rattle.line_tree.proofs.Words.{Count, HasCounts, counting, kids, less, records, row, sum_of, sums, with_sum}
 use Rattle.line_tree.proofs.KeptLaws.{update-as}
 use Rattle.line_tree.proofs.LessLaws.{less-plus}
 use Rattle.line_tree.proofs.UpdateLaws.{inner-row}

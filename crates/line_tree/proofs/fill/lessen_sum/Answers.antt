@@ -1,7 +1,5 @@
 use Rattle.std.proofs.Common.{sym, ap, ◌∙◌, arith}
-use Rattle.raw_nodes.specs.Names.{records}
-use Rattle.toggle_sums.specs.Counts.{Count, less}
-use Rattle.line_tree.specs.Changes.{sums}
+use Rattle.line_tree.proofs.Words.{Count, less, records, sums}
 use Rattle.line_tree.proofs.LessLaws.{less-plus}
 use Rattle.line_tree.proofs.fill.lessen_sum.Goals as goal
 

@@ -1,10 +1,7 @@
-use Rattle.std.proofs.Common.{sym, ap, ◌∙◌, subst, Some}
-use Rattle.std.specs.Prelude.{IsSome}
+use Rattle.std.proofs.Common.{sym, ap, ◌∙◌, subst, Some, IsSome}
 use Rattle.std.specs.FinMap as finite
-use Rattle.raw_nodes.specs.Names.{records}
-use Rattle.raw_nodes.specs.Records.{update, with_child, with_parent}
+use Rattle.line_tree.proofs.Words.{link_one, records, update, with_child, with_parent}
 use Rattle.raw_nodes.proofs.UpdateLaws.{named-update}
-use Rattle.line_tree.specs.Changes.{link_one}
 use Rattle.line_tree.proofs.RowLaws.{none_of}
 use Rattle.line_tree.proofs.fill.link.Goals as goal
 

@@ -1,7 +1,6 @@
 use Rattle.std.proofs.Common.{◌≤◌, length, take, drop, arith, length-take}
 use Rattle.std.specs.List.{insert}
-use Rattle.raw_nodes.specs.Names.{records}
-use Rattle.raw_nodes.specs.Rows.{kids}
+use Rattle.line_tree.proofs.Words.{kids, records}
 use Rattle.line_tree.proofs.FillLaws.{same_row}
 use Rattle.line_tree.proofs.fill.part.Goals as goal
 

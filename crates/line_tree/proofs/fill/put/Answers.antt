@@ -1,20 +1,12 @@
 use Rattle.std.proofs.Common.{◌≡◌, ◌-◌, ◌≤◌, ℕ, List, Some, length, take, drop, ap, refl, sym, ◌∙◌, subst, arith}
-use Rattle.std.proofs.Common.{length-drop, None, not}
+use Rattle.std.proofs.Common.{length-drop, None, not, IfSome, IsSome, slice_get, Option}
 use Rattle.std.specs.FinMap as finite
 use Rattle.std.specs.List.{insert}
 use Rattle.std.proofs.lemmas.List.{take_all}
 use Rattle.std.proofs.lemmas.List.Edits.{length-insert}
-use Rattle.raw_nodes.specs.Names.{records}
-use Rattle.raw_nodes.specs.Records.{blank}
-use Rattle.raw_nodes.specs.Rows.{kids, row}
-use Rattle.raw_nodes.specs.declared.names.NodePtr.{NodePtr}
-use Rattle.std.specs.Prelude.{IfSome, IsSome, slice_get}
-use Rattle.std.specs.declared.option.Option.{Option}
-use Rattle.toggle_sums.specs.Counts.{Count, plus}
-use Rattle.raw_nodes.specs.Records.{Records}
-use Rattle.line_tree.specs.Changes.{Among, CanFill, CanPut, FitsSum, Stay, refilled, sum_all, sums}
+use Rattle.line_tree.proofs.Words.{Among, CanFill, CanPut, Count, FitsSum, NodePtr, Records, Stay, blank, kids, plus}
+use Rattle.line_tree.proofs.Words.{records, refilled, row, sum_all, sum_at, sums}
 use Rattle.line_tree.specs.Finds.{HasRow}
-use Rattle.line_tree.specs.Shape.{sum_at}
 use Rattle.line_tree.proofs.AmongLaws.{among-drop, among-take, get-among}
 use Rattle.line_tree.proofs.FillLaws.{row-some, sums-row}
 use Rattle.line_tree.proofs.RowLaws.{sum_is}
@@ -40,26 +32,18 @@ pub shift-requires-clause-few : goal.shift-requires-clause-few
 shift-requires-clause-few g c = has-room (records c.args.store.now) c.args.node c.requires.put.row c.child.result
     c.child.ensures.value (c.is_none.ensures ∙ ap not c.if-is_none.true)
 
-pub add-requires-clause-row : goal.add-requires-clause-row
-add-requires-clause-row g c = let m = records c.args.store.now in
-    let few = has-room m c.args.node c.requires.put.row c.child.result c.child.ensures.value (c.is_none.ensures
-    ∙ ap not c.if-is_none.true) in
-    shifted-row m c.args.node c.args.at c.args.extra c.requires.put few (records c.shift.new.store)
-    c.shift.ensures.records
-
-pub add-requires-clause-sum : goal.add-requires-clause-sum
-add-requires-clause-sum g c = let m = records c.args.store.now in
-    let few = has-room m c.args.node c.requires.put.row c.child.result c.child.ensures.value (c.is_none.ensures
-    ∙ ap not c.if-is_none.true) in
-    shifted-sum m c.args.node c.args.at c.args.extra c.requires.put few (records c.shift.new.store)
-    c.shift.ensures.records c.args.more.now c.requires.sum
-
-pub add-requires-clause-fits : goal.add-requires-clause-fits
-add-requires-clause-fits g c = let m = records c.args.store.now in
-    let few = has-room m c.args.node c.requires.put.row c.child.result c.child.ensures.value (c.is_none.ensures
-    ∙ ap not c.if-is_none.true) in
-    shifted-fits m c.args.node c.args.at c.args.extra c.requires.put few (records c.shift.new.store)
-    c.shift.ensures.records
+pub add-requires : goal.add-requires
+add-requires g c = let m = records c.args.store.now in
+    let few = has-room m c.args.node c.requires.put.row c.child.result c.child.ensures.value
+    (c.is_none.ensures ∙ ap not c.if-is_none.true) in
+    record {
+      row = shifted-row m c.args.node c.args.at c.args.extra c.requires.put few (records c.shift.new.store)
+          c.shift.ensures.records;
+      sum = shifted-sum m c.args.node c.args.at c.args.extra c.requires.put few (records c.shift.new.store)
+          c.shift.ensures.records c.args.more.now c.requires.sum;
+      fits = shifted-fits m c.args.node c.args.at c.args.extra c.requires.put few (records c.shift.new.store)
+          c.shift.ensures.records;
+    }
 
 pub returns-then-is_none-clause-puts : goal.returns-then-is_none-clause-puts
 returns-then-is_none-clause-puts g c = let m = records c.args.store.now in

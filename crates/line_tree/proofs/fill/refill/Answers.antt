@@ -1,8 +1,5 @@
-use Rattle.std.proofs.Common.{ap, sym, ◌∙◌, subst}
-use Rattle.std.specs.Prelude.{slice_get}
-use Rattle.raw_nodes.specs.Names.{records}
-use Rattle.raw_nodes.specs.Records.{update, with_sum}
-use Rattle.line_tree.specs.Changes.{relinked}
+use Rattle.std.proofs.Common.{ap, sym, ◌∙◌, subst, slice_get}
+use Rattle.line_tree.proofs.Words.{records, relinked, update, with_sum}
 use Rattle.line_tree.specs.Finds.{HasRow}
 use Rattle.line_tree.proofs.AmongLaws.{get-among}
 use Rattle.line_tree.proofs.FillLaws.{relinked-has_row, row-some, sum-relinked, sums-same}

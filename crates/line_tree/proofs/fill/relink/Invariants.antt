@@ -1,7 +1,5 @@
 use Rattle.std.proofs.Common.{◌≡◌, drop}
-use Rattle.raw_nodes.specs.Names.{IsInner, IsName, records, rooms, spares}
-use Rattle.raw_nodes.specs.declared.names.NodePtr.{NodePtr}
-use Rattle.line_tree.specs.Changes.{relinked}
+use Rattle.line_tree.proofs.Words.{IsInner, IsName, NodePtr, records, relinked, rooms, spares}
 use Rattle.line_tree.proofs.fill.relink.Given as goal
 
 abbrev pub invariant-loop-slot : goal.invariant-loop-slot

@@ -1,5 +1,4 @@
-use Rattle.std.proofs.Common.{◌+◌, sym, ◌∙◌, subst, arith}
-use Rattle.std.specs.Prelude.{IsSome}
+use Rattle.std.proofs.Common.{◌+◌, sym, ◌∙◌, subst, arith, refl, IsSome}
 use Rattle.std.specs.FinMap as finite
 use Rattle.std.proofs.lemmas.Option.{same_Some}
 use Rattle.raw_nodes.specs.Names.{records}
@@ -7,7 +6,6 @@ use Rattle.line_tree.proofs.RowLaws.{none_of}
 use Rattle.line_tree.proofs.ShiftLaws.{Shifting, shift-child, shift-first, shift-last, shift-named, shift-next}
 use Rattle.line_tree.proofs.ShiftLaws.{shift-within}
 use Rattle.line_tree.proofs.fill.shift.Goals as goal
-use Rattle.std.proofs.Common.{refl}
 
 pub loop-next-init : goal.loop-next-init
 loop-next-init g c = let m = records c.args.store.now in record {

@@ -1,17 +1,11 @@
-use Rattle.std.proofs.Common.{◌≡◌, ◌+◌, ◌≤◌, ◌<◌, ℕ, drop, length, sym, ap, ◌∙◌, subst, Some, None, arith}
-use Rattle.std.specs.Prelude.{slice_get}
-use Rattle.std.specs.declared.option.Option.{Option}
+use Rattle.std.proofs.Common.{◌≡◌, ◌+◌, ◌≤◌, ◌<◌, ℕ, drop, length, sym, ap, ◌∙◌, subst, Some, None, arith, slice_get}
+use Rattle.std.proofs.Common.{Option}
 use Rattle.std.proofs.lemmas.List.{drop_all}
 use Rattle.toggle_sums.specs.CountLaws.{no_text-plus, plus-associative, plus-no_text}
-use Rattle.toggle_sums.specs.Counts.{CountsFit, plus}
-use Rattle.raw_nodes.specs.Names.{records}
-use Rattle.raw_nodes.specs.Records.{Records}
-use Rattle.raw_nodes.specs.Rows.{kids, row}
-use Rattle.raw_nodes.specs.declared.names.NodePtr.{NodePtr}
+use Rattle.line_tree.proofs.Words.{CountsFit, FitsSum, NodePtr, Records, kids, plus, records, row, sum_at, sum_or_none}
+use Rattle.line_tree.proofs.Words.{sums}
 use Rattle.raw_nodes.proofs.RowLaws.{length-row}
-use Rattle.line_tree.specs.Changes.{FitsSum, sum_or_none, sums}
 use Rattle.line_tree.specs.Finds.{HasRow}
-use Rattle.line_tree.specs.Shape.{sum_at}
 use Rattle.line_tree.proofs.RowLaws.{added_is, asks, child_is, none_of, sums-step}
 use Rattle.line_tree.proofs.SumLaws.{fits-both, fits-left}
 use Rattle.line_tree.proofs.fill.sum_below.Goals as goal

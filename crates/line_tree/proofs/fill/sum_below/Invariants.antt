@@ -1,8 +1,5 @@
 use Rattle.std.proofs.Common.{◌≡◌, drop}
-use Rattle.toggle_sums.specs.Counts.{plus}
-use Rattle.raw_nodes.specs.Names.{records}
-use Rattle.raw_nodes.specs.Rows.{kids, row}
-use Rattle.line_tree.specs.Changes.{sums}
+use Rattle.line_tree.proofs.Words.{kids, plus, records, row, sums}
 use Rattle.line_tree.proofs.fill.sum_below.Given as goal
 
 abbrev pub invariant-loop-slot : goal.invariant-loop-slot

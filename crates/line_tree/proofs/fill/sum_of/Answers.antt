@@ -1,15 +1,9 @@
 use Rattle.std.proofs.Common.{◌≡◌, ◌+◌, ◌≤◌, ◌<◌, ℕ, List, drop, length, get_or, sym, ap, ◌∙◌, subst, Some, None, arith}
-use Rattle.std.specs.Prelude.{slice_get}
-use Rattle.std.specs.declared.option.Option.{Option}
+use Rattle.std.proofs.Common.{slice_get, Option}
 use Rattle.std.proofs.lemmas.List.{at_drop_more, drop_all}
 use Rattle.std.proofs.lemmas.Option.{slice_get-get_or}
 use Rattle.toggle_sums.specs.CountLaws.{no_text-plus, plus-associative, plus-no_text}
-use Rattle.toggle_sums.specs.Counts.{CountsFit, plus}
-use Rattle.raw_nodes.specs.Names.{records}
-use Rattle.raw_nodes.specs.Records.{Records}
-use Rattle.raw_nodes.specs.declared.names.NodePtr.{NodePtr}
-use Rattle.line_tree.specs.Changes.{FitsSum, sum_or_none, sums}
-use Rattle.line_tree.specs.Shape.{sum_at}
+use Rattle.line_tree.proofs.Words.{CountsFit, FitsSum, NodePtr, Records, plus, records, sum_at, sum_or_none, sums}
 use Rattle.line_tree.proofs.RowLaws.{added_is, asks, none_of}
 use Rattle.line_tree.proofs.SumLaws.{fits-both, fits-left}
 use Rattle.line_tree.proofs.fill.sum_of.Goals as goal
@@ -35,21 +29,19 @@ pub loop-slot-init : goal.loop-slot-init
 loop-slot-init g c = let m = records c.args.store.now in let os = c.args.nodes.now in
     record { sum = ap (λ s. plus s (sums m os)) c.zero-sum.ensures ∙ no_text-plus (sums m os) }
 
-pub add_sum_to-requires-clause-name : goal.add_sum_to-requires-clause-name
-add_sum_to-requires-clause-name g c = let os = c.args.nodes.now in let i = c.loop-slot.slot in
+pub add_sum_to-requires : goal.add_sum_to-requires
+add_sum_to-requires g c = let os = c.args.nodes.now in let i = c.loop-slot.slot in
     let within : i < length os = omega (arith, c.told-nodes, c.loop-slot-test.true) in
-    c.requires.nodes i c.in-Some.node (at os i _ c.in-Some.node within c.in-Some.is)
-
-pub add_sum_to-requires-clause-fits : goal.add_sum_to-requires-clause-fits
-add_sum_to-requires-clause-fits g c = let m = records c.args.store.now in let os = c.args.nodes.now in
-    let i = c.loop-slot.slot in let rest = sums m (drop (i + 1) os) in
-    let within : i < length os = omega (arith, c.told-nodes, c.loop-slot-test.true) in
-    let n = c.in-Some.node in let named = c.requires.nodes i n (at os i _ n within c.in-Some.is) in
-    let sum = c.loop-slot.sum in let more = sum_at m n in
-    let step = some_step m os i _ n within c.in-Some.is in
-    asks (CountsFit sum) m n named (fits-both sum more (fits-left (plus sum more) rest
-    (subst FitsSum (sym (plus-associative sum more rest ∙ ap (plus sum) (sym step) ∙ c.loop-slot.invariant.sum))
-    c.requires.fits)))
+    record {
+      name = c.requires.nodes i c.in-Some.node (at os i _ c.in-Some.node within c.in-Some.is);
+      fits =
+          let m = records c.args.store.now in let rest = sums m (drop (i + 1) os) in let n = c.in-Some.node in
+          let named = c.requires.nodes i n (at os i _ n within c.in-Some.is) in let sum = c.loop-slot.sum in
+          let more = sum_at m n in let step = some_step m os i _ n within c.in-Some.is in
+          asks (CountsFit sum) m n named (fits-both sum more (fits-left (plus sum more) rest (subst FitsSum
+          (sym (plus-associative sum more rest ∙ ap (plus sum) (sym step) ∙ c.loop-slot.invariant.sum))
+          c.requires.fits)));
+    }
 
 pub loop-slot-preserved : goal.loop-slot-preserved
 loop-slot-preserved g c = let m = records c.args.store.now in let os = c.args.nodes.now in let i = c.loop-slot.slot in

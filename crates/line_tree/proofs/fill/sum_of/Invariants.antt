@@ -1,7 +1,5 @@
 use Rattle.std.proofs.Common.{◌≡◌, drop}
-use Rattle.toggle_sums.specs.Counts.{plus}
-use Rattle.raw_nodes.specs.Names.{records}
-use Rattle.line_tree.specs.Changes.{sums}
+use Rattle.line_tree.proofs.Words.{plus, records, sums}
 use Rattle.line_tree.proofs.fill.sum_of.Given as goal
 
 abbrev pub invariant-loop-slot : goal.invariant-loop-slot

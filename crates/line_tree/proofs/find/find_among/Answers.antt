@@ -1,8 +1,5 @@
 use Rattle.std.proofs.Common.{◌≡◌, ℕ, ◌-◌, take, sym, ap, subst, arith}
-use Rattle.raw_nodes.specs.Names.{records}
-use Rattle.raw_nodes.specs.Records.{Records}
-use Rattle.raw_nodes.specs.Rows.{kids}
-use Rattle.raw_nodes.specs.declared.names.NodePtr.{NodePtr}
+use Rattle.line_tree.proofs.Words.{NodePtr, Records, kids, records}
 use Rattle.line_tree.specs.Aims.{nothing-adds}
 use Rattle.line_tree.specs.Finds.{Finds}
 use Rattle.line_tree.specs.Searches.{Reaches, sum_below}

@@ -1,23 +1,17 @@
-use Rattle.std.proofs.Common.{◌≡◌, ℕ, ◌-◌, ◌<◌, suc, sym, subst, arith, None, ◌+◌, ap, ◌∙◌}
+use Rattle.std.proofs.Common.{◌≡◌, ℕ, ◌-◌, ◌<◌, ◌≤◌, suc, sym, subst, arith, None, Some, ◌+◌, ap, ◌∙◌, Option, length}
+use Rattle.std.proofs.Common.{option_to_list}
 use Rattle.std.specs.FinMap as finite
 use Rattle.std.specs.List.{insert}
-use Rattle.std.specs.declared.option.Option.{Option}
 use Rattle.std.proofs.lemmas.Option.{slice_get_within}
-use Rattle.raw_nodes.specs.Names.{records}
-use Rattle.raw_nodes.specs.Records.{Records}
-use Rattle.raw_nodes.specs.Rows.{kids, row}
-use Rattle.raw_nodes.specs.declared.names.NodePtr.{NodePtr}
+use Rattle.line_tree.proofs.Words.{Count, NodePtr, Records, kids, plus, records, row, sum_all, sum_at}
 use Rattle.line_tree.specs.Finds.{Leads}
 use Rattle.line_tree.specs.Growth.{CanInsert, Inserts}
-use Rattle.line_tree.specs.Shape.{sum_at}
 use Rattle.line_tree.specs.Spreading.{Respreads}
 use Rattle.line_tree.specs.declared.find.Found.{Found}
 use Rattle.line_tree.proofs.InsertLaws.{can-child, has-node, has-now, low-can_put, low-inserts, low-sum, one-fits}
 use Rattle.line_tree.proofs.InsertLaws.{one-inserts, one-sum, two-can_put, two-inserts, two-sum}
 use Rattle.line_tree.proofs.RoomLaws.{len-puts, len-resummed}
 use Rattle.line_tree.proofs.SpreadLaws.{inserts-yet, sum-yet}
-use Rattle.toggle_sums.specs.Counts.{Count, plus}
-use Rattle.line_tree.specs.Changes.{sum_all}
 use Rattle.line_tree.proofs.insert.+insert_in.Goals as goal
 
 -- the height as one more than another
@@ -57,136 +51,112 @@ put-requires-clause-sum g t c = let m = records c.args.store.now in
     (low-sum m c.args.node c.args.k c.args.added.now.line
     (subst (λ h. CanInsert m h c.args.node c.args.k c.args.added.now.line) c.if-height-eq1.true c.requires.insert))
 
-pub put-requires-in-Some-clause-sum : goal.put-requires-in-Some-clause-sum
-put-requires-in-Some-clause-sum g t c = let m = records c.lead_to_room-found.new.store in let l = records c.insert_in.new.store in
-    line-sum m l c.args.node c.args.added.now.line c.args.added.now.more
-    (sum_all l (insert (kids l c.args.node) (c.lead_to_room-found.result.slot + 1) c.in-Some.sibling))
-    (more-yet (records c.args.store.now) m c.args.height c.args.node c.args.k c.args.added.now.line
-    c.args.added.now.more c.requires.insert c.lead_to_room-found.ensures.keeps c.requires.more)
-    (two-sum m (c.args.height - 1) c.args.node c.args.k c.args.added.now.line
-    (above m c.args.height c.args.node c.args.k c.args.added.now.line c.lead_to_room-found.ensures.insert c.requires.node) c.lead_to_room-found.result
-    c.lead_to_room-found.ensures.leads l c.in-Some.sibling
-    (subst (λ o. Inserts m l (c.args.height - 1) c.lead_to_room-found.result.child c.lead_to_room-found.result.rest c.args.added.now.line o)
-    c.in-Some.is c.insert_in.ensures.inserts))
+at-most-one : {X : Type 0} (o : Option X) → length (option_to_list o) ≤ 1
+at-most-one None = omega arith
+at-most-one (Some x) = omega arith
 
-pub returns-then-height-eq1-clause-inserts : goal.returns-then-height-eq1-clause-inserts
-returns-then-height-eq1-clause-inserts g t c = let m = records c.args.store.now in
-    subst (λ h. Inserts m (records c.put.new.store) h c.args.node c.args.k c.args.added.now.line c.put.result)
-    (sym c.if-height-eq1.true)
-    (low-inserts m c.args.node c.args.k c.args.added.now.line
-    (subst (λ h. CanInsert m h c.args.node c.args.k c.args.added.now.line) c.if-height-eq1.true c.requires.insert)
-    (records c.put.new.store) c.put.result c.put.ensures.puts)
+pub returns-then-height-eq1 : goal.returns-then-height-eq1
+returns-then-height-eq1 g t c = let m = records c.args.store.now in let n = records c.put.new.store in
+    let p = c.args.node in let k = c.args.k in let x = c.args.added.now.line in let s = c.put.ensures.spares in
+    record {
+      inserts = subst (λ h. Inserts m n h p k x c.put.result) (sym c.if-height-eq1.true)
+          (low-inserts m p k x (subst (λ h. CanInsert m h p k x) c.if-height-eq1.true c.requires.insert) n c.put.result
+          c.put.ensures.puts);
+      spares = let few = at-most-one c.put.result in let one = c.if-height-eq1.true in omega arith;
+      rooms = let r = c.put.ensures.rooms in omega arith;
+      count = let long = len-puts m n p (insert (kids m p) k x) c.put.result c.put.ensures.puts in omega arith;
+    }
 
+-- ---- below a child with room, or that shared
 pub insert_in-requires : goal.insert_in-requires
 insert_in-requires g t c κs inside = let m = records c.lead_to_room-found.new.store in
+    let p = c.args.node in let k = c.args.k in let x = c.args.added.now.line in let h = c.args.height in
+    let n = h - 1 in let f = c.lead_to_room-found.result in let leads = c.lead_to_room-found.ensures.leads in
+    let can = above m h p k x c.lead_to_room-found.ensures.insert c.requires.node in
     let node = c.requires.node in let spares = c.requires.spares in let rooms = c.requires.rooms in
-    let not = c.if-height-eq1.false in (
+    let not = c.if-height-eq1.false in
+    let more = more-yet (records c.args.store.now) m h p k x c.args.added.now.more c.requires.insert
+    c.lead_to_room-found.ensures.keeps c.requires.more in (
       omega (arith, c.decreases),
-      (
-        inside,
-        (
-          omega arith,
-          (
-            can-child m (c.args.height - 1) c.args.node c.args.k c.args.added.now.line
-                (above m c.args.height c.args.node c.args.k c.args.added.now.line c.lead_to_room-found.ensures.insert c.requires.node)
-                c.lead_to_room-found.result
-                c.lead_to_room-found.ensures.leads,
-            (
-              (more-yet (records c.args.store.now) m c.args.height c.args.node c.args.k c.args.added.now.line
-                  c.args.added.now.more c.requires.insert c.lead_to_room-found.ensures.keeps c.requires.more),
-              (omega arith, omega arith),
-            ),
-          ),
-        ),
-      ),
+      (inside, (omega arith, (can-child m n p k x can f leads, (more, (omega arith, omega arith))))),
     )
 
 pub overflow_add-found : goal.overflow_add-found
 overflow_add-found g t c = let m = records c.lead_to_room-found.new.store in
-    let few = few-kids m (c.args.height - 1) c.args.node c.args.k c.args.added.now.line
-    (above m c.args.height c.args.node c.args.k c.args.added.now.line c.lead_to_room-found.ensures.insert c.requires.node) c.lead_to_room-found.result
-    c.lead_to_room-found.ensures.leads in omega arith
+    let p = c.args.node in let k = c.args.k in let x = c.args.added.now.line in let h = c.args.height in
+    let n = h - 1 in let f = c.lead_to_room-found.result in let leads = c.lead_to_room-found.ensures.leads in
+    let can = above m h p k x c.lead_to_room-found.ensures.insert c.requires.node in
+    let few = few-kids m n p k x can f leads in omega arith
 
 pub put-requires-in-Some-clause-put : goal.put-requires-in-Some-clause-put
-put-requires-in-Some-clause-put g t c = let m = records c.lead_to_room-found.new.store in let l = records c.insert_in.new.store in
-    two-can_put m (c.args.height - 1) c.args.node c.args.k c.args.added.now.line
-    (above m c.args.height c.args.node c.args.k c.args.added.now.line c.lead_to_room-found.ensures.insert c.requires.node) c.lead_to_room-found.result
-    c.lead_to_room-found.ensures.leads l c.in-Some.sibling
-    (subst (λ o. Inserts m l (c.args.height - 1) c.lead_to_room-found.result.child c.lead_to_room-found.result.rest c.args.added.now.line o)
-    c.in-Some.is c.insert_in.ensures.inserts)
+put-requires-in-Some-clause-put g t c =
+    let m = records c.lead_to_room-found.new.store in let l = records c.insert_in.new.store in
+    let p = c.args.node in let k = c.args.k in let x = c.args.added.now.line in let h = c.args.height in
+    let n = h - 1 in let f = c.lead_to_room-found.result in let leads = c.lead_to_room-found.ensures.leads in
+    let can = above m h p k x c.lead_to_room-found.ensures.insert c.requires.node in
+    let ins = subst (λ o. Inserts m l n f.child f.rest x o) c.in-Some.is c.insert_in.ensures.inserts in
+    two-can_put m n p k x can f leads l c.in-Some.sibling ins
 
-pub add-requires-clause-row : goal.add-requires-clause-row
-add-requires-clause-row g t c = let m = records c.lead_to_room-found.new.store in let l = records c.insert_in.new.store in
-    has-now m (c.args.height - 1) c.args.node c.args.k c.args.added.now.line
-    (above m c.args.height c.args.node c.args.k c.args.added.now.line c.lead_to_room-found.ensures.insert c.requires.node) c.lead_to_room-found.result
-    c.lead_to_room-found.ensures.leads l c.insert_in.result c.insert_in.ensures.inserts
+pub put-requires-in-Some-clause-sum : goal.put-requires-in-Some-clause-sum
+put-requires-in-Some-clause-sum g t c =
+    let m = records c.lead_to_room-found.new.store in let l = records c.insert_in.new.store in
+    let p = c.args.node in let k = c.args.k in let x = c.args.added.now.line in let h = c.args.height in
+    let n = h - 1 in let f = c.lead_to_room-found.result in let leads = c.lead_to_room-found.ensures.leads in
+    let can = above m h p k x c.lead_to_room-found.ensures.insert c.requires.node in
+    let ins = subst (λ o. Inserts m l n f.child f.rest x o) c.in-Some.is c.insert_in.ensures.inserts in
+    line-sum m l p x c.args.added.now.more (sum_all l (insert (kids l p) (f.slot + 1) c.in-Some.sibling))
+    (more-yet (records c.args.store.now) m h p k x c.args.added.now.more c.requires.insert
+    c.lead_to_room-found.ensures.keeps c.requires.more)
+    (two-sum m n p k x can f leads l c.in-Some.sibling ins)
 
-pub add-requires-clause-fits : goal.add-requires-clause-fits
-add-requires-clause-fits g t c = let m = records c.lead_to_room-found.new.store in let l = records c.insert_in.new.store in
-    one-fits m (c.args.height - 1) c.args.node c.args.k c.args.added.now.line
-    (above m c.args.height c.args.node c.args.k c.args.added.now.line c.lead_to_room-found.ensures.insert c.requires.node) c.lead_to_room-found.result
-    c.lead_to_room-found.ensures.leads l
-    (subst (λ o. Inserts m l (c.args.height - 1) c.lead_to_room-found.result.child c.lead_to_room-found.result.rest c.args.added.now.line o)
-    c.in-None.is c.insert_in.ensures.inserts)
+pub add-requires : goal.add-requires
+add-requires g t c = let m = records c.lead_to_room-found.new.store in let l = records c.insert_in.new.store in
+    let p = c.args.node in let k = c.args.k in let x = c.args.added.now.line in let h = c.args.height in
+    let n = h - 1 in let f = c.lead_to_room-found.result in let leads = c.lead_to_room-found.ensures.leads in
+    let can = above m h p k x c.lead_to_room-found.ensures.insert c.requires.node in
+    let ins = subst (λ o. Inserts m l n f.child f.rest x o) c.in-None.is c.insert_in.ensures.inserts in
+    let more = more-yet (records c.args.store.now) m h p k x c.args.added.now.more c.requires.insert
+    c.lead_to_room-found.ensures.keeps c.requires.more in
+    record {
+      row = has-now m n p k x can f leads l c.insert_in.result c.insert_in.ensures.inserts;
+      sum = ap (λ s. plus (sum_at l p) s) more ∙ one-sum m n p k x can f leads l ins;
+      fits = one-fits m n p k x can f leads l ins;
+    }
 
-pub add-requires-clause-sum : goal.add-requires-clause-sum
-add-requires-clause-sum g t c = let m = records c.lead_to_room-found.new.store in let l = records c.insert_in.new.store in
-    ap (λ s. plus (sum_at l c.args.node) s) (more-yet (records c.args.store.now) m c.args.height c.args.node c.args.k c.args.added.now.line
-    c.args.added.now.more c.requires.insert c.lead_to_room-found.ensures.keeps c.requires.more)
-    ∙ one-sum m (c.args.height - 1) c.args.node c.args.k c.args.added.now.line
-    (above m c.args.height c.args.node c.args.k c.args.added.now.line c.lead_to_room-found.ensures.insert c.requires.node) c.lead_to_room-found.result
-    c.lead_to_room-found.ensures.leads l
-    (subst (λ o. Inserts m l (c.args.height - 1) c.lead_to_room-found.result.child c.lead_to_room-found.result.rest c.args.added.now.line o)
-    c.in-None.is c.insert_in.ensures.inserts)
+pub returns-in-Some : goal.returns-in-Some
+returns-in-Some g t c = let m = records c.lead_to_room-found.new.store in let l = records c.insert_in.new.store in
+    let p = c.args.node in let k = c.args.k in let x = c.args.added.now.line in let h = c.args.height in
+    let n = h - 1 in let f = c.lead_to_room-found.result in let leads = c.lead_to_room-found.ensures.leads in
+    let can = above m h p k x c.lead_to_room-found.ensures.insert c.requires.node in
+    let ins = subst (λ o. Inserts m l n f.child f.rest x o) c.in-Some.is c.insert_in.ensures.inserts in
+    let u = records c.put-in-Some.new.store in let o = c.put-in-Some.result in let s = c.put-in-Some.ensures.spares in
+    record {
+      inserts = inserts-yet (records c.args.store.now) m h p k x c.requires.insert c.lead_to_room-found.ensures.keeps u
+          o (back m u h p k x o c.requires.node
+          (two-inserts m n p k x can f leads l c.in-Some.sibling ins u o c.put-in-Some.ensures.puts));
+      spares =
+          let before = c.insert_in.ensures.spares in let few = at-most-one o in let some = c.requires.node in
+          omega arith;
+      rooms = let before = c.insert_in.ensures.rooms in let r = c.put-in-Some.ensures.rooms in omega arith;
+      count =
+          let long = len-puts l u p (insert (kids l p) (f.slot + 1) c.in-Some.sibling) o c.put-in-Some.ensures.puts in
+          let before = c.insert_in.ensures.count in omega arith;
+    }
 
-pub returns-in-Some-clause-inserts : goal.returns-in-Some-clause-inserts
-returns-in-Some-clause-inserts g t c = let m = records c.lead_to_room-found.new.store in let l = records c.insert_in.new.store in
-    inserts-yet (records c.args.store.now) m c.args.height c.args.node c.args.k c.args.added.now.line c.requires.insert
-    c.lead_to_room-found.ensures.keeps (records c.put-in-Some.new.store) c.put-in-Some.result
-    (back m (records c.put-in-Some.new.store) c.args.height c.args.node c.args.k c.args.added.now.line
-    c.put-in-Some.result c.requires.node
-    (two-inserts m (c.args.height - 1) c.args.node c.args.k c.args.added.now.line
-    (above m c.args.height c.args.node c.args.k c.args.added.now.line c.lead_to_room-found.ensures.insert c.requires.node) c.lead_to_room-found.result
-    c.lead_to_room-found.ensures.leads l c.in-Some.sibling
-    (subst (λ o. Inserts m l (c.args.height - 1) c.lead_to_room-found.result.child c.lead_to_room-found.result.rest c.args.added.now.line o)
-    c.in-Some.is c.insert_in.ensures.inserts) (records c.put-in-Some.new.store) c.put-in-Some.result
-    c.put-in-Some.ensures.puts))
-
-pub returns-in-None-clause-inserts : goal.returns-in-None-clause-inserts
-returns-in-None-clause-inserts g t c = let m = records c.lead_to_room-found.new.store in let l = records c.insert_in.new.store in
-    inserts-yet (records c.args.store.now) m c.args.height c.args.node c.args.k c.args.added.now.line c.requires.insert
-    c.lead_to_room-found.ensures.keeps (records c.add.new.store) None
-    (back m (records c.add.new.store) c.args.height c.args.node c.args.k c.args.added.now.line None c.requires.node
-    (one-inserts m (c.args.height - 1) c.args.node c.args.k c.args.added.now.line
-    (above m c.args.height c.args.node c.args.k c.args.added.now.line c.lead_to_room-found.ensures.insert c.requires.node) c.lead_to_room-found.result
-    c.lead_to_room-found.ensures.leads l
-    (subst (λ o. Inserts m l (c.args.height - 1) c.lead_to_room-found.result.child c.lead_to_room-found.result.rest c.args.added.now.line o)
-    c.in-None.is c.insert_in.ensures.inserts) (records c.add.new.store) c.add.ensures.records))
-
-pub returns-then-height-eq1-clause-count : goal.returns-then-height-eq1-clause-count
-returns-then-height-eq1-clause-count g t c = let m = records c.args.store.now in
-    let n = len-puts m (records c.put.new.store) c.args.node (insert (kids m c.args.node) c.args.k c.args.added.now.line)
-    c.put.result c.put.ensures.puts in let s = c.put.ensures.spares in omega arith
-
-pub returns-in-Some-clause-count : goal.returns-in-Some-clause-count
-returns-in-Some-clause-count g t c = let l = records c.insert_in.new.store in
-    let n = len-puts l (records c.put-in-Some.new.store) c.args.node
-    (insert (kids l c.args.node) (c.lead_to_room-found.result.slot + 1) c.in-Some.sibling) c.put-in-Some.result
-    c.put-in-Some.ensures.puts in
-    let s = c.put-in-Some.ensures.spares in let before = c.insert_in.ensures.count in omega arith
-
-pub returns-in-None-clause-count : goal.returns-in-None-clause-count
-returns-in-None-clause-count g t c = let l = records c.insert_in.new.store in
-    let n = ap finite.len c.add.ensures.records ∙ len-resummed l c.args.node (row (kids l c.args.node)) in
-    let s = c.add.ensures.spares in let before = c.insert_in.ensures.count in omega arith
-
-pub returns-then-height-eq1-clause-rooms : goal.returns-then-height-eq1-clause-rooms
-returns-then-height-eq1-clause-rooms g t c = let s = c.put.ensures.spares in let r = c.put.ensures.rooms in omega arith
-
-pub returns-in-Some-clause-rooms : goal.returns-in-Some-clause-rooms
-returns-in-Some-clause-rooms g t c = let before = c.insert_in.ensures.rooms in let s = c.put-in-Some.ensures.spares in
-    let r = c.put-in-Some.ensures.rooms in omega arith
-
-pub returns-in-None-clause-rooms : goal.returns-in-None-clause-rooms
-returns-in-None-clause-rooms g t c = let before = c.insert_in.ensures.rooms in let s = c.add.ensures.spares in
-    let r = c.add.ensures.rooms in omega arith
+pub returns-in-None : goal.returns-in-None
+returns-in-None g t c = let m = records c.lead_to_room-found.new.store in let l = records c.insert_in.new.store in
+    let p = c.args.node in let k = c.args.k in let x = c.args.added.now.line in let h = c.args.height in
+    let n = h - 1 in let f = c.lead_to_room-found.result in let leads = c.lead_to_room-found.ensures.leads in
+    let can = above m h p k x c.lead_to_room-found.ensures.insert c.requires.node in
+    let ins = subst (λ o. Inserts m l n f.child f.rest x o) c.in-None.is c.insert_in.ensures.inserts in
+    let u = records c.add.new.store in let s = c.add.ensures.spares in
+    record {
+      inserts = inserts-yet (records c.args.store.now) m h p k x c.requires.insert c.lead_to_room-found.ensures.keeps u
+          None (back m u h p k x None c.requires.node
+          (one-inserts m n p k x can f leads l ins u c.add.ensures.records));
+      spares = let before = c.insert_in.ensures.spares in let some = c.requires.node in omega arith;
+      rooms = let before = c.insert_in.ensures.rooms in let r = c.add.ensures.rooms in omega arith;
+      count =
+          let long = ap finite.len c.add.ensures.records ∙ len-resummed l p (row (kids l p)) in
+          let before = c.insert_in.ensures.count in omega arith;
+    }

@@ -1,8 +1,5 @@
-use Rattle.std.proofs.Common.{◌≡◌, ℕ, ◌-◌, ◌<◌, sym, suc, arith, subst}
-use Rattle.raw_nodes.specs.Names.{records}
-use Rattle.raw_nodes.specs.Records.{Records}
-use Rattle.raw_nodes.specs.declared.names.NodePtr.{NodePtr}
-use Rattle.std.specs.Prelude.{Bool}
+use Rattle.std.proofs.Common.{◌≡◌, ℕ, ◌-◌, ◌<◌, sym, suc, arith, subst, Bool}
+use Rattle.line_tree.proofs.Words.{NodePtr, Records, records}
 use Rattle.line_tree.specs.declared.find.Found.{Found}
 use Rattle.line_tree.specs.Growth.{CanInsert}
 use Rattle.line_tree.specs.Spreading.{Moves, Respreads}
@@ -28,58 +25,34 @@ can-still : (m n : Records) (h : ℕ) (p : NodePtr) (k : ℕ) (x : NodePtr) → 
     (f : Found) (in_order : Bool) → Moves m n p f in_order → CanInsert n h p k x
 can-still m n h p k x can high f in_order moves = can-yet m n h p k x can (spread-keeps m n h p k x can high f in_order moves)
 
-pub lead-found-requires-clause-row : goal.lead-found-requires-clause-row
-lead-found-requires-clause-row g c = has-node (records c.args.store.now) (suc (c.args.height - 2)) c.args.node c.args.k
-    c.args.added.now.line (above (records c.args.store.now) c.args.height c.args.node c.args.k c.args.added.now.line
-    c.requires.insert c.requires.high)
-
-pub lead-found-requires-clause-some : goal.lead-found-requires-clause-some
-lead-found-requires-clause-some g c = some-kids (records c.args.store.now) (suc (c.args.height - 2)) c.args.node
-    c.args.k c.args.added.now.line (above (records c.args.store.now) c.args.height c.args.node c.args.k
-    c.args.added.now.line c.requires.insert c.requires.high)
-
-pub lead-found-requires-clause-within : goal.lead-found-requires-clause-within
-lead-found-requires-clause-within g c = within-kids (records c.args.store.now) (suc (c.args.height - 2)) c.args.node
-    c.args.k c.args.added.now.line (above (records c.args.store.now) c.args.height c.args.node c.args.k
-    c.args.added.now.line c.requires.insert c.requires.high)
-
-pub lead-found-requires-clause-whole : goal.lead-found-requires-clause-whole
-lead-found-requires-clause-whole g c = whole-below (records c.args.store.now) (suc (c.args.height - 2)) c.args.node
-    (above (records c.args.store.now) c.args.height c.args.node c.args.k c.args.added.now.line c.requires.insert
-    c.requires.high).tree
+pub lead-found-requires : goal.lead-found-requires
+lead-found-requires g c = let m = records c.args.store.now in let p = c.args.node in let k = c.args.k in
+    let n = suc (c.args.height - 2) in let x = c.args.added.now.line in
+    let can = above m c.args.height p k x c.requires.insert c.requires.high in
+    record {
+      row = has-node m n p k x can;
+      some = some-kids m n p k x can;
+      within = within-kids m n p k x can;
+      whole = whole-below m n p can.tree;
+    }
 
 pub spread-requires-clause-spread : goal.spread-requires-clause-spread
 spread-requires-clause-spread g c = can-spread (records c.args.store.now) (c.args.height - 2) c.args.node c.args.k
     c.args.added.now.line (above (records c.args.store.now) c.args.height c.args.node c.args.k c.args.added.now.line
     c.requires.insert c.requires.high)
 
-pub lead-requires-clause-row : goal.lead-requires-clause-row
-lead-requires-clause-row g c = has-node (records c.spread.new.store) (suc (c.args.height - 2)) c.args.node c.args.k
-    c.args.added.now.line (above (records c.spread.new.store) c.args.height c.args.node c.args.k c.args.added.now.line
-    (can-still (records c.args.store.now) (records c.spread.new.store) c.args.height c.args.node c.args.k
-    c.args.added.now.line c.requires.insert c.requires.high c.lead-found.result c.is_some.result
-    c.if-spread.ensures.spreads) c.requires.high)
-
-pub lead-requires-clause-some : goal.lead-requires-clause-some
-lead-requires-clause-some g c = some-kids (records c.spread.new.store) (suc (c.args.height - 2)) c.args.node c.args.k
-    c.args.added.now.line (above (records c.spread.new.store) c.args.height c.args.node c.args.k c.args.added.now.line
-    (can-still (records c.args.store.now) (records c.spread.new.store) c.args.height c.args.node c.args.k
-    c.args.added.now.line c.requires.insert c.requires.high c.lead-found.result c.is_some.result
-    c.if-spread.ensures.spreads) c.requires.high)
-
-pub lead-requires-clause-within : goal.lead-requires-clause-within
-lead-requires-clause-within g c = within-kids (records c.spread.new.store) (suc (c.args.height - 2)) c.args.node
-    c.args.k c.args.added.now.line (above (records c.spread.new.store) c.args.height c.args.node c.args.k
-    c.args.added.now.line (can-still (records c.args.store.now) (records c.spread.new.store) c.args.height c.args.node
-    c.args.k c.args.added.now.line c.requires.insert c.requires.high c.lead-found.result c.is_some.result
-    c.if-spread.ensures.spreads) c.requires.high)
-
-pub lead-requires-clause-whole : goal.lead-requires-clause-whole
-lead-requires-clause-whole g c = whole-below (records c.spread.new.store) (suc (c.args.height - 2)) c.args.node
-    (above (records c.spread.new.store) c.args.height c.args.node c.args.k c.args.added.now.line
-    (can-still (records c.args.store.now) (records c.spread.new.store) c.args.height c.args.node c.args.k
-    c.args.added.now.line c.requires.insert c.requires.high c.lead-found.result c.is_some.result
-    c.if-spread.ensures.spreads) c.requires.high).tree
+pub lead-requires : goal.lead-requires
+lead-requires g c = let m = records c.spread.new.store in let p = c.args.node in let k = c.args.k in
+    let n = suc (c.args.height - 2) in let x = c.args.added.now.line in
+    let still = can-still (records c.args.store.now) m c.args.height p k x c.requires.insert c.requires.high
+    c.lead-found.result c.is_some.result c.if-spread.ensures.spreads in
+    let can = above m c.args.height p k x still c.requires.high in
+    record {
+      row = has-node m n p k x can;
+      some = some-kids m n p k x can;
+      within = within-kids m n p k x can;
+      whole = whole-below m n p can.tree;
+    }
 
 pub returns-then-spread-clause-keeps : goal.returns-then-spread-clause-keeps
 returns-then-spread-clause-keeps g c = spread-keeps (records c.args.store.now) (records c.spread.new.store)

@@ -1,12 +1,8 @@
-use Rattle.std.specs.declared.option.Option.TheVariants.{None}
-use Rattle.std.proofs.Common.{◌≡◌, ◌+◌, ◌-◌, suc, sym, ap, ◌∙◌, subst, arith}
-use Rattle.raw_nodes.specs.Names.{records}
-use Rattle.raw_nodes.specs.Rows.{kids}
+use Rattle.std.proofs.Common.{◌≡◌, ◌+◌, ◌-◌, suc, sym, ap, ◌∙◌, subst, arith, None}
+use Rattle.line_tree.proofs.Words.{contents, kids, lines_at, lines_in, records}
 use Rattle.line_lists.specs.Lists.{next_line}
 use Rattle.line_lists.proofs.SearchRows.{FailFrom}
 use Rattle.line_tree.specs.Nearest.{passes, shows}
-use Rattle.line_tree.specs.Shape.{lines_at, lines_in}
-use Rattle.line_tree.specs.Trees.{contents}
 use Rattle.line_tree.proofs.NearestLaws.{child-is, child-within, found-within, line-next, long, next-end, next-hit}
 use Rattle.line_tree.proofs.NearestLaws.{next-missed, none-next, past-next}
 use Rattle.line_tree.proofs.RowLaws.{child_is, lines_is, none_of, said, step_no, step_yes}

@@ -1,10 +1,8 @@
 use Rattle.std.proofs.Common.{◌≡◌, ◌≤◌}
-use Rattle.raw_nodes.specs.Names.{records}
+use Rattle.line_tree.proofs.Words.{contents, lines_in, records}
 use Rattle.line_lists.proofs.SearchRows.{FailFrom}
 use Rattle.line_tree.specs.Nearest.{passes}
 use Rattle.line_tree.specs.Places.{lines_before}
-use Rattle.line_tree.specs.Shape.{lines_in}
-use Rattle.line_tree.specs.Trees.{contents}
 use Rattle.line_tree.proofs.nearest.+previous.Given as goal
 
 abbrev pub invariant-loop-slot : goal.invariant-loop-slot

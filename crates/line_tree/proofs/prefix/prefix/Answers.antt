@@ -1,11 +1,7 @@
 use Rattle.std.proofs.Common.{◌≡◌, ◌-◌, suc, take, sym, ap, ◌∙◌, subst, arith}
 use Rattle.toggle_sums.specs.CountLaws.{no_text-plus}
-use Rattle.toggle_sums.specs.Counts.{Count, no_text}
-use Rattle.raw_nodes.specs.Names.{records}
+use Rattle.line_tree.proofs.Words.{Count, FitsSum, IsTree, lines_in, no_text, records, total}
 use Rattle.line_tree.specs.Aims.{sum-adds, sum_behind}
-use Rattle.line_tree.specs.Changes.{FitsSum}
-use Rattle.line_tree.specs.Shape.{IsTree, lines_in}
-use Rattle.line_tree.specs.Trees.{total}
 use Rattle.line_tree.specs.declared.aims.SumBefore.{SumBefore}
 use Rattle.line_tree.proofs.PrefixLaws.{all-lines, some-left}
 use Rattle.line_tree.proofs.RowLaws.{sum_is}
@@ -36,32 +32,21 @@ loop-level-init g c = let m = records c.args.store.now in let r = c.args.root in
           (sym c.zero.ensures) (passes-start sum-adds ls c.args.k none (omega arith));
     }
 
-pub search-reached-requires-clause-row : goal.search-reached-requires-clause-row
-search-reached-requires-clause-row g c = let m = records c.args.store.now in let at = c.loop-level.at in
-    let n = c.loop-level.level - 1 in
-    let e : c.loop-level.level ≡ suc n = omega (arith, c.loop-level-test.true) in
-    row-tree m n at (subst (λ h. IsTree m h at) e c.loop-level.invariant.tree)
-
-pub search-reached-requires-clause-within : goal.search-reached-requires-clause-within
-search-reached-requires-clause-within g c = let m = records c.args.store.now in let at = c.loop-level.at in
-    let n = c.loop-level.level - 1 in
+pub search-reached-requires : goal.search-reached-requires
+search-reached-requires g c =
+    let m = records c.args.store.now in let at = c.loop-level.at in let n = c.loop-level.level - 1 in
     let e : c.loop-level.level ≡ suc n = omega (arith, c.loop-level-test.true) in
     let ls = lines_in m c.args.height c.args.root in let none : SumBefore = record { sum = no_text } in
-    passes-below sum-adds m n at ls c.args.k c.loop-level.rest none c.loop-level.before
-    (subst (λ h. IsTree m h at) e c.loop-level.invariant.tree)
-    (subst (λ h. Passes (λ s. s.lines) sum_behind ls (lines_in m h at) c.args.k c.loop-level.rest none
-    c.loop-level.before) e c.loop-level.invariant.passes)
-
-pub search-reached-requires-clause-fits : goal.search-reached-requires-clause-fits
-search-reached-requires-clause-fits g c = let m = records c.args.store.now in let at = c.loop-level.at in
-    let n = c.loop-level.level - 1 in
-    let e : c.loop-level.level ≡ suc n = omega (arith, c.loop-level-test.true) in
-    let ls = lines_in m c.args.height c.args.root in let none : SumBefore = record { sum = no_text } in
-    passes-fits sum-adds m n at ls c.args.k c.loop-level.rest none c.loop-level.before
-    (subst (λ h. IsTree m h at) e c.loop-level.invariant.tree)
-    (subst (λ h. Passes (λ s. s.lines) sum_behind ls (lines_in m h at) c.args.k c.loop-level.rest none
-    c.loop-level.before) e c.loop-level.invariant.passes)
-    (subst FitsSum (sym (no_text-plus (total ls))) c.requires.fits)
+    record {
+      row = row-tree m n at (subst (λ h. IsTree m h at) e c.loop-level.invariant.tree);
+      within = passes-below sum-adds m n at ls c.args.k c.loop-level.rest none c.loop-level.before
+          (subst (λ h. IsTree m h at) e c.loop-level.invariant.tree) (subst (λ h. Passes (λ s. s.lines) sum_behind ls
+          (lines_in m h at) c.args.k c.loop-level.rest none c.loop-level.before) e c.loop-level.invariant.passes);
+      fits = passes-fits sum-adds m n at ls c.args.k c.loop-level.rest none c.loop-level.before
+          (subst (λ h. IsTree m h at) e c.loop-level.invariant.tree) (subst (λ h. Passes (λ s. s.lines) sum_behind ls
+          (lines_in m h at) c.args.k c.loop-level.rest none c.loop-level.before) e c.loop-level.invariant.passes)
+          (subst FitsSum (sym (no_text-plus (total ls))) c.requires.fits);
+    }
 
 pub loop-level-preserved : goal.loop-level-preserved
 loop-level-preserved g c = let m = records c.args.store.now in let at = c.loop-level.at in

@@ -1,7 +1,5 @@
-use Rattle.toggle_sums.specs.Counts.{no_text}
-use Rattle.raw_nodes.specs.Names.{records}
+use Rattle.line_tree.proofs.Words.{IsTree, lines_in, no_text, records}
 use Rattle.line_tree.specs.Aims.{sum_behind}
-use Rattle.line_tree.specs.Shape.{IsTree, lines_in}
 use Rattle.line_tree.proofs.SearchLaws.{Passes}
 use Rattle.line_tree.proofs.prefix.prefix.Given as goal
 

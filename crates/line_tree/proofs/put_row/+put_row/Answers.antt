@@ -1,11 +1,7 @@
-use Rattle.std.proofs.Common.{◌≡◌, ℕ, suc, ◌+◌, ◌-◌, ◌<◌, List, ◌++◌, take, drop, refl, sym, ap, ◌∙◌}
-use Rattle.std.proofs.Common.{subst, arith}
+use Rattle.std.proofs.Common.{◌≡◌, ℕ, suc, ◌+◌, ◌-◌, ◌<◌, List, ◌++◌, take, drop, refl, sym, ap, ◌∙◌, subst, arith}
 use Rattle.std.specs.FinMap as finite
 use Rattle.std.proofs.lemmas.Option.{slice_get_within}
-use Rattle.raw_nodes.specs.Names.{records}
-use Rattle.raw_nodes.specs.Records.{Records}
-use Rattle.raw_nodes.specs.Rows.{kids, kids_of}
-use Rattle.raw_nodes.specs.declared.names.NodePtr.{NodePtr}
+use Rattle.line_tree.proofs.Words.{NodePtr, Records, kids, kids_of, records}
 use Rattle.line_tree.specs.Finds.{Leads}
 use Rattle.line_tree.specs.Raising.{CanRaise, CanTakeRow, TakesRow}
 use Rattle.line_tree.specs.declared.find.Found.{Found}
@@ -70,25 +66,16 @@ returns-then-branch-eq1-clause-takes g t c =
     (c.remake.ensures.ends all refl))
 
 -- ---- above it
-pub lead-found-requires-clause-row : goal.lead-found-requires-clause-row
-lead-found-requires-clause-row g t c = let m = records c.args.store.now in let p = c.args.branch.node in
-    row-tree m (c.args.branch.height - 1) p
-    (above m c.args.branch.height p c.args.k c.args.row.now.items c.requires.take c.requires.node).tree
-
-pub lead-found-requires-clause-some : goal.lead-found-requires-clause-some
-lead-found-requires-clause-some g t c = let m = records c.args.store.now in let p = c.args.branch.node in
-    some-kids m (c.args.branch.height - 1) p c.args.k c.args.row.now.items
-    (above m c.args.branch.height p c.args.k c.args.row.now.items c.requires.take c.requires.node)
-
-pub lead-found-requires-clause-within : goal.lead-found-requires-clause-within
-lead-found-requires-clause-within g t c = let m = records c.args.store.now in let p = c.args.branch.node in
-    within-kids m (c.args.branch.height - 1) p c.args.k c.args.row.now.items
-    (above m c.args.branch.height p c.args.k c.args.row.now.items c.requires.take c.requires.node)
-
-pub lead-found-requires-clause-whole : goal.lead-found-requires-clause-whole
-lead-found-requires-clause-whole g t c = let m = records c.args.store.now in let p = c.args.branch.node in
-    whole-below m (c.args.branch.height - 1) p
-    (above m c.args.branch.height p c.args.k c.args.row.now.items c.requires.take c.requires.node).tree
+pub lead-found-requires : goal.lead-found-requires
+lead-found-requires g t c = let m = records c.args.store.now in let p = c.args.branch.node in let k = c.args.k in
+    let n = c.args.branch.height - 1 in let xs = c.args.row.now.items in
+    let can = above m c.args.branch.height p k xs c.requires.take c.requires.node in
+    record {
+      row = row-tree m n p can.tree;
+      some = some-kids m n p k xs can;
+      within = within-kids m n p k xs can;
+      whole = whole-below m n p can.tree;
+    }
 
 pub put_row-requires : goal.put_row-requires
 put_row-requires g t c κs within =

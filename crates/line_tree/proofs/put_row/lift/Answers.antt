@@ -1,4 +1,4 @@
-use Rattle.std.proofs.Common.{◌≡◌, ℕ, suc, ◌+◌, ◌-◌, ◌*◌, ◌≤◌, ◌++◌, inl, inr, length, sym, ◌∙◌, subst, arith}
+use Rattle.std.proofs.Common.{◌≡◌, ℕ, suc, ◌+◌, ◌-◌, ◌*◌, ◌≤◌, ◌++◌, inl, inr, length, sym, ap, ◌∙◌, subst, arith}
 use Rattle.std.proofs.lemmas.Bool.{cases_lt}
 use Rattle.raw_nodes.specs.Names.{nodes, records, rooms, spares}
 use Rattle.line_tree.specs.Raising.{CanRaise, Lifted, Raises}
@@ -21,37 +21,30 @@ still-used : (height top some all before now made left : ℕ) →
     → 11 * before + made ≤ 11 * left + all + 11 * (top + 1 - height)
 still-used height top some all before now made left used rest few up = omega (arith, used, rest, few, up)
 
-pub raise-requires-clause-raise : goal.raise-requires-clause-raise
-raise-requires-clause-raise g c =
-    let m = records c.loop-below.store in let top = c.loop-below.top in
-    let list = c.deref-in-loop-below.ensures.value ∙ c.push_all.ensures.list
-    ∙ (λ i. c.clear.ensures.items i ++ c.deref.ensures.value i) in
-    (top, subst (CanRaise m top) (sym list) (lift-can m top c.loop-below.row.items c.loop-below.invariant.lifted.can))
-
-pub raise-requires-clause-rooms : goal.raise-requires-clause-rooms
-raise-requires-clause-rooms g c =
-    let now = c.loop-below.invariant in let test = c.loop-below-test.true in let len = c.len.ensures in
-    let list = c.deref-in-loop-below.ensures.value ∙ c.push_all.ensures.list
-    ∙ (λ i. c.clear.ensures.items i ++ c.deref.ensures.value i) in
-    let levels = subst (λ n. suc c.loop-below.top ≤ levels_at_most n) now.nodes
-    (lift-levels (records c.loop-below.store) c.loop-below.top c.loop-below.row.items (spares c.loop-below.store)
-    now.lifted.can (omega arith)) in
-    subst (λ (xs : _). length xs ≤ 12 * rooms c.loop-below.store) (sym list)
-    (rooms-left (levels_at_most (nodes c.args.store.now)) c.args.height c.loop-below.top (length c.loop-below.row.items)
-    (length c.args.row.now.items) (rooms c.args.store.now) (rooms c.loop-below.store) c.requires.rooms now.used now.up levels)
-
-pub raise-requires-clause-spares : goal.raise-requires-clause-spares
-raise-requires-clause-spares g c =
-    let now = c.loop-below.invariant in let test = c.loop-below-test.true in let len = c.len.ensures in
-    let list = c.deref-in-loop-below.ensures.value ∙ c.push_all.ensures.list
-    ∙ (λ i. c.clear.ensures.items i ++ c.deref.ensures.value i) in
-    let levels = subst (λ n. suc c.loop-below.top ≤ levels_at_most n) now.nodes
-    (lift-levels (records c.loop-below.store) c.loop-below.top c.loop-below.row.items (spares c.loop-below.store)
-    now.lifted.can (omega arith)) in
-    subst (λ (xs : _). length xs ≤ 12 * spares c.loop-below.store) (sym list)
-    (spares-left (levels_at_most (nodes c.args.store.now)) c.args.height c.loop-below.top (length c.loop-below.row.items)
-    (length c.args.row.now.items) (rooms c.args.store.now) (rooms c.loop-below.store) (spares c.args.store.now)
-    (spares c.loop-below.store) c.requires.spares now.used now.spares now.up levels)
+pub raise-requires : goal.raise-requires
+raise-requires g c = let list = c.deref-in-loop-below.ensures.value ∙ c.push_all.ensures.list
+    ∙ (λ i. c.clear.ensures.items i ++ c.deref.ensures.value i) in let now = c.loop-below.invariant in
+    let test = c.loop-below-test.true in let len = c.len.ensures in
+    let levels = subst (λ n. suc c.loop-below.top ≤ levels_at_most n) now.nodes (lift-levels
+    (records c.loop-below.store) c.loop-below.top c.loop-below.row.items (spares c.loop-below.store) now.lifted.can
+    (omega arith)) in
+    record {
+      raise =
+          let m = records c.loop-below.store in let top = c.loop-below.top in (
+            top,
+            subst (CanRaise m top) (sym list)
+                (lift-can m top c.loop-below.row.items c.loop-below.invariant.lifted.can),
+          );
+      spares = subst (λ (xs : _). length xs ≤ 12 * spares c.loop-below.store) (sym list) (spares-left
+          (levels_at_most (nodes c.args.store.now)) c.args.height c.loop-below.top (length c.loop-below.row.items)
+          (length c.args.row.now.items) (rooms c.args.store.now) (rooms c.loop-below.store) (spares c.args.store.now)
+          (spares c.loop-below.store) c.requires.spares now.used now.spares now.up levels);
+      rooms = subst (λ (xs : _). length xs ≤ 12 * rooms c.loop-below.store) (sym list) (rooms-left
+          (levels_at_most (nodes c.args.store.now)) c.args.height c.loop-below.top (length c.loop-below.row.items)
+          (length c.args.row.now.items) (rooms c.args.store.now) (rooms c.loop-below.store) c.requires.rooms now.used
+          now.up levels);
+      names = let same = ap length list in omega arith;
+    }
 
 pub overflow_add-top : goal.overflow_add-top
 overflow_add-top g c =

@@ -1,8 +1,7 @@
 use Rattle.std.proofs.Common.{◌≡◌, ◌+◌, ◌≤◌, [], length, reverse, take, drop, vec_capacity}
-use Rattle.raw_nodes.specs.Names.{nodes, records, rooms, spares}
+use Rattle.line_tree.proofs.Words.{contents, nodes, records, rooms, spares}
 use Rattle.line_tree.specs.Growth.{lines_of}
 use Rattle.line_tree.specs.Raising.{Becomes, trees_at}
-use Rattle.line_tree.specs.Trees.{contents}
 use Rattle.line_tree.proofs.put_row.make_row.Given as goal
 
 abbrev pub invariant-loop-lines : goal.invariant-loop-lines

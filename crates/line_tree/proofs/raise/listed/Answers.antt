@@ -1,7 +1,6 @@
 use Rattle.std.proofs.Common.{◌≡◌, get_or, None, ap, ◌∙◌}
 use Rattle.std.specs.FinMap as finite
-use Rattle.raw_nodes.specs.Names.{records}
-use Rattle.raw_nodes.specs.Rows.{kids}
+use Rattle.line_tree.proofs.Words.{kids, records}
 use Rattle.raw_nodes.proofs.MapLaws.{at_some}
 use Rattle.raw_nodes.proofs.RowLaws.{get_or-row}
 use Rattle.line_tree.proofs.raise.listed.Goals as goal

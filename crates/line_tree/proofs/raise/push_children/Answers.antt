@@ -1,10 +1,7 @@
-use Rattle.std.proofs.Common.{◌++◌, sym, ap, ◌∙◌, arith, vec_capacity, Vec}
-use Rattle.std.specs.Prelude.{option_to_list}
+use Rattle.std.proofs.Common.{◌++◌, sym, ap, ◌∙◌, arith, vec_capacity, Vec, option_to_list}
 use Rattle.std.specs.Global.{Global}
 use Rattle.std.proofs.lemmas.List.{append-nil}
-use Rattle.raw_nodes.specs.Names.{records}
-use Rattle.raw_nodes.specs.Rows.{kids}
-use Rattle.raw_nodes.specs.declared.names.NodePtr.{NodePtr}
+use Rattle.line_tree.proofs.Words.{NodePtr, kids, records}
 use Rattle.line_tree.proofs.RaiseLaws.{grown}
 use Rattle.line_tree.proofs.raise.push_children.Goals as goal
 use Rattle.line_tree.proofs.raise.push_children.Goals.{in-Some, in_default}

@@ -1,6 +1,5 @@
 use Rattle.std.proofs.Common.{◌≡◌, ◌-◌, ◌≤◌, ◌++◌, take, drop, vec_capacity}
-use Rattle.raw_nodes.specs.Names.{records}
-use Rattle.raw_nodes.specs.Rows.{kids}
+use Rattle.line_tree.proofs.Words.{kids, records}
 use Rattle.line_tree.proofs.raise.push_children.Given as goal
 
 abbrev pub invariant-loop-slot : goal.invariant-loop-slot

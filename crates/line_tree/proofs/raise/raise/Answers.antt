@@ -1,10 +1,8 @@
-use Rattle.std.proofs.Common.{◌≡◌, ℕ, ◌+◌, ◌-◌, ◌*◌, ◌<◌, ◌≤◌, inl, inr, List, [], ◌∷◌, ◌++◌, length, take, drop, sym, ap}
-use Rattle.std.proofs.Common.{◌∙◌, subst, arith}
-use Rattle.std.proofs.Common.{length-take, length-drop}
+use Rattle.std.proofs.Common.{◌≡◌, ℕ, ◌+◌, ◌-◌, ◌*◌, ◌<◌, ◌≤◌, inl, inr, List, [], ◌∷◌, ◌++◌, length, take, drop, sym}
+use Rattle.std.proofs.Common.{ap, ◌∙◌, subst, arith, length-take, length-drop}
 use Rattle.std.proofs.lemmas.Bool.{cases_lt}
 use Rattle.std.proofs.lemmas.List.{length_push, take_all}
-use Rattle.raw_nodes.specs.Names.{records}
-use Rattle.raw_nodes.specs.declared.names.NodePtr.{NodePtr}
+use Rattle.line_tree.proofs.Words.{NodePtr, records}
 use Rattle.line_tree.specs.Raising.{CanRaise, Raises}
 use Rattle.line_tree.proofs.RaiseLaws.{next-fits, next-there, raises-more, three-parts, two-parts}
 use Rattle.line_tree.proofs.raise.raise.Goals as goal

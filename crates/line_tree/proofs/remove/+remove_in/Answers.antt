@@ -1,19 +1,13 @@
 use Rattle.std.proofs.Common.{◌≡◌, ℕ, zero, suc, ◌+◌, ◌-◌, ◌<◌, ◌≤◌, ◌⊎◌, inl, inr, length, refl, sym, subst, arith}
-use Rattle.std.proofs.Common.{Some, None, ap, ◌∙◌}
-use Rattle.std.specs.Prelude.{IsSome}
+use Rattle.std.proofs.Common.{Some, None, ap, ◌∙◌, IsSome}
 use Rattle.std.specs.FinMap as finite
 use Rattle.std.specs.List.{remove}
-use Rattle.raw_nodes.specs.Names.{records}
-use Rattle.raw_nodes.specs.Records.{Records}
-use Rattle.raw_nodes.specs.Rows.{kids, row}
-use Rattle.raw_nodes.specs.declared.names.NodePtr.{NodePtr}
-use Rattle.line_tree.specs.Changes.{FitsSum, resummed, sum_all}
-use Rattle.line_tree.specs.Shape.{IsTree, Links, lines_in, sum_at, sum_of}
+use Rattle.line_tree.proofs.Words.{FitsSum, IsTree, Links, NodePtr, Records, kids, lines_in, plus, records, resummed}
+use Rattle.line_tree.proofs.Words.{row, sum_all, sum_at, sum_of}
 use Rattle.line_tree.proofs.FillLaws.{sums-row}
 use Rattle.line_tree.proofs.KeptLaws.{kept-whole}
 use Rattle.line_tree.proofs.RowLaws.{lines_is, sum_is}
 use Rattle.std.proofs.lemmas.Option.{same_Some}
-use Rattle.toggle_sums.specs.Counts.{plus}
 use Rattle.line_tree.specs.declared.find.Found.{Found}
 use Rattle.line_tree.specs.Shrinking.{CanRemove, Cleans, Removes, Settles}
 use Rattle.line_tree.proofs.RemovePairs.{sum-ready, below-now, can-mend, cleans-gone, cleans-ready, fill-ready}
@@ -76,24 +70,20 @@ lines-lines-requires g t c = let m = records c.args.store.now in let h = c.args.
     named-tree m (suc (h - 1)) c.args.node (tree-above m h c.args.branch.level c.args.node c.args.branch.first
     c.requires.node c.requires.remove)
 
-pub find_at-found-requires-clause-tree : goal.find_at-found-requires-clause-tree
-find_at-found-requires-clause-tree g t c = let m = records c.args.store.now in let h = c.args.height in
-    tree-above m h c.args.branch.level c.args.node c.args.branch.first c.requires.node c.requires.remove
-
-pub find_at-found-requires-clause-within : goal.find_at-found-requires-clause-within
-find_at-found-requires-clause-within g t c = let m = records c.args.store.now in let h = c.args.height in
-    let p = c.args.node in let low = c.requires.node in let w = c.requires.remove.place in
-    let e : suc (h - 1) ≡ h = omega arith in
-    let same = ap (λ i. length (lines_in m i p)) e in
-    let n = below-tree m (h - 1) p (tree-above m h c.args.branch.level p c.args.branch.first c.requires.node
-    c.requires.remove) in omega arith
-
-pub find_at-found-requires-clause-lines : goal.find_at-found-requires-clause-lines
-find_at-found-requires-clause-lines g t c = let m = records c.args.store.now in let h = c.args.height in
-    let p = c.args.node in
-    let tree = tree-above m h c.args.branch.level p c.args.branch.first c.requires.node c.requires.remove in
-    lines_is m p c.lines-lines.result (named-tree m (suc (h - 1)) p tree) c.lines-lines.ensures.value
-    ∙ whole-below m (h - 1) p tree
+pub find_at-found-requires : goal.find_at-found-requires
+find_at-found-requires g t c = let m = records c.args.store.now in let h = c.args.height in let p = c.args.node in
+    record {
+      tree = tree-above m h c.args.branch.level c.args.node c.args.branch.first c.requires.node c.requires.remove;
+      within =
+          let low = c.requires.node in let w = c.requires.remove.place in let e : suc (h - 1) ≡ h = omega arith in
+          let same = ap (λ i. length (lines_in m i p)) e in
+          let n = below-tree m (h - 1) p
+          (tree-above m h c.args.branch.level p c.args.branch.first c.requires.node c.requires.remove) in omega arith;
+      lines =
+          let tree = tree-above m h c.args.branch.level p c.args.branch.first c.requires.node c.requires.remove in
+          lines_is m p c.lines-lines.result (named-tree m (suc (h - 1)) p tree) c.lines-lines.ensures.value
+          ∙ whole-below m (h - 1) p tree;
+    }
 
 -- ---- the child itself goes
 pub returns-then-found-gt0-clause-none : goal.returns-then-found-gt0-clause-none
@@ -107,49 +97,21 @@ returns-then-found-gt0-clause-none g t c none =
       refl,
     )
 
-pub drop_child-requires-clause-row : goal.drop_child-requires-clause-row
-drop_child-requires-clause-row g t c =
-    let m = records c.args.store.now in let p = c.args.node in let k = c.args.branch.first in
-    let j = c.args.branch.level in
-    let can = right-above m c.args.height j p k c.if-height-branch.true c.requires.remove in
-    let f = c.find_at-found.result in let finds = c.find_at-found.ensures.found in
-    row-tree m j p can.tree
-
-pub drop_child-requires-clause-links : goal.drop_child-requires-clause-links
-drop_child-requires-clause-links g t c =
-    let m = records c.args.store.now in let p = c.args.node in let k = c.args.branch.first in
-    let j = c.args.branch.level in
-    let can = right-above m c.args.height j p k c.if-height-branch.true c.requires.remove in
-    let f = c.find_at-found.result in let finds = c.find_at-found.ensures.found in
-    subst (Links m p 0) (tops-tree_at m j (kids m p)) can.tree.1
-
-pub drop_child-requires-clause-slot : goal.drop_child-requires-clause-slot
-drop_child-requires-clause-slot g t c =
-    let m = records c.args.store.now in let p = c.args.node in let k = c.args.branch.first in
-    let j = c.args.branch.level in
-    let can = right-above m c.args.height j p k c.if-height-branch.true c.requires.remove in
-    let f = c.find_at-found.result in let finds = c.find_at-found.ensures.found in
-    within-slot m j p k can f finds
-
-pub drop_child-requires-clause-fill : goal.drop_child-requires-clause-fill
-drop_child-requires-clause-fill g t c =
-    let m = records c.args.store.now in let p = c.args.node in let k = c.args.branch.first in
+pub drop_child-requires : goal.drop_child-requires
+drop_child-requires g t c = let m = records c.args.store.now in let p = c.args.node in let k = c.args.branch.first in
     let j = c.args.branch.level in
     let can = right-above m c.args.height j p k c.if-height-branch.true c.requires.remove in
     let f = c.find_at-found.result in let finds = c.find_at-found.ensures.found in
     let first : f.rest ≡ 0 = omega (arith, c.if-found-gt0.false) in
-    one-fill m j p k can f finds first
-
-pub drop_child-requires-clause-sum : goal.drop_child-requires-clause-sum
-drop_child-requires-clause-sum g t c =
-    let m = records c.args.store.now in let p = c.args.node in let k = c.args.branch.first in
-    let j = c.args.branch.level in
-    let can = right-above m c.args.height j p k c.if-height-branch.true c.requires.remove in
-    let f = c.find_at-found.result in let finds = c.find_at-found.ensures.found in
-    let first : f.rest ≡ 0 = omega (arith, c.if-found-gt0.false) in
-    ap (plus (sum_all m (remove (kids m p) f.slot)))
-    (sum_is m f.child c.sum.result (child-named m j p k can f finds) c.sum.ensures.value)
-    ∙ one-sum m j p k can f finds first
+    record {
+      row = row-tree m j p can.tree;
+      links = subst (Links m p 0) (tops-tree_at m j (kids m p)) can.tree.1;
+      slot = within-slot m j p k can f finds;
+      fill = one-fill m j p k can f finds first;
+      sum = ap (plus (sum_all m (remove (kids m p) f.slot)))
+          (sum_is m f.child c.sum.result (child-named m j p k can f finds) c.sum.ensures.value)
+          ∙ one-sum m j p k can f finds first;
+    }
 
 pub sum-requires : goal.sum-requires
 sum-requires g t c =
@@ -158,52 +120,6 @@ sum-requires g t c =
     let can = right-above m c.args.height j p k c.if-height-branch.true c.requires.remove in
     let f = c.find_at-found.result in let finds = c.find_at-found.ensures.found in
     child-named m j p k can f finds
-
-pub returns-then-height-branch-clause-removes : goal.returns-then-height-branch-clause-removes
-returns-then-height-branch-clause-removes g t c =
-    let m = records c.args.store.now in let p = c.args.node in let k = c.args.branch.first in
-    let j = c.args.branch.level in
-    let can = right-above m c.args.height j p k c.if-height-branch.true c.requires.remove in
-    let f = c.find_at-found.result in let finds = c.find_at-found.ensures.found in
-    let first : f.rest ≡ 0 = omega (arith, c.if-found-gt0.false) in
-    let n = records c.drop_child.new.store in
-    let same = same_Some f.child c.drop_child.result (sym finds.child ∙ c.drop_child.ensures.child) in
-    right-back m n c.args.height j p k c.drop_child.result c.if-height-branch.true
-    (subst (λ x. Removes m n (suc j) p k j x) same
-    (one-removes m j p k can f finds first n c.drop_child.ensures.records))
-
-pub returns-then-height-branch-clause-most : goal.returns-then-height-branch-clause-most
-returns-then-height-branch-clause-most g t c =
-    let m = records c.args.store.now in let p = c.args.node in let k = c.args.branch.first in
-    let j = c.args.branch.level in
-    let can = right-above m c.args.height j p k c.if-height-branch.true c.requires.remove in
-    let f = c.find_at-found.result in let finds = c.find_at-found.ensures.found in
-    let same = same_Some f.child c.drop_child.result (sym finds.child ∙ c.drop_child.ensures.child) in
-    subst (λ x. length (lines_in m j x) ≤ c.args.branch.most) same
-    (subst (λ n. n ≤ c.args.branch.most) (sym (one-long m j p k can f finds)) c.if-found-branch.false)
-
-pub returns-then-height-branch-clause-clean : goal.returns-then-height-branch-clause-clean
-returns-then-height-branch-clause-clean g t c =
-    let m = records c.args.store.now in let p = c.args.node in let k = c.args.branch.first in
-    let j = c.args.branch.level in
-    let can = right-above m c.args.height j p k c.if-height-branch.true c.requires.remove in
-    let f = c.find_at-found.result in let finds = c.find_at-found.ensures.found in
-    let first : f.rest ≡ 0 = omega (arith, c.if-found-gt0.false) in
-    let n = records c.drop_child.new.store in
-    let same = same_Some f.child c.drop_child.result (sym finds.child ∙ c.drop_child.ensures.child) in
-    clean-right-back m n c.args.height j p c.drop_child.result c.if-height-branch.true
-    (subst (λ x. Cleans m n (suc j) p j x) same
-    (one-cleans m j p k can f finds first n c.drop_child.ensures.records))
-
-pub returns-then-height-branch-clause-count : goal.returns-then-height-branch-clause-count
-returns-then-height-branch-clause-count g t c = let m = records c.args.store.now in
-    let n = ap finite.len c.drop_child.ensures.records
-    ∙ len-refilled m c.args.node (row (remove (kids m c.args.node) c.find_at-found.result.slot)) in
-    let s = c.drop_child.ensures.spares in omega arith
-
-pub returns-then-height-branch-clause-rooms : goal.returns-then-height-branch-clause-rooms
-returns-then-height-branch-clause-rooms g t c = let s = c.drop_child.ensures.spares in
-    let r = c.drop_child.ensures.rooms in omega arith
 
 -- ---- it goes below the child
 pub remove_in-requires : goal.remove_in-requires
@@ -217,108 +133,21 @@ remove_in-requires g t c κs inside =
     let more = c.if-height-branch.false in let low = c.requires.node in
     (omega (arith, c.decreases), (inside, (omega arith, (c.requires.some, below))))
 
-pub settle-requires-clause-row : goal.settle-requires-clause-row
-settle-requires-clause-row g t c =
-    let m = records c.args.store.now in let p = c.args.node in let k = c.args.branch.first in
+pub settle-requires : goal.settle-requires
+settle-requires g t c = let m = records c.args.store.now in let p = c.args.node in let k = c.args.branch.first in
     let j = c.args.branch.level in let g2 = c.args.height - 2 in let f = c.find_at-found.result in
     let finds = c.find_at-found.ensures.found in
     let can = above m c.args.height j p k c.requires.node c.if-height-branch.false c.requires.remove in
     let l = records c.remove_in.new.store in let x = c.in_ok-gone.gone in
     let rem = child m l c.args.height j f.child f.rest x c.requires.node c.if-height-branch.false
     c.in_ok-gone.ensures.removes in
-    has-now m (suc g2) p k can f finds l j x rem
-
-pub settle-requires-clause-two : goal.settle-requires-clause-two
-settle-requires-clause-two g t c =
-    let m = records c.args.store.now in let p = c.args.node in let k = c.args.branch.first in
-    let j = c.args.branch.level in let g2 = c.args.height - 2 in let f = c.find_at-found.result in
-    let finds = c.find_at-found.ensures.found in
-    let can = above m c.args.height j p k c.requires.node c.if-height-branch.false c.requires.remove in
-    let l = records c.remove_in.new.store in let x = c.in_ok-gone.gone in
-    let rem = child m l c.args.height j f.child f.rest x c.requires.node c.if-height-branch.false
-    c.in_ok-gone.ensures.removes in
-    two-kids m (suc g2) p k can f finds l j x rem
-
-pub settle-requires-clause-child : goal.settle-requires-clause-child
-settle-requires-clause-child g t c =
-    let m = records c.args.store.now in let p = c.args.node in let k = c.args.branch.first in
-    let j = c.args.branch.level in let g2 = c.args.height - 2 in let f = c.find_at-found.result in
-    let finds = c.find_at-found.ensures.found in
-    let can = above m c.args.height j p k c.requires.node c.if-height-branch.false c.requires.remove in
-    let l = records c.remove_in.new.store in let x = c.in_ok-gone.gone in
-    let rem = child m l c.args.height j f.child f.rest x c.requires.node c.if-height-branch.false
-    c.in_ok-gone.ensures.removes in
-    child-now m (suc g2) p k can f finds l j x rem
-
-pub settle-requires-clause-below : goal.settle-requires-clause-below
-settle-requires-clause-below g t c =
-    let m = records c.args.store.now in let p = c.args.node in let k = c.args.branch.first in
-    let j = c.args.branch.level in let g2 = c.args.height - 2 in let f = c.find_at-found.result in
-    let finds = c.find_at-found.ensures.found in
-    let can = above m c.args.height j p k c.requires.node c.if-height-branch.false c.requires.remove in
-    let l = records c.remove_in.new.store in let x = c.in_ok-gone.gone in
-    let rem = child m l c.args.height j f.child f.rest x c.requires.node c.if-height-branch.false
-    c.in_ok-gone.ensures.removes in
-    below-now m g2 p k can f finds l j x rem
-
-pub settle-requires-clause-pairs : goal.settle-requires-clause-pairs
-settle-requires-clause-pairs g t c =
-    let m = records c.args.store.now in let p = c.args.node in let k = c.args.branch.first in
-    let j = c.args.branch.level in let g2 = c.args.height - 2 in let f = c.find_at-found.result in
-    let finds = c.find_at-found.ensures.found in
-    let can = above m c.args.height j p k c.requires.node c.if-height-branch.false c.requires.remove in
-    let l = records c.remove_in.new.store in let x = c.in_ok-gone.gone in
-    let rem = child m l c.args.height j f.child f.rest x c.requires.node c.if-height-branch.false
-    c.in_ok-gone.ensures.removes in
-    can-mend m g2 p k can f finds l j x rem
-
-pub drop_child-merged-requires-clause-row : goal.drop_child-merged-requires-clause-row
-drop_child-merged-requires-clause-row g t c =
-    let m = records c.args.store.now in let p = c.args.node in let k = c.args.branch.first in
-    let j = c.args.branch.level in let g2 = c.args.height - 2 in let f = c.find_at-found.result in
-    let finds = c.find_at-found.ensures.found in
-    let can = above m c.args.height j p k c.requires.node c.if-height-branch.false c.requires.remove in
-    let l = records c.remove_in.new.store in let x = c.in_ok-gone.gone in
-    let rem = child m l c.args.height j f.child f.rest x c.requires.node c.if-height-branch.false
-    c.in_ok-gone.ensures.removes in let n = records c.settle.new.store in
-    let settles = subst (λ o. Settles l n p f.slot f.child o) c.in-Some.is c.settle.ensures.settles in
-    has-ready m g2 p k can f finds l j x rem n (Some c.in-Some.slot) settles
-
-pub drop_child-merged-requires-clause-links : goal.drop_child-merged-requires-clause-links
-drop_child-merged-requires-clause-links g t c =
-    let m = records c.args.store.now in let p = c.args.node in let k = c.args.branch.first in
-    let j = c.args.branch.level in let g2 = c.args.height - 2 in let f = c.find_at-found.result in
-    let finds = c.find_at-found.ensures.found in
-    let can = above m c.args.height j p k c.requires.node c.if-height-branch.false c.requires.remove in
-    let l = records c.remove_in.new.store in let x = c.in_ok-gone.gone in
-    let rem = child m l c.args.height j f.child f.rest x c.requires.node c.if-height-branch.false
-    c.in_ok-gone.ensures.removes in let n = records c.settle.new.store in
-    let settles = subst (λ o. Settles l n p f.slot f.child o) c.in-Some.is c.settle.ensures.settles in
-    links-ready m g2 p k can f finds l j x rem n (Some c.in-Some.slot) settles
-
-pub drop_child-merged-requires-clause-slot : goal.drop_child-merged-requires-clause-slot
-drop_child-merged-requires-clause-slot g t c =
-    let m = records c.args.store.now in let p = c.args.node in let k = c.args.branch.first in
-    let j = c.args.branch.level in let g2 = c.args.height - 2 in let f = c.find_at-found.result in
-    let finds = c.find_at-found.ensures.found in
-    let can = above m c.args.height j p k c.requires.node c.if-height-branch.false c.requires.remove in
-    let l = records c.remove_in.new.store in let x = c.in_ok-gone.gone in
-    let rem = child m l c.args.height j f.child f.rest x c.requires.node c.if-height-branch.false
-    c.in_ok-gone.ensures.removes in let n = records c.settle.new.store in
-    let settles = subst (λ o. Settles l n p f.slot f.child o) c.in-Some.is c.settle.ensures.settles in
-    slot-ready m g2 p k can f finds l j x rem n (Some c.in-Some.slot) settles c.in-Some.slot refl
-
-pub drop_child-merged-requires-clause-fill : goal.drop_child-merged-requires-clause-fill
-drop_child-merged-requires-clause-fill g t c =
-    let m = records c.args.store.now in let p = c.args.node in let k = c.args.branch.first in
-    let j = c.args.branch.level in let g2 = c.args.height - 2 in let f = c.find_at-found.result in
-    let finds = c.find_at-found.ensures.found in
-    let can = above m c.args.height j p k c.requires.node c.if-height-branch.false c.requires.remove in
-    let l = records c.remove_in.new.store in let x = c.in_ok-gone.gone in
-    let rem = child m l c.args.height j f.child f.rest x c.requires.node c.if-height-branch.false
-    c.in_ok-gone.ensures.removes in let n = records c.settle.new.store in
-    let settles = subst (λ o. Settles l n p f.slot f.child o) c.in-Some.is c.settle.ensures.settles in
-    fill-ready m g2 p k can f finds l j x rem n (Some c.in-Some.slot) settles
+    record {
+      row = has-now m (suc g2) p k can f finds l j x rem;
+      two = two-kids m (suc g2) p k can f finds l j x rem;
+      child = child-now m (suc g2) p k can f finds l j x rem;
+      below = below-now m g2 p k can f finds l j x rem;
+      pairs = can-mend m g2 p k can f finds l j x rem;
+    }
 
 pub give_back-requires : goal.give_back-requires
 give_back-requires g t c =
@@ -335,9 +164,8 @@ give_back-requires g t c =
     (named-refilled n p (row (remove (kids n p) c.in-Some.slot)) c.drop_child-merged.result
     (has.each c.in-Some.slot c.drop_child-merged.result c.drop_child-merged.ensures.child))
 
-pub lessen-requires-clause-row : goal.lessen-requires-clause-row
-lessen-requires-clause-row g t c =
-    let m = records c.args.store.now in let p = c.args.node in let k = c.args.branch.first in
+pub lessen-requires : goal.lessen-requires
+lessen-requires g t c = let m = records c.args.store.now in let p = c.args.node in let k = c.args.branch.first in
     let j = c.args.branch.level in let g2 = c.args.height - 2 in let f = c.find_at-found.result in
     let finds = c.find_at-found.ensures.found in
     let can = above m c.args.height j p k c.requires.node c.if-height-branch.false c.requires.remove in
@@ -345,35 +173,17 @@ lessen-requires-clause-row g t c =
     let rem = child m l c.args.height j f.child f.rest x c.requires.node c.if-height-branch.false
     c.in_ok-gone.ensures.removes in let n = records c.settle.new.store in
     let settles = subst (λ o. Settles l n p f.slot f.child o) c.in-None.is c.settle.ensures.settles in
-    has-ready m g2 p k can f finds l j x rem n None settles
+    record {
+      row = has-ready m g2 p k can f finds l j x rem n None settles;
+      sum =
+          let less = c.in_ok-gone.ensures.less ∙ ap sum_of (sym (gone-same m (suc g2) p k can f finds l j x rem)) in
+          (λ i. plus (sums-row n (kids n p) i) (less i)) ∙ sum-ready m g2 p k can f finds l j x rem n None settles;
+      fits = subst FitsSum (sym (sums-row n (kids n p)))
+          (fill-ready m g2 p k can f finds l j x rem n None settles).fits;
+    }
 
-pub lessen-requires-clause-sum : goal.lessen-requires-clause-sum
-lessen-requires-clause-sum g t c =
-    let m = records c.args.store.now in let p = c.args.node in let k = c.args.branch.first in
-    let j = c.args.branch.level in let g2 = c.args.height - 2 in let f = c.find_at-found.result in
-    let finds = c.find_at-found.ensures.found in
-    let can = above m c.args.height j p k c.requires.node c.if-height-branch.false c.requires.remove in
-    let l = records c.remove_in.new.store in let x = c.in_ok-gone.gone in
-    let rem = child m l c.args.height j f.child f.rest x c.requires.node c.if-height-branch.false
-    c.in_ok-gone.ensures.removes in let n = records c.settle.new.store in
-    let settles = subst (λ o. Settles l n p f.slot f.child o) c.in-None.is c.settle.ensures.settles in
-    let less = c.in_ok-gone.ensures.less ∙ ap sum_of (sym (gone-same m (suc g2) p k can f finds l j x rem)) in
-    (λ i. plus (sums-row n (kids n p) i) (less i)) ∙ sum-ready m g2 p k can f finds l j x rem n None settles
-
-pub lessen-requires-clause-fits : goal.lessen-requires-clause-fits
-lessen-requires-clause-fits g t c =
-    let m = records c.args.store.now in let p = c.args.node in let k = c.args.branch.first in
-    let j = c.args.branch.level in let g2 = c.args.height - 2 in let f = c.find_at-found.result in
-    let finds = c.find_at-found.ensures.found in
-    let can = above m c.args.height j p k c.requires.node c.if-height-branch.false c.requires.remove in
-    let l = records c.remove_in.new.store in let x = c.in_ok-gone.gone in
-    let rem = child m l c.args.height j f.child f.rest x c.requires.node c.if-height-branch.false
-    c.in_ok-gone.ensures.removes in let n = records c.settle.new.store in
-    let settles = subst (λ o. Settles l n p f.slot f.child o) c.in-None.is c.settle.ensures.settles in
-    subst FitsSum (sym (sums-row n (kids n p))) (fill-ready m g2 p k can f finds l j x rem n None settles).fits
-
-pub drop_child-merged-requires-clause-sum : goal.drop_child-merged-requires-clause-sum
-drop_child-merged-requires-clause-sum g t c =
+pub drop_child-merged-requires : goal.drop_child-merged-requires
+drop_child-merged-requires g t c =
     let m = records c.args.store.now in let p = c.args.node in let k = c.args.branch.first in
     let j = c.args.branch.level in let g2 = c.args.height - 2 in let f = c.find_at-found.result in
     let finds = c.find_at-found.ensures.found in
@@ -382,25 +192,50 @@ drop_child-merged-requires-clause-sum g t c =
     let rem = child m l c.args.height j f.child f.rest x c.requires.node c.if-height-branch.false
     c.in_ok-gone.ensures.removes in let n = records c.settle.new.store in
     let settles = subst (λ o. Settles l n p f.slot f.child o) c.in-Some.is c.settle.ensures.settles in
-    let less = c.in_ok-gone.ensures.less ∙ ap sum_of (sym (gone-same m (suc g2) p k can f finds l j x rem)) in
-    ap (plus (sum_all n (remove (kids n p) c.in-Some.slot))) less
-    ∙ sum-ready m g2 p k can f finds l j x rem n (Some c.in-Some.slot) settles
+    record {
+      row = has-ready m g2 p k can f finds l j x rem n (Some c.in-Some.slot) settles;
+      links = links-ready m g2 p k can f finds l j x rem n (Some c.in-Some.slot) settles;
+      slot = slot-ready m g2 p k can f finds l j x rem n (Some c.in-Some.slot) settles c.in-Some.slot refl;
+      fill = fill-ready m g2 p k can f finds l j x rem n (Some c.in-Some.slot) settles;
+      sum =
+          let less = c.in_ok-gone.ensures.less ∙ ap sum_of (sym (gone-same m (suc g2) p k can f finds l j x rem)) in
+          ap (plus (sum_all n (remove (kids n p) c.in-Some.slot))) less
+          ∙ sum-ready m g2 p k can f finds l j x rem n (Some c.in-Some.slot) settles;
+    }
 
-pub returns-then-height-branch-clause-less : goal.returns-then-height-branch-clause-less
-returns-then-height-branch-clause-less g t c =
+pub returns-then-height-branch : goal.returns-then-height-branch
+returns-then-height-branch g t c =
     let m = records c.args.store.now in let p = c.args.node in let k = c.args.branch.first in
     let j = c.args.branch.level in
     let can = right-above m c.args.height j p k c.if-height-branch.true c.requires.remove in
     let f = c.find_at-found.result in let finds = c.find_at-found.ensures.found in
+    let first : f.rest ≡ 0 = omega (arith, c.if-found-gt0.false) in
     let same = same_Some f.child c.drop_child.result (sym finds.child ∙ c.drop_child.ensures.child) in
-    sum_is m f.child c.sum.result (child-named m j p k can f finds) c.sum.ensures.value ∙ ap (sum_at m) same
+    let s = c.drop_child.ensures.spares in
+    record {
+      removes =
+          let n = records c.drop_child.new.store in
+          right-back m n c.args.height j p k c.drop_child.result c.if-height-branch.true
+          (subst (λ x. Removes m n (suc j) p k j x) same
+          (one-removes m j p k can f finds first n c.drop_child.ensures.records));
+      less = sum_is m f.child c.sum.result (child-named m j p k can f finds) c.sum.ensures.value ∙ ap (sum_at m) same;
+      most = subst (λ x. length (lines_in m j x) ≤ c.args.branch.most) same
+          (subst (λ n. n ≤ c.args.branch.most) (sym (one-long m j p k can f finds)) c.if-found-branch.false);
+      clean =
+          let n = records c.drop_child.new.store in
+          clean-right-back m n c.args.height j p c.drop_child.result c.if-height-branch.true
+          (subst (λ x. Cleans m n (suc j) p j x) same
+          (one-cleans m j p k can f finds first n c.drop_child.ensures.records));
+      none = λ e. cc;
+      spares = omega arith;
+      rooms = let r = c.drop_child.ensures.rooms in omega arith;
+      count =
+          let n = ap finite.len c.drop_child.ensures.records
+          ∙ len-refilled m c.args.node (row (remove (kids m c.args.node) c.find_at-found.result.slot)) in omega arith;
+    }
 
-pub returns-in-Some-clause-less : goal.returns-in-Some-clause-less
-returns-in-Some-clause-less g t c = c.in_ok-gone.ensures.less
-
-pub returns-in-Some-clause-removes : goal.returns-in-Some-clause-removes
-returns-in-Some-clause-removes g t c =
-    let m = records c.args.store.now in let p = c.args.node in let k = c.args.branch.first in
+pub returns-in-Some : goal.returns-in-Some
+returns-in-Some g t c = let m = records c.args.store.now in let p = c.args.node in let k = c.args.branch.first in
     let j = c.args.branch.level in let g2 = c.args.height - 2 in let f = c.find_at-found.result in
     let finds = c.find_at-found.ensures.found in
     let can = above m c.args.height j p k c.requires.node c.if-height-branch.false c.requires.remove in
@@ -408,119 +243,84 @@ returns-in-Some-clause-removes g t c =
     let rem = child m l c.args.height j f.child f.rest x c.requires.node c.if-height-branch.false
     c.in_ok-gone.ensures.removes in let n = records c.settle.new.store in
     let settles = subst (λ o. Settles l n p f.slot f.child o) c.in-Some.is c.settle.ensures.settles in
-    back m (records c.give_back.new.self) c.args.height j p k x c.requires.node c.if-height-branch.false
-    (subst (λ z. Removes m z (suc (suc g2)) p k j x) (sym c.give_back.ensures.records)
-    (removes-gone m g2 p k can f finds l j x rem n (Some c.in-Some.slot) settles (records c.drop_child-merged.new.store)
-    c.in-Some.slot c.drop_child-merged.result refl c.drop_child-merged.ensures.child
-    c.drop_child-merged.ensures.records))
-
-pub returns-in-None-clause-removes : goal.returns-in-None-clause-removes
-returns-in-None-clause-removes g t c =
-    let m = records c.args.store.now in let p = c.args.node in let k = c.args.branch.first in
-    let j = c.args.branch.level in let g2 = c.args.height - 2 in let f = c.find_at-found.result in
-    let finds = c.find_at-found.ensures.found in
-    let can = above m c.args.height j p k c.requires.node c.if-height-branch.false c.requires.remove in
-    let l = records c.remove_in.new.store in let x = c.in_ok-gone.gone in
-    let rem = child m l c.args.height j f.child f.rest x c.requires.node c.if-height-branch.false
-    c.in_ok-gone.ensures.removes in let n = records c.settle.new.store in
-    let settles = subst (λ o. Settles l n p f.slot f.child o) c.in-None.is c.settle.ensures.settles in
-    back m (records c.lessen.new.store) c.args.height j p k x c.requires.node c.if-height-branch.false
-    (removes-ready m g2 p k can f finds l j x rem n None settles (records c.lessen.new.store) (c.lessen.ensures.records
-    ∙ ap (λ z. resummed z p (row (kids n p)))
-    (sym (kept-whole n p (has-ready m g2 p k can f finds l j x rem n None settles)
-    (links-ready m g2 p k can f finds l j x rem n None settles)))))
-
-pub returns-in-Some-clause-clean : goal.returns-in-Some-clause-clean
-returns-in-Some-clause-clean g t c =
-    let m = records c.args.store.now in let p = c.args.node in let k = c.args.branch.first in
-    let j = c.args.branch.level in let g2 = c.args.height - 2 in let f = c.find_at-found.result in
-    let finds = c.find_at-found.ensures.found in
-    let can = above m c.args.height j p k c.requires.node c.if-height-branch.false c.requires.remove in
-    let l = records c.remove_in.new.store in let x = c.in_ok-gone.gone in
-    let rem = child m l c.args.height j f.child f.rest x c.requires.node c.if-height-branch.false
-    c.in_ok-gone.ensures.removes in let n = records c.settle.new.store in
-    let settles = subst (λ o. Settles l n p f.slot f.child o) c.in-Some.is c.settle.ensures.settles in
-    let clean = clean-child m l c.args.height j f.child x c.requires.node c.if-height-branch.false
-    c.in_ok-gone.ensures.clean in
-    clean-back m (records c.give_back.new.self) c.args.height j p x c.requires.node c.if-height-branch.false
-    (subst (λ z. Cleans m z (suc (suc g2)) p j x) (sym c.give_back.ensures.records)
-    (cleans-gone m g2 p k can f finds l j x rem n (Some c.in-Some.slot) settles clean
-    (records c.drop_child-merged.new.store) c.in-Some.slot c.drop_child-merged.result refl
-    c.drop_child-merged.ensures.child c.drop_child-merged.ensures.records))
-
-pub returns-in-None-clause-clean : goal.returns-in-None-clause-clean
-returns-in-None-clause-clean g t c =
-    let m = records c.args.store.now in let p = c.args.node in let k = c.args.branch.first in
-    let j = c.args.branch.level in let g2 = c.args.height - 2 in let f = c.find_at-found.result in
-    let finds = c.find_at-found.ensures.found in
-    let can = above m c.args.height j p k c.requires.node c.if-height-branch.false c.requires.remove in
-    let l = records c.remove_in.new.store in let x = c.in_ok-gone.gone in
-    let rem = child m l c.args.height j f.child f.rest x c.requires.node c.if-height-branch.false
-    c.in_ok-gone.ensures.removes in let n = records c.settle.new.store in
-    let settles = subst (λ o. Settles l n p f.slot f.child o) c.in-None.is c.settle.ensures.settles in
-    let clean = clean-child m l c.args.height j f.child x c.requires.node c.if-height-branch.false
-    c.in_ok-gone.ensures.clean in
-    clean-back m (records c.lessen.new.store) c.args.height j p x c.requires.node c.if-height-branch.false
-    (cleans-ready m g2 p k can f finds l j x rem n None settles clean (records c.lessen.new.store)
-    (c.lessen.ensures.records ∙ ap (λ z. resummed z p (row (kids n p)))
-    (sym (kept-whole n p (has-ready m g2 p k can f finds l j x rem n None settles)
-    (links-ready m g2 p k can f finds l j x rem n None settles)))) refl)
-
-pub returns-in-Some-clause-count : goal.returns-in-Some-clause-count
-returns-in-Some-clause-count g t c =
-    let m = records c.args.store.now in let p = c.args.node in let k = c.args.branch.first in
-    let j = c.args.branch.level in let g2 = c.args.height - 2 in let f = c.find_at-found.result in
-    let finds = c.find_at-found.ensures.found in
-    let can = above m c.args.height j p k c.requires.node c.if-height-branch.false c.requires.remove in
-    let l = records c.remove_in.new.store in let x = c.in_ok-gone.gone in
-    let rem = child m l c.args.height j f.child f.rest x c.requires.node c.if-height-branch.false
-    c.in_ok-gone.ensures.removes in let n = records c.settle.new.store in
-    let settles = subst (λ o. Settles l n p f.slot f.child o) c.in-Some.is c.settle.ensures.settles in
-    let has = has-ready m g2 p k can f finds l j x rem n (Some c.in-Some.slot) settles in
-    let named =
-    subst (λ z. IsSome (finite.get z c.drop_child-merged.result)) (sym c.drop_child-merged.ensures.records)
-    (named-refilled n p (row (remove (kids n p) c.in-Some.slot)) c.drop_child-merged.result
-    (has.each c.in-Some.slot c.drop_child-merged.result c.drop_child-merged.ensures.child)) in let u =
-    records c.drop_child-merged.new.store in let b = c.drop_child-merged.result in
-    let a = len-settles l n c.args.node c.find_at-found.result.slot c.find_at-found.result.child c.settle.result
-    c.settle.ensures.settles in
-    let d = ap finite.len c.drop_child-merged.ensures.records
-    ∙ len-refilled n c.args.node (row (remove (kids n c.args.node) c.in-Some.slot)) in
-    let e = ap finite.len c.give_back.ensures.records in let f = len-gone u b named in
-    let s1 = c.remove_in.ensures.count in let s2 = c.settle.ensures.spares in
-    let s3 = c.drop_child-merged.ensures.spares in let s4 = c.give_back.ensures.spares in omega arith
-
-pub returns-in-None-clause-count : goal.returns-in-None-clause-count
-returns-in-None-clause-count g t c = let l = records c.remove_in.new.store in let n = records c.settle.new.store in
-    let a = len-settles l n c.args.node c.find_at-found.result.slot c.find_at-found.result.child c.settle.result
-    c.settle.ensures.settles in
-    let d = ap finite.len c.lessen.ensures.records ∙ len-resummed n c.args.node (row (kids n c.args.node)) in
-    let s1 = c.remove_in.ensures.count in let s2 = c.settle.ensures.spares in let s3 = c.lessen.ensures.spares in
-    omega arith
-
-pub returns-in-Some-clause-rooms : goal.returns-in-Some-clause-rooms
-returns-in-Some-clause-rooms g t c =
-    let m = records c.args.store.now in let p = c.args.node in let k = c.args.branch.first in
-    let j = c.args.branch.level in let g2 = c.args.height - 2 in let f = c.find_at-found.result in
-    let finds = c.find_at-found.ensures.found in
-    let can = above m c.args.height j p k c.requires.node c.if-height-branch.false c.requires.remove in
-    let l = records c.remove_in.new.store in let x = c.in_ok-gone.gone in
-    let rem = child m l c.args.height j f.child f.rest x c.requires.node c.if-height-branch.false
-    c.in_ok-gone.ensures.removes in let n = records c.settle.new.store in
-    let settles = subst (λ o. Settles l n p f.slot f.child o) c.in-Some.is c.settle.ensures.settles in
-    let gone = c.drop_child-merged.result in
-    let inner = subst (λ z. InnerIn z gone) (sym c.drop_child-merged.ensures.records)
-    (inner-refilled n p (row (remove (kids n p) c.in-Some.slot)) gone
-    (inner-ready m g2 p k can f finds l j x rem n (Some c.in-Some.slot) settles c.in-Some.slot gone
-    c.drop_child-merged.ensures.child)) in
-    let one =
-    room-given (records c.drop_child-merged.new.store) gone c.give_back.result inner c.give_back.ensures.line in
-    let r1 = c.remove_in.ensures.rooms in let r2 = c.settle.ensures.rooms in
-    let r3 = c.drop_child-merged.ensures.rooms in let r4 = c.give_back.ensures.rooms in
     let s2 = c.settle.ensures.spares in let s3 = c.drop_child-merged.ensures.spares in
-    let s4 = c.give_back.ensures.spares in omega arith
+    let s4 = c.give_back.ensures.spares in
+    record {
+      removes = back m (records c.give_back.new.self) c.args.height j p k x c.requires.node c.if-height-branch.false
+          (subst (λ z. Removes m z (suc (suc g2)) p k j x) (sym c.give_back.ensures.records)
+          (removes-gone m g2 p k can f finds l j x rem n (Some c.in-Some.slot) settles
+          (records c.drop_child-merged.new.store) c.in-Some.slot c.drop_child-merged.result refl
+          c.drop_child-merged.ensures.child c.drop_child-merged.ensures.records));
+      less = c.in_ok-gone.ensures.less;
+      most = c.in_ok-gone.ensures.most;
+      clean =
+          let clean = clean-child m l c.args.height j f.child x c.requires.node c.if-height-branch.false
+          c.in_ok-gone.ensures.clean in
+          clean-back m (records c.give_back.new.self) c.args.height j p x c.requires.node c.if-height-branch.false
+          (subst (λ z. Cleans m z (suc (suc g2)) p j x) (sym c.give_back.ensures.records)
+          (cleans-gone m g2 p k can f finds l j x rem n (Some c.in-Some.slot) settles clean
+          (records c.drop_child-merged.new.store) c.in-Some.slot c.drop_child-merged.result refl
+          c.drop_child-merged.ensures.child c.drop_child-merged.ensures.records));
+      none = λ e. cc;
+      spares = let s1 = c.remove_in.ensures.spares in omega arith;
+      rooms =
+          let gone = c.drop_child-merged.result in
+          let inner = subst (λ z. InnerIn z gone) (sym c.drop_child-merged.ensures.records)
+          (inner-refilled n p (row (remove (kids n p) c.in-Some.slot)) gone (inner-ready m g2 p k can f finds l j x rem
+          n (Some c.in-Some.slot) settles c.in-Some.slot gone c.drop_child-merged.ensures.child)) in
+          let one = room-given (records c.drop_child-merged.new.store) gone c.give_back.result inner
+          c.give_back.ensures.line in
+          let r1 = c.remove_in.ensures.rooms in let r2 = c.settle.ensures.rooms in
+          let r3 = c.drop_child-merged.ensures.rooms in let r4 = c.give_back.ensures.rooms in omega arith;
+      count =
+          let has = has-ready m g2 p k can f finds l j x rem n (Some c.in-Some.slot) settles in
+          let named = subst (λ z. IsSome (finite.get z c.drop_child-merged.result))
+          (sym c.drop_child-merged.ensures.records) (named-refilled n p (row (remove (kids n p) c.in-Some.slot))
+          c.drop_child-merged.result
+          (has.each c.in-Some.slot c.drop_child-merged.result c.drop_child-merged.ensures.child)) in
+          let u = records c.drop_child-merged.new.store in let b = c.drop_child-merged.result in
+          let a = len-settles l n c.args.node c.find_at-found.result.slot c.find_at-found.result.child c.settle.result
+          c.settle.ensures.settles in
+          let d = ap finite.len c.drop_child-merged.ensures.records
+          ∙ len-refilled n c.args.node (row (remove (kids n c.args.node) c.in-Some.slot)) in
+          let e = ap finite.len c.give_back.ensures.records in let without = len-gone u b named in
+          let s1 = c.remove_in.ensures.count in omega arith;
+    }
 
-pub returns-in-None-clause-rooms : goal.returns-in-None-clause-rooms
-returns-in-None-clause-rooms g t c =
-    let r1 = c.remove_in.ensures.rooms in let r2 = c.settle.ensures.rooms in let r3 = c.lessen.ensures.rooms in
-    let s2 = c.settle.ensures.spares in let s3 = c.lessen.ensures.spares in omega arith
+pub returns-in-None : goal.returns-in-None
+returns-in-None g t c = let m = records c.args.store.now in let p = c.args.node in let k = c.args.branch.first in
+    let j = c.args.branch.level in let g2 = c.args.height - 2 in let f = c.find_at-found.result in
+    let finds = c.find_at-found.ensures.found in
+    let can = above m c.args.height j p k c.requires.node c.if-height-branch.false c.requires.remove in
+    let l = records c.remove_in.new.store in let x = c.in_ok-gone.gone in
+    let rem = child m l c.args.height j f.child f.rest x c.requires.node c.if-height-branch.false
+    c.in_ok-gone.ensures.removes in let n = records c.settle.new.store in
+    let settles = subst (λ o. Settles l n p f.slot f.child o) c.in-None.is c.settle.ensures.settles in
+    let s2 = c.settle.ensures.spares in let s3 = c.lessen.ensures.spares in
+    record {
+      removes = back m (records c.lessen.new.store) c.args.height j p k x c.requires.node c.if-height-branch.false
+          (removes-ready m g2 p k can f finds l j x rem n None settles (records c.lessen.new.store)
+          (c.lessen.ensures.records ∙ ap (λ z. resummed z p (row (kids n p))) (sym (kept-whole n p
+          (has-ready m g2 p k can f finds l j x rem n None settles)
+          (links-ready m g2 p k can f finds l j x rem n None settles)))));
+      less = c.in_ok-gone.ensures.less;
+      most = c.in_ok-gone.ensures.most;
+      clean =
+          let clean = clean-child m l c.args.height j f.child x c.requires.node c.if-height-branch.false
+          c.in_ok-gone.ensures.clean in
+          clean-back m (records c.lessen.new.store) c.args.height j p x c.requires.node c.if-height-branch.false
+          (cleans-ready m g2 p k can f finds l j x rem n None settles clean (records c.lessen.new.store)
+          (c.lessen.ensures.records ∙ ap (λ z. resummed z p (row (kids n p))) (sym (kept-whole n p
+          (has-ready m g2 p k can f finds l j x rem n None settles)
+          (links-ready m g2 p k can f finds l j x rem n None settles)))) refl);
+      none = λ e. cc;
+      spares = let s1 = c.remove_in.ensures.spares in omega arith;
+      rooms =
+          let r1 = c.remove_in.ensures.rooms in let r2 = c.settle.ensures.rooms in let r3 = c.lessen.ensures.rooms in
+          omega arith;
+      count =
+          let a = len-settles l n c.args.node c.find_at-found.result.slot c.find_at-found.result.child c.settle.result
+          c.settle.ensures.settles in
+          let d = ap finite.len c.lessen.ensures.records ∙ len-resummed n c.args.node (row (kids n c.args.node)) in
+          let s1 = c.remove_in.ensures.count in omega arith;
+    }

@@ -1,17 +1,11 @@
-use Rattle.std.proofs.Common.{◌≡◌, ℕ, ◌-◌, ◌<◌, suc, length, [], ◌∷◌, refl, sym, ap, ◌∙◌, subst, arith, None}
-use Rattle.std.specs.Prelude.{IsSome}
+use Rattle.std.proofs.Common.{◌≡◌, ℕ, ◌-◌, ◌<◌, suc, length, [], ◌∷◌, refl, sym, ap, ◌∙◌, subst, arith, None, IsSome}
 use Rattle.std.specs.FinMap as finite
 use Rattle.std.proofs.lemmas.List.{length-map}
 use Rattle.std.proofs.lemmas.Option.{slice_get-get_or}
-use Rattle.raw_nodes.specs.Names.{records}
-use Rattle.raw_nodes.specs.Records.{Records, update, with_parent}
-use Rattle.raw_nodes.specs.Rows.{kids}
-use Rattle.raw_nodes.specs.declared.names.NodePtr.{NodePtr}
+use Rattle.line_tree.proofs.Words.{IsBalancedRoot, NodePtr, Records, kids, records, tree_at, update, with_parent}
 use Rattle.raw_nodes.proofs.UpdateLaws.{len-update, named-update}
 use Rattle.line_tree.specs.Finds.{HasRow}
-use Rattle.line_tree.specs.Shape.{tree_at}
 use Rattle.line_tree.specs.Shrinking.{CanLower, Lowers}
-use Rattle.line_tree.specs.Trees.{IsBalancedRoot}
 use Rattle.line_tree.proofs.LowerLaws.{lowers-child, lowers-same, only-child}
 use Rattle.line_tree.proofs.PutLaws.{count-row}
 use Rattle.line_tree.proofs.RoomLaws.{len-gone}
@@ -79,35 +73,29 @@ give_back-requires g c = let m = records c.args.store.now in let r = c.args.root
     (named-update m c.unwrap-child.result (λ x. with_parent x None 0) r
     (named-row m r (row-above m c.args.height r c.requires.positive c.if-height-eq1.false c.requires.lower)))
 
-pub returns-clause-lowers : goal.returns-clause-lowers
-returns-clause-lowers g c = let m = records c.args.store.now in let r = c.args.root in let h = c.args.height in
-    let d = c.unwrap-child.result in
+pub returns : goal.returns
+returns g c =
+    let m = records c.args.store.now in let r = c.args.root in let h = c.args.height in let d = c.unwrap-child.result in
+    let at = sym c.kid.ensures ∙ c.unwrap-child.ensures in let set = c.set_parent.ensures.records in
     let has = row-above m h r c.requires.positive c.if-height-eq1.false c.requires.lower in
-    let n = count-row m r c.children.result has c.children.ensures in
-    let at = sym c.kid.ensures ∙ c.unwrap-child.ensures in
-    let only = only-child (kids m r) d at (omega (arith, c.if-children-gt1.false)) in
-    let set = c.set_parent.ensures.records in
-    subst (λ z. Lowers m z h r (h - 1) d) (sym (c.give_back.ensures.records ∙ ap (λ z. finite.remove z r) set))
-    (moved m h r d c.requires.positive c.if-height-eq1.false c.requires.lower only)
-
-pub returns-clause-count : goal.returns-clause-count
-returns-clause-count g c = let m = records c.args.store.now in let r = c.args.root in let h = c.args.height in
-    let d = c.unwrap-child.result in let n = records c.set_parent.new.self in
-    let has = row-above m h r c.requires.positive c.if-height-eq1.false c.requires.lower in
-    let at = sym c.kid.ensures ∙ c.unwrap-child.ensures in
-    let set = c.set_parent.ensures.records in
-    let a = ap finite.len set ∙ len-update m d (λ x. with_parent x None 0) in
-    let b = len-gone n r (subst (λ z. IsSome (finite.get z r)) (sym set)
-    (named-update m d (λ x. with_parent x None 0) r (named-row m r has))) in
-    let e = ap finite.len c.give_back.ensures.records in let s1 = c.set_parent.ensures.spares in
-    let s2 = c.give_back.ensures.spares in omega arith
-
-pub returns-clause-rooms : goal.returns-clause-rooms
-returns-clause-rooms g c = let m = records c.args.store.now in let r = c.args.root in let d = c.unwrap-child.result in
-    let n = records c.set_parent.new.self in
-    let has = row-above m c.args.height r c.requires.positive c.if-height-eq1.false c.requires.lower in
-    let inner = subst (λ z. InnerIn z r) (sym c.set_parent.ensures.records)
-    (inner-update m d (λ x. with_parent x None 0) r (λ y. refl) (inner-row m r has)) in
-    let one = room-given n r c.give_back.result inner c.give_back.ensures.line in
-    let r1 = c.set_parent.ensures.rooms in let r2 = c.give_back.ensures.rooms in let s1 = c.set_parent.ensures.spares in
-    let s2 = c.give_back.ensures.spares in omega arith
+    let s1 = c.set_parent.ensures.spares in let s2 = c.give_back.ensures.spares in
+    record {
+      lowers =
+          let n = count-row m r c.children.result has c.children.ensures in
+          let only = only-child (kids m r) d at (omega (arith, c.if-children-gt1.false)) in
+          subst (λ z. Lowers m z h r (h - 1) d) (sym (c.give_back.ensures.records ∙ ap (λ z. finite.remove z r) set))
+          (moved m h r d c.requires.positive c.if-height-eq1.false c.requires.lower only);
+      spares = omega arith;
+      rooms =
+          let n = records c.set_parent.new.self in
+          let inner = subst (λ z. InnerIn z r) (sym c.set_parent.ensures.records)
+          (inner-update m d (λ x. with_parent x None 0) r (λ y. refl) (inner-row m r has)) in
+          let one = room-given n r c.give_back.result inner c.give_back.ensures.line in
+          let r1 = c.set_parent.ensures.rooms in let r2 = c.give_back.ensures.rooms in omega arith;
+      count =
+          let n = records c.set_parent.new.self in
+          let a = ap finite.len set ∙ len-update m d (λ x. with_parent x None 0) in
+          let b = len-gone n r (subst (λ z. IsSome (finite.get z r)) (sym set)
+          (named-update m d (λ x. with_parent x None 0) r (named-row m r has))) in
+          let e = ap finite.len c.give_back.ensures.records in omega arith;
+    }

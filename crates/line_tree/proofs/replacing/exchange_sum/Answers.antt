@@ -1,14 +1,9 @@
-use Rattle.std.proofs.Common.{◌≡◌, sym, ap, ◌∙◌, subst, arith}
+use Rattle.std.proofs.Common.{◌≡◌, sym, ap, ◌∙◌, subst, arith, IfSome}
 use Rattle.std.specs.FinSet as set
-use Rattle.std.specs.Prelude.{IfSome}
-use Rattle.raw_nodes.specs.Names.{records}
-use Rattle.raw_nodes.specs.Records.{with_sum}
-use Rattle.raw_nodes.specs.Rows.{kids, row}
+use Rattle.line_tree.proofs.Words.{CanExchange, Count, FitsSum, IsWithin, exchanged, kids, plus, records, row, sum_of}
+use Rattle.line_tree.proofs.Words.{sums, with_sum, without}
 use Rattle.toggle_sums.specs.CountLaws.{same_slots}
-use Rattle.toggle_sums.specs.Counts.{CanExchange, Count, IsWithin, exchanged, plus, without}
 use Rattle.toggle_sums.proofs.ExchangeLaws.{union-part}
-use Rattle.line_tree.specs.Changes.{FitsSum, sums}
-use Rattle.line_tree.specs.Shape.{sum_of}
 use Rattle.line_tree.proofs.KeptLaws.{update-as}
 use Rattle.line_tree.proofs.LessLaws.{without-plus}
 use Rattle.line_tree.proofs.ReplacingLaws.{within-both}
@@ -16,25 +11,23 @@ use Rattle.line_tree.proofs.SumLaws.{fits-both}
 use Rattle.line_tree.proofs.UpdateLaws.{inner-row}
 use Rattle.line_tree.proofs.replacing.exchange_sum.Goals as goal
 
-pub exchange-requires-clause-name : goal.exchange-requires-clause-name
-exchange-requires-clause-name g c = inner-row (records c.args.store.now) c.args.node c.requires.row
-
-pub exchange-requires-clause-sum : goal.exchange-requires-clause-sum
-exchange-requires-clause-sum g c = let m = records c.args.store.now in let p = c.args.node in
-    let has = c.requires.row in let both = c.args.exchange.now in
-    let below = sums m (row (kids m p)) in
-    let old = has.found.sum in
-    let here = ap sum_of has.is in
-    let now = c.requires.sum ∙ ap (λ s. plus s both.more) here in
-    let lines = ap (λ (s : Count). s.lines) now in let characters = ap (λ (s : Count). s.characters) now in
-    let marks = ap (λ (s : Count). s.marks) now in
-    subst (λ o. IfSome o (λ r. CanExchange both.gone both.more both.is_level r.sum)) (sym has.is) (record {
-      fits = fits-both old both.more (subst (λ s. FitsSum (plus s both.more)) here c.requires.fits);
-      counts = record { lines = omega arith; characters = omega arith; marks = omega arith };
-      level = λ level. subst (λ s. set.union old.presence s ≡ old.presence)
-          (same_slots both.gone.presence both.more.presence (both.level_told level).1)
-          (subst (IsWithin both.gone) here c.requires.went);
-    })
+pub exchange-requires : goal.exchange-requires
+exchange-requires g c = record {
+  name = inner-row (records c.args.store.now) c.args.node c.requires.row;
+  sum =
+      let m = records c.args.store.now in let p = c.args.node in let has = c.requires.row in
+      let both = c.args.exchange.now in let below = sums m (row (kids m p)) in let old = has.found.sum in
+      let here = ap sum_of has.is in let now = c.requires.sum ∙ ap (λ s. plus s both.more) here in
+      let lines = ap (λ (s : Count). s.lines) now in let characters = ap (λ (s : Count). s.characters) now in
+      let marks = ap (λ (s : Count). s.marks) now in
+      subst (λ o. IfSome o (λ r. CanExchange both.gone both.more both.is_level r.sum)) (sym has.is) (record {
+        fits = fits-both old both.more (subst (λ s. FitsSum (plus s both.more)) here c.requires.fits);
+        counts = record { lines = omega arith; characters = omega arith; marks = omega arith };
+        level = λ level. subst (λ s. set.union old.presence s ≡ old.presence)
+            (same_slots both.gone.presence both.more.presence (both.level_told level).1)
+            (subst (IsWithin both.gone) here c.requires.went);
+      });
+}
 
 pub returns-then-exchange-clause-records : goal.returns-then-exchange-clause-records
 returns-then-exchange-clause-records g c = let m = records c.args.store.now in let p = c.args.node in

@@ -1,34 +1,26 @@
-use Rattle.std.proofs.Common.{◌≡◌, ap, sym, ◌∙◌, subst}
-use Rattle.std.specs.Prelude.{OnSome, option_map}
+use Rattle.std.proofs.Common.{◌≡◌, ap, sym, ◌∙◌, subst, OnSome, option_map}
 use Rattle.raw_nodes.specs.LineLending.{WroteLine}
 use Rattle.raw_nodes.proofs.MapLaws.{at_some}
 use Rattle.line_tree.specs.Shape.{line_of}
 use Rattle.line_tree.proofs.replacing.put_over.Goals as goal
 
-pub returns-clause-puts : goal.returns-clause-puts
-returns-clause-puts g c =
-    let new = c.args.line in
-    let wrote = subst (λ o. OnSome o (WroteLine c.args.store.now (c.line_mut.follows.lender new) c.args.name new))
-    c.unwrap-place.ensures (c.line_mut.follows.holds new) in
+pub returns : goal.returns
+returns g c = let new = c.args.line in
     record {
-      line = c.unwrap-place.result.now;
-      was = ap line_of c.requires.line.is
-          ∙ sym (at_some _ (λ r. option_map (λ x. x.now) c.line_mut.result
-          ≡ r.line) c.requires.line.found c.line_mut.ensures.value c.requires.line.is)
-          ∙ ap (option_map (λ x. x.now)) c.unwrap-place.ensures;
-      same = wrote.records;
-      went = c.compare.ensures.same.0 ∙ c.sum_to-2.ensures;
-      came = c.compare.ensures.same.1 ∙ c.sum_to.ensures;
+      puts =
+          let wrote = subst (λ o. OnSome o (WroteLine c.args.store.now (c.line_mut.follows.lender new) c.args.name new))
+          c.unwrap-place.ensures (c.line_mut.follows.holds new) in
+          record {
+            line = c.unwrap-place.result.now;
+            was = ap line_of c.requires.line.is
+                ∙ sym (at_some _ (λ r. option_map (λ x. x.now) c.line_mut.result ≡ r.line) c.requires.line.found
+                c.line_mut.ensures.value c.requires.line.is) ∙ ap (option_map (λ x. x.now)) c.unwrap-place.ensures;
+            same = wrote.records;
+            went = c.compare.ensures.same.0 ∙ c.sum_to-2.ensures;
+            came = c.compare.ensures.same.1 ∙ c.sum_to.ensures;
+          };
+      spares = (subst (λ o. OnSome o (WroteLine c.args.store.now (c.line_mut.follows.lender new) c.args.name new))
+          c.unwrap-place.ensures (c.line_mut.follows.holds new)).spares;
+      rooms = (subst (λ o. OnSome o (WroteLine c.args.store.now (c.line_mut.follows.lender new) c.args.name new))
+          c.unwrap-place.ensures (c.line_mut.follows.holds new)).rooms;
     }
-
-pub returns-clause-spares : goal.returns-clause-spares
-returns-clause-spares g c =
-    let new = c.args.line in
-    (subst (λ o. OnSome o (WroteLine c.args.store.now (c.line_mut.follows.lender new) c.args.name new))
-    c.unwrap-place.ensures (c.line_mut.follows.holds new)).spares
-
-pub returns-clause-rooms : goal.returns-clause-rooms
-returns-clause-rooms g c =
-    let new = c.args.line in
-    (subst (λ o. OnSome o (WroteLine c.args.store.now (c.line_mut.follows.lender new) c.args.name new))
-    c.unwrap-place.ensures (c.line_mut.follows.holds new)).rooms

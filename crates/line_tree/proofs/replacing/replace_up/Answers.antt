@@ -38,61 +38,35 @@ unwrap-at-requires g c = let m = records c.args.store.now in let l = records c.l
     has-parent m l c.args.height c.args.root k (λ _. c.args.line) sums.gone sums.more c.loop-level.level c.loop-level.at
     (c.loop-level.invariant.climbs k c.requires.named.1) c.loop-level-test.true c.parent.result c.parent.ensures.value
 
-pub exchange_sum-requires-clause-row : goal.exchange_sum-requires-clause-row
-exchange_sum-requires-clause-row g c = let m = records c.args.store.now in let l = records c.loop-level.store in
-    let k = c.requires.named.0 in let at = c.requires.named.1 in let sums = c.put_over.new.exchange in
-    let h = c.args.height in let r = c.args.root in
+pub exchange_sum-requires : goal.exchange_sum-requires
+exchange_sum-requires g c =
+    let m = records c.args.store.now in let l = records c.loop-level.store in let k = c.requires.named.0 in
+    let at = c.requires.named.1 in let sums = c.put_over.new.exchange in let h = c.args.height in let r = c.args.root in
     let above = above-of m l h r k (λ _. c.args.line) sums.gone sums.more c.loop-level.level c.loop-level.at
     (c.loop-level.invariant.climbs k at) c.loop-level-test.true c.parent.result c.parent.ensures.value
     c.unwrap-at.result c.unwrap-at.ensures in
-    row-here m l h r k c.args.line sums.gone sums.more c.loop-level.level c.loop-level.at c.unwrap-at.result
-    c.loop-level-test.true above
-    (root-can m h r k c.args.name c.requires.tree at c.requires.distinct, c.requires.fits) c.put_over.ensures.puts.came
-
-pub exchange_sum-requires-clause-sum : goal.exchange_sum-requires-clause-sum
-exchange_sum-requires-clause-sum g c = let m = records c.args.store.now in let l = records c.loop-level.store in
-    let k = c.requires.named.0 in let at = c.requires.named.1 in let sums = c.put_over.new.exchange in
-    let h = c.args.height in let r = c.args.root in
-    let above = above-of m l h r k (λ _. c.args.line) sums.gone sums.more c.loop-level.level c.loop-level.at
-    (c.loop-level.invariant.climbs k at) c.loop-level-test.true c.parent.result c.parent.ensures.value
-    c.unwrap-at.result c.unwrap-at.ensures in
-    sum-here m l h r k c.args.line sums.gone sums.more c.loop-level.level c.loop-level.at c.unwrap-at.result
-    c.loop-level-test.true above
-    (root-can m h r k c.args.name c.requires.tree at c.requires.distinct, c.requires.fits) c.put_over.ensures.puts.came
-
-pub exchange_sum-requires-clause-came : goal.exchange_sum-requires-clause-came
-exchange_sum-requires-clause-came g c = let m = records c.args.store.now in let l = records c.loop-level.store in
-    let k = c.requires.named.0 in let at = c.requires.named.1 in let sums = c.put_over.new.exchange in
-    let h = c.args.height in let r = c.args.root in
-    let above = above-of m l h r k (λ _. c.args.line) sums.gone sums.more c.loop-level.level c.loop-level.at
-    (c.loop-level.invariant.climbs k at) c.loop-level-test.true c.parent.result c.parent.ensures.value
-    c.unwrap-at.result c.unwrap-at.ensures in
-    came-here m l h r k c.args.line sums.gone sums.more c.loop-level.level c.loop-level.at c.unwrap-at.result
-    c.loop-level-test.true above
-    (root-can m h r k c.args.name c.requires.tree at c.requires.distinct, c.requires.fits) c.put_over.ensures.puts.came
-
-pub exchange_sum-requires-clause-went : goal.exchange_sum-requires-clause-went
-exchange_sum-requires-clause-went g c = let m = records c.args.store.now in let l = records c.loop-level.store in
-    let k = c.requires.named.0 in let at = c.requires.named.1 in let sums = c.put_over.new.exchange in
-    let h = c.args.height in let r = c.args.root in
-    let above = above-of m l h r k (λ _. c.args.line) sums.gone sums.more c.loop-level.level c.loop-level.at
-    (c.loop-level.invariant.climbs k at) c.loop-level-test.true c.parent.result c.parent.ensures.value
-    c.unwrap-at.result c.unwrap-at.ensures in
-    went-here m l h r k c.args.line sums.gone sums.more c.loop-level.level c.loop-level.at c.unwrap-at.result
-    c.loop-level-test.true above
-    (root-can m h r k c.args.name c.requires.tree at c.requires.distinct, c.requires.fits) c.put_over.ensures.puts.came
-    c.loop-level.invariant.went
-
-pub exchange_sum-requires-clause-fits : goal.exchange_sum-requires-clause-fits
-exchange_sum-requires-clause-fits g c = let m = records c.args.store.now in let l = records c.loop-level.store in
-    let k = c.requires.named.0 in let at = c.requires.named.1 in let sums = c.put_over.new.exchange in
-    let h = c.args.height in let r = c.args.root in
-    let above = above-of m l h r k (λ _. c.args.line) sums.gone sums.more c.loop-level.level c.loop-level.at
-    (c.loop-level.invariant.climbs k at) c.loop-level-test.true c.parent.result c.parent.ensures.value
-    c.unwrap-at.result c.unwrap-at.ensures in
-    fits-here m l h r k c.args.line sums.gone sums.more c.loop-level.level c.loop-level.at c.unwrap-at.result
-    c.loop-level-test.true above
-    (root-can m h r k c.args.name c.requires.tree at c.requires.distinct, c.requires.fits) c.put_over.ensures.puts.came
+    record {
+      row = row-here m l h r k c.args.line sums.gone sums.more c.loop-level.level c.loop-level.at c.unwrap-at.result
+          c.loop-level-test.true above
+          (root-can m h r k c.args.name c.requires.tree at c.requires.distinct, c.requires.fits)
+          c.put_over.ensures.puts.came;
+      sum = sum-here m l h r k c.args.line sums.gone sums.more c.loop-level.level c.loop-level.at c.unwrap-at.result
+          c.loop-level-test.true above
+          (root-can m h r k c.args.name c.requires.tree at c.requires.distinct, c.requires.fits)
+          c.put_over.ensures.puts.came;
+      came = came-here m l h r k c.args.line sums.gone sums.more c.loop-level.level c.loop-level.at c.unwrap-at.result
+          c.loop-level-test.true above
+          (root-can m h r k c.args.name c.requires.tree at c.requires.distinct, c.requires.fits)
+          c.put_over.ensures.puts.came;
+      went = went-here m l h r k c.args.line sums.gone sums.more c.loop-level.level c.loop-level.at c.unwrap-at.result
+          c.loop-level-test.true above
+          (root-can m h r k c.args.name c.requires.tree at c.requires.distinct, c.requires.fits)
+          c.put_over.ensures.puts.came c.loop-level.invariant.went;
+      fits = fits-here m l h r k c.args.line sums.gone sums.more c.loop-level.level c.loop-level.at c.unwrap-at.result
+          c.loop-level-test.true above
+          (root-can m h r k c.args.name c.requires.tree at c.requires.distinct, c.requires.fits)
+          c.put_over.ensures.puts.came;
+    }
 
 pub loop-level-preserved : goal.loop-level-preserved
 loop-level-preserved g c = let m = records c.args.store.now in let l = records c.loop-level.store in

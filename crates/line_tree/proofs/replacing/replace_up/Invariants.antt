@@ -1,9 +1,6 @@
 use Rattle.std.proofs.Common.{◌≡◌, ℕ, ◌≤◌}
-use Rattle.toggle_sums.specs.Counts.{IsWithin}
-use Rattle.raw_nodes.specs.Names.{records, rooms, spares}
+use Rattle.line_tree.proofs.Words.{IsWithin, lines_in, records, rooms, spares, total}
 use Rattle.line_tree.specs.Places.{IsLineAt}
-use Rattle.line_tree.specs.Shape.{lines_in}
-use Rattle.line_tree.specs.Trees.{total}
 use Rattle.line_tree.proofs.ClimbingLaws.{Climbs}
 use Rattle.line_tree.proofs.replacing.replace_up.Given as goal
 

@@ -1,6 +1,5 @@
 use Rattle.std.proofs.Common.{◌≡◌, ◌+◌, ◌-◌, ◌*◌, ◌≤◌, suc, subst, arith}
-use Rattle.raw_nodes.specs.Names.{records}
-use Rattle.line_tree.specs.Shape.{IsTree, lines_in}
+use Rattle.line_tree.proofs.Words.{IsTree, lines_in, records}
 use Rattle.line_tree.proofs.PrefixLaws.{sum-below}
 use Rattle.line_tree.proofs.SearchLaws.{Passes, passes-below, passes-fits, passes-line, passes-start, passes-step}
 use Rattle.line_tree.proofs.SearchLaws.{steps-deeper}
@@ -17,37 +16,24 @@ loop-level-init g c = let m = records c.args.store.now in record {
   ticks = omega arith;
 }
 
-pub search_near-reached-requires-clause-row : goal.search_near-reached-requires-clause-row
-search_near-reached-requires-clause-row g c = let m = records c.args.store.now in let at = c.loop-level.at in
-    let n = c.loop-level.level - 1 in
-    let e : c.loop-level.level ≡ suc n = omega (arith, c.loop-level-test.true) in
-    row-tree m n at (subst (λ h. IsTree m h at) e c.loop-level.invariant.tree)
-
-pub search_near-reached-requires-clause-within : goal.search_near-reached-requires-clause-within
-search_near-reached-requires-clause-within g c = let m = records c.args.store.now in let at = c.loop-level.at in
-    let n = c.loop-level.level - 1 in
+pub search_near-reached-requires : goal.search_near-reached-requires
+search_near-reached-requires g c =
+    let m = records c.args.store.now in let at = c.loop-level.at in let n = c.loop-level.level - 1 in
     let e : c.loop-level.level ≡ suc n = omega (arith, c.loop-level-test.true) in
     let ls = lines_in m c.args.height c.args.root in
-    passes-below g.met.A.Aim.adds_up m n at ls c.args.k c.loop-level.rest c.args.aim.now c.loop-level.aim
-    (subst (λ h. IsTree m h at) e c.loop-level.invariant.tree)
-    (subst (λ h. Passes g.A.Aim.wide g.A.Aim.behind ls (lines_in m h at) c.args.k c.loop-level.rest c.args.aim.now
-    c.loop-level.aim) e c.loop-level.invariant.passes)
-
-pub search_near-reached-requires-clause-fits : goal.search_near-reached-requires-clause-fits
-search_near-reached-requires-clause-fits g c = let m = records c.args.store.now in let at = c.loop-level.at in
-    let n = c.loop-level.level - 1 in
-    let e : c.loop-level.level ≡ suc n = omega (arith, c.loop-level-test.true) in
-    let ls = lines_in m c.args.height c.args.root in
-    passes-fits g.met.A.Aim.adds_up m n at ls c.args.k c.loop-level.rest c.args.aim.now c.loop-level.aim
-    (subst (λ h. IsTree m h at) e c.loop-level.invariant.tree)
-    (subst (λ h. Passes g.A.Aim.wide g.A.Aim.behind ls (lines_in m h at) c.args.k c.loop-level.rest c.args.aim.now
-    c.loop-level.aim) e c.loop-level.invariant.passes) c.requires.fits
-
-pub search_near-reached-requires-clause-whole : goal.search_near-reached-requires-clause-whole
-search_near-reached-requires-clause-whole g c = let m = records c.args.store.now in let at = c.loop-level.at in
-    let n = c.loop-level.level - 1 in
-    let e : c.loop-level.level ≡ suc n = omega (arith, c.loop-level-test.true) in
-    sum-below m n at (subst (λ h. IsTree m h at) e c.loop-level.invariant.tree)
+    record {
+      row = row-tree m n at (subst (λ h. IsTree m h at) e c.loop-level.invariant.tree);
+      within = passes-below g.met.A.Aim.adds_up m n at ls c.args.k c.loop-level.rest c.args.aim.now c.loop-level.aim
+          (subst (λ h. IsTree m h at) e c.loop-level.invariant.tree) (subst (λ h. Passes g.A.Aim.wide g.A.Aim.behind ls
+          (lines_in m h at) c.args.k c.loop-level.rest c.args.aim.now c.loop-level.aim) e
+          c.loop-level.invariant.passes);
+      fits = passes-fits g.met.A.Aim.adds_up m n at ls c.args.k c.loop-level.rest c.args.aim.now c.loop-level.aim
+          (subst (λ h. IsTree m h at) e c.loop-level.invariant.tree) (subst (λ h. Passes g.A.Aim.wide g.A.Aim.behind ls
+          (lines_in m h at) c.args.k c.loop-level.rest c.args.aim.now c.loop-level.aim) e c.loop-level.invariant.passes)
+          c.requires.fits;
+      whole = sum-below m n at (subst (λ h. IsTree m h at) e c.loop-level.invariant.tree);
+      size = c.loop-level.invariant.size;
+    }
 
 pub loop-level-preserved : goal.loop-level-preserved
 loop-level-preserved g c = let m = records c.args.store.now in let at = c.loop-level.at in

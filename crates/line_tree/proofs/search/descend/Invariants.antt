@@ -1,7 +1,5 @@
-use Rattle.std.proofs.Common.{◌≡◌, ◌+◌, ◌-◌, ◌*◌, ◌≤◌}
-use Rattle.std.specs.Prelude.{IfSome}
-use Rattle.raw_nodes.specs.Names.{records}
-use Rattle.line_tree.specs.Shape.{IsTree, lines_in, sum_at}
+use Rattle.std.proofs.Common.{◌≡◌, ◌+◌, ◌-◌, ◌*◌, ◌≤◌, IfSome}
+use Rattle.line_tree.proofs.Words.{IsTree, lines_in, records, sum_at}
 use Rattle.line_tree.proofs.SearchLaws.{Passes}
 use Rattle.line_tree.proofs.search.descend.Given as goal
 

@@ -1,7 +1,5 @@
 use Rattle.std.proofs.Common.{◌+◌, sym, ap, ◌∙◌, subst, arith}
-use Rattle.raw_nodes.specs.Names.{records}
-use Rattle.raw_nodes.specs.Rows.{kids}
-use Rattle.line_tree.specs.Shape.{sum_at}
+use Rattle.line_tree.proofs.Words.{kids, records, sum_at}
 use Rattle.line_tree.proofs.PrefixLaws.{sum-none}
 use Rattle.line_tree.proofs.RowLaws.{asks, child_is, none_of, said}
 use Rattle.line_tree.proofs.SearchLaws.{behind-more, fits-child, steps-more, steps-within, wide-more}

@@ -1,12 +1,7 @@
-use Rattle.std.proofs.Common.{◌≡◌, ℕ, ◌≤◌, ◌<◌, suc, length, refl, sym, ◌∙◌, subst, arith}
-use Rattle.std.specs.Prelude.{IsSome}
+use Rattle.std.proofs.Common.{◌≡◌, ℕ, ◌≤◌, ◌<◌, suc, length, refl, sym, ◌∙◌, subst, arith, IsSome}
 use Rattle.std.proofs.lemmas.Option.{slice_get-get_or}
-use Rattle.raw_nodes.specs.Names.{records}
-use Rattle.raw_nodes.specs.Records.{Records}
-use Rattle.raw_nodes.specs.Rows.{kids}
-use Rattle.raw_nodes.specs.declared.names.NodePtr.{NodePtr}
+use Rattle.line_tree.proofs.Words.{IsTree, NodePtr, Records, kids, records}
 use Rattle.line_tree.specs.Finds.{lines_below}
-use Rattle.line_tree.specs.Shape.{IsTree}
 use Rattle.line_tree.proofs.LowestLaws.{lowest-before, lowest-below, lowest-child, one-line}
 use Rattle.line_tree.proofs.RowLaws.{child_is}
 use Rattle.line_tree.proofs.TreeLaws.{child-tree, named-tree, row-tree}

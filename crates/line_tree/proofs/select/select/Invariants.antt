@@ -1,7 +1,5 @@
-use Rattle.std.proofs.Common.{◌≡◌, ◌+◌, ◌*◌, ◌≤◌, ◌<◌, length}
-use Rattle.std.specs.Prelude.{slice_get}
-use Rattle.raw_nodes.specs.Names.{records}
-use Rattle.line_tree.specs.Shape.{IsTree, lines_in}
+use Rattle.std.proofs.Common.{◌≡◌, ◌+◌, ◌*◌, ◌≤◌, ◌<◌, length, slice_get}
+use Rattle.line_tree.proofs.Words.{IsTree, lines_in, records}
 use Rattle.line_tree.proofs.select.select.Given as goal
 
 abbrev pub invariant-loop-level : goal.invariant-loop-level

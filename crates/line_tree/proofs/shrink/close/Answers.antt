@@ -1,5 +1,4 @@
-use Rattle.std.proofs.Common.{◌≡◌, ◌+◌, ◌∙◌, length, refl, sym, subst}
-use Rattle.std.specs.Prelude.{IfSome, IsSome}
+use Rattle.std.proofs.Common.{◌≡◌, ◌+◌, ◌∙◌, length, refl, sym, subst, arith, IfSome, IsSome}
 use Rattle.raw_nodes.specs.Names.{records}
 use Rattle.line_tree.proofs.ClosingLaws.{Closing, close-first, close-last, close-next, close-read}
 use Rattle.line_tree.proofs.RowLaws.{none_of}
@@ -16,21 +15,17 @@ loop-next-init g c = let m = records c.args.store.now in let p = c.args.node in 
       rooms = refl;
     }
 
-pub kid_behind-next-requires-in-Some-clause-name : goal.kid_behind-next-requires-in-Some-clause-name
-kid_behind-next-requires-in-Some-clause-name g c = let m = records c.args.store.now in let p = c.args.node in
-    let r = c.requires in let n = records c.loop-next.store in let s = c.loop-next.invariant.closing in
+pub kid_behind-next-requires-in-Some : goal.kid_behind-next-requires-in-Some
+kid_behind-next-requires-in-Some g c = let m = records c.args.store.now in let p = c.args.node in let r = c.requires in
+    let n = records c.loop-next.store in let s = c.loop-next.invariant.closing in
     let hand = sym c.in-Some.is ∙ c.loop-next.invariant.hand in
     let next = subst (λ z. Closing m z p c.args.slot (c.loop-next.at + 1)) (sym c.link.ensures.records)
     (close-next m p c.args.slot r.row r.links r.slot r.fill n c.loop-next.at s c.in-Some.child hand) in
-    subst (λ o. IsSome o) (sym next.is) refl
-
-pub kid_behind-next-requires-in-Some-clause-long : goal.kid_behind-next-requires-in-Some-clause-long
-kid_behind-next-requires-in-Some-clause-long g c = let m = records c.args.store.now in let p = c.args.node in
-    let r = c.requires in let n = records c.loop-next.store in let s = c.loop-next.invariant.closing in
-    let hand = sym c.in-Some.is ∙ c.loop-next.invariant.hand in
-    let next = subst (λ z. Closing m z p c.args.slot (c.loop-next.at + 1)) (sym c.link.ensures.records)
-    (close-next m p c.args.slot r.row r.links r.slot r.fill n c.loop-next.at s c.in-Some.child hand) in
-    subst (λ o. IfSome o (λ x. length x.children ≡ 12)) (sym next.is) next.long
+    record {
+      name = subst (λ o. IsSome o) (sym next.is) refl;
+      long = subst (λ o. IfSome o (λ x. length x.children ≡ 12)) (sym next.is) next.long;
+      slot = omega arith;
+    }
 
 pub loop-next-preserved : goal.loop-next-preserved
 loop-next-preserved g c = let m = records c.args.store.now in let p = c.args.node in let r = c.requires in

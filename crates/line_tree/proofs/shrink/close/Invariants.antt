@@ -1,7 +1,5 @@
-use Rattle.std.proofs.Common.{◌≡◌, ◌-◌, suc}
-use Rattle.std.specs.Prelude.{slice_get}
-use Rattle.raw_nodes.specs.Names.{records, rooms, spares}
-use Rattle.raw_nodes.specs.Rows.{kids}
+use Rattle.std.proofs.Common.{◌≡◌, ◌-◌, suc, slice_get}
+use Rattle.line_tree.proofs.Words.{kids, records, rooms, spares}
 use Rattle.line_tree.proofs.ClosingLaws.{Closing}
 use Rattle.line_tree.proofs.shrink.close.Given as goal
 

@@ -1,15 +1,9 @@
-use Rattle.std.proofs.Common.{◌≡◌, List, refl, sym, ap, subst, ◌∙◌}
-use Rattle.std.specs.Prelude.{IsSome}
+use Rattle.std.proofs.Common.{◌≡◌, List, refl, sym, ap, subst, ◌∙◌, IsSome}
 use Rattle.std.specs.List.{remove}
 use Rattle.std.proofs.lemmas.Option.{slice_get-get_or}
-use Rattle.raw_nodes.specs.Names.{records}
-use Rattle.raw_nodes.specs.Records.{Records}
-use Rattle.raw_nodes.specs.Rows.{kids, row}
-use Rattle.raw_nodes.specs.declared.names.NodePtr.{NodePtr}
-use Rattle.toggle_sums.specs.Counts.{plus}
-use Rattle.line_tree.specs.Changes.{CanFill, FitsSum, relinked, resummed, sum_all, sums}
+use Rattle.line_tree.proofs.Words.{CanFill, FitsSum, NodePtr, Records, kids, plus, records, relinked, resummed, row}
+use Rattle.line_tree.proofs.Words.{sum_all, sum_at, sums}
 use Rattle.line_tree.specs.Finds.{HasRow}
-use Rattle.line_tree.specs.Shape.{sum_at}
 use Rattle.line_tree.proofs.FillLaws.{relinked-has_row, relinked-sums, sum-relinked}
 use Rattle.line_tree.proofs.shrink.drop_child.Goals as goal
 
@@ -20,29 +14,21 @@ unwrap-gone-requires g c = let cs = kids (records c.args.store.now) c.args.node 
 pub returns-clause-child : goal.returns-clause-child
 returns-clause-child g c = sym c.kid.ensures ∙ c.unwrap-gone.ensures
 
-pub lessen-requires-clause-row : goal.lessen-requires-clause-row
-lessen-requires-clause-row g c = let m = records c.args.store.now in let p = c.args.node in let r = c.requires in
-    let now = c.close.ensures.records in
-    subst (λ n. HasRow n p) (sym now) (relinked-has_row m p (remove (kids m p) c.args.slot) r.fill).0
-
 -- the sum of the children that are left
 left : (m n : Records) (p : NodePtr) (cs : List NodePtr) → CanFill m p cs → n ≡ relinked m p 0 (row cs) →
     sums n (row (kids n p)) ≡ sum_all m cs
 left m n p cs fill now = ap (λ z. sums z (row (kids z p))) now
     ∙ ap (λ ds. sums (relinked m p 0 (row cs)) (row ds)) (relinked-has_row m p cs fill).1 ∙ relinked-sums m p cs
 
-pub lessen-requires-clause-sum : goal.lessen-requires-clause-sum
-lessen-requires-clause-sum g c = let m = records c.args.store.now in let p = c.args.node in let r = c.requires in
-    let cs = remove (kids m p) c.args.slot in
-    let now = c.close.ensures.records in
-    ap (λ s. plus s c.args.less.now) (left m (records c.close.new.store) p cs r.fill now) ∙ r.sum
-    ∙ sym (ap (λ n. sum_at n p) now ∙ sum-relinked m p 0 (row cs) p)
-
-pub lessen-requires-clause-fits : goal.lessen-requires-clause-fits
-lessen-requires-clause-fits g c = let m = records c.args.store.now in let p = c.args.node in let r = c.requires in
-    let cs = remove (kids m p) c.args.slot in
-    let now = c.close.ensures.records in
-    subst FitsSum (sym (left m (records c.close.new.store) p cs r.fill now)) r.fill.fits
+pub lessen-requires : goal.lessen-requires
+lessen-requires g c = let m = records c.args.store.now in let p = c.args.node in let r = c.requires in
+    let now = c.close.ensures.records in let cs = remove (kids m p) c.args.slot in
+    record {
+      row = subst (λ n. HasRow n p) (sym now) (relinked-has_row m p (remove (kids m p) c.args.slot) r.fill).0;
+      sum = ap (λ s. plus s c.args.less.now) (left m (records c.close.new.store) p cs r.fill now) ∙ r.sum
+          ∙ sym (ap (λ n. sum_at n p) now ∙ sum-relinked m p 0 (row cs) p);
+      fits = subst FitsSum (sym (left m (records c.close.new.store) p cs r.fill now)) r.fill.fits;
+    }
 
 pub returns-clause-records : goal.returns-clause-records
 returns-clause-records g c = let m = records c.args.store.now in let p = c.args.node in let r = c.requires in

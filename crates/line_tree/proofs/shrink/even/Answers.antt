@@ -1,15 +1,9 @@
 use Rattle.std.proofs.Common.{◌≡◌, ◌+◌, ◌/◌, ◌≤◌, ◌++◌, ℕ, List, length, take, drop, sym, ap, subst, ◌∙◌, arith}
-use Rattle.std.proofs.Common.{length-append}
-use Rattle.std.specs.Prelude.{IfSome}
+use Rattle.std.proofs.Common.{length-append, IfSome}
 use Rattle.std.specs.FinMap as finite
 use Rattle.std.proofs.lemmas.List.{take-append-le, take_all}
-use Rattle.raw_nodes.specs.Names.{records}
-use Rattle.raw_nodes.specs.Records.{Records}
-use Rattle.raw_nodes.specs.Rows.{kids, row}
-use Rattle.raw_nodes.specs.declared.names.NodePtr.{NodePtr}
-use Rattle.toggle_sums.specs.Counts.{Count, CountsFit, plus}
-use Rattle.line_tree.specs.Changes.{CanEven, FitsSum, Halves, refilled, sum_all, sums}
-use Rattle.line_tree.specs.Shape.{sum_at}
+use Rattle.line_tree.proofs.Words.{CanEven, Count, CountsFit, FitsSum, Halves, NodePtr, Records, kids, plus, records}
+use Rattle.line_tree.proofs.Words.{refilled, row, sum_all, sum_at, sums}
 use Rattle.line_tree.proofs.EvenLaws.{fill-whole, kept-part, whole-sum}
 use Rattle.line_tree.proofs.FillLaws.{sums-row}
 use Rattle.line_tree.proofs.PutLaws.{count-row}

@@ -1,12 +1,7 @@
 use Rattle.std.proofs.Common.{◌≡◌, ◌<◌, ◌+◌, ◌-◌, length, refl, sym, ap, subst, ◌∙◌, arith, suc, inl, inr, ℕ, zero, ◌⊎◌}
-use Rattle.std.proofs.Common.{List}
-use Rattle.std.specs.Prelude.{IsSome, slice_get}
-use Rattle.std.specs.declared.option.Option.{Option}
+use Rattle.std.proofs.Common.{List, IsSome, slice_get, Option}
 use Rattle.std.proofs.lemmas.Option.{slice_get-get_or}
-use Rattle.raw_nodes.specs.Names.{records}
-use Rattle.raw_nodes.specs.Rows.{kids}
-use Rattle.raw_nodes.specs.declared.names.NodePtr.{NodePtr}
-use Rattle.line_tree.specs.Changes.{Evens}
+use Rattle.line_tree.proofs.Words.{Evens, NodePtr, kids, records}
 use Rattle.line_tree.proofs.shrink.mend.Goals as goal
 
 some-at : (cs : List NodePtr) (o : Option NodePtr) (i : ℕ) (d : NodePtr) → o ≡ slice_get cs i → i < length cs → IsSome o

@@ -1,15 +1,9 @@
-use Rattle.std.proofs.Common.{◌≡◌, ◌-◌, ◌<◌, ◌≤◌, ◌++◌, ℕ, List, length, take, drop, sym, ap, subst, ◌∙◌, arith}
-use Rattle.std.specs.Prelude.{IfSome}
-use Rattle.std.specs.declared.option.Option.{Option}
+use Rattle.std.proofs.Common.{◌≡◌, ◌-◌, ◌<◌, ◌≤◌, ◌++◌, ℕ, List, length, take, drop, sym, ap, subst, ◌∙◌, arith, IfSome}
+use Rattle.std.proofs.Common.{Option}
 use Rattle.std.specs.FinMap as finite
 use Rattle.std.proofs.lemmas.List.{take-append-drop}
 use Rattle.toggle_sums.specs.CountLaws.{plus-commutative}
-use Rattle.toggle_sums.specs.Counts.{Count, plus}
-use Rattle.raw_nodes.specs.Names.{records}
-use Rattle.raw_nodes.specs.Records.{Records}
-use Rattle.raw_nodes.specs.Rows.{kids, row}
-use Rattle.raw_nodes.specs.declared.names.NodePtr.{NodePtr}
-use Rattle.line_tree.specs.Changes.{CanEven, FitsSum, sum_all, sums}
+use Rattle.line_tree.proofs.Words.{CanEven, Count, FitsSum, NodePtr, Records, kids, plus, records, row, sum_all, sums}
 use Rattle.line_tree.proofs.AmongLaws.{among-drop, among-take}
 use Rattle.line_tree.proofs.EvenLaws.{halves, named-part}
 use Rattle.line_tree.proofs.FillLaws.{sum_all-append, sums-row}
@@ -77,39 +71,30 @@ sum_of-sum-requires-clause-fits g c = let m = records c.args.store.now in
     c.part_pair-moved.ensures (moved-fits m c.args.left c.args.right c.children-first.result (c.args.half - c.children-first.result)
     c.requires.even)
 
-pub lessen_sum-requires-clause-nodes : goal.lessen_sum-requires-clause-nodes
-lessen_sum-requires-clause-nodes g c = let m = records c.args.store.now in
+pub lessen_sum-requires : goal.lessen_sum-requires
+lessen_sum-requires g c = let m = records c.args.store.now in
     let na = count-row m c.args.left c.children-first.result c.requires.even.left c.children-first.ensures in
-    let back = c.requires.back (shorter (length (kids m c.args.left)) c.children-first.result c.args.half na
-    c.if-first-half.true) in
-    let all = kids m c.args.left ++ kids m c.args.right in
-    named-part m c.args.left c.args.right c.requires.even (drop c.args.half all) (λ d a. among-drop d c.args.half all a)
-    c.args.stay.now back
-
-pub lessen_sum-requires-clause-sum : goal.lessen_sum-requires-clause-sum
-lessen_sum-requires-clause-sum g c = let m = records c.args.store.now in
-    let na = count-row m c.args.left c.children-first.result c.requires.even.left c.children-first.ensures in
-    let back = c.requires.back (shorter (length (kids m c.args.left)) c.children-first.result c.args.half na
-    c.if-first-half.true) in
-    let a = c.args.left in
-    let b = c.args.right in let all = kids m a ++ kids m b in let first = c.children-first.result in let half = c.args.half in
-    let rest = ap (sums m) back
-    ∙ sums-row m (drop half all) in
-    let moved = moved_is m (take (half - first) (drop first all)) c.part_pair-moved.result c.sum_of-sum.result
-    c.part_pair-moved.ensures c.sum_of-sum.ensures in
-    (λ i. plus (rest i) (moved i)) ∙ right-rest m (kids m a) (kids m b) first half na
-    (omega (arith, c.if-first-half.true))
-    ∙ sym (right_is m a b c.sum-sum_right.result c.requires.even c.sum-sum_right.ensures.value)
-
-pub lessen_sum-requires-clause-fits : goal.lessen_sum-requires-clause-fits
-lessen_sum-requires-clause-fits g c = let m = records c.args.store.now in
-    let na = count-row m c.args.left c.children-first.result c.requires.even.left c.children-first.ensures in
-    let back = c.requires.back (shorter (length (kids m c.args.left)) c.children-first.result c.args.half na
-    c.if-first-half.true) in
-    let a = c.args.left in
-    let b = c.args.right in let all = kids m a ++ kids m b in let half = c.args.half in
-    row-fits m (drop half all) c.args.stay.now back
-    (fits-right (sum_all m (take half all)) (sum_all m (drop half all)) (halves m a b c.requires.even half))
+    let back = c.requires.back
+    (shorter (length (kids m c.args.left)) c.children-first.result c.args.half na c.if-first-half.true) in
+    let b = c.args.right in let half = c.args.half in
+    record {
+      nodes =
+          let all = kids m c.args.left ++ kids m c.args.right in
+          named-part m c.args.left c.args.right c.requires.even (drop c.args.half all)
+          (λ d a. among-drop d c.args.half all a) c.args.stay.now back;
+      sum =
+          let a = c.args.left in let all = kids m a ++ kids m b in let first = c.children-first.result in
+          let rest = ap (sums m) back ∙ sums-row m (drop half all) in
+          let moved = moved_is m (take (half - first) (drop first all)) c.part_pair-moved.result c.sum_of-sum.result
+          c.part_pair-moved.ensures c.sum_of-sum.ensures in
+          (λ i. plus (rest i) (moved i))
+          ∙ right-rest m (kids m a) (kids m b) first half na (omega (arith, c.if-first-half.true))
+          ∙ sym (right_is m a b c.sum-sum_right.result c.requires.even c.sum-sum_right.ensures.value);
+      fits =
+          let a = c.args.left in let all = kids m a ++ kids m b in
+          row-fits m (drop half all) c.args.stay.now back
+          (fits-right (sum_all m (take half all)) (sum_all m (drop half all)) (halves m a b c.requires.even half));
+    }
 
 -- the sum of the first
 grown : (m : Records) (a b : NodePtr) (first half : ℕ) (s moved : Count) → first ≡ length (kids m a) → first ≤ half →
@@ -169,39 +154,31 @@ sum_of-sum-requires-else-first-half-clause-fits g c = let m = records c.args.sto
     c.part_pair-moved-else-first-half.ensures
     (moved-fits m c.args.left c.args.right c.args.half (c.children-first.result - c.args.half) c.requires.even)
 
-pub lessen_sum-requires-else-first-half-clause-nodes : goal.lessen_sum-requires-else-first-half-clause-nodes
-lessen_sum-requires-else-first-half-clause-nodes g c = let m = records c.args.store.now in
+pub lessen_sum-requires-else-first-half : goal.lessen_sum-requires-else-first-half
+lessen_sum-requires-else-first-half g c = let m = records c.args.store.now in
     let na = count-row m c.args.left c.children-first.result c.requires.even.left c.children-first.ensures in
-    let front = c.requires.front (longer (length (kids m c.args.left)) c.children-first.result c.args.half na
-    c.if-first-half.false) in
-    let all = kids m c.args.left ++ kids m c.args.right in
-    named-part m c.args.left c.args.right c.requires.even (take c.args.half all) (λ d a. among-take d c.args.half all a)
-    c.args.stay.now front
-
-pub lessen_sum-requires-else-first-half-clause-sum : goal.lessen_sum-requires-else-first-half-clause-sum
-lessen_sum-requires-else-first-half-clause-sum g c = let m = records c.args.store.now in
-    let na = count-row m c.args.left c.children-first.result c.requires.even.left c.children-first.ensures in
-    let front = c.requires.front (longer (length (kids m c.args.left)) c.children-first.result c.args.half na
-    c.if-first-half.false) in
-    let a = c.args.left in
-    let b = c.args.right in let all = kids m a ++ kids m b in let first = c.children-first.result in let half = c.args.half in
-    let rest = ap (sums m) front ∙ sums-row m (take half all) in
-    let moved = moved_is m (take (first - half) (drop half all)) c.part_pair-moved-else-first-half.result
-    c.sum_of-sum-else-first-half.result c.part_pair-moved-else-first-half.ensures
-    c.sum_of-sum-else-first-half.ensures in
-    (λ i. plus (rest i) (moved i)) ∙ left-rest m (kids m a) (kids m b) first half na
-    (omega (arith, c.if-first-half.false))
-    ∙ sym (left_is m a b c.sum-sum_left.result c.requires.even c.sum-sum_left.ensures.value)
-
-pub lessen_sum-requires-else-first-half-clause-fits : goal.lessen_sum-requires-else-first-half-clause-fits
-lessen_sum-requires-else-first-half-clause-fits g c = let m = records c.args.store.now in
-    let na = count-row m c.args.left c.children-first.result c.requires.even.left c.children-first.ensures in
-    let front = c.requires.front (longer (length (kids m c.args.left)) c.children-first.result c.args.half na
-    c.if-first-half.false) in
-    let a = c.args.left in
-    let b = c.args.right in let all = kids m a ++ kids m b in let half = c.args.half in
-    row-fits m (take half all) c.args.stay.now front
-    (fits-left (sum_all m (take half all)) (sum_all m (drop half all)) (halves m a b c.requires.even half))
+    let front = c.requires.front
+    (longer (length (kids m c.args.left)) c.children-first.result c.args.half na c.if-first-half.false) in
+    let b = c.args.right in let half = c.args.half in
+    record {
+      nodes =
+          let all = kids m c.args.left ++ kids m c.args.right in
+          named-part m c.args.left c.args.right c.requires.even (take c.args.half all)
+          (λ d a. among-take d c.args.half all a) c.args.stay.now front;
+      sum =
+          let a = c.args.left in let all = kids m a ++ kids m b in let first = c.children-first.result in
+          let rest = ap (sums m) front ∙ sums-row m (take half all) in
+          let moved = moved_is m (take (first - half) (drop half all)) c.part_pair-moved-else-first-half.result
+          c.sum_of-sum-else-first-half.result c.part_pair-moved-else-first-half.ensures
+          c.sum_of-sum-else-first-half.ensures in
+          (λ i. plus (rest i) (moved i))
+          ∙ left-rest m (kids m a) (kids m b) first half na (omega (arith, c.if-first-half.false))
+          ∙ sym (left_is m a b c.sum-sum_left.result c.requires.even c.sum-sum_left.ensures.value);
+      fits =
+          let a = c.args.left in let all = kids m a ++ kids m b in
+          row-fits m (take half all) c.args.stay.now front
+          (fits-left (sum_all m (take half all)) (sum_all m (drop half all)) (halves m a b c.requires.even half));
+    }
 
 -- the sum of the last
 lengthened : (m : Records) (a b : NodePtr) (first half : ℕ) (s moved : Count) → first ≡ length (kids m a) →

@@ -1,7 +1,6 @@
 use Rattle.std.proofs.Common.{◌∙◌, ap}
 use mathlib.Core.Bool.{not}
-use Rattle.raw_nodes.specs.Names.{records}
-use Rattle.raw_nodes.specs.Rows.{kids}
+use Rattle.line_tree.proofs.Words.{kids, records}
 use Rattle.line_tree.proofs.SpreadLaws.{room-none, room-some}
 use Rattle.line_tree.proofs.spread.has_room.Goals as goal
 

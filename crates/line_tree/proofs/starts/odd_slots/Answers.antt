@@ -1,10 +1,7 @@
 use Rattle.std.proofs.Common.{true, ◌≡◌, take, refl, sym, ap, ◌∙◌, arith}
 use Rattle.text_model.specs.SlotSets.{differing}
 use Rattle.toggle_sums.specs.CountLaws.{empty-differing}
-use Rattle.toggle_sums.specs.Counts.{Count, IsBare}
-use Rattle.raw_nodes.specs.Names.{records}
-use Rattle.line_tree.specs.Shape.{lines_in, sum_at}
-use Rattle.line_tree.specs.Trees.{total}
+use Rattle.line_tree.proofs.Words.{Count, IsBare, lines_in, records, sum_at, total}
 use Rattle.line_tree.specs.declared.aims.SlotsBefore.{SlotsBefore}
 use Rattle.line_tree.proofs.BareLaws.{bare-front}
 use Rattle.line_tree.proofs.PrefixLaws.{all-lines, some-left}

@@ -1,7 +1,6 @@
 use Rattle.std.proofs.Common.{ap, subst, arith}
-use Rattle.raw_nodes.specs.Names.{records}
+use Rattle.line_tree.proofs.Words.{lines_in, records}
 use Rattle.line_tree.specs.Places.{IsLineAt}
-use Rattle.line_tree.specs.Shape.{lines_in}
 use Rattle.line_tree.specs.declared.aims.CharactersBefore.{CharactersBefore}
 use Rattle.line_tree.proofs.SearchLaws.{arrives-at, arrives-before, arrives-named}
 use Rattle.line_tree.proofs.TreeLaws.{total-lines}

@@ -1,7 +1,6 @@
 use Rattle.std.proofs.Common.{◌∙◌, arith}
-use Rattle.toggle_sums.specs.Counts.{counting, no_text}
+use Rattle.line_tree.proofs.Words.{counting, no_text, records}
 use Rattle.line_lists.specs.Edits.{without_mark}
-use Rattle.raw_nodes.specs.Names.{records}
 use Rattle.line_tree.proofs.ClimbingLaws.{above-of, climbed, has-parent, line-can, line-tree, root-can, starts, still-named}
 use Rattle.line_tree.proofs.TakingLaws.{inner-here, marks-here, takes-here, takes-line}
 use Rattle.line_tree.proofs.taking.take_up.Goals as goal
@@ -39,25 +38,20 @@ unwrap-at-requires g c = let m = records c.args.store.now in let l = records c.l
     no_text c.loop-level.level c.loop-level.at (c.loop-level.invariant.climbs k c.requires.named.1)
     c.loop-level-test.true c.parent.result c.parent.ensures.value
 
-pub lose_counts-requires-clause-name : goal.lose_counts-requires-clause-name
-lose_counts-requires-clause-name g c = let m = records c.args.store.now in let l = records c.loop-level.store in
-    let k = c.requires.named.0 in let at = c.requires.named.1 in let gone = c.take_off-gone.result in
-    let h = c.args.height in let r = c.args.root in let number = c.args.number.0 in
+pub lose_counts-requires : goal.lose_counts-requires
+lose_counts-requires g c =
+    let m = records c.args.store.now in let l = records c.loop-level.store in let k = c.requires.named.0 in
+    let at = c.requires.named.1 in let gone = c.take_off-gone.result in let h = c.args.height in let r = c.args.root in
+    let number = c.args.number.0 in
     let above = above-of m l h r k (without_mark number) (counting 0 0 gone) no_text c.loop-level.level c.loop-level.at
     (c.loop-level.invariant.climbs k at) c.loop-level-test.true c.parent.result c.parent.ensures.value
     c.unwrap-at.result c.unwrap-at.ensures in
-    inner-here m l h r k number gone c.loop-level.level c.loop-level.at c.unwrap-at.result c.loop-level-test.true above
-    (root-can m h r k c.args.name c.requires.tree at c.requires.distinct)
-
-pub lose_counts-requires-clause-counts : goal.lose_counts-requires-clause-counts
-lose_counts-requires-clause-counts g c = let m = records c.args.store.now in let l = records c.loop-level.store in
-    let k = c.requires.named.0 in let at = c.requires.named.1 in let gone = c.take_off-gone.result in
-    let h = c.args.height in let r = c.args.root in let number = c.args.number.0 in
-    let above = above-of m l h r k (without_mark number) (counting 0 0 gone) no_text c.loop-level.level c.loop-level.at
-    (c.loop-level.invariant.climbs k at) c.loop-level-test.true c.parent.result c.parent.ensures.value
-    c.unwrap-at.result c.unwrap-at.ensures in
-    marks-here m l h r k number gone c.loop-level.level c.loop-level.at c.unwrap-at.result c.loop-level-test.true above
-    (root-can m h r k c.args.name c.requires.tree at c.requires.distinct)
+    record {
+      name = inner-here m l h r k number gone c.loop-level.level c.loop-level.at c.unwrap-at.result
+          c.loop-level-test.true above (root-can m h r k c.args.name c.requires.tree at c.requires.distinct);
+      counts = marks-here m l h r k number gone c.loop-level.level c.loop-level.at c.unwrap-at.result
+          c.loop-level-test.true above (root-can m h r k c.args.name c.requires.tree at c.requires.distinct);
+    }
 
 pub loop-level-preserved : goal.loop-level-preserved
 loop-level-preserved g c = let m = records c.args.store.now in let l = records c.loop-level.store in

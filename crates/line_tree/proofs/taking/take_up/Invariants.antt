@@ -1,9 +1,7 @@
 use Rattle.std.proofs.Common.{◌≡◌, ℕ, ◌≤◌}
-use Rattle.toggle_sums.specs.Counts.{counting, no_text}
+use Rattle.line_tree.proofs.Words.{counting, lines_in, no_text, records, rooms, spares}
 use Rattle.line_lists.specs.Edits.{without_mark}
-use Rattle.raw_nodes.specs.Names.{records, rooms, spares}
 use Rattle.line_tree.specs.Places.{IsLineAt}
-use Rattle.line_tree.specs.Shape.{lines_in}
 use Rattle.line_tree.proofs.ClimbingLaws.{Climbs}
 use Rattle.line_tree.proofs.taking.take_up.Given as goal
 

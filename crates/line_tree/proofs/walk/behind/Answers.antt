@@ -1,9 +1,7 @@
 use Rattle.std.proofs.Common.{◌+◌, sym, ap, ◌∙◌, arith}
 use Rattle.std.specs.Option.{option_map}
 use Rattle.std.proofs.lemmas.Option.{slice_get_past}
-use Rattle.raw_nodes.specs.Names.{records}
-use Rattle.line_tree.specs.Shape.{lines_in, tree_at}
-use Rattle.line_tree.specs.Trees.{Named}
+use Rattle.line_tree.proofs.Words.{Named, lines_in, records, tree_at}
 use Rattle.line_tree.proofs.NextLaws.{balanced-high}
 use Rattle.line_tree.proofs.walk.behind.Goals as goal
 

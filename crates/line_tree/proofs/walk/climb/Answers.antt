@@ -1,11 +1,9 @@
 use Rattle.std.proofs.Common.{ℕ, ◌+◌, ◌-◌, suc, refl, sym, ◌∙◌, arith}
 use Rattle.std.proofs.lemmas.Option.{none-some, slice_get_within}
-use Rattle.raw_nodes.specs.Names.{records}
-use Rattle.raw_nodes.specs.Rows.{kids}
+use Rattle.line_tree.proofs.Words.{kids, lines_in, records}
 use Rattle.line_tree.specs.Finds.{HasRow}
 use Rattle.line_tree.specs.Places.{IsLineAt}
-use Rattle.line_tree.specs.Shape.{lines_in}
-use Rattle.line_tree.proofs.PlaceLaws.{named-below, parent-below}
+use Rattle.line_tree.proofs.PlaceLaws.{child-named, child-parent}
 use Rattle.line_tree.proofs.PutLaws.{count-row}
 use Rattle.line_tree.proofs.RowLaws.{child_is, past}
 use Rattle.line_tree.proofs.TreeLaws.{named-row, row-tree}
@@ -25,20 +23,19 @@ pub parent-requires : goal.parent-requires
 parent-requires g c = let m = records c.args.store.now in let j = c.loop-level.level in
     let e = ends-level m c.args.height j c.args.root c.loop-level.at c.requires.named.0 c.loop-level-test.true
     (c.loop-level.invariant.ends c.requires.named.0 c.requires.named.1) in
-    named-below m (c.args.height - suc j) j c.args.root c.loop-level.at e.before e.sits
+    child-named m j e.sits.0 e.sits.1 c.loop-level.at e.sits.4
 
 pub slot-slot-requires : goal.slot-slot-requires
 slot-slot-requires g c = let m = records c.args.store.now in let j = c.loop-level.level in
     let e = ends-level m c.args.height j c.args.root c.loop-level.at c.requires.named.0 c.loop-level-test.true
     (c.loop-level.invariant.ends c.requires.named.0 c.requires.named.1) in
-    named-below m (c.args.height - suc j) j c.args.root c.loop-level.at e.before e.sits
+    child-named m j e.sits.0 e.sits.1 c.loop-level.at e.sits.4
 
 pub returns-in_err-up-clause-branch : goal.returns-in_err-up-clause-branch
 returns-in_err-up-clause-branch g c k at = let m = records c.args.store.now in let j = c.loop-level.level in
     let e = ends-level m c.args.height j c.args.root c.loop-level.at k c.loop-level-test.true
     (c.loop-level.invariant.ends k at) in
-    let up = parent-below m (c.args.height - suc j) j c.args.root c.loop-level.at e.before e.sits c.parent.result
-    c.parent.ensures.value in
+    let up = child-parent m j e.sits.0 e.sits.1 c.loop-level.at e.sits.4 c.parent.result c.parent.ensures.value in
     absurd (none-some e.sits.0 (sym c.in_err-up.was ∙ up))
 
 here : (g : Over) (c : After-slot-slot g) (k : ℕ)

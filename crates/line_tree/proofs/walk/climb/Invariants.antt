@@ -1,7 +1,6 @@
 use Rattle.std.proofs.Common.{ℕ, ◌+◌, ◌-◌, ◌≤◌}
-use Rattle.raw_nodes.specs.Names.{records}
+use Rattle.line_tree.proofs.Words.{lines_in, records}
 use Rattle.line_tree.specs.Places.{IsLineAt}
-use Rattle.line_tree.specs.Shape.{lines_in}
 use Rattle.line_tree.proofs.NextLaws.{Ends}
 use Rattle.line_tree.proofs.walk.climb.Given as goal
 

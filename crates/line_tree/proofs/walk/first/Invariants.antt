@@ -1,8 +1,5 @@
-use Rattle.std.proofs.Common.{◌≡◌, ◌+◌, ◌≤◌}
-use Rattle.std.specs.Prelude.{slice_get}
-use Rattle.raw_nodes.specs.Names.{records}
-use Rattle.line_tree.specs.Shape.{IsTree, lines_in, tree_at}
-use Rattle.line_tree.specs.Trees.{IsBalanced}
+use Rattle.std.proofs.Common.{◌≡◌, ◌+◌, ◌≤◌, slice_get}
+use Rattle.line_tree.proofs.Words.{IsBalanced, IsTree, lines_in, records, tree_at}
 use Rattle.line_tree.proofs.walk.first.Given as goal
 
 abbrev pub invariant-loop-level : goal.invariant-loop-level

@@ -2,10 +2,8 @@ use Rattle.std.proofs.Common.{◌≡◌, ap, ◌∙◌}
 use Rattle.text_model.specs.Content.{Slots}
 use Rattle.text_model.specs.SlotSets.{differing}
 use Rattle.toggle_sums.specs.CountLaws.{differing-associative, differing-empty, differing-self}
-use Rattle.toggle_sums.specs.Counts.{Count}
-use Rattle.raw_nodes.specs.Names.{records}
+use Rattle.line_tree.proofs.Words.{Count, records, sum_at}
 use Rattle.line_tree.specs.Aims.{slots_behind}
-use Rattle.line_tree.specs.Shape.{sum_at}
 use Rattle.line_tree.specs.declared.aims.SlotsBefore.{SlotsBefore}
 use Rattle.line_tree.proofs.RowLaws.{said}
 use Rattle.line_tree.proofs.aims.SlotsBeforeAimBack.go_back.Goals as goal

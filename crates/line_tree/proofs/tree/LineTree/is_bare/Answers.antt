@@ -1,9 +1,6 @@
 use Rattle.std.proofs.Common.{◌≡◌, true, sym, ap, subst, ◌∙◌}
-use Rattle.toggle_sums.specs.Counts.{Count, IsBare}
-use Rattle.raw_nodes.specs.Names.{records}
+use Rattle.line_tree.proofs.Words.{Count, IsBare, contents, lines_in, records}
 use Rattle.line_lists.specs.Lists.{count_of}
-use Rattle.line_tree.specs.Shape.{lines_in}
-use Rattle.line_tree.specs.Trees.{contents}
 use Rattle.line_tree.proofs.PrefixLaws.{count-contents}
 use Rattle.line_tree.proofs.RowLaws.{tells}
 use Rattle.line_tree.proofs.TreeLaws.{named-tree, sum-tree}

@@ -1,9 +1,7 @@
-use Rattle.std.proofs.Common.{sym, ap, ◌∙◌, subst, Some}
-use Rattle.std.specs.Prelude.{slice_get}
-use Rattle.raw_nodes.specs.Names.{entry, records}
+use Rattle.std.proofs.Common.{sym, ap, ◌∙◌, subst, Some, slice_get}
+use Rattle.line_tree.proofs.Words.{entry, lines_in, records}
 use Rattle.raw_nodes.proofs.MapLaws.{at_some}
 use Rattle.line_tree.specs.Places.{IsLineAt}
-use Rattle.line_tree.specs.Shape.{lines_in}
 use Rattle.line_tree.proofs.LineNodes.{lent-same, lent-some, named-line, stands-at}
 use Rattle.line_tree.proofs.tree.LineTree.line.Goals as goal
 

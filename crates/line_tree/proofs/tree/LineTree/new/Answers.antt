@@ -1,10 +1,8 @@
 use Rattle.std.proofs.Common.{◌≡◌, ap, sym, ◌∙◌, [], ◌∷◌, length, subst}
 use Rattle.std.specs.FinMap as finite
 use Rattle.std.specs.FinMap.{get-empty}
-use Rattle.segments.specs.Columns.{line_count, plain_line}
+use Rattle.line_tree.proofs.Words.{FitsSum, line_count, plain_line, records}
 use Rattle.raw_nodes.specs.Cells.{name_cmp}
-use Rattle.raw_nodes.specs.Names.{records}
-use Rattle.line_tree.specs.Changes.{FitsSum}
 use Rattle.line_tree.proofs.GrowLaws.{unnamed}
 use Rattle.line_tree.proofs.RootLaws.{first-root, first-root-alone, lone-fits, lone-line, new-line, new-sum}
 use Rattle.line_tree.proofs.TreeLaws.{named-tree}

@@ -1,7 +1,5 @@
 use Rattle.std.proofs.Common.{◌≡◌, ◌≤◌, ◌+◌, ◌/◌, subst, arith, rules}
-use Rattle.raw_nodes.specs.Names.{records}
-use Rattle.line_tree.specs.Shape.{tree_at}
-use Rattle.line_tree.specs.Trees.{names}
+use Rattle.line_tree.proofs.Words.{names, records, tree_at}
 use Rattle.line_tree.proofs.CountLaws.{names-few-root}
 use Rattle.line_tree.proofs.RoomLaws.{len-within}
 use Rattle.line_tree.proofs.tree.LineTree.nodes_with.Goals as goal

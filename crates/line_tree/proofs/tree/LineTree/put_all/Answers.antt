@@ -1,12 +1,10 @@
 use Rattle.std.proofs.Common.{◌≡◌, ◌+◌, ◌-◌, ◌++◌, length, take, drop, min, ap, sym, ◌∙◌, subst, arith}
-use Rattle.toggle_sums.specs.Counts.{plus}
+use Rattle.line_tree.proofs.Words.{FitsSum, plus, total}
 use Rattle.line_lists.specs.Lists.{count_of, more_lines}
-use Rattle.line_tree.specs.Changes.{FitsSum}
 use Rattle.line_tree.specs.Room.{PutsRoom}
 use Rattle.line_tree.proofs.SpendingLaws.{puts-none, room-alone, room-row, spends-alone, spends-keeps, spends-row}
 use Rattle.std.proofs.lemmas.List.{length-take}
 use Rattle.line_tree.proofs.SpliceLaws.{all-in, few-lines, no-fewer, rest-fits, then-fits}
-use Rattle.line_tree.specs.Trees.{total}
 use Rattle.line_tree.proofs.tree.LineTree.put_all.Goals as goal
 
 pub overflow_add-k : goal.overflow_add-k

@@ -3,11 +3,9 @@ use Rattle.std.proofs.Common.{length-append, drop, min, take}
 use Rattle.std.proofs.lemmas.List.{append-nil, nil_from_length}
 use Rattle.std.proofs.lemmas.Option.{none-some}
 use Rattle.line_tree.specs.Places.{IsLineAt}
-use Rattle.toggle_sums.specs.Counts.{plus}
+use Rattle.line_tree.proofs.Words.{FitsSum, plus, total}
 use Rattle.line_lists.specs.Lists.{count_of}
-use Rattle.line_tree.specs.Changes.{FitsSum}
 use Rattle.line_tree.specs.Room.{PutsRoom}
-use Rattle.line_tree.specs.Trees.{total}
 use Rattle.line_tree.proofs.SpendingLaws.{keeps-self, puts-kept, puts-on}
 use Rattle.line_tree.proofs.SpliceLaws.{few-lines, in-length, next-fits, next-in, none-in, went-within}
 use Rattle.line_tree.proofs.tree.LineTree.put_in.Goals as goal
@@ -26,34 +24,27 @@ loop-line-init g c = record {
   named = λ p is. absurd (none-some p is);
 }
 
-pub put_line-behind-requires-clause-within : goal.put_line-behind-requires-clause-within
-put_line-behind-requires-clause-within g c = let l = c.loop-line in let s = l.invariant.lines in
+pub put_line-behind-requires : goal.put_line-behind-requires
+put_line-behind-requires g c = let l = c.loop-line in let s = l.invariant.lines in
     let now = in-length c.args.self.now.lines l.self.lines c.args.k (min c.args.gone (length l.yielded)) l.yielded
     (went-within (length c.args.self.now.lines) c.args.k c.args.gone l.yielded c.requires.within) s in
-    let at = l.invariant.place in let within = c.requires.within in omega (arith, now, at, within)
-
-pub put_line-behind-requires-clause-behind : goal.put_line-behind-requires-clause-behind
-put_line-behind-requires-clause-behind g c = c.loop-line.invariant.named
-
-pub put_line-behind-requires-clause-end : goal.put_line-behind-requires-clause-end
-put_line-behind-requires-clause-end g c = let l = c.loop-line in let s = l.invariant.lines in
-    let now = in-length c.args.self.now.lines l.self.lines c.args.k (min c.args.gone (length l.yielded)) l.yielded
-    (went-within (length c.args.self.now.lines) c.args.k c.args.gone l.yielded c.requires.within) s in
-    let within = c.requires.within in omega (arith, now, within)
-
-pub put_line-behind-requires-clause-fits : goal.put_line-behind-requires-clause-fits
-put_line-behind-requires-clause-fits g c = let l = c.loop-line in let old = c.args.self.now.lines in
-    let whole = l.invariant.whole ∙ ap (λ ls. l.yielded ++ ls) c.in-Some.ensures.steps.0 in
-    next-fits old l.self.lines c.args.k (min c.args.gone (length l.yielded)) l.yielded c.next.new.self.rest.items
-    c.in-Some.line l.invariant.lines
-    (subst (λ ls. FitsSum (plus (total old) (count_of ls))) whole c.requires.fits)
-
-pub put_line-behind-requires-clause-room : goal.put_line-behind-requires-clause-room
-put_line-behind-requires-clause-room g c past = let l = c.loop-line in
-    let whole = ap length (l.invariant.whole ∙ ap (λ ls. l.yielded ++ ls) c.in-Some.ensures.steps.0) in
-    let long = length-append l.yielded (c.in-Some.line ∷ c.next.new.self.rest.items) in
-    let old = c.requires.room in let room = l.invariant.room.lines in let at = l.invariant.place in
-    omega (arith, whole, long, old, room, at, past)
+    let at = l.invariant.place in let within = c.requires.within in
+    record {
+      within = omega (arith, now, at, within);
+      behind = c.loop-line.invariant.named;
+      end = omega (arith, now, within);
+      fits =
+          let old = c.args.self.now.lines in
+          let whole = l.invariant.whole ∙ ap (λ ls. l.yielded ++ ls) c.in-Some.ensures.steps.0 in
+          next-fits old l.self.lines c.args.k (min c.args.gone (length l.yielded)) l.yielded c.next.new.self.rest.items
+          c.in-Some.line l.invariant.lines
+          (subst (λ ls. FitsSum (plus (total old) (count_of ls))) whole c.requires.fits);
+      room = λ past.
+          let whole = ap length (l.invariant.whole ∙ ap (λ ls. l.yielded ++ ls) c.in-Some.ensures.steps.0) in
+          let long = length-append l.yielded (c.in-Some.line ∷ c.next.new.self.rest.items) in
+          let old = c.requires.room in let room = l.invariant.room.lines in
+          omega (arith, whole, long, old, room, at, past);
+    }
 
 pub overflow_add-at : goal.overflow_add-at
 overflow_add-at g c = let l = c.loop-line in
@@ -85,20 +76,19 @@ loop-line-preserved g c = let l = c.loop-line in
       );
     }
 
-pub returns-clause-lines : goal.returns-clause-lines
-returns-clause-lines g c = let l = c.loop-line in let s = l.invariant.lines in
-    let none = nil_from_length l.line-iterator.rest.items
-    (omega (arith, c.in-None.ensures.steps.0, l.line-iterator.rest.ok.0)) in
-    let whole = l.invariant.whole ∙ ap (λ ls. l.yielded ++ ls) none ∙ append-nil l.yielded in (
-      s.added,
-      s.contents_of ∙ sym whole,
-      s.is ∙ ap (λ ls. take c.args.k c.args.self.now.lines ++ s.added
-          ++ drop (c.args.k + min c.args.gone (length ls)) c.args.self.now.lines) (sym whole),
-    )
-
-pub returns-clause-room : goal.returns-clause-room
-returns-clause-room g c = let l = c.loop-line in
+pub returns : goal.returns
+returns g c = let l = c.loop-line in
     let none = nil_from_length l.line-iterator.rest.items
     (omega (arith, c.in-None.ensures.steps.0, l.line-iterator.rest.ok.0)) in
     let whole = l.invariant.whole ∙ ap (λ ls. l.yielded ++ ls) none ∙ append-nil l.yielded in
-    subst (λ ls. PutsRoom c.args.self.now l.self (length ls - c.args.gone)) (sym whole) l.invariant.room
+    record {
+      lines =
+          let s = l.invariant.lines in (
+            s.added,
+            s.contents_of ∙ sym whole,
+            s.is
+                ∙ ap (λ ls. take c.args.k c.args.self.now.lines
+                ++ s.added ++ drop (c.args.k + min c.args.gone (length ls)) c.args.self.now.lines) (sym whole),
+          );
+      room = subst (λ ls. PutsRoom c.args.self.now l.self (length ls - c.args.gone)) (sym whole) l.invariant.room;
+    }

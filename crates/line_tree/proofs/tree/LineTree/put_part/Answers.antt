@@ -1,17 +1,12 @@
 use Rattle.std.proofs.Common.{◌≡◌, ◌≤◌, List, [], ◌∷◌, length, get_or, take, drop, refl, sym, ap, ◌∙◌, subst}
 use Rattle.std.proofs.Common.{append_assoc, arith, length-drop}
 use Rattle.std.proofs.lemmas.List.{length-map, length_push}
-use Rattle.toggle_sums.specs.Counts.{plus}
+use Rattle.line_tree.proofs.Words.{FitsSum, LineContent, Named, NodePtr, contents, lines_in, plus, records, spares}
+use Rattle.line_tree.proofs.Words.{total, tree_at}
 use Rattle.line_lists.specs.Lists.{count_of}
-use Rattle.segments.specs.Columns.{LineContent}
-use Rattle.raw_nodes.specs.Names.{records, spares}
-use Rattle.raw_nodes.specs.declared.names.NodePtr.{NodePtr}
-use Rattle.line_tree.specs.Changes.{FitsSum}
 use Rattle.line_tree.specs.Growth.{lines_of}
 use Rattle.line_tree.specs.Raising.{Lifts, trees_at, with_lines}
 use Rattle.line_tree.specs.Room.{levels_at_most}
-use Rattle.line_tree.specs.Shape.{lines_in, tree_at}
-use Rattle.line_tree.specs.Trees.{Named, contents, total}
 use Rattle.line_tree.proofs.InsertLaws.{length-lines}
 use Rattle.line_tree.proofs.LevelLaws.{levels-held}
 use Rattle.line_tree.proofs.NewRowLaws.{drop-length}
@@ -19,7 +14,9 @@ use Rattle.line_tree.proofs.PrefixLaws.{count-contents}
 use Rattle.line_tree.proofs.RootLaws.{positive-root}
 use Rattle.line_tree.proofs.RowRootLaws.{can-lift, can-take, length-with_lines, lifted-alone, lines-lifted}
 use Rattle.line_tree.proofs.TreeLaws.{total-lines}
+use Rattle.line_tree.proofs.tree.LineTree.put_part.Given.{Over}
 use Rattle.line_tree.proofs.tree.LineTree.put_part.Goals as goal
+use Rattle.line_tree.proofs.tree.LineTree.put_part.Goals.{After-self}
 
 -- what is counted of the new lines
 fits-row : (old now : List Named) (added : List Named) (new : List LineContent) → old ≡ now → contents added ≡ new →
@@ -47,26 +44,28 @@ overflow_add-self g c =
     let len = c.len.ensures in let ok = c.args.lines.now.ok.0 in
     omega (arith, few, n, more, drops, had, same, len, ok)
 
+low : (g : Over) (c : After-self g) → c.self.inside.height ≤ levels_at_most c.args.self.now.nodes
+low g c = subst (λ v. c.self.inside.height ≤ levels_at_most v.nodes) c.self.view_is
+    (levels-held (records c.self.inside.store) c.self.inside.height c.self.inside.root (spares c.self.inside.store)
+    c.self.invariant.0.stands)
+
 pub put_row-requires-clause-spares : goal.put_row-requires-clause-spares
 put_row-requires-clause-spares g c =
-    let low = levels-held (records c.self.inside.store) c.self.inside.height c.self.inside.root (spares c.self.inside.store)
-    c.self.invariant.0.stands in
-    let most = ap (λ v. levels_at_most v.nodes) c.self.view_is in let had = ap (λ v. v.spares) c.self.view_is in
+    let low = low g (goal.at.put_row-requires-clause-spares g c).After-self in
+    let had = ap (λ v. v.spares) c.self.view_is in
     let room = c.requires.spares in let count = c.make_row.ensures.count in let used = c.make_row.ensures.spares in
-    omega (arith, low, most, had, room, count, used)
+    omega (arith, low, had, room, count, used)
 
 pub put_row-requires-clause-rooms : goal.put_row-requires-clause-rooms
 put_row-requires-clause-rooms g c =
-    let low = levels-held (records c.self.inside.store) c.self.inside.height c.self.inside.root (spares c.self.inside.store)
-    c.self.invariant.0.stands in
-    let most = ap (λ v. levels_at_most v.nodes) c.self.view_is in let had = ap (λ v. v.rooms) c.self.view_is in
+    let low = low g (goal.at.put_row-requires-clause-rooms g c).After-self in
+    let had = ap (λ v. v.rooms) c.self.view_is in
     let room = c.requires.rooms in let count = c.make_row.ensures.count in let used = c.make_row.ensures.rooms in
-    omega (arith, low, most, had, room, count, used)
+    omega (arith, low, had, room, count, used)
 
 pub lift-self-inside-requires-clause-spares : goal.lift-self-inside-requires-clause-spares
 lift-self-inside-requires-clause-spares g c =
-    let low = levels-held (records c.self.inside.store) c.self.inside.height c.self.inside.root (spares c.self.inside.store)
-    c.self.invariant.0.stands in
+    let low = low g (goal.at.lift-self-inside-requires-clause-spares g c).After-self in
     let most = ap (λ v. levels_at_most v.nodes) c.self.view_is in let had = ap (λ v. v.spares) c.self.view_is in
     let room = c.requires.spares in let count = c.make_row.ensures.count in let used = c.make_row.ensures.spares in
     let row_used = c.put_row.ensures.used in let row_spares = c.put_row.ensures.spares in
@@ -75,8 +74,7 @@ lift-self-inside-requires-clause-spares g c =
 
 pub lift-self-inside-requires-clause-rooms : goal.lift-self-inside-requires-clause-rooms
 lift-self-inside-requires-clause-rooms g c =
-    let low = levels-held (records c.self.inside.store) c.self.inside.height c.self.inside.root (spares c.self.inside.store)
-    c.self.invariant.0.stands in
+    let low = low g (goal.at.lift-self-inside-requires-clause-rooms g c).After-self in
     let most = ap (λ v. levels_at_most v.nodes) c.self.view_is in let had = ap (λ v. v.rooms) c.self.view_is in
     let room = c.requires.rooms in let count = c.make_row.ensures.count in let used = c.make_row.ensures.rooms in
     let row_used = c.put_row.ensures.used in
@@ -85,8 +83,7 @@ lift-self-inside-requires-clause-rooms g c =
 
 pub returns-clause-used : goal.returns-clause-used
 returns-clause-used g c =
-    let low = levels-held (records c.self.inside.store) c.self.inside.height c.self.inside.root (spares c.self.inside.store)
-    c.self.invariant.0.stands in
+    let low = low g (goal.at.returns-clause-used g c).After-self in
     let most = ap (λ v. levels_at_most v.nodes) c.self.view_is in let had = ap (λ v. v.rooms) c.self.view_is in
     let count = c.make_row.ensures.count in let used = c.make_row.ensures.rooms in
     let row_used = c.put_row.ensures.used in let lift_used = c.lift-self-inside.ensures.used in
@@ -165,29 +162,26 @@ returns-clause-lines g c =
 -- ---- one line
 pub insert-requires-clause-spares : goal.insert-requires-clause-spares
 insert-requires-clause-spares g c =
-    let low = levels-held (records c.self.inside.store) c.self.inside.height c.self.inside.root (spares c.self.inside.store)
-    c.self.invariant.0.stands in
-    let most = ap (λ v. levels_at_most v.nodes) c.self.view_is in let high = ap (λ v. v.height) c.self.view_is in
-    let room = c.requires.spares in let some = c.requires.some in omega (arith, low, most, high, room, some)
+    let low = low g (goal.at.insert-requires-clause-spares g c).After-self in
+    let high = ap (λ v. v.height) c.self.view_is in
+    let room = c.requires.spares in let some = c.requires.some in omega (arith, low, high, room, some)
 
 pub insert-requires-clause-rooms : goal.insert-requires-clause-rooms
 insert-requires-clause-rooms g c =
-    let low = levels-held (records c.self.inside.store) c.self.inside.height c.self.inside.root (spares c.self.inside.store)
-    c.self.invariant.0.stands in
-    let most = ap (λ v. levels_at_most v.nodes) c.self.view_is in let high = ap (λ v. v.height) c.self.view_is in
+    let low = low g (goal.at.insert-requires-clause-rooms g c).After-self in
+    let high = ap (λ v. v.height) c.self.view_is in
     let first = positive-root (records c.self.inside.store) c.self.inside.height c.self.inside.root
     c.self.invariant.0.stands in
-    let room = c.requires.rooms in let some = c.requires.some in omega (arith, low, most, high, first, room, some)
+    let room = c.requires.rooms in let some = c.requires.some in omega (arith, low, high, first, room, some)
 
 pub returns-in-Some-clause-used : goal.returns-in-Some-clause-used
 returns-in-Some-clause-used g c =
-    let low = levels-held (records c.self.inside.store) c.self.inside.height c.self.inside.root (spares c.self.inside.store)
-    c.self.invariant.0.stands in
-    let most = ap (λ v. levels_at_most v.nodes) c.self.view_is in let high = ap (λ v. v.height) c.self.view_is in
+    let low = low g (goal.at.returns-in-Some-clause-used g c).After-self in
+    let high = ap (λ v. v.height) c.self.view_is in
     let first = positive-root (records c.self.inside.store) c.self.inside.height c.self.inside.root
     c.self.invariant.0.stands in
     let some = c.requires.some in let s = c.insert.ensures.spares in let r = c.insert.ensures.rooms in
-    omega (arith, low, most, high, first, some, s, r)
+    omega (arith, low, high, first, some, s, r)
 
 pub returns-in-Some-clause-lines : goal.returns-in-Some-clause-lines
 returns-in-Some-clause-lines g c =

@@ -1,7 +1,6 @@
 use Rattle.std.proofs.Common.{◌≡◌, ◌+◌, length, ap, ◌∙◌, arith}
-use Rattle.raw_nodes.specs.Names.{records}
+use Rattle.line_tree.proofs.Words.{lines_in, records}
 use Rattle.text_model.specs.Splices.{removed}
-use Rattle.line_tree.specs.Shape.{lines_in}
 use Rattle.line_tree.proofs.GivingLaws.{Out, branch-out}
 use Rattle.line_tree.proofs.LineRoomLaws.{fewer-lines, length-removed, room-grows}
 use Rattle.line_tree.proofs.LowerLaws.{branch-after, can-lower, can-remove}

@@ -1,13 +1,8 @@
 use Rattle.std.proofs.Common.{◌+◌, length, ap, sym, ◌∙◌, subst}
-use Rattle.toggle_sums.specs.Counts.{plus}
-use Rattle.segments.specs.Columns.{line_count}
-use Rattle.raw_nodes.specs.Names.{records}
-use Rattle.line_tree.specs.Changes.{FitsSum}
+use Rattle.line_tree.proofs.Words.{FitsSum, line_count, lines_in, plus, records, total}
 use Rattle.line_tree.specs.Places.{IsLineAt}
 use Rattle.line_tree.specs.Room.{line_room}
-use Rattle.line_tree.specs.Shape.{lines_in}
 use Rattle.line_tree.specs.Taking.{changed}
-use Rattle.line_tree.specs.Trees.{total}
 use Rattle.line_tree.proofs.ChangingLaws.{length-changed, stands-changed}
 use Rattle.line_tree.proofs.LineRoomLaws.{room-stays}
 use Rattle.line_tree.proofs.PlaceLaws.{line-within}
@@ -38,31 +33,27 @@ invariant_of-self g c =
           ∙ length-changed (lines_in m h r) k (λ _. c.args.line) (line-within (lines_in m h r) k c.args.name at)),
     )
 
-pub returns-clause-lines : goal.returns-clause-lines
-returns-clause-lines g c k named = let same = ap (λ v. v.lines) c.self.view_is in
-    let at = subst (λ ls. IsLineAt ls k c.args.name) (sym same) named in
-    (c.replace_up.ensures.changes.1 k at).lines ∙ ap (changed k (λ _. c.args.line)) same
-
-pub returns-clause-room : goal.returns-clause-room
-returns-clause-room g c =
-    let m = records c.self.inside.store in let h = c.self.inside.height in let r = c.self.inside.root in
-    let k = c.requires.named.0 in
-    let at = subst (λ ls. IsLineAt ls k c.args.name) (sym (ap (λ v. v.lines) c.self.view_is)) c.requires.named.1 in
-    let done = c.replace_up.ensures.changes.1 k at in
-    room-stays _ _ (λ i. c.replace_up.ensures.spares i + done.count i) (ap length done.lines
-    ∙ length-changed (lines_in m h r) k (λ _. c.args.line) (line-within (lines_in m h r) k c.args.name at))
-    c.replace_up.ensures.spares c.replace_up.ensures.rooms
-    ∙ ap line_room c.self.view_is
-
-pub returns-clause-keeps : goal.returns-clause-keeps
-returns-clause-keeps g c =
-    let m = records c.self.inside.store in let h = c.self.inside.height in let r = c.self.inside.root in
-    let k = c.requires.named.0 in
-    let at = subst (λ ls. IsLineAt ls k c.args.name) (sym (ap (λ v. v.lines) c.self.view_is)) c.requires.named.1 in
-    let done = c.replace_up.ensures.changes.1 k at in
-    keeps-same c.args.self.now _ ((λ i. c.replace_up.ensures.spares i + done.count i) ∙ ap (λ v. v.nodes) c.self.view_is)
-    (ap length done.lines
-    ∙ length-changed (lines_in m h r) k (λ _. c.args.line) (line-within (lines_in m h r) k c.args.name at)
-    ∙ ap (λ v. length v.lines) c.self.view_is)
-    (c.replace_up.ensures.spares ∙ ap (λ v. v.spares) c.self.view_is)
-    (c.replace_up.ensures.rooms ∙ ap (λ v. v.rooms) c.self.view_is) (ap (λ v. v.row_room) c.self.view_is)
+pub returns : goal.returns
+returns g c = let m = records c.self.inside.store in let h = c.self.inside.height in let r = c.self.inside.root in
+    record {
+      lines = λ k named.
+          let same = ap (λ v. v.lines) c.self.view_is in
+          let at = subst (λ ls. IsLineAt ls k c.args.name) (sym same) named in
+          (c.replace_up.ensures.changes.1 k at).lines ∙ ap (changed k (λ _. c.args.line)) same;
+      room =
+          let k = c.requires.named.0 in
+          let at = subst (λ ls. IsLineAt ls k c.args.name) (sym (ap (λ v. v.lines) c.self.view_is)) c.requires.named.1
+          in let done = c.replace_up.ensures.changes.1 k at in
+          room-stays _ _ (λ i. c.replace_up.ensures.spares i + done.count i) (ap length done.lines
+          ∙ length-changed (lines_in m h r) k (λ _. c.args.line) (line-within (lines_in m h r) k c.args.name at))
+          c.replace_up.ensures.spares c.replace_up.ensures.rooms ∙ ap line_room c.self.view_is;
+      keeps =
+          let k = c.requires.named.0 in
+          let at = subst (λ ls. IsLineAt ls k c.args.name) (sym (ap (λ v. v.lines) c.self.view_is)) c.requires.named.1
+          in let done = c.replace_up.ensures.changes.1 k at in
+          keeps-same c.args.self.now _
+          ((λ i. c.replace_up.ensures.spares i + done.count i) ∙ ap (λ v. v.nodes) c.self.view_is) (ap length done.lines
+          ∙ length-changed (lines_in m h r) k (λ _. c.args.line) (line-within (lines_in m h r) k c.args.name at)
+          ∙ ap (λ v. length v.lines) c.self.view_is) (c.replace_up.ensures.spares ∙ ap (λ v. v.spares) c.self.view_is)
+          (c.replace_up.ensures.rooms ∙ ap (λ v. v.rooms) c.self.view_is) (ap (λ v. v.row_room) c.self.view_is);
+    }

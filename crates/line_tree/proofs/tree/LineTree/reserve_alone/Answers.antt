@@ -2,10 +2,9 @@ use Rattle.std.proofs.Common.{◌≡◌, ◌≤◌, ◌+◌, ◌*◌, ◌/◌, l
 use Rattle.std.specs.FinMap as finite
 use Rattle.std.proofs.Math.Nat.{mul-le-mul_left}
 use Rattle.std.proofs.lemmas.Result.{on_ok_weaker}
-use Rattle.raw_nodes.specs.Names.{records, spares}
+use Rattle.line_tree.proofs.Words.{lines_in, records, spares}
 use Rattle.line_tree.specs.Growth.{Stands}
 use Rattle.line_tree.specs.Room.{levels_at_most}
-use Rattle.line_tree.specs.Shape.{lines_in}
 use Rattle.line_tree.proofs.LevelLaws.{many-records, more-lines}
 use Rattle.line_tree.proofs.LineRoomLaws.{on_ok_two, steep-room, wide-room}
 use Rattle.line_tree.proofs.tree.LineTree.reserve_alone.Goals as goal

@@ -1,10 +1,7 @@
 use Rattle.std.proofs.Common.{length, take, sym, ap, ◌∙◌}
-use Rattle.toggle_sums.specs.Counts.{Count}
-use Rattle.raw_nodes.specs.Names.{records}
+use Rattle.line_tree.proofs.Words.{Count, contents, lines_in, records}
 use Rattle.line_lists.specs.Texts.{whole}
 use Rattle.line_lists.proofs.CountRows.{count-characters}
-use Rattle.line_tree.specs.Shape.{lines_in}
-use Rattle.line_tree.specs.Trees.{contents}
 use Rattle.line_tree.proofs.PrefixLaws.{count-first}
 use Rattle.line_tree.proofs.tree.LineTree.start.Goals as goal
 

@@ -1,12 +1,9 @@
 use Rattle.std.proofs.Common.{◌+◌, length, ap, sym, ◌∙◌, subst}
-use Rattle.toggle_sums.specs.Counts.{counting, no_text}
+use Rattle.line_tree.proofs.Words.{counting, lines_in, no_text, records, total}
 use Rattle.line_lists.specs.Edits.{without_mark}
-use Rattle.raw_nodes.specs.Names.{records}
 use Rattle.line_tree.specs.Places.{IsLineAt}
 use Rattle.line_tree.specs.Room.{line_room}
-use Rattle.line_tree.specs.Shape.{lines_in}
 use Rattle.line_tree.specs.Taking.{changed}
-use Rattle.line_tree.specs.Trees.{total}
 use Rattle.line_tree.proofs.ChangingLaws.{length-changed, stands-changed}
 use Rattle.line_tree.proofs.LineRoomLaws.{room-stays}
 use Rattle.line_tree.proofs.PlaceLaws.{line-within}
@@ -33,31 +30,28 @@ invariant_of-self g c =
           ∙ length-changed (lines_in m h r) k f (line-within (lines_in m h r) k c.args.name at)),
     )
 
-pub returns-clause-lines : goal.returns-clause-lines
-returns-clause-lines g c k named = let same = ap (λ v. v.lines) c.self.view_is in
-    let at = subst (λ ls. IsLineAt ls k c.args.name) (sym same) named in
-    (c.take_up.ensures.takes.1 k at).lines ∙ ap (changed k (without_mark c.args.number.0)) same
-
-pub returns-clause-room : goal.returns-clause-room
-returns-clause-room g c =
-    let m = records c.self.inside.store in let h = c.self.inside.height in let r = c.self.inside.root in
-    let k = c.requires.0 in let f = without_mark c.args.number.0 in
-    let at = subst (λ ls. IsLineAt ls k c.args.name) (sym (ap (λ v. v.lines) c.self.view_is)) c.requires.1 in
-    let done = c.take_up.ensures.takes.1 k at in
-    room-stays _ _ (λ i. c.take_up.ensures.spares i + done.count i) (ap length done.lines
-    ∙ length-changed (lines_in m h r) k f (line-within (lines_in m h r) k c.args.name at))
-    c.take_up.ensures.spares c.take_up.ensures.rooms
-    ∙ ap line_room c.self.view_is
-
-pub returns-clause-keeps : goal.returns-clause-keeps
-returns-clause-keeps g c =
-    let m = records c.self.inside.store in let h = c.self.inside.height in let r = c.self.inside.root in
-    let k = c.requires.0 in let f = without_mark c.args.number.0 in
-    let at = subst (λ ls. IsLineAt ls k c.args.name) (sym (ap (λ v. v.lines) c.self.view_is)) c.requires.1 in
-    let done = c.take_up.ensures.takes.1 k at in
-    keeps-same c.args.self.now _ ((λ i. c.take_up.ensures.spares i + done.count i) ∙ ap (λ v. v.nodes) c.self.view_is)
-    (ap length done.lines
-    ∙ length-changed (lines_in m h r) k f (line-within (lines_in m h r) k c.args.name at)
-    ∙ ap (λ v. length v.lines) c.self.view_is)
-    (c.take_up.ensures.spares ∙ ap (λ v. v.spares) c.self.view_is)
-    (c.take_up.ensures.rooms ∙ ap (λ v. v.rooms) c.self.view_is) (ap (λ v. v.row_room) c.self.view_is)
+pub returns : goal.returns
+returns g c = let m = records c.self.inside.store in let h = c.self.inside.height in let r = c.self.inside.root in
+    let f = without_mark c.args.number.0 in
+    record {
+      lines = λ k named.
+          let same = ap (λ v. v.lines) c.self.view_is in
+          let at = subst (λ ls. IsLineAt ls k c.args.name) (sym same) named in
+          (c.take_up.ensures.takes.1 k at).lines ∙ ap (changed k (without_mark c.args.number.0)) same;
+      room =
+          let k = c.requires.0 in
+          let at = subst (λ ls. IsLineAt ls k c.args.name) (sym (ap (λ v. v.lines) c.self.view_is)) c.requires.1 in
+          let done = c.take_up.ensures.takes.1 k at in
+          room-stays _ _ (λ i. c.take_up.ensures.spares i + done.count i)
+          (ap length done.lines ∙ length-changed (lines_in m h r) k f (line-within (lines_in m h r) k c.args.name at))
+          c.take_up.ensures.spares c.take_up.ensures.rooms ∙ ap line_room c.self.view_is;
+      keeps =
+          let k = c.requires.0 in
+          let at = subst (λ ls. IsLineAt ls k c.args.name) (sym (ap (λ v. v.lines) c.self.view_is)) c.requires.1 in
+          let done = c.take_up.ensures.takes.1 k at in
+          keeps-same c.args.self.now _
+          ((λ i. c.take_up.ensures.spares i + done.count i) ∙ ap (λ v. v.nodes) c.self.view_is) (ap length done.lines
+          ∙ length-changed (lines_in m h r) k f (line-within (lines_in m h r) k c.args.name at)
+          ∙ ap (λ v. length v.lines) c.self.view_is) (c.take_up.ensures.spares ∙ ap (λ v. v.spares) c.self.view_is)
+          (c.take_up.ensures.rooms ∙ ap (λ v. v.rooms) c.self.view_is) (ap (λ v. v.row_room) c.self.view_is);
+    }

@@ -3,17 +3,14 @@ use Rattle.line_tree.proofs.LeavingLaws.{leaves-long, rest-out}
 use Rattle.line_tree.proofs.SpendingLaws.{keeps-on}
 use Rattle.line_tree.proofs.tree.LineTree.take_out.Goals as goal
 
-pub take_lines-requires-clause-within : goal.take_lines-requires-clause-within
-take_lines-requires-clause-within g c = let leaves = c.take_branches-left.ensures in
-    let long = leaves-long c.args.self.now _ c.args.k c.args.gone c.take_branches-left.result c.requires.within
-    leaves in
-    let within = c.requires.within in omega arith
-
-pub take_lines-requires-clause-some : goal.take_lines-requires-clause-some
-take_lines-requires-clause-some g c = let leaves = c.take_branches-left.ensures in
-    let long = leaves-long c.args.self.now _ c.args.k c.args.gone c.take_branches-left.result c.requires.within
-    leaves in
-    let some = c.requires.some in omega arith
+pub take_lines-requires : goal.take_lines-requires
+take_lines-requires g c = let leaves = c.take_branches-left.ensures in
+    let long = leaves-long c.args.self.now _ c.args.k c.args.gone c.take_branches-left.result c.requires.within leaves
+    in
+    record {
+      within = let within = c.requires.within in omega arith;
+      some = let some = c.requires.some in omega arith;
+    }
 
 pub returns-clause-lines : goal.returns-clause-lines
 returns-clause-lines g c = c.take_lines.ensures.lines

@@ -1,9 +1,7 @@
-use Rattle.std.proofs.Common.{◌≡◌, ◌+◌, ◌++◌, ◌∙◌, ap, arith}
-use Rattle.std.specs.Prelude.{chars, slice_range, string_bytes}
-use Rattle.segments.specs.Columns.{characters}
+use Rattle.std.proofs.Common.{◌≡◌, ◌+◌, ◌++◌, ◌∙◌, ap, arith, chars, slice_range, string_bytes}
+use Rattle.line_tree.proofs.Words.{characters, contents}
 use Rattle.line_lists.specs.Texts.{whole}
 use Rattle.line_lists.proofs.TextRows.{pushed-line, pushed-none}
-use Rattle.line_tree.specs.Trees.{contents}
 use Rattle.line_tree.proofs.ListedLaws.{listed, walked}
 use Rattle.line_tree.proofs.NearestLaws.{long}
 use Rattle.line_tree.proofs.tree_lines.TreeLinesLineList.push_lines.Goals as goal

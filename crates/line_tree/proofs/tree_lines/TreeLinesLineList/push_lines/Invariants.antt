@@ -1,9 +1,7 @@
-use Rattle.std.proofs.Common.{◌≡◌, ◌++◌}
-use Rattle.std.specs.Prelude.{IfSome, chars, slice_range, string_bytes}
-use Rattle.segments.specs.Columns.{characters}
+use Rattle.std.proofs.Common.{◌≡◌, ◌++◌, IfSome, chars, slice_range, string_bytes}
+use Rattle.line_tree.proofs.Words.{characters, contents}
 use Rattle.line_lists.specs.Texts.{whole}
 use Rattle.line_tree.specs.Places.{IsLineAt}
-use Rattle.line_tree.specs.Trees.{contents}
 use Rattle.line_tree.proofs.tree_lines.TreeLinesLineList.push_lines.Given as goal
 
 abbrev pub invariant-loop-index : goal.invariant-loop-index

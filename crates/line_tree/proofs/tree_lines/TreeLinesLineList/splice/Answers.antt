@@ -1,11 +1,9 @@
-use Rattle.std.proofs.Common.{◌≡◌, ◌+◌, length, vec_len, subst, sym, ap, ◌∙◌, arith}
+use Rattle.std.proofs.Common.{◌≡◌, ◌+◌, length, vec_len, subst, sym, ap, ◌∙◌, arith, slice_range}
 use Rattle.std.specs.List.{All}
-use Rattle.std.specs.Prelude.{slice_range}
-use Rattle.segments.specs.Columns.{LineContent}
+use Rattle.line_tree.proofs.Words.{LineContent, contents}
 use Rattle.line_lists.specs.Lists.{AreLines, NumbersBelow, more_lines, row_of}
 use Rattle.line_tree.specs.Room.{HasRoom}
 use Rattle.line_tree.specs.MarkTable.{holder, lines_without}
-use Rattle.line_tree.specs.Trees.{contents}
 use Rattle.line_tree.proofs.ListedLaws.{Comes, comes-below, comes-contents, comes-long, comes-others, end-fits}
 use Rattle.line_tree.proofs.ListedLaws.{fits-counted, gone-fits, some-left}
 use Rattle.line_tree.proofs.SpendingLaws.{keeps-room}
@@ -27,60 +25,37 @@ splice-requires-clause-some c =
 pub splice-requires-clause-fits : goal.splice-requires-clause-fits
 splice-requires-clause-fits c = fits-counted c.args.self.now.tree.lines c.args.new.items c.requires.counted
 
-pub note-requires-clause-within : goal.note-requires-clause-within
-note-requires-clause-within c = let old = c.args.self.now.tree.lines in let now = c.splice.new.self.lines in
-    let made = c.splice.ensures.lines in
+pub note-requires : goal.note-requires
+note-requires c =
+    let old = c.args.self.now.tree.lines in let now = c.splice.new.self.lines in let made = c.splice.ensures.lines in
     let comes : Comes old c.args.from c.args.count c.args.new.items c.requires.within now = record {
       added = made.0;
       contents_of = made.1;
       is = made.2;
-    } in
-    let long = comes-long old c.args.from c.args.count c.args.new.items c.requires.within now comes in
-    let n = c.len-2.ensures in let ok = c.args.new.ok.0 in omega (arith, long, n, ok)
-
-pub note-requires-clause-lines : goal.note-requires-clause-lines
-note-requires-clause-lines c = let old = c.args.self.now.tree.lines in let now = c.splice.new.self.lines in
-    let made = c.splice.ensures.lines in
-    let comes : Comes old c.args.from c.args.count c.args.new.items c.requires.within now = record {
-      added = made.0;
-      contents_of = made.1;
-      is = made.2;
-    } in
-    subst AreLines (sym (comes-contents old c.args.from c.args.count c.args.new.items c.requires.within now comes))
-    c.requires.lines
-
-pub note-requires-clause-below : goal.note-requires-clause-below
-note-requires-clause-below c = let old = c.args.self.now.tree.lines in let now = c.splice.new.self.lines in
-    let made = c.splice.ensures.lines in
-    let comes : Comes old c.args.from c.args.count c.args.new.items c.requires.within now = record {
-      added = made.0;
-      contents_of = made.1;
-      is = made.2;
-    } in
-    let n = c.len-2.ensures in let ok = c.args.new.ok.0 in let names = c.args.self.now.names.ok.0 in
-    let same = c.forget.ensures.len in
-    let bound : length c.args.self.now.names.items ≡ vec_len c.forget.new.names = omega (arith, names, same) in
-    let end : c.args.from + length c.args.new.items ≡ c.args.from + c.len-2.result = omega (arith, n, ok) in
-    subst (λ m. All (λ (line : LineContent). NumbersBelow m line.marks)
-    (slice_range (contents now) c.args.from (c.args.from + c.len-2.result))) bound
-    (subst (λ m. All (λ (line : LineContent). NumbersBelow (length c.args.self.now.names.items) line.marks)
-    (slice_range (contents now) c.args.from m)) end
-    (comes-below old c.args.from c.args.count c.args.new.items c.requires.within now
-    (length c.args.self.now.names.items) comes c.requires.numbers))
-
-pub note-requires-clause-table : goal.note-requires-clause-table
-note-requires-clause-table c = let old = c.args.self.now.tree.lines in let now = c.splice.new.self.lines in
-    let made = c.splice.ensures.lines in
-    let comes : Comes old c.args.from c.args.count c.args.new.items c.requires.within now = record {
-      added = made.0;
-      contents_of = made.1;
-      is = made.2;
-    } in
-    let n = c.len-2.ensures in let ok = c.args.new.ok.0 in
-    let end : c.args.from + c.len-2.result ≡ c.args.from + length c.args.new.items = omega (arith, n, ok) in
-    let same = ap (λ m. lines_without c.args.from m now) end
-    ∙ comes-others old c.args.from c.args.count c.args.new.items c.requires.within now comes in
-    record { each = λ q. c.forget.ensures.table.each q ∙ sym (ap (holder q) same) }
+    } in let n = c.len-2.ensures in let ok = c.args.new.ok.0 in
+    record {
+      ordered = omega arith;
+      within =
+          let long = comes-long old c.args.from c.args.count c.args.new.items c.requires.within now comes in
+          omega (arith, long, n, ok);
+      lines = subst AreLines
+          (sym (comes-contents old c.args.from c.args.count c.args.new.items c.requires.within now comes))
+          c.requires.lines;
+      below =
+          let names = c.args.self.now.names.ok.0 in let same = c.forget.ensures.len in
+          let bound : length c.args.self.now.names.items ≡ vec_len c.forget.new.names = omega (arith, names, same) in
+          let end : c.args.from + length c.args.new.items ≡ c.args.from + c.len-2.result = omega (arith, n, ok) in
+          subst (λ m. All (λ (line : LineContent). NumbersBelow m line.marks)
+          (slice_range (contents now) c.args.from (c.args.from + c.len-2.result))) bound (subst (λ m. All
+          (λ (line : LineContent). NumbersBelow (length c.args.self.now.names.items) line.marks)
+          (slice_range (contents now) c.args.from m)) end (comes-below old c.args.from c.args.count c.args.new.items
+          c.requires.within now (length c.args.self.now.names.items) comes c.requires.numbers));
+      table =
+          let end : c.args.from + c.len-2.result ≡ c.args.from + length c.args.new.items = omega (arith, n, ok) in
+          let same = ap (λ m. lines_without c.args.from m now) end
+          ∙ comes-others old c.args.from c.args.count c.args.new.items c.requires.within now comes in
+          record { each = λ q. c.forget.ensures.table.each q ∙ sym (ap (holder q) same) };
+    }
 
 pub invariant_of-self : goal.invariant_of-self
 invariant_of-self c = let old = c.args.self.now.tree.lines in let now = c.splice.new.self.lines in
