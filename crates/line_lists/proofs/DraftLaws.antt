@@ -187,17 +187,6 @@ reached-more reached new copies copy lines so_far used_is characters_are =
           ∙ add_groups (length (whole made).columns) (length (whole kept).columns) (length copy.line.columns));
     }
 
--- how many characters they cover then
-pub covers-more : (reached : Reached) (copies : List Copied) (copy : Copied) (lines : List LineContent) →
-    IsReached reached copies lines →
-    reached.characters + length (whole (take copy.kept (drop reached.used lines))).columns + length copy.line.columns
-    ≡ length (whole (made_lines (copies ++ copy ∷ []) lines)).columns
-covers-more reached copies copy lines so_far = (reached-more reached (record {
-  used = reached.used + covered copy;
-  characters = reached.characters + length (whole (take copy.kept (drop reached.used lines))).columns
-      + length copy.line.columns;
-}) copies copy lines so_far refl refl).characters
-
 -- nothing is copied
 pub draft-none : (lines : List LineContent) → IsCounted (count_of lines) → IsDraft lines [] []
 draft-none lines all = record {

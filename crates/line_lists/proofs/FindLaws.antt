@@ -11,8 +11,8 @@ use Rattle.line_lists.specs.declared.drafts.Copied.{Copied}
 use Rattle.line_lists.specs.declared.drafts.Reached.{Reached}
 use Rattle.line_lists.specs.declared.drafts.Seen.{Seen}
 use Rattle.line_lists.specs.declared.drafts.Stop.{Stop}
-use Rattle.line_lists.specs.Drafts.{AreStops, IsDraft, IsFound, IsReached, IsSeen, IsTaken, StandsAt, copies_of}
-use Rattle.line_lists.specs.Drafts.{covered, drafted, drafted_at, in_order, line_start, lines_before, made_lines}
+use Rattle.line_lists.specs.Drafts.{AreStops, BeginsBy, IsDraft, IsFound, IsReached, IsSeen, IsTaken, StandsAt, copies_of}
+use Rattle.line_lists.specs.Drafts.{covered, drafted, drafted_at, in_order, line_start, lines_before, made_lines, place_of}
 use Rattle.line_lists.specs.Drafts.{taken_lines, used}
 use Rattle.line_lists.specs.Lists.{Holds}
 use Rattle.line_lists.specs.Texts.{whole}
@@ -275,49 +275,42 @@ made-ends lines copies copy =
     ∙ ap (λ (line : LineContent). length (whole (lines_before copies copy lines)).columns + length line.columns)
     (whole-one copy.line)
 
--- it begins at an offset or before it
-pub last-begun : (lines : List LineContent) (before : List Stop) (stop : Stop) (offset : ℕ) →
-    AreStops lines [] (before ++ stop ∷ [])
-    → length (whole (lines_before (copies_of before) stop.copy lines)).columns ≤ offset
-    → line_start stop.reached stop.copy lines ≤ offset
-last-begun lines before stop offset stops begun =
-    omega (
-      arith,
-      begun,
-      start-is lines (copies_of before) stop.reached stop.copy (stops-last lines [] before stop stops),
-    )
-
 -- where it begins
-pub last-starts : (lines : List LineContent) (before : List Stop) (stop : Stop) (end : ℕ) →
-    AreStops lines [] (before ++ stop ∷ [])
-    → end ≡ length (whole (made_lines (copies_of (before ++ stop ∷ [])) lines)).columns
+pub last-starts : (lines : List LineContent) (front before : List Stop) (back : List Copied) (stop : Stop) (end : ℕ) →
+    IsDraft lines front back → front ≡ before ++ stop ∷ [] → end ≡ place_of lines front
     → line_start stop.reached stop.copy lines + length stop.copy.line.columns ≡ end
-last-starts lines before stop end stops is =
+last-starts lines front before back stop end draft is end_is =
+    let stops = (subst (λ items. IsDraft lines items back) is draft).stops in
     omega (
       arith,
-      is,
+      end_is,
+      ap (place_of lines) is,
       start-is lines (copies_of before) stop.reached stop.copy (stops-last lines [] before stop stops),
       ap (λ copies. length (whole (made_lines copies lines)).columns) (copies-snoc before stop),
       made-ends lines (copies_of before) stop.copy,
     )
 
-pub last-stands : (lines : List LineContent) (before : List Stop) (stop : Stop) (offset start : ℕ) →
-    AreStops lines [] (before ++ stop ∷ []) → start ≡ line_start stop.reached stop.copy lines → start ≤ offset
-    → offset < length (whole (made_lines (copies_of (before ++ stop ∷ [])) lines)).columns →
-    StandsAt lines before stop.copy offset (offset - start)
-last-stands lines before stop offset start stops start_is small within =
-    let is = start-is lines (copies_of before) stop.reached stop.copy (stops-last lines [] before stop stops) in
+-- the last copy before the place, whose line is of so many characters and holds an offset
+pub record IsLast (lines : List LineContent) (before : List Stop) (stop : Stop) (offset end len : ℕ) : Type 0 where
+  pub reached : IsReached stop.reached (copies_of before) lines
+  pub start : end ≡ line_start stop.reached stop.copy lines + len
+  pub begun : line_start stop.reached stop.copy lines ≤ offset
+  pub stands : StandsAt lines before stop.copy offset (offset - (end - len))
+
+pub the-last : (lines : List LineContent) (front before : List Stop) (back : List Copied) (stop : Stop)
+    (offset end len : ℕ) → IsDraft lines front back → front ≡ before ++ stop ∷ [] → BeginsBy lines offset front
+    → end ≡ place_of lines front → offset < end → len ≡ length stop.copy.line.columns →
+    IsLast lines before stop offset end len
+the-last lines front before back stop offset end len draft is begins end_is within long =
+    let reached = stops-last lines [] before stop (subst (λ items. IsDraft lines items back) is draft).stops in
+    let start = start-is lines (copies_of before) stop.reached stop.copy reached in
+    let ends = last-starts lines front before back stop end draft is end_is in
+    let begun = begins before stop is in
     record {
-      place = omega (arith, start_is, is, small);
-      inside = omega (
-        arith,
-        start_is,
-        is,
-        small,
-        within,
-        ap (λ copies. length (whole (made_lines copies lines)).columns) (copies-snoc before stop),
-        made-ends lines (copies_of before) stop.copy,
-      );
+      reached = reached;
+      start = omega (arith, ends, long);
+      begun = omega (arith, start, begun);
+      stands = record { place = omega (arith, ends, long, start, begun); inside = omega (arith, ends, long, start, begun) };
     }
 
 -- an offset behind all copies lies in the rest of the list

@@ -331,11 +331,11 @@ back-more front back i n copy next within is =
     append_assoc (copies_of front) (reverse (drop n back)) (copy ∷ [])
     ∙ ap (λ xs. copies_of front ++ xs) (sym (ap reverse first ∙ reverse-append (copy ∷ []) (drop n back)))
 
-pub stands-at : (number offset : ℕ) (lines : List LineContent) (front : List Stop) (back before : List Copied)
-    (reached : Reached) (copy : Copied) → AtCopy lines front back before reached copy
+pub stands-at : {number offset : ℕ} {lines : List LineContent} {front : List Stop} {back before : List Copied}
+    {reached : Reached} {copy : Copied} → AtCopy lines front back before reached copy
     → StandsIn number offset (lines_with reached copy lines) →
     StandsIn number (reached.characters + offset) (drafted_at lines front back)
-stands-at number offset lines front back before reached copy at stands =
+stands-at {number} {offset} {lines} {front} {back} {before} {reached} {copy} at stands =
     let made = made_lines before lines in
     let with = lines_with reached copy lines in
     subst (λ n. StandsIn number (n + offset) (drafted_at lines front back)) (sym at.is.characters)
