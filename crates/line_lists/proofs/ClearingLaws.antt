@@ -19,7 +19,7 @@ use Rattle.line_lists.specs.declared.drafts.Copied.{Copied}
 use Rattle.line_lists.specs.declared.drafts.Reached.{Reached}
 use Rattle.line_lists.specs.declared.drafts.Stop.{Stop}
 use Rattle.line_lists.specs.Clearing.{AreFree, free_end, free_length, lines_on}
-use Rattle.line_lists.specs.Drafts.{BeginsBehind, IsFound, IsReached, IsTaken, IsText, StandsAt, copies_of, covered}
+use Rattle.line_lists.specs.Drafts.{BeginsBehind, IsReached, IsTaken, IsText, StandsAt, copies_of, covered}
 use Rattle.line_lists.specs.Drafts.{drafted, drafted_at, lines_before, lines_behind, made_lines, taken_lines, text_at}
 use Rattle.line_lists.specs.Drafts.{tags_after, used}
 use Rattle.line_lists.specs.Drafts.{place_of}
@@ -30,8 +30,8 @@ use Rattle.line_lists.specs.Toggling.{cleared, tags_left_of}
 use Rattle.line_lists.proofs.DraftLaws.{behind-whole, copies-snoc, drafted-append, last_is, last_same, length-whole}
 use Rattle.line_lists.proofs.DraftLaws.{stop_of}
 use Rattle.line_lists.proofs.DraftLaws.{no_last, none_at, take-more, used-append}
-use Rattle.line_lists.proofs.FindLaws.{begin-le, drop_after, found-before, found-line, inside-line, kept-within}
-use Rattle.line_lists.proofs.FindLaws.{made-ends, opened-kept, opened-place, opened-rest, put-back, rest-within}
+use Rattle.line_lists.proofs.FindLaws.{IsKept, begin-le, drop_after, kept-within, made-ends, opened, opened-before}
+use Rattle.line_lists.proofs.FindLaws.{opened-kept, opened-rest, opened-stands, put-back, rest-within}
 use Rattle.line_lists.proofs.FindLaws.{slice_get-drop, taken-is}
 use Rattle.line_lists.proofs.RowLaws.{Makes, rows-changed, whole-around}
 use Rattle.line_lists.proofs.SearchRows.{FailFrom, found-next, none-next}
@@ -116,17 +116,7 @@ module _ (lines : List LineContent) (front : List Stop) (reached : Reached) (off
       → offset + length (whole (take reached.used lines)).columns < reached.characters + length (whole lines).columns
   kept-ends back ahead within = ends back (slice_get back (length back - 1)) refl ahead within
 
-  module _ (line column : ℕ) (here : LineContent) (find : IsFound reached lines offset line column)
-      (get : slice_get lines line ≡ Some here) where
-    abbrev copy_here : Copied
-    copy_here = record { kept = line - reached.used; gone = 1; line = here }
-
-    stands : StandsAt lines front copy_here offset column
-    stands = record {
-      place = opened-place lines front reached copy_here offset line column is find refl;
-      inside = inside-line column (slice_get lines line) here get find.inside;
-    }
-
+  module _ (line column : ℕ) (here : LineContent) (kept : IsKept lines front reached offset line column here) where
     tags : (back : List Copied) (last : Option Copied) → last ≡ slice_get back (length back - 1) →
         BeginsBehind lines offset front back
         → tags_left_of (take offset (whole (drafted_at lines front back)).columns)
@@ -134,21 +124,16 @@ module _ (lines : List LineContent) (front : List Stop) (reached : Reached) (off
         (tags_left_of (whole (take (line - reached.used) (drop reached.used lines))).columns))
         (tags_left_of (take column here.columns))
     tags back None last ahead =
-        let none = no_last back last in
-        let same = opened-rest lines front copy_here refl (found-line lines front reached line here is find.first get)
-        ∙ ap (drafted_at lines front) (sym none) in
-        tags-stands lines (drafted_at lines front back) front [] reached copy_here offset column is same stands
+        tags-stands lines (drafted_at lines front back) front [] reached (opened reached line here) offset column is
+        (opened-rest kept ∙ ap (drafted_at lines front) (sym (no_last back last))) (opened-stands kept)
     tags back (Some next) last ahead =
         let behind = take (length back - 1) back in
         let back_is = last_is back next last in
-        let small = found-before reached lines next offset line column find
-        (kept-within lines front reached next offset is (ahead behind next back_is)) in
-        let less : Copied = record next { kept = next.kept - (copy_here.kept + 1) } in
-        let same = opened-kept lines front behind copy_here next less refl
-        (found-line lines front reached line here is find.first get) small refl refl refl
+        let less : Copied = record next { kept = next.kept - (line - reached.used + 1) } in
+        let same = opened-kept kept behind next less (opened-before kept next (ahead behind next back_is)) refl refl refl
         ∙ ap (drafted_at lines front) (sym back_is) in
-        tags-stands lines (drafted_at lines front back) front (behind ++ less ∷ []) reached copy_here offset column is
-        same stands
+        tags-stands lines (drafted_at lines front back) front (behind ++ less ∷ []) reached (opened reached line here)
+        offset column is same (opened-stands kept)
 
     pub kept-tags : (back : List Copied) → BeginsBehind lines offset front back
         → tags_left_of (take offset (whole (drafted_at lines front back)).columns)
