@@ -11,9 +11,9 @@ use Rattle.line_lists.specs.declared.drafts.Copied.{Copied}
 use Rattle.line_lists.specs.declared.drafts.Reached.{Reached}
 use Rattle.line_lists.specs.declared.drafts.Seen.{Seen}
 use Rattle.line_lists.specs.declared.drafts.Stop.{Stop}
-use Rattle.line_lists.specs.Drafts.{AreStops, BeginsBy, IsDraft, IsFound, IsReached, IsSeen, IsStop, IsTaken, StandsAt, copies_of}
-use Rattle.line_lists.specs.Drafts.{covered, drafted, drafted_at, in_order, line_start, lines_before, made_lines, place_of}
-use Rattle.line_lists.specs.Drafts.{taken_lines, used}
+use Rattle.line_lists.specs.Drafts.{BeginsBy, IsDraft, IsFound, IsReached, IsSeen, IsStop, IsTaken, StandsAt, copies_of}
+use Rattle.line_lists.specs.Drafts.{covered, drafted, drafted_at, in_order, line_start, lines_before, made_lines}
+use Rattle.line_lists.specs.Drafts.{place_of, taken_lines, used}
 use Rattle.line_lists.specs.Lists.{Holds}
 use Rattle.line_lists.specs.Texts.{whole}
 use Rattle.line_lists.proofs.CountRows.{count-characters}
@@ -117,9 +117,6 @@ drop_after {A = A} [] n x is = let no : ◌≡◌ {A = Option A} None (Some x) =
 drop_after (y ∷ ys) zero x is = let same : y ≡ x = cc in ap (λ z. z ∷ ys) same
 drop_after (y ∷ ys) (suc n) x is = drop_after ys n x is
 
-drop-rest : {A : Type 0} (m n : ℕ) (xs : List A) → drop n (drop m xs) ≡ drop (m + n) xs
-drop-rest m n xs = drop-drop n m xs
-
 -- the lines with a copy behind the others that stand before the place
 pub taken-is : (lines : List LineContent) (front : List Stop) (back : List Copied) (stop : Stop) →
     drafted_at lines (front ++ stop ∷ []) back ≡ taken_lines lines front back stop.copy
@@ -190,11 +187,11 @@ opened_next rest b line next less cs is small kept gone same =
     ∙ ap (λ n. line ∷ take less.kept (drop n rest)) one) in
     let covers : covered next ≡ (b + 1) + covered less = omega (arith, small, kept, gone) in
     let second : drop (covered next) rest ≡ drop (covered less) others = ap (λ n. drop n rest) covers
-    ∙ sym (drop-rest (b + 1) (covered less) rest) in
+    ∙ sym (drop-drop (covered less) (b + 1) rest) in
     let third : drop (covered next + used cs) rest ≡ drop (covered less + used cs) others =
     ap (λ n. drop n rest) (let n : covered next + used cs
     ≡ (b + 1) + (covered less + used cs) = omega (arith, covers) in n)
-    ∙ sym (drop-rest (b + 1) (covered less + used cs) rest) in
+    ∙ sym (drop-drop (covered less + used cs) (b + 1) rest) in
     let behind = less.line ∷ made_lines cs (drop (covered less) others) in
     ap₂ (λ xs ys. xs ++ ys) (ap₂ (λ xs ys. xs ++ ys) first (ap₂ (λ l ys. l ∷ made_lines cs ys) (sym same) second)) third
     ∙ ap (λ xs. xs ++ drop (covered less + used cs) others)
@@ -247,7 +244,10 @@ the-last lines front before back stop offset end len draft is begins end_is with
       reached = reached;
       start = omega (arith, ends, long);
       begun = omega (arith, start, begun);
-      stands = record { place = omega (arith, ends, long, start, begun); inside = omega (arith, ends, long, start, begun) };
+      stands = record {
+        place = omega (arith, ends, long, start, begun);
+        inside = omega (arith, ends, long, start, begun);
+      };
     }
 
 -- an offset behind all copies lies in the rest of the list
@@ -315,7 +315,7 @@ module _ {lines : List LineContent} {front : List Stop} {reached : Reached} {off
       ∙ is.get
 
   behind_it : drop (used copies + covered copy) lines ≡ drop (copy.kept + 1) rest
-  behind_it = sym (drop-rest (used copies) (copy.kept + 1) lines)
+  behind_it = sym (drop-drop (copy.kept + 1) (used copies) lines)
 
   -- behind all copies
   pub opened-rest : taken_lines lines front [] copy ≡ drafted_at lines front []

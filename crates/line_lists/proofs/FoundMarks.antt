@@ -24,7 +24,7 @@ drafted-some (copy ∷ copies) lines some =
       length-append (take copy.kept lines) (copy.line ∷ drafted copies (drop (covered copy) lines)),
     )
 
-rows-some : (lines : List LineContent) → 0 < length lines → AreRows lines → 0 < length (whole lines).columns
+pub rows-some : (lines : List LineContent) → 0 < length lines → AreRows lines → 0 < length (whole lines).columns
 rows-some [] some rows = absurd (omega (arith, some))
 rows-some (line ∷ lines) some rows =
     omega (arith, some-columns line.columns rows.0.ends, length-append line.columns (whole lines).columns)

@@ -21,7 +21,7 @@ use Rattle.text_model.specs.Steps.{Fits, StepFitsIn, after, after_step, length_a
 use Rattle.text_model.proofs.PlaceLaws.{same_marks}
 use Rattle.text_model.proofs.SpliceLaws.{length-changed}
 use Rattle.text_model.proofs.StepLaws.{length-after_step}
-use Rattle.toggle_sums.specs.CountLaws.{differing-associative, differing-commutative, empty-differing}
+use Rattle.toggle_sums.specs.CountLaws.{differing-associative, differing-commutative}
 use Rattle.segments.specs.Columns.{Column, LineContent, after_text, tags_before, toggled_first, with_toggle}
 use Rattle.line_lists.specs.declared.drafts.Copied.{Copied}
 use Rattle.line_lists.specs.declared.drafts.Stop.{Stop}
@@ -35,6 +35,7 @@ use Rattle.line_lists.proofs.FreedLaws.{eq_self}
 use Rattle.line_lists.proofs.MadeLaws.{text-made}
 use Rattle.line_lists.proofs.PlaceRows.{length-cells}
 use Rattle.line_lists.proofs.WholeLaws.{length-toggled}
+use Rattle.line_lists.proofs.RemovalLaws.{none-first}
 
 -- ---- slots that are toggled nowhere
 pub toggled-end : (at : ℕ) (slots : Slots) (line : LineContent) → length line.columns ≤ at →
@@ -45,17 +46,12 @@ toggled-end at slots line behind =
     (drop_all at line.columns behind) ∙ append-nil line.columns in
     λ i. record { columns = sym columns i; marks = line.marks }
 
-toggled-none : (columns : List Column) → toggled_first set.empty columns ≡ columns
-toggled-none [] = refl
-toggled-none (column ∷ columns) = ap (λ toggled. record { character = column.character; toggled = toggled } ∷ columns)
-    (empty-differing column.toggled)
-
 pub toggled-empty : (at : ℕ) (slots : Slots) (line : LineContent) → slots ≡ set.empty →
     line ≡ with_toggled at slots line
 toggled-empty at slots line none =
     let columns : toggled_before at slots line.columns ≡ line.columns =
     ap (λ s. toggled_before at s line.columns) none
-    ∙ ap (λ back. take at line.columns ++ back) (toggled-none (drop at line.columns))
+    ∙ ap (λ back. take at line.columns ++ back) (none-first (drop at line.columns))
     ∙ take-append-drop at line.columns in
     λ i. record { columns = sym columns i; marks = line.marks }
 

@@ -4,8 +4,8 @@ use Rattle.line_lists.specs.DraftTexts.{lines_in}
 use Rattle.line_lists.specs.Drafts.{IsReached, made_lines}
 use Rattle.line_lists.specs.Marking.{StandsIn}
 use Rattle.line_lists.specs.Texts.{whole}
-use Rattle.line_lists.proofs.StandLaws.{AtCopy, at-back, back-more, back-none, copies_to, none-more, none-rest, stands-at}
-use Rattle.line_lists.proofs.StandLaws.{stands-found, stands-rest}
+use Rattle.line_lists.proofs.StandLaws.{AtCopy, at-back, back-more, back-none, copies_to, none-more, none-rest}
+use Rattle.line_lists.proofs.StandLaws.{stands-at, stands-found, stands-rest}
 use Rattle.line_lists.proofs.drafts.Draft.find_behind.Given.{Over}
 use Rattle.line_lists.proofs.drafts.Draft.find_behind.Goals as goal
 use Rattle.line_lists.proofs.drafts.Draft.find_behind.Goals.{After-index-copy, In_ok-offset}

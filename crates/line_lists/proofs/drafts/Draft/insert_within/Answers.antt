@@ -14,7 +14,9 @@ use Rattle.line_lists.proofs.drafts.Draft.insert_within.Goals.{In_ok-insert_text
 -- what the text makes of the lines
 made : (g : Over) (c : In_ok-insert_text g) →
     Makes (after_text c.args.offset (chars c.args.text.now)) (lines_in g.L.LineList.lines c.args.self.now)
-    (taken_in g.L.LineList.lines c.take.new.self (record c.in_ok-stop.field-0.stop.copy { line = c.insert_text.new.self }))
+    (taken_in g.L.LineList.lines c.take.new.self (record c.in_ok-stop.field-0.stop.copy {
+      line = c.insert_text.new.self;
+    }))
 made g c =
     let lines = g.L.LineList.lines c.take.new.self.list.now in
     let found = c.in_ok-stop.field-0 in

@@ -14,7 +14,9 @@ use Rattle.line_lists.proofs.drafts.Draft.take_mark_at.Goals.{After-take_mark}
 -- what is left of the lines without the mark
 made : (g : Over) (c : After-take_mark g) →
     Makes (without_mark c.args.number.0) (lines_in g.L.LineList.lines c.args.self.now)
-    (taken_in g.L.LineList.lines c.take.new.self (record c.in_ok-stop.field-0.stop.copy { line = c.take_mark.new.self }))
+    (taken_in g.L.LineList.lines c.take.new.self (record c.in_ok-stop.field-0.stop.copy {
+      line = c.take_mark.new.self;
+    }))
 made g c =
     let lines = g.L.LineList.lines c.take.new.self.list.now in
     let found = c.in_ok-stop.field-0 in
