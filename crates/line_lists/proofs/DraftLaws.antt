@@ -291,11 +291,6 @@ pub last-begins-behind : (lines : List LineContent) (offset : ℕ) (front : List
 last-begins-behind lines offset front back stop draft last large before other is =
     omega (arith, large, last-begins lines front before back stop other draft last is)
 
-pub begins-none : (lines : List LineContent) (offset : ℕ) (front : List Stop) → front ≡ [] → BeginsBy lines offset front
-begins-none lines offset front none before other is =
-    let long : 0 ≡ length before + 1 = sym (ap length none) ∙ ap length is ∙ length-append before (other ∷ []) in
-    absurd (omega (arith, long))
-
 pub begins-behind : (lines : List LineContent) (offset : ℕ) (front : List Stop) (back : List Copied) (reached : Reached)
     (copy : Copied) → IsReached reached (copies_of front) lines
     → Some copy ≡ slice_get back (length back - 1) → offset < line_start reached copy lines →

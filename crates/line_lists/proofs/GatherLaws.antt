@@ -30,7 +30,7 @@ use Rattle.line_lists.proofs.CountRows.{count-append}
 use Rattle.line_lists.proofs.DraftLaws.{copies-snoc, made-snoc, used-append}
 use Rattle.line_lists.proofs.FreedLaws.{freed-apart, freed-count_characters, freed-count_lines, freed-count_marks}
 use Rattle.line_lists.proofs.FreedLaws.{freed-drafted, freed-length, freed-lines, in_names}
-use Rattle.line_lists.proofs.PieceLaws.{covers-all, covers-more, covers-new, covers-none}
+use Rattle.line_lists.proofs.PieceLaws.{covers-all, covers-more, covers-new}
 
 -- the last of a list, as it is and as it becomes
 pub last-of : {A : Type 0} (xs : List A) (n : ℕ) (x : A) → n ≡ length xs → 0 < n → x ≡ get_or xs (n - 1) x →
@@ -282,16 +282,6 @@ final_snoc d (y ∷ xs) x = final_snoc y xs x
 
 snoc_same : {A : Type 0} (xs ys : List A) (x y : A) → xs ++ x ∷ [] ≡ ys ++ y ∷ [] → x ≡ y
 snoc_same xs ys x y is = sym (final_snoc x xs x) ∙ ap (final x) is ∙ final_snoc x ys y
-
-pub gather-none : (front : List Stop) (lines : List LineContent) → Gathers front [] lines []
-gather-none front lines = record {
-  covers = covers-none (base_of front lines) (count_of []);
-  ends = λ before last is. let long : 0 ≡ length before + 1 = ap length is ∙ length-append before (last ∷ []) in
-      absurd (omega (arith, long));
-  none = λ _. refl;
-  brings = refl;
-  one = λ piece is. let long : 0 ≡ 1 = ap length is in absurd (omega (arith, long));
-}
 
 -- a list of one that ends in this
 snoc_one : {A : Type 0} (xs : List A) (x y : A) → xs ++ x ∷ [] ≡ y ∷ [] → xs ≡ []

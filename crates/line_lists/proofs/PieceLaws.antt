@@ -45,12 +45,6 @@ can-split (first ∷ pieces) piece lines can =
     ((rest.0, subst (FitsIn first) (placed-snoc pieces piece lines) can.1), rest.1)
 
 -- ---- what pieces make, whatever follows them
-pub covers-none : (base : List LineContent) (sum : Count) → Covers [] 0 [] base sum
-covers-none base sum = record {
-  places = λ rest. refl;
-  can = λ rest follows. tt;
-}
-
 -- so many lines of a list in whose place others come
 take_front : {A : Type 0} (n m : ℕ) (xs ys : List A) → n ≤ m → m ≤ length xs → take n (take m xs ++ ys) ≡ take n xs
 take_front n m xs ys below within =

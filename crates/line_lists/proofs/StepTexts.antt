@@ -240,10 +240,6 @@ pub record Goes (steps : List Step) (first : LineContent) (rest : List Step) (te
     pub fits : Fits rest (text_of text)
     pub new : after rest (text_of text) ≡ after steps (text_of first)
 
-pub goes-first : (steps : List Step) (text : LineContent) (len : ℕ) → len ≡ length text.columns → 0 < len →
-    Fits steps (text_of text) → Goes steps text steps text len
-goes-first steps text len is some fits = record { len = is; some = some; fits = fits; new = refl }
-
 pub goes-at : (steps : List Step) (first text : LineContent) (step : Step) (i len : ℕ) → i < length steps →
     step ≡ get_or steps i step → Goes steps first (drop i steps) text len
     → Goes steps first (step ∷ drop (i + 1) steps) text len
