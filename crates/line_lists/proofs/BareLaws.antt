@@ -5,6 +5,7 @@ use Rattle.std.specs.Prelude.{slice_get}
 use Rattle.std.specs.Cmp.{nat_cmp_total}
 use Rattle.std.specs.FinSet as set
 use Rattle.std.specs.Ordering.{nat_cmp}
+use Rattle.std.proofs.lemmas.Bool.{or_parts}
 use Rattle.std.proofs.lemmas.List.{take-map}
 use Rattle.text_model.specs.Content.{Slots, slot_sets, slots_left_of}
 use Rattle.text_model.specs.SlotSets.{differing}
@@ -17,7 +18,6 @@ use Rattle.line_lists.specs.Texts.{content_of, whole}
 use Rattle.line_lists.specs.Toggling.{tags_left_of}
 use Rattle.line_lists.proofs.CountRows.{count-presence}
 use Rattle.line_lists.proofs.PlaceRows.{length-content, tags-behind, tags-column}
-use Rattle.std.proofs.lemmas.Bool.{or_parts}
 
 pub none-first : (s t : Slots) → set.union s t ≡ set.empty → s ≡ set.empty
 none-first s t none =

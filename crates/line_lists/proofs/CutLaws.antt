@@ -20,15 +20,15 @@ use Rattle.text_model.proofs.PlaceLaws.{get-map_marks, same_marks}
 use Rattle.segments.specs.Columns.{Column, LineContent, after_text, characters, earlier, joined, later, line_before}
 use Rattle.segments.specs.Columns.{line_behind, marks_where, plain_columns, plain_line}
 use Rattle.segments.proofs.MarkLaws.{get-joined_marks, or_else}
+use Rattle.segments.proofs.PlainLaws.{characters-plain}
 use Rattle.line_lists.specs.Lists.{AreApart, AreRows, GoesBefore, IsLine, StandBefore}
 use Rattle.line_lists.specs.Texts.{whole}
 use Rattle.line_lists.proofs.EditLaws.{length-text, some-columns, text-among, text-goes, text-whole}
+use Rattle.line_lists.proofs.MarkPlaces.{apart-rest}
 use Rattle.line_lists.proofs.NewlineRows.{none_before}
 use Rattle.line_lists.proofs.PassingLaws.{find-passing, passing}
 use Rattle.line_lists.proofs.RowLaws.{AreAmong, Makes, among-first, free-joined, rows-before, rows-behind}
 use Rattle.line_lists.proofs.WholeLaws.{joined-associative, whole-append}
-use Rattle.line_lists.proofs.MarkPlaces.{apart-rest}
-use Rattle.segments.proofs.PlainLaws.{characters-plain}
 
 -- ---- the marks that pass a test
 pub get-marks_where : (test : Place → Bool) (marks : Marks) (number : ℕ) →

@@ -19,6 +19,7 @@ use Rattle.text_model.proofs.SpliceLaws.{length-inserted, map-inserted}
 use Rattle.text_model.proofs.StepLaws.{moved_le}
 use Rattle.segments.specs.Columns.{Column, LineContent, after_text, characters, joined, later, plain_columns}
 use Rattle.segments.proofs.MarkLaws.{get-joined_marks, or_else, tied_same}
+use Rattle.segments.proofs.PlainLaws.{characters-plain}
 use Rattle.line_lists.specs.Drafts.{StandsBy}
 use Rattle.line_lists.specs.Edits.{with_mark, without_mark}
 use Rattle.line_lists.specs.Lists.{AreApart, AreRows, GoesBefore, IsLine, StandBefore, StandWithin}
@@ -27,7 +28,6 @@ use Rattle.line_lists.proofs.MarkRows.{get-row}
 use Rattle.line_lists.proofs.RowLaws.{AreAmong, Makes, StayFree, among-first, free-joined, free-parts, rows-among}
 use Rattle.line_lists.proofs.RowLaws.{rows-before, rows-behind, whole-around}
 use Rattle.line_lists.proofs.WholeLaws.{after_text-between, whole-append, with_mark-between, without_mark-between}
-use Rattle.segments.proofs.PlainLaws.{characters-plain}
 
 -- ---- the marks of lines before others stand before their end
 pub joined_one : (len end : ℕ) (found first : Option Place) (place : Place) →

@@ -5,6 +5,7 @@ use Rattle.std.proofs.Common.{length-append, take-append-drop}
 use Rattle.std.specs.FinMap as finite
 use Rattle.std.specs.Ordering.{nat_cmp}
 use Rattle.std.specs.Prelude.{if◌then◌else◌, nat_lt, option_map}
+use Rattle.std.proofs.lemmas.Bool.{or_parts}
 use Rattle.std.proofs.lemmas.Bool.Decides.{nat_tests}
 use Rattle.std.proofs.lemmas.List.{append-nil, length-map, length-take-le, map-append}
 use Rattle.text_model.specs.declared.places.Place.{Place}
@@ -21,7 +22,6 @@ use Rattle.line_lists.proofs.EditLaws.{rows-stand}
 use Rattle.line_lists.proofs.MarkRows.{moved_before}
 use Rattle.line_lists.proofs.RowLaws.{AreAmong, Makes, free-joined, rows-before, rows-behind}
 use Rattle.line_lists.proofs.WholeLaws.{whole-append}
-use Rattle.std.proofs.lemmas.Bool.{or_parts}
 
 -- ---- one text behind another
 moves_twice : (a n m : ℕ) (first second : Bool) (place : Place) → first ≡ goes_behind a place →

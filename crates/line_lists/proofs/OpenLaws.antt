@@ -17,9 +17,9 @@ use Rattle.line_lists.proofs.CutLaws.{some-text, split-makes}
 use Rattle.line_lists.proofs.DraftLaws.{copies-snoc, drafted-append, length-whole, used-append}
 use Rattle.line_lists.proofs.EditLaws.{length-text}
 use Rattle.line_lists.proofs.FindLaws.{made-ends, put-back, taken-is}
+use Rattle.line_lists.proofs.HeldLaws.{lines-there}
 use Rattle.line_lists.proofs.InsertionLaws.{line-makes, right-moved, text-twice}
 use Rattle.line_lists.proofs.RowLaws.{Makes}
-use Rattle.line_lists.proofs.HeldLaws.{lines-there}
 
 -- a line that stands for none of the list
 abbrev pub new_copy : LineContent → Copied

@@ -18,9 +18,9 @@ use Rattle.line_lists.specs.Texts.{whole}
 use Rattle.line_lists.proofs.CountRows.{count-append}
 use Rattle.line_lists.proofs.DraftLaws.{take-more}
 use Rattle.line_lists.proofs.EditLaws.{rows-apart}
+use Rattle.line_lists.proofs.FreedLaws.{free-front}
 use Rattle.line_lists.proofs.RowLaws.{free-joined, free-parts, rows-among, rows-behind}
 use Rattle.line_lists.proofs.WholeLaws.{whole-append}
-use Rattle.line_lists.proofs.FreedLaws.{free-front}
 
 -- ---- one piece more
 pub placed-snoc : (pieces : List Piece) (piece : Piece) (lines : List LineContent) →
@@ -44,8 +44,7 @@ can-split (first ∷ pieces) piece lines can =
     let rest = can-split pieces piece lines can.0 in
     ((rest.0, subst (FitsIn first) (placed-snoc pieces piece lines) can.1), rest.1)
 
--- ---- what pieces make, whatever follows them
--- so many lines of a list in whose place others come
+-- ---- so many lines of a list in whose place others come
 take_front : {A : Type 0} (n m : ℕ) (xs ys : List A) → n ≤ m → m ≤ length xs → take n (take m xs ++ ys) ≡ take n xs
 take_front n m xs ys below within =
     take-append-le n (take m xs) ys (omega (arith, below, length-take-le m xs within)) ∙ take-take n m xs below

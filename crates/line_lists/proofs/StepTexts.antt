@@ -34,8 +34,8 @@ use Rattle.line_lists.proofs.EditLaws.{length-text}
 use Rattle.line_lists.proofs.FreedLaws.{eq_self}
 use Rattle.line_lists.proofs.MadeLaws.{text-made}
 use Rattle.line_lists.proofs.PlaceRows.{length-cells}
-use Rattle.line_lists.proofs.WholeLaws.{length-toggled}
 use Rattle.line_lists.proofs.RemovalLaws.{none-first}
+use Rattle.line_lists.proofs.WholeLaws.{length-toggled}
 
 -- ---- slots that are toggled nowhere
 pub toggled-end : (at : ℕ) (slots : Slots) (line : LineContent) → length line.columns ≤ at →

@@ -9,10 +9,10 @@ use Rattle.segments.specs.Columns.{LineContent, plain_line}
 use Rattle.line_lists.specs.Lists.{AreLines, NumbersBelow}
 use Rattle.line_lists.specs.Pieces.{numbers_in, numbers_of}
 use Rattle.line_lists.specs.Texts.{content_of, text_of, whole}
+use Rattle.line_lists.proofs.FoundMarks.{rows-some}
 use Rattle.line_lists.proofs.FreedLaws.{Names, names-left, names-right, names_of}
 use Rattle.line_lists.proofs.TagLaws.{cells-plain}
 use Rattle.line_lists.proofs.WholeLaws.{whole-one}
-use Rattle.line_lists.proofs.FoundMarks.{rows-some}
 
 -- a text has a character
 pub some-text : (lines : List LineContent) → AreLines lines → 0 < length (whole lines).columns

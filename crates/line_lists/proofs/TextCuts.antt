@@ -13,8 +13,8 @@ use Rattle.text_model.specs.Lines.{lines}
 use Rattle.text_model.proofs.DocumentLaws.{ends_with_rest}
 use Rattle.text_model.proofs.LineLaws.{lines-append, lines-cons}
 use Rattle.segments.specs.Columns.{plain_line}
-use Rattle.line_lists.specs.Lists.{IsLine}
 use Rattle.segments.proofs.PlainLaws.{characters-plain}
+use Rattle.line_lists.specs.Lists.{IsLine}
 
 none-lines : (text : List ℕ) → NonePass (λ d. d == 10) text → lines text ≡ 0
 none-lines [] none = refl

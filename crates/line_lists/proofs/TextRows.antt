@@ -4,20 +4,20 @@ use Rattle.std.proofs.Common.{ap, ap₂, ◌∙◌, arith, add-one, append_assoc
 use Rattle.std.proofs.Common.{take-append-drop}
 use Rattle.std.specs.Prelude.{slice_get, slice_range, Some}
 use Rattle.std.proofs.lemmas.Bool.{cases_lt}
-use Rattle.std.proofs.Math.Seq.{drop-append-add}
 use Rattle.std.proofs.lemmas.List.{append-nil, drop-append-le, length-map, map-append, take-append-le, take_all}
+use Rattle.std.proofs.lemmas.List.{drop-drop}
 use Rattle.std.proofs.lemmas.Option.{none-some, same_Some}
+use Rattle.std.proofs.Math.Seq.{drop-append-add}
 use Rattle.segments.specs.Columns.{Column, LineContent, characters}
 use Rattle.text_model.specs.Content.{characters as cell_characters}
 use Rattle.line_lists.specs.Places.{IsAt}
 use Rattle.line_lists.specs.Texts.{content_of, whole}
+use Rattle.line_lists.proofs.DraftLaws.{take-more}
 use Rattle.line_lists.proofs.LineStarts.{at-before, at-within, length_at, lent, lent-length, start-next}
 use Rattle.line_lists.proofs.LineStarts.{start-rises, start_of, there}
 use Rattle.line_lists.proofs.PlaceRows.{characters-content, whole-at}
 use Rattle.line_lists.proofs.SearchRows.{line_at}
 use Rattle.line_lists.proofs.WholeLaws.{whole-append, whole-one}
-use Rattle.line_lists.proofs.DraftLaws.{take-more}
-use Rattle.std.proofs.lemmas.List.{drop-drop}
 
 -- two parts, one behind the other
 pub slice-join : {A : Type 0} (xs : List A) (a b c : ℕ) → a ≤ b → b ≤ c →

@@ -5,6 +5,7 @@ use Rattle.std.specs.FinSet as set
 use Rattle.std.specs.Cmp.{nat_cmp_total}
 use Rattle.std.specs.Ordering.{nat_cmp}
 use Rattle.std.proofs.Math.Seq.{take-suc}
+use Rattle.std.proofs.lemmas.Bool.{or_parts}
 use Rattle.std.proofs.lemmas.List.{length-map}
 use Rattle.std.proofs.lemmas.Option.{get_or_from_slice_get}
 use Rattle.text_model.specs.declared.cells.Cell.{Cell}
@@ -21,7 +22,6 @@ use Rattle.line_lists.specs.Toggling.{tags_left_of}
 use Rattle.line_lists.proofs.PlaceRows.{flag-at, length-cells, tags-column}
 use Rattle.line_lists.proofs.SearchRows.{FailIn}
 use Rattle.line_lists.proofs.TagLaws.{behind-append}
-use Rattle.std.proofs.lemmas.Bool.{or_parts}
 
 abbrev pub no_column : Column
 no_column = record { character = 0; toggled = set.empty }
