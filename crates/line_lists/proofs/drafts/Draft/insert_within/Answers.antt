@@ -2,7 +2,6 @@ use Rattle.std.proofs.Common.{length, sym, ap, ◌∙◌, subst, arith}
 use Rattle.std.specs.Prelude.{chars}
 use Rattle.segments.specs.Columns.{LineContent, after_text}
 use Rattle.line_lists.specs.DraftTexts.{lines_in, taken_in}
-use Rattle.line_lists.specs.Drafts.{copies_of, lines_before, lines_behind}
 use Rattle.line_lists.specs.Lists.{AreRows}
 use Rattle.line_lists.specs.Texts.{whole}
 use Rattle.line_lists.proofs.EditLaws.{inserted-makes, length-text}
@@ -18,14 +17,10 @@ made : (g : Over) (c : In_ok-insert_text g) →
       line = c.insert_text.new.self;
     }))
 made g c =
-    let lines = g.L.LineList.lines c.take.new.self.list.now in
     let found = c.in_ok-stop.field-0 in
     let copy = found.stop.copy in
-    let copies = copies_of c.take.new.self.front.items in
-    let before = lines_before copies copy lines in
-    let behind = lines_behind copies copy c.take.new.self.back.items lines in
     let place = c.in_ok-stop.ensures.place in
-    inserted-makes before behind _ copy.line c.insert_text.new.self c.args.offset found.column (chars c.args.text.now)
+    inserted-makes _ _ _ copy.line c.insert_text.new.self c.args.offset found.column (chars c.args.text.now)
     c.in_ok-stop.ensures.same place.place place.inside c.requires.free c.requires.is.rows
     c.in_ok-insert_text.ensures.new
 

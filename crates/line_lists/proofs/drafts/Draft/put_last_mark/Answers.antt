@@ -2,7 +2,6 @@ use Rattle.std.proofs.Common.{◌≡◌, ◌+◌, length, sym, ap, ◌∙◌, su
 use Rattle.text_model.specs.declared.places.Place.{Place}
 use Rattle.segments.specs.Columns.{LineContent}
 use Rattle.line_lists.specs.DraftTexts.{lines_in, taken_in}
-use Rattle.line_lists.specs.Drafts.{copies_of, lines_before, lines_behind}
 use Rattle.line_lists.specs.Edits.{with_mark}
 use Rattle.line_lists.specs.Lists.{AreRows}
 use Rattle.line_lists.specs.Texts.{whole}
@@ -17,18 +16,14 @@ made : (g : Over) (c : In_ok-put_mark g) →
     Makes (with_mark c.args.number.0 c.args.place) (lines_in g.L.LineList.lines c.args.self.now)
     (taken_in g.L.LineList.lines c.take.new.self (record c.in_ok-stop.field-0.stop.copy { line = c.put_mark.new.self }))
 made g c =
-    let lines = g.L.LineList.lines c.take.new.self.list.now in
     let found = c.in_ok-stop.field-0 in
     let copy = found.stop.copy in
-    let copies = copies_of c.take.new.self.front.items in
-    let before = lines_before copies copy lines in
-    let behind = lines_behind copies copy c.take.new.self.back.items lines in
     let place = c.in_ok-stop.ensures.place in
     let there : Place = record c.args.place { offset = found.column + 1 } in
     let new_is : c.put_mark.new.self ≡ with_mark c.args.number.0 there copy.line = λ i.
     record { columns = c.put_mark.ensures.columns i; marks = c.in_ok-put_mark.ensures.marks i } in
     let some = draft-some (g.L.LineList.are_lines c.args.self.now.list.now).some c.requires.is in
-    last-makes before behind _ copy.line c.put_mark.new.self c.args.place c.args.number.0 found.column
+    last-makes _ _ _ copy.line c.put_mark.new.self c.args.place c.args.number.0 found.column
     c.in_ok-stop.ensures.same c.requires.is.rows some c.requires.end place.place place.inside c.requires.free new_is
 
 pub overflow_sub-place : goal.overflow_sub-place

@@ -1,7 +1,6 @@
 use Rattle.std.proofs.Common.{◌≡◌, length, sym, ap, ◌∙◌, subst, arith}
 use Rattle.segments.specs.Columns.{LineContent}
 use Rattle.line_lists.specs.DraftTexts.{lines_in, taken_in}
-use Rattle.line_lists.specs.Drafts.{copies_of, lines_before, lines_behind}
 use Rattle.line_lists.specs.Edits.{with_toggled}
 use Rattle.line_lists.specs.Lists.{AreRows}
 use Rattle.line_lists.specs.Texts.{whole}
@@ -16,18 +15,14 @@ made : (g : Over) (c : In_ok-toggle g) →
     Makes (with_toggled c.args.offset c.args.slots.now) (lines_in g.L.LineList.lines c.args.self.now)
     (taken_in g.L.LineList.lines c.take.new.self (record c.in_ok-stop.field-0.stop.copy { line = c.toggle.new.self }))
 made g c =
-    let lines = g.L.LineList.lines c.take.new.self.list.now in
     let found = c.in_ok-stop.field-0 in
     let copy = found.stop.copy in
-    let copies = copies_of c.take.new.self.front.items in
-    let before = lines_before copies copy lines in
-    let behind = lines_behind copies copy c.take.new.self.back.items lines in
     let place = c.in_ok-stop.ensures.place in
     let columns = c.in_ok-toggle.ensures.columns
     ∙ toggled-line found.column c.args.slots.now copy.line.columns place.inside in
     let new_is : c.toggle.new.self ≡ with_toggled found.column c.args.slots.now copy.line = λ i.
     record { columns = columns i; marks = c.toggle.ensures.marks i } in
-    toggled-makes before behind _ copy.line c.toggle.new.self c.args.offset found.column c.args.slots.now
+    toggled-makes _ _ _ copy.line c.toggle.new.self c.args.offset found.column c.args.slots.now
     c.in_ok-stop.ensures.same place.place place.inside new_is
 
 pub put-requires-clause-counted : goal.put-requires-clause-counted
