@@ -1,11 +1,10 @@
-use Rattle.std.proofs.Common.{length, sym, ap, ◌∙◌, subst, arith}
+use Rattle.std.proofs.Common.{length, ap, ◌∙◌, arith}
 use Rattle.std.specs.Prelude.{chars}
 use Rattle.segments.specs.Columns.{LineContent, after_text}
 use Rattle.line_lists.specs.DraftTexts.{lines_in, taken_in}
-use Rattle.line_lists.specs.Lists.{AreRows}
 use Rattle.line_lists.specs.Texts.{whole}
 use Rattle.line_lists.proofs.EditLaws.{inserted-makes, length-text}
-use Rattle.line_lists.proofs.RowLaws.{Makes}
+use Rattle.line_lists.proofs.RowLaws.{Makes, made-text}
 use Rattle.line_lists.proofs.drafts.Draft.insert_within.Given.{Over}
 use Rattle.line_lists.proofs.drafts.Draft.insert_within.Goals as goal
 use Rattle.line_lists.proofs.drafts.Draft.insert_within.Goals.{In_ok-insert_text}
@@ -34,11 +33,8 @@ put-requires-clause-counted g c =
 
 pub returns-clause-is : goal.returns-clause-is
 returns-clause-is g c =
-    let makes = made g (goal.at.returns-clause-is g c).In_ok-insert_text in
-    record {
-      draft = c.put.ensures.is;
-      rows = subst AreRows (sym c.put.ensures.lines) (makes.rows c.requires.is.rows);
-    }
+    made-text c.put.ensures.is c.put.ensures.lines (made g (goal.at.returns-clause-is g c).In_ok-insert_text)
+    c.requires.is.rows
 
 pub returns-clause-new : goal.returns-clause-new
 returns-clause-new g c =

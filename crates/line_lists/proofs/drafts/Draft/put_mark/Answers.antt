@@ -1,12 +1,11 @@
-use Rattle.std.proofs.Common.{◌≡◌, length, sym, ap, ◌∙◌, subst, arith}
+use Rattle.std.proofs.Common.{◌≡◌, length, ap, ◌∙◌, arith}
 use Rattle.text_model.specs.declared.places.Place.{Place}
 use Rattle.segments.specs.Columns.{LineContent}
 use Rattle.line_lists.specs.DraftTexts.{lines_in, taken_in}
 use Rattle.line_lists.specs.Edits.{with_mark}
-use Rattle.line_lists.specs.Lists.{AreRows}
 use Rattle.line_lists.specs.Texts.{whole}
 use Rattle.line_lists.proofs.EditLaws.{marked-makes}
-use Rattle.line_lists.proofs.RowLaws.{Makes}
+use Rattle.line_lists.proofs.RowLaws.{Makes, made-text}
 use Rattle.line_lists.proofs.drafts.Draft.put_mark.Given.{Over}
 use Rattle.line_lists.proofs.drafts.Draft.put_mark.Goals as goal
 use Rattle.line_lists.proofs.drafts.Draft.put_mark.Goals.{In_ok-put_mark}
@@ -32,11 +31,8 @@ put-requires-clause-counted g c =
 
 pub returns-clause-is : goal.returns-clause-is
 returns-clause-is g c =
-    let makes = made g (goal.at.returns-clause-is g c).In_ok-put_mark in
-    record {
-      draft = c.put.ensures.is;
-      rows = subst AreRows (sym c.put.ensures.lines) (makes.rows c.requires.is.rows);
-    }
+    made-text c.put.ensures.is c.put.ensures.lines (made g (goal.at.returns-clause-is g c).In_ok-put_mark)
+    c.requires.is.rows
 
 pub returns-clause-new : goal.returns-clause-new
 returns-clause-new g c =

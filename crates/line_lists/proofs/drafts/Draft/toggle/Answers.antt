@@ -1,10 +1,9 @@
-use Rattle.std.proofs.Common.{◌≡◌, length, sym, ap, ◌∙◌, subst, arith}
+use Rattle.std.proofs.Common.{◌≡◌, length, ap, ◌∙◌, arith}
 use Rattle.segments.specs.Columns.{LineContent}
 use Rattle.line_lists.specs.DraftTexts.{lines_in, taken_in}
 use Rattle.line_lists.specs.Edits.{with_toggled}
-use Rattle.line_lists.specs.Lists.{AreRows}
 use Rattle.line_lists.specs.Texts.{whole}
-use Rattle.line_lists.proofs.RowLaws.{Makes, toggled-line, toggled-makes}
+use Rattle.line_lists.proofs.RowLaws.{Makes, made-text, toggled-line, toggled-makes}
 use Rattle.line_lists.proofs.WholeLaws.{length-toggled}
 use Rattle.line_lists.proofs.drafts.Draft.toggle.Given.{Over}
 use Rattle.line_lists.proofs.drafts.Draft.toggle.Goals as goal
@@ -35,11 +34,8 @@ put-requires-clause-counted g c =
 
 pub returns-clause-is : goal.returns-clause-is
 returns-clause-is g c =
-    let makes = made g (goal.at.returns-clause-is g c).In_ok-toggle in
-    record {
-      draft = c.put.ensures.is;
-      rows = subst AreRows (sym c.put.ensures.lines) (makes.rows c.requires.is.rows);
-    }
+    made-text c.put.ensures.is c.put.ensures.lines (made g (goal.at.returns-clause-is g c).In_ok-toggle)
+    c.requires.is.rows
 
 pub returns-clause-new : goal.returns-clause-new
 returns-clause-new g c =
