@@ -1,10 +1,11 @@
 -- Lines in which no slot is toggled: none is on before any of their columns.
-use Rattle.std.proofs.Common.{◌≡◌, ℕ, ◌+◌, ◌<◌, Bool, true, false, ◌||◌, List, [], ◌∷◌, Some, length, take, drop}
+use Rattle.std.proofs.Common.{◌≡◌, ℕ, ◌+◌, ◌<◌, List, [], ◌∷◌, Some, length, take, drop}
 use Rattle.std.proofs.Common.{refl, sym, ap, ◌∙◌, arith, take-append-drop}
 use Rattle.std.specs.Prelude.{slice_get}
 use Rattle.std.specs.Cmp.{nat_cmp_total}
 use Rattle.std.specs.FinSet as set
 use Rattle.std.specs.Ordering.{nat_cmp}
+use Rattle.std.proofs.lemmas.Bool.{or_parts}
 use Rattle.std.proofs.lemmas.List.{take-map}
 use Rattle.text_model.specs.Content.{Slots, slot_sets, slots_left_of}
 use Rattle.text_model.specs.SlotSets.{differing}
@@ -18,14 +19,10 @@ use Rattle.line_lists.specs.Toggling.{tags_left_of}
 use Rattle.line_lists.proofs.CountRows.{count-presence}
 use Rattle.line_lists.proofs.PlaceRows.{length-content, tags-behind, tags-column}
 
-left_false : (a b : Bool) → (a || b) ≡ false → a ≡ false
-left_false true b none = none
-left_false false b none = refl
-
 pub none-first : (s t : Slots) → set.union s t ≡ set.empty → s ≡ set.empty
 none-first s t none =
-    same_slots _ _ (λ q. left_false (set.contains s q) (set.contains t q)
-    (sym (set.contains-union nat_cmp_total s t q) ∙ ap (λ u. set.contains u q) none ∙ set.contains-empty nat_cmp q)
+    same_slots _ _ (λ q. (or_parts (set.contains s q) (set.contains t q)
+    (sym (set.contains-union nat_cmp_total s t q) ∙ ap (λ u. set.contains u q) none ∙ set.contains-empty nat_cmp q)).0
     ∙ sym (set.contains-empty nat_cmp q))
 
 pub none-second : (s t : Slots) → set.union s t ≡ set.empty → t ≡ set.empty

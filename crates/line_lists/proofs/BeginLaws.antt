@@ -1,6 +1,6 @@
 -- Where to begin to take the toggles of a slot away from an offset on: if the kept line that holds it has none, further
 -- on. All is as if that line were copied, and cleared, which leaves the text as it is.
-use Rattle.std.proofs.Common.{◌≡◌, ℕ, ◌+◌, ◌-◌, ◌<◌, ◌≤◌, min, true, false, List, [], ◌∷◌, ◌++◌, Some, length}
+use Rattle.std.proofs.Common.{◌≡◌, ℕ, ◌+◌, ◌-◌, ◌<◌, ◌≤◌, min, true, false, List, [], ◌∷◌, ◌++◌, length}
 use Rattle.std.proofs.Common.{take, drop, refl, sym, ap, subst, ◌∙◌, arith}
 use Rattle.std.specs.Prelude.{IfSome, slice_get}
 use Rattle.segments.specs.Columns.{LineContent}
@@ -8,7 +8,7 @@ use Rattle.line_lists.specs.declared.drafts.Copied.{Copied}
 use Rattle.line_lists.specs.declared.drafts.Reached.{Reached}
 use Rattle.line_lists.specs.declared.drafts.Stop.{Stop}
 use Rattle.line_lists.specs.Clearing.{AreFree, free_end}
-use Rattle.line_lists.specs.Drafts.{IsFound, IsReached, IsTaken, IsText, StandsAt, copies_of, covered, drafted_at}
+use Rattle.line_lists.specs.Drafts.{IsReached, IsTaken, IsText, StandsAt, copies_of, covered, drafted_at}
 use Rattle.line_lists.specs.Drafts.{line_start, taken_lines, text_at}
 use Rattle.line_lists.specs.Drafts.{place_of}
 use Rattle.line_lists.specs.Edits.{with_cleared}
@@ -17,8 +17,8 @@ use Rattle.line_lists.specs.Texts.{whole}
 use Rattle.line_lists.proofs.ClearingLaws.{ClearsLine, cleared-none, clears-line, clears-on, end-rest, end-within}
 use Rattle.line_lists.proofs.ClearingLaws.{line-kept, place-behind}
 use Rattle.line_lists.proofs.DraftLaws.{copies-snoc, reached-more, stop_of}
-use Rattle.line_lists.proofs.FindLaws.{begin, begin-more, begin-next, found-line, inside-line, opened-place}
-use Rattle.line_lists.proofs.FindLaws.{opened-rest, taken-is}
+use Rattle.line_lists.proofs.FindLaws.{IsKept, begin, begin-more, begin-next, opened, opened-rest, opened-stands}
+use Rattle.line_lists.proofs.FindLaws.{taken-is}
 
 -- how many characters stand between two lines
 between : (lines : List LineContent) (i j : ℕ) → i ≤ j →
@@ -27,12 +27,20 @@ between lines i j ordered =
     sym (begin-more lines i (j - i))
     ∙ ap (begin lines) (let same : i + (j - i) ≡ j = omega (arith, ordered) in same)
 
-module _ (slot from to : ℕ) (lines : List LineContent) (front : List Stop) (back : List Copied) (reached : Reached)
-    (none : back ≡ []) (text : IsText lines front back) (is : IsReached reached (copies_of front) lines)
-    (line column : ℕ) (here : LineContent) (find : IsFound reached lines from line column)
-    (get : slice_get lines line ≡ Some here) (free : has_toggle slot here ≡ false) (ordered : from < to) where
+-- an offset in a kept line without a toggle of the slot, behind all copies
+pub record BeginsFree (slot from to : ℕ) (lines : List LineContent) (front : List Stop) (back : List Copied)
+    (reached : Reached) (line column : ℕ) (here : LineContent) : Type 0 where
+  pub none : back ≡ []
+  pub text : IsText lines front back
+  pub kept : IsKept lines front reached from line column here
+  pub free : has_toggle slot here ≡ false
+  pub ordered : from < to
+
+module _ {slot from to : ℕ} {lines : List LineContent} {front : List Stop} {back : List Copied} {reached : Reached}
+    {line column : ℕ} {here : LineContent}
+    (begins : BeginsFree slot from to lines front back reached line column here) where
   abbrev copy_here : Copied
-  copy_here = record { kept = line - reached.used; gone = 1; line = here }
+  copy_here = opened reached line here
 
   abbrev stop_here : Stop
   stop_here = stop_of lines reached copy_here
@@ -44,32 +52,27 @@ module _ (slot from to : ℕ) (lines : List LineContent) (front : List Stop) (ba
   old = text_at lines front back
 
   same : taken_lines lines front [] copy_here ≡ drafted_at lines front back
-  same =
-      opened-rest lines front copy_here refl (found-line lines front reached line here is find.first get)
-      ∙ ap (drafted_at lines front) (sym none)
+  same = opened-rest begins.kept ∙ ap (drafted_at lines front) (sym begins.none)
 
   text_is : text_at lines passed [] ≡ old
   text_is = ap whole (taken-is lines front [] stop_here ∙ same)
 
   stands : StandsAt lines front copy_here from column
-  stands = record {
-    place = opened-place lines front reached copy_here from line column is find refl;
-    inside = inside-line column (slice_get lines line) here get find.inside;
-  }
+  stands = opened-stands begins.kept
 
   taken : IsTaken lines front [] stop_here
   taken = record {
-    stops = text.draft.stops;
-    placed = record { reached = is; start = refl };
-    there = omega (arith, is.used, find.first, find.within);
+    stops = begins.text.draft.stops;
+    placed = record { reached = begins.kept.so_far; start = refl };
+    there = omega (arith, begins.kept.so_far.used, begins.kept.found.first, begins.kept.found.within);
   }
 
   clears : ClearsLine slot from to lines (drafted_at lines front back) passed []
   clears =
       clears-line slot from to column lines (drafted_at lines front back) front [] stop_here here taken same stands
-      text.rows text.draft.counted ordered
+      begins.text.rows begins.text.draft.counted begins.ordered
       (line-kept slot column (min (length here.columns) (column + (to - from))) here (omega (arith, stands.inside))
-      free)
+      begins.free)
 
   -- up to an offset in the same line, or to its end
   pub free-line : to - from ≤ length here.columns - column → old ≡ with_cleared slot from to old
@@ -99,10 +102,10 @@ module _ (slot from to : ℕ) (lines : List LineContent) (front : List Stop) (ba
 
     goes_beyond : IsReached beyond (copies_of passed) lines
     goes_beyond = subst (λ copies. IsReached beyond copies lines) (sym (copies-snoc front stop_here))
-        (reached-more reached beyond (copies_of front) copy_here lines is refl refl)
+        (reached-more reached beyond (copies_of front) copy_here lines begins.kept.so_far refl refl)
 
     first : beyond.used ≡ line + 1
-    first = omega (arith, find.first)
+    first = omega (arith, begins.kept.found.first)
 
     behind-is : behind ≡ free_end slot lines passed []
     behind-is =
@@ -112,11 +115,11 @@ module _ (slot from to : ℕ) (lines : List LineContent) (front : List Stop) (ba
           arith,
           ends,
           first,
-          between lines reached.used next (omega (arith, find.first, above)),
+          between lines reached.used next (omega (arith, begins.kept.found.first, above)),
           between lines beyond.used next (omega (arith, first, above)),
-          between lines reached.used line find.first,
+          between lines reached.used line begins.kept.found.first,
           ap (begin lines) first,
-          begin-next lines line here get,
+          begin-next lines line here begins.kept.get,
         )
 
     pub behind-within : behind ≤ length old.columns
@@ -132,5 +135,5 @@ module _ (slot from to : ℕ) (lines : List LineContent) (front : List Stop) (ba
 
     pub free-lines : to ≤ length old.columns → old ≡ with_cleared slot from (min behind to) old
     free-lines within =
-        clears-on slot from from to (min behind to) lines passed [] old old old (omega arith) ordered within
+        clears-on slot from from to (min behind to) lines passed [] old old old (omega arith) begins.ordered within
         (sym (cleared-none slot from old)) clears.above clears.new (omega (arith, behind-is)) (sym text_is)

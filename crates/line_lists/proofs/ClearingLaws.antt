@@ -4,7 +4,7 @@ use Rattle.std.proofs.Common.{Option, None, Some, length, get_or, map, take, dro
 use Rattle.std.proofs.Common.{◌∙◌, arith, append_assoc, length-append, length-drop, length-take, take-append-drop}
 use Rattle.std.specs.FinSet as set
 use Rattle.std.specs.Prelude.{IfSome, if◌then◌else◌, reverse, slice_get, unwrap_or}
-use Rattle.std.proofs.lemmas.Bool.{cases_lt}
+use Rattle.std.proofs.lemmas.Bool.{cases_lt, or_parts}
 use Rattle.std.proofs.lemmas.List.{append-nil, drop-drop, drop-map, get_or-drop, get_or-take, map-append}
 use Rattle.std.proofs.lemmas.List.{reverse-append, take-append-le, take-map, take-take, take_all}
 use Rattle.std.proofs.lemmas.Option.{slice_get-get_or}
@@ -19,7 +19,7 @@ use Rattle.line_lists.specs.declared.drafts.Copied.{Copied}
 use Rattle.line_lists.specs.declared.drafts.Reached.{Reached}
 use Rattle.line_lists.specs.declared.drafts.Stop.{Stop}
 use Rattle.line_lists.specs.Clearing.{AreFree, free_end, free_length, lines_on}
-use Rattle.line_lists.specs.Drafts.{BeginsBehind, IsFound, IsReached, IsTaken, IsText, StandsAt, copies_of, covered}
+use Rattle.line_lists.specs.Drafts.{BeginsBehind, IsDraft, IsReached, IsTaken, IsText, StandsAt, copies_of, covered}
 use Rattle.line_lists.specs.Drafts.{drafted, drafted_at, lines_before, lines_behind, made_lines, taken_lines, text_at}
 use Rattle.line_lists.specs.Drafts.{tags_after, used}
 use Rattle.line_lists.specs.Drafts.{place_of}
@@ -27,16 +27,16 @@ use Rattle.line_lists.specs.Edits.{with_cleared}
 use Rattle.line_lists.specs.Lists.{AreRows, has_toggle, next_line}
 use Rattle.line_lists.specs.Texts.{whole}
 use Rattle.line_lists.specs.Toggling.{cleared, tags_left_of}
-use Rattle.line_lists.proofs.DraftLaws.{behind-whole, copies-snoc, drafted-append, last_is, last_same, length-whole}
-use Rattle.line_lists.proofs.DraftLaws.{stop_of}
+use Rattle.line_lists.proofs.DraftLaws.{behind-whole, can-follow-next, copies-snoc, drafted-append, last_is}
+use Rattle.line_lists.proofs.DraftLaws.{last_same, length-whole, stop_of}
 use Rattle.line_lists.proofs.DraftLaws.{no_last, none_at, take-more, used-append}
-use Rattle.line_lists.proofs.FindLaws.{begin-le, drop_after, found-before, found-line, inside-line, kept-within}
-use Rattle.line_lists.proofs.FindLaws.{made-ends, opened-kept, opened-place, opened-rest, put-back, rest-within}
+use Rattle.line_lists.proofs.FindLaws.{IsKept, begin-le, drop_after, kept-within, made-ends, opened, opened-before}
+use Rattle.line_lists.proofs.FindLaws.{opened-kept, opened-rest, opened-stands, put-back, rest-within}
 use Rattle.line_lists.proofs.FindLaws.{slice_get-drop, taken-is}
 use Rattle.line_lists.proofs.RowLaws.{Makes, rows-changed, whole-around}
 use Rattle.line_lists.proofs.SearchRows.{FailFrom, found-next, none-next}
 use Rattle.line_lists.proofs.TagLaws.{behind-append}
-use Rattle.line_lists.proofs.ToggleColumns.{neither, presence-cons}
+use Rattle.line_lists.proofs.ToggleColumns.{presence-cons}
 use Rattle.line_lists.proofs.WholeLaws.{whole-append, with_cleared-between}
 
 -- ---- the slots that are on behind so many characters
@@ -116,17 +116,7 @@ module _ (lines : List LineContent) (front : List Stop) (reached : Reached) (off
       → offset + length (whole (take reached.used lines)).columns < reached.characters + length (whole lines).columns
   kept-ends back ahead within = ends back (slice_get back (length back - 1)) refl ahead within
 
-  module _ (line column : ℕ) (here : LineContent) (find : IsFound reached lines offset line column)
-      (get : slice_get lines line ≡ Some here) where
-    abbrev copy_here : Copied
-    copy_here = record { kept = line - reached.used; gone = 1; line = here }
-
-    stands : StandsAt lines front copy_here offset column
-    stands = record {
-      place = opened-place lines front reached copy_here offset line column is find refl;
-      inside = inside-line column (slice_get lines line) here get find.inside;
-    }
-
+  module _ (line column : ℕ) (here : LineContent) (kept : IsKept lines front reached offset line column here) where
     tags : (back : List Copied) (last : Option Copied) → last ≡ slice_get back (length back - 1) →
         BeginsBehind lines offset front back
         → tags_left_of (take offset (whole (drafted_at lines front back)).columns)
@@ -134,21 +124,17 @@ module _ (lines : List LineContent) (front : List Stop) (reached : Reached) (off
         (tags_left_of (whole (take (line - reached.used) (drop reached.used lines))).columns))
         (tags_left_of (take column here.columns))
     tags back None last ahead =
-        let none = no_last back last in
-        let same = opened-rest lines front copy_here refl (found-line lines front reached line here is find.first get)
-        ∙ ap (drafted_at lines front) (sym none) in
-        tags-stands lines (drafted_at lines front back) front [] reached copy_here offset column is same stands
+        tags-stands lines (drafted_at lines front back) front [] reached (opened reached line here) offset column is
+        (opened-rest kept ∙ ap (drafted_at lines front) (sym (no_last back last))) (opened-stands kept)
     tags back (Some next) last ahead =
         let behind = take (length back - 1) back in
         let back_is = last_is back next last in
-        let small = found-before reached lines next offset line column find
-        (kept-within lines front reached next offset is (ahead behind next back_is)) in
-        let less : Copied = record next { kept = next.kept - (copy_here.kept + 1) } in
-        let same = opened-kept lines front behind copy_here next less refl
-        (found-line lines front reached line here is find.first get) small refl refl refl
+        let less : Copied = record next { kept = next.kept - (line - reached.used + 1) } in
+        let small = opened-before kept next (ahead behind next back_is) in
+        let same = opened-kept kept behind next less small refl refl refl
         ∙ ap (drafted_at lines front) (sym back_is) in
-        tags-stands lines (drafted_at lines front back) front (behind ++ less ∷ []) reached copy_here offset column is
-        same stands
+        tags-stands lines (drafted_at lines front back) front (behind ++ less ∷ []) reached (opened reached line here)
+        offset column is same (opened-stands kept)
 
     pub kept-tags : (back : List Copied) → BeginsBehind lines offset front back
         → tags_left_of (take offset (whole (drafted_at lines front back)).columns)
@@ -200,7 +186,7 @@ clear_kept : (slot : ℕ) (columns : List Column) → set.contains (presence (to
     map (with_toggle slot false) columns ≡ columns
 clear_kept slot [] free = refl
 clear_kept slot (x ∷ xs) free =
-    let none = neither _ _ (sym (presence-cons slot x xs) ∙ free) in
+    let none = or_parts _ _ (sym (presence-cons slot x xs) ∙ free) in
     ap₂ (λ slots (rest : List Column). record x { toggled = slots } ∷ rest)
     (sym (slots_kept slot false x.toggled none.0)) (clear_kept slot xs none.1)
 
@@ -494,14 +480,15 @@ module _ (slot : ℕ) (lines : List LineContent) (front : List Stop) (reached : 
 
   -- one follows, and is passed if it's free
   module _ (back : List Copied) (copy : Copied) (last : Some copy ≡ slice_get back (length back - 1)) where
-    pub end-kept : index ≤ reached.used + copy.kept → reached.used + copy.kept ≤ length lines
+    pub end-kept : index ≤ reached.used + copy.kept → IsDraft lines front back
         → (index < reached.used + copy.kept →
         IfSome (slice_get lines index) (λ (line : LineContent). has_toggle slot line ≡ true)) →
         (index ≡ reached.used + copy.kept → has_toggle slot copy.line ≡ true)
         → reached.characters + length (whole (take count rest)).columns ≡ free_end slot lines front back
-    end-kept small there stops has =
+    end-kept small draft stops has =
         let stop : Stop = stop_of lines reached copy in
         let behind = take (length back - 1) back in
+        let follows = can-follow-next lines front back behind reached copy draft is (last_is back copy last) in
         let on = lines_on lines (front ++ stop ∷ []) behind in
         let long = length-drop reached.used lines in
         let first : lines_on lines front back ≡ take copy.kept rest ++ copy.line ∷ on =
@@ -511,7 +498,7 @@ module _ (slot : ℕ) (lines : List LineContent) (front : List Stop) (reached : 
         elim (cases_lt count copy.kept) [
           | inl less ↦
               free-inside slot count copy.kept rest (copy.line ∷ on) (slice_get lines index) free found-at
-              (stops (omega (arith, less, above))) (omega (arith, less, long, there)) less
+              (stops (omega (arith, less, above))) (omega (arith, less, long, follows.there)) less
           | inr more ↦
               let same : count ≡ copy.kept = omega (arith, small, more, above) in
               ap (λ n. free_length slot (take n rest ++ copy.line ∷ on)) (sym same)

@@ -4,13 +4,9 @@ use Rattle.std.proofs.Common.{Some, length, take, drop, refl, sym, ap, ap₂, su
 use Rattle.std.proofs.Common.{length-drop, take-append-drop}
 use Rattle.std.specs.Cmp.{nat_cmp_total}
 use Rattle.std.specs.FinMap as finite
-use Rattle.std.specs.FinMap.{find}
-use Rattle.std.specs.List.{All, filter}
-use Rattle.std.specs.Ordering.{eq_by_cmp, nat_cmp}
 use Rattle.std.specs.Prelude.{nat_le, nat_lt, option_map}
 use Rattle.std.proofs.lemmas.Bool.Decides.{nat_tests}
 use Rattle.std.proofs.lemmas.List.{drop-map, length-map, length-take-le, map-append, take-map}
-use Rattle.std.proofs.lemmas.List.Elements.{All-head, All-tail}
 use Rattle.std.proofs.lemmas.Map.Entries.{option_filter}
 use Rattle.std.proofs.Math.Seq.{drop-append_seam, take-append_seam}
 use Rattle.text_model.specs.declared.places.Place.{Place}
@@ -20,80 +16,26 @@ use Rattle.text_model.specs.Lines.{lines}
 use Rattle.text_model.specs.Splices.{inserted, moved}
 use Rattle.text_model.proofs.DocumentLaws.{ends_with_rest}
 use Rattle.text_model.proofs.LineLaws.{lines-append}
-use Rattle.text_model.proofs.PlaceLaws.{All-entries, get-map_marks, same_marks}
+use Rattle.text_model.proofs.PlaceLaws.{get-map_marks, same_marks}
 use Rattle.segments.specs.Columns.{Column, LineContent, after_text, characters, earlier, joined, later, line_before}
 use Rattle.segments.specs.Columns.{line_behind, marks_where, plain_columns, plain_line}
-use Rattle.segments.proofs.MarkLaws.{get-joined_marks, or_else, tied_same}
+use Rattle.segments.proofs.MarkLaws.{get-joined_marks, or_else}
+use Rattle.segments.proofs.PlainLaws.{characters-plain}
 use Rattle.line_lists.specs.Lists.{AreApart, AreRows, GoesBefore, IsLine, StandBefore}
 use Rattle.line_lists.specs.Texts.{whole}
-use Rattle.line_lists.proofs.EditLaws.{characters-plain, length-text, some-columns, text-among, text-goes, text-whole}
+use Rattle.line_lists.proofs.EditLaws.{length-text, some-columns, text-among, text-goes, text-whole}
+use Rattle.line_lists.proofs.MarkPlaces.{apart-rest}
 use Rattle.line_lists.proofs.NewlineRows.{none_before}
+use Rattle.line_lists.proofs.PassingLaws.{find-passing, passing}
 use Rattle.line_lists.proofs.RowLaws.{AreAmong, Makes, among-first, free-joined, rows-before, rows-behind}
 use Rattle.line_lists.proofs.WholeLaws.{joined-associative, whole-append}
 
 -- ---- the marks that pass a test
-found_in : (f : ℕ → Option Place) (entries : List (ℕ × Place)) (number : ℕ) (place : Place) →
-    All (λ (entry : ℕ × Place). f entry.0 ≡ Some entry.1) entries
-    → find nat_cmp number entries ≡ Some place → f number ≡ Some place
-found_in f [] number place all is = absurd (let no : None ≡ Some place = is in cc)
-found_in f (entry ∷ entries) number place all is =
-    elim (eq_by_cmp nat_cmp number entry.0) as (λ b. eq_by_cmp nat_cmp number entry.0 ≡ b →
-    cond b (Some entry.1) (find nat_cmp number entries) ≡ Some place → f number ≡ Some place) [
-      | true ↦ λ tie here. ap f (tied_same number entry.0 tie)
-          ∙ All-head (λ (e : ℕ × Place). f e.0 ≡ Some e.1) entry entries all ∙ here
-      | false ↦ λ other here. found_in f entries number place
-          (All-tail (λ (e : ℕ × Place). f e.0 ≡ Some e.1) entry entries all) here
-    ] refl is
-
-fails : (test : Place → Bool) (found : Option Place) → ((place : Place) → found ≡ Some place → test place ≡ false) →
-    option_filter test found ≡ None
-fails test None each = refl
-fails test (Some place) each = ap (λ b. cond b (Some place) None) (each place refl)
-
-same_place : (f : ℕ → Option Place) (one other : ℕ) (first second : Place) → one ≡ other → f one ≡ Some first →
-    f other ≡ Some second → first ≡ second
-same_place f one other first second same is here = let both : ◌≡◌ {A = Option Place} (Some first) (Some second) = sym is
-    ∙ ap f same ∙ here in cc
-
-find-passing : (f : ℕ → Option Place) (test : Place → Bool) (entries : List (ℕ × Place)) (number : ℕ) →
-    All (λ (entry : ℕ × Place). f entry.0 ≡ Some entry.1) entries
-    → find nat_cmp number (filter (λ (entry : ℕ × Place). test entry.1) entries)
-    ≡ option_filter test (find nat_cmp number entries)
-find-passing f test [] number all = refl
-find-passing f test (entry ∷ entries) number all =
-    let here = All-head (λ (e : ℕ × Place). f e.0 ≡ Some e.1) entry entries all in
-    let others = All-tail (λ (e : ℕ × Place). f e.0 ≡ Some e.1) entry entries all in
-    let passing = filter (λ (e : ℕ × Place). test e.1) entries in
-    let rest = find-passing f test entries number others in
-    elim (test entry.1) as (λ b. test entry.1 ≡ b
-    → find nat_cmp number (cond b (entry ∷ passing) passing)
-    ≡ option_filter test (cond (eq_by_cmp nat_cmp number entry.0) (Some entry.1) (find nat_cmp number entries))) [
-      | true ↦ λ passes.
-          elim (eq_by_cmp nat_cmp number entry.0) as (λ b. cond b (Some entry.1) (find nat_cmp number passing)
-          ≡ option_filter test (cond b (Some entry.1) (find nat_cmp number entries))) [
-            | true ↦ sym (ap (λ b. cond b (Some entry.1) None) passes)
-            | false ↦ rest
-          ]
-      | false ↦ λ no.
-          elim (eq_by_cmp nat_cmp number entry.0) as (λ b. eq_by_cmp nat_cmp number entry.0 ≡ b →
-          find nat_cmp number passing ≡ option_filter test (cond b (Some entry.1) (find nat_cmp number entries))) [
-            | true ↦ λ tie.
-                rest
-                ∙ fails test (find nat_cmp number entries) (λ place is.
-                ap test (sym (same_place f entry.0 number entry.1 place (sym (tied_same number entry.0 tie)) here
-                (found_in f entries number place others is))) ∙ no)
-                ∙ sym (ap (λ b. cond b (Some entry.1) None) no)
-            | false ↦ λ other. rest
-          ] refl
-    ] refl
-
 pub get-marks_where : (test : Place → Bool) (marks : Marks) (number : ℕ) →
     finite.get (marks_where test marks) number ≡ option_filter test (finite.get marks number)
 get-marks_where test marks number =
-    let passing = filter (λ (entry : ℕ × Place). test entry.1) (finite.entries marks) in
-    finite.get-from_entries nat_cmp_total passing number
-    ∙ find-passing (finite.get marks) test (finite.entries marks) number
-    (All-entries marks (λ (entry : ℕ × Place). finite.get marks entry.0 ≡ Some entry.1) (λ q place is. is))
+    finite.get-from_entries nat_cmp_total (passing test (finite.entries marks)) number
+    ∙ find-passing test (finite.entries marks) number (finite.entries_sorted marks)
     ∙ ap (option_filter test) (sym (finite.get-entries marks number))
 
 -- ---- the two parts in a row
@@ -206,11 +148,6 @@ free-behind at line number place before is =
     ∙ ap (option_filter (λ (p : Place). nat_le at p.offset)) is)
     ∙ not_both at place before
 
-goes-free : (line : LineContent) (behind : List LineContent) → GoesBefore line behind →
-    AreApart line.marks (whole behind).marks
-goes-free line [] goes_on = λ number place is. finite.get-empty nat_cmp number
-goes-free line (next ∷ others) goes_on = goes_on.1
-
 cut-first : (at : ℕ) (line : LineContent) (behind : List LineContent) → at ≤ length line.columns →
     GoesBefore line behind → GoesBefore (line_before at line) (line_behind at line ∷ behind)
 cut-first at line behind within goes_on =
@@ -219,7 +156,7 @@ cut-first at line behind within goes_on =
     let apart : AreApart (line_before at line).marks (whole (line_behind at line ∷ behind)).marks = λ number place is.
     let kept = kept-before at line number place is in
     free-joined (line_behind at line) (whole behind) number (free-behind at line number place kept.before kept.same)
-    (goes-free line behind goes_on number place kept.same) in
+    (apart-rest line behind goes_on number place kept.same) in
     (stand, apart)
 
 cut-second : (at : ℕ) (line : LineContent) (behind : List LineContent) → at < length line.columns →

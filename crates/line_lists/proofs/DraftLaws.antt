@@ -2,7 +2,9 @@
 use Rattle.std.proofs.Common.{◌≡◌, ℕ, zero, suc, ◌+◌, ◌-◌, ◌<◌, ◌≤◌, ◌^◌, List, [], ◌∷◌, ◌++◌, length, take, drop, refl}
 use Rattle.std.proofs.Common.{sym, ap, ap₂, ◌∙◌, subst, arith, append_assoc, length-append}
 use Rattle.std.specs.Prelude.{None, Option, Some, reverse, slice_get}
-use Rattle.std.proofs.lemmas.List.{append-nil, drop-drop, map-append, reverse-append}
+use Rattle.std.proofs.lemmas.List.{append-nil, drop-drop, map-append, nil_from_length, reverse-append, take_all}
+use Rattle.std.proofs.lemmas.List.{take_more}
+use Rattle.std.proofs.lemmas.Option.{get_or_from_slice_get, slice_get_within}
 use Rattle.text_model.specs.SlotSets.{differing}
 use Rattle.toggle_sums.specs.Counts.{Count}
 use Rattle.segments.specs.Columns.{LineContent}
@@ -25,16 +27,13 @@ pub used-append : (xs ys : List Copied) → used (xs ++ ys) ≡ used xs + used y
 used-append [] ys = omega arith
 used-append (x ∷ xs) ys = omega (arith, used-append xs ys)
 
-drop-rest : {A : Type 0} (m n : ℕ) (xs : List A) → drop n (drop m xs) ≡ drop (m + n) xs
-drop-rest m n xs = drop-drop n m xs
-
 pub made-append : (xs ys : List Copied) (lines : List LineContent) →
     made_lines (xs ++ ys) lines ≡ made_lines xs lines ++ made_lines ys (drop (used xs) lines)
 made-append [] ys lines = refl
 made-append (x ∷ xs) ys lines =
     ap (λ rest. take x.kept lines ++ x.line ∷ rest)
     (made-append xs ys (drop (covered x) lines)
-    ∙ ap (λ rest. made_lines xs (drop (covered x) lines) ++ made_lines ys rest) (drop-rest (covered x) (used xs) lines))
+    ∙ ap (λ rest. made_lines xs (drop (covered x) lines) ++ made_lines ys rest) (drop-drop (used xs) (covered x) lines))
     ∙ sym (append_assoc (take x.kept lines) (x.line ∷ made_lines xs (drop (covered x) lines))
     (made_lines ys (drop (covered x + used xs) lines)))
 
@@ -42,7 +41,7 @@ pub drafted-append : (xs ys : List Copied) (lines : List LineContent) →
     drafted (xs ++ ys) lines ≡ made_lines xs lines ++ drafted ys (drop (used xs) lines)
 drafted-append xs ys lines =
     ap₂ (λ front rest. front ++ rest) (made-append xs ys lines) (ap (λ n. drop n lines) (used-append xs ys)
-    ∙ sym (drop-rest (used xs) (used ys) lines))
+    ∙ sym (drop-drop (used ys) (used xs) lines))
     ∙ append_assoc (made_lines xs lines) (made_lines ys (drop (used xs) lines)) (drop (used ys) (drop (used xs) lines))
 
 -- the stop of a copy that follows what is covered
@@ -119,7 +118,7 @@ draft-forth lines front back stop draft placed =
       counted = subst (λ copies. length (whole (drafted copies lines)).columns < 2 ^ 64) same draft.counted;
     }
 
-add_groups : (a b c : ℕ) → a + (b + c) ≡ (a + b) + c
+pub add_groups : (a b c : ℕ) → a + (b + c) ≡ (a + b) + c
 add_groups a b c = omega arith
 
 pub made-snoc : (copies : List Copied) (copy : Copied) (lines : List LineContent)
@@ -138,10 +137,10 @@ behind-whole xs ys = ap (λ (line : LineContent). tags_left_of line.columns) (wh
     ∙ behind-append (whole xs).columns (whole ys).columns
 
 -- the lines from one on, so many of them, by what is counted before them and behind them
-pub take-more : (n k : ℕ) (lines : List LineContent) → take (n + k) lines ≡ take n lines ++ take k (drop n lines)
-take-more n k lines =
-    take-slice n (n + k) lines (omega arith)
-    ∙ ap (λ m. take n lines ++ take m (drop n lines)) (let same : (n + k) - n ≡ k = omega arith in same)
+pub take-more : {A : Type 0} (n k : ℕ) (xs : List A) → take (n + k) xs ≡ take n xs ++ take k (drop n xs)
+take-more n k xs =
+    take-slice n (n + k) xs (omega arith)
+    ∙ ap (λ m. take n xs ++ take m (drop n xs)) (let same : (n + k) - n ≡ k = omega arith in same)
 
 pub counted-between : (n k : ℕ) (lines : List LineContent)
     → (count_of (take (n + k) lines)).characters ≡ (count_of (take n lines)).characters
@@ -187,17 +186,6 @@ reached-more reached new copies copy lines so_far used_is characters_are =
           ∙ add_groups (length (whole made).columns) (length (whole kept).columns) (length copy.line.columns));
     }
 
--- how many characters they cover then
-pub covers-more : (reached : Reached) (copies : List Copied) (copy : Copied) (lines : List LineContent) →
-    IsReached reached copies lines →
-    reached.characters + length (whole (take copy.kept (drop reached.used lines))).columns + length copy.line.columns
-    ≡ length (whole (made_lines (copies ++ copy ∷ []) lines)).columns
-covers-more reached copies copy lines so_far = (reached-more reached (record {
-  used = reached.used + covered copy;
-  characters = reached.characters + length (whole (take copy.kept (drop reached.used lines))).columns
-      + length copy.line.columns;
-}) copies copy lines so_far refl refl).characters
-
 -- nothing is copied
 pub draft-none : (lines : List LineContent) → IsCounted (count_of lines) → IsDraft lines [] []
 draft-none lines all = record {
@@ -240,29 +228,23 @@ can-follow lines front back stop draft =
     }
 
 -- the last of a list
-snoc_at : {A : Type 0} (xs : List A) (n : ℕ) (x : A) → length xs ≡ suc n → slice_get xs n ≡ Some x →
-    xs ≡ take n xs ++ x ∷ []
-snoc_at [] n x long is = absurd (omega (arith, long))
-snoc_at (y ∷ []) zero x long is = let same : y ≡ x = cc in ap (λ z. z ∷ []) same
-snoc_at (y ∷ z ∷ zs) zero x long is = absurd (omega (arith, long))
-snoc_at (y ∷ ys) (suc n) x long is = ap (λ rest. y ∷ rest) (snoc_at ys n x (omega (arith, long)) is)
-
 pub none_at : {A : Type 0} (xs : List A) (n : ℕ) → slice_get xs n ≡ None → length xs ≤ n
 none_at [] n is = omega arith
 none_at {A = A} (x ∷ xs) zero is = let no : ◌≡◌ {A = Option A} (Some x) None = is in absurd (cc)
 none_at (x ∷ xs) (suc n) is = omega (arith, none_at xs n is)
 
-empty_of : {A : Type 0} (xs : List A) → length xs ≤ length xs - 1 → xs ≡ []
-empty_of [] small = refl
-empty_of (x ∷ xs) small = absurd (omega (arith, small))
-
 pub no_last : {A : Type 0} (xs : List A) → None ≡ slice_get xs (length xs - 1) → xs ≡ []
-no_last xs is = empty_of xs (none_at xs (length xs - 1) (sym is))
+no_last xs is =
+    let small = none_at xs (length xs - 1) (sym is) in
+    nil_from_length xs (omega (arith, small))
 
 pub last_is : {A : Type 0} (xs : List A) (x : A) → Some x ≡ slice_get xs (length xs - 1) →
     xs ≡ take (length xs - 1) xs ++ x ∷ []
-last_is {A = A} [] x is = let no : ◌≡◌ {A = Option A} (Some x) None = is in absurd (cc)
-last_is (y ∷ ys) x is = snoc_at (y ∷ ys) (suc (length ys) - 1) x (omega arith) (sym is)
+last_is xs x is =
+    let n = length xs - 1 in
+    let within = slice_get_within xs n x (sym is) in
+    sym (take_all (n + 1) xs (omega (arith, within))) ∙ take_more xs n x within
+    ∙ ap (λ y. take n xs ++ y ∷ []) (get_or_from_slice_get xs n x x (sym is))
 
 -- where the line of a copy begins
 pub start-is : (lines : List LineContent) (copies : List Copied) (reached : Reached) (copy : Copied) →
@@ -272,7 +254,7 @@ start-is lines copies reached copy is =
     ap₂ (λ n k. n + length (whole (take copy.kept (drop k lines))).columns) is.characters is.used
     ∙ sym (length-whole (made_lines copies lines) (take copy.kept (drop (used copies) lines)))
 
-some_same : {A : Type 0} (x y : A) → ◌≡◌ {A = Option A} (Some x) (Some y) → x ≡ y
+pub some_same : {A : Type 0} (x y : A) → ◌≡◌ {A = Option A} (Some x) (Some y) → x ≡ y
 some_same x y is = cc
 
 last_of : {A : Type 0} (xs : List A) (x : A) → slice_get (xs ++ x ∷ []) (length xs) ≡ Some x
@@ -285,38 +267,29 @@ last_same all before x y last is =
     let long : length all - 1 ≡ length before = omega (arith, ap length is, length-append before (y ∷ [])) in
     some_same x y (last ∙ ap₂ slice_get is long ∙ last_of before y)
 
+-- the last copy is the one behind all others, and its line begins where its stop says
+last-begins : (lines : List LineContent) (front before : List Stop) (back : List Copied) (stop other : Stop) →
+    IsDraft lines front back → Some stop ≡ slice_get front (length front - 1) → front ≡ before ++ other ∷ []
+    → line_start stop.reached stop.copy lines
+    ≡ length (whole (lines_before (copies_of before) other.copy lines)).columns
+last-begins lines front before back stop other draft last is =
+    ap (λ (x : Stop). line_start x.reached x.copy lines) (last_same front before stop other last is)
+    ∙ start-is lines (copies_of before) other.reached other.copy
+    (stops-last lines [] before other (subst (AreStops lines []) is draft.stops))
+
 pub begins-by : (lines : List LineContent) (offset : ℕ) (front : List Stop) (back : List Copied) (stop : Stop) →
     IsDraft lines front back
     → Some stop ≡ slice_get front (length front - 1) → line_start stop.reached stop.copy lines ≤ offset →
     BeginsBy lines offset front
 begins-by lines offset front back stop draft last small before other is =
-    let same = last_same front before stop other last is in
-    let stops = subst (AreStops lines []) is draft.stops in
-    omega (
-      arith,
-      small,
-      ap (λ (x : Stop). line_start x.reached x.copy lines) same,
-      start-is lines (copies_of before) other.reached other.copy (stops-last lines [] before other stops),
-    )
+    omega (arith, small, last-begins lines front before back stop other draft last is)
 
 pub last-begins-behind : (lines : List LineContent) (offset : ℕ) (front : List Stop) (back : List Copied) (stop : Stop) →
     IsDraft lines front back
     → Some stop ≡ slice_get front (length front - 1) → offset < line_start stop.reached stop.copy lines →
     LastBeginsBehind lines offset front
-last-begins-behind lines offset front back stop draft last small before other is =
-    let same = last_same front before stop other last is in
-    let stops = subst (AreStops lines []) is draft.stops in
-    omega (
-      arith,
-      small,
-      ap (λ (x : Stop). line_start x.reached x.copy lines) same,
-      start-is lines (copies_of before) other.reached other.copy (stops-last lines [] before other stops),
-    )
-
-pub begins-none : (lines : List LineContent) (offset : ℕ) (front : List Stop) → front ≡ [] → BeginsBy lines offset front
-begins-none lines offset front none before other is =
-    let long : 0 ≡ length before + 1 = sym (ap length none) ∙ ap length is ∙ length-append before (other ∷ []) in
-    absurd (omega (arith, long))
+last-begins-behind lines offset front back stop draft last large before other is =
+    omega (arith, large, last-begins lines front before back stop other draft last is)
 
 pub begins-behind : (lines : List LineContent) (offset : ℕ) (front : List Stop) (back : List Copied) (reached : Reached)
     (copy : Copied) → IsReached reached (copies_of front) lines

@@ -19,6 +19,7 @@ use Rattle.text_model.proofs.SpliceLaws.{length-inserted, map-inserted}
 use Rattle.text_model.proofs.StepLaws.{moved_le}
 use Rattle.segments.specs.Columns.{Column, LineContent, after_text, characters, joined, later, plain_columns}
 use Rattle.segments.proofs.MarkLaws.{get-joined_marks, or_else, tied_same}
+use Rattle.segments.proofs.PlainLaws.{characters-plain}
 use Rattle.line_lists.specs.Drafts.{StandsBy}
 use Rattle.line_lists.specs.Edits.{with_mark, without_mark}
 use Rattle.line_lists.specs.Lists.{AreApart, AreRows, GoesBefore, IsLine, StandBefore, StandWithin}
@@ -76,10 +77,6 @@ goes-changed line new (next ∷ others) among before within goes =
     (before goes.0, apart-first line.marks new.marks (whole (next ∷ others)).marks among goes.1)
 
 -- ---- a text goes in
-pub characters-plain : (text : List ℕ) → characters (plain_columns text) ≡ text
-characters-plain [] = refl
-characters-plain (c ∷ text) = ap (λ cs. c ∷ cs) (characters-plain text)
-
 characters-text : (at : ℕ) (text : List ℕ) (xs : List Column) →
     characters (inserted at (plain_columns text) xs) ≡ inserted at text (characters xs)
 characters-text at text xs =
@@ -284,7 +281,7 @@ kept_one : (test : Bool) (found : Option Place) (place : Place) → cond test No
 kept_one true found place is = absurd (let no : None ≡ Some place = is in cc)
 kept_one false found place is = is
 
-free_one : (test : Bool) (found : Option Place) → found ≡ None → cond test None found ≡ None
+pub free_one : (test : Bool) (found : Option Place) → found ≡ None → cond test None found ≡ None
 free_one true found free = refl
 free_one false found free = free
 
@@ -292,7 +289,7 @@ take-among : (number : ℕ) (marks : Marks) → AreAmong (finite.remove marks nu
 take-among number marks q free =
     finite.get-remove nat_cmp_total marks number q ∙ free_one (eq_by_cmp nat_cmp q number) (finite.get marks q) free
 
-take-kept : (number : ℕ) (marks : Marks) (q : ℕ) (place : Place) →
+pub take-kept : (number : ℕ) (marks : Marks) (q : ℕ) (place : Place) →
     finite.get (finite.remove marks number) q ≡ Some place → finite.get marks q ≡ Some place
 take-kept number marks q place is = kept_one (eq_by_cmp nat_cmp q number) (finite.get marks q) place
     (sym (finite.get-remove nat_cmp_total marks number q) ∙ is)

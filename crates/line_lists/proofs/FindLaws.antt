@@ -11,9 +11,9 @@ use Rattle.line_lists.specs.declared.drafts.Copied.{Copied}
 use Rattle.line_lists.specs.declared.drafts.Reached.{Reached}
 use Rattle.line_lists.specs.declared.drafts.Seen.{Seen}
 use Rattle.line_lists.specs.declared.drafts.Stop.{Stop}
-use Rattle.line_lists.specs.Drafts.{AreStops, IsDraft, IsFound, IsReached, IsSeen, IsTaken, StandsAt, copies_of}
+use Rattle.line_lists.specs.Drafts.{BeginsBy, IsDraft, IsFound, IsReached, IsSeen, IsStop, IsTaken, StandsAt, copies_of}
 use Rattle.line_lists.specs.Drafts.{covered, drafted, drafted_at, in_order, line_start, lines_before, made_lines}
-use Rattle.line_lists.specs.Drafts.{taken_lines, used}
+use Rattle.line_lists.specs.Drafts.{place_of, taken_lines, used}
 use Rattle.line_lists.specs.Lists.{Holds}
 use Rattle.line_lists.specs.Texts.{whole}
 use Rattle.line_lists.proofs.CountRows.{count-characters}
@@ -117,9 +117,6 @@ drop_after {A = A} [] n x is = let no : ◌≡◌ {A = Option A} None (Some x) =
 drop_after (y ∷ ys) zero x is = let same : y ≡ x = cc in ap (λ z. z ∷ ys) same
 drop_after (y ∷ ys) (suc n) x is = drop_after ys n x is
 
-drop-rest : {A : Type 0} (m n : ℕ) (xs : List A) → drop n (drop m xs) ≡ drop (m + n) xs
-drop-rest m n xs = drop-drop n m xs
-
 -- the lines with a copy behind the others that stand before the place
 pub taken-is : (lines : List LineContent) (front : List Stop) (back : List Copied) (stop : Stop) →
     drafted_at lines (front ++ stop ∷ []) back ≡ taken_lines lines front back stop.copy
@@ -174,24 +171,6 @@ taken-last lines front back stop draft =
       );
     }
 
--- a kept line is copied behind all copies
-pub opened-rest : (lines : List LineContent) (front : List Stop) (copy : Copied) → copy.gone ≡ 1 →
-    slice_get lines (used (copies_of front) + copy.kept) ≡ Some copy.line
-    → taken_lines lines front [] copy ≡ drafted_at lines front []
-opened-rest lines front copy one is =
-    let copies = copies_of front in
-    let rest = drop (used copies) lines in
-    let before = made_lines copies lines in
-    let here : slice_get rest copy.kept ≡ Some copy.line = slice_get-drop (used copies) copy.kept lines ∙ is in
-    ap (λ n. (before ++ take copy.kept rest) ++ copy.line ∷ drop n lines) (let same : used copies + covered copy
-    ≡ used copies + (copy.kept + 1) = omega (arith, one) in same)
-    ∙ ap (λ xs. (before ++ take copy.kept rest) ++ copy.line ∷ xs) (sym (drop-rest (used copies) (copy.kept + 1) lines))
-    ∙ append_assoc before (take copy.kept rest) (copy.line ∷ drop (copy.kept + 1) rest)
-    ∙ ap (λ xs. before ++ xs) (sym (split_at rest copy.kept copy.line here
-    ∙ ap (λ n. take copy.kept rest ++ copy.line ∷ drop n rest) (let same : suc copy.kept
-    ≡ copy.kept + 1 = omega arith in same)))
-    ∙ sym (drafted-append copies [] lines)
-
 -- a kept line is copied before the next copy
 pub opened_next : (rest : List LineContent) (b : ℕ) (line : LineContent) (next less : Copied) (cs : List Copied) →
     slice_get rest b ≡ Some line → b < next.kept
@@ -208,61 +187,16 @@ opened_next rest b line next less cs is small kept gone same =
     ∙ ap (λ n. line ∷ take less.kept (drop n rest)) one) in
     let covers : covered next ≡ (b + 1) + covered less = omega (arith, small, kept, gone) in
     let second : drop (covered next) rest ≡ drop (covered less) others = ap (λ n. drop n rest) covers
-    ∙ sym (drop-rest (b + 1) (covered less) rest) in
+    ∙ sym (drop-drop (covered less) (b + 1) rest) in
     let third : drop (covered next + used cs) rest ≡ drop (covered less + used cs) others =
     ap (λ n. drop n rest) (let n : covered next + used cs
     ≡ (b + 1) + (covered less + used cs) = omega (arith, covers) in n)
-    ∙ sym (drop-rest (b + 1) (covered less + used cs) rest) in
+    ∙ sym (drop-drop (covered less + used cs) (b + 1) rest) in
     let behind = less.line ∷ made_lines cs (drop (covered less) others) in
     ap₂ (λ xs ys. xs ++ ys) (ap₂ (λ xs ys. xs ++ ys) first (ap₂ (λ l ys. l ∷ made_lines cs ys) (sym same) second)) third
     ∙ ap (λ xs. xs ++ drop (covered less + used cs) others)
     (append_assoc (take b rest) (line ∷ take less.kept others) behind)
     ∙ append_assoc (take b rest) ((line ∷ take less.kept others) ++ behind) (drop (covered less + used cs) others)
-
-pub opened-kept : (lines : List LineContent) (front : List Stop) (back : List Copied) (copy next less : Copied) →
-    copy.gone ≡ 1
-    → slice_get lines (used (copies_of front) + copy.kept) ≡ Some copy.line → copy.kept < next.kept →
-    less.kept ≡ next.kept - (copy.kept + 1) → less.gone ≡ next.gone → less.line ≡ next.line
-    → taken_lines lines front (back ++ less ∷ []) copy ≡ drafted_at lines front (back ++ next ∷ [])
-opened-kept lines front back copy next less one is small kept gone same =
-    let copies = copies_of front in
-    let rest = drop (used copies) lines in
-    let before = made_lines copies lines in
-    let here : slice_get rest copy.kept ≡ Some copy.line = slice_get-drop (used copies) copy.kept lines ∙ is in
-    ap₂ (λ xs n. (before ++ take copy.kept rest) ++ copy.line ∷ drafted xs (drop n lines))
-    (reverse-append back (less ∷ []))
-    (let n : used copies + covered copy ≡ used copies + (copy.kept + 1) = omega (arith, one) in n)
-    ∙ ap (λ xs. (before ++ take copy.kept rest) ++ copy.line ∷ drafted (less ∷ reverse back) xs)
-    (sym (drop-rest (used copies) (copy.kept + 1) lines))
-    ∙ append_assoc before (take copy.kept rest) (copy.line ∷ drafted (less ∷ reverse back) (drop (copy.kept + 1) rest))
-    ∙ ap (λ xs. before ++ xs)
-    (sym (opened_next rest copy.kept copy.line next less (reverse back) here small kept gone same))
-    ∙ sym (ap (λ xs. drafted (copies ++ xs) lines) (reverse-append back (next ∷ []))
-    ∙ drafted-append copies (next ∷ reverse back) lines)
-
--- where it stands
-pub opened-place : (lines : List LineContent) (front : List Stop) (reached : Reached) (copy : Copied)
-    (offset line column : ℕ) → IsReached reached (copies_of front) lines
-    → IsFound reached lines offset line column → copy.kept ≡ line - reached.used →
-    offset ≡ length (whole (lines_before (copies_of front) copy lines)).columns + column
-opened-place lines front reached copy offset line column is find kept =
-    let more = begin-more lines reached.used copy.kept in
-    let same : begin lines (reached.used + copy.kept)
-    ≡ begin lines line = ap (begin lines) (let n : reached.used + copy.kept
-    ≡ line = omega (arith, kept, find.first) in n) in
-    omega (arith, start-is lines (copies_of front) reached copy is, more, same, find.place)
-
--- so its line begins so many characters before the offset
-pub opened-start : (lines : List LineContent) (front : List Stop) (reached : Reached) (copy : Copied)
-    (offset line column : ℕ) → IsReached reached (copies_of front) lines
-    → IsFound reached lines offset line column → copy.kept ≡ line - reached.used →
-    offset - column ≡ line_start reached copy lines
-opened-start lines front reached copy offset line column is find kept =
-    omega (
-      arith,
-      opened-place lines front reached copy offset line column is find kept,
-      start-is lines (copies_of front) reached copy is,
-    )
 
 -- where the line of the last copy ends
 pub made-ends : (lines : List LineContent) (copies : List Copied) (copy : Copied)
@@ -275,49 +209,45 @@ made-ends lines copies copy =
     ∙ ap (λ (line : LineContent). length (whole (lines_before copies copy lines)).columns + length line.columns)
     (whole-one copy.line)
 
--- it begins at an offset or before it
-pub last-begun : (lines : List LineContent) (before : List Stop) (stop : Stop) (offset : ℕ) →
-    AreStops lines [] (before ++ stop ∷ [])
-    → length (whole (lines_before (copies_of before) stop.copy lines)).columns ≤ offset
-    → line_start stop.reached stop.copy lines ≤ offset
-last-begun lines before stop offset stops begun =
-    omega (
-      arith,
-      begun,
-      start-is lines (copies_of before) stop.reached stop.copy (stops-last lines [] before stop stops),
-    )
-
 -- where it begins
-pub last-starts : (lines : List LineContent) (before : List Stop) (stop : Stop) (end : ℕ) →
-    AreStops lines [] (before ++ stop ∷ [])
-    → end ≡ length (whole (made_lines (copies_of (before ++ stop ∷ [])) lines)).columns
+pub last-starts : (lines : List LineContent) (front before : List Stop) (back : List Copied) (stop : Stop) (end : ℕ) →
+    IsDraft lines front back → front ≡ before ++ stop ∷ [] → end ≡ place_of lines front
     → line_start stop.reached stop.copy lines + length stop.copy.line.columns ≡ end
-last-starts lines before stop end stops is =
+last-starts lines front before back stop end draft is end_is =
+    let stops = (subst (λ items. IsDraft lines items back) is draft).stops in
     omega (
       arith,
-      is,
+      end_is,
+      ap (place_of lines) is,
       start-is lines (copies_of before) stop.reached stop.copy (stops-last lines [] before stop stops),
       ap (λ copies. length (whole (made_lines copies lines)).columns) (copies-snoc before stop),
       made-ends lines (copies_of before) stop.copy,
     )
 
-pub last-stands : (lines : List LineContent) (before : List Stop) (stop : Stop) (offset start : ℕ) →
-    AreStops lines [] (before ++ stop ∷ []) → start ≡ line_start stop.reached stop.copy lines → start ≤ offset
-    → offset < length (whole (made_lines (copies_of (before ++ stop ∷ [])) lines)).columns →
-    StandsAt lines before stop.copy offset (offset - start)
-last-stands lines before stop offset start stops start_is small within =
-    let is = start-is lines (copies_of before) stop.reached stop.copy (stops-last lines [] before stop stops) in
+-- the last copy before the place, whose line is of so many characters and holds an offset
+pub record IsLast (lines : List LineContent) (before : List Stop) (stop : Stop) (offset end len : ℕ) : Type 0 where
+  pub reached : IsReached stop.reached (copies_of before) lines
+  pub start : end ≡ line_start stop.reached stop.copy lines + len
+  pub begun : line_start stop.reached stop.copy lines ≤ offset
+  pub stands : StandsAt lines before stop.copy offset (offset - (end - len))
+
+pub the-last : (lines : List LineContent) (front before : List Stop) (back : List Copied) (stop : Stop)
+    (offset end len : ℕ) → IsDraft lines front back → front ≡ before ++ stop ∷ [] → BeginsBy lines offset front
+    → end ≡ place_of lines front → offset < end → len ≡ length stop.copy.line.columns →
+    IsLast lines before stop offset end len
+the-last lines front before back stop offset end len draft is begins end_is within long =
+    let reached = stops-last lines [] before stop (subst (λ items. IsDraft lines items back) is draft).stops in
+    let start = start-is lines (copies_of before) stop.reached stop.copy reached in
+    let ends = last-starts lines front before back stop end draft is end_is in
+    let begun = begins before stop is in
     record {
-      place = omega (arith, start_is, is, small);
-      inside = omega (
-        arith,
-        start_is,
-        is,
-        small,
-        within,
-        ap (λ copies. length (whole (made_lines copies lines)).columns) (copies-snoc before stop),
-        made-ends lines (copies_of before) stop.copy,
-      );
+      reached = reached;
+      start = omega (arith, ends, long);
+      begun = omega (arith, start, begun);
+      stands = record {
+        place = omega (arith, ends, long, start, begun);
+        inside = omega (arith, ends, long, start, begun);
+      };
     }
 
 -- an offset behind all copies lies in the rest of the list
@@ -341,18 +271,6 @@ pub kept-within : (lines : List LineContent) (front : List Stop) (reached : Reac
 kept-within lines front reached next offset is within =
     omega (arith, within, start-is lines (copies_of front) reached next is, begin-more lines reached.used next.kept)
 
--- the line that is copied
-pub found-line : (lines : List LineContent) (front : List Stop) (reached : Reached) (line : ℕ) (here : LineContent) →
-    IsReached reached (copies_of front) lines → reached.used ≤ line
-    → slice_get lines line ≡ Some here → slice_get lines (used (copies_of front) + (line - reached.used)) ≡ Some here
-found-line lines front reached line here is first get = ap (slice_get lines)
-    (let n : used (copies_of front) + (line - reached.used) ≡ line = omega (arith, first, is.used) in n) ∙ get
-
-pub inside-line : (column : ℕ) (found : Option LineContent) (here : LineContent) → found ≡ Some here →
-    IfSome found (λ (x : LineContent). column < length x.columns) → column < length here.columns
-inside-line column found here is inside =
-    subst (λ x. IfSome x (λ (y : LineContent). column < length y.columns)) is inside
-
 pub begin-le : (lines : List LineContent) (n : ℕ) → begin lines n ≤ length (whole lines).columns
 begin-le lines n = let all = ap (λ xs. length (whole xs).columns) (sym (take-append-drop n lines))
     ∙ length-whole (take n lines) (drop n lines) in omega (arith, all)
@@ -369,20 +287,96 @@ found-before reached lines next offset line column find within =
           (omega (arith, behind, find.first)) in omega (arith, rises, find.place, within))
     ]
 
+-- a kept line that holds an offset, and its copy
+pub record IsKept (lines : List LineContent) (front : List Stop) (reached : Reached) (offset line column : ℕ)
+    (here : LineContent) : Type 0 where
+  pub so_far : IsReached reached (copies_of front) lines
+  pub found : IsFound reached lines offset line column
+  pub get : slice_get lines line ≡ Some here
+
+abbrev pub opened : Reached → ℕ → LineContent → Copied
+opened reached line here = record { kept = line - reached.used; gone = 1; line = here }
+
+module _ {lines : List LineContent} {front : List Stop} {reached : Reached} {offset line column : ℕ}
+    {here : LineContent} (is : IsKept lines front reached offset line column here) where
+  abbrev copies : List Copied
+  copies = copies_of front
+
+  abbrev copy : Copied
+  copy = opened reached line here
+
+  abbrev rest : List LineContent
+  rest = drop (used copies) lines
+
+  in_rest : slice_get rest copy.kept ≡ Some here
+  in_rest = slice_get-drop (used copies) copy.kept lines
+      ∙ ap (slice_get lines) (let n : used copies + copy.kept ≡ line = omega (arith, is.found.first, is.so_far.used) in
+      n)
+      ∙ is.get
+
+  behind_it : drop (used copies + covered copy) lines ≡ drop (copy.kept + 1) rest
+  behind_it = sym (drop-drop (copy.kept + 1) (used copies) lines)
+
+  -- behind all copies
+  pub opened-rest : taken_lines lines front [] copy ≡ drafted_at lines front []
+  opened-rest =
+      let before = made_lines copies lines in
+      ap (λ xs. (before ++ take copy.kept rest) ++ here ∷ xs) behind_it
+      ∙ append_assoc before (take copy.kept rest) (here ∷ drop (copy.kept + 1) rest)
+      ∙ ap (λ xs. before ++ xs) (sym (split_at rest copy.kept here in_rest
+      ∙ ap (λ n. take copy.kept rest ++ here ∷ drop n rest) (let same : suc copy.kept
+      ≡ copy.kept + 1 = omega arith in same)))
+      ∙ sym (drafted-append copies [] lines)
+
+  -- it stands before the next copy where the offset does
+  pub opened-before : (next : Copied) → offset < length (whole (lines_before copies next lines)).columns →
+      copy.kept < next.kept
+  opened-before next ahead = found-before reached lines next offset line column is.found
+      (kept-within lines front reached next offset is.so_far ahead)
+
+  pub opened-kept : (back : List Copied) (next less : Copied) → copy.kept < next.kept →
+      less.kept ≡ next.kept - (copy.kept + 1) → less.gone ≡ next.gone → less.line ≡ next.line
+      → taken_lines lines front (back ++ less ∷ []) copy ≡ drafted_at lines front (back ++ next ∷ [])
+  opened-kept back next less small kept gone same =
+      let before = made_lines copies lines in
+      ap₂ (λ xs ys. (before ++ take copy.kept rest) ++ here ∷ drafted xs ys) (reverse-append back (less ∷ [])) behind_it
+      ∙ append_assoc before (take copy.kept rest) (here ∷ drafted (less ∷ reverse back) (drop (copy.kept + 1) rest))
+      ∙ ap (λ xs. before ++ xs)
+      (sym (opened_next rest copy.kept here next less (reverse back) in_rest small kept gone same))
+      ∙ sym (ap (λ xs. drafted (copies ++ xs) lines) (reverse-append back (next ∷ []))
+      ∙ drafted-append copies (next ∷ reverse back) lines)
+
+  pub opened-stands : StandsAt lines front copy offset column
+  opened-stands =
+      let more = begin-more lines reached.used copy.kept in
+      let same : begin lines (reached.used + copy.kept)
+      ≡ begin lines line = ap (begin lines) (let n : reached.used + copy.kept ≡ line = omega (arith, is.found.first) in
+      n) in
+      record {
+        place = omega (arith, start-is lines copies reached copy is.so_far, more, same, is.found.place);
+        inside = subst (λ x. IfSome x (λ (y : LineContent). column < length y.columns)) is.get is.found.inside;
+      }
+
+  -- its line begins so many characters before the offset
+  pub opened-stop : IsStop (record { reached = reached; start = offset - column; copy = copy }) copies lines
+  opened-stop = record {
+    reached = is.so_far;
+    start = omega (arith, opened-stands.place, start-is lines copies reached copy is.so_far);
+  }
+
 -- what copies cover is there
 pub reached-there : (lines : List LineContent) (front : List Stop) (back : List Copied) (reached : Reached) →
     IsDraft lines front back → IsReached reached (copies_of front) lines → reached.used ≤ length lines
 reached-there lines front back reached draft is =
     omega (arith, is.used, draft.there, used-append (copies_of front) (reverse back))
 
-pub taken-kept : (lines : List LineContent) (front : List Stop) (back : List Copied) (reached : Reached)
-    (copy next less : Copied) (start : ℕ) → IsDraft lines front (back ++ next ∷ [])
-    → IsReached reached (copies_of front) lines → start ≡ line_start reached copy lines
-    → copy.gone ≡ 1 → copy.kept < next.kept → less.kept ≡ next.kept - (copy.kept + 1) → less.gone ≡ next.gone →
-    IsTaken lines front (back ++ less ∷ []) (record { reached = reached; start = start; copy = copy })
-taken-kept lines front back reached copy next less start draft is start_is one small kept gone = record {
+pub taken-kept : (lines : List LineContent) (front : List Stop) (back : List Copied) (stop : Stop)
+    (next less : Copied) → IsDraft lines front (back ++ next ∷ []) → IsStop stop (copies_of front) lines
+    → stop.copy.gone ≡ 1 → stop.copy.kept < next.kept → less.kept ≡ next.kept - (stop.copy.kept + 1) →
+    less.gone ≡ next.gone → IsTaken lines front (back ++ less ∷ []) stop
+taken-kept lines front back stop next less draft placed one small kept gone = record {
   stops = draft.stops;
-  placed = record { reached = is; start = start_is };
+  placed = placed;
   there = omega (
     arith,
     draft.there,

@@ -5,7 +5,8 @@ use Rattle.std.specs.FinMap as finite
 use Rattle.text_model.specs.declared.places.Place.{Place}
 use Rattle.segments.specs.Columns.{LineContent, later}
 use Rattle.line_lists.specs.declared.drafts.Copied.{Copied}
-use Rattle.line_lists.specs.Drafts.{covered, drafted}
+use Rattle.line_lists.specs.declared.drafts.Stop.{Stop}
+use Rattle.line_lists.specs.Drafts.{IsText, covered, drafted, drafted_at, in_order, text_at}
 use Rattle.line_lists.specs.Edits.{with_mark}
 use Rattle.line_lists.specs.Lists.{AreRows, GoesBefore, IsLine}
 use Rattle.line_lists.specs.Texts.{whole}
@@ -23,14 +24,15 @@ drafted-some (copy ∷ copies) lines some =
       length-append (take copy.kept lines) (copy.line ∷ drafted copies (drop (covered copy) lines)),
     )
 
-rows-some : (lines : List LineContent) → 0 < length lines → AreRows lines → 0 < length (whole lines).columns
+pub rows-some : (lines : List LineContent) → 0 < length lines → AreRows lines → 0 < length (whole lines).columns
 rows-some [] some rows = absurd (omega (arith, some))
 rows-some (line ∷ lines) some rows =
     omega (arith, some-columns line.columns rows.0.ends, length-append line.columns (whole lines).columns)
 
-pub draft-some : (copies : List Copied) (lines : List LineContent) → 0 < length lines → AreRows (drafted copies lines) →
-    0 < length (whole (drafted copies lines)).columns
-draft-some copies lines some rows = rows-some (drafted copies lines) (drafted-some copies lines some) rows
+pub draft-some : {lines : List LineContent} {front : List Stop} {back : List Copied} → 0 < length lines →
+    IsText lines front back → 0 < length (text_at lines front back).columns
+draft-some {lines} {front} {back} some is =
+    rows-some (drafted_at lines front back) (drafted-some (in_order front back) lines some) is.rows
 
 none-behind : (lines : List LineContent) → AreRows lines → length (whole lines).columns ≡ 0 → lines ≡ []
 none-behind [] rows none = refl

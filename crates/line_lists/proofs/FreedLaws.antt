@@ -22,7 +22,7 @@ use Rattle.line_lists.specs.Lists.{AreApart, AreLines, AreRows, GoesBefore, coun
 use Rattle.line_lists.specs.Pieces.{copied_lines, freed, numbers_in, numbers_of}
 use Rattle.line_lists.specs.Texts.{whole}
 use Rattle.line_lists.proofs.DraftLaws.{none_at}
-use Rattle.line_lists.proofs.EditLaws.{rows-apart}
+use Rattle.line_lists.proofs.EditLaws.{free_one, rows-apart}
 use Rattle.line_lists.proofs.RowLaws.{free-joined, free-parts, rows-behind}
 use Rattle.line_lists.proofs.VecLaws.{characters-without, lines-are-without, lines-without, marks-without}
 use Rattle.line_lists.proofs.VecLaws.{whole-without}
@@ -109,16 +109,12 @@ pub names-right : (number : ℕ) (xs ys : List ℕ) → Names number ys → Name
 names-right number [] ys names = names
 names-right number (x ∷ xs) ys names = inr (names-right number xs ys names)
 
-stays_free : (test : Bool) (found : Option Place) → found ≡ None → cond test None found ≡ None
-stays_free true found free = refl
-stays_free false found free = free
-
 free-without : (q number : ℕ) (lines : List LineContent) → finite.get (whole lines).marks q ≡ None →
     finite.get (whole (map (without_mark number) lines)).marks q ≡ None
 free-without q number lines free =
     ap (λ (line : LineContent). finite.get line.marks q) (whole-without number lines)
     ∙ finite.get-remove nat_cmp_total (whole lines).marks number q
-    ∙ stays_free (eq_by_cmp nat_cmp q number) (finite.get (whole lines).marks q) free
+    ∙ free_one (eq_by_cmp nat_cmp q number) (finite.get (whole lines).marks q) free
 
 free-freed : (q : ℕ) (numbers : List ℕ) (lines : List LineContent) → finite.get (whole lines).marks q ≡ None →
     finite.get (whole (freed numbers lines)).marks q ≡ None

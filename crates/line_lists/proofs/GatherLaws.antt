@@ -7,7 +7,8 @@ use Rattle.std.specs.Cmp.{nat_cmp_total}
 use Rattle.std.specs.FinMap as finite
 use Rattle.std.specs.List.{All}
 use Rattle.std.specs.Ordering.{eq_by_cmp, nat_cmp}
-use Rattle.std.proofs.lemmas.List.{append-nil, at_drop_more, length-set, map-append, take_all, take_more, take_more_set}
+use Rattle.std.proofs.lemmas.List.{append-nil, at_drop_more, length-set, map-append, nil_from_length, take_all}
+use Rattle.std.proofs.lemmas.List.{take_more, take_more_set}
 use Rattle.std.proofs.lemmas.List.Elements.{All-drop, All-push, All-take, All-weaker}
 use Rattle.std.proofs.Math.Seq.{drop-append_seam, take-append_seam}
 use Rattle.text_model.specs.declared.places.MarkNo.{MarkNo}
@@ -29,11 +30,7 @@ use Rattle.line_lists.proofs.CountRows.{count-append}
 use Rattle.line_lists.proofs.DraftLaws.{copies-snoc, made-snoc, used-append}
 use Rattle.line_lists.proofs.FreedLaws.{freed-apart, freed-count_characters, freed-count_lines, freed-count_marks}
 use Rattle.line_lists.proofs.FreedLaws.{freed-drafted, freed-length, freed-lines, in_names}
-use Rattle.line_lists.proofs.PieceLaws.{covers-all, covers-more, covers-new, covers-none}
-
-pub no_items : {A : Type 0} (xs : List A) → length xs ≡ 0 → xs ≡ []
-no_items [] none = refl
-no_items (x ∷ xs) none = absurd (omega (arith, none))
+use Rattle.line_lists.proofs.PieceLaws.{covers-all, covers-more, covers-new}
 
 -- the last of a list, as it is and as it becomes
 pub last-of : {A : Type 0} (xs : List A) (n : ℕ) (x : A) → n ≡ length xs → 0 < n → x ≡ get_or xs (n - 1) x →
@@ -286,20 +283,11 @@ final_snoc d (y ∷ xs) x = final_snoc y xs x
 snoc_same : {A : Type 0} (xs ys : List A) (x y : A) → xs ++ x ∷ [] ≡ ys ++ y ∷ [] → x ≡ y
 snoc_same xs ys x y is = sym (final_snoc x xs x) ∙ ap (final x) is ∙ final_snoc x ys y
 
-pub gather-none : (front : List Stop) (lines : List LineContent) → Gathers front [] lines []
-gather-none front lines = record {
-  covers = covers-none (base_of front lines) (count_of []);
-  ends = λ before last is. let long : 0 ≡ length before + 1 = ap length is ∙ length-append before (last ∷ []) in
-      absurd (omega (arith, long));
-  none = λ _. refl;
-  brings = refl;
-  one = λ piece is. let long : 0 ≡ 1 = ap length is in absurd (omega (arith, long));
-}
-
 -- a list of one that ends in this
 snoc_one : {A : Type 0} (xs : List A) (x y : A) → xs ++ x ∷ [] ≡ y ∷ [] → xs ≡ []
-snoc_one xs x y is = no_items xs (let long : length xs + 1 ≡ 1 = sym (length-append xs (x ∷ [])) ∙ ap length is in
-    omega (arith, long))
+snoc_one xs x y is =
+    let long : length xs + 1 ≡ 1 = sym (length-append xs (x ∷ [])) ∙ ap length is in
+    nil_from_length xs (omega (arith, long))
 
 pub gather-new : (front stops rest : List Stop) (lines : List LineContent) (stop : Stop) (pieces : List Piece)
     (piece : Piece) → Gathers front stops lines pieces → Goes front stops lines stop rest
@@ -456,7 +444,7 @@ pub gathered-all : (front stops rest : List Stop) (lines : List LineContent) (pi
     Gathers front stops lines pieces → front ≡ stops ++ rest → length rest ≡ 0 → AreLines lines → IsText lines front []
     → IsCounted (plus (count_of lines) (count_of (copied_lines (copies_of front)))) → Makes front lines pieces
 gathered-all front stops rest lines pieces gathers all none are is counted =
-    let same : stops ≡ front = sym (all ∙ ap (λ xs. stops ++ xs) (no_items rest none) ∙ append-nil stops) in
+    let same : stops ≡ front = sym (all ∙ ap (λ xs. stops ++ xs) (nil_from_length rest none) ∙ append-nil stops) in
     let whole_front = subst (λ xs. Gathers front xs lines pieces) same gathers in
     let there : used (copies_of front) ≤ length lines =
     omega (arith, is.draft.there, used-append (copies_of front) (reverse [])) in

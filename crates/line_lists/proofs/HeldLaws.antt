@@ -65,7 +65,7 @@ leaves-within lines front back stop line column count held few line_is =
     }
 
 -- there is a line behind that of the copy
-lines-there : (lines : List LineContent) → 0 < length (whole lines).columns → 0 < length lines
+pub lines-there : (lines : List LineContent) → 0 < length (whole lines).columns → 0 < length lines
 lines-there [] some = absurd (omega (arith, some))
 lines-there (line ∷ lines) some = omega arith
 

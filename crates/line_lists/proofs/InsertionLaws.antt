@@ -5,6 +5,7 @@ use Rattle.std.proofs.Common.{length-append, take-append-drop}
 use Rattle.std.specs.FinMap as finite
 use Rattle.std.specs.Ordering.{nat_cmp}
 use Rattle.std.specs.Prelude.{if◌then◌else◌, nat_lt, option_map}
+use Rattle.std.proofs.lemmas.Bool.{or_parts}
 use Rattle.std.proofs.lemmas.Bool.Decides.{nat_tests}
 use Rattle.std.proofs.lemmas.List.{append-nil, length-map, length-take-le, map-append}
 use Rattle.text_model.specs.declared.places.Place.{Place}
@@ -45,14 +46,10 @@ moved-twice a n m place some =
     (let same : (place.offset + n == a + n) ≡ (place.offset == a) = grind (arith, nat_tests) in same) in alike) ∙ is)
     (λ is. not_yet a n place some is)
   where
-    first_no : (b c : Bool) → (b || c) ≡ false → b ≡ false
-    first_no true c is = is
-    first_no false c is = refl
-
     not_yet : (a n : ℕ) (place : Place) → 0 < n → goes_behind a place ≡ false → goes_behind (a + n) place ≡ false
     not_yet a n place some is =
-        let no : nat_lt a place.offset ≡ false = first_no (nat_lt a place.offset) ((place.offset == a)
-        && is_right place.gravity) is in
+        let no : nat_lt a place.offset ≡ false = (or_parts (nat_lt a place.offset) ((place.offset == a)
+        && is_right place.gravity) is).0 in
         ap₂ (λ less same. less || (same && is_right place.gravity))
         (let less : nat_lt (a + n) place.offset ≡ false = grind (arith, nat_tests) in less)
         (let same : (place.offset == a + n) ≡ false = grind (arith, nat_tests) in same)
@@ -130,14 +127,10 @@ right_one at count from place true some test is stands =
     ap (λ (p : Place). is_right p.gravity) (sym is)
     ∙ ap₂ (λ l s. l || (s && is_right from.gravity)) (sym less) (sym same) ∙ test
 right_one at count from place false some test is stands =
-    let less = goes_no (nat_lt at from.offset) ((from.offset == at) && is_right from.gravity) test in
+    let less = (or_parts (nat_lt at from.offset) ((from.offset == at) && is_right from.gravity) test).0 in
     let far : at < from.offset = omega (arith, ap (λ (p : Place). p.offset) is, stands, some) in
     absurd (not_less at from.offset far less)
   where
-    goes_no : (b c : Bool) → (b || c) ≡ false → b ≡ false
-    goes_no true c is = is
-    goes_no false c is = refl
-
     not_less : (a b : ℕ) → a < b → nat_lt a b ≡ false → ⊥
     not_less a b less is = grind (arith, nat_tests)
 

@@ -15,16 +15,13 @@ use Rattle.line_lists.specs.Drafts.{AreStops, IsBefore, IsDraft, IsKnown, IsReac
 use Rattle.line_lists.specs.Drafts.{made_lines, tags_after, used}
 use Rattle.line_lists.specs.Texts.{whole}
 use Rattle.line_lists.specs.Toggling.{tags_left_of}
-use Rattle.line_lists.proofs.DraftLaws.{behind-whole, copies-snoc, made-snoc, used-append}
+use Rattle.line_lists.proofs.DraftLaws.{behind-whole, copies-snoc, made-snoc, some_same, used-append}
 use Rattle.line_lists.proofs.SlotLaws.{differing-back}
 use Rattle.line_lists.proofs.WholeLaws.{whole-one}
 
-same_stop : {A : Type 0} (x y : A) → ◌≡◌ {A = Option A} (Some x) (Some y) → x ≡ y
-same_stop x y is = cc
-
 take-next : {A : Type 0} (xs : List A) (n : ℕ) (x : A) → slice_get xs n ≡ Some x → take (suc n) xs ≡ take n xs ++ x ∷ []
 take-next {A = A} [] n x is = let no : ◌≡◌ {A = Option A} None (Some x) = is in absurd (cc)
-take-next (y ∷ ys) zero x is = ap (λ z. z ∷ []) (same_stop y x is)
+take-next (y ∷ ys) zero x is = ap (λ z. z ∷ []) (some_same y x is)
 take-next (y ∷ ys) (suc n) x is = ap (λ rest. y ∷ rest) (take-next ys n x is)
 
 -- what a stop tells
@@ -33,7 +30,7 @@ stops-at : (lines : List LineContent) (before : List Copied) (stops : List Stop)
     IsReached stop.reached (before ++ copies_of (take n stops)) lines
 stops-at lines before [] n stop are is = let no : ◌≡◌ {A = Option Stop} None (Some stop) = is in absurd (cc)
 stops-at lines before (first ∷ stops) zero stop are is =
-    subst (λ (x : Stop). IsReached x.reached (before ++ []) lines) (same_stop first stop is)
+    subst (λ (x : Stop). IsReached x.reached (before ++ []) lines) (some_same first stop is)
     (subst (λ copies. IsReached first.reached copies lines) (sym (append-nil before)) are.0.reached)
 stops-at lines before (first ∷ stops) (suc n) stop are is =
     subst (λ copies. IsReached stop.reached copies lines)
@@ -43,7 +40,7 @@ stops-at lines before (first ∷ stops) (suc n) stop are is =
 used-at : (stops : List Stop) (n : ℕ) (stop : Stop) → slice_get stops n ≡ Some stop →
     used (copies_of (take n stops)) + covered stop.copy ≤ used (copies_of stops)
 used-at [] n stop is = let no : ◌≡◌ {A = Option Stop} None (Some stop) = is in absurd (cc)
-used-at (first ∷ stops) zero stop is = omega (arith, ap (λ (x : Stop). covered x.copy) (same_stop first stop is))
+used-at (first ∷ stops) zero stop is = omega (arith, ap (λ (x : Stop). covered x.copy) (some_same first stop is))
 used-at (first ∷ stops) (suc n) stop is = omega (arith, used-at stops n stop is)
 
 -- what it covers is there

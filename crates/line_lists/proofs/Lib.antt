@@ -26,6 +26,7 @@ pub mod NearChanges
 pub mod NearMarks
 pub mod NewlineRows
 pub mod OpenLaws
+pub mod PassingLaws
 pub mod PieceLaws
 pub mod PlaceRows
 pub mod RemovalLaws

@@ -4,7 +4,7 @@ use Rattle.std.proofs.Common.{length, get_or, take, drop, sym, ap, subst, ◌∙
 use Rattle.std.specs.Prelude.{IfSome, nat_lt, not}
 use Rattle.std.specs.List.{position, prefix_len, suffix_len}
 use Rattle.std.proofs.lemmas.Bool.Decides.{nat_tests}
-use Rattle.std.proofs.lemmas.List.{drop_all, drop_more, take_more}
+use Rattle.std.proofs.lemmas.List.{drop_more, take_more}
 use Rattle.std.proofs.lemmas.List.Sums.{prefix_len-drop_all, prefix_len-drop_no, prefix_len-drop_yes}
 use Rattle.std.proofs.lemmas.List.Sums.{suffix_len-take_no, suffix_len-take_yes}
 use Rattle.std.proofs.lemmas.Option.{slice_get-get_or}
@@ -128,10 +128,6 @@ column-holds xs offset i column x within is inside so_far = record {
       (sym (slice_get-get_or xs i x within ∙ ap (λ y. Some y) (sym is))) inside;
   within = within;
 }
-
-pub column-ends : (xs : List LineContent) (offset i column : ℕ) → length xs ≤ i → Remains xs offset i column → ⊥
-column-ends xs offset i column behind so_far =
-    omega (arith, so_far.inside, ap (λ ys. length (whole ys).columns) (drop_all i xs behind))
 
 -- a number of marks is tested
 pub some-marks : (n m : ℕ) → n ≡ m → 0 < n → nat_lt 0 m ≡ true

@@ -33,12 +33,6 @@ joined_marks-associative one two a b c =
     ∙ sym (get-joined_marks (one + two) (joined_marks one a b) c q
     ∙ ap (or_else (option_map (later (one + two)) (finite.get c q))) (get-joined_marks one a b q)))
 
-pub joined_marks-none : (len : ℕ) (marks : Marks) → joined_marks len marks finite.empty ≡ marks
-joined_marks-none len marks =
-    same_marks _ _ (λ q.
-    get-joined_marks len marks finite.empty q
-    ∙ ap (λ found. or_else (option_map (later len) found) (finite.get marks q)) (finite.get-empty nat_cmp q))
-
 not_later : (found : Option Place) → or_else (option_map (later 0) found) None ≡ found
 not_later None = refl
 not_later (Some place) = ap (λ offset. Some (record place { offset = offset })) (let same : place.offset + 0

@@ -81,17 +81,25 @@ module _ (lines : List LineContent) (slot : ℕ) where
   end_within k n within small = let most : suc k ≤ length lines = omega arith in
       omega (arith, small, start-next lines k within, start-rises lines (suc k) (length lines) most, start-all lines)
 
-  held_below : (i j column k : ℕ) → Held lines i j column → j < k → k ≤ length lines → i < start_of lines k
-  held_below i j column k held less within = omega (arith, held.at, held.inner, start-before lines j k less within)
+  abbrev Fails : ℕ → ℕ → Type 0
+  Fails j column = test (get_or (line_at lines j).columns column no_column) ≡ false
 
-  held_above : (i j column k : ℕ) → Held lines i j column → k < j → start_of lines k + length_at lines k ≤ i
-  held_above i j column k held more = let within : j ≤ length lines = omega (arith, held.within) in
-      omega (arith, held.at, start-before lines k j more within)
-
-  fails_at : (k j column : ℕ) (from to : ℕ) → FailIn no_column test (line_at lines k).columns from to → j ≡ k →
-      from ≤ column → column < to → test (get_or (line_at lines j).columns column no_column) ≡ false
-  fails_at k j column from to free same more less =
-      ap (λ n. test (get_or (line_at lines n).columns column no_column)) same ∙ free column more less
+  -- it stands in a line before another and before that one's start, in it, or in one behind it and at its end or behind
+  -- that
+  by_line : {i j column : ℕ} → Held lines i j column → (k : ℕ) → k < length lines →
+      (j < k → i < start_of lines k → Fails j column)
+      → (i ≡ start_of lines k + column → column < length_at lines k → Fails k column)
+      → (k < j → start_of lines k + length_at lines k ≤ i → Fails j column) → Fails j column
+  by_line {j = j} {column = column} held k within before same behind =
+      three_ways j k
+      (λ less.
+      let most : k ≤ length lines = omega (arith, within) in
+      before less (omega (arith, held.at, held.inner, start-before lines j k less most)))
+      (λ at. subst (λ n. Fails n column) (sym at) (same (omega (arith, held.at, ap (start_of lines) at))
+      (omega (arith, held.inner, ap (length_at lines) at))))
+      (λ more.
+      let most : j ≤ length lines = omega (arith, held.within) in
+      behind more (omega (arith, held.at, start-before lines k j more most)))
 
   module _ (offset k column : ℕ) (behind : offset ≡ start_of lines k + column) (within : k
       < length lines) (inner : column < length_at lines k) where
@@ -103,14 +111,10 @@ module _ (lines : List LineContent) (slot : ℕ) where
         (λ i more less.
         let held = located lines i (omega (arith, less, end_within k n within (omega (arith, near.within)))) in
         let j = held.0 in let d = held.1 in let is = held.2 in
-        let most : k ≤ length lines = omega (arith, within) in
-        toggled-at i j d false is
-        (three_ways j k
-        (λ before. absurd (omega (arith, held_below i j d k is before most, behind, more)))
-        (λ same. let starts = ap (start_of lines) same in
-        fails_at k j d (suc column) n near.free same (omega (arith, starts, is.at, more, behind))
-        (omega (arith, starts, is.at, less)))
-        (λ after. absurd (omega (arith, held_above i j d k is after, less, near.within)))))
+        toggled-at i j d false is (by_line is k within
+        (λ before early. absurd (omega (arith, early, behind, more)))
+        (λ at inside. near.free d (omega (arith, at, more, behind)) (omega (arith, at, less)))
+        (λ past late. absurd (omega (arith, late, less, near.within)))))
         (λ more. toggled-at (start_of lines k + n) k n true (record { at = refl; within = within; inner = near.within })
         near.passes)
 
@@ -126,18 +130,13 @@ module _ (lines : List LineContent) (slot : ℕ) where
         (λ i more less.
         let held = located lines i (omega (arith, less, bound)) in
         let j = held.0 in let d = held.1 in let is = held.2 in
-        let below : k ≤ length lines = omega (arith, within) in
-        toggled-at i j d false is
-        (three_ways j k
-        (λ before. absurd (omega (arith, held_below i j d k is before below, behind, more)))
-        (λ same. let starts = ap (start_of lines) same in let long = ap (length_at lines) same in
-        fails_at k j d (suc column) (length_at lines k) none same (omega (arith, starts, is.at, more, behind))
-        (omega (arith, is.inner, long)))
-        (λ past. three_ways j e
-        (λ before. no-toggle slot (line_at lines j) d (line.free j (omega (arith, past)) before) is.inner)
-        (λ same. let starts = ap (start_of lines) same in
-        fails_at e j d 0 n near.free same (omega arith) (omega (arith, starts, is.at, less)))
-        (λ beyond. absurd (omega (arith, held_above i j d e is beyond, less, near.within))))))
+        toggled-at i j d false is (by_line is k within
+        (λ before early. absurd (omega (arith, early, behind, more)))
+        (λ at inside. none d (omega (arith, at, more, behind)) inside)
+        (λ past late. by_line is e line.within
+        (λ before early. no-toggle slot (line_at lines j) d (line.free j (omega (arith, past)) before) is.inner)
+        (λ at inside. near.free d (omega arith) (omega (arith, at, less)))
+        (λ beyond later. absurd (omega (arith, later, less, near.within))))))
         (λ more. toggled-at (start_of lines e + n) e n true
         (record { at = refl; within = line.within; inner = near.within }) near.passes)
 
@@ -150,14 +149,10 @@ module _ (lines : List LineContent) (slot : ℕ) where
         (λ i more less.
         let held = located lines i less in
         let j = held.0 in let d = held.1 in let is = held.2 in
-        let below : k ≤ length lines = omega (arith, within) in
-        toggled-at i j d false is
-        (three_ways j k
-        (λ before. absurd (omega (arith, held_below i j d k is before below, behind, more)))
-        (λ same. let starts = ap (start_of lines) same in let long = ap (length_at lines) same in
-        fails_at k j d (suc column) (length_at lines k) none same (omega (arith, starts, is.at, more, behind))
-        (omega (arith, is.inner, long)))
-        (λ past. no-toggle slot (line_at lines j) d (free j (omega (arith, past)) is.within) is.inner)))
+        toggled-at i j d false is (by_line is k within
+        (λ before early. absurd (omega (arith, early, behind, more)))
+        (λ at inside. none d (omega (arith, at, more, behind)) inside)
+        (λ past late. no-toggle slot (line_at lines j) d (free j (omega (arith, past)) is.within) is.inner)))
         (λ more. absurd (omega (arith, more)))
 
   module _ (offset k column : ℕ) (at : IsAt lines offset k column) (last : offset ≤ length (whole lines).columns) where
@@ -175,14 +170,10 @@ module _ (lines : List LineContent) (slot : ℕ) where
         (λ i more less.
         let held = located lines i (omega (arith, less, last)) in
         let j = held.0 in let d = held.1 in let is = held.2 in
-        let below : k ≤ length lines = omega (arith, at.within) in
-        toggled-at i j d false is
-        (three_ways j k
-        (λ before. absurd (omega (arith, held_below i j d k is before below, more)))
-        (λ same. let starts = ap (start_of lines) same in
-        fails_at k j d (suc n) column near.free same (omega (arith, starts, is.at, more))
-        (omega (arith, starts, is.at, less, at.behind)))
-        (λ after. absurd (omega (arith, not_behind i j d is less after, less)))))
+        toggled-at i j d false is (by_line is k at.within
+        (λ before early. absurd (omega (arith, early, more)))
+        (λ here inside. near.free d (omega (arith, here, more)) (omega (arith, here, less, at.behind)))
+        (λ after late. absurd (omega (arith, not_behind i j d is less after, less)))))
         (λ some. toggled-at (start_of lines k + n) k n true
         (record { at = refl; within = at.within; inner = omega (arith, small, near.below) }) near.passes)
 
@@ -198,18 +189,13 @@ module _ (lines : List LineContent) (slot : ℕ) where
         (λ i more less.
         let held = located lines i (omega (arith, less, last)) in
         let j = held.0 in let d = held.1 in let is = held.2 in
-        toggled-at i j d false is
-        (three_ways j k
-        (λ before. three_ways j e
-        (λ beyond. let most : e ≤ length lines = omega (arith, within) in
-        absurd (omega (arith, held_below i j d e is beyond most, more)))
-        (λ same. let starts = ap (start_of lines) same in let long = ap (length_at lines) same in
-        fails_at e j d (suc n) (length_at lines e) near.free same (omega (arith, starts, is.at, more))
-        (omega (arith, is.inner, long)))
-        (λ past. no-toggle slot (line_at lines j) d (line.free j (omega (arith, past)) before) is.inner))
-        (λ same. let starts = ap (start_of lines) same in
-        fails_at k j d 0 column none same (omega arith) (omega (arith, starts, is.at, less, at.behind)))
-        (λ after. absurd (omega (arith, not_behind i j d is less after, less)))))
+        toggled-at i j d false is (by_line is k at.within
+        (λ before early. by_line is e within
+        (λ beyond earlier. absurd (omega (arith, earlier, more)))
+        (λ here inside. near.free d (omega (arith, here, more)) inside)
+        (λ past late. no-toggle slot (line_at lines j) d (line.free j (omega (arith, past)) before) is.inner))
+        (λ here inside. none d (omega arith) (omega (arith, here, less, at.behind)))
+        (λ after late. absurd (omega (arith, not_behind i j d is less after, less)))))
         (λ some. toggled-at (start_of lines e + n) e n true (record { at = refl; within = within; inner = near.below })
         near.passes)
 
@@ -220,12 +206,10 @@ module _ (lines : List LineContent) (slot : ℕ) where
         (λ i more less.
         let held = located lines i (omega (arith, less, last)) in
         let j = held.0 in let d = held.1 in let is = held.2 in
-        toggled-at i j d false is
-        (three_ways j k
-        (λ before. no-toggle slot (line_at lines j) d (free j (omega arith) before) is.inner)
-        (λ same. let starts = ap (start_of lines) same in
-        fails_at k j d 0 column none same (omega arith) (omega (arith, starts, is.at, less, at.behind)))
-        (λ after. absurd (omega (arith, not_behind i j d is less after, less)))))
+        toggled-at i j d false is (by_line is k at.within
+        (λ before early. no-toggle slot (line_at lines j) d (free j (omega arith) before) is.inner)
+        (λ here inside. none d (omega arith) (omega (arith, here, less, at.behind)))
+        (λ after late. absurd (omega (arith, not_behind i j d is less after, less)))))
         (λ positive. absurd (omega (arith, positive)))
 
 -- ---- what a line that is lent tells

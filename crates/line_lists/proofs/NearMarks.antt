@@ -15,7 +15,7 @@ use Rattle.line_lists.specs.Places.{IsAt}
 use Rattle.line_lists.specs.Texts.{whole}
 use Rattle.line_lists.proofs.LineStarts.{at-before, at-inside, length_at, lent, start-before, start_of}
 use Rattle.line_lists.proofs.MarkPlaces.{InLine, has-none, has-some, mark-before, mark-in, mark-out, mark-within}
-use Rattle.line_lists.proofs.SearchRows.{FailFrom, NextAt, PreviousAt, line_at}
+use Rattle.line_lists.proofs.SearchRows.{FailFrom, NextAt, PreviousAt, line_at, some_same}
 
 -- what the nearest marks are
 pub record Next (at : ℕ) (marks : Marks) (n : ℕ) : Type 0 where
@@ -35,9 +35,6 @@ NoneNext at marks = (number : ℕ) (place : Place) → finite.get marks number �
 abbrev pub NonePrevious : ℕ → Marks → Type 0
 NonePrevious at marks = (number : ℕ) (place : Place) → finite.get marks number ≡ Some place → at ≤ place.offset
 
-same_offset : (x y : ℕ) → Some x ≡ Some y → x ≡ y
-same_offset x y same = cc
-
 pub if_some : {A : Type 0} (P : A → Type 0) (found : Option A) (x : A) → found ≡ Some x → IfSome found P → P x
 if_some P found x is holds = subst (λ o. IfSome o P) is holds
 
@@ -47,7 +44,7 @@ next-of at marks n is = record {
   above = if_some (λ next. at ≤ next) _ n is (next_mark-above at marks);
   least = λ number place got above.
       let near = next_mark-least at marks number place got above in
-      let same : near.0 ≡ n = same_offset near.0 n (sym near.1 ∙ is) in
+      let same : near.0 ≡ n = some_same near.0 n (sym near.1 ∙ is) in
       omega (arith, same, near.2);
 }
 
@@ -83,7 +80,7 @@ previous-of at marks n is = record {
   below = if_some (λ previous. previous < at) _ n is (previous_mark-below at marks);
   greatest = λ number place got below.
       let near = previous_mark-greatest at marks number place got below in
-      let same : near.0 ≡ n = same_offset near.0 n (sym near.1 ∙ is) in
+      let same : near.0 ≡ n = some_same near.0 n (sym near.1 ∙ is) in
       omega (arith, same, near.2);
 }
 
@@ -131,30 +128,29 @@ three_ways j k less same more = elim (cases_lt j k) [
 ]
 
 module _ (lines : List LineContent) (rows : AreRows lines) where
-  -- the offset of what stands in a line
-  offset_in : (number : ℕ) (place : Place) (k : ℕ) (inner : Place) → InLine lines number place k inner →
-      place.offset ≡ start_of lines k + inner.offset
-  offset_in number place k inner stands = let same = ap (λ (p : Place). p.offset) stands.at in omega (arith, same)
-
-  -- what stands in a line before another stands before its start, and what stands in one behind at its start or behind
-  -- it
-  pub stands-before : (number : ℕ) (place : Place) (j : ℕ) (inner : Place) (k : ℕ) → InLine lines number place j inner →
-      j < k → k < length lines → place.offset < start_of lines k
-  stands-before number place j inner k stands less within =
-      let last : suc j < length lines = omega arith in
-      let most : k ≤ length lines = omega arith in
-      omega (
+  -- a mark stands in a line before another and before that one's start, in it, or in one behind it and at its end or
+  -- behind that
+  pub by_line : {A : Type 0} {number i : ℕ} {place inner : Place} → InLine lines number place i inner → (k : ℕ) →
+      k < length lines → (i < k → place.offset < start_of lines k → A)
+      → (finite.get (line_at lines k).marks number ≡ Some inner → place.offset ≡ start_of lines k + inner.offset → A)
+      → (k < i → start_of lines k + length_at lines k ≤ place.offset → A) → A
+  by_line {number = number} {i = i} {inner = inner} stands k within before same behind =
+      let here = ap (λ (p : Place). p.offset) stands.at in
+      three_ways i k
+      (λ less.
+      let last : suc i < length lines = omega (arith, less, within) in
+      let most : k ≤ length lines = omega (arith, within) in
+      before less (omega (
         arith,
-        offset_in number place j inner stands,
-        mark-before lines j rows last number inner stands.is,
-        start-before lines j k less most,
-      )
-
-  stands-behind : (number : ℕ) (place : Place) (j : ℕ) (inner : Place) (k : ℕ) → InLine lines number place j inner →
-      k < j → start_of lines k + length_at lines k ≤ place.offset
-  stands-behind number place j inner k stands more =
-      let most : j ≤ length lines = omega (arith, stands.within) in
-      omega (arith, offset_in number place j inner stands, start-before lines k j more most)
+        here,
+        mark-before lines i rows last number inner stands.is,
+        start-before lines i k less most,
+      )))
+      (λ at. same (subst (λ j. finite.get (line_at lines j).marks number ≡ Some inner) at stands.is)
+      (omega (arith, here, ap (start_of lines) at)))
+      (λ more.
+      let most : i ≤ length lines = omega (arith, stands.within) in
+      behind more (omega (arith, here, start-before lines k i more most)))
 
   -- a mark of a line is one of the text
   marked-out : (k n : ℕ) → k < length lines → IsMarked (line_at lines k).marks n →
@@ -167,10 +163,6 @@ module _ (lines : List LineContent) (rows : AreRows lines) where
     omega (arith, mark.3),
   )
 
-  inner_is : (j k number : ℕ) (inner : Place) → j ≡ k → finite.get (line_at lines j).marks number ≡ Some inner →
-      finite.get (line_at lines k).marks number ≡ Some inner
-  inner_is j k number inner same is = subst (λ i. finite.get (line_at lines i).marks number ≡ Some inner) same is
-
   module _ (offset k column : ℕ) (at : IsAt lines offset k column) where
     pub next-here : (n : ℕ) → next_mark column (line_at lines k).marks ≡ Some n →
         next_mark offset (whole lines).marks ≡ Some (start_of lines k + n)
@@ -181,27 +173,11 @@ module _ (lines : List LineContent) (rows : AreRows lines) where
           marked = marked-out k n at.within next.marked;
           above = omega (arith, at.behind, next.above);
           least = λ number place got above.
-              let found = mark-in lines number place got in
-              let j = found.0 in let inner = found.1 in let stands = found.2 in
-              let here = offset_in number place j inner stands in
-              three_ways j k
-              (λ less. absurd (omega (
-                arith,
-                stands-before number place j inner k stands less at.within,
-                above,
-                at.behind,
-              )))
-              (λ same.
-              let starts = ap (start_of lines) same in
-              omega (
-                arith,
-                starts,
-                here,
-                at.behind,
-                next.least number inner (inner_is j k number inner same stands.is)
-                    (omega (arith, starts, here, above, at.behind)),
-              ))
-              (λ more. omega (arith, stands-behind number place j inner k stands more, bound, next.marked.3));
+              by_line (mark-in lines number place got).2 k at.within
+              (λ less early. absurd (omega (arith, early, above, at.behind)))
+              (λ there here.
+              omega (arith, here, at.behind, next.least number _ there (omega (arith, here, above, at.behind))))
+              (λ more late. omega (arith, late, bound, next.marked.3));
         })
 
     pub next-later : (j n : ℕ) → next_mark column (line_at lines k).marks ≡ None → NextAt has_marks (suc k) lines j →
@@ -217,38 +193,17 @@ module _ (lines : List LineContent) (rows : AreRows lines) where
           above = omega (arith, start);
           least = λ number place got above.
               let found = mark-in lines number place got in
-              let i = found.0 in let inner = found.1 in let stands = found.2 in
-              let here = offset_in number place i inner stands in
-              three_ways i k
-              (λ less. absurd (omega (
-                arith,
-                stands-before number place i inner k stands less at.within,
-                above,
-                at.behind,
-              )))
-              (λ same.
-              let starts = ap (start_of lines) same in
-              absurd (omega (
-                arith,
-                starts,
-                here,
-                at.behind,
-                above,
-                none-next-of column (line_at lines k).marks none number inner
-                    (inner_is i k number inner same stands.is),
-              )))
-              (λ more. three_ways i j
-              (λ less. absurd (has-none (line_at lines i) number inner (near.free i (omega (arith, more)) less)
-              stands.is))
-              (λ same.
-              let starts = ap (start_of lines) same in
-              omega (
-                arith,
-                starts,
-                here,
-                next.least number inner (inner_is i j number inner same stands.is) (omega arith),
-              ))
-              (λ behind. omega (arith, stands-behind number place i inner j stands behind, bound, next.marked.3)));
+              let i = found.0 in let stands = found.2 in
+              by_line stands k at.within
+              (λ less early. absurd (omega (arith, early, above, at.behind)))
+              (λ there here.
+              let less = none-next-of column (line_at lines k).marks none number _ there in
+              absurd (omega (arith, here, at.behind, above, less)))
+              (λ more late. by_line stands j near.within
+              (λ less early. absurd (has-none (line_at lines i) number found.1
+              (near.free i (omega (arith, more)) less) stands.is))
+              (λ there here. omega (arith, here, next.least number _ there (omega arith)))
+              (λ behind later. omega (arith, later, bound, next.marked.3)));
         })
 
     pub next-nowhere : next_mark column (line_at lines k).marks ≡ None →
@@ -256,32 +211,19 @@ module _ (lines : List LineContent) (rows : AreRows lines) where
     next-nowhere none free =
         none-next-is offset (whole lines).marks (λ number place got.
         let found = mark-in lines number place got in
-        let i = found.0 in let inner = found.1 in let stands = found.2 in
-        let here = offset_in number place i inner stands in
-        three_ways i k
-        (λ less. omega (arith, stands-before number place i inner k stands less at.within, at.behind))
-        (λ same.
-        let starts = ap (start_of lines) same in
-        omega (
-          arith,
-          starts,
-          here,
-          at.behind,
-          none-next-of column (line_at lines k).marks none number inner (inner_is i k number inner same stands.is),
-        ))
-        (λ more. absurd (has-none (line_at lines i) number inner (free i (omega (arith, more)) stands.within)
+        let i = found.0 in let stands = found.2 in
+        by_line stands k at.within
+        (λ less early. omega (arith, early, at.behind))
+        (λ there here.
+        omega (arith, here, at.behind, none-next-of column (line_at lines k).marks none number _ there))
+        (λ more late. absurd (has-none (line_at lines i) number found.1 (free i (omega (arith, more)) stands.within)
         stands.is)))
 
-    pub behind_at : (number : ℕ) (place : Place) (i : ℕ) (inner : Place) → InLine lines number place i inner → k < i →
-        offset < place.offset
-    behind_at number place i inner stands more =
-        let last : suc k < length lines = omega (arith, stands.within, more) in
-        omega (
-          arith,
-          stands-behind number place i inner k stands more,
-          at.behind,
-          at-inside lines offset k column at last,
-        )
+    -- where there is a line behind, the offset stands before its own one's end
+    pub inside : (i : ℕ) → k < i → i < length lines → offset < start_of lines k + length_at lines k
+    inside i more within =
+        let last : suc k < length lines = omega (arith, more, within) in
+        omega (arith, at.behind, at-inside lines offset k column at last)
 
     pub previous-here : (n : ℕ) → previous_mark column (line_at lines k).marks ≡ Some n →
         previous_mark offset (whole lines).marks ≡ Some (start_of lines k + n)
@@ -292,21 +234,11 @@ module _ (lines : List LineContent) (rows : AreRows lines) where
           below = omega (arith, at.behind, previous.below);
           greatest = λ number place got below.
               let found = mark-in lines number place got in
-              let i = found.0 in let inner = found.1 in let stands = found.2 in
-              let here = offset_in number place i inner stands in
-              three_ways i k
-              (λ less. omega (arith, stands-before number place i inner k stands less at.within))
-              (λ same.
-              let starts = ap (start_of lines) same in
-              omega (
-                arith,
-                starts,
-                here,
-                at.behind,
-                previous.greatest number inner (inner_is i k number inner same stands.is)
-                    (omega (arith, starts, here, below, at.behind)),
-              ))
-              (λ more. absurd (omega (arith, behind_at number place i inner stands more, below)));
+              by_line found.2 k at.within
+              (λ less early. omega (arith, early))
+              (λ there here.
+              omega (arith, here, at.behind, previous.greatest number _ there (omega (arith, here, below, at.behind))))
+              (λ more late. absurd (omega (arith, late, inside found.0 more found.2.within, below)));
         })
 
     pub previous-earlier : (j n : ℕ) → previous_mark column (line_at lines k).marks ≡ None →
@@ -322,34 +254,18 @@ module _ (lines : List LineContent) (rows : AreRows lines) where
           below = omega (arith, at.behind, previous.below, start-before lines j k near.below most);
           greatest = λ number place got below.
               let found = mark-in lines number place got in
-              let i = found.0 in let inner = found.1 in let stands = found.2 in
-              let here = offset_in number place i inner stands in
-              three_ways i k
-              (λ less. three_ways i j
-              (λ before. omega (arith, stands-before number place i inner j stands before within))
-              (λ same.
-              let starts = ap (start_of lines) same in
-              let inside = inner_is i j number inner same stands.is in
-              omega (
-                arith,
-                starts,
-                here,
-                previous.greatest number inner inside (mark-before lines j rows last number inner inside),
-              ))
-              (λ behind. absurd (has-none (line_at lines i) number inner (near.free i (omega (arith, behind)) less)
-              stands.is)))
-              (λ same.
-              let starts = ap (start_of lines) same in
-              absurd (omega (
-                arith,
-                starts,
-                here,
-                below,
-                at.behind,
-                none-previous-of column (line_at lines k).marks none number inner
-                    (inner_is i k number inner same stands.is),
-              )))
-              (λ more. absurd (omega (arith, behind_at number place i inner stands more, below)));
+              let i = found.0 in let stands = found.2 in
+              by_line stands k at.within
+              (λ less early. by_line stands j within
+              (λ before earlier. omega (arith, earlier))
+              (λ there here.
+              omega (arith, here, previous.greatest number _ there (mark-before lines j rows last number _ there)))
+              (λ behind late. absurd (has-none (line_at lines i) number found.1
+              (near.free i (omega (arith, behind)) less) stands.is)))
+              (λ there here.
+              let more = none-previous-of column (line_at lines k).marks none number _ there in
+              absurd (omega (arith, here, below, at.behind, more)))
+              (λ more late. absurd (omega (arith, late, inside i more stands.within, below)));
         })
 
     pub previous-nowhere : previous_mark column (line_at lines k).marks ≡ None → FailFrom has_marks lines 0 k →
@@ -357,21 +273,12 @@ module _ (lines : List LineContent) (rows : AreRows lines) where
     previous-nowhere none free =
         none-previous-is offset (whole lines).marks (λ number place got.
         let found = mark-in lines number place got in
-        let i = found.0 in let inner = found.1 in let stands = found.2 in
-        let here = offset_in number place i inner stands in
-        three_ways i k
-        (λ less. absurd (has-none (line_at lines i) number inner (free i (omega arith) less) stands.is))
-        (λ same.
-        let starts = ap (start_of lines) same in
-        omega (
-          arith,
-          starts,
-          here,
-          at.behind,
-          none-previous-of column (line_at lines k).marks none number inner
-              (inner_is i k number inner same stands.is),
-        ))
-        (λ more. omega (arith, behind_at number place i inner stands more)))
+        let i = found.0 in let stands = found.2 in
+        by_line stands k at.within
+        (λ less early. absurd (has-none (line_at lines i) number found.1 (free i (omega arith) less) stands.is))
+        (λ there here.
+        omega (arith, here, at.behind, none-previous-of column (line_at lines k).marks none number _ there))
+        (λ more late. omega (arith, late, inside i more stands.within)))
 
 -- a line with marks has a nearest one from either end
 pub next-some : {A : Type 0} (line : LineContent) → has_marks line ≡ true → next_mark 0 line.marks ≡ None → A

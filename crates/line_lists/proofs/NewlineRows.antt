@@ -67,7 +67,7 @@ row-at (first ∷ lines) zero line rows is =
     subst (λ x. Row x lines) same (record { alone = rows.0; before = rows.1 })
 row-at (first ∷ lines) (suc k) line rows is = row-at lines k line rows.2 is
 
-characters-append : (xs ys : List Column) → characters (xs ++ ys) ≡ characters xs ++ characters ys
+pub characters-append : (xs ys : List Column) → characters (xs ++ ys) ≡ characters xs ++ characters ys
 characters-append xs ys = map-append (λ (column : Column). column.character) xs ys
 
 newlines-take : (list : List LineContent) (k : ℕ) → AreRows list → k ≤ length list →

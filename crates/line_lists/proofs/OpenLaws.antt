@@ -17,6 +17,7 @@ use Rattle.line_lists.proofs.CutLaws.{some-text, split-makes}
 use Rattle.line_lists.proofs.DraftLaws.{copies-snoc, drafted-append, length-whole, used-append}
 use Rattle.line_lists.proofs.EditLaws.{length-text}
 use Rattle.line_lists.proofs.FindLaws.{made-ends, put-back, taken-is}
+use Rattle.line_lists.proofs.HeldLaws.{lines-there}
 use Rattle.line_lists.proofs.InsertionLaws.{line-makes, right-moved, text-twice}
 use Rattle.line_lists.proofs.RowLaws.{Makes}
 
@@ -145,7 +146,7 @@ line-opens lines front back reached line text opened reached_is line_is is small
     let offset = place_of lines front in
     let old_is : before ++ behind ≡ drafted_at lines front back = sym (drafted-append copies (reverse back) lines) in
     let joins = ap (λ xs. length (whole xs).columns) (sym old_is) ∙ length-whole before behind in
-    let some : 0 < length behind = some_lines behind (omega (arith, opened.within, joins)) in
+    let some : 0 < length behind = lines-there behind (omega (arith, opened.within, joins)) in
     let makes_line = line-makes before behind (drafted_at lines front back) text old_is some opened.text.rows is
     opened.right in
     let front_is : lines_before copies (new_copy line) lines ≡ before = append-nil before in
@@ -177,10 +178,6 @@ line-opens lines front back reached line text opened reached_is line_is is small
     opens lines (front ++ stop ∷ []) back offset text (drafted_at lines front back) draft opened.text.rows opened.within
     (some-text text is) place
     (subst (Makes (after_text offset text) (drafted_at lines front back)) (sym (taken-is lines front back stop)) makes)
-  where
-    some_lines : (xs : List LineContent) → 0 < length (whole xs).columns → 0 < length xs
-    some_lines [] none = absurd (omega (arith, none))
-    some_lines (x ∷ xs) there = omega arith
 
 -- ---- a text goes in by its lines
 longer : (xs line rest : List ℕ) → xs ≡ line ++ rest → length xs ≡ length line + length rest

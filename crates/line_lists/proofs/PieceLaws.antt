@@ -5,7 +5,9 @@ use Rattle.std.proofs.Common.{length-drop, take-append-drop}
 use Rattle.std.specs.FinMap as finite
 use Rattle.std.specs.Ordering.{nat_cmp}
 use Rattle.std.proofs.lemmas.Bool.{cases_lt}
-use Rattle.std.proofs.lemmas.List.{append-nil, drop-drop, length-take-le, take_all}
+use Rattle.std.proofs.lemmas.List.{append-nil, drop-drop, length-take-le, nil_from_length, take-append-le}
+use Rattle.std.proofs.lemmas.List.{take-take, take_all}
+use Rattle.std.proofs.Math.Seq.{drop-append_seam}
 use Rattle.text_model.specs.Content.{Marks}
 use Rattle.toggle_sums.specs.Counts.{Count, plus}
 use Rattle.segments.specs.Columns.{LineContent, line_count}
@@ -16,6 +18,7 @@ use Rattle.line_lists.specs.Texts.{whole}
 use Rattle.line_lists.proofs.CountRows.{count-append}
 use Rattle.line_lists.proofs.DraftLaws.{take-more}
 use Rattle.line_lists.proofs.EditLaws.{rows-apart}
+use Rattle.line_lists.proofs.FreedLaws.{free-front}
 use Rattle.line_lists.proofs.RowLaws.{free-joined, free-parts, rows-among, rows-behind}
 use Rattle.line_lists.proofs.WholeLaws.{whole-append}
 
@@ -41,28 +44,14 @@ can-split (first ∷ pieces) piece lines can =
     let rest = can-split pieces piece lines can.0 in
     ((rest.0, subst (FitsIn first) (placed-snoc pieces piece lines) can.1), rest.1)
 
--- ---- what pieces make, whatever follows them
-pub covers-none : (base : List LineContent) (sum : Count) → Covers [] 0 [] base sum
-covers-none base sum = record {
-  places = λ rest. refl;
-  can = λ rest follows. tt;
-}
-
--- so many lines of a list in whose place others come
-long_take : {A : Type 0} (n : ℕ) (xs : List A) → n ≤ length xs → length (take n xs) ≡ n
-long_take n xs within = length-take-le n xs within
-
+-- ---- so many lines of a list in whose place others come
 take_front : {A : Type 0} (n m : ℕ) (xs ys : List A) → n ≤ m → m ≤ length xs → take n (take m xs ++ ys) ≡ take n xs
-take_front zero m xs ys below within = refl
-take_front (suc n) zero xs ys below within = absurd (omega (arith, below))
-take_front (suc n) (suc m) [] ys below within = absurd (omega (arith, within))
-take_front (suc n) (suc m) (x ∷ xs) ys below within =
-    ap (λ rest. x ∷ rest) (take_front n m xs ys (omega (arith, below)) (omega (arith, within)))
+take_front n m xs ys below within =
+    take-append-le n (take m xs) ys (omega (arith, below, length-take-le m xs within)) ∙ take-take n m xs below
 
 drop_front : {A : Type 0} (m : ℕ) (xs ys : List A) → m ≤ length xs → drop m (take m xs ++ ys) ≡ ys
-drop_front zero xs ys within = refl
-drop_front (suc m) [] ys within = absurd (omega (arith, within))
-drop_front (suc m) (x ∷ xs) ys within = drop_front m xs ys (omega (arith, within))
+drop_front m xs ys within =
+    ap (λ n. drop n (take m xs ++ ys)) (sym (length-take-le m xs within)) ∙ drop-append_seam (take m xs) ys
 
 pub spliced-front : (from count : ℕ) (new base rest : List LineContent) → from + count ≤ length base →
     spliced from count new (take (from + count) base ++ rest) ≡ take from base ++ (new ++ rest)
@@ -97,13 +86,6 @@ apart-there marks others apart number there =
       | Some place ↦ λ is. apart number place is
     ] refl
 
-free-front : (a b : List LineContent) (number : ℕ) → finite.get (whole (a ++ b)).marks number ≡ None →
-    (finite.get (whole a).marks number ≡ None) × (finite.get (whole b).marks number ≡ None)
-free-front a b number free =
-    let parts = free-parts (whole a) (whole b) number
-    (ap (λ (line : LineContent). finite.get line.marks number) (sym (whole-append a b)) ∙ free) in
-    (parts.1, parts.0)
-
 -- a line of which no mark stands in a list, before others
 apart-line : (u : ℕ) (base rest : List LineContent) (line : LineContent) → AreApart line.marks (whole base).marks →
     AreApart (whole (take u base)).marks (whole rest).marks
@@ -119,10 +101,6 @@ apart-line u base rest line alone apart number place is =
           ∙ is in cc)
     ] refl in
     free-joined line (whole rest) number found (apart number place is)
-
-nothing : {A : Type 0} (xs : List A) → length xs ≤ 0 → xs ≡ []
-nothing [] none = refl
-nothing (x ∷ xs) none = absurd (omega (arith, none))
 
 -- ---- a piece that begins behind the others
 rows-new : (u kept : ℕ) (made base tail : List LineContent) → 0 < length tail → u + kept ≤ length base → AreRows base →
@@ -247,7 +225,8 @@ apart-kept u kept base rest rows within apart number place is =
       | inl some ↦ rows-apart (take u base) (drop u base) number some
           (subst AreRows (sym (take-append-drop u base)) rows) (λ none. let no : None ≡ Some place = sym none ∙ is in
           cc)
-      | inr none ↦ ap (λ xs. finite.get (whole xs).marks number) (nothing (drop u base) none)
+      | inr none ↦ ap (λ xs. finite.get (whole xs).marks number) (nil_from_length (drop u base)
+          (omega (arith, none)))
           ∙ finite.get-empty nat_cmp number
     ] in
     free-append (take kept (drop u base)) rest number
@@ -354,7 +333,7 @@ covers-new pieces piece u kept gone made base line sum covers within rows from c
               from,
               count,
               within,
-              long_take (u + (kept + gone)) base within,
+              length-take-le (u + (kept + gone)) base within,
               length-append (take (u + (kept + gone)) base) rest,
             );
             are = subst AreLines (sym (state rest)) are;
@@ -410,7 +389,7 @@ covers-more before last more u gone made base line sum covers within rows ends f
               count,
               ends,
               within,
-              long_take (u + (0 + gone)) base (omega (arith, within)),
+              length-take-le (u + (0 + gone)) base (omega (arith, within)),
               length-append (take (u + (0 + gone)) base) rest,
             );
             are = subst AreLines (sym (state rest)) can.1.are;

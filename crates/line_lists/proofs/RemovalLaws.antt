@@ -91,7 +91,7 @@ removal-twice from m k line ordered within =
     λ i. record { columns = columns i; marks = marks i }
 
 -- nothing is taken out
-none-first : (xs : List Column) → toggled_first set.empty xs ≡ xs
+pub none-first : (xs : List Column) → toggled_first set.empty xs ≡ xs
 none-first [] = refl
 none-first (x ∷ xs) = ap (λ s. record x { toggled = s } ∷ xs) (empty-differing x.toggled)
 

@@ -12,6 +12,9 @@ use Rattle.text_model.specs.Lines.{lines}
 use Rattle.text_model.specs.Splices.{changed}
 use Rattle.segments.specs.Columns.{Column, LineContent, characters, joined, later, toggled_first, toggled_more}
 use Rattle.segments.proofs.MarkLaws.{get-joined_marks, or_else}
+use Rattle.line_lists.specs.declared.drafts.Copied.{Copied}
+use Rattle.line_lists.specs.declared.drafts.Stop.{Stop}
+use Rattle.line_lists.specs.Drafts.{IsDraft, IsText, drafted_at}
 use Rattle.line_lists.specs.Edits.{with_toggled}
 use Rattle.line_lists.specs.Lists.{AreApart, AreRows, GoesBefore, IsLine}
 use Rattle.line_lists.specs.Texts.{whole}
@@ -183,6 +186,12 @@ toggled-whole at slots before behind line within =
 pub record Makes (f : LineContent → LineContent) (old new : List LineContent) : Type 0 where
   pub rows : AreRows old → AreRows new
   pub whole : whole new ≡ f (whole old)
+
+-- a draft of such lines is one of a text
+pub made-text : {lines old new : List LineContent} {front : List Stop} {back : List Copied}
+    {f : LineContent → LineContent} → IsDraft lines front back → drafted_at lines front back ≡ new → Makes f old new → AreRows old →
+    IsText lines front back
+made-text draft same makes rows = record { draft = draft; rows = subst AreRows (sym same) (makes.rows rows) }
 
 pub toggled-makes : (before behind old : List LineContent) (line new : LineContent) (offset column : ℕ) (slots : Slots)
     → before ++ line ∷ behind ≡ old → offset ≡ length (whole before).columns + column

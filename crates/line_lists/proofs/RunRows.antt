@@ -5,7 +5,7 @@ use Rattle.std.specs.Prelude.{slice_get, reverse, Some}
 use Rattle.std.specs.List.{prefix_len, suffix_len}
 use Rattle.std.proofs.Math.Seq.{drop-append-add, take-append-add}
 use Rattle.std.proofs.lemmas.Bool.{eqb-true}
-use Rattle.std.proofs.lemmas.List.{drop-append-le, length-map, length-reverse, map-append, reverse-append}
+use Rattle.std.proofs.lemmas.List.{drop-append-le, length-map, length-reverse, reverse-append}
 use Rattle.std.proofs.lemmas.List.{take-append-le}
 use Rattle.text_model.specs.Content.{characters as cell_characters}
 use Rattle.text_model.specs.Documents.{ends_in_newline}
@@ -13,7 +13,7 @@ use Rattle.text_model.proofs.RunLaws.{run_start-le}
 use Rattle.segments.specs.Columns.{Column, LineContent, characters}
 use Rattle.line_lists.specs.Lists.{AreRows}
 use Rattle.line_lists.specs.Texts.{content_of, whole}
-use Rattle.line_lists.proofs.NewlineRows.{row-at}
+use Rattle.line_lists.proofs.NewlineRows.{characters-append, row-at}
 use Rattle.line_lists.proofs.PlaceRows.{characters-content, whole-at}
 
 -- ---- characters in a row
@@ -70,9 +70,6 @@ none-back test (c ∷ d ∷ text) stops ends =
     ∙ stops-before test (reverse (d ∷ text)) (c ∷ []) (omega (arith, none, length-reverse (d ∷ text))) ∙ none
 
 -- ---- lines in a row
-characters-append : (xs ys : List Column) → characters (xs ++ ys) ≡ characters xs ++ characters ys
-characters-append xs ys = map-append (λ (column : Column). column.character) xs ys
-
 long : (columns : List Column) → length (characters columns) ≡ length columns
 long columns = length-map columns (λ (column : Column). column.character)
 

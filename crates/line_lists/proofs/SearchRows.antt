@@ -40,7 +40,7 @@ NextAt test from lines k = NextIn (plain_line []) test from lines k
 abbrev pub PreviousAt : (LineContent → Bool) → ℕ → List LineContent → ℕ → Type 0
 PreviousAt test to lines k = PreviousIn (plain_line []) test to lines k
 
-some_same : (x y : ℕ) → Some x ≡ Some y → x ≡ y
+pub some_same : (x y : ℕ) → Some x ≡ Some y → x ≡ y
 some_same x y same = cc
 
 pub found-next : {A : Type 0} (d : A) (test : A → Bool) (from : ℕ) (xs : List A) (k : ℕ) →

@@ -6,7 +6,7 @@ use Rattle.std.specs.FinMap as finite
 use Rattle.std.specs.Ordering.{nat_cmp}
 use Rattle.std.specs.Prelude.{is_some, option_map, reverse, slice_get}
 use Rattle.std.proofs.lemmas.Bool.{cases_lt}
-use Rattle.std.proofs.lemmas.List.{append-nil, drop-drop, drop_more, get_or-take, length-take-le, map-append}
+use Rattle.std.proofs.lemmas.List.{append-nil, drop-drop, drop-take, drop_more, get_or-take, length-take-le, map-append}
 use Rattle.std.proofs.lemmas.List.{reverse-append, take_all, take_more}
 use Rattle.text_model.specs.declared.places.Place.{Place}
 use Rattle.segments.specs.Columns.{LineContent, later}
@@ -20,7 +20,7 @@ use Rattle.line_lists.specs.Lists.{AreRows, GoesBefore, IsMarked, StandBefore, h
 use Rattle.line_lists.specs.Marking.{StandsIn, lines_with}
 use Rattle.line_lists.specs.Texts.{whole}
 use Rattle.line_lists.proofs.DraftLaws.{copies-snoc, drafted-append, length-whole, made-snoc, stops-last, take-more}
-use Rattle.line_lists.proofs.DraftLaws.{used-append}
+use Rattle.line_lists.proofs.DraftLaws.{add_groups, used-append}
 use Rattle.line_lists.proofs.EditLaws.{some-columns}
 use Rattle.line_lists.proofs.FindLaws.{begin-le, begin-next, drop_after, slice_get-drop}
 use Rattle.line_lists.proofs.FoundMarks.{length-around}
@@ -39,9 +39,6 @@ clamped line place = min place.offset (length line.columns - 1)
 
 from_none : (n : ℕ) → n ≡ 0 + n
 from_none n = omega arith
-
-add_groups : (a b c : ℕ) → a + (b + c) ≡ (a + b) + c
-add_groups a b c = omega arith
 
 pub stands-one : (number column : ℕ) (line : LineContent) (place : Place) → finite.get line.marks number ≡ Some place →
     column ≡ clamped line place → StandsIn number column (line ∷ [])
@@ -129,6 +126,15 @@ stands-found number offset lines rows stands =
     )
 
 -- ---- in the lines of a list
+-- a mark of a line stands so many characters behind the beginning of the lines before it
+stands-among : (number count column : ℕ) (before behind lines : List LineContent) (line : LineContent) →
+    lines ≡ before ++ line ∷ behind → count ≡ length (whole before).columns → StandsIn number column (line ∷ [])
+    → StandsIn number (count + column) lines
+stands-among number count column before behind lines line all count_is stands =
+    subst (λ n. StandsIn number (n + column) lines) (sym count_is)
+    (subst (StandsIn number (length (whole before).columns + column)) (sym all)
+    (stands-behind number column before (line ∷ behind) (stands-before number column (line ∷ []) behind stands)))
+
 pub stands-kept : (number from to index count column : ℕ) (lines : List LineContent) (line : LineContent) →
     from ≤ index → index < to → slice_get lines index ≡ Some line
     → count ≡ length (whole (take (index - from) (drop from lines))).columns → StandsIn number column (line ∷ [])
@@ -143,12 +149,8 @@ stands-kept number from to index count column lines line first last is count_is 
     ap (λ n. take n others) (let same : to - from ≡ m + suc k = omega (arith, first, last) in same)
     ∙ take-more m (suc k) others
     ∙ ap (λ xs. take m others ++ take (suc k) xs) (drop_after others m line here) in
-    let offset : length (whole (take m others)).columns + column
-    ≡ count + column = ap (λ n. n + column) (sym count_is) in
-    subst (λ n. StandsIn number n (take (to - from) others)) offset
-    (subst (StandsIn number (length (whole (take m others)).columns + column)) (sym all)
-    (stands-behind number column (take m others) (line ∷ take k (drop (suc m) others))
-    (stands-before number column (line ∷ []) (take k (drop (suc m) others)) stands)))
+    stands-among number count column (take m others) (take k (drop (suc m) others)) (take (to - from) others) line all
+    count_is stands
 
 free-take : (number n : ℕ) (lines : List LineContent) → finite.get (whole lines).marks number ≡ None →
     finite.get (whole (take n lines)).marks number ≡ None
@@ -192,22 +194,15 @@ pub kept-before : (number from to index : ℕ) (lines : List LineContent) → fr
     → finite.get (whole (take (to - from) (drop from lines))).marks number ≡ None
 kept-before number from to index lines ordered is large =
     let near = next-found (has_mark number) 0 lines index is in
-    let short : length (take index lines) ≡ index = length-take-le index lines (omega (arith, near.within)) in
-    let free : finite.get (whole (take index lines)).marks number ≡ None =
-    mark-nowhere (take index lines) number (λ j more less.
-    ap (has_mark number) (get_or-take index lines j _ (omega (arith, less, short)))
-    ∙ near.free j more (omega (arith, less, short))) in
-    let others = drop from lines in
-    let part = take (to - from) others in
-    let rest = take (index - to) (drop (to - from) others) in
-    let all : take index lines ≡ take from lines ++ (part ++ rest) =
-    ap (λ n. take n lines) (let same : index ≡ from + (index - from) = omega (arith, ordered, large) in same)
-    ∙ take-more from (index - from) lines
-    ∙ ap (λ xs. take from lines ++ xs)
-    (ap (λ n. take n others) (let same : index - from ≡ (to - from) + (index - to) = omega (arith, ordered, large) in
-    same) ∙ take-more (to - from) (index - to) others) in
-    (free-front part rest number (free-front (take from lines) (part ++ rest) number
-    (ap (λ xs. finite.get (whole xs).marks number) (sym all) ∙ free)).1).0
+    let short : length (take to lines) ≡ to = length-take-le to lines (omega (arith, near.within, large)) in
+    let free : finite.get (whole (take to lines)).marks number ≡ None =
+    mark-nowhere (take to lines) number (λ j more less.
+    ap (has_mark number) (get_or-take to lines j _ (omega (arith, less, short)))
+    ∙ near.free j more (omega (arith, less, short, large))) in
+    let part : drop from (take to lines) ≡ take (to - from) (drop from lines) =
+    ap (λ n. drop from (take n lines)) (let same : to ≡ from + (to - from) = omega (arith, ordered) in same)
+    ∙ drop-take from (to - from) lines in
+    subst (λ xs. finite.get (whole xs).marks number ≡ None) part (free-drop number from (take to lines) free)
 
 -- ---- in the lines before a copy, and in its own
 pub stands-copied : (number column count : ℕ) (reached : Reached) (copy : Copied) (lines : List LineContent)
@@ -331,11 +326,11 @@ back-more front back i n copy next within is =
     append_assoc (copies_of front) (reverse (drop n back)) (copy ∷ [])
     ∙ ap (λ xs. copies_of front ++ xs) (sym (ap reverse first ∙ reverse-append (copy ∷ []) (drop n back)))
 
-pub stands-at : (number offset : ℕ) (lines : List LineContent) (front : List Stop) (back before : List Copied)
-    (reached : Reached) (copy : Copied) → AtCopy lines front back before reached copy
+pub stands-at : {number offset : ℕ} {lines : List LineContent} {front : List Stop} {back before : List Copied}
+    {reached : Reached} {copy : Copied} → AtCopy lines front back before reached copy
     → StandsIn number offset (lines_with reached copy lines) →
     StandsIn number (reached.characters + offset) (drafted_at lines front back)
-stands-at number offset lines front back before reached copy at stands =
+stands-at {number} {offset} {lines} {front} {back} {before} {reached} {copy} at stands =
     let made = made_lines before lines in
     let with = lines_with reached copy lines in
     subst (λ n. StandsIn number (n + offset) (drafted_at lines front back)) (sym at.is.characters)
@@ -404,9 +399,7 @@ stands-listed number start column lines line marked stands =
     let all : before ++ line ∷ behind ≡ lines =
     ap (λ xs. before ++ xs) (sym (drop_after lines marked.index line marked.there))
     ∙ take-append-drop marked.index lines in
-    subst (λ n. StandsIn number (n + column) lines) (sym marked.starts)
-    (subst (StandsIn number (length (whole before).columns + column)) all
-    (stands-behind number column before (line ∷ behind) (stands-before number column (line ∷ []) behind stands)))
+    stands-among number start column before behind lines line (sym all) marked.starts stands
 
 -- a line that is found by the mark of a number has it
 pub kept-there : (number index : ℕ) (lines : List LineContent) (line : LineContent) →

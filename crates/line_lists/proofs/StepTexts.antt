@@ -21,7 +21,7 @@ use Rattle.text_model.specs.Steps.{Fits, StepFitsIn, after, after_step, length_a
 use Rattle.text_model.proofs.PlaceLaws.{same_marks}
 use Rattle.text_model.proofs.SpliceLaws.{length-changed}
 use Rattle.text_model.proofs.StepLaws.{length-after_step}
-use Rattle.toggle_sums.specs.CountLaws.{differing-associative, differing-commutative, empty-differing}
+use Rattle.toggle_sums.specs.CountLaws.{differing-associative, differing-commutative}
 use Rattle.segments.specs.Columns.{Column, LineContent, after_text, tags_before, toggled_first, with_toggle}
 use Rattle.line_lists.specs.declared.drafts.Copied.{Copied}
 use Rattle.line_lists.specs.declared.drafts.Stop.{Stop}
@@ -34,6 +34,7 @@ use Rattle.line_lists.proofs.EditLaws.{length-text}
 use Rattle.line_lists.proofs.FreedLaws.{eq_self}
 use Rattle.line_lists.proofs.MadeLaws.{text-made}
 use Rattle.line_lists.proofs.PlaceRows.{length-cells}
+use Rattle.line_lists.proofs.RemovalLaws.{none-first}
 use Rattle.line_lists.proofs.WholeLaws.{length-toggled}
 
 -- ---- slots that are toggled nowhere
@@ -45,17 +46,12 @@ toggled-end at slots line behind =
     (drop_all at line.columns behind) ∙ append-nil line.columns in
     λ i. record { columns = sym columns i; marks = line.marks }
 
-toggled-none : (columns : List Column) → toggled_first set.empty columns ≡ columns
-toggled-none [] = refl
-toggled-none (column ∷ columns) = ap (λ toggled. record { character = column.character; toggled = toggled } ∷ columns)
-    (empty-differing column.toggled)
-
 pub toggled-empty : (at : ℕ) (slots : Slots) (line : LineContent) → slots ≡ set.empty →
     line ≡ with_toggled at slots line
 toggled-empty at slots line none =
     let columns : toggled_before at slots line.columns ≡ line.columns =
     ap (λ s. toggled_before at s line.columns) none
-    ∙ ap (λ back. take at line.columns ++ back) (toggled-none (drop at line.columns))
+    ∙ ap (λ back. take at line.columns ++ back) (none-first (drop at line.columns))
     ∙ take-append-drop at line.columns in
     λ i. record { columns = sym columns i; marks = line.marks }
 
@@ -243,10 +239,6 @@ pub record Goes (steps : List Step) (first : LineContent) (rest : List Step) (te
     pub some : 0 < count
     pub fits : Fits rest (text_of text)
     pub new : after rest (text_of text) ≡ after steps (text_of first)
-
-pub goes-first : (steps : List Step) (text : LineContent) (len : ℕ) → len ≡ length text.columns → 0 < len →
-    Fits steps (text_of text) → Goes steps text steps text len
-goes-first steps text len is some fits = record { len = is; some = some; fits = fits; new = refl }
 
 pub goes-at : (steps : List Step) (first text : LineContent) (step : Step) (i len : ℕ) → i < length steps →
     step ≡ get_or steps i step → Goes steps first (drop i steps) text len

@@ -1,28 +1,22 @@
 -- What a store over lines asks of its list.
 use Rattle.std.proofs.Common.{◌≡◌, ℕ, ◌<◌, ◌≤◌, inl, inr, List, [], ◌∷◌, length, sym, ap, subst, ◌∙◌, arith}
-use Rattle.std.proofs.Common.{length-append}
 use Rattle.std.specs.FinMap as finite
 use Rattle.std.specs.FinSet as set
 use Rattle.std.specs.List.{All}
 use Rattle.std.proofs.lemmas.List.Elements.{All-cons, All-head, All-nil, All-tail}
 use Rattle.text_model.specs.Content.{new_content}
 use Rattle.segments.specs.Columns.{LineContent, plain_line}
-use Rattle.line_lists.specs.Lists.{AreLines, AreRows, NumbersBelow}
+use Rattle.line_lists.specs.Lists.{AreLines, NumbersBelow}
 use Rattle.line_lists.specs.Pieces.{numbers_in, numbers_of}
 use Rattle.line_lists.specs.Texts.{content_of, text_of, whole}
-use Rattle.line_lists.proofs.EditLaws.{some-columns}
+use Rattle.line_lists.proofs.FoundMarks.{rows-some}
 use Rattle.line_lists.proofs.FreedLaws.{Names, names-left, names-right, names_of}
 use Rattle.line_lists.proofs.TagLaws.{cells-plain}
 use Rattle.line_lists.proofs.WholeLaws.{whole-one}
 
-some_text : (lines : List LineContent) → 0 < length lines → AreRows lines → 0 < length (whole lines).columns
-some_text [] some rows = some
-some_text (line ∷ lines) some rows =
-    omega (arith, some-columns line.columns rows.0.ends, length-append line.columns (whole lines).columns)
-
 -- a text has a character
 pub some-text : (lines : List LineContent) → AreLines lines → 0 < length (whole lines).columns
-some-text lines are = some_text lines are.some are.rows
+some-text lines are = rows-some lines are.some are.rows
 
 pub all-names : (P : ℕ → Type 0) (numbers : List ℕ) → All P numbers → (number : ℕ) → Names number numbers → P number
 all-names P [] all number names = absurd names

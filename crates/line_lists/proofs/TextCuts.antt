@@ -1,5 +1,5 @@
 -- A text is cut behind its first newline.
-use Rattle.std.proofs.Common.{◌≡◌, ℕ, zero, suc, ◌+◌, cond, ◌==◌, List, [], ◌∷◌, ◌++◌, length, take, drop, chars, refl}
+use Rattle.std.proofs.Common.{◌≡◌, ℕ, zero, suc, ◌+◌, cond, ◌==◌, List, [], ◌∷◌, ◌++◌, take, drop, chars, refl}
 use Rattle.std.proofs.Common.{sym, ap, ap₂, subst, ◌∙◌, arith, append_assoc, take-append-drop}
 use Rattle.std.specs.Str.{IsAscii, IsCharBoundary, IsUtf8, NoCharPasses, NonePass}
 use Rattle.std.specs.Str.Pattern.{HasCharAt}
@@ -13,8 +13,8 @@ use Rattle.text_model.specs.Lines.{lines}
 use Rattle.text_model.proofs.DocumentLaws.{ends_with_rest}
 use Rattle.text_model.proofs.LineLaws.{lines-append, lines-cons}
 use Rattle.segments.specs.Columns.{plain_line}
+use Rattle.segments.proofs.PlainLaws.{characters-plain}
 use Rattle.line_lists.specs.Lists.{IsLine}
-use Rattle.line_lists.proofs.EditLaws.{characters-plain}
 
 none-lines : (text : List ℕ) → NonePass (λ d. d == 10) text → lines text ≡ 0
 none-lines [] none = refl
@@ -69,10 +69,3 @@ first-cut text first rest at end utf8 boundary found none first_is rest_is =
       parts =
           goes_on ∙ sym (append_assoc (chars front) (10 ∷ []) (chars rest)) ∙ ap (λ xs. xs ++ chars rest) (sym ends);
     }
-
-nothing : (text : List ℕ) → length text ≡ 0 → text ≡ []
-nothing [] none = refl
-nothing (c ∷ text) none = absurd (omega (arith, none))
-
-pub no-characters : (text : List ℕ) → length text ≡ 0 → chars text ≡ []
-no-characters text none = ap chars (nothing text none) ∙ chars-nil

@@ -1,37 +1,23 @@
 -- The characters of lines in a row, from one offset to another.
-use Rattle.std.proofs.Common.{◌≡◌, ℕ, zero, suc, ◌+◌, ◌-◌, ◌<◌, ◌≤◌, List, [], ◌∷◌, ◌++◌, length, take, drop, refl, sym}
+use Rattle.std.proofs.Common.{◌≡◌, ℕ, zero, suc, ◌+◌, ◌-◌, ◌<◌, ◌≤◌, List, [], ◌∷◌, ◌++◌, length, take, drop, sym}
 use Rattle.std.proofs.Common.{ap, ap₂, ◌∙◌, arith, add-one, append_assoc, inl, inr, length-append, length-drop}
 use Rattle.std.proofs.Common.{take-append-drop}
 use Rattle.std.specs.Prelude.{slice_get, slice_range, Some}
 use Rattle.std.proofs.lemmas.Bool.{cases_lt}
-use Rattle.std.proofs.Math.Seq.{drop-append-add, take-nil}
 use Rattle.std.proofs.lemmas.List.{append-nil, drop-append-le, length-map, map-append, take-append-le, take_all}
+use Rattle.std.proofs.lemmas.List.{drop-drop}
 use Rattle.std.proofs.lemmas.Option.{none-some, same_Some}
+use Rattle.std.proofs.Math.Seq.{drop-append-add}
 use Rattle.segments.specs.Columns.{Column, LineContent, characters}
 use Rattle.text_model.specs.Content.{characters as cell_characters}
 use Rattle.line_lists.specs.Places.{IsAt}
 use Rattle.line_lists.specs.Texts.{content_of, whole}
+use Rattle.line_lists.proofs.DraftLaws.{take-more}
 use Rattle.line_lists.proofs.LineStarts.{at-before, at-within, length_at, lent, lent-length, start-next}
 use Rattle.line_lists.proofs.LineStarts.{start-rises, start_of, there}
 use Rattle.line_lists.proofs.PlaceRows.{characters-content, whole-at}
 use Rattle.line_lists.proofs.SearchRows.{line_at}
 use Rattle.line_lists.proofs.WholeLaws.{whole-append, whole-one}
-
-take-both : {A : Type 0} (m n : ℕ) (xs : List A) → take (m + n) xs ≡ take m xs ++ take n (drop m xs)
-take-both zero n xs = ap (λ k. take k xs) (let same : 0 + n ≡ n = omega arith in same)
-take-both (suc m) n [] = take-nil (suc m + n) ∙ sym (take-nil n)
-take-both (suc m) n (x ∷ xs) = ap (λ k. take k (x ∷ xs)) (let same : suc m + n ≡ suc (m + n) = omega arith in same)
-    ∙ ap (λ rest. x ∷ rest) (take-both m n xs)
-
-drop-none : {A : Type 0} (k : ℕ) → drop {A = A} k [] ≡ []
-drop-none zero = refl
-drop-none (suc k) = refl
-
-drop-both : {A : Type 0} (m n : ℕ) (xs : List A) → drop m (drop n xs) ≡ drop (n + m) xs
-drop-both m zero xs = ap (λ k. drop k xs) (let same : m ≡ 0 + m = omega arith in same)
-drop-both m (suc n) [] = drop-none m ∙ sym (drop-none (suc n + m))
-drop-both m (suc n) (x ∷ xs) =
-    drop-both m n xs ∙ ap (λ k. drop k (x ∷ xs)) (let same : suc (n + m) ≡ suc n + m = omega arith in same)
 
 -- two parts, one behind the other
 pub slice-join : {A : Type 0} (xs : List A) (a b c : ℕ) → a ≤ b → b ≤ c →
@@ -39,8 +25,8 @@ pub slice-join : {A : Type 0} (xs : List A) (a b c : ℕ) → a ≤ b → b ≤ 
 slice-join xs a b c first second =
     let all : (b - a) + (c - b) ≡ c - a = omega arith in
     let here : a + (b - a) ≡ b = omega arith in
-    sym (ap (λ k. take k (drop a xs)) (sym all) ∙ take-both (b - a) (c - b) (drop a xs)
-    ∙ ap (λ rest. take (b - a) (drop a xs) ++ take (c - b) rest) (drop-both (b - a) a xs ∙ ap (λ k. drop k xs) here))
+    sym (ap (λ k. take k (drop a xs)) (sym all) ∙ take-more (b - a) (c - b) (drop a xs)
+    ∙ ap (λ rest. take (b - a) (drop a xs) ++ take (c - b) rest) (drop-drop (b - a) a xs ∙ ap (λ k. drop k xs) here))
 
 pub slice-none : {A : Type 0} (xs : List A) (a : ℕ) → slice_range xs a a ≡ []
 slice-none xs a = ap (λ k. take k (drop a xs)) (let none : a - a ≡ 0 = omega arith in none)
@@ -134,7 +120,7 @@ lines-between lines from to ordered =
     let two = characters (whole middle).columns in
     let three = characters (whole (drop to lines)).columns in
     let all : from + (to - from) ≡ to = omega arith in
-    let parts : take from lines ++ middle ≡ take to lines = sym (take-both from (to - from) lines)
+    let parts : take from lines ++ middle ≡ take to lines = sym (take-more from (to - from) lines)
     ∙ ap (λ n. take n lines) all in
     let row : one ++ (two ++ three) ≡ characters (whole lines).columns =
     sym (append_assoc one two three)

@@ -5,6 +5,7 @@ use Rattle.std.specs.FinSet as set
 use Rattle.std.specs.Cmp.{nat_cmp_total}
 use Rattle.std.specs.Ordering.{nat_cmp}
 use Rattle.std.proofs.Math.Seq.{take-suc}
+use Rattle.std.proofs.lemmas.Bool.{or_parts}
 use Rattle.std.proofs.lemmas.List.{length-map}
 use Rattle.std.proofs.lemmas.Option.{get_or_from_slice_get}
 use Rattle.text_model.specs.declared.cells.Cell.{Cell}
@@ -141,10 +142,6 @@ previous-change-is slot columns at start below within free stops =
     ap (λ b. is_alike b (flag_at all (start - 1))) (last ∙ turned) ∙ unlike_turned_back (flag_at all (start - 1)))
 
 -- ---- a line in which a slot is toggled
-pub neither : (a b : Bool) → (a || b) ≡ false → (a ≡ false) × (b ≡ false)
-neither true b is = absurd (let no : true ≡ false = is in cc)
-neither false b is = (refl, is)
-
 pub presence-cons : (slot : ℕ) (column : Column) (columns : List Column) →
     set.contains (presence (toggles (column ∷ columns))) slot
     ≡ (toggles_slot slot column || set.contains (presence (toggles columns)) slot)
@@ -153,9 +150,9 @@ presence-cons slot column columns = set.contains-union nat_cmp_total column.togg
 none-toggled : (slot : ℕ) (columns : List Column) (i : ℕ) → set.contains (presence (toggles columns)) slot ≡ false →
     i < length columns → toggles_slot slot (get_or columns i no_column) ≡ false
 none-toggled slot [] i is within = absurd (omega arith)
-none-toggled slot (column ∷ columns) zero is within = (neither _ _ (sym (presence-cons slot column columns) ∙ is)).0
+none-toggled slot (column ∷ columns) zero is within = (or_parts _ _ (sym (presence-cons slot column columns) ∙ is)).0
 none-toggled slot (column ∷ columns) (suc i) is within =
-    none-toggled slot columns i (neither _ _ (sym (presence-cons slot column columns) ∙ is)).1 (omega arith)
+    none-toggled slot columns i (or_parts _ _ (sym (presence-cons slot column columns) ∙ is)).1 (omega arith)
 
 pub no-toggle : (slot : ℕ) (line : LineContent) (i : ℕ) → has_toggle slot line ≡ false → i < length line.columns →
     toggles_slot slot (get_or line.columns i no_column) ≡ false

@@ -19,6 +19,7 @@ use Rattle.line_lists.specs.Edits.{without_mark}
 use Rattle.line_lists.specs.Lists.{AreApart, AreLines, AreRows, GoesBefore, IsCounted, count_of, spliced}
 use Rattle.line_lists.specs.Texts.{whole}
 use Rattle.line_lists.proofs.CountRows.{counted-part}
+use Rattle.line_lists.proofs.EditLaws.{free_one, take-kept}
 
 -- the part before an index is counted
 pub counted-front : (n : ℕ) (xs : List LineContent) → IsCounted (count_of xs) → IsCounted (count_of (take n xs))
@@ -76,17 +77,13 @@ without-joined number first second =
     ∙ ap (cond (eq_by_cmp nat_cmp q number) None) (get-joined_marks len first.marks second.marks q))) in
     λ i. record { columns = first.columns ++ second.columns; marks = marks i }
 
-still_none : (test : Bool) (found : Option Place) → found ≡ None → cond test None found ≡ None
-still_none true found none = refl
-still_none false found none = none
-
 without-none : (number : ℕ) → plain_line [] ≡ without_mark number (plain_line [])
 without-none number =
     let marks : finite.empty ≡ finite.remove finite.empty number = same_marks _ _ (λ q.
     finite.get-empty nat_cmp q
     ∙ sym (finite.get-remove nat_cmp_total finite.empty number q
     ∙ ap (cond (eq_by_cmp nat_cmp q number) None) (finite.get-empty nat_cmp q)
-    ∙ still_none (eq_by_cmp nat_cmp q number) None refl)) in
+    ∙ free_one (eq_by_cmp nat_cmp q number) None refl)) in
     λ i. record { columns = []; marks = marks i }
 
 pub whole-without : (number : ℕ) (lines : List LineContent) →
@@ -95,28 +92,17 @@ whole-without number [] = without-none number
 whole-without number (line ∷ lines) =
     ap (joined (without_mark number line)) (whole-without number lines) ∙ without-joined number line (whole lines)
 
-kept_place : (test : Bool) (found : Option Place) (place : Place) → cond test None found ≡ Some place →
-    found ≡ Some place
-kept_place true found place is = absurd (let none : None ≡ Some place = is in cc)
-kept_place false found place is = is
-
--- a mark that is left stood there before
-stood : (number : ℕ) (marks : Marks) (q : ℕ) (place : Place) → finite.get (finite.remove marks number) q ≡ Some place →
-    finite.get marks q ≡ Some place
-stood number marks q place is = kept_place (eq_by_cmp nat_cmp q number) (finite.get marks q) place
-    (sym (finite.get-remove nat_cmp_total marks number q) ∙ is)
-
 apart-without : (number : ℕ) (first second : Marks) → AreApart first second →
     AreApart (finite.remove first number) (finite.remove second number)
 apart-without number first second apart = λ q place is.
     finite.get-remove nat_cmp_total second number q
-    ∙ still_none (eq_by_cmp nat_cmp q number) (finite.get second q) (apart q place (stood number first q place is))
+    ∙ free_one (eq_by_cmp nat_cmp q number) (finite.get second q) (apart q place (take-kept number first q place is))
 
 before-without : (number : ℕ) (line : LineContent) (lines : List LineContent) → GoesBefore line lines →
     GoesBefore (without_mark number line) (map (without_mark number) lines)
-before-without number line [] goes = λ q place is. goes q place (stood number line.marks q place is)
+before-without number line [] goes = λ q place is. goes q place (take-kept number line.marks q place is)
 before-without number line (next ∷ lines) goes = (
-  (λ q place is. goes.0 q place (stood number line.marks q place is)),
+  (λ q place is. goes.0 q place (take-kept number line.marks q place is)),
   subst (λ (rest : LineContent). AreApart (finite.remove line.marks number) rest.marks)
       (sym (whole-without number (next ∷ lines)))
       (apart-without number line.marks (whole (next ∷ lines)).marks goes.1),

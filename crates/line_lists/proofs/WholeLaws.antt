@@ -17,12 +17,12 @@ use Rattle.text_model.proofs.SpliceLaws.{inserted-append_right, length-changed, 
 use Rattle.segments.specs.Columns.{Column, LineContent, after_removal, after_text, joined, joined_marks, later}
 use Rattle.segments.specs.Columns.{plain_columns, plain_line, toggled_first, toggles, with_toggle, without_columns}
 use Rattle.toggle_sums.specs.Toggles.{parity}
-use Rattle.segments.proofs.MarkLaws.{or_else, tied_same}
+use Rattle.segments.proofs.MarkLaws.{joined_none, or_else, tied_same}
 use Rattle.line_lists.specs.Edits.{with_cleared, with_mark, with_toggled, without_mark}
 use Rattle.line_lists.specs.Texts.{whole}
 use Rattle.line_lists.specs.Toggling.{toggled_before}
 use Rattle.line_lists.proofs.MarkRows.{StandBefore, StandWithin, drawn-Lifts, get-row, joined_marks-associative}
-use Rattle.line_lists.proofs.MarkRows.{joined_marks-none, map_marks-row, moved-Lifts, none-joined_marks, row}
+use Rattle.line_lists.proofs.MarkRows.{map_marks-row, moved-Lifts, none-joined_marks, row}
 
 pub joined-associative : (a b c : LineContent) → joined a (joined b c) ≡ joined (joined a b) c
 joined-associative a b c =
@@ -33,7 +33,7 @@ joined-associative a b c =
     λ i. record { columns = sym (append_assoc a.columns b.columns c.columns) i; marks = marks i }
 
 pub joined-none : (a : LineContent) → joined a (plain_line []) ≡ a
-joined-none a = λ i. record { columns = append-nil a.columns i; marks = joined_marks-none (length a.columns) a.marks i }
+joined-none a = λ i. record { columns = append-nil a.columns i; marks = joined_none (length a.columns) a.marks i }
 
 pub none-joined : (a : LineContent) → joined (plain_line []) a ≡ a
 none-joined a = λ i. record { columns = a.columns; marks = none-joined_marks a.marks i }

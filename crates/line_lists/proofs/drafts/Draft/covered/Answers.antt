@@ -1,9 +1,9 @@
-use Rattle.std.proofs.Common.{◌-◌, [], length, take, subst, sym, ap, ◌∙◌, arith}
+use Rattle.std.proofs.Common.{◌-◌, length, take, refl, subst, sym, ap, ◌∙◌, arith}
 use Rattle.std.specs.Prelude.{slice_get}
-use Rattle.line_lists.specs.Drafts.{IsDraft, copies_of}
-use Rattle.line_lists.proofs.DraftLaws.{can-follow, copies-snoc, covers-more, last-start, last_is, no_last, stops-last}
-use Rattle.line_lists.specs.Drafts.{made_lines}
+use Rattle.line_lists.specs.Drafts.{IsDraft, copies_of, made_lines, place_of}
 use Rattle.line_lists.specs.Texts.{whole}
+use Rattle.line_lists.proofs.DraftLaws.{can-follow, last-start, last_is, no_last}
+use Rattle.line_lists.proofs.FindLaws.{last-starts}
 use Rattle.line_lists.proofs.drafts.Draft.covered.Goals as goal
 
 pub overflow_add-result : goal.overflow_add-result
@@ -34,12 +34,9 @@ returns-in-Some g c =
     let before = take (length front - 1) front in
     let is = last_is front stop (c.in-Some.ensures.value
     ∙ ap (λ xs. slice_get xs (length xs - 1)) c.deref.ensures.value) in
-    let reached = (stops-last lines [] before stop (subst (λ items. IsDraft lines items back) is c.requires).stops) in
     omega (
       arith,
       last-start lines front before back stop c.requires is,
+      last-starts lines front before back stop (place_of lines front) c.requires is refl,
       c.len.ensures,
-      covers-more stop.reached (copies_of before) stop.copy lines reached,
     )
-    ∙ sym (ap (λ copies. length (whole (made_lines copies lines)).columns)
-    (ap copies_of is ∙ copies-snoc before stop))

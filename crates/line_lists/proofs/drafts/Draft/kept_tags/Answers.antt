@@ -40,4 +40,8 @@ returns-clause-value g c =
     ∙ ap₂ differing (c.turn_kept.ensures.turned ∙ ap₂ (λ s xs. differing s (kept xs)) so_far same)
     c.tags_left_of.ensures
     ∙ sym (kept-tags lines front reached c.args.offset c.requires.reached found.result.0 found.result.1
-    found.result.2.now found.ensures.place found.ensures.line c.args.self.now.back.items c.requires.ahead)
+    found.result.2.now (record {
+      so_far = c.requires.reached;
+      found = found.ensures.place;
+      get = found.ensures.line;
+    }) c.args.self.now.back.items c.requires.ahead)

@@ -1,60 +1,39 @@
-use Rattle.std.proofs.Common.{◌≡◌, length, sym, ap, ◌∙◌, subst, arith}
+use Rattle.std.proofs.Common.{◌≡◌, length, ap, ◌∙◌, arith}
 use Rattle.text_model.specs.declared.places.Place.{Place}
 use Rattle.segments.specs.Columns.{LineContent}
-use Rattle.line_lists.specs.Drafts.{copies_of, lines_before, lines_behind}
+use Rattle.line_lists.specs.DraftTexts.{lines_in, taken_in}
 use Rattle.line_lists.specs.Edits.{with_mark}
-use Rattle.line_lists.specs.Lists.{AreRows}
 use Rattle.line_lists.specs.Texts.{whole}
 use Rattle.line_lists.proofs.EditLaws.{marked-makes}
+use Rattle.line_lists.proofs.RowLaws.{Makes, made-text}
+use Rattle.line_lists.proofs.drafts.Draft.put_mark.Given.{Over}
 use Rattle.line_lists.proofs.drafts.Draft.put_mark.Goals as goal
+use Rattle.line_lists.proofs.drafts.Draft.put_mark.Goals.{In_ok-put_mark}
 
-pub put-requires-clause-counted : goal.put-requires-clause-counted
-put-requires-clause-counted g c =
-    let lines = g.L.LineList.lines c.take.new.self.list.now in
+-- what the mark makes of the lines
+made : (g : Over) (c : In_ok-put_mark g) →
+    Makes (with_mark c.args.number.0 c.args.place) (lines_in g.L.LineList.lines c.args.self.now)
+    (taken_in g.L.LineList.lines c.take.new.self (record c.in_ok-stop.field-0.stop.copy { line = c.put_mark.new.self }))
+made g c =
     let found = c.in_ok-stop.field-0 in
     let copy = found.stop.copy in
-    let copies = copies_of c.take.new.self.front.items in
-    let before = lines_before copies copy lines in
-    let behind = lines_behind copies copy c.take.new.self.back.items lines in
     let place = c.in_ok-stop.ensures.place in
     let there : Place = record c.args.place { offset = found.column } in
     let new_is : c.put_mark.new.self ≡ with_mark c.args.number.0 there copy.line = λ i.
     record { columns = c.put_mark.ensures.columns i; marks = c.in_ok-put_mark.ensures.marks i } in
-    let makes = marked-makes before behind _ copy.line c.put_mark.new.self c.args.place c.args.number.0 found.column
-    c.in_ok-stop.ensures.same place.place place.inside c.requires.free new_is in
+    marked-makes _ _ _ copy.line c.put_mark.new.self c.args.place c.args.number.0 found.column
+    c.in_ok-stop.ensures.same place.place place.inside c.requires.free new_is
+
+pub put-requires-clause-counted : goal.put-requires-clause-counted
+put-requires-clause-counted g c =
+    let makes = made g (goal.at.put-requires-clause-counted g c).In_ok-put_mark in
     omega (arith, ap (λ (line : LineContent). length line.columns) makes.whole, c.requires.is.draft.counted)
 
 pub returns-clause-is : goal.returns-clause-is
 returns-clause-is g c =
-    let lines = g.L.LineList.lines c.take.new.self.list.now in
-    let found = c.in_ok-stop.field-0 in
-    let copy = found.stop.copy in
-    let copies = copies_of c.take.new.self.front.items in
-    let before = lines_before copies copy lines in
-    let behind = lines_behind copies copy c.take.new.self.back.items lines in
-    let place = c.in_ok-stop.ensures.place in
-    let there : Place = record c.args.place { offset = found.column } in
-    let new_is : c.put_mark.new.self ≡ with_mark c.args.number.0 there copy.line = λ i.
-    record { columns = c.put_mark.ensures.columns i; marks = c.in_ok-put_mark.ensures.marks i } in
-    let makes = marked-makes before behind _ copy.line c.put_mark.new.self c.args.place c.args.number.0 found.column
-    c.in_ok-stop.ensures.same place.place place.inside c.requires.free new_is in
-    record {
-      draft = c.put.ensures.is;
-      rows = subst AreRows (sym c.put.ensures.lines) (makes.rows c.requires.is.rows);
-    }
+    made-text c.put.ensures.is c.put.ensures.lines (made g (goal.at.returns-clause-is g c).In_ok-put_mark)
+    c.requires.is.rows
 
 pub returns-clause-new : goal.returns-clause-new
 returns-clause-new g c =
-    let lines = g.L.LineList.lines c.take.new.self.list.now in
-    let found = c.in_ok-stop.field-0 in
-    let copy = found.stop.copy in
-    let copies = copies_of c.take.new.self.front.items in
-    let before = lines_before copies copy lines in
-    let behind = lines_behind copies copy c.take.new.self.back.items lines in
-    let place = c.in_ok-stop.ensures.place in
-    let there : Place = record c.args.place { offset = found.column } in
-    let new_is : c.put_mark.new.self ≡ with_mark c.args.number.0 there copy.line = λ i.
-    record { columns = c.put_mark.ensures.columns i; marks = c.in_ok-put_mark.ensures.marks i } in
-    let makes = marked-makes before behind _ copy.line c.put_mark.new.self c.args.place c.args.number.0 found.column
-    c.in_ok-stop.ensures.same place.place place.inside c.requires.free new_is in
-    ap whole c.put.ensures.lines ∙ makes.whole
+    ap whole c.put.ensures.lines ∙ (made g (goal.at.returns-clause-new g c).In_ok-put_mark).whole

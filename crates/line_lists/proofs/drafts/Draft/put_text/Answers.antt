@@ -2,7 +2,7 @@ use Rattle.std.proofs.Common.{◌≡◌, eqb-true, length, sym, ap, ◌∙◌}
 use Rattle.segments.specs.Columns.{after_text}
 use Rattle.line_lists.specs.Drafts.{place_of, text_at}
 use Rattle.line_lists.proofs.InsertionLaws.{text-none}
-use Rattle.line_lists.proofs.TextCuts.{no-characters}
+use Rattle.segments.proofs.TextLaws.{no_characters}
 use Rattle.line_lists.proofs.drafts.Draft.put_text.Goals as goal
 
 pub returns-then-is_empty-clause-new : goal.returns-then-is_empty-clause-new
@@ -12,5 +12,5 @@ returns-then-is_empty-clause-new g c =
     let text = text_at lines c.put_lines.new.self.front.items c.put_lines.new.self.back.items in
     let last = c.in_ok-last.last.now in
     let none : length last ≡ 0 = eqb-true (length last) 0 (sym c.if-is_empty.ensures) in
-    sym (text-none offset text) ∙ ap (λ rest. after_text offset rest text) (sym (no-characters last none))
+    sym (text-none offset text) ∙ ap (λ rest. after_text offset rest text) (sym (no_characters last none))
     ∙ c.in_ok-last.ensures.partly.new

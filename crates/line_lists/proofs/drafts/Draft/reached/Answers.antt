@@ -1,48 +1,53 @@
-use Rattle.std.proofs.Common.{◌+◌, ◌-◌, [], length, take, subst, sym, ap, ◌∙◌, arith}
+use Rattle.std.proofs.Common.{◌≡◌, ◌+◌, ◌-◌, ◌<◌, ◌^◌, ◌++◌, ◌∷◌, [], length, take, subst, sym, ap, ◌∙◌, arith}
 use Rattle.std.specs.Prelude.{slice_get}
 use Rattle.line_lists.specs.declared.drafts.Reached.{Reached}
-use Rattle.line_lists.specs.Drafts.{IsDraft, IsReached, copies_of}
+use Rattle.line_lists.specs.Drafts.{CanFollow, IsDraft, IsReached, copies_of, covered}
 use Rattle.line_lists.proofs.CountRows.{count-lines}
 use Rattle.line_lists.proofs.DraftLaws.{can-follow, copies-snoc, last-start, last_is, no_last, reached-more, stops-last}
+use Rattle.line_lists.proofs.drafts.Draft.reached.Given.{Over}
 use Rattle.line_lists.proofs.drafts.Draft.reached.Goals as goal
+use Rattle.line_lists.proofs.drafts.Draft.reached.Goals.{In-Some}
+
+-- the last copy before the place: it stands behind the others, and there are numbers for what it covers
+last : (g : Over) (c : In-Some g)
+    → c.args.self.now.front.items ≡ take (length c.args.self.now.front.items - 1) c.args.self.now.front.items
+    ++ c.in-Some.stop.now ∷ []
+last g c =
+    last_is c.args.self.now.front.items c.in-Some.stop.now (c.in-Some.ensures.value
+    ∙ ap (λ xs. slice_get xs (length xs - 1)) c.deref.ensures.value)
+
+follows : (g : Over) (c : In-Some g)
+    → CanFollow c.in-Some.stop.now.reached c.in-Some.stop.now.copy (g.L.LineList.lines c.args.self.now.list.now)
+follows g c =
+    let lines = g.L.LineList.lines c.args.self.now.list.now in
+    let front = c.args.self.now.front.items in
+    let back = c.args.self.now.back.items in
+    can-follow lines (take (length front - 1) front) back c.in-Some.stop.now
+    (subst (λ items. IsDraft lines items back) (last g c) c.requires)
+
+few : (g : Over) (c : In-Some g)
+    → c.in-Some.stop.now.reached.used + covered c.in-Some.stop.now.copy < 2 ^ 64
+few g c =
+    omega (
+      arith,
+      (g.L.LineList.are_lines c.args.self.now.list.now).counted.lines,
+      count-lines (g.L.LineList.lines c.args.self.now.list.now),
+      (follows g c).there,
+    )
 
 pub overflow_add-result : goal.overflow_add-result
-overflow_add-result g c =
-    let lines = g.L.LineList.lines c.args.self.now.list.now in
-    let front = c.args.self.now.front.items in
-    let back = c.args.self.now.back.items in
-    let stop = c.in-Some.stop.now in
-    let is = last_is front stop (c.in-Some.ensures.value
-    ∙ ap (λ xs. slice_get xs (length xs - 1)) c.deref.ensures.value) in
-    let follows = can-follow lines (take (length front - 1) front) back stop
-    (subst (λ items. IsDraft lines items back) is c.requires) in
-    let few = (g.L.LineList.are_lines c.args.self.now.list.now).counted.lines in
-    omega (arith, few, count-lines lines, follows.there)
+overflow_add-result g c = omega (arith, few g (goal.at.overflow_add-result g c).In-Some)
 
 pub overflow_add-result-in-Some : goal.overflow_add-result-in-Some
-overflow_add-result-in-Some g c =
-    let lines = g.L.LineList.lines c.args.self.now.list.now in
-    let front = c.args.self.now.front.items in
-    let back = c.args.self.now.back.items in
-    let stop = c.in-Some.stop.now in
-    let is = last_is front stop (c.in-Some.ensures.value
-    ∙ ap (λ xs. slice_get xs (length xs - 1)) c.deref.ensures.value) in
-    let follows = can-follow lines (take (length front - 1) front) back stop
-    (subst (λ items. IsDraft lines items back) is c.requires) in
-    let few = (g.L.LineList.are_lines c.args.self.now.list.now).counted.lines in
-    omega (arith, few, count-lines lines, follows.there)
+overflow_add-result-in-Some g c = omega (arith, few g (goal.at.overflow_add-result-in-Some g c).In-Some)
 
 pub overflow_add-result-in-Some-2 : goal.overflow_add-result-in-Some-2
 overflow_add-result-in-Some-2 g c =
-    let lines = g.L.LineList.lines c.args.self.now.list.now in
     let front = c.args.self.now.front.items in
-    let back = c.args.self.now.back.items in
-    let stop = c.in-Some.stop.now in
-    let before = take (length front - 1) front in
-    let is = last_is front stop (c.in-Some.ensures.value
-    ∙ ap (λ xs. slice_get xs (length xs - 1)) c.deref.ensures.value) in
-    let follows = can-follow lines before back stop (subst (λ items. IsDraft lines items back) is c.requires) in
-    omega (arith, follows.counted, last-start lines front before back stop c.requires is, c.len.ensures)
+    let some = (goal.at.overflow_add-result-in-Some-2 g c).In-Some in
+    let start = last-start (g.L.LineList.lines c.args.self.now.list.now) front (take (length front - 1) front)
+    c.args.self.now.back.items c.in-Some.stop.now c.requires (last g some) in
+    omega (arith, (follows g some).counted, start, c.len.ensures)
 
 pub returns-in-None : goal.returns-in-None
 returns-in-None g c =
@@ -58,8 +63,7 @@ returns-in-Some g c =
     let back = c.args.self.now.back.items in
     let stop = c.in-Some.stop.now in
     let before = take (length front - 1) front in
-    let is = last_is front stop (c.in-Some.ensures.value
-    ∙ ap (λ xs. slice_get xs (length xs - 1)) c.deref.ensures.value) in
+    let is = last g (goal.at.returns-in-Some g c).In-Some in
     let start = last-start lines front before back stop c.requires is in
     let behind : Reached = record {
       used = stop.reached.used + stop.copy.kept + stop.copy.gone;

@@ -1,11 +1,11 @@
-use Rattle.std.proofs.Common.{◌≡◌, ◌-◌, ◌≤◌, ◌++◌, length, subst, sym, ap, ◌∙◌, arith}
+use Rattle.std.proofs.Common.{◌≡◌, ◌≤◌, ◌++◌, ◌∷◌, [], length, subst, sym, ap, ◌∙◌, arith}
 use Rattle.std.specs.Prelude.{option_to_list}
-use Rattle.line_lists.specs.Drafts.{IsDraft, StandsAt, copies_of, drafted_at, line_start, made_lines}
-use Rattle.line_lists.specs.Drafts.{used}
-use Rattle.line_lists.specs.Texts.{whole}
-use Rattle.line_lists.proofs.FindLaws.{last-begun, last-starts, last-stands, taken-is, taken-last}
+use Rattle.line_lists.specs.Drafts.{IsDraft, copies_of, drafted_at, used}
+use Rattle.line_lists.proofs.FindLaws.{IsLast, taken-is, taken-last, the-last}
 use Rattle.line_lists.proofs.KnownLaws.{draft-there}
+use Rattle.line_lists.proofs.drafts.Draft.take_last.Given.{Over}
 use Rattle.line_lists.proofs.drafts.Draft.take_last.Goals as goal
+use Rattle.line_lists.proofs.drafts.Draft.take_last.Goals.{After-len}
 
 pub leave_last-requires-clause-there : goal.leave_last-requires-clause-there
 leave_last-requires-clause-there g c =
@@ -13,64 +13,40 @@ leave_last-requires-clause-there g c =
     subst (λ items. used (copies_of items) ≤ length lines) (sym c.deref.ensures.value)
     (draft-there lines c.args.self.now.front.items c.args.self.now.back.items c.requires.is)
 
+-- the last copy before the place
+stop-last : (g : Over) (c : After-len g)
+    → c.args.self.now.front.items ≡ c.pop.new.self.items ++ c.unwrap-stop.result ∷ []
+stop-last g c = c.pop.ensures.items ∙ ap (λ last. c.pop.new.self.items ++ option_to_list last) c.unwrap-stop.ensures
+
+last : (g : Over) (c : After-len g)
+    → IsLast (g.L.LineList.lines c.args.self.now.list.now) c.pop.new.self.items c.unwrap-stop.result c.args.offset
+    c.args.end c.len.result
+last g c =
+    the-last (g.L.LineList.lines c.args.self.now.list.now) c.args.self.now.front.items c.pop.new.self.items
+    c.args.self.now.back.items c.unwrap-stop.result c.args.offset c.args.end c.len.result c.requires.is
+    (stop-last g c) c.requires.begun c.requires.end c.requires.within c.len.ensures
+
 pub overflow_sub-start : goal.overflow_sub-start
-overflow_sub-start g c =
-    let lines = g.L.LineList.lines c.args.self.now.list.now in
-    let before = c.pop.new.self.items in
-    let stop = c.unwrap-stop.result in
-    let is = c.pop.ensures.items ∙ ap (λ last. before ++ option_to_list last) c.unwrap-stop.ensures in
-    let draft = subst (λ front. IsDraft lines front c.args.self.now.back.items) is c.requires.is in
-    let starts = last-starts lines before stop c.args.end draft.stops
-    (subst (λ front. c.args.end ≡ length (whole (made_lines (copies_of front) lines)).columns) is c.requires.end) in
-    omega (arith, starts, c.len.ensures)
+overflow_sub-start g c = let is = last g (goal.at.overflow_sub-start g c).After-len in omega (arith, is.start)
 
 pub overflow_sub-result : goal.overflow_sub-result
 overflow_sub-result g c =
-    let lines = g.L.LineList.lines c.args.self.now.list.now in
-    let before = c.pop.new.self.items in
-    let stop = c.unwrap-stop.result in
-    let is = c.pop.ensures.items ∙ ap (λ last. before ++ option_to_list last) c.unwrap-stop.ensures in
-    let draft = subst (λ front. IsDraft lines front c.args.self.now.back.items) is c.requires.is in
-    let starts = last-starts lines before stop c.args.end draft.stops
-    (subst (λ front. c.args.end ≡ length (whole (made_lines (copies_of front) lines)).columns) is c.requires.end) in
-    omega (
-      arith,
-      starts,
-      c.len.ensures,
-      last-begun lines before stop c.args.offset draft.stops (c.requires.begun before stop is),
-    )
+    let is = last g (goal.at.overflow_sub-result g c).After-len in
+    omega (arith, is.start, is.begun)
 
 pub returns-clause-taken : goal.returns-clause-taken
 returns-clause-taken g c =
     let lines = g.L.LineList.lines c.args.self.now.list.now in
-    let before = c.pop.new.self.items in
-    let is = c.pop.ensures.items ∙ ap (λ last. before ++ option_to_list last) c.unwrap-stop.ensures in
-    taken-last lines before c.args.self.now.back.items c.unwrap-stop.result
-    (subst (λ front. IsDraft lines front c.args.self.now.back.items) is c.requires.is)
+    taken-last lines c.pop.new.self.items c.args.self.now.back.items c.unwrap-stop.result
+    (subst (λ front. IsDraft lines front c.args.self.now.back.items)
+    (stop-last g (goal.at.returns-clause-taken g c).After-len) c.requires.is)
 
 pub returns-clause-same : goal.returns-clause-same
 returns-clause-same g c =
     let lines = g.L.LineList.lines c.args.self.now.list.now in
-    let before = c.pop.new.self.items in
     let back = c.args.self.now.back.items in
-    let is = c.pop.ensures.items ∙ ap (λ last. before ++ option_to_list last) c.unwrap-stop.ensures in
-    sym (ap (λ front. drafted_at lines front back) is ∙ taken-is lines before back c.unwrap-stop.result)
+    sym (ap (λ front. drafted_at lines front back) (stop-last g (goal.at.returns-clause-same g c).After-len)
+    ∙ taken-is lines c.pop.new.self.items back c.unwrap-stop.result)
 
 pub returns-clause-place : goal.returns-clause-place
-returns-clause-place g c =
-    let lines = g.L.LineList.lines c.args.self.now.list.now in
-    let before = c.pop.new.self.items in
-    let stop = c.unwrap-stop.result in
-    let is = c.pop.ensures.items ∙ ap (λ last. before ++ option_to_list last) c.unwrap-stop.ensures in
-    let draft = subst (λ front. IsDraft lines front c.args.self.now.back.items) is c.requires.is in
-    let ends = subst (λ front. c.args.end ≡ length (whole (made_lines (copies_of front) lines)).columns) is
-    c.requires.end in
-    let starts = last-starts lines before stop c.args.end draft.stops ends in
-    let begun = last-begun lines before stop c.args.offset draft.stops (c.requires.begun before stop is) in
-    let start_is : c.args.end - length stop.copy.line.columns ≡ line_start stop.reached stop.copy lines =
-    omega (arith, starts) in
-    subst (λ start. StandsAt lines before stop.copy c.args.offset (c.args.offset - start))
-    (let same : c.args.end - length stop.copy.line.columns ≡ c.args.end - c.len.result = omega (arith, c.len.ensures) in
-    same)
-    (last-stands lines before stop c.args.offset (c.args.end - length stop.copy.line.columns) draft.stops start_is
-    (omega (arith, start_is, begun)) (omega (arith, c.requires.within, ends)))
+returns-clause-place g c = (last g (goal.at.returns-clause-place g c).After-len).stands

@@ -1,29 +1,32 @@
-use Rattle.std.proofs.Common.{◌≡◌, length, sym, ap, ◌∙◌, subst, arith}
+use Rattle.std.proofs.Common.{◌≡◌, length, ap, ◌∙◌, arith}
 use Rattle.segments.specs.Columns.{LineContent}
-use Rattle.line_lists.specs.DraftTexts.{lines_in}
-use Rattle.line_lists.specs.Drafts.{copies_of, lines_before, lines_behind}
+use Rattle.line_lists.specs.DraftTexts.{lines_in, taken_in}
 use Rattle.line_lists.specs.Edits.{with_toggled}
-use Rattle.line_lists.specs.Lists.{AreRows}
 use Rattle.line_lists.specs.Texts.{whole}
-use Rattle.line_lists.proofs.RowLaws.{toggled-line, toggled-makes}
+use Rattle.line_lists.proofs.RowLaws.{Makes, made-text, toggled-line, toggled-makes}
 use Rattle.line_lists.proofs.WholeLaws.{length-toggled}
+use Rattle.line_lists.proofs.drafts.Draft.toggle.Given.{Over}
 use Rattle.line_lists.proofs.drafts.Draft.toggle.Goals as goal
+use Rattle.line_lists.proofs.drafts.Draft.toggle.Goals.{In_ok-toggle}
 
-pub put-requires-clause-counted : goal.put-requires-clause-counted
-put-requires-clause-counted g c =
-    let lines = g.L.LineList.lines c.take.new.self.list.now in
+-- what the toggles make of the lines
+made : (g : Over) (c : In_ok-toggle g) →
+    Makes (with_toggled c.args.offset c.args.slots.now) (lines_in g.L.LineList.lines c.args.self.now)
+    (taken_in g.L.LineList.lines c.take.new.self (record c.in_ok-stop.field-0.stop.copy { line = c.toggle.new.self }))
+made g c =
     let found = c.in_ok-stop.field-0 in
     let copy = found.stop.copy in
-    let copies = copies_of c.take.new.self.front.items in
-    let before = lines_before copies copy lines in
-    let behind = lines_behind copies copy c.take.new.self.back.items lines in
     let place = c.in_ok-stop.ensures.place in
     let columns = c.in_ok-toggle.ensures.columns
     ∙ toggled-line found.column c.args.slots.now copy.line.columns place.inside in
     let new_is : c.toggle.new.self ≡ with_toggled found.column c.args.slots.now copy.line = λ i.
     record { columns = columns i; marks = c.toggle.ensures.marks i } in
-    let makes = toggled-makes before behind _ copy.line c.toggle.new.self c.args.offset found.column c.args.slots.now
-    c.in_ok-stop.ensures.same place.place place.inside new_is in
+    toggled-makes _ _ _ copy.line c.toggle.new.self c.args.offset found.column c.args.slots.now
+    c.in_ok-stop.ensures.same place.place place.inside new_is
+
+pub put-requires-clause-counted : goal.put-requires-clause-counted
+put-requires-clause-counted g c =
+    let makes = made g (goal.at.put-requires-clause-counted g c).In_ok-toggle in
     let old = lines_in g.L.LineList.lines c.args.self.now in
     let long = ap (λ (line : LineContent). length line.columns) makes.whole
     ∙ length-toggled c.args.offset c.args.slots.now (whole old).columns in
@@ -31,37 +34,9 @@ put-requires-clause-counted g c =
 
 pub returns-clause-is : goal.returns-clause-is
 returns-clause-is g c =
-    let lines = g.L.LineList.lines c.take.new.self.list.now in
-    let found = c.in_ok-stop.field-0 in
-    let copy = found.stop.copy in
-    let copies = copies_of c.take.new.self.front.items in
-    let before = lines_before copies copy lines in
-    let behind = lines_behind copies copy c.take.new.self.back.items lines in
-    let place = c.in_ok-stop.ensures.place in
-    let columns = c.in_ok-toggle.ensures.columns
-    ∙ toggled-line found.column c.args.slots.now copy.line.columns place.inside in
-    let new_is : c.toggle.new.self ≡ with_toggled found.column c.args.slots.now copy.line = λ i.
-    record { columns = columns i; marks = c.toggle.ensures.marks i } in
-    let makes = toggled-makes before behind _ copy.line c.toggle.new.self c.args.offset found.column c.args.slots.now
-    c.in_ok-stop.ensures.same place.place place.inside new_is in
-    record {
-      draft = c.put.ensures.is;
-      rows = subst AreRows (sym c.put.ensures.lines) (makes.rows c.requires.is.rows);
-    }
+    made-text c.put.ensures.is c.put.ensures.lines (made g (goal.at.returns-clause-is g c).In_ok-toggle)
+    c.requires.is.rows
 
 pub returns-clause-new : goal.returns-clause-new
 returns-clause-new g c =
-    let lines = g.L.LineList.lines c.take.new.self.list.now in
-    let found = c.in_ok-stop.field-0 in
-    let copy = found.stop.copy in
-    let copies = copies_of c.take.new.self.front.items in
-    let before = lines_before copies copy lines in
-    let behind = lines_behind copies copy c.take.new.self.back.items lines in
-    let place = c.in_ok-stop.ensures.place in
-    let columns = c.in_ok-toggle.ensures.columns
-    ∙ toggled-line found.column c.args.slots.now copy.line.columns place.inside in
-    let new_is : c.toggle.new.self ≡ with_toggled found.column c.args.slots.now copy.line = λ i.
-    record { columns = columns i; marks = c.toggle.ensures.marks i } in
-    let makes = toggled-makes before behind _ copy.line c.toggle.new.self c.args.offset found.column c.args.slots.now
-    c.in_ok-stop.ensures.same place.place place.inside new_is in
-    ap whole c.put.ensures.lines ∙ makes.whole
+    ap whole c.put.ensures.lines ∙ (made g (goal.at.returns-clause-new g c).In_ok-toggle).whole
