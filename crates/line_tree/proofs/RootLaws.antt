@@ -13,7 +13,7 @@ use Rattle.toggle_sums.specs.CountLaws.{plus-no_text}
 use Rattle.line_tree.proofs.Words.{LineContent, NodePtr, Records, blank, line_count, plain_line, plus, row, with_sum}
 use Rattle.raw_nodes.proofs.MapLaws.{get_inserted, get_other, kept_insert}
 use Rattle.raw_nodes.proofs.UpdateLaws.{insert-named}
-use Rattle.line_tree.specs.Changes.{Among, CanFill, Distinct, FitsSum, refilled, relinked, sum_all, sums}
+use Rattle.line_tree.specs.Changes.{Among, CanFill, Distinct, FitsSum, relinked, sum_all, sums}
 use Rattle.line_tree.specs.Growth.{CanInsert, HasNoParent, Inserts, IsWide, NewLine, NewRoot, Stands, StandsAlone}
 use Rattle.line_tree.specs.Growth.{lines_of, names_of, trees, with_line}
 use Rattle.line_tree.specs.Shape.{Holds, IsTree, line_of, lines_in, sum_at, sum_of, tree_at}
