@@ -21,15 +21,16 @@ use Rattle.text_cursor.specs.Parts.{parts_len, turned_if}
 use Rattle.text_cursor.specs.Sides.{side_parts}
 use Rattle.text_cursor.specs.declared.blocks.Block.{Block}
 use Rattle.text_cursor.specs.Cursors.{cells_between, part_cells, front_cells, behind_cells, source_len}
+use Rattle.text_cursor.proofs.RiseLaws.{rise-across, rise-along, rise-cut, rise-dropped, rise-trimmed, rise-put}
 use Rattle.text_cursor.proofs.SideLaws.{len-append, len-cons, turned-len, turned-length}
-use Rattle.text_cursor.specs.Cursors.{cursor_cells, PartFits, IsCursor, Moves, Takes, Puts}
+use Rattle.text_cursor.specs.Cursors.{cursor_cells, cursor_parts, PartFits, IsCursor, Moves, Takes, Puts}
 
 slice-length : {A : Type 0} (from to : ℕ) (xs : List A) → from ≤ to → to ≤ length xs →
     length (slice_range xs from to) ≡ to - from
 slice-length from to xs ordered within =
     length-take-le (to - from) (drop from xs) (let h = length-drop from xs in omega (arith, h))
 
-slice-join : {A : Type 0} (from middle to : ℕ) (xs : List A) → from ≤ middle → middle ≤ to →
+pub slice-join : {A : Type 0} (from middle to : ℕ) (xs : List A) → from ≤ middle → middle ≤ to →
     slice_range xs from middle ++ slice_range xs middle to ≡ slice_range xs from to
 slice-join from middle to xs above below =
     ap (λ ys. take (middle - from) (drop from xs) ++ take (to - middle) ys)
@@ -159,6 +160,8 @@ moves-back before now part is ways front behind fresh old_len len at =
         whole = omega (arith, front_len, behind_len, place, whole, at, len);
         ahead = ways.ahead ∙ is.ahead;
         turned = ways.turned ∙ is.turned;
+        rising = rise-across before.old_len now.old_len (side_parts now.front) (side_parts before.behind) (part ∷ [])
+            (side_parts before.front) (side_parts now.behind) old_len front behind is.rising;
       };
       old_len = old_len;
       len = len;
@@ -194,6 +197,8 @@ moves-over before now part is ways behind front fresh old_len len at =
         whole = omega (arith, behind_len, whole, at, len);
         ahead = ways.ahead ∙ is.ahead;
         turned = ways.turned ∙ is.turned;
+        rising = rise-along before.old_len now.old_len (side_parts before.front) (side_parts now.behind) (part ∷ [])
+            (side_parts now.front) (side_parts before.behind) old_len front behind is.rising;
       };
       old_len = old_len;
       len = len;
@@ -239,6 +244,9 @@ moves-in before now part rest most is ways behind some short behind_is front_is 
         whole = omega (arith, old_behind, behind_len, whole, at, len, short);
         ahead = ways.ahead ∙ is.ahead;
         turned = ways.turned ∙ is.turned;
+        rising = rise-cut before.old_len now.old_len (side_parts before.front) rest part (part.from + most)
+            (side_parts before.behind) (side_parts now.front) (side_parts now.behind) old_len behind front_is
+            behind_is is.rising;
       };
       old_len = old_len;
       len = len;
@@ -375,6 +383,8 @@ leaps-back before now block is ways front_has behind_has fresh old_len len at =
         whole = omega (arith, front_len, behind_len, place, whole, at, len, counted);
         ahead = ways.ahead ∙ is.ahead;
         turned = ways.turned ∙ is.turned;
+        rising = rise-across before.old_len now.old_len (side_parts now.front) (side_parts before.behind) parts
+            (side_parts before.front) (side_parts now.behind) old_len front behind is.rising;
       };
       old_len = old_len;
       len = len;
@@ -418,6 +428,8 @@ leaps-on before now block is ways behind_has front_has fresh old_len len at =
         whole = omega (arith, behind_len, place, whole, at, len, counted);
         ahead = ways.ahead ∙ is.ahead;
         turned = ways.turned ∙ is.turned;
+        rising = rise-along before.old_len now.old_len (side_parts before.front) (side_parts now.behind) parts
+            (side_parts now.front) (side_parts before.behind) old_len front behind is.rising;
       };
       old_len = old_len;
       len = len;
@@ -546,6 +558,8 @@ takes-part before now part is ways behind front fresh old_len at len =
         whole = omega (arith, behind_len, whole, at, len);
         ahead = ways.ahead ∙ is.ahead;
         turned = ways.turned ∙ is.turned;
+        rising = rise-dropped before.old_len now.old_len (side_parts before.front) (side_parts now.behind) part
+            (side_parts before.behind) (side_parts now.front) old_len parts.1.some behind front is.rising;
       };
       old_len = old_len;
       at = at;
@@ -594,6 +608,9 @@ takes-some before now part rest most is ways behind short behind_is front fresh 
         whole = omega (arith, old_behind, behind_len, whole, at, len, short);
         ahead = ways.ahead ∙ is.ahead;
         turned = ways.turned ∙ is.turned;
+        rising = rise-trimmed before.old_len now.old_len (side_parts before.front) rest part (part.from + most)
+            (side_parts before.behind) (side_parts now.front) (side_parts now.behind) old_len (omega arith) behind
+            front behind_is is.rising;
       };
       old_len = old_len;
       at = at;
@@ -718,6 +735,9 @@ puts-some text slots before now is some ways fresh front behind old_len at len =
         whole = let same = ap parts_len behind in omega (arith, same, whole, at, len);
         ahead = ways.ahead ∙ is.ahead;
         turned = ways.turned ∙ is.turned;
+        rising = rise-put before.old_len now.old_len (side_parts before.front) (side_parts before.behind) (length new)
+            (length now.fresh.items) slots (side_parts now.front) (side_parts now.behind) old_len front behind
+            is.rising;
       };
       old_len = old_len;
       len = len;
@@ -735,3 +755,34 @@ puts-some text slots before now is some ways fresh front behind old_len at len =
           ∙ put-in (front_cells old new (side_parts before.front)) (cells_of text slots)
           (behind_cells old new (side_parts before.behind)) before.at (place-is before old is long);
     }
+
+-- ---- what the text is made of
+
+-- both sides emptied, the one before the place turned
+pub made-of : (cursor : Cursor) (none first turned all : List Part) → none ≡ []
+    → first ≡ none ++ reverse (side_parts cursor.front) → turned ≡ reverse first
+    → all ≡ turned ++ reverse (side_parts cursor.behind) → all ≡ cursor_parts cursor
+made-of cursor none first turned all none_is first_is turned_is all_is =
+    let front = side_parts cursor.front in
+    all_is ∙ ap (λ ps. ps ++ reverse (side_parts cursor.behind))
+    (turned_is ∙ ap reverse (first_is ∙ ap (λ ps. ps ++ reverse front) none_is) ∙ reverse-reverse front)
+
+pub parts-fit : (cursor : Cursor) (all : List Part) → IsCursor cursor → all ≡ cursor_parts cursor →
+    All (PartFits cursor.old_len (length cursor.fresh.items)) all
+parts-fit cursor all is all_is =
+    let P = PartFits cursor.old_len (length cursor.fresh.items) in
+    let front = side_parts cursor.front in let behind = side_parts cursor.behind in
+    All-same P all (cursor_parts cursor) all_is
+    (All-append P front (reverse behind) is.front (reverse-fit P behind is.behind))
+
+front-reverse : (old : List Cell) (new : List ℕ) (parts : List Part) →
+    front_cells old new (reverse parts) ≡ behind_cells old new parts
+front-reverse old new parts =
+    sym (behind-reverse old new (reverse parts)) ∙ ap (behind_cells old new) (reverse-reverse parts)
+
+pub parts-cells : (old : List Cell) (cursor : Cursor) (all : List Part) → all ≡ cursor_parts cursor →
+    front_cells old cursor.fresh.items all ≡ cursor_cells old cursor
+parts-cells old cursor all all_is =
+    let new = cursor.fresh.items in let front = side_parts cursor.front in let behind = side_parts cursor.behind in
+    ap (front_cells old new) all_is ∙ front-append old new front (reverse behind)
+    ∙ ap (λ cells. front_cells old new front ++ cells) (front-reverse old new behind)

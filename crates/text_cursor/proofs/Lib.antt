@@ -1,4 +1,5 @@
 pub mod AroundLaws
 pub mod CursorLaws
 pub mod LookLaws
+pub mod RiseLaws
 pub mod SideLaws

@@ -1,5 +1,5 @@
 -- A text on the way from an old one: parts of that and texts that were put in, around a place.
-use Rattle.std.specs.Prelude.{◌≡◌, ℕ, ◌+◌, ◌-◌, ◌<◌, ◌≤◌, List, [], ◌∷◌, ◌++◌, length, slice_range, get_or}
+use Rattle.std.specs.Prelude.{◌≡◌, ℕ, ◌+◌, ◌-◌, ◌<◌, ◌≤◌, List, [], ◌∷◌, ◌++◌, length, reverse, slice_range, get_or}
 use Rattle.std.specs.Prelude.{Option, None, Some, true, false}
 use Rattle.std.specs.List.{All}
 use Rattle.text_model.specs.declared.cells.Cell.{Cell}
@@ -36,6 +36,10 @@ cursor_cells old cursor =
     front_cells old cursor.fresh.items (side_parts cursor.front)
     ++ behind_cells old cursor.fresh.items (side_parts cursor.behind)
 
+-- the parts in the order of the text: of those behind the place the nearest stands last
+abbrev pub cursor_parts : Cursor → List Part
+cursor_parts cursor = side_parts cursor.front ++ reverse (side_parts cursor.behind)
+
 abbrev pub source_len : Option Slots → ℕ → ℕ → ℕ
 source_len None old new = old
 source_len (Some slots) old new = new
@@ -45,7 +49,18 @@ pub record PartFits (old new : ℕ) (part : Part) : Type 0 where
   pub some : part.from < part.to
   pub within : part.to ≤ source_len part.slots old new
 
--- the parts fit, the place and the length are those of the parts, and only those behind the place stand turned
+-- a place in the old text: of a part of that one of its ends, of a new text the border that it stands at
+abbrev pub old_place : Option Slots → ℕ → ℕ → ℕ
+old_place None end border = end
+old_place (Some slots) end border = border
+
+-- from a border in an old text of so many characters on, its parts stand in its order, and new texts between them
+abbrev pub Rise : ℕ → ℕ → List Part → Type 0
+Rise border len [] = border ≤ len
+Rise border len (part ∷ parts) =
+    (border ≤ old_place part.slots part.from border) × Rise (old_place part.slots part.to border) len parts
+
+-- the parts fit and rise, the place and the length are those of the parts, and only those behind the place stand turned
 pub record IsCursor (cursor : Cursor) : Type 0 where
   pub front : All (PartFits cursor.old_len (length cursor.fresh.items)) (side_parts cursor.front)
   pub behind : All (PartFits cursor.old_len (length cursor.fresh.items)) (side_parts cursor.behind)
@@ -53,6 +68,7 @@ pub record IsCursor (cursor : Cursor) : Type 0 where
   pub whole : cursor.at + parts_len (side_parts cursor.behind) ≡ cursor.len
   pub ahead : cursor.front.turned ≡ false
   pub turned : cursor.behind.turned ≡ true
+  pub rising : Rise 0 cursor.old_len (cursor_parts cursor)
 
 -- a cursor goes elsewhere in the same text
 pub record Moves (before now : Cursor) : Type 0 where

@@ -2,12 +2,13 @@
 //! texts that were put in, around a place.
 
 ghost use Rattle.std.specs.Prelude.{◌≡◌, ℕ, ◌+◌, ◌-◌, ◌<◌, ◌≤◌, ◌^◌, ◌++◌, List, length, drop, chars, IfOk, OnOk};
-ghost use Rattle.std.specs.Prelude.{true, false, IfSome, IfNone};
+ghost use Rattle.std.specs.Prelude.{reverse, true, false, IfSome, IfNone};
 ghost use Rattle.text_model.specs.declared.cells.Cell.{Cell};
 ghost use Rattle.std.specs.List.{All};
 ghost use Rattle.text_cursor.specs.Parts.{parts_len};
 ghost use Rattle.text_cursor.specs.Sides.{block_parts};
 ghost use Rattle.text_cursor.specs.Cursors.{cursor_cells, behind_cells, part_cells, source_len, slots_in, last_line};
+ghost use Rattle.text_cursor.specs.Cursors.{front_cells, Rise};
 ghost use Rattle.text_cursor.specs.Cursors.{front_text, behind_text, IsLastLine, IsSecond, PartFits, IsCursor};
 ghost use Rattle.text_cursor.specs.Cursors.{Moves, Takes, Puts};
 ghost use Rattle.text_cursor.specs.Around.{shared_slots};
@@ -16,7 +17,7 @@ ghost use Rattle.text_model.specs.Lines.{lines, line_of, line_start};
 
 use crate::blocks::count_parts;
 use crate::lines::{line_at, line_behind};
-use crate::parts::Part;
+use crate::parts::{Part, TextParts};
 use crate::sides::{Side, least_in_block};
 use std::alloc::{AllocError, Global};
 use text_model::{TagSet, Text, TextStore};
@@ -37,6 +38,7 @@ pub struct Cursor {
 fn whole(alloc: Global, len: usize, room: usize) -> Result<Vec<Part>, AllocError>
     ensures fit { IfOk result (λ parts. (new : ℕ) → All (PartFits len new) parts.items) }
     ensures len { IfOk result (λ parts. parts_len parts.items ≡ len) }
+    ensures rising { IfOk result (λ parts. Rise 0 len (reverse parts.items)) }
     ensures cells { IfOk result (λ parts. (old : List Cell) (new : List ℕ) → length old ≡ len →
         behind_cells old new parts.items ≡ old) }
 {
@@ -273,6 +275,27 @@ impl Cursor {
         self.at += count;
         self.len += count;
         Ok(())
+    }
+
+    /// What the text is made of.
+    pub fn into_parts(self, alloc: Global) -> Result<TextParts, AllocError>
+        requires cursor { IsCursor self }
+        ensures rising { IfOk result (λ it. Rise 0 self.old_len it.parts.items) }
+        ensures fit { IfOk result (λ it. All (PartFits self.old_len (length it.fresh.items)) it.parts.items) }
+        ensures cells { IfOk result (λ it. (old : List Cell) → length old ≡ self.old_len →
+            front_cells old it.fresh.items it.parts.items ≡ cursor_cells old self) }
+    {
+        let Cursor {
+            fresh,
+            front,
+            behind,
+            ..
+        } = self;
+        let mut parts = Vec::new(alloc);
+        front.empty_into(&mut parts)?;
+        parts.reverse();
+        behind.empty_into(&mut parts)?;
+        Ok(TextParts { parts, fresh })
     }
 }
 

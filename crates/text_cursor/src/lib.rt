@@ -10,3 +10,4 @@ mod sides;
 
 pub use cursors::Cursor;
 pub use lines::{line_at, line_behind};
+pub use parts::{Part, TextParts};

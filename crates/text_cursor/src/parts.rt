@@ -7,3 +7,10 @@ pub struct Part {
     pub to: usize,
     pub slots: Option<TagSet>,
 }
+
+/// What a text is made of: its parts in order, and the characters that were put in.
+#[derive(Drop)]
+pub struct TextParts {
+    pub parts: Vec<Part>,
+    pub fresh: Vec<char>,
+}

@@ -1,4 +1,4 @@
-ghost use Rattle.std.specs.Prelude.{◌≡◌, ◌<◌, ◌≤◌, ◌^◌, ◌++◌, ◌∷◌, [], length, drop, option_to_list, OnOk};
+ghost use Rattle.std.specs.Prelude.{◌≡◌, ◌<◌, ◌≤◌, ◌^◌, ◌++◌, ◌∷◌, [], length, drop, option_to_list, reverse, OnOk};
 ghost use Rattle.std.specs.Prelude.{IfSome, IfNone, false};
 ghost use Rattle.text_cursor.specs.Parts.{parts_len, turned_if, EndsWith};
 ghost use Rattle.text_cursor.specs.Sides.{side_parts, StaysSide};
@@ -146,6 +146,18 @@ impl Side {
             return None;
         }
         self.far.pop()
+    }
+
+    /// Adds all its parts to others, the nearest first.
+    pub fn empty_into(self, parts: &mut Vec<Part>) -> Result<(), AllocError>
+        ensures { OnOk result (parts.new.items ≡ parts.old.items ++ reverse (side_parts self)) }
+    {
+        let mut side = self;
+        while let Some(part) = side.pop() {
+            let Part { from, to, slots } = part;
+            parts.push(Part { from, to, slots })?;
+        }
+        Ok(())
     }
 
     /// The nearest part.
