@@ -1,7 +1,9 @@
 pub mod AnchorLaws
 pub mod AnchoredEditLaws
 pub mod AnchoredLaws
+pub mod CursorTextLaws
 pub mod DeleteLaws
+pub mod HunkLaws
 pub mod InsertLaws
 pub mod KeepLaws
 pub mod TagLaws
@@ -10,7 +12,9 @@ pub mod ReplaceLaws
 pub mod ReplayLaws
 pub mod ReversalLaws
 pub mod RunLaws
+pub mod SpotLaws
 pub mod StartLaws
+pub mod TellLaws
 pub mod CoverLaws
 pub mod OrderLaws
-pub mod ToldLaws
+pub mod PartHunkLaws

@@ -3,6 +3,7 @@ pub mod Deletions
 pub mod Insertions
 pub mod Keeping
 pub mod Orders
+pub mod PartHunks
 pub mod Plans
 pub mod Removals
 pub mod Replays

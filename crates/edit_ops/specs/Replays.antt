@@ -2,7 +2,7 @@
 use Rattle.std.specs.Prelude.{◌≡◌, ℕ, ◌+◌, Bool, true, false, not, List, map, length, reverse, Option, None, Some}
 use Rattle.std.specs.Prelude.{if◌then◌else◌}
 use Rattle.std.specs.List.{All}
-use Rattle.text_model.specs.Content.{Content}
+use Rattle.text_model.specs.Content.{Content, characters}
 use Rattle.text_model.specs.Steps.{Fits, after}
 use Rattle.undo_stack.specs.declared.actions.Action.{Action}
 use Rattle.text_cursor.specs.declared.cursors.Cursor.{Cursor}
@@ -18,6 +18,15 @@ pub record Follows (content : Content) (outline : Outline) (cursor : Cursor) : T
   pub cells : cursor_cells content.cells cursor ≡ (after outline.steps content).cells
   pub fits : Fits outline.steps content
   pub stand : All (AnchorsStand cursor.len) outline.anchors
+
+-- a cursor is in a text on the way from that of a content
+pub record IsCursorOf (content : Content) (cursor : Cursor) : Type 0 where
+  pub is : IsCursor cursor
+  pub old_len : cursor.old_len ≡ length content.cells
+
+-- the characters of that text
+abbrev pub cursor_text : Content → Cursor → List ℕ
+cursor_text content cursor = characters (cursor_cells content.cells cursor)
 
 -- what an outline makes, of which nothing is noted
 abbrev pub drawn_up : Outline → Content → Log → State

@@ -1,28 +1,90 @@
--- What is told of an edit: the changes of a text, in order.
-use Rattle.std.specs.Prelude.{◌≡◌, ◌≢◌, ◌≤◌, ℕ, ◌+◌, List, [], ◌∷◌, ◌++◌, length, take, drop, slice_range}
-use Rattle.text_model.specs.Splices.{removed}
+-- What is told of an edit: the changes of a text, in order, and where in its lines they are.
+use Rattle.std.specs.Prelude.{◌≡◌, ◌≢◌, ◌<◌, ◌≤◌, ℕ, ◌+◌, ◌^◌, List, [], ◌∷◌, ◌++◌, length, take, drop, slice_range}
+use Rattle.std.specs.Prelude.{sum_by, nat_lt, encode_utf8_all, map, reverse, if◌then◌else◌}
+use Rattle.text_model.specs.Lines.{line_of, line_start}
 use Rattle.edit_ops.specs.declared.changes.TextChange.{TextChange}
+use Rattle.edit_ops.specs.declared.hunks.Hunk.{Hunk}
 use Rattle.edit_ops.specs.declared.spans.Span.{Span}
+use Rattle.edit_ops.specs.declared.spots.Spot.{Spot}
+
+-- ---- places in lines
+
+-- how many units a character has in UTF-16
+abbrev pub units_of : ℕ → ℕ
+units_of character = if nat_lt character 65536 then 1 else 2
+
+-- what stands in the line of an offset before it
+abbrev pub line_front : List ℕ → ℕ → List ℕ
+line_front text offset = slice_range text (line_start (line_of text offset) text) offset
+
+-- an offset as its line, from 1, and what stands before it in that line, in characters, bytes and units of UTF-16
+abbrev pub spot_at : List ℕ → ℕ → Spot
+spot_at text offset = record {
+  line = line_of text offset + 1;
+  column = length (line_front text offset);
+  bytes = length (encode_utf8_all (line_front text offset));
+  units = sum_by units_of (line_front text offset);
+}
+
+-- where a text ends
+abbrev pub end_of : List ℕ → Spot
+end_of text = spot_at text (length text)
+
+-- each number of a spot can grow by so much
+pub record HasRoom (spot : Spot) (count : ℕ) : Type 0 where
+  pub line : spot.line + count < 2 ^ 64
+  pub column : spot.column + count < 2 ^ 64
+  pub bytes : spot.bytes + count < 2 ^ 64
+  pub units : spot.units + count < 2 ^ 64
+
+-- ---- changes
 
 -- a text after a change of it
 abbrev pub after_change : TextChange → List ℕ → List ℕ
 after_change change text = take change.at text ++ change.inserted ++ drop (change.at + change.removed) text
 
--- A change of a text: what it takes out stands there, and what it puts in is something else.
+-- A change of a text: what it takes out stands there, and what it puts in is something else. It begins at one spot;
+-- what it takes out ends at one of the text before it, and what it puts in at one of the text after it.
 pub record IsChange (text : List ℕ) (change : TextChange) : Type 0 where
   pub within : change.at + change.removed ≤ length text
   pub differs : slice_range text change.at (change.at + change.removed) ≢ change.inserted
+  pub start : change.start ≡ spot_at text change.at
+  pub old_end : change.old_end ≡ spot_at text (change.at + change.removed)
+  pub new_end : change.new_end ≡ spot_at (after_change change text) (change.at + length change.inserted)
 
 -- changes of one text, made one after the other, give another
 abbrev pub Tells : List TextChange → List ℕ → List ℕ → Type 0
 Tells [] old new = new ≡ old
 Tells (change ∷ changes) old new = IsChange old change × Tells changes (after_change change old) new
 
--- where these changes tell what became of a text so far, those tell what became of it then
-abbrev pub Goes : List TextChange → List TextChange → List ℕ → List ℕ → Type 0
-Goes before now text next = (start : List ℕ) → Tells before start text → Tells now start next
+-- ---- hunks
 
--- spans are taken out of a text, one after the other
-abbrev pub removed_all : List Span → List ℕ → List ℕ
-removed_all [] text = text
-removed_all (span ∷ spans) text = removed_all spans (removed span.from span.to text)
+-- A hunk takes characters of an old text out, or it puts a text in between two of them.
+pub record IsHunk (hunk : Hunk) : Type 0 where
+  pub ordered : hunk.from ≤ hunk.to
+  pub some : hunk.from ≡ hunk.to → hunk.text ≢ []
+  pub alone : hunk.from < hunk.to → hunk.text ≡ []
+
+-- hunks in the order of an old text of so many characters, from an offset of it on
+abbrev pub AreHunks : ℕ → ℕ → List Hunk → Type 0
+AreHunks at len [] = at ≤ len
+AreHunks at len (hunk ∷ hunks) = (at ≤ hunk.from) × IsHunk hunk × AreHunks hunk.to len hunks
+
+-- an old text from an offset on, with hunks of it made
+abbrev pub patched : ℕ → List Hunk → List ℕ → List ℕ
+patched at [] text = drop at text
+patched at (hunk ∷ hunks) text = slice_range text at hunk.from ++ hunk.text ++ patched hunk.to hunks text
+
+-- hunks that put texts in at an offset, each behind the one before it; none of a text without characters
+abbrev pub putting : ℕ → List (List ℕ) → List Hunk
+putting at [] = []
+putting at ([] ∷ texts) = putting at texts
+putting at ((character ∷ text) ∷ texts) = record { from = at; to = at; text = character ∷ text } ∷ putting at texts
+
+-- the hunk that takes the characters from one offset to another out, if there are some
+abbrev pub taking_out : ℕ → ℕ → List Hunk
+taking_out from to = if nat_lt from to then record { from = from; to = to; text = [] } ∷ [] else []
+
+-- hunks that take spans out, of which the last comes first
+abbrev pub taking : List Span → List Hunk
+taking spans = map (λ (span : Span). record { from = span.from; to = span.to; text = [] }) (reverse spans)

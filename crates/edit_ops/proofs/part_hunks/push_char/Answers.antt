@@ -1,0 +1,9 @@
+use Rattle.std.proofs.Common.{ap, ◌∙◌}
+use Rattle.std.specs.Prelude.{chars}
+use Rattle.std.proofs.lemmas.Str.{IsUtf8-string_bytes}
+use Rattle.text_model.proofs.TextLaws.{chars-push}
+use Rattle.edit_ops.proofs.part_hunks.push_char.Goals as goal
+
+pub returns : goal.returns
+returns c = ap chars (c.in_ok-push.ensures.bytes)
+    ∙ chars-push _ c.args.character (IsUtf8-string_bytes c.args.text.now) c.ranges.character.0

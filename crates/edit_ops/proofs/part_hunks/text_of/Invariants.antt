@@ -1,0 +1,6 @@
+use Rattle.std.proofs.Common.{◌≡◌, take}
+use Rattle.std.specs.Prelude.{chars, string_bytes}
+use Rattle.edit_ops.proofs.part_hunks.text_of.Given as goal
+
+abbrev pub invariant-loop-character : goal.invariant-loop-character
+invariant-loop-character l = chars (string_bytes l.text) ≡ take l.character-index l.characters

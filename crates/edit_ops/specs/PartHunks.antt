@@ -1,0 +1,20 @@
+-- What becomes of an old text where another one is made of parts of it, in its order, and of new texts between these.
+use Rattle.std.specs.Prelude.{ℕ, List, [], ◌∷◌, ◌++◌, Option, None, Some, slice_range}
+use Rattle.text_model.specs.Content.{Slots}
+use Rattle.text_cursor.specs.declared.parts.Part.{Part}
+use Rattle.text_cursor.specs.Cursors.{old_place}
+use Rattle.edit_ops.specs.declared.hunks.Hunk.{Hunk}
+use Rattle.edit_ops.specs.Told.{taking_out}
+
+-- from a border on: what stands before a part of the old text is taken out, and a new text is put in
+abbrev pub hunks_before : Option Slots → ℕ → ℕ → ℕ → List ℕ → List Hunk
+hunks_before None from to border fresh = taking_out border from
+hunks_before (Some slots) from to border fresh =
+    record { from = border; to = border; text = slice_range fresh from to } ∷ []
+
+-- from a border on, in an old text of so many characters
+abbrev pub part_hunks : ℕ → ℕ → List ℕ → List Part → List Hunk
+part_hunks border len fresh [] = taking_out border len
+part_hunks border len fresh (part ∷ parts) =
+    hunks_before part.slots part.from part.to border fresh
+    ++ part_hunks (old_place part.slots part.to border) len fresh parts
