@@ -3,6 +3,7 @@ use Rattle.std.proofs.Common.{◌≡◌, ℕ, ◌+◌, ◌≤◌, Bool, true, fa
 use Rattle.std.specs.Prelude.{Result, nat_lt, if◌then◌else◌}
 use Rattle.std.specs.List.{All}
 use Rattle.std.proofs.lemmas.Bool.{ltb-false}
+use Rattle.text_model.specs.declared.places.Gravity.{Gravity}
 use Rattle.text_model.specs.declared.places.Place.{Place}
 use Rattle.text_model.specs.LimitTable.{LimitTable}
 use Rattle.command_effects.specs.declared.answers.Answer.TheVariants.{Empty}
@@ -13,7 +14,7 @@ use Rattle.command_effects.specs.Words.{is_among}
 use Rattle.documents.specs.Deletions.{delete_places, replace_span}
 use Rattle.documents.specs.Documents.{Document, Widget}
 use Rattle.documents.specs.History.{edit_separator, modified_set}
-use Rattle.documents.specs.Marks.{mark_unset, set_found, with_mark}
+use Rattle.documents.specs.Marks.{mark_unset, place_named, set_found, with_mark}
 use Rattle.documents.specs.Promise.{Change, answered, refused, change_with, unless_idle}
 use Rattle.documents.specs.History.{edit_redo, edit_undo}
 use Rattle.documents.specs.Tags.{add_spans, known_or, remove_spans, reordered, tag_delete}
@@ -76,14 +77,12 @@ carried-reordered P document position order (name, Some other) same next =
 
 -- ---- edits
 
--- It holds of a document, and after each edit of a widget that leaves the characters.
-pub record IsStill (limits : LimitTable) (document : Document) (widget : Widget) (P : Document →
+-- It holds of a document, and after each edit of a widget that leaves the characters and moves no mark.
+pub record IsQuiet (limits : LimitTable) (document : Document) (widget : Widget) (P : Document →
     Type 0) : Type 0 where
   pub same : P document
-  pub set : (name : List ℕ) (offset : ℕ) (found : Option Place) →
-      P (set_found limits document widget name offset found).document
-  pub turned : (name : List ℕ) (place : Place) → P (with_mark document widget name place)
-  pub unset : (names : List (List ℕ)) → P (mark_unset document names).document
+  pub turned : (name : List ℕ) (old : Place) (gravity : Gravity) → place_named document widget name ≡ Some old
+      → P (with_mark document widget name (record old { gravity = gravity }))
   pub added : (name places : List ℕ) → P (add_spans limits document widget name places).document
   pub removed : (name places : List ℕ) → P (remove_spans document widget name places).document
   pub untagged : (names : List (List ℕ)) → P (tag_delete document names).document
@@ -92,6 +91,14 @@ pub record IsStill (limits : LimitTable) (document : Document) (widget : Widget)
       → P (reordered document position order words).document
   pub modified : (flag : Bool) → P (modified_set document flag).document
   pub separated : P (edit_separator document).document
+
+-- It holds of a document, and after each edit of a widget that leaves the characters.
+pub record IsStill (limits : LimitTable) (document : Document) (widget : Widget) (P : Document →
+    Type 0) : Type 0 where
+  pub quiet : IsQuiet limits document widget P
+  pub set : (name : List ℕ) (offset : ℕ) (found : Option Place) →
+      P (set_found limits document widget name offset found).document
+  pub unset : (names : List (List ℕ)) → P (mark_unset document names).document
 
 -- It holds of a document, and after each edit of a widget that a command may make.
 pub record IsCarried (limits : LimitTable) (document : Document) (widget : Widget) (P : Document →

@@ -1,8 +1,7 @@
 -- Slots that are taken off all cells with their keys: those of tags that are deleted, and of seats that are given up.
 use Rattle.std.proofs.Common.{◌≡◌, ◌≢◌, ℕ, zero, suc, Bool, true, false, cond, not, ◌<◌, ◌||◌, List, [], ◌∷◌, Option}
 use Rattle.std.proofs.Common.{None, Some, filter, map, slice_get, refl, sym, ap, ◌∙◌, true≢false, arith, eqb-true}
-use Rattle.std.proofs.Common.{eq-eqb, ne_eqb}
-use Rattle.std.specs.Prelude.{bytes_eq, option_map, ◌==◌, if◌then◌else◌}
+use Rattle.std.proofs.Common.{eq-eqb, ne_eqb, bytes_eq, option_map, ◌==◌, if◌then◌else◌}
 use Rattle.std.specs.Cmp.{both_ways}
 use Rattle.std.specs.List.{All, cons_option}
 use Rattle.std.proofs.lemmas.Bool.{eqb-false, false_from_ne_true, or_left, or_right}

@@ -1,8 +1,7 @@
 -- Slots of seats and tags alone.
 use Rattle.std.proofs.Common.{◌≡◌, ℕ, ◌-◌, ◌<◌, Bool, true, false, cond, ◌&&◌, List, [], ◌∷◌, Option, None, Some, map}
 use Rattle.std.proofs.Common.{length, ◌++◌, get_or, slice_get, take, drop, refl, sym, subst, ◌∙◌, true≢false, arith}
-use Rattle.std.proofs.Common.{eqb-true}
-use Rattle.std.specs.Prelude.{Contains, IfSome, slice_range, ◌==◌, if◌then◌else◌}
+use Rattle.std.proofs.Common.{eqb-true, Contains, IfSome, slice_range, ◌==◌, if◌then◌else◌}
 use Rattle.std.specs.FinSet as set
 use Rattle.std.specs.Char.{IsScalar}
 use Rattle.std.specs.Cmp.{nat_cmp_total}

@@ -17,6 +17,7 @@ pub mod LookupLaws
 pub mod MarkLaws
 pub mod MarkOrderLaws
 pub mod MarkQueryLaws
+pub mod MarksToldLaws
 pub mod MeaningLaws
 pub mod NamedLaws
 pub mod NamesKeptLaws
@@ -37,6 +38,7 @@ pub mod SlotLaws
 pub mod SpanLaws
 pub mod StateLaws
 pub mod StillLeadLaws
+pub mod StillMarksLaws
 pub mod StillTextLaws
 pub mod TableLaws
 pub mod TagLaws

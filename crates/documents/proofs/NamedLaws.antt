@@ -1,8 +1,7 @@
 -- The slots and the keys of tag lists.
 use Rattle.std.proofs.Common.{◌≡◌, ℕ, true, false, ◌||◌, ◌+◌, List, [], ◌∷◌, ◌++◌, Option, None, Some, map, length}
 use Rattle.std.proofs.Common.{get_or, slice_get, refl, sym, ap, ap₂, subst, ◌∙◌, arith, length-append}
-use Rattle.std.proofs.Common.{get_or-append-add}
-use Rattle.std.specs.Prelude.{IfSome, bytes_eq, option_map, ◌==◌, if◌then◌else◌}
+use Rattle.std.proofs.Common.{get_or-append-add, IfSome, bytes_eq, option_map, ◌==◌, if◌then◌else◌}
 use Rattle.std.specs.Char.{IsScalar}
 use Rattle.std.specs.FinSet as set
 use Rattle.std.specs.List.{All}

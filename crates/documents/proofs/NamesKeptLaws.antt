@@ -1,7 +1,6 @@
 -- Edits leave a document its widgets, by their names.
 use Rattle.std.proofs.Common.{◌≡◌, ℕ, ◌+◌, ◌-◌, ◌==◌, true, false, List, [], ◌∷◌, ◌++◌, Option, Some, None, map, length}
-use Rattle.std.proofs.Common.{refl, ◌∙◌}
-use Rattle.std.specs.Prelude.{nat_le, nat_lt, slice_range, if◌then◌else◌}
+use Rattle.std.proofs.Common.{refl, ◌∙◌, nat_le, nat_lt, slice_range, if◌then◌else◌}
 use Rattle.text_model.specs.LimitTable.{LimitTable}
 use Rattle.text_model.specs.declared.places.Gravity.TheVariants.{Right}
 use Rattle.text_model.specs.declared.places.Place.{Place}

@@ -1,7 +1,6 @@
 -- The names of the widgets that a document has after a command.
 use Rattle.std.proofs.Common.{◌≡◌, ℕ, ◌<◌, ◌||◌, Bool, true, false, List, [], ◌∷◌, ◌++◌, length, refl, sym, ap, ◌∙◌}
-use Rattle.std.proofs.Common.{arith, ◌⊎◌, inl, inr}
-use Rattle.std.specs.Prelude.{if◌then◌else◌}
+use Rattle.std.proofs.Common.{arith, ◌⊎◌, inl, inr, if◌then◌else◌}
 use Rattle.std.proofs.lemmas.List.{length-append, length-map, map-append}
 use Rattle.std.proofs.lemmas.Slice.Eq.{bytes_eq-Decides}
 use Rattle.text_model.specs.LimitTable.{LimitTable}
@@ -42,19 +41,22 @@ named-carried limits windows document widget =
     AreNamed windows document new = named-same windows document in
     record {
       still = record {
-        same = kept document refl;
+        quiet = record {
+          same = kept document refl;
+          turned = λ name old gravity _.
+              kept _ (mark-kept document widget name (record old { gravity = gravity }));
+          added = λ name places. kept _ (add-kept limits document widget name places);
+          removed = λ name places. kept _ (remove-kept document widget name places);
+          untagged = λ names. kept _ refl;
+          ordered = λ position order words. carried-reordered (AreNamed windows document) document position order words
+              (kept document refl) (λ tags. kept _ refl);
+          modified = λ flag. kept _ refl;
+          separated = kept _ (elim document.undo as
+              (λ b. HasNamesOf document (if b then record document { history = separated document.history }
+              else document)) [ true ↦ refl | false ↦ refl ]);
+        };
         set = λ name offset found. kept _ (set-kept limits document widget name offset found);
-        turned = λ name place. kept _ (mark-kept document widget name place);
         unset = λ names. kept _ refl;
-        added = λ name places. kept _ (add-kept limits document widget name places);
-        removed = λ name places. kept _ (remove-kept document widget name places);
-        untagged = λ names. kept _ refl;
-        ordered = λ position order words. carried-reordered (AreNamed windows document) document position order words
-            (kept document refl) (λ tags. kept _ refl);
-        modified = λ flag. kept _ refl;
-        separated = kept _ (elim document.undo as
-            (λ b. HasNamesOf document (if b then record document { history = separated document.history }
-            else document)) [ true ↦ refl | false ↦ refl ]);
       };
       inserted =
           λ place pairs _. kept _ (insert-kept limits document widget (insertion_offset document widget place) pairs);

@@ -1,7 +1,6 @@
 -- A document as it is kept: its characters, its widgets, and what of it a change leaves.
 use Rattle.std.proofs.Common.{◌≡◌, ℕ, zero, suc, ◌+◌, ◌*◌, ◌<◌, true, List, [], ◌∷◌, length, map, refl, sym, ap, subst}
-use Rattle.std.proofs.Common.{◌∙◌}
-use Rattle.std.specs.Prelude.{slice_get, option_map, Some, is_some}
+use Rattle.std.proofs.Common.{◌∙◌, slice_get, option_map, Some, is_some}
 use Rattle.std.specs.FinMap as finite
 use Rattle.std.specs.List.{AllByRecursion}
 use Rattle.std.proofs.lemmas.List.{length-map}

@@ -1,6 +1,5 @@
 -- What the queries of a document's store and tables answer.
-use Rattle.std.proofs.Common.{◌≡◌, ℕ, List, sym}
-use Rattle.std.specs.Prelude.{String, chars, encode_utf8_all, string_bytes}
+use Rattle.std.proofs.Common.{◌≡◌, ℕ, List, sym, String, chars, encode_utf8_all, string_bytes}
 use Rattle.std.proofs.lemmas.Str.{IsUtf8-string_bytes, chars_from_encodes}
 use Rattle.tcl_words.specs.ListText.{list_text}
 

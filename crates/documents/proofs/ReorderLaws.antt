@@ -1,7 +1,6 @@
 -- What `raise` and `lower` answer.
 use Rattle.std.proofs.Common.{◌≡◌, ℕ, true, false, List, Option, None, Some, Ok, Err, refl, sym, ap, ap₂, subst, ◌∙◌}
-use Rattle.std.proofs.Common.{◌+◌}
-use Rattle.std.specs.Prelude.{find, bytes_eq, is_some, if◌then◌else◌}
+use Rattle.std.proofs.Common.{◌+◌, find, bytes_eq, is_some, if◌then◌else◌}
 use Rattle.std.proofs.lemmas.Option.{same_Some}
 use Rattle.tag_table.specs.declared.faults.NoSuchTag as table_fault
 use Rattle.tag_table.specs.declared.faults.NoSuchTag.TheVariants.{Moved, Neighbour}

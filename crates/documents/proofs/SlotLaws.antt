@@ -1,8 +1,7 @@
 -- Which slot stands for a key.
 use Rattle.std.proofs.Common.{◌≡◌, ◌≢◌, ℕ, ◌<◌, ◌≤◌, Bool, true, false, not, cond, List, ◌++◌, Option, None, Some}
 use Rattle.std.proofs.Common.{filter, map, length, drop, slice_get, refl, sym, ap, subst, ◌∙◌, true≢false, arith, inl}
-use Rattle.std.proofs.Common.{inr, ne_eqb}
-use Rattle.std.specs.Prelude.{option_map, ◌==◌, Contains, if◌then◌else◌}
+use Rattle.std.proofs.Common.{inr, ne_eqb, option_map, ◌==◌, Contains, if◌then◌else◌}
 use Rattle.std.specs.List.{list_any}
 use Rattle.std.proofs.lemmas.List.{map-append, take-append-drop}
 use Rattle.std.proofs.lemmas.List.Elements.{Contains-append_cases, Contains-append_left, Contains-append_right}

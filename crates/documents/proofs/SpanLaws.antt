@@ -1,7 +1,6 @@
 -- A document after a tag is put on spans or taken off them, or where that is refused.
 use Rattle.std.proofs.Common.{◌≡◌, ℕ, ◌+◌, ◌-◌, ◌<◌, ◌≤◌, Bool, true, false, List, Option, None, Some, Ok, length, refl}
-use Rattle.std.proofs.Common.{sym, ap, ap₂, subst, ◌∙◌, arith}
-use Rattle.std.specs.Prelude.{◌==◌, nat_lt, option_map, if◌then◌else◌}
+use Rattle.std.proofs.Common.{sym, ap, ap₂, subst, ◌∙◌, arith, ◌==◌, nat_lt, option_map, if◌then◌else◌}
 use Rattle.std.proofs.lemmas.Option.{none-some, same_Some}
 use Rattle.std.specs.List.{All}
 use Rattle.std.proofs.lemmas.Bool.Decides.{nat_tests}

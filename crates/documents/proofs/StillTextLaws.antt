@@ -81,17 +81,19 @@ text-removed document widget name places =
 pub text-still : (limits : LimitTable) (document : Document) (widget : Widget) →
     IsStill limits document widget (HasTextOf document)
 text-still limits document widget = record {
-  same = refl;
+  quiet = record {
+    same = refl;
+    turned = λ name old gravity _. text-mark document widget name (record old { gravity = gravity });
+    added = λ name places. text-added limits document widget name places;
+    removed = λ name places. text-removed document widget name places;
+    untagged = λ names. text-without names document.cells;
+    ordered = λ position order words. carried-reordered (HasTextOf document) document position order words refl
+        (λ tags. refl);
+    modified = λ flag. refl;
+    separated = elim document.undo as
+        (λ b. HasTextOf document (if b then record document { history = separated document.history } else document))
+        [ true ↦ refl | false ↦ refl ];
+  };
   set = λ name offset found. text-set limits document widget name offset found;
-  turned = λ name place. text-mark document widget name place;
   unset = λ names. refl;
-  added = λ name places. text-added limits document widget name places;
-  removed = λ name places. text-removed document widget name places;
-  untagged = λ names. text-without names document.cells;
-  ordered = λ position order words. carried-reordered (HasTextOf document) document position order words refl (λ tags.
-      refl);
-  modified = λ flag. refl;
-  separated = elim document.undo as
-      (λ b. HasTextOf document (if b then record document { history = separated document.history } else document))
-      [ true ↦ refl | false ↦ refl ];
 }

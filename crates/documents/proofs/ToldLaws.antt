@@ -1,18 +1,15 @@
 -- What is told of a command beforehand is what it makes of the text.
-use Rattle.std.proofs.Common.{◌≡◌, ℕ, ◌+◌, ◌-◌, ◌<◌, ◌≤◌, ◌==◌, ◌&&◌, ◌^◌, min, true, false, List, [], ◌∷◌, Option}
-use Rattle.std.proofs.Common.{Some, None, map, length, take, drop, refl, sym, ap, ap₂, ◌∙◌, arith, subst, append_assoc}
-use Rattle.std.specs.Prelude.{Bool, bytes_eq, nat_le, nat_lt, slice_range, if◌then◌else◌}
-use Rattle.std.specs.List.{All}
+use Rattle.std.proofs.Common.{◌≡◌, ℕ, ◌+◌, ◌-◌, ◌<◌, ◌≤◌, ◌==◌, ◌&&◌, true, false, List, [], ◌∷◌, Option, Some, None}
+use Rattle.std.proofs.Common.{map, length, take, drop, refl, sym, ap, ap₂, ◌∙◌, arith, subst, append_assoc, ◌++◌, Bool}
+use Rattle.std.proofs.Common.{bytes_eq, nat_le, nat_lt, slice_range, if◌then◌else◌}
 use Rattle.std.proofs.lemmas.Bool.{eqb-true, false≢true, ltb-false}
-use Rattle.std.proofs.lemmas.List.{take-append-drop}
-use Rattle.std.proofs.lemmas.List.Elements.{All-cons, All-nil}
-use Rattle.std.proofs.lemmas.List.Sums.{sum_by-cons}
+use Rattle.std.proofs.lemmas.List.{map-append, take-append-drop}
 use Rattle.std.proofs.lemmas.Option.{none-some, option_and_then_some, same_Some}
 use Rattle.text_model.specs.Content as model
-use Rattle.text_model.specs.LimitTable.{LimitTable, AreLimits}
+use Rattle.text_model.specs.LimitTable.{LimitTable}
 use Rattle.text_model.specs.Splices.{inserted, removed}
 use Rattle.text_model.specs.declared.places.Place.{Place}
-use Rattle.text_model.proofs.SpliceLaws.{changed-same, length-inserted, length-removed, map-changed}
+use Rattle.text_model.proofs.SpliceLaws.{changed-same, map-changed}
 use Rattle.undo_stack.specs.declared.actions.Action.{Action}
 use Rattle.undo_stack.specs.declared.actions.EditKind.{EditKind}
 use Rattle.undo_stack.specs.declared.actions.EditKind.TheVariants as kind
@@ -23,9 +20,12 @@ use Rattle.edit_ops.specs.Deletions.{AreApart, delete_set, in_spans, runs_below}
 use Rattle.edit_ops.specs.Removals.{clipped}
 use Rattle.edit_ops.specs.Replays.{replays}
 use Rattle.edit_ops.specs.Reversals.{redo_end, undo_end}
-use Rattle.edit_ops.specs.Told.{Goes, Tells, removed_all}
+use Rattle.edit_ops.specs.Told.{Tells, patched, putting, taking, taking_out}
 use Rattle.edit_ops.specs.declared.changes.TextChange.{TextChange}
+use Rattle.edit_ops.specs.declared.hunks.Hunk.{Hunk}
 use Rattle.edit_ops.specs.declared.spans.Span.{Span}
+use Rattle.edit_ops.proofs.HunkLaws.{inserting-is, put_all, putting-append, removed_all, replacing-is}
+use Rattle.edit_ops.proofs.HunkLaws.{taking-is}
 use Rattle.edit_ops.proofs.ReplayLaws.{back-reverted}
 use Rattle.command_effects.specs.Lists.{Pair, total}
 use Rattle.command_effects.specs.declared.answers.Answer.TheVariants.{Empty}
@@ -43,58 +43,24 @@ use Rattle.documents.specs.Kept.{Stands}
 use Rattle.documents.specs.Promise.{Change, answered, refused}
 use Rattle.documents.specs.Ranges.{spans_shown}
 use Rattle.documents.specs.Texts.{insert_at, keyed_text, tags_with, within_limits}
-use Rattle.documents.specs.Told.{Foretells, put_all}
+use Rattle.documents.specs.Told.{Foretells}
 use Rattle.documents.specs.Views.{is_idle, view_end, view_start}
 use Rattle.documents.proofs.LeadLaws.{characters-made, characters-out, characters-put, counted}
 use Rattle.documents.proofs.PartsLaws.{Sits, cells-kept, characters-kept}
 use Rattle.documents.proofs.ViewLaws.{end-is, end_in, start-is, start_in}
 
--- ---- what is told goes on
-
-goes-on : (before between now : List TextChange) (text next last : List ℕ) → Goes before between text next →
-    Goes between now next last
-    → Goes before now text last
-goes-on before between now text next last first second = λ start told. second start (first start told)
-
 abbrev pub texts_of : List Pair → List (List ℕ)
 texts_of pairs = map (λ (pair : Pair). pair.text) pairs
 
--- Some texts were told of, each put in behind the one before it, and with the rest of them all are.
-pub record ToldSoFar (before now : List TextChange) (here : ℕ) (rest : List Pair) (start all : List ℕ) : Type 0 where
-  pub reached : List ℕ
-  pub goes : Goes before now start reached
-  pub within : here ≤ length reached
-  pub fits : here + total rest < 2 ^ 64
-  pub puts : put_all here (texts_of rest) reached ≡ all
-
-pub told-more : (before now new : List TextChange) (here next : ℕ) (pair : Pair) (rest left : List Pair)
-    (start all : List ℕ)
-    → ToldSoFar before now here rest start all → rest ≡ pair ∷ left
-    → ((old : List ℕ) → here ≤ length old → Goes now new old (inserted here pair.text old)) →
-    next ≡ min (here + length pair.text) (2 ^ 64 - 1) → ToldSoFar before new next left start all
-told-more before now new here next pair rest left start all so_far is told next_is =
-    let here_on = subst (λ some. ToldSoFar before now here some start all) is so_far in
-    let reached = here_on.reached in
-    let made = inserted here pair.text reached in
-    let within = here_on.within in
-    let fits = here_on.fits in
-    let counts = sum_by-cons (λ (pair : Pair). length pair.text) pair left in
-    let behind : next ≡ here + length pair.text = omega (arith, next_is, fits, counts) in
-    let long = length-inserted here pair.text reached within in
-    record {
-      reached = made;
-      goes = goes-on before now new start reached made here_on.goes (told reached within);
-      within = omega (arith, behind, long, within);
-      fits = omega (arith, behind, fits, counts);
-      puts = ap (λ n. put_all n (texts_of left) made) behind ∙ here_on.puts;
-    }
-
-pub told-all : (before now : List TextChange) (here : ℕ) (rest : List Pair) (start all : List ℕ) →
-    ToldSoFar before now here rest start all
-    → rest ≡ [] → Goes before now start all
-told-all before now here rest start all so_far is =
-    let end : so_far.reached ≡ all = ap (λ some. put_all here (texts_of some) so_far.reached) (sym is) ∙ so_far.puts in
-    subst (Goes before now start) end so_far.goes
+-- the hunks of one pair more
+pub texts-more : (at : ℕ) (front hunks now : List Hunk) (pairs : List Pair) (pair : Pair) (text : List ℕ)
+    → hunks ≡ front ++ putting at (texts_of pairs) → text ≡ pair.text → now ≡ hunks ++ putting at (text ∷ [])
+    → now ≡ front ++ putting at (texts_of (pairs ++ pair ∷ []))
+texts-more at front hunks now pairs pair text so_far same is =
+    is ∙ ap₂ (λ hs t. hs ++ putting at (t ∷ [])) so_far same
+    ∙ append_assoc front (putting at (texts_of pairs)) (putting at (pair.text ∷ []))
+    ∙ ap (λ hs. front ++ hs) (sym (putting-append at (texts_of pairs) (pair.text ∷ []))
+    ∙ ap (putting at) (sym (map-append (λ (pair : Pair). pair.text) pairs (pair ∷ []))))
 
 -- ---- what edits make of the characters
 
@@ -239,15 +205,30 @@ all-again limit (action ∷ actions) found document is =
     (λ between one others. all-again limit actions found (action_again action document)
     (ap (repeated_group limit actions) (one-again limit action between document one) ∙ others))
 
--- ---- what is told where nothing was
+-- ---- what is told
 
--- from nothing told, where the change has these characters
-told-from : (first told : List TextChange) (text next new : List ℕ) → first ≡ [] → Goes first told text next →
-    new ≡ next
-    → Tells told text new
-told-from first told text next new none goes is =
-    subst (Tells told text) (sym is)
-    (goes text (subst (λ (some : List TextChange). Tells some text text) (sym none) refl))
+-- what hunks make is told, and the change makes just that
+told-by : (document : Document) (change : Change) (hunks : List Hunk) (told : List TextChange)
+    → Tells told (characters document.cells) (patched 0 hunks (characters document.cells))
+    → characters change.document.cells ≡ patched 0 hunks (characters document.cells)
+    → Foretells document change told
+told-by document change hunks told tells is =
+    λ ok. subst (Tells told (characters document.cells)) (sym is) tells
+
+-- what is told of the text that is kept is told of the document's
+pub tells-kept : (parts : Parts) (document : Document) (hunks : List Hunk) (told : List TextChange)
+    → Stands parts document
+    → Tells told (model.characters parts.content.cells) (patched 0 hunks (model.characters parts.content.cells))
+    → Tells told (characters document.cells) (patched 0 hunks (characters document.cells))
+tells-kept parts document hunks told stands =
+    subst (λ (text : List ℕ). Tells told text (patched 0 hunks text)) (sym (characters-kept parts document stands.is))
+
+-- nothing is told of a change that leaves the text, or is refused
+pub told-nothing : (document : Document) (change : Change) (told : List TextChange) → told ≡ []
+    → characters change.document.cells ≡ characters document.cells → Foretells document change told
+told-nothing document change told none same =
+    λ ok. subst (λ (some : List TextChange). Tells some (characters document.cells) (characters change.document.cells))
+    (sym none) same
 
 -- a change that is another one
 same-foretold : (document : Document) (change is : Change) (told : List TextChange) → change ≡ is →
@@ -273,103 +254,72 @@ limited-foretold limits document tags chars change told next =
 -- ---- insert
 
 pub insertion-foretold : (limits : LimitTable) (document : Document) (widget : Widget) (at : ℕ) (pairs : List Pair)
-    (first told : List TextChange) → AreLimits limits → at < length document.cells → first ≡ []
-    → ((old : List ℕ) → at ≤ length old → at + total pairs < 2 ^ 64 →
-    Goes first told old (put_all at (texts_of pairs) old))
+    (hunks : List Hunk) (told : List TextChange) → at < length document.cells → hunks ≡ putting at (texts_of pairs)
+    → Tells told (characters document.cells) (patched 0 hunks (characters document.cells))
     → Foretells document (insert_at limits document widget at pairs) told
-insertion-foretold limits document widget at pairs first told are within none goes =
+insertion-foretold limits document widget at pairs hunks told within are tells =
     let tagged : Document = record document { tags = tags_with document pairs } in
     let old = characters document.cells in
-    let bound = are.chars in
-    let long = counted document.cells in
-    limited-foretold limits document (length (tags_with document pairs)) (length document.cells + total pairs)
-    (answered (with_texts kind.Insert at (map (keyed_text widget) pairs) tagged) Empty) told
-    (λ short ok. told-from first told old (put_all at (texts_of pairs) old)
-    (characters (with_texts kind.Insert at (map (keyed_text widget) pairs) tagged).cells) none
-    (goes old (omega (arith, within, long)) (omega (arith, within, short, bound)))
-    (characters-texts kind.Insert at widget pairs tagged))
+    let change = answered (with_texts kind.Insert at (map (keyed_text widget) pairs) tagged) Empty in
+    limited-foretold limits document (length (tags_with document pairs)) (length document.cells + total pairs) change told
+    (λ _. told-by document change hunks told tells
+    (characters-texts kind.Insert at widget pairs tagged
+    ∙ sym (inserting-is at (texts_of pairs) hunks old (omega (arith, within, counted document.cells)) are)))
 
 -- ---- replace
 
-replacement-foretold : (limits : LimitTable) (document : Document) (widget : Widget) (from to : ℕ)
-    (pairs : List Pair) (first between told : List TextChange) → AreLimits limits → from ≤ to
-    → to ≤ length document.cells → first ≡ []
-    → ((text : List ℕ) → to ≤ length text → Goes first between text (removed from to text))
-    → ((old : List ℕ) → from ≤ length old → from + total pairs < 2 ^ 64 →
-    Goes between told old (put_all from (texts_of pairs) old))
+-- with both offsets as they were found
+pub replacement-foretold : (limits : LimitTable) (document : Document) (widget : Widget) (from to start end : ℕ)
+    (pairs : List Pair) (hunks : List Hunk) (told : List TextChange) → start ≡ from → end ≡ to → start ≤ end
+    → end < length document.cells → hunks ≡ putting start (texts_of pairs) ++ taking_out start end
+    → Tells told (characters document.cells) (patched 0 hunks (characters document.cells))
     → Foretells document (replace_span limits document widget from to pairs) told
-replacement-foretold limits document widget from to pairs first between told are ordered within none takes puts =
+replacement-foretold limits document widget from to start end pairs hunks told begins ends ordered within are tells =
     let tagged : Document = record document { tags = tags_with document pairs } in
     let old = characters document.cells in
-    let left = removed from to old in
-    let made = put_all from (texts_of pairs) left in
-    let texts = map (keyed_text widget) pairs in
-    let out : Document = without_span kind.Replace from to tagged in
-    let in_place : Document = with_texts kind.Replace from texts out in
-    let bound = are.chars in
-    let long = counted document.cells in
-    let inside : to ≤ length old = omega (arith, within, long) in
-    let rest = length-removed from to old ordered inside in
-    limited-foretold limits document (length (tags_with document pairs))
-    (length document.cells - (to - from) + total pairs)
-    (answered (replaced document widget from to pairs) Empty) told
-    (λ short ok. told-from first told old made (characters (replaced document widget from to pairs).cells) none
-    (goes-on first between told old left made (takes old inside)
-    (puts left (omega (arith, rest, ordered, inside)) (omega (arith, rest, ordered, inside, long, short, bound))))
-    (characters-clipped widget (clipped from to (total pairs) widget.insert) in_place
-    ∙ characters-texts kind.Replace from widget pairs out
-    ∙ ap (put_all from (texts_of pairs)) (characters-span kind.Replace from to tagged)))
-
--- with both offsets as they were found
-pub replacement-told : (limits : LimitTable) (document : Document) (widget : Widget) (from to start end : ℕ)
-    (pairs : List Pair) (first between told : List TextChange) → AreLimits limits → start ≡ from → end ≡ to
-    → start ≤ end → end < length document.cells → first ≡ []
-    → ((text : List ℕ) → end ≤ length text → Goes first between text (removed start end text))
-    → ((old : List ℕ) → start ≤ length old → start + total pairs < 2 ^ 64 →
-    Goes between told old (put_all start (texts_of pairs) old))
-    → Foretells document (replace_span limits document widget from to pairs) told
-replacement-told limits document widget from to start end pairs first between told are begins ends ordered within none
-    takes puts =
+    let out : Document = without_span kind.Replace start end tagged in
+    let in_place : Document = with_texts kind.Replace start (map (keyed_text widget) pairs) out in
+    let change = answered (replaced document widget start end pairs) Empty in
     same-foretold document (replace_span limits document widget from to pairs)
     (replace_span limits document widget start end pairs) told
     (ap₂ (λ a b. replace_span limits document widget a b pairs) (sym begins) (sym ends))
-    (replacement-foretold limits document widget start end pairs first between told are ordered (omega (arith, within))
-    none takes puts)
+    (limited-foretold limits document (length (tags_with document pairs))
+    (length document.cells - (end - start) + total pairs) change told
+    (λ _. told-by document change hunks told tells
+    (characters-clipped widget (clipped start end (total pairs) widget.insert) in_place
+    ∙ characters-texts kind.Replace start widget pairs out
+    ∙ ap (put_all start (texts_of pairs)) (characters-span kind.Replace start end tagged)
+    ∙ sym (replacing-is start end (texts_of pairs) hunks old ordered
+    (omega (arith, within, counted document.cells)) are))))
 
 -- ---- delete
 
-deletion-foretold : (document : Document) (widget : Widget) (spans runs : List Span) (first told : List TextChange)
-    → runs ≡ deleted_runs document widget spans → AreApart (length (characters document.cells)) runs → first ≡ []
-    → ((text : List ℕ) → AreApart (length text) runs → Goes first told text (removed_all runs text))
+deletion-foretold : (document : Document) (widget : Widget) (spans runs : List Span) (hunks : List Hunk)
+    (told : List TextChange)
+    → runs ≡ deleted_runs document widget spans → AreApart (length (characters document.cells)) runs
+    → hunks ≡ taking runs → Tells told (characters document.cells) (patched 0 hunks (characters document.cells))
     → Foretells document (delete_spans document widget spans) told
-deletion-foretold document widget spans runs first told is apart none goes = λ ok.
+deletion-foretold document widget spans runs hunks told is apart are tells =
     let old = characters document.cells in
     let bared : Document = last_bare widget spans document in
-    told-from first told old (removed_all runs old) (characters (delete_spans document widget spans).document.cells)
-    none (goes old apart)
+    told-by document (delete_spans document widget spans) hunks told tells
     (characters-spans kind.Delete (deleted_runs document widget spans) bared
     ∙ ap (removed_all (deleted_runs document widget spans)) (characters-bare widget spans document)
-    ∙ ap (λ rs. removed_all rs old) (sym is))
-
-pub apart-ordered : (border : ℕ) (spans : List Span) → AreApart border spans →
-    All (λ (span : Span). span.from ≤ span.to) spans
-apart-ordered border [] apart = All-nil (λ (span : Span). span.from ≤ span.to)
-apart-ordered border (span ∷ spans) apart =
-    All-cons (λ (span : Span). span.from ≤ span.to) span spans (let some = apart.0 in omega (arith, some))
-    (apart-ordered span.from spans apart.2)
+    ∙ ap (λ rs. removed_all rs old) (sym is)
+    ∙ sym (taking-is (length old) runs old apart (omega arith)) ∙ ap (λ hs. patched 0 hs old) (sym are))
 
 -- of a document as it is kept, where the view's bounds, the spans and the runs were found
 pub deletion-told : (parts : Parts) (document : Document) (place slot start end : ℕ) (places : List ℕ)
-    (spans found runs : List Span) (first told : List TextChange) → Stands parts document
+    (spans runs : List Span) (hunks : List Hunk) (told : List TextChange) → Stands parts document
     → Sits parts document place slot → start ≡ start_in parts slot → end ≡ end_in parts slot
-    → spans ≡ spans_shown document (widget_at document place) places → runs ≡ found
-    → found ≡ runs_below (length parts.content.cells) (delete_set (model.characters parts.content.cells) start end
+    → spans ≡ spans_shown document (widget_at document place) places
+    → runs ≡ runs_below (length parts.content.cells) (delete_set (model.characters parts.content.cells) start end
     (in_spans spans))
-    → AreApart (length parts.content.cells) found → first ≡ []
-    → ((text : List ℕ) → AreApart (length text) runs → Goes first told text (removed_all runs text))
+    → AreApart (length parts.content.cells) runs → hunks ≡ taking runs
+    → Tells told (model.characters parts.content.cells) (patched 0 hunks (model.characters parts.content.cells))
     → Foretells document (delete_places document (widget_at document place) places) told
-deletion-told parts document place slot start end places spans found runs first told stands sits begins ends shows same
-    is apart none goes =
+deletion-told parts document place slot start end places spans runs hunks told stands sits begins ends shows is apart
+    are tells =
     let widget : Widget = widget_at document place in
     let shown_spans : List Span = spans_shown document widget places in
     let long = cells-kept parts document stands.is in
@@ -377,11 +327,11 @@ deletion-told parts document place slot start end places spans found runs first 
     let start_is : start ≡ view_start widget = begins ∙ sym (start-is parts document place slot stands sits) in
     let end_is : end ≡ view_end document widget = ends ∙ sym (end-is parts document place slot stands sits) in
     let runs_are : runs ≡ deleted_runs document widget shown_spans =
-    same ∙ is
+    is
     ∙ (λ i. runs_below (sym long i) (delete_set (sym text_is i) (start_is i) (end_is i) (in_spans (shows i)))) in
-    deletion-foretold document widget shown_spans runs first told runs_are
-    (subst (λ n. AreApart n runs) (sym (counted document.cells ∙ long))
-    (subst (AreApart (length parts.content.cells)) (sym same) apart)) none goes
+    deletion-foretold document widget shown_spans runs hunks told runs_are
+    (subst (λ n. AreApart n runs) (sym (counted document.cells ∙ long)) apart) are
+    (tells-kept parts document hunks told stands tells)
 
 -- ---- undo and redo
 
@@ -421,38 +371,42 @@ redo-none document widget told on is =
     (redo-as document widget None on is)
     (refused-foretold document NothingToRedo told)
 
-pub undo-some : (limit : ℕ) (document : Document) (widget : Widget) (group : List Action) (first told : List TextChange)
+pub undo-some : (limit : ℕ) (document : Document) (widget : Widget) (group : List Action) (hunks : List Hunk)
+    (told : List TextChange)
     → document.undo ≡ true → next_undo document.history ≡ Some group → is_idle document widget ≡ false
-    → FitsText limit (characters document.cells) document.history → first ≡ []
-    → ((found : List ℕ) → repeated_group limit (replays true group) (characters document.cells) ≡ Some found
-    → Goes first told (characters document.cells) found)
+    → FitsText limit (characters document.cells) document.history
+    → Some (patched 0 hunks (characters document.cells))
+    ≡ repeated_group limit (replays true group) (characters document.cells)
+    → Tells told (characters document.cells) (patched 0 hunks (characters document.cells))
     → Foretells document (edit_undo document widget) told
-undo-some limit document widget group first told on is busy fits none goes =
+undo-some limit document widget group hunks told on is busy fits made tells =
     let old = characters document.cells in
-    let made : Document = undone widget group document in
+    let gone : Document = undone widget group document in
     let found = undo-goes limit document.history old group fits is in
-    same-foretold document (edit_undo document widget) (answered made Empty) told
+    same-foretold document (edit_undo document widget) (answered gone Empty) told
     (undo-as document widget (Some group) on is
-    ∙ ap (λ b. answered (if b then document else made) Empty) busy)
-    (λ ok. told-from first told old found.0 (characters made.cells) none
-    (goes found.0 (back-reverted limit group old ∙ found.1))
+    ∙ ap (λ b. answered (if b then document else gone) Empty) busy)
+    (told-by document (answered gone Empty) hunks told tells
     (characters-end widget (undo_end group) (group_back group document)
-    ∙ all-back limit group found.0 document found.1))
+    ∙ all-back limit group found.0 document found.1
+    ∙ same_Some found.0 (patched 0 hunks old) (sym (made ∙ back-reverted limit group old ∙ found.1))))
 
-pub redo-some : (limit : ℕ) (document : Document) (widget : Widget) (group : List Action) (first told : List TextChange)
+pub redo-some : (limit : ℕ) (document : Document) (widget : Widget) (group : List Action) (hunks : List Hunk)
+    (told : List TextChange)
     → document.undo ≡ true → next_redo document.history ≡ Some group → is_idle document widget ≡ false
-    → FitsText limit (characters document.cells) document.history → first ≡ []
-    → ((found : List ℕ) → repeated_group limit (replays false group) (characters document.cells) ≡ Some found
-    → Goes first told (characters document.cells) found)
+    → FitsText limit (characters document.cells) document.history
+    → Some (patched 0 hunks (characters document.cells))
+    ≡ repeated_group limit (replays false group) (characters document.cells)
+    → Tells told (characters document.cells) (patched 0 hunks (characters document.cells))
     → Foretells document (edit_redo document widget) told
-redo-some limit document widget group first told on is busy fits none goes =
+redo-some limit document widget group hunks told on is busy fits made tells =
     let old = characters document.cells in
-    let made : Document = redone widget group document in
+    let again : Document = redone widget group document in
     let found = redo-goes limit document.history old group fits is in
-    same-foretold document (edit_redo document widget) (answered made Empty) told
+    same-foretold document (edit_redo document widget) (answered again Empty) told
     (redo-as document widget (Some group) on is
-    ∙ ap (λ b. answered (if b then document else made) Empty) busy)
-    (λ ok. told-from first told old found.0 (characters made.cells) none
-    (goes found.0 found.1)
+    ∙ ap (λ b. answered (if b then document else again) Empty) busy)
+    (told-by document (answered again Empty) hunks told tells
     (characters-end widget (redo_end group) (group_again group document)
-    ∙ all-again limit group found.0 document found.1))
+    ∙ all-again limit group found.0 document found.1
+    ∙ same_Some found.0 (patched 0 hunks old) (sym (made ∙ found.1))))

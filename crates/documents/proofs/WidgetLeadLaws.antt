@@ -1,7 +1,6 @@
 -- Each edit that a command of a widget may make leaves what the document leads back to.
 use Rattle.std.proofs.Common.{◌≡◌, ℕ, ◌+◌, ◌-◌, ◌≤◌, true, false, List, [], ◌∷◌, ◌++◌, Option, Some, None, length, refl}
-use Rattle.std.proofs.Common.{arith}
-use Rattle.std.specs.Prelude.{nat_le, nat_lt, if◌then◌else◌}
+use Rattle.std.proofs.Common.{arith, nat_le, nat_lt, if◌then◌else◌}
 use Rattle.std.specs.List.{All, AllByRecursion}
 use Rattle.std.proofs.lemmas.List.{length-map}
 use Rattle.text_model.specs.LimitTable.{LimitTable}
@@ -111,18 +110,21 @@ pub leads-carried : (limits : LimitTable) (start : List ℕ) (document : Documen
     IsCarried limits document widget (Leads limits.chars start)
 leads-carried limits start document widget leads anchored = record {
   still = record {
-    same = leads;
+    quiet = record {
+      same = leads;
+      turned = λ name old gravity _.
+          leads-mark limits.chars start document widget name (record old { gravity = gravity }) leads;
+      added = λ name places. leads-added limits limits.chars start document widget name places leads;
+      removed = λ name places. leads-removed limits.chars start document widget name places leads;
+      untagged = λ names. leads-untagged limits.chars start document names leads;
+      ordered = λ position order words. carried-reordered (Leads limits.chars start) document position order words leads
+          (λ tags. leads-still limits.chars start document (record document { tags = tags }) leads refl refl refl refl
+          refl);
+      modified = λ flag. leads-modified limits.chars start document flag leads;
+      separated = leads-separated limits.chars start document leads;
+    };
     set = λ name offset found. leads-set limits limits.chars start document widget name offset found leads;
-    turned = λ name place. leads-mark limits.chars start document widget name place leads;
     unset = λ names. leads-unset limits.chars start document names leads;
-    added = λ name places. leads-added limits limits.chars start document widget name places leads;
-    removed = λ name places. leads-removed limits.chars start document widget name places leads;
-    untagged = λ names. leads-untagged limits.chars start document names leads;
-    ordered = λ position order words. carried-reordered (Leads limits.chars start) document position order words leads
-        (λ tags. leads-still limits.chars start document (record document { tags = tags }) leads refl refl refl refl
-        refl);
-    modified = λ flag. leads-modified limits.chars start document flag leads;
-    separated = leads-separated limits.chars start document leads;
   };
   inserted = λ place pairs busy. leads-inserted limits start document widget (insertion_offset document widget place)
       pairs leads

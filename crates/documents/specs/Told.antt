@@ -1,15 +1,9 @@
 -- What is told of a command beforehand: the changes of the text that it makes, unless it is refused.
-use Rattle.std.specs.Prelude.{◌≡◌, ℕ, ◌+◌, List, [], ◌∷◌, true, is_ok, length}
-use Rattle.text_model.specs.Splices.{inserted}
+use Rattle.std.specs.Prelude.{◌≡◌, List, true, is_ok}
 use Rattle.edit_ops.specs.Told.{Tells}
 use Rattle.edit_ops.specs.declared.changes.TextChange.{TextChange}
 use Rattle.documents.specs.Documents.{Document, characters}
 use Rattle.documents.specs.Promise.{Change}
-
--- texts are put in at an offset of another, each behind the one before it
-abbrev pub put_all : ℕ → List (List ℕ) → List ℕ → List ℕ
-put_all at [] old = old
-put_all at (text ∷ texts) old = put_all (at + length text) texts (inserted at text old)
 
 -- where a command is answered, these changes of the text are what it made
 abbrev pub Foretells : Document → Change → List TextChange → Type 0

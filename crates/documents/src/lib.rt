@@ -6,6 +6,7 @@ mod documents;
 mod history;
 mod indices;
 mod marks;
+mod marks_told;
 mod options;
 mod queries;
 mod ranges;
@@ -17,5 +18,6 @@ mod views;
 mod widgets;
 
 pub use documents::Document;
-pub use edit_ops::{ChangeList, TextChange};
+pub use edit_ops::{ChangeList, Spot, TextChange};
+pub use marks_told::MovedMarks;
 pub use widgets::drop_widgets;

@@ -1,47 +1,46 @@
-ghost use Rattle.std.specs.Prelude.{◌≡◌, ◌+◌, ◌<◌, ◌≤◌, ◌^◌, ℕ, List, false, length, map, OnOk, IfOk};
+ghost use Rattle.std.specs.Prelude.{◌≡◌, ◌<◌, ◌≤◌, ◌++◌, false, length, map, OnOk, IfOk};
 ghost use Rattle.std.specs.List.{All};
 ghost use Rattle.text_model.specs.LimitTable.{LimitTable, AreLimits};
-ghost use Rattle.edit_ops.specs.Told.{Goes};
-ghost use Rattle.command_effects.specs.Lists.{Pair as PairOfWords, total};
+ghost use Rattle.edit_ops.specs.Told.{putting};
+ghost use Rattle.command_effects.specs.Lists.{Pair as PairOfWords};
 ghost use Rattle.documents.specs.Deletions.{delete_places, replace_span};
 ghost use Rattle.documents.specs.Documents.{Widget, widget_at};
 ghost use Rattle.documents.specs.History.{edit_redo, edit_undo};
 ghost use Rattle.documents.specs.Texts.{insert_at, insertion_offset};
-ghost use Rattle.documents.specs.Told.{put_all, Foretells};
+ghost use Rattle.documents.specs.Told.{Foretells};
 ghost use Rattle.documents.specs.Views.{is_idle, shown};
 ghost use Rattle.documents.specs.WellFormed.{IsWellFormedDocument};
 
 use crate::documents::Document;
 use crate::views::{end_of, start_of};
 use command_effects::{Pair, spans_of};
-use edit_ops::{ChangeList, count_of, deleted_runs};
+use edit_ops::{
+    ChangeList, Hunk, deleted_runs, push_removal, push_text, reversal_hunks, take_spans, tell,
+};
 use std::alloc::AllocError;
 use text_model::{Limits, TextStore};
 
-/// Tells that texts are put in at an offset, each behind the one before it.
-fn tell_texts(told: &mut ChangeList, at: usize, pairs: &[Pair]) -> Result<(), AllocError>
-    ensures { OnOk result ((old : List ℕ) → at ≤ length old → at + total pairs.now < 2 ^ 64 →
-        Goes told.old told.new old (put_all at (map (λ (pair : PairOfWords). pair.text) pairs.now) old)) }
+/// Adds the hunks that put texts in at an offset, each behind the one before it.
+fn push_texts(hunks: &mut Vec<Hunk>, at: usize, pairs: Vec<Pair>) -> Result<(), AllocError>
+    ensures { OnOk result (hunks.new.items
+        ≡ hunks.old.items ++ putting at (map (λ (pair : PairOfWords). pair.text) pairs.items)) }
 {
-    let mut at = at;
     for pair in pairs {
-        let end = at.saturating_add(count_of(&pair.text));
-        told.insert(at, &pair.text)?;
-        at = end;
+        push_text(hunks, at, pair.text)?;
     }
     Ok(())
 }
 
 impl<S: TextStore> Document<S> {
     /// What `insert_at` changes of the text, unless it is refused.
-    pub fn told_insertion(&self, at: usize, pairs: &[Pair]) -> Result<ChangeList, AllocError>
+    pub fn told_insertion(&self, at: usize, pairs: Vec<Pair>) -> Result<ChangeList, AllocError>
         requires { at < length self.now.cells }
         ensures { IfOk result (λ told. (limits : LimitTable) (widget : Widget) → AreLimits limits →
-            Foretells self.now (insert_at limits self.now widget at pairs.now) told) }
+            Foretells self.now (insert_at limits self.now widget at pairs.items) told) }
     {
-        let mut told = ChangeList::new(self.alloc);
-        tell_texts(&mut told, at, pairs)?;
-        Ok(told)
+        let mut hunks = Vec::with_capacity(self.alloc, pairs.len())?;
+        push_texts(&mut hunks, at, pairs)?;
+        Ok(tell(self.alloc, &self.text.store, hunks)?)
     }
 
     /// What `delete_places` changes of the text, unless it is refused.
@@ -58,9 +57,8 @@ impl<S: TextStore> Document<S> {
         let end = end_of(&self.text.anchors, slot, store.len());
         let spans = spans_of(self.alloc, start, end - start, places)?;
         let runs = deleted_runs(self.alloc, store, start, end, &spans)?;
-        let mut told = ChangeList::new(self.alloc);
-        told.remove_spans(&runs)?;
-        Ok(told)
+        let hunks = take_spans(self.alloc, runs)?;
+        Ok(tell(self.alloc, store, hunks)?)
     }
 
     /// What `replace_between` changes of the text, unless it is refused.
@@ -69,7 +67,7 @@ impl<S: TextStore> Document<S> {
         seat: usize,
         from: usize,
         to: usize,
-        pairs: &[Pair],
+        pairs: Vec<Pair>,
     ) -> Result<ChangeList, AllocError>
         requires shown { seat < length self.now.widgets }
         requires active { is_idle self.now (widget_at self.now seat) ≡ false }
@@ -78,14 +76,14 @@ impl<S: TextStore> Document<S> {
         ensures { IfOk result (λ told. (limits : LimitTable) → AreLimits limits →
             Foretells self.now (replace_span limits self.now (widget_at self.now seat)
             (insertion_offset self.now (widget_at self.now seat) from)
-            (insertion_offset self.now (widget_at self.now seat) to) pairs.now) told) }
+            (insertion_offset self.now (widget_at self.now seat) to) pairs.items) told) }
     {
         let start = self.insertion_offset(seat, from);
         let end = self.insertion_offset(seat, to);
-        let mut told = ChangeList::new(self.alloc);
-        told.remove(start, end)?;
-        tell_texts(&mut told, start, pairs)?;
-        Ok(told)
+        let mut hunks = Vec::with_capacity(self.alloc, pairs.len().saturating_add(1))?;
+        push_texts(&mut hunks, start, pairs)?;
+        push_removal(self.alloc, &mut hunks, start, end)?;
+        Ok(tell(self.alloc, &self.text.store, hunks)?)
     }
 
     /// What `edit_undo` changes of the text, unless it is refused.
@@ -94,14 +92,16 @@ impl<S: TextStore> Document<S> {
         requires formed { IsWellFormedDocument limits.now self.now }
         ensures { IfOk result (λ told. Foretells self.now (edit_undo self.now (widget_at self.now seat)) told) }
     {
-        let mut told = ChangeList::new(self.alloc);
+        let nothing = ChangeList::new(self.alloc);
         if !self.settings.undo || self.is_idle(seat) {
-            return Ok(told);
+            return Ok(nothing);
         }
-        if let Some(group) = self.text.history.last_undo() {
-            told.replay_group(&group, true)?;
-        }
-        Ok(told)
+        let Some(group) = self.text.history.last_undo() else {
+            return Ok(nothing);
+        };
+        let store = &self.text.store;
+        let hunks = reversal_hunks(self.alloc, store, &group, true, limits.chars())?;
+        Ok(tell(self.alloc, store, hunks)?)
     }
 
     /// What `edit_redo` changes of the text, unless it is refused.
@@ -110,13 +110,15 @@ impl<S: TextStore> Document<S> {
         requires formed { IsWellFormedDocument limits.now self.now }
         ensures { IfOk result (λ told. Foretells self.now (edit_redo self.now (widget_at self.now seat)) told) }
     {
-        let mut told = ChangeList::new(self.alloc);
+        let nothing = ChangeList::new(self.alloc);
         if !self.settings.undo || self.is_idle(seat) {
-            return Ok(told);
+            return Ok(nothing);
         }
-        if let Some(group) = self.text.history.last_redo() {
-            told.replay_group(&group, false)?;
-        }
-        Ok(told)
+        let Some(group) = self.text.history.last_redo() else {
+            return Ok(nothing);
+        };
+        let store = &self.text.store;
+        let hunks = reversal_hunks(self.alloc, store, &group, false, limits.chars())?;
+        Ok(tell(self.alloc, store, hunks)?)
     }
 }

@@ -1,5 +1,4 @@
-use Rattle.std.proofs.Common.{◌+◌, List, Bool, ℕ, [], ◌∷◌, sym, subst, ap, ◌∙◌}
-use Rattle.std.specs.Prelude.{chars, filter, not, string_bytes, take}
+use Rattle.std.proofs.Common.{◌+◌, List, Bool, ℕ, [], ◌∷◌, sym, subst, ap, ◌∙◌, chars, filter, not, string_bytes, take}
 use Rattle.std.proofs.lemmas.Option.{same_Some}
 use Rattle.name_list.specs.Names.{names_of}
 use Rattle.command_effects.specs.Words.{is_same}

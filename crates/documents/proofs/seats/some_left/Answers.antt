@@ -1,5 +1,4 @@
-use Rattle.std.proofs.Common.{◌<◌, length, sym, ◌∙◌, arith}
-use Rattle.std.specs.Prelude.{chars}
+use Rattle.std.proofs.Common.{◌<◌, length, sym, ◌∙◌, arith, chars}
 use Rattle.std.proofs.lemmas.Bool.Decides.{nat_tests}
 use Rattle.tcl_words.specs.Unread.{texts_of}
 use Rattle.documents.specs.Keys.{seats_left}

@@ -1,5 +1,4 @@
-use Rattle.std.proofs.Common.{◌∷◌, ap, ◌∙◌, subst}
-use Rattle.std.specs.Prelude.{string_bytes}
+use Rattle.std.proofs.Common.{◌∷◌, ap, ◌∙◌, subst, string_bytes}
 use Rattle.std.proofs.lemmas.Str.{IsUtf8-string_bytes}
 use Rattle.mark_table.specs.SharedMarks.{names_of}
 use Rattle.tcl_words.specs.ListGrowth.{Goes}

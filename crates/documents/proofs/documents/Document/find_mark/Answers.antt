@@ -1,5 +1,4 @@
-use Rattle.std.proofs.Common.{◌≡◌, None, Some, sym, ap, ◌∙◌}
-use Rattle.std.specs.Prelude.{chars}
+use Rattle.std.proofs.Common.{◌≡◌, None, Some, sym, ap, ◌∙◌, chars}
 use Rattle.std.specs.Option.{option_map}
 use Rattle.mark_table.specs.Order.{rank_of}
 use Rattle.mark_table.specs.SharedMarks.{number_of}

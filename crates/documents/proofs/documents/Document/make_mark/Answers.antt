@@ -1,5 +1,4 @@
-use Rattle.std.proofs.Common.{◌<◌, ◌≤◌, None, length, sym, subst, arith}
-use Rattle.std.specs.Prelude.{Result, chars}
+use Rattle.std.proofs.Common.{◌<◌, ◌≤◌, None, length, sym, subst, arith, Result, chars}
 use Rattle.command_effects.specs.declared.answers.Answer.{Answer}
 use Rattle.command_effects.specs.declared.answers.Fault.{Fault}
 use Rattle.documents.specs.Documents.{Parts, document_of, widget_at}

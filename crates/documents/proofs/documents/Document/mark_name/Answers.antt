@@ -1,5 +1,4 @@
-use Rattle.std.proofs.Common.{◌≤◌, [], length, ap, sym, ◌∙◌, arith}
-use Rattle.std.specs.Prelude.{chars, slice_index_or}
+use Rattle.std.proofs.Common.{◌≤◌, [], length, ap, sym, ◌∙◌, arith, chars, slice_index_or}
 use Rattle.std.proofs.lemmas.Str.{chars-nil}
 use Rattle.mark_table.specs.Order.{rank_of}
 use Rattle.documents.specs.Inside.{parts_of}

@@ -1,5 +1,4 @@
-use Rattle.std.proofs.Common.{ap, ◌∙◌, subst}
-use Rattle.std.specs.Prelude.{chars, filter, not, string_bytes}
+use Rattle.std.proofs.Common.{ap, ◌∙◌, subst, chars, filter, not, string_bytes}
 use Rattle.std.proofs.lemmas.Str.{IsUtf8-string_bytes}
 use Rattle.name_list.specs.Names.{names_of}
 use Rattle.tcl_words.specs.ListGrowth.{Goes}

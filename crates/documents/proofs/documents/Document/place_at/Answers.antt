@@ -1,5 +1,4 @@
-use Rattle.std.proofs.Common.{length, ap, ◌∙◌, arith}
-use Rattle.std.specs.Prelude.{chars}
+use Rattle.std.proofs.Common.{length, ap, ◌∙◌, arith, chars}
 use Rattle.documents.specs.Documents.{widget_at}
 use Rattle.documents.specs.Inside.{parts_of}
 use Rattle.documents.specs.Kept.{Stands}

@@ -1,5 +1,4 @@
-use Rattle.std.proofs.Common.{◌++◌, ap, ◌∙◌}
-use Rattle.std.specs.Prelude.{chars}
+use Rattle.std.proofs.Common.{◌++◌, ap, ◌∙◌, chars}
 use Rattle.std.proofs.lemmas.Str.{chars-nil}
 use Rattle.text_index.specs.Views.{shown}
 use Rattle.text_index.specs.Positions.{position_text}

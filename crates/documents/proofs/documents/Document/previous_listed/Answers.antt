@@ -1,5 +1,4 @@
-use Rattle.std.proofs.Common.{ap, ◌∙◌, subst, length, arith}
-use Rattle.std.specs.Prelude.{string_bytes, chars, nat_le}
+use Rattle.std.proofs.Common.{ap, ◌∙◌, subst, length, arith, string_bytes, chars, nat_le}
 use Rattle.std.proofs.lemmas.Str.{IsUtf8-string_bytes, chars-nil}
 use Rattle.tcl_words.specs.ListText.{list_text}
 use Rattle.tcl_words.specs.ListGrowth.{Goes}

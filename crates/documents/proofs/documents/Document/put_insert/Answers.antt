@@ -1,5 +1,4 @@
-use Rattle.std.proofs.Common.{◌≤◌, length, refl, sym, ap, subst, arith}
-use Rattle.std.specs.Prelude.{Result}
+use Rattle.std.proofs.Common.{◌≤◌, length, refl, sym, ap, subst, arith, Result}
 use Rattle.text_model.specs.Content.{Content}
 use Rattle.command_effects.specs.declared.answers.Answer.{Answer}
 use Rattle.command_effects.specs.declared.answers.Answer.TheVariants.{Empty}

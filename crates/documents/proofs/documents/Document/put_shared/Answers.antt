@@ -1,5 +1,4 @@
-use Rattle.std.proofs.Common.{◌≡◌, ◌≤◌, None, Some, length, sym, ap, ◌∙◌, subst, refl, arith}
-use Rattle.std.specs.Prelude.{Result, chars, option_map}
+use Rattle.std.proofs.Common.{◌≡◌, ◌≤◌, None, Some, length, sym, ap, ◌∙◌, subst, refl, arith, Result, chars, option_map}
 use Rattle.mark_table.specs.SharedMarks.{number_of}
 use Rattle.text_model.specs.declared.places.MarkNo.{MarkNo}
 use Rattle.command_effects.specs.declared.answers.Answer.{Answer}

@@ -1,5 +1,4 @@
-use Rattle.std.proofs.Common.{sym, ap, ◌∙◌, arith}
-use Rattle.std.specs.Prelude.{is_some}
+use Rattle.std.proofs.Common.{sym, ap, ◌∙◌, arith, is_some}
 use Rattle.mark_table.specs.Order.{rank_of}
 use Rattle.documents.specs.Documents.{widget_at}
 use Rattle.documents.specs.Inside.{parts_of}

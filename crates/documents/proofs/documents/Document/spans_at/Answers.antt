@@ -1,5 +1,4 @@
-use Rattle.std.proofs.Common.{◌≡◌, ◌<◌, ◌-◌, length, refl, sym, subst, Ok, Err}
-use Rattle.std.specs.Prelude.{IfOk}
+use Rattle.std.proofs.Common.{◌≡◌, ◌<◌, ◌-◌, length, refl, sym, subst, Ok, Err, IfOk}
 use Rattle.std.specs.List.{All}
 use Rattle.edit_ops.specs.Tagging.{SpanFits}
 use Rattle.command_effects.specs.Ranges.{spans_of}

@@ -1,5 +1,4 @@
-use Rattle.std.proofs.Common.{◌≡◌, ◌+◌, ◌-◌, ◌≤◌, ap, ◌∙◌, arith}
-use Rattle.std.specs.Prelude.{slice_range}
+use Rattle.std.proofs.Common.{◌≡◌, ◌+◌, ◌-◌, ◌≤◌, ap, ◌∙◌, arith, slice_range}
 use Rattle.text_model.specs.Content.{characters}
 use Rattle.documents.proofs.ViewLaws.{part-of-part}
 use Rattle.documents.proofs.documents.Document.text_between.Goals as goal

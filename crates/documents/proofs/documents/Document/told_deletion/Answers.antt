@@ -1,10 +1,11 @@
 use Rattle.std.proofs.Common.{◌-◌, ap, ap₂, arith, length, subst, sym}
-use Rattle.edit_ops.specs.Deletions.{AreApart}
+use Rattle.edit_ops.specs.Told.{AreHunks}
+use Rattle.edit_ops.proofs.HunkLaws.{taking-stand}
 use Rattle.documents.specs.Inside.{parts_of}
 use Rattle.documents.specs.Kept.{Stands}
 use Rattle.documents.proofs.PartsLaws.{sits}
 use Rattle.documents.proofs.SpanLaws.{spans-in}
-use Rattle.documents.proofs.ToldLaws.{apart-ordered, deletion-told}
+use Rattle.documents.proofs.ToldLaws.{deletion-told}
 use Rattle.documents.proofs.ViewLaws.{active-is, end-found, shown-length, start-found, within-is}
 use Rattle.documents.proofs.documents.Document.told_deletion.Goals as goal
 
@@ -91,11 +92,15 @@ deleted_runs-requires-clause-spans g c =
     c.deref-3.ensures.value in
     λ k d inside. (let h = (within.1 k d inside).within in omega (arith, h, end))
 
-pub remove_spans-requires : goal.remove_spans-requires
-remove_spans-requires g c =
-    let long = length (g.S.TextStore.content c.self.inside.text.store).cells in
-    apart-ordered long c.deref-4.result.now
-    (subst (AreApart long) (sym c.deref-4.ensures.value) c.in_ok-runs.ensures.apart)
+pub tell-requires-clause-stand : goal.tell-requires-clause-stand
+tell-requires-clause-stand g c =
+    let parts = parts_of g.S.TextStore.content c.self.inside in
+    let long = length parts.content.cells in
+    subst (AreHunks 0 long) (sym c.in_ok-hunks.ensures)
+    (taking-stand long long c.in_ok-runs.runs.items c.in_ok-runs.ensures.apart (omega arith))
+
+pub tell-requires-clause-short : goal.tell-requires-clause-short
+tell-requires-clause-short g c = let short = c.self.invariant.kept.short in omega (arith, short)
 
 pub returns : goal.returns
 returns g c =
@@ -117,6 +122,5 @@ returns g c =
     (ap₂ (λ e s. e - s) end start) c.requires.within (omega (arith, shows.1)) c.in_ok-spans.ensures
     c.deref-3.ensures.value in
     deletion-told parts document c.args.seat slot c.start_of-start.result c.end_of-end.result c.args.places.now spans
-    c.in_ok-runs.runs.items c.deref-4.result.now c.new-told.result c.remove_spans.new.self stands seated start end
-    within.0 c.deref-4.ensures.value c.in_ok-runs.ensures.runs c.in_ok-runs.ensures.apart c.new-told.ensures
-    c.in_ok-remove_spans.ensures
+    c.in_ok-runs.runs.items c.in_ok-hunks.hunks.items c.in_ok-tell.field-0 stands seated start end within.0
+    c.in_ok-runs.ensures.runs c.in_ok-runs.ensures.apart c.in_ok-hunks.ensures c.in_ok-tell.ensures

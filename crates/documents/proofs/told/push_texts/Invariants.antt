@@ -1,0 +1,7 @@
+use Rattle.std.proofs.Common.{◌≡◌, ◌++◌}
+use Rattle.edit_ops.specs.Told.{putting}
+use Rattle.documents.proofs.ToldLaws.{texts_of}
+use Rattle.documents.proofs.told.push_texts.Given as goal
+
+abbrev pub invariant-loop-pair : goal.invariant-loop-pair
+invariant-loop-pair l = l.hunks.items ≡ l.fn.hunks.items ++ putting l.fn.at (texts_of l.yielded)
