@@ -1,7 +1,7 @@
 -- What holds of a document before a command of a widget, and after each edit of it, holds after the command.
 use Rattle.std.proofs.Common.{◌≡◌, ℕ, suc, ◌+◌, ◌≤◌, true, false, List, [], ◌∷◌, Option, Some, None, Ok, Err, length}
 use Rattle.std.proofs.Common.{refl, ap, ◌∙◌}
-use Rattle.std.specs.Prelude.{Result, nat_lt, ok_or, ⊤, if◌then◌else◌}
+use Rattle.std.specs.Prelude.{Result, nat_le, nat_lt, ok_or, ⊤, if◌then◌else◌}
 use Rattle.std.specs.List.{All}
 use Rattle.std.proofs.lemmas.Bool.{ltb-false}
 use Rattle.std.proofs.lemmas.List.Elements.{All-cons, All-nil}
@@ -20,26 +20,35 @@ use Rattle.command_effects.specs.Arguments.{first_of, first_two_of, none_or_one_
 use Rattle.command_effects.specs.Faults.{with_value}
 use Rattle.command_effects.specs.Lists.{Pair, pairs_at}
 use Rattle.command_effects.specs.Marking.{gravity_of}
+use Rattle.command_effects.specs.Words.{is_among}
+use Rattle.command_effects.specs.declared.answers.Answer.TheVariants.{Empty, Word}
 use Rattle.command_effects.specs.declared.answers.Fault.{Fault}
-use Rattle.command_effects.specs.declared.answers.Fault.TheVariants.{BadBoolean, IndexOrder}
+use Rattle.command_effects.specs.declared.answers.Fault.TheVariants.{BadBoolean, IndexOrder, InvalidCommandName}
+use Rattle.command_effects.specs.declared.answers.Fault.TheVariants.{TooManyWidgets, WindowExists}
+use Rattle.command_effects.specs.declared.settings.Settings.{Settings}
 use Rattle.documents.specs.Deletions.{delete_places, replace_span}
 use Rattle.documents.specs.Documents.{Document, Widget}
-use Rattle.documents.specs.History.{modified_set}
+use Rattle.documents.specs.History.{edit_reset, modified_set}
 use Rattle.documents.specs.Indices.{place_at}
 use Rattle.documents.specs.Marks.{mark_offset, place_named}
-use Rattle.documents.specs.Promise.{change_with, refused, unless_idle}
+use Rattle.documents.specs.Kept.{is_window_name}
+use Rattle.documents.specs.Options.{settings_of, with_settings}
+use Rattle.documents.specs.Promise.{Change, answered, change_with, refused, unless_idle}
 use Rattle.documents.specs.Tags.{add_spans, lowered, raised, remove_spans, reordered}
 use Rattle.documents.specs.Texts.{insert_at, insertion_offset}
 use Rattle.documents.specs.Views.{shown, view_end}
-use Rattle.documents.proofs.CarriedLaws.{IsCarried, IsStill, carried-active, carried-with}
+use Rattle.documents.specs.Widgets.{with_peer}
+use Rattle.documents.proofs.CarriedLaws.{IsCarried, IsQuiet, IsStill, carried-active, carried-with}
 use Rattle.documents.proofs.IndexPlaceLaws.{place-within}
 use Rattle.peers.specs.Commands.{Call, done}
 use Rattle.peers.specs.Deletions.{delete, replace, replace_places, replace_words}
 use Rattle.peers.specs.History.{edit_modified, modified_word}
 use Rattle.peers.specs.Marks.{gravity_asked, gravity_given, gravity_words, mark_gravity, mark_set, set_at, set_words}
+use Rattle.peers.specs.Options.{configure, settings_given}
 use Rattle.peers.specs.Ranges.{places_at}
 use Rattle.peers.specs.Tags.{add_words, remove_words, tag_add, tag_lower, tag_raise, tag_remove}
 use Rattle.peers.specs.Texts.{insert, insert_pairs, insert_words}
+use Rattle.peers.specs.Widgets.{peer_create, peer_settings, peer_with}
 
 -- ---- places of indices
 
@@ -96,6 +105,12 @@ IsTextEdit EditUndo = ⊤
 IsTextEdit EditRedo = ⊤
 IsTextEdit command = ⊥
 
+-- a command that sets marks or takes them out
+abbrev pub IsMarkMove : Command → Type 0
+IsMarkMove MarkSet = ⊤
+IsMarkMove MarkUnset = ⊤
+IsMarkMove command = ⊥
+
 -- the call of a widget's command with these words
 abbrev pub calling : LimitTable → List (List ℕ) → Widget → List (List ℕ) → ℕ → List (List ℕ) → Call
 calling limits windows widget switches position arguments = record {
@@ -107,69 +122,109 @@ calling limits windows widget switches position arguments = record {
   arguments = arguments;
 }
 
+-- ---- commands that leave the characters and move no mark
+
+module _ (limits : LimitTable) (document : Document) (widget : Widget) (P : Document →
+    Type 0) (quiet : IsQuiet limits document widget P) where
+  asks-gravity : (position : ℕ) (found : Option Place) → P (gravity_asked document position found).document
+  asks-gravity position None = quiet.same
+  asks-gravity position (Some place) = quiet.same
+
+  gives-gravity : (position : ℕ) (name : List ℕ) (found : Option Place) (gravity : Option Gravity) →
+      place_named document widget name ≡ found → P (gravity_given document widget position name found gravity).document
+  gives-gravity position name None gravity is = quiet.same
+  gives-gravity position name (Some place) None is = quiet.same
+  gives-gravity position name (Some place) (Some gravity) is = quiet.turned name place gravity is
+
+  turns-words : (position : ℕ) (words : List ℕ × Option (List ℕ)) →
+      P (gravity_words document widget position words).document
+  turns-words position (name, None) = asks-gravity position (place_named document widget name)
+  turns-words position (name, Some word) =
+      gives-gravity position name (place_named document widget name) (gravity_of word) refl
+
+  turns : (position : ℕ) (words : List (List ℕ)) → P (mark_gravity document widget position words).document
+  turns position words =
+      carried-with P document (one_or_two_of words) (gravity_words document widget position) quiet.same (λ given _. turns-words position given)
+
+  adds : (position : ℕ) (words : List (List ℕ)) → P (tag_add limits document widget position words).document
+  adds position words =
+      carried-with P document (first_of words) (add_words limits document widget position) quiet.same (λ given _.
+      carried-with P document (places_at document widget (position + 1) given.1)
+      (add_spans limits document widget given.0) quiet.same (λ places _.
+      quiet.added given.0 places))
+
+  removes : (position : ℕ) (words : List (List ℕ)) → P (tag_remove document widget position words).document
+  removes position words =
+      carried-with P document (first_of words) (remove_words document widget position) quiet.same (λ given _.
+      carried-with P document (places_at document widget (position + 1) given.1) (remove_spans document widget given.0)
+      quiet.same (λ places _.
+      quiet.removed given.0 places))
+
+  raises : (position : ℕ) (words : List (List ℕ)) → P (tag_raise document position words).document
+  raises position words = carried-with P document (one_or_two_of words) (reordered document position raised) quiet.same
+      (λ given _. quiet.ordered position raised given)
+
+  lowers : (position : ℕ) (words : List (List ℕ)) → P (tag_lower document position words).document
+  lowers position words = carried-with P document (one_or_two_of words) (reordered document position lowered) quiet.same
+      (λ given _. quiet.ordered position lowered given)
+
+  modifies-word : (position : ℕ) (word : Option (List ℕ)) → P (modified_word document position word).document
+  modifies-word position None = quiet.same
+  modifies-word position (Some word) =
+      carried-with P document (ok_or (boolean_of word) (BadBoolean position)) (modified_set document) quiet.same
+      (λ flag _. quiet.modified flag)
+
+  modifies : (position : ℕ) (words : List (List ℕ)) → P (edit_modified document position words).document
+  modifies position words =
+      carried-with P document (none_or_one_of words) (modified_word document position) quiet.same (λ word _.
+      modifies-word position word)
+
+  -- any command, where it holds after those that edit the text or move marks, and after three others
+  pub quiet-done : (command : Command) (windows switches : List (List ℕ)) (position : ℕ) (arguments : List (List ℕ))
+      → (IsTextEdit command →
+      P (done command document (calling limits windows widget switches position arguments)).document)
+      → (IsMarkMove command →
+      P (done command document (calling limits windows widget switches position arguments)).document)
+      → (IsOther command →
+      P (done command document (calling limits windows widget switches position arguments)).document)
+      → P (done command document (calling limits windows widget switches position arguments)).document
+  quiet-done Insert windows switches position arguments edit move other = edit tt
+  quiet-done Delete windows switches position arguments edit move other = edit tt
+  quiet-done Replace windows switches position arguments edit move other = edit tt
+  quiet-done MarkGravity windows switches position arguments edit move other = turns position arguments
+  quiet-done MarkSet windows switches position arguments edit move other = move tt
+  quiet-done MarkUnset windows switches position arguments edit move other = move tt
+  quiet-done TagAdd windows switches position arguments edit move other = adds position arguments
+  quiet-done TagRemove windows switches position arguments edit move other = removes position arguments
+  quiet-done TagDelete windows switches position arguments edit move other = quiet.untagged arguments
+  quiet-done TagRaise windows switches position arguments edit move other = raises position arguments
+  quiet-done TagLower windows switches position arguments edit move other = lowers position arguments
+  quiet-done Configure windows switches position arguments edit move other = other tt
+  quiet-done EditUndo windows switches position arguments edit move other = edit tt
+  quiet-done EditRedo windows switches position arguments edit move other = edit tt
+  quiet-done EditModified windows switches position arguments edit move other = modifies position arguments
+  quiet-done EditReset windows switches position arguments edit move other = other tt
+  quiet-done EditSeparator windows switches position arguments edit move other = quiet.separated
+  quiet-done PeerCreate windows switches position arguments edit move other = other tt
+  quiet-done command windows switches position arguments edit move other = quiet.same
+
 -- ---- commands that leave the characters
 
 module _ (limits : LimitTable) (document : Document) (widget : Widget) (P : Document →
     Type 0) (still : IsStill limits document widget P) where
   sets : (position : ℕ) (words : List (List ℕ)) → P (mark_set limits document widget position words).document
   sets position words =
-      carried-with P document (two_of words) (set_words limits document widget position) still.same (λ given _.
+      carried-with P document (two_of words) (set_words limits document widget position) still.quiet.same (λ given _.
       carried-with P document (place_at document widget (position + 1) given.1) (set_at limits document widget given.0)
-      still.same (λ place _.
+      still.quiet.same (λ place _.
       still.set given.0 (mark_offset document widget given.0 place) (place_named document widget given.0)))
 
-  asks-gravity : (position : ℕ) (found : Option Place) → P (gravity_asked document position found).document
-  asks-gravity position None = still.same
-  asks-gravity position (Some place) = still.same
-
-  gives-gravity : (position : ℕ) (name : List ℕ) (found : Option Place) (gravity : Option Gravity) →
-      P (gravity_given document widget position name found gravity).document
-  gives-gravity position name None gravity = still.same
-  gives-gravity position name (Some place) None = still.same
-  gives-gravity position name (Some place) (Some gravity) = still.turned name (record place { gravity = gravity })
-
-  turns-words : (position : ℕ) (words : List ℕ × Option (List ℕ)) →
-      P (gravity_words document widget position words).document
-  turns-words position (name, None) = asks-gravity position (place_named document widget name)
-  turns-words position (name, Some word) =
-      gives-gravity position name (place_named document widget name) (gravity_of word)
-
-  turns : (position : ℕ) (words : List (List ℕ)) → P (mark_gravity document widget position words).document
-  turns position words =
-      carried-with P document (one_or_two_of words) (gravity_words document widget position) still.same (λ given _. turns-words position given)
-
-  adds : (position : ℕ) (words : List (List ℕ)) → P (tag_add limits document widget position words).document
-  adds position words =
-      carried-with P document (first_of words) (add_words limits document widget position) still.same (λ given _.
-      carried-with P document (places_at document widget (position + 1) given.1)
-      (add_spans limits document widget given.0) still.same (λ places _.
-      still.added given.0 places))
-
-  removes : (position : ℕ) (words : List (List ℕ)) → P (tag_remove document widget position words).document
-  removes position words =
-      carried-with P document (first_of words) (remove_words document widget position) still.same (λ given _.
-      carried-with P document (places_at document widget (position + 1) given.1) (remove_spans document widget given.0)
-      still.same (λ places _.
-      still.removed given.0 places))
-
-  raises : (position : ℕ) (words : List (List ℕ)) → P (tag_raise document position words).document
-  raises position words = carried-with P document (one_or_two_of words) (reordered document position raised) still.same
-      (λ given _. still.ordered position raised given)
-
-  lowers : (position : ℕ) (words : List (List ℕ)) → P (tag_lower document position words).document
-  lowers position words = carried-with P document (one_or_two_of words) (reordered document position lowered) still.same
-      (λ given _. still.ordered position lowered given)
-
-  modifies-word : (position : ℕ) (word : Option (List ℕ)) → P (modified_word document position word).document
-  modifies-word position None = still.same
-  modifies-word position (Some word) =
-      carried-with P document (ok_or (boolean_of word) (BadBoolean position)) (modified_set document) still.same
-      (λ flag _. still.modified flag)
-
-  modifies : (position : ℕ) (words : List (List ℕ)) → P (edit_modified document position words).document
-  modifies position words =
-      carried-with P document (none_or_one_of words) (modified_word document position) still.same (λ word _.
-      modifies-word position word)
+  moves : (command : Command) (windows switches : List (List ℕ)) (position : ℕ) (arguments : List (List ℕ)) →
+      IsMarkMove command
+      → P (done command document (calling limits windows widget switches position arguments)).document
+  moves MarkSet windows switches position arguments is = sets position arguments
+  moves MarkUnset windows switches position arguments is = still.unset arguments
+  moves command windows switches position arguments is = absurd is
 
   -- any command, where it holds after those that edit the text, and after three others
   pub still-done : (command : Command) (windows switches : List (List ℕ)) (position : ℕ) (arguments : List (List ℕ))
@@ -178,25 +233,9 @@ module _ (limits : LimitTable) (document : Document) (widget : Widget) (P : Docu
       → (IsOther command →
       P (done command document (calling limits windows widget switches position arguments)).document)
       → P (done command document (calling limits windows widget switches position arguments)).document
-  still-done Insert windows switches position arguments edit other = edit tt
-  still-done Delete windows switches position arguments edit other = edit tt
-  still-done Replace windows switches position arguments edit other = edit tt
-  still-done MarkGravity windows switches position arguments edit other = turns position arguments
-  still-done MarkSet windows switches position arguments edit other = sets position arguments
-  still-done MarkUnset windows switches position arguments edit other = still.unset arguments
-  still-done TagAdd windows switches position arguments edit other = adds position arguments
-  still-done TagRemove windows switches position arguments edit other = removes position arguments
-  still-done TagDelete windows switches position arguments edit other = still.untagged arguments
-  still-done TagRaise windows switches position arguments edit other = raises position arguments
-  still-done TagLower windows switches position arguments edit other = lowers position arguments
-  still-done Configure windows switches position arguments edit other = other tt
-  still-done EditUndo windows switches position arguments edit other = edit tt
-  still-done EditRedo windows switches position arguments edit other = edit tt
-  still-done EditModified windows switches position arguments edit other = modifies position arguments
-  still-done EditReset windows switches position arguments edit other = other tt
-  still-done EditSeparator windows switches position arguments edit other = still.separated
-  still-done PeerCreate windows switches position arguments edit other = other tt
-  still-done command windows switches position arguments edit other = still.same
+  still-done command windows switches position arguments edit other =
+      quiet-done limits document widget P still.quiet command windows switches position arguments edit
+      (moves command windows switches position arguments) other
 
 -- ---- commands that edit the text
 
@@ -204,15 +243,15 @@ module _ (limits : LimitTable) (document : Document) (widget : Widget) (P : Docu
     Type 0) (carried : IsCarried limits document widget P) where
   inserts : (position : ℕ) (words : List (List ℕ)) → P (insert limits document widget position words).document
   inserts position words =
-      carried-with P document (first_of words) (insert_words limits document widget position) carried.still.same
+      carried-with P document (first_of words) (insert_words limits document widget position) carried.still.quiet.same
       (λ given _.
       carried-with P document (place_at document widget position given.0)
-      (insert_pairs limits document widget (pairs_at (position + 1) given.1)) carried.still.same (λ place _.
+      (insert_pairs limits document widget (pairs_at (position + 1) given.1)) carried.still.quiet.same (λ place _.
       carried-with P document (pairs_at (position + 1) given.1)
       (λ pairs. unless_idle widget document (insert_at limits document widget (insertion_offset document widget place)
-      pairs)) carried.still.same (λ pairs _.
+      pairs)) carried.still.quiet.same (λ pairs _.
       carried-active P document widget (insert_at limits document widget (insertion_offset document widget place) pairs)
-      carried.still.same
+      carried.still.quiet.same
       (carried.inserted place pairs))))
 
   replaces-places : (second from to : ℕ) (pairs : List Pair) →
@@ -222,32 +261,32 @@ module _ (limits : LimitTable) (document : Document) (widget : Widget) (P : Docu
       (insertion_offset document widget to) pairs in
       elim (nat_lt to from) as (λ b. nat_lt to from ≡ b →
       P (if b then refused document (IndexOrder second) else unless_idle widget document change).document) [
-        | true ↦ λ _. carried.still.same
-        | false ↦ λ ordered. carried-active P document widget change carried.still.same (λ busy.
+        | true ↦ λ _. carried.still.quiet.same
+        | false ↦ λ ordered. carried-active P document widget change carried.still.quiet.same (λ busy.
             carried.replaced from to pairs busy (ltb-false to from ordered))
       ] refl
 
   replaces : (position : ℕ) (words : List (List ℕ)) → P (replace limits document widget position words).document
   replaces position words =
-      carried-with P document (first_two_of words) (replace_words limits document widget position) carried.still.same
+      carried-with P document (first_two_of words) (replace_words limits document widget position) carried.still.quiet.same
       (λ given _.
       carried-with P document (place_at document widget position given.0) (λ from.
       change_with document (place_at document widget (position + 1) given.1) (λ to.
       change_with document (pairs_at (position + 2) given.2) (replace_places limits document widget (position + 1) from to)))
-      carried.still.same (λ from _.
+      carried.still.quiet.same (λ from _.
       carried-with P document (place_at document widget (position + 1) given.1) (λ to.
       change_with document (pairs_at (position + 2) given.2) (replace_places limits document widget (position + 1) from to))
-      carried.still.same (λ to _.
+      carried.still.quiet.same (λ to _.
       carried-with P document (pairs_at (position + 2) given.2) (replace_places limits document widget (position + 1) from to)
-      carried.still.same (λ pairs _.
+      carried.still.quiet.same (λ pairs _.
       replaces-places (position + 1) from to pairs))))
 
   deletes : (position : ℕ) (words : List (List ℕ)) → P (delete document widget position words).document
   deletes position words =
       carried-with P document (places_at document widget position words) (λ places.
-      unless_idle widget document (delete_places document widget places)) carried.still.same
+      unless_idle widget document (delete_places document widget places)) carried.still.quiet.same
       (λ places is.
-      carried-active P document widget (delete_places document widget places) carried.still.same (λ busy.
+      carried-active P document widget (delete_places document widget places) carried.still.quiet.same (λ busy.
       carried.deleted places busy (λ within. places-within document widget position words places within is)))
 
   edits : (command : Command) (windows switches : List (List ℕ)) (position : ℕ) (arguments : List (List ℕ)) →
@@ -269,3 +308,48 @@ module _ (limits : LimitTable) (document : Document) (widget : Widget) (P : Docu
   carried-done command windows switches position arguments other =
       still-done limits document widget P carried.still command windows switches position arguments
       (edits command windows switches position arguments) other
+
+-- ---- the three others
+
+module _ (limits : LimitTable) (windows : List (List ℕ)) (document : Document) (widget : Widget) (P : Document →
+    Type 0) (same : P document) (configured : (settings : Settings) → P (with_settings widget settings document))
+    (peered : (name : List ℕ) (settings : Settings) → P (with_peer name settings document))
+    (reset : P (edit_reset document).document) where
+  configures : (position : ℕ) (words : List (List ℕ)) → P (configure document widget position words).document
+  configures position words =
+      carried-with P document (settings_given document position words (settings_of document widget))
+      (λ settings. answered (with_settings widget settings document) Empty) same (λ settings _. configured settings)
+
+  peers-with : (position : ℕ) (name : List ℕ) (settings : Settings)
+      → P (peer_with limits windows document position name settings).document
+  peers-with position name settings =
+      let made : Change = answered (with_peer name settings document) (Word position) in
+      let few : Change = if nat_le limits.widgets (length windows) then refused document TooManyWidgets else made in
+      elim (is_among name windows) as
+      (λ b. P (if b then refused document (WindowExists position) else few).document) [
+        | true ↦ same
+        | false ↦ elim (nat_le limits.widgets (length windows)) as
+            (λ b. P (if b then refused document TooManyWidgets else made).document)
+            [ true ↦ same | false ↦ peered name settings ]
+      ]
+
+  peers : (position : ℕ) (words : List (List ℕ)) → P (peer_create limits windows document widget position words).document
+  peers position [] = same
+  peers position (name ∷ words) =
+      let found = settings_given document (position + 1) words (peer_settings document widget) in
+      elim (is_window_name name) as (λ b. P
+      (if b then change_with document found (peer_with limits windows document position name)
+      else refused document (InvalidCommandName position)).document) [
+        | true ↦ carried-with P document found (peer_with limits windows document position name) same
+            (λ settings _. peers-with position name settings)
+        | false ↦ same
+      ]
+
+  -- what holds of a document, after options of its widget, a peer and a reset
+  pub other-done : (command : Command) (switches : List (List ℕ)) (position : ℕ) (arguments : List (List ℕ))
+      → IsOther command
+      → P (done command document (calling limits windows widget switches position arguments)).document
+  other-done Configure switches position arguments is = configures position arguments
+  other-done EditReset switches position arguments is = reset
+  other-done PeerCreate switches position arguments is = peers position arguments
+  other-done command switches position arguments is = absurd is

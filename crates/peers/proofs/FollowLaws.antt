@@ -1,8 +1,7 @@
 -- A document that keeps all its actions leads back to the text from the start, through commands that spare it.
 use Rattle.std.proofs.Common.{◌≡◌, ℕ, zero, suc, ◌<◌, ◌==◌, ◌||◌, Bool, true, false, not, List, [], ◌∷◌, ◌++◌, Option}
-use Rattle.std.proofs.Common.{Some, None, Ok, Err, filter, length, take, refl, sym, ap, ◌∙◌, arith, subst}
-use Rattle.std.proofs.Common.{true≢false, inl, inr}
-use Rattle.std.specs.Prelude.{Result, ◌&&◌, is_ok, is_some, nat_le, slice_set, if◌then◌else◌}
+use Rattle.std.proofs.Common.{Some, None, Ok, Err, filter, length, take, refl, sym, ap, ◌∙◌, arith, subst, true≢false}
+use Rattle.std.proofs.Common.{inl, inr, Result, ◌&&◌, is_ok, is_some, nat_le, slice_set, if◌then◌else◌}
 use Rattle.std.specs.List.{AllByRecursion, IsDistinct}
 use Rattle.std.specs.Str.{chars}
 use Rattle.std.proofs.lemmas.Bool.{and_parts, eqb-true, false_from_ne_true}

@@ -1,8 +1,7 @@
 -- A document among others, by those before it: as one of them changes, one is added, and some end.
 use Rattle.std.proofs.Common.{◌≡◌, ℕ, zero, suc, ◌<◌, ◌≤◌, ◌||◌, Bool, true, false, cond, not, List, [], ◌∷◌, Some}
 use Rattle.std.proofs.Common.{None, filter, length, map, take, option_map, refl, sym, ap, ◌∙◌, arith, subst, true≢false}
-use Rattle.std.proofs.Common.{◌⊎◌, inl, inr}
-use Rattle.std.specs.Prelude.{find, nat_lt, slice_set, if◌then◌else◌}
+use Rattle.std.proofs.Common.{◌⊎◌, inl, inr, find, nat_lt, slice_set, if◌then◌else◌}
 use Rattle.std.specs.List.{AllByRecursion}
 use Rattle.std.proofs.lemmas.Bool.{lt-ltb, ltb-true}
 use Rattle.std.proofs.lemmas.Slice.Eq.{bytes_eq-Decides}

@@ -1,7 +1,6 @@
 -- The texts of ranges, as a list of those that aren't empty.
 use Rattle.std.proofs.Common.{◌≡◌, ◌≢◌, ℕ, zero, suc, true≢false, ◌-◌, ◌<◌, ◌≤◌, ◌==◌, true, false, cond, List, [], ◌∷◌}
-use Rattle.std.proofs.Common.{◌++◌, length, take, drop, get_or, refl, sym, ap, subst, ◌∙◌, arith}
-use Rattle.std.specs.Prelude.{filter, if◌then◌else◌}
+use Rattle.std.proofs.Common.{◌++◌, length, take, drop, get_or, refl, sym, ap, subst, ◌∙◌, arith, filter, if◌then◌else◌}
 use Rattle.std.proofs.lemmas.List.{take_rest, append_assoc, append-nil}
 use Rattle.tcl_words.specs.ListGrowth.{Goes}
 use Rattle.peers.specs.Texts.{text_of, texts_of_places, got}

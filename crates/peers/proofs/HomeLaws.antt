@@ -2,8 +2,7 @@
 use Rattle.std.proofs.Common.{◌≡◌, ℕ, zero, suc, ◌+◌, ◌-◌, ◌<◌, ◌≤◌, Bool, true, false, cond, List, [], ◌∷◌, ◌++◌}
 use Rattle.std.proofs.Common.{length, map, take, drop, get_or, replicate, insert, slice_set, filter, flat_map}
 use Rattle.std.proofs.Common.{option_map, is_some, Option, Some, None, if◌then◌else◌, refl, sym, ap, ap₂, ◌∙◌}
-use Rattle.std.proofs.Common.{append_assoc, append-nil, arith}
-use Rattle.std.specs.Prelude.{◌||◌}
+use Rattle.std.proofs.Common.{append_assoc, append-nil, arith, ◌||◌}
 use Rattle.std.proofs.lemmas.List.{map-append, length-append, length-map, length-replicate, length-take, take-append-le}
 use Rattle.std.proofs.lemmas.List.{take_all, take_more}
 use lib.Seq.{take-append-add}

@@ -1,7 +1,6 @@
 -- Options of which none says what is kept leave that, and so do the commands that take options.
 use Rattle.std.proofs.Common.{◌≡◌, ℕ, ◌+◌, Bool, true, false, List, [], ◌∷◌, Ok, Err, refl, sym, ap, ◌∙◌, subst}
-use Rattle.std.proofs.Common.{true≢false}
-use Rattle.std.specs.Prelude.{◌&&◌, ◌||◌, IfOk, Result, drop, is_ok, nat_le, ok_or, length, if◌then◌else◌}
+use Rattle.std.proofs.Common.{true≢false, ◌&&◌, ◌||◌, IfOk, Result, drop, is_ok, nat_le, ok_or, length, if◌then◌else◌}
 use Rattle.text_model.specs.Lines.{lines}
 use Rattle.text_model.specs.LimitTable.{LimitTable}
 use Rattle.undo_stack.specs.History.{limit_of}

@@ -7,6 +7,7 @@ pub mod HomeLaws
 pub mod HomeStepLaws
 pub mod KeepingLaws
 pub mod MakesLaws
+pub mod MarksToldLaws
 pub mod NameLaws
 pub mod OptionLaws
 pub mod PeerLaws

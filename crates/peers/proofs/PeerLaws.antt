@@ -1,6 +1,5 @@
 -- What `peer create` makes, as its words are read one after the other.
-use Rattle.std.proofs.Common.{◌≡◌, ℕ, ◌+◌, Bool, true, false, List, ap, ◌∙◌}
-use Rattle.std.specs.Prelude.{Ok, Err, Result, if◌then◌else◌}
+use Rattle.std.proofs.Common.{◌≡◌, ℕ, ◌+◌, Bool, true, false, List, ap, ◌∙◌, Ok, Err, Result, if◌then◌else◌}
 use Rattle.text_model.specs.LimitTable.{LimitTable}
 use Rattle.command_effects.specs.Arguments.{first_of}
 use Rattle.command_effects.specs.declared.answers.Fault.{Fault}

@@ -1,7 +1,6 @@
 -- The places of indices, one after the other.
 use Rattle.std.proofs.Common.{◌≡◌, ℕ, zero, suc, ◌+◌, ◌<◌, List, [], ◌∷◌, ◌++◌, length, drop, get_or, refl, sym, ap}
-use Rattle.std.proofs.Common.{◌∙◌, arith}
-use Rattle.std.specs.Prelude.{Result, Ok, Err, String, chars, string_bytes}
+use Rattle.std.proofs.Common.{◌∙◌, arith, Result, Ok, Err, String, chars, string_bytes}
 use Rattle.std.proofs.lemmas.List.{append_assoc}
 use Rattle.tcl_words.specs.Unread.{texts_of}
 use Rattle.command_effects.specs.declared.answers.Fault.{Fault}

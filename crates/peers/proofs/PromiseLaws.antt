@@ -1,6 +1,5 @@
 -- How a promise goes through a command, word by word.
-use Rattle.std.proofs.Common.{◌≡◌, ◌≢◌, refl, sym, ap, ◌∙◌}
-use Rattle.std.specs.Prelude.{Result, Ok, Err, IfErr}
+use Rattle.std.proofs.Common.{◌≡◌, ◌≢◌, refl, sym, ap, ◌∙◌, Result, Ok, Err, IfErr}
 use Rattle.text_model.specs.LimitTable.{LimitTable}
 use Rattle.command_effects.specs.declared.answers.Answer.{Answer}
 use Rattle.command_effects.specs.declared.answers.Fault.{Fault}

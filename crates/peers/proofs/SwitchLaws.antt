@@ -1,7 +1,6 @@
 -- The switches of a command, one word after the other.
 use Rattle.std.proofs.Common.{◌≡◌, ℕ, ◌+◌, ◌<◌, true, false, cond, List, [], ◌∷◌, ◌++◌, length, take, refl, sym, ap}
-use Rattle.std.proofs.Common.{◌∙◌}
-use Rattle.std.specs.Prelude.{Some, String, ◌||◌, chars, get_or, if◌then◌else◌, reverse, string_bytes}
+use Rattle.std.proofs.Common.{◌∙◌, Some, String, ◌||◌, chars, get_or, if◌then◌else◌, reverse, string_bytes}
 use Rattle.std.specs.List.{find}
 use Rattle.std.proofs.lemmas.List.{reverse-append}
 use Rattle.command_effects.proofs.SlotLaws.{texts-more}

@@ -1,82 +1,23 @@
 -- What is told of a command of a widget, by its words; and a command that is no edit of the text leaves the characters.
-use Rattle.std.proofs.Common.{◌≡◌, ◌≢◌, ℕ, ◌+◌, true, false, List, [], ◌∷◌, Ok, Err, length, refl, sym, subst}
-use Rattle.std.specs.Prelude.{IfOk, Result, nat_le, if◌then◌else◌}
+use Rattle.std.proofs.Common.{◌≡◌, ◌≢◌, ℕ, List, [], Ok, Err, refl, sym, subst, IfOk, Result}
 use Rattle.text_model.specs.LimitTable.{LimitTable}
 use Rattle.command_table.specs.Reading.{reading}
 use Rattle.command_table.specs.declared.commands.Command.{Command}
-use Rattle.command_table.specs.declared.commands.Command.TheVariants.{Configure, Delete, EditRedo, EditReset, EditUndo}
-use Rattle.command_table.specs.declared.commands.Command.TheVariants.{Insert, PeerCreate, Replace}
+use Rattle.command_table.specs.declared.commands.Command.TheVariants.{Delete, EditRedo, EditUndo}
+use Rattle.command_table.specs.declared.commands.Command.TheVariants.{Insert, Replace}
 use Rattle.command_table.specs.declared.shapes.Shape.{Shape}
 use Rattle.edit_ops.specs.declared.changes.TextChange.{TextChange}
-use Rattle.command_effects.specs.declared.answers.Answer.TheVariants.{Empty, Word}
 use Rattle.command_effects.specs.declared.answers.Fault.{Fault}
-use Rattle.command_effects.specs.declared.answers.Fault.TheVariants.{InvalidCommandName, TooManyWidgets}
-use Rattle.command_effects.specs.declared.answers.Fault.TheVariants.{WindowExists}
-use Rattle.command_effects.specs.declared.settings.Settings.{Settings}
-use Rattle.command_effects.specs.Words.{is_among}
 use Rattle.documents.specs.Documents.{Document, Widget}
-use Rattle.documents.specs.Kept.{is_window_name}
-use Rattle.documents.specs.Options.{settings_of, with_settings}
-use Rattle.documents.specs.Promise.{Change, answered, change_with, refused}
+use Rattle.documents.specs.Promise.{Change, change_with}
 use Rattle.documents.specs.Told.{Foretells}
-use Rattle.documents.specs.Widgets.{with_peer}
 use Rattle.documents.proofs.StillTextLaws.{HasTextOf, text-still}
 use Rattle.peers.specs.Commands.{arguments_of, call_of, command as command_of, done, shaped, switches_of}
-use Rattle.peers.specs.Options.{configure, settings_given}
-use Rattle.peers.specs.Widgets.{peer_create, peer_settings, peer_with}
-use Rattle.peers.proofs.DoneLaws.{IsOther, IsTextEdit, calling, still-done}
+use Rattle.peers.proofs.DoneLaws.{IsTextEdit, calling, other-done, still-done}
 
 -- ---- commands that leave the text
 
-text-configured : (document : Document) (widget : Widget) (position : ℕ) (words : List (List ℕ))
-    → HasTextOf document (configure document widget position words).document
-text-configured document widget position words =
-    by (settings_given document position words (settings_of document widget))
-  where
-    by : (found : Result Settings Fault) → HasTextOf document (change_with document found (λ settings.
-        answered (with_settings widget settings document) Empty)).document
-    by (Err fault) = refl
-    by (Ok settings) = refl
-
 module _ (limits : LimitTable) (windows : List (List ℕ)) (document : Document) (widget : Widget) where
-  text-with : (position : ℕ) (name : List ℕ) (settings : Settings)
-      → HasTextOf document (peer_with limits windows document position name settings).document
-  text-with position name settings =
-      let made : Change = answered (with_peer name settings document) (Word position) in
-      let few : Change = if nat_le limits.widgets (length windows) then refused document TooManyWidgets else made in
-      elim (is_among name windows) as
-      (λ b. HasTextOf document (if b then refused document (WindowExists position) else few).document) [
-        | true ↦ refl
-        | false ↦ elim (nat_le limits.widgets (length windows)) as
-            (λ b. HasTextOf document (if b then refused document TooManyWidgets else made).document)
-            [ true ↦ refl | false ↦ refl ]
-      ]
-
-  text-given : (position : ℕ) (name : List ℕ) (found : Result Settings Fault)
-      → HasTextOf document (change_with document found (peer_with limits windows document position name)).document
-  text-given position name (Err fault) = refl
-  text-given position name (Ok settings) = text-with position name settings
-
-  text-peered : (position : ℕ) (words : List (List ℕ)) →
-      HasTextOf document (peer_create limits windows document widget position words).document
-  text-peered position [] = refl
-  text-peered position (name ∷ words) =
-      let found = settings_given document (position + 1) words (peer_settings document widget) in
-      elim (is_window_name name) as (λ b. HasTextOf document
-      (if b then change_with document found (peer_with limits windows document position name)
-      else refused document (InvalidCommandName position)).document) [
-        | true ↦ text-given position name found
-        | false ↦ refl
-      ]
-
-  text-other : (switches : List (List ℕ)) (position : ℕ) (arguments : List (List ℕ)) (command : Command) →
-      IsOther command
-      → HasTextOf document (done command document (calling limits windows widget switches position arguments)).document
-  text-other switches position arguments Configure other = text-configured document widget position arguments
-  text-other switches position arguments EditReset other = refl
-  text-other switches position arguments PeerCreate other = text-peered position arguments
-  text-other switches position arguments command other = absurd other
-
   -- a command that is no edit of the text leaves the characters
   pub text-done : (command : Command) (switches : List (List ℕ)) (position : ℕ) (arguments : List (List ℕ))
       → (IsTextEdit command → ⊥)
@@ -84,7 +25,8 @@ module _ (limits : LimitTable) (windows : List (List ℕ)) (document : Document)
   text-done command switches position arguments still =
       still-done limits document widget (HasTextOf document) (text-still limits document widget) command windows
       switches position arguments (λ edit. absurd (still edit))
-      (text-other switches position arguments command)
+      (other-done limits windows document widget (HasTextOf document) refl (λ settings. refl) (λ name settings. refl)
+      refl command switches position arguments)
 
 -- a command that edits no text
 no-edit : (command : Command) → command ≢ Insert → command ≢ Delete → command ≢ Replace → command ≢ EditUndo →
@@ -99,8 +41,8 @@ no-edit command insert delete replace undo redo edit = edit
 -- ---- what is told
 
 -- what a call ensures of what it tells
-pub told-through : {E : Type 0} (P Q : List TextChange → Type 0) (result : Result (List TextChange) E) →
-    ((told : List TextChange) → P told → Q told) → IfOk result P → IfOk result Q
+pub told-through : {A E : Type 0} (P Q : A → Type 0) (result : Result A E) → ((told : A) → P told → Q told) →
+    IfOk result P → IfOk result Q
 told-through P Q (Ok told) goes is = goes told is
 told-through P Q (Err fault) goes is = tt
 

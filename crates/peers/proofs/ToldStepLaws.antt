@@ -1,7 +1,6 @@
 -- What is told of a command of a world.
 use Rattle.std.proofs.Common.{◌≡◌, ℕ, ◌<◌, true, false, List, [], ◌∷◌, Option, Some, None, Ok, refl, sym, ap, ◌∙◌}
-use Rattle.std.proofs.Common.{arith, get_or, length, subst, true≢false}
-use Rattle.std.specs.Prelude.{String, is_ok, string_bytes, if◌then◌else◌}
+use Rattle.std.proofs.Common.{arith, get_or, length, subst, true≢false, String, is_ok, string_bytes, if◌then◌else◌}
 use Rattle.std.specs.Str.{chars}
 use Rattle.std.proofs.lemmas.Slice.Eq.{bytes_eq-Decides}
 use Rattle.tcl_words.specs.Unread.{texts_of}
@@ -77,37 +76,38 @@ destroy-none : (name : List ℕ) → is_same name (literal "destroy") ≡ true �
 unfolding chars
 destroy-none name is = ap is_window_name ((bytes_eq-Decides name (literal "destroy")).0 is)
 
--- what a command tells that is answered
-pub tells-step : (world new : World) (name : List ℕ) (others : List (List ℕ)) (answer : Answer)
-    (told : List TextChange) → IsWellFormed world → Makes world new (Ok answer) (step world (name ∷ others))
-    → (home name world.documents ≡ None → told ≡ [])
+-- What holds of the world after a command that is answered, by where its first word's document stands: it holds where
+-- there is none, and after a widget's command that is answered.
+pub holds-step : (P : World → Option ℕ → Type 0) (world new : World) (name : List ℕ) (others : List (List ℕ))
+    (answer : Answer) → IsWellFormed world → Makes world new (Ok answer) (step world (name ∷ others))
+    → (home name world.documents ≡ None → P new None)
     → (is_ok (on_widget world name (name ∷ others)).reply ≡ true
-    → TellsAt world (on_widget world name (name ∷ others)).world (home name world.documents) told)
-    → TellsAt world new (home name world.documents) told
-tells-step world new name others answer told formed makes none some =
+    → P (on_widget world name (name ∷ others)).world (home name world.documents))
+    → P new (home name world.documents)
+holds-step P world new name others answer formed makes none some =
     let words = name ∷ others in
     let left = destroy_shaped world words (reading words) in
     let done = on_widget world name words in
-    let nothing : is_window_name name ≡ false → TellsAt world new (home name world.documents) told = λ other.
+    let nothing : is_window_name name ≡ false → P new (home name world.documents) = λ other.
     let absent = homeless world name formed other in
-    subst (λ (at : Option ℕ). TellsAt world new at told) (sym absent) (none absent) in
+    subst (P new) (sym absent) (none absent) in
     elim (is_same name (literal "text")) as (λ b. is_same name (literal "text") ≡ b →
     Makes world new (Ok answer) (if b then create_shaped world words (reading words)
     else (if is_same name (literal "destroy") then left else done))
-    → TellsAt world new (home name world.documents) told) [
+    → P new (home name world.documents)) [
       | true ↦ λ is _. nothing (text-none name is)
       | false ↦ λ _. elim (is_same name (literal "destroy")) as (λ b. is_same name (literal "destroy") ≡ b →
           Makes world new (Ok answer) (if b then left else done)
-          → TellsAt world new (home name world.documents) told) [
+          → P new (home name world.documents)) [
             | true ↦ λ is _. nothing (destroy-none name is)
             | false ↦ λ _ makes.
                 let known = value≢memory (Ok answer) answer refl in
-                subst (λ (w : World). TellsAt world w (home name world.documents) told) (sym (makes.world known))
+                subst (λ (w : World). P w (home name world.documents)) (sym (makes.world known))
                 (some (sym (ap is_ok (makes.reply known))))
           ] refl
     ] refl makes
 
--- the same of words as they are given
+-- what a command tells of its words as they are given
 pub tells-call : {Z : Type 0} (world new : World) (words : List (String Z)) (first : String Z) (answer : Answer)
     (told : List TextChange) → IsWellFormed world → 0 < length words → first ≡ get_or words 0 first
     → Makes world new (Ok answer) (step world (texts_of words))
@@ -121,7 +121,8 @@ tells-call {Z} world new (word ∷ words) first answer told formed within is mak
     let same : chars (string_bytes first) ≡ chars (string_bytes word) = ap
     (λ (w : String Z). chars (string_bytes w)) is in
     let all = texts_of (word ∷ words) in
-    tells-step world new (chars (string_bytes word)) (texts_of words) answer told formed makes
+    holds-step (λ (w : World) (at : Option ℕ). TellsAt world w at told) world new (chars (string_bytes word))
+    (texts_of words) answer formed makes
     (subst (λ name. home name world.documents ≡ None → told ≡ []) same none)
     (subst (λ name. is_ok (on_widget world name all).reply ≡ true
     → TellsAt world (on_widget world name all).world (home name world.documents) told) same some)

@@ -4,6 +4,7 @@ pub mod History
 pub mod Indices
 pub mod Laws
 pub mod Marks
+pub mod MarksTold
 pub mod Options
 pub mod Queries
 pub mod Ranges

@@ -8,6 +8,7 @@ mod history;
 mod indices;
 pub mod laws;
 mod marks;
+mod marks_told;
 mod options;
 mod queries;
 mod ranges;
@@ -20,5 +21,5 @@ mod words;
 mod world;
 
 pub use command_effects::{Answer, Fault};
-pub use documents::{ChangeList, TextChange};
+pub use documents::{ChangeList, MovedMarks, Spot, TextChange};
 pub use world::{Told, World};

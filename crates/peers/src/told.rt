@@ -24,7 +24,7 @@ use std::alloc::AllocError;
 use text_model::{Limits, TextStore};
 
 /// A value, or nothing where a fault refuses the command but want of memory.
-fn unless_refused<T>(found: Result<T, Fault>) -> Result<Option<T>, AllocError>
+pub fn unless_refused<T>(found: Result<T, Fault>) -> Result<Option<T>, AllocError>
     ensures some { IfOk result (λ value. IfSome value (λ value. found ≡ Ok value)) }
     ensures none { result ≡ Ok None → IfErr found (λ fault. fault ≢ Memory) × (IfOk found (λ value. ⊥)) }
 {
@@ -59,7 +59,7 @@ fn told_insert_pairs<S: TextStore>(
     if document.is_idle(seat) {
         return Ok(nothing);
     }
-    document.told_insertion(document.insertion_offset(seat, place), &pairs)
+    document.told_insertion(document.insertion_offset(seat, place), pairs)
 }
 
 fn told_insert_words<S: TextStore>(
@@ -142,12 +142,12 @@ fn told_replace_places<S: TextStore>(
     seat: usize,
     second: usize,
     places: (usize, usize),
-    pairs: &[Pair],
+    pairs: Vec<Pair>,
 ) -> Result<ChangeList, AllocError>
     requires shown { seat < length document.now.widgets }
     requires within { places.1 ≤ length (shown document.now (widget_at document.now seat)) }
     ensures { IfOk result (λ told. (limits : LimitTable) → AreLimits limits → Foretells document.now
-        (replace_places limits document.now (widget_at document.now seat) second places.0 places.1 pairs.now) told) }
+        (replace_places limits document.now (widget_at document.now seat) second places.0 places.1 pairs.items) told) }
 {
     let (from, to) = places;
     if to < from || document.is_idle(seat) {
@@ -173,7 +173,7 @@ fn told_replace_pairs<S: TextStore>(
     let Some(pairs) = unless_refused(pairs_at(document.allocator(), position + 2, words))? else {
         return Ok(ChangeList::new(document.allocator()));
     };
-    told_replace_places(document, seat, position + 1, places, &pairs)
+    told_replace_places(document, seat, position + 1, places, pairs)
 }
 
 fn told_replace_words<S: TextStore>(

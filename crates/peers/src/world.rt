@@ -14,27 +14,30 @@ ghost use Rattle.peers.specs.Commands.{is_frugal, is_frugal_reading};
 ghost use Rattle.peers.specs.Widgets.{peer_create, peer_with};
 ghost use Rattle.peers.specs.WellFormed.{IsWellFormed};
 ghost use Rattle.peers.specs.World.{all_windows, document_at, home};
+ghost use Rattle.peers.specs.MarksTold.{MarksTellAt, MarksTellOf};
 ghost use Rattle.peers.specs.Told.{answer_of, TellsAt, TellsOf};
 ghost use Rattle.documents.specs.Options.{AreLines};
 
 use crate::commands::command;
 use crate::document_list::Documents;
+use crate::marks_told::told_marks_of;
 use crate::options::settings_given;
 use crate::told::told_of;
 use crate::widgets::peer_settings;
 use crate::words::is_window_name;
 use command_effects::{Answer, Fault, Settings, first, is_word};
 use command_table::{Command, Shape, shape};
-use documents::{ChangeList, Document};
+use documents::{ChangeList, Document, MovedMarks};
 use std::alloc::{AllocError, Global};
 use std::marker::Model;
 use text_model::{Limits, TextStore};
 
-/// What a command answered, and what it changed of the text that its widget shows.
+/// What a command answered, what it changed of the text that its widget shows, and which marks it moved there.
 #[derive(Drop)]
 pub struct Told {
     pub answer: Answer,
     pub changes: ChangeList,
+    pub marks: MovedMarks,
 }
 
 /// All that a session of commands can see later: the limits, and the documents with their widgets.
@@ -325,22 +328,52 @@ impl<S: TextStore> World<S> {
         }
     }
 
+    /// The marks that a command of the widget of a name moves, of all its words, as the widget knows marks, unless it
+    /// is refused. None are told of a command that edits the text, and where no widget has the name.
+    fn told_marks(&self, name: &str, words: &[String]) -> Result<MovedMarks, AllocError>
+        requires { 0 < length words.now }
+        ensures none { home (chars name.now) self.now.documents ≡ None → IfOk result (λ told. told ≡ []) }
+        ensures some { IfOk result (λ told. let outcome = on_widget self.now (chars name.now) (texts_of words.now) in
+            is_ok outcome.reply ≡ true → MarksTellAt self.now outcome.world (chars name.now) (texts_of words.now)
+            (home (chars name.now) self.now.documents) told) }
+    {
+        let nothing = MovedMarks::new(self.documents.alloc);
+        let Some(place) = self.documents.windows.home(name) else {
+            return Ok(nothing);
+        };
+        let document = &self.documents.list[place];
+        let Some(seat) = document.find_widget(name) else {
+            unreachable!()
+        };
+        match shape(words) {
+            Err(_) => Ok(nothing),
+            Ok(shape) => told_marks_of(document, seat, shape, words),
+        }
+    }
+
     /// Carries out a command as `call` does, and tells what it changed of the text that its widget shows, if its first
-    /// word names one. All that is told is there before anything changes, so where memory is refused the world is as it
-    /// was.
+    /// word names one, and, unless it edits the text, which marks it moved there. All that is told is there before
+    /// anything changes, so where memory is refused the world is as it was.
     pub fn call_told(&mut self, words: &[String]) -> Result<Told, Fault>
         requires { 0 < length words.now }
         ensures makes { Makes self.old self.new (answer_of result)
             (step self.old (texts_of words.now)) }
         ensures tells { IfOk result (λ told. TellsOf self.old self.new (texts_of words.now) told.changes) }
+        ensures marks { IfOk result (λ told. MarksTellOf self.old self.new (texts_of words.now) told.marks) }
     {
         // Read first, so that every return knows that the world is well formed.
         let _documents = &self.documents;
         let [name, ..] = words else { unreachable!() };
-        let changes = self.told_of(name.as_str(), words)?;
+        let name = name.as_str();
+        let changes = self.told_of(name, words)?;
+        let marks = self.told_marks(name, words)?;
         match self.call(words) {
             Err(fault) => Err(fault),
-            Ok(answer) => Ok(Told { answer, changes }),
+            Ok(answer) => Ok(Told {
+                answer,
+                changes,
+                marks,
+            }),
         }
     }
 

@@ -1,5 +1,4 @@
-use Rattle.std.proofs.Common.{◌+◌, Ok, ap, ◌∙◌}
-use Rattle.std.specs.Prelude.{chars}
+use Rattle.std.proofs.Common.{◌+◌, Ok, ap, ◌∙◌, chars}
 use Rattle.command_effects.specs.declared.answers.Answer.TheVariants.{Flag}
 use Rattle.documents.specs.Indices.{place_at}
 use Rattle.peers.specs.Indices.{compared}

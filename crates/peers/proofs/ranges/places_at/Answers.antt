@@ -1,5 +1,4 @@
-use Rattle.std.proofs.Common.{◌≤◌, ◌∷◌, [], ℕ, length, ◌+◌}
-use Rattle.std.specs.Prelude.{chars}
+use Rattle.std.proofs.Common.{◌≤◌, ◌∷◌, [], ℕ, length, ◌+◌, chars}
 use Rattle.std.proofs.lemmas.List.Elements.{All-append, All-cons, All-nil}
 use Rattle.documents.specs.Indices.{place_at}
 use Rattle.documents.specs.Views.{shown}

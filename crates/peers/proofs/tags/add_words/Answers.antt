@@ -1,5 +1,4 @@
-use Rattle.std.proofs.Common.{ap, sym, ◌∙◌}
-use Rattle.std.specs.Prelude.{◌+◌, Ok, chars}
+use Rattle.std.proofs.Common.{ap, sym, ◌∙◌, ◌+◌, Ok, chars}
 use Rattle.tcl_words.specs.Unread.{texts_of}
 use Rattle.peers.specs.Ranges.{places_at}
 use Rattle.documents.specs.Tags.{add_spans}

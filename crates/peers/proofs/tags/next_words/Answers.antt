@@ -1,5 +1,4 @@
-use Rattle.std.proofs.Common.{subst}
-use Rattle.std.specs.Prelude.{◌+◌, chars, option_map}
+use Rattle.std.proofs.Common.{subst, ◌+◌, chars, option_map}
 use Rattle.command_effects.specs.Faults.{with_value}
 use Rattle.documents.specs.Indices.{place_at}
 use Rattle.documents.specs.Promise.{Gives}

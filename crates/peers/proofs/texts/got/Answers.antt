@@ -1,5 +1,4 @@
-use Rattle.std.proofs.Common.{length, ap, sym, ◌∙◌, arith}
-use Rattle.std.specs.Prelude.{Ok, chars}
+use Rattle.std.proofs.Common.{length, ap, sym, ◌∙◌, arith, Ok, chars}
 use Rattle.command_effects.specs.declared.answers.Answer.TheVariants.{Text}
 use Rattle.documents.specs.Documents.{widget_at}
 use Rattle.std.proofs.lemmas.Str.{chars-nil}

@@ -1,5 +1,4 @@
-use Rattle.std.proofs.Common.{◌≤◌, ◌-◌, ℕ, length, drop, sym, subst, eqb-true, ◌∙◌, arith}
-use Rattle.std.specs.Prelude.{string_bytes, filter}
+use Rattle.std.proofs.Common.{◌≤◌, ◌-◌, ℕ, length, drop, sym, subst, eqb-true, ◌∙◌, arith, string_bytes, filter}
 use Rattle.std.proofs.lemmas.Str.{IsUtf8-string_bytes}
 use Rattle.std.proofs.lemmas.List.Elements.{All-take, All-drop}
 use Rattle.tcl_words.specs.ListGrowth.{Goes}

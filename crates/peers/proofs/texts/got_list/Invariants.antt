@@ -1,5 +1,4 @@
-use Rattle.std.proofs.Common.{ℕ, ◌≤◌, length}
-use Rattle.std.specs.Prelude.{string_bytes}
+use Rattle.std.proofs.Common.{ℕ, ◌≤◌, length, string_bytes}
 use Rattle.std.specs.List.{All}
 use Rattle.documents.specs.Views.{shown}
 use Rattle.documents.specs.Documents.{widget_at}

@@ -1,5 +1,4 @@
-use Rattle.std.proofs.Common.{[], ◌∷◌, ◌++◌, sym, ap, subst, ◌∙◌, arith}
-use Rattle.std.specs.Prelude.{chars}
+use Rattle.std.proofs.Common.{[], ◌∷◌, ◌++◌, sym, ap, subst, ◌∙◌, arith, chars}
 use Rattle.std.specs.List.{AllByRecursion, IsDistinct}
 use Rattle.command_effects.specs.Words.{is_same}
 use Rattle.documents.specs.Documents.{Document}

@@ -1,5 +1,4 @@
-use Rattle.std.proofs.Common.{◌≤◌, ◌+◌, length, slice_set, take, sym, ap, subst, ◌∙◌, arith}
-use Rattle.std.specs.Prelude.{chars, remove}
+use Rattle.std.proofs.Common.{◌≤◌, ◌+◌, length, slice_set, take, sym, ap, subst, ◌∙◌, arith, chars, remove}
 use Rattle.std.specs.List.{IsDistinct}
 use Rattle.std.proofs.lemmas.List.Edits.{length-insert}
 use Rattle.command_effects.specs.Words.{is_among, is_same}

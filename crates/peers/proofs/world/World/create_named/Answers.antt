@@ -1,5 +1,4 @@
-use Rattle.std.proofs.Common.{◌≡◌, false, length, sym, ap, subst, ◌∙◌}
-use Rattle.std.specs.Prelude.{chars, nat_le}
+use Rattle.std.proofs.Common.{◌≡◌, false, length, sym, ap, subst, ◌∙◌, chars, nat_le}
 use Rattle.command_effects.specs.Words.{is_among}
 use Rattle.command_effects.specs.declared.answers.Fault.TheVariants.{TooManyWidgets, WindowExists}
 use Rattle.peers.specs.Step.{Outcome}

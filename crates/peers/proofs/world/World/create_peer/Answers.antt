@@ -1,5 +1,4 @@
-use Rattle.std.proofs.Common.{◌≡◌, ◌+◌, ◌<◌, length, true, sym, ap, subst, ◌∙◌}
-use Rattle.std.specs.Prelude.{chars}
+use Rattle.std.proofs.Common.{◌≡◌, ◌+◌, ◌<◌, length, true, sym, ap, subst, ◌∙◌, chars}
 use Rattle.tcl_words.specs.Unread.{texts_of}
 use Rattle.documents.specs.Documents.{Document, widget_at}
 use Rattle.documents.specs.Kept.{is_window_name}

@@ -1,5 +1,4 @@
-use Rattle.std.proofs.Common.{◌≡◌, None, Some, arith, sym, ap, ◌∙◌}
-use Rattle.std.specs.Prelude.{chars, option_map}
+use Rattle.std.proofs.Common.{◌≡◌, None, Some, arith, sym, ap, ◌∙◌, chars, option_map}
 use Rattle.peers.specs.Windows.{home_in}
 use Rattle.peers.specs.World.{World, document_at, home}
 use Rattle.peers.proofs.HomeStepLaws.{home-is}

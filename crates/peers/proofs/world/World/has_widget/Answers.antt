@@ -1,5 +1,4 @@
-use Rattle.std.proofs.Common.{is_some, ap, ◌∙◌}
-use Rattle.std.specs.Prelude.{chars}
+use Rattle.std.proofs.Common.{is_some, ap, ◌∙◌, chars}
 use Rattle.peers.proofs.WorldLaws.{some-home}
 use Rattle.peers.proofs.world.World.has_widget.Goals as goal
 

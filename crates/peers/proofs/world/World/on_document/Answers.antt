@@ -1,6 +1,5 @@
-use Rattle.std.proofs.Common.{◌≡◌, ◌<◌, Some, true, false, is_some, length, slice_set, sym, ap, subst, ◌∙◌}
-use Rattle.std.proofs.Common.{arith}
-use Rattle.std.specs.Prelude.{IfErr, chars}
+use Rattle.std.proofs.Common.{◌≡◌, ◌<◌, Some, true, false, is_some, length, slice_set, sym, ap, subst, ◌∙◌, arith}
+use Rattle.std.proofs.Common.{IfErr, chars}
 use Rattle.tcl_words.specs.Unread.{texts_of}
 use Rattle.command_effects.specs.Words.{is_among}
 use Rattle.documents.specs.Documents.{Document, widget_at}
