@@ -110,6 +110,30 @@ size_t tktext_told_removed(tktext *handle, size_t change);
 /* Copies the text that was put in there, as tktext_said does; no text of one that there isn't. */
 size_t tktext_told_inserted(tktext *handle, size_t change, uint8_t *room, size_t size);
 
+/* The ends of a change, of each of which the four calls below tell where it stands. */
+enum {
+    TKTEXT_START = 0,   /* where the change begins */
+    TKTEXT_OLD_END = 1, /* where what was taken out ended, in the text before the change */
+    TKTEXT_NEW_END = 2  /* where what was put in ends, in the text after the change; so any greater number too */
+};
+
+/* The line of an end of a change, from 1; 0 of a change that there isn't. */
+size_t tktext_told_line(tktext *handle, size_t change, size_t end);
+
+/* How much stands in that line before it: characters, as Tk counts, bytes of UTF-8, as parsers do, or units of UTF-16, as
+   language servers do; 0 of a change that there isn't. */
+size_t tktext_told_column(tktext *handle, size_t change, size_t end);
+size_t tktext_told_bytes(tktext *handle, size_t change, size_t end);
+size_t tktext_told_units(tktext *handle, size_t change, size_t end);
+
+/* How many marks the last call that tells moved by an order (`mark set`, `mark unset`), so that each stands elsewhere
+   now, is new, or is gone: 0 of a command that edits the text, with which marks go along untold. */
+size_t tktext_told_marks(tktext *handle);
+
+/* Copies the name of one of these marks, counted from 0, as tktext_said does; no text of one that there isn't.  `insert`
+   and `current` are those of the command's own widget. */
+size_t tktext_told_mark(tktext *handle, size_t mark, uint8_t *room, size_t size);
+
 /* Whether `edit undo` would find something to undo in the text that a widget shows, by the widget's name in UTF-8, as Tk's
    `edit canundo` tells: 1 or 0, and -1 where no widget has the name.  Nothing changes, what was said last neither. */
 int32_t tktext_can_undo(tktext *handle, const uint8_t *widget, size_t size);

@@ -547,15 +547,43 @@ static void drop_both(void)
     check_empty(&by_words);
 }
 
-/* What a call that tells told: none of a refused command, and no idle change. */
+/* Whether two ends of a change are one place. */
+static int is_one_place(tktext *world, size_t change, size_t one, size_t other)
+{
+    return tktext_told_line(world, change, one) == tktext_told_line(world, change, other)
+        && tktext_told_column(world, change, one) == tktext_told_column(world, change, other)
+        && tktext_told_bytes(world, change, one) == tktext_told_bytes(world, change, other)
+        && tktext_told_units(world, change, one) == tktext_told_units(world, change, other);
+}
+
+/* The ends of a change: in lines that there are, where each character has one byte to four, and one unit or two; and a
+   change that takes nothing out, or puts nothing in, has two ends in one place. */
+static void check_ends(tktext *world, size_t change, int takes_out, int puts_in)
+{
+    for (size_t end = TKTEXT_START; end <= TKTEXT_NEW_END; end++) {
+        size_t column = tktext_told_column(world, change, end), bytes = tktext_told_bytes(world, change, end);
+        size_t units = tktext_told_units(world, change, end);
+        check(tktext_told_line(world, change, end) > 0, "an end in no line");
+        check(column <= bytes && bytes <= 4 * column && column <= units && units <= 2 * column, "a column of no text");
+    }
+    check(takes_out || is_one_place(world, change, TKTEXT_START, TKTEXT_OLD_END), "what isn't taken out has an end");
+    check(puts_in || is_one_place(world, change, TKTEXT_START, TKTEXT_NEW_END), "what isn't put in has an end");
+}
+
+/* What a call that tells told: none of a refused command, and no idle change; marks of no edit of the text. */
 static void check_told(tktext *world, int32_t code)
 {
     uint8_t room[4];
-    size_t count = tktext_told(world);
-    check(code == TKTEXT_ANSWER || count == 0, "a refused command tells of a change");
-    for (size_t at = 0; at < count; at++)
-        check(tktext_told_removed(world, at) > 0 || tktext_told_inserted(world, at, room, 4) > 0, "an idle change is told");
+    size_t count = tktext_told(world), marks = tktext_told_marks(world);
+    check(code == TKTEXT_ANSWER || count + marks == 0, "a refused command tells of a change");
+    check(count == 0 || marks == 0, "an edit tells of marks");
+    for (size_t at = 0; at < count; at++) {
+        int takes_out = tktext_told_removed(world, at) > 0, puts_in = tktext_told_inserted(world, at, room, 4) > 0;
+        check(takes_out || puts_in, "an idle change is told");
+        check_ends(world, at, takes_out, puts_in);
+    }
     check(tktext_told_at(world, count) == 0 && tktext_told_inserted(world, count, room, 4) == 0, "a change too many");
+    check(tktext_told_line(world, count, in(4)) == 0 && tktext_told_mark(world, marks, room, 4) == 0, "a place too many");
 }
 
 static int32_t call(tktext *world, const struct command *command)

@@ -241,6 +241,43 @@ static int32_t call_told(tktext *world, const char *words, const size_t *lengths
 #define LENGTHS(...) (const size_t[]){__VA_ARGS__}, sizeof((const size_t[]){__VA_ARGS__}) / sizeof(size_t)
 
 /* What a command changed, by whichever widget and whether it came by its words or by a script. */
+/* Whether one of the ends of the first change is there: its line, and what stands in that before it. */
+static bool end_is(tktext *world, size_t end, size_t line, size_t column, size_t bytes, size_t units)
+{
+    return tktext_told_line(world, 0, end) == line && tktext_told_column(world, 0, end) == column
+        && tktext_told_bytes(world, 0, end) == bytes && tktext_told_units(world, 0, end) == units;
+}
+/* Whether one mark was told, and it has this name. */
+static bool mark_is(tktext *world, const char *name)
+{
+    uint8_t room[8];
+    size_t length = tktext_told_mark(world, 0, room, sizeof room);
+    return tktext_told_marks(world) == 1 && length == strlen(name) && memcmp(room, name, length) == 0;
+}
+static void check_ends(void)
+{
+    uint8_t room[4];
+    tktext world = TKTEXT_EMPTY;
+    check(end_is(&world, TKTEXT_START, 0, 0, 0, 0) && tktext_told_marks(&world) == 0, "the ends that no world told");
+    tktext_new_greatest(&world);
+    tktext_call_words(&world, WORDS("text", ".t"));
+    check(call_told(&world, ".tinsert1.0a\xc3\xa9\xf0\x9f\x98\x80\nb", LENGTHS(2, 6, 3, 9)) == TKTEXT_ANSWER
+          && end_is(&world, TKTEXT_START, 1, 0, 0, 0) && end_is(&world, TKTEXT_OLD_END, 1, 0, 0, 0)
+          && end_is(&world, TKTEXT_NEW_END, 2, 1, 1, 1), "the ends of an insertion");
+    check(call_told(&world, ".tdelete1.12.0", LENGTHS(2, 6, 3, 3)) == TKTEXT_ANSWER
+          && end_is(&world, TKTEXT_START, 1, 1, 1, 1) && end_is(&world, TKTEXT_OLD_END, 2, 0, 0, 0)
+          && end_is(&world, TKTEXT_NEW_END, 1, 1, 1, 1), "the ends of a deletion");
+    check(call_told(&world, ".tinsert1.1\xc3\xa9\xf0\x9f\x98\x80", LENGTHS(2, 6, 3, 6)) == TKTEXT_ANSWER
+          && end_is(&world, TKTEXT_NEW_END, 1, 3, 7, 4) && end_is(&world, SIZE_MAX, 1, 3, 7, 4), "bytes and units");
+    check(tktext_told_line(&world, 1, TKTEXT_START) == 0, "no end of no change");
+    check(call_told(&world, ".tmarksetm1.1", LENGTHS(2, 4, 3, 1, 3)) == TKTEXT_ANSWER && tktext_told(&world) == 0
+          && mark_is(&world, "m"), "a mark that is set");
+    check(call_told(&world, ".tmarksetm1.1", LENGTHS(2, 4, 3, 1, 3)) == TKTEXT_ANSWER && tktext_told_marks(&world) == 0, "a mark that stays");
+    check(call_told(&world, ".tmarkunsetnmm", LENGTHS(2, 4, 5, 1, 1, 1)) == TKTEXT_ANSWER && mark_is(&world, "m"), "a mark that goes");
+    check(call_told(&world, ".tinsert1.0x", LENGTHS(2, 6, 3, 1)) == TKTEXT_ANSWER && tktext_told_marks(&world) == 0, "marks go along untold");
+    check(tktext_told_mark(&world, 0, room, sizeof room) == 0, "no such mark");
+    tktext_drop(&world);
+}
 static void check_told(void)
 {
     uint8_t room[4] = "abcd";
@@ -371,6 +408,7 @@ static int try_uses(void)
     check_script(&world);
     check_undo();
     check_told();
+    check_ends();
     tktext_drop(&world);
     check_empty(&world);
     printf("%d passed, %d failed\n", passed, failed);

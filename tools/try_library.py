@@ -40,6 +40,12 @@ fn main(rt: HostRuntime) {
     let _ = tktext_told_at(alloc, &mut handle, 0);
     let _ = tktext_told_removed(alloc, &mut handle, 0);
     let _ = tktext_told_inserted(alloc, &mut handle, 0, &mut room);
+    let _ = tktext_told_line(alloc, &mut handle, 0, 0);
+    let _ = tktext_told_column(alloc, &mut handle, 0, 0);
+    let _ = tktext_told_bytes(alloc, &mut handle, 0, 0);
+    let _ = tktext_told_units(alloc, &mut handle, 0, 0);
+    let _ = tktext_told_marks(alloc, &mut handle);
+    let _ = tktext_told_mark(alloc, &mut handle, 0, &mut room);
     let _ = tktext_can_undo(alloc, &mut handle, b".t");
     let _ = tktext_can_redo(alloc, &mut handle, b".t");
     let _ = tktext_feed(alloc, &mut handle, b"text .u");

@@ -1,6 +1,5 @@
 -- What a handle's session does, seen from the handle; and a command of a script that is carried out.
-use Rattle.std.proofs.Common.{◌≡◌, ℕ, List, Option, Some, refl, sym, subst, ap, ◌∙◌}
-use Rattle.std.specs.Prelude.{option_map}
+use Rattle.std.proofs.Common.{◌≡◌, ℕ, List, Option, Some, refl, sym, subst, ap, ◌∙◌, option_map}
 use Rattle.tcl_words.specs.Unread.{Unread, TakesCommand}
 use Rattle.tktext_c.specs.declared.session.Session.{Session}
 use Rattle.tktext_c.specs.declared.ends.Given.{Given}

@@ -1,6 +1,5 @@
 -- The machine values of a `Kept`. Assumes `Logic`.
-use Rattle.std.proofs.Common.{◌≡◌, ℕ, Option, Some, None, List, [], ◌∷◌, ◌++◌, refl, sym, subst, true≢false}
-use Rattle.std.specs.Prelude.{IsSome}
+use Rattle.std.proofs.Common.{◌≡◌, ℕ, Option, Some, None, List, [], ◌∷◌, ◌++◌, refl, sym, subst, true≢false, IsSome}
 use seplogic.Ra.Ura.{Ura}
 use mir.Raw.{raw as bare}
 use mir.Val.{Val, vstruct, vcons, vnil, of_list}

@@ -5,7 +5,8 @@ use Rattle.std.proofs.lemmas.Option.{slice_get-map, slice_get_past, slice_get_re
 use Rattle.std.proofs.lemmas.Str.{encodes-chars}
 use Rattle.edit_ops.specs.declared.changes.TextChange.{TextChange}
 use Rattle.tcl_words.specs.Unread.{texts_of}
-use Rattle.tktext_c.specs.Told.{bytes_of, place_of, place_told, text_told, word_given}
+use Rattle.tktext_c.specs.Told.{bytes_of, mark_told, place_of, place_told, spot_in, spot_of, spot_told, text_told}
+use Rattle.tktext_c.specs.Told.{word_given}
 
 -- the element at a place of a list, which is another one's
 element : {A : Type 0} (shown all : List A) (index : ℕ) (x : A) → shown ≡ all → index < length shown
@@ -39,6 +40,28 @@ place-found shown changes index change same within is =
 pub no-place : (shown changes : List TextChange) (index : ℕ) → shown ≡ changes → length shown ≤ index
     → ◌≡◌ {A = ℕ × ℕ} (0, 0) (place_told changes index)
 no-place shown changes index same beyond = sym (ap place_of (past shown changes index same beyond))
+
+pub spot-found : (shown changes : List TextChange) (index end : ℕ) (change : TextChange) → shown ≡ changes
+    → index < length shown → change ≡ get_or shown index change → spot_of change end ≡ spot_told changes index end
+spot-found shown changes index end change same within is =
+    sym (ap (λ found. spot_in found end) (element shown changes index change same within is))
+
+pub no-spot : (shown changes : List TextChange) (index end : ℕ) → shown ≡ changes → length shown ≤ index
+    → spot_in None end ≡ spot_told changes index end
+no-spot shown changes index end same beyond = sym (ap (λ found. spot_in found end) (past shown changes index same beyond))
+
+-- a name among the marks, as words
+pub mark-found : {Z : Type 0} (shown : List (String Z)) (marks : List (List ℕ)) (index : ℕ) (word : String Z)
+    (bytes : List ℕ) → texts_of shown ≡ marks → index < length shown → word ≡ get_or shown index word
+    → bytes ≡ string_bytes word → IsUtf8 bytes → bytes ≡ mark_told marks index
+mark-found shown marks index word bytes same within is spelled text =
+    word-found shown shown index word bytes refl within is spelled text
+    ∙ ap (λ words. word_given words index) same
+
+pub no-mark : {Z : Type 0} (shown : List (String Z)) (marks : List (List ℕ)) (index : ℕ) → texts_of shown ≡ marks
+    → length shown ≤ index → mark_told marks index ≡ []
+no-mark shown marks index same beyond =
+    sym (ap (λ words. word_given words index) same) ∙ no-word shown shown index refl beyond
 
 pub text-found : (shown changes : List TextChange) (index : ℕ) (change : TextChange) (bytes : List ℕ)
     → shown ≡ changes → index < length shown → change ≡ get_or shown index change

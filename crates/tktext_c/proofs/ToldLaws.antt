@@ -6,9 +6,7 @@ use Rattle.tcl_words.specs.declared.fault.ScriptFault.{ScriptFault}
 use Rattle.command_effects.specs.declared.answers.Answer.{Answer}
 use Rattle.command_effects.specs.declared.answers.Fault.{Fault}
 use Rattle.command_effects.specs.declared.answers.Fault.TheVariants as fault
-use Rattle.edit_ops.specs.declared.changes.TextChange.{TextChange}
 use Rattle.peers.specs.Step.{step, Makes}
-use Rattle.peers.specs.Told.{TellsOf}
 use Rattle.peers.specs.World.{World}
 use Rattle.printing.specs.Lines.{piece}
 use Rattle.tktext_c.specs.declared.ends.Given.{Given}
@@ -19,8 +17,8 @@ use Rattle.tktext_c.specs.declared.ends.CallEnd.{CallEnd}
 use Rattle.tktext_c.specs.declared.ends.CallEnd.TheVariants as call
 use Rattle.tktext_c.specs.declared.session.Said.TheVariants as says
 use Rattle.tktext_c.specs.Calls.{Gives, Called, Turns, given_of, status_after}
-use Rattle.tktext_c.specs.State.{State, memory_said, said_text}
-use Rattle.tktext_c.specs.Told.{untold, GivesTold, CalledTold, TurnsTold}
+use Rattle.tktext_c.specs.State.{State, Telling, memory_said, said_text}
+use Rattle.tktext_c.specs.Told.{untold, GivesTold, CalledTold, IsTold, TurnsTold}
 use Rattle.tktext_c.specs.Words.{cut, words_at, AreLengths, AreTexts}
 use Rattle.tktext_c.proofs.CallLaws.{turns-on}
 
@@ -90,18 +88,18 @@ gives-untold old words new given.Memory gives other = gives
 
 -- the command is answered, its changes are kept, and the answer is said
 pub gives_told-answer : (old new : State) (world : World) (words shown : List (List ℕ)) (answer : Answer)
-    (changes : List TextChange) (outcome : Given)
-    → shown ≡ words → Makes old.world world (Ok answer) (step old.world shown) → TellsOf old.world world shown changes
-    → new ≡ record (replied old world words (Ok answer)) { told = changes } → outcome ≡ given_of (Ok answer)
+    (telling : Telling) (outcome : Given)
+    → shown ≡ words → Makes old.world world (Ok answer) (step old.world shown) → IsTold old.world world shown telling
+    → new ≡ record (replied old world words (Ok answer)) { told = telling } → outcome ≡ given_of (Ok answer)
     → GivesTold old words new outcome
-gives_told-answer old new world words shown answer changes outcome same makes tells said is =
+gives_told-answer old new world words shown answer telling outcome same makes tells said is =
     let made = subst (λ (ws : List (List ℕ)). Makes old.world world (Ok answer) (step old.world ws)) same makes in
-    let told = subst (λ (ws : List (List ℕ)). TellsOf old.world world ws changes) same tells in
+    let told = subst (λ (ws : List (List ℕ)). IsTold old.world world ws telling) same tells in
     let plain = gives-answer old world words answer made in
     let path = plain.1 in
     subst (λ (g : Given). GivesTold old words new g) (sym is)
     (subst (λ (n : State). GivesTold old words n given.Answer) (sym said)
-    (plain.0, λ i. record (path i) { told = changes }, told))
+    (plain.0, λ i. record (path i) { told = telling }, told))
 
 -- the command is refused, and its fault is said
 pub gives_told-fault : (old new : State) (world : World) (words shown : List (List ℕ)) (cause : Fault) (outcome : Given)
@@ -193,7 +191,7 @@ turns_told-on : (old : State) (script : Unread) (said new : State) (words : List
     → new ≡ record said { status = status_after outcome said.status } → TurnsTold old new (turn.Command outcome)
 turns_told-on old script said new words given.Answer takes gives noted =
     let moved = ap (λ (x : State). x.world) gives.1 in
-    let tells = subst (λ (w : World). TellsOf old.world w words said.told) moved gives.2 in
+    let tells = subst (λ (w : World). IsTold old.world w words said.told) moved gives.2 in
     subst (λ (x : State). TurnsTold old x (turn.Command given.Answer)) (sym noted)
     (subst (λ (x : State). TurnsTold old (record x { status = status_after given.Answer x.status })
     (turn.Command given.Answer)) (sym gives.1)

@@ -1,7 +1,6 @@
 -- Words that are read one after another.
 use Rattle.std.proofs.Common.{◌≡◌, ℕ, ◌+◌, ◌<◌, ◌≤◌, arith, List, [], ◌∷◌, ◌++◌, length, take, drop, refl, sym, ap, ◌∙◌}
-use Rattle.std.proofs.Common.{append_assoc}
-use Rattle.std.specs.Prelude.{chars, IsUtf8, String, string_bytes}
+use Rattle.std.proofs.Common.{append_assoc, chars, IsUtf8, String, string_bytes}
 use Rattle.std.proofs.lemmas.List.{length-drop, append-nil, map-append}
 use Rattle.tcl_words.specs.Unread.{texts_of}
 use Rattle.tktext_c.specs.Words.{cut, total, words_at, AreLengths, AreTexts}

@@ -11,6 +11,14 @@ use Rattle.tktext_c.specs.declared.session.Said.{Said}
 use Rattle.tktext_c.specs.declared.session.Said.TheVariants.{Nothing, Reply, Fault}
 use Rattle.tktext_c.specs.declared.session.Session.{Session}
 
+-- what a command told: the changes of a text, and the names of the marks that it moved
+pub record Telling : Type 0 where
+  pub changes : List TextChange
+  pub marks : List (List ℕ)
+
+abbrev pub nothing_told : Telling
+nothing_told = record { changes = []; marks = [] }
+
 -- the world, what is still to be read of the script that is fed, the words of the command that was given last, the
 -- bytes that were said then, what the last command that tells told, and the script's status
 pub record State : Type 0 where
@@ -18,7 +26,7 @@ pub record State : Type 0 where
   pub script : Unread
   pub words : List (List ℕ)
   pub said : List ℕ
-  pub told : List TextChange
+  pub told : Telling
   pub status : ℕ
 
 -- the bytes that the program prints for it
@@ -37,7 +45,7 @@ state_of session = record {
   script = session.splitter;
   words = texts_of session.words.items;
   said = said_text (texts_of session.words.items) session.said;
-  told = session.told;
+  told = record { changes = session.told; marks = session.marks };
   status = session.status;
 }
 
@@ -48,6 +56,6 @@ start limits = record {
   script = nothing_fed;
   words = [];
   said = [];
-  told = [];
+  told = nothing_told;
   status = 0;
 }

@@ -1,10 +1,13 @@
 -- What a command that tells makes of a session, and what C reads of it.
 use Rattle.std.specs.Prelude.{◌≡◌, ℕ, true, List, [], Option, Some, None, is_ok, slice_get}
-use Rattle.std.specs.Prelude.{encode_utf8_all, option_map}
+use Rattle.std.specs.Prelude.{encode_utf8_all, option_map, ◌==◌, if◌then◌else◌}
 use Rattle.tcl_words.specs.Unread.{TakesCommand}
 use Rattle.edit_ops.specs.declared.changes.TextChange.{TextChange}
+use Rattle.edit_ops.specs.declared.spots.Spot.{Spot}
 use Rattle.peers.specs.Step.{step}
+use Rattle.peers.specs.MarksTold.{MarksTellOf}
 use Rattle.peers.specs.Told.{TellsOf}
+use Rattle.peers.specs.World.{World}
 use Rattle.tktext_c.specs.declared.ends.Given.{Given}
 use Rattle.tktext_c.specs.declared.ends.Given.TheVariants as given
 use Rattle.tktext_c.specs.declared.ends.CallEnd.{CallEnd}
@@ -12,18 +15,22 @@ use Rattle.tktext_c.specs.declared.ends.CallEnd.TheVariants as call
 use Rattle.tktext_c.specs.declared.ends.TurnEnd.{TurnEnd}
 use Rattle.tktext_c.specs.declared.ends.TurnEnd.TheVariants as turn
 use Rattle.tktext_c.specs.Calls.{Called, Gives, Turns, stepped}
-use Rattle.tktext_c.specs.State.{State}
+use Rattle.tktext_c.specs.State.{State, Telling, nothing_told}
 use Rattle.tktext_c.specs.Words.{cut, words_at, AreLengths, AreTexts}
 
 -- nothing is told yet
 abbrev pub untold : State → State
-untold old = record old { told = [] }
+untold old = record old { told = nothing_told }
 
--- From old to new a command is answered, and its changes are told; or it is refused, which tells nothing.
+-- what is told of a command of these words that made a world of another
+abbrev pub IsTold : World → World → List (List ℕ) → Telling → Type 0
+IsTold old new words told = TellsOf old new words told.changes × MarksTellOf old new words told.marks
+
+-- From old to new a command is answered, and what it changed is told; or it is refused, which tells nothing.
 abbrev pub GivesTold : State → List (List ℕ) → State → Given → Type 0
 GivesTold old words new given.Answer =
     (is_ok (step old.world words).reply ≡ true) × (new ≡ record (stepped old words) { told = new.told })
-    × TellsOf old.world new.world words new.told
+    × IsTold old.world new.world words new.told
 GivesTold old words new given = Gives old words new given
 
 -- The same of words that stand in bytes, unless they are none.
@@ -38,7 +45,7 @@ CallsTold None lengths bytes new ended = (new ≡ None) × (ended ≡ call.Wrong
 CallsTold (Some old) lengths bytes None ended = ⊥
 CallsTold (Some old) lengths bytes (Some new) ended = CalledTold old lengths bytes new ended
 
--- From old to new the next command of the script is carried out, and its changes are told.
+-- From old to new the next command of the script is carried out, and what it changed is told.
 abbrev pub TurnsTold : State → State → TurnEnd → Type 0
 TurnsTold old new (turn.Command given.Answer) =
     (words : List (List ℕ)) × TakesCommand old.script words new.script
@@ -67,8 +74,8 @@ words_of None = []
 words_of (Some state) = state.words
 
 -- what was told last
-abbrev pub told_of : Option State → List TextChange
-told_of None = []
+abbrev pub told_of : Option State → Telling
+told_of None = nothing_told
 told_of (Some state) = state.told
 
 -- where one of the changes is, and how many characters it took out; 0 where there is none
@@ -79,6 +86,21 @@ place_of (Some change) = (change.at, change.removed)
 abbrev pub place_told : List TextChange → ℕ → ℕ × ℕ
 place_told changes index = place_of (slice_get changes index)
 
+-- one of its ends: where it begins (0), where what it took out ended (1), where what it put in ends (2)
+abbrev pub spot_of : TextChange → ℕ → Spot
+spot_of change end = if end == 0 then change.start else (if end == 1 then change.old_end else change.new_end)
+
+abbrev pub spot_in : Option TextChange → ℕ → Spot
+spot_in None end = record { line = 0; column = 0; bytes = 0; units = 0 }
+spot_in (Some change) end = spot_of change end
+
+abbrev pub spot_told : List TextChange → ℕ → ℕ → Spot
+spot_told changes index end = spot_in (slice_get changes index) end
+
 -- the bytes of what it put in
 abbrev pub text_told : List TextChange → ℕ → List ℕ
 text_told changes index = bytes_of (option_map (λ (change : TextChange). change.inserted) (slice_get changes index))
+
+-- the bytes of the name of one of the marks
+abbrev pub mark_told : List (List ℕ) → ℕ → List ℕ
+mark_told marks index = bytes_of (slice_get marks index)

@@ -2,11 +2,12 @@
 ghost use Rattle.std.specs.Prelude.{◌≡◌, true, false};
 ghost use Rattle.tktext_c.specs.Calls.{Makes, Calls, Feeds, Takes, Tells, can_by};
 ghost use Rattle.tktext_c.specs.Handles.{state};
-ghost use Rattle.tktext_c.specs.Told.{told_of, place_told, CallsTold, TakesTold};
+ghost use Rattle.tktext_c.specs.Told.{told_of, place_told, spot_told, CallsTold, TakesTold};
 
 use crate::ends::{CallEnd, FeedEnd, MakeEnd, TurnEnd, Way};
 use crate::handle::Handle;
 use crate::session::Session;
+use peers::Spot;
 use std::alloc::Global;
 use text_model::Limits;
 
@@ -91,7 +92,7 @@ pub(crate) fn can(alloc: Global, handle: &mut Handle, way: Way, name: &[u8]) -> 
 
 /// The offset of a change that was told, and how many characters it took out; 0 where there is none.
 pub(crate) fn change_place(alloc: Global, handle: &mut Handle, index: usize) -> (usize, usize)
-    ensures place { result ≡ place_told (told_of (state handle.old)) index }
+    ensures place { result ≡ place_told (told_of (state handle.old)).changes index }
     ensures unchanged { state handle.new ≡ state handle.old }
 {
     if !handle.full {
@@ -101,4 +102,23 @@ pub(crate) fn change_place(alloc: Global, handle: &mut Handle, index: usize) -> 
     let place = session.change_place(index);
     handle.put(session);
     place
+}
+
+/// One of the ends of a change that was told, by its number; zeros where there is none.
+pub(crate) fn change_spot(alloc: Global, handle: &mut Handle, index: usize, end: usize) -> Spot
+    ensures spot { result ≡ spot_told (told_of (state handle.old)).changes index end }
+    ensures unchanged { state handle.new ≡ state handle.old }
+{
+    if !handle.full {
+        return Spot {
+            line: 0,
+            column: 0,
+            bytes: 0,
+            units: 0,
+        };
+    }
+    let session = handle.take(alloc);
+    let spot = session.change_spot(index, end);
+    handle.put(session);
+    spot
 }

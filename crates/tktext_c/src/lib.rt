@@ -8,7 +8,8 @@ ghost use Rattle.tktext_c.specs.Calls.{Makes, Calls, Feeds, Takes, Tells, finish
 ghost use Rattle.tktext_c.specs.Codes.{make_code, call_code, feed_code, turn_code, told_code};
 ghost use Rattle.tktext_c.specs.Handles.{state, status_of, said_of};
 ghost use Rattle.tktext_c.specs.Room.{over};
-ghost use Rattle.tktext_c.specs.Told.{told_of, place_told, text_told, word_given, words_of, CallsTold, TakesTold};
+ghost use Rattle.tktext_c.specs.Told.{told_of, mark_told, place_told, spot_told, text_told, word_given, words_of};
+ghost use Rattle.tktext_c.specs.Told.{CallsTold, TakesTold};
 
 mod ends;
 mod exports;
@@ -129,7 +130,7 @@ pub extern "C" fn tktext_word(
 /// How many changes the last call that tells told of.
 #[unsafe(no_mangle)]
 pub extern "C" fn tktext_told(alloc: Global, handle: &mut Handle) -> usize
-    ensures count { result ≡ length (told_of (state handle.old)) }
+    ensures count { result ≡ length (told_of (state handle.old)).changes }
     ensures unchanged { state handle.new ≡ state handle.old }
 {
     if !handle.full {
@@ -144,7 +145,7 @@ pub extern "C" fn tktext_told(alloc: Global, handle: &mut Handle) -> usize
 /// The offset of one of these changes, in characters; 0 where there is none.
 #[unsafe(no_mangle)]
 pub extern "C" fn tktext_told_at(alloc: Global, handle: &mut Handle, index: usize) -> usize
-    ensures place { result ≡ (place_told (told_of (state handle.old)) index).0 }
+    ensures place { result ≡ (place_told (told_of (state handle.old)).changes index).0 }
     ensures unchanged { state handle.new ≡ state handle.old }
 {
     exports::change_place(alloc, handle, index).0
@@ -153,7 +154,7 @@ pub extern "C" fn tktext_told_at(alloc: Global, handle: &mut Handle, index: usiz
 /// How many characters it took out; 0 where there is none.
 #[unsafe(no_mangle)]
 pub extern "C" fn tktext_told_removed(alloc: Global, handle: &mut Handle, index: usize) -> usize
-    ensures count { result ≡ (place_told (told_of (state handle.old)) index).1 }
+    ensures count { result ≡ (place_told (told_of (state handle.old)).changes index).1 }
     ensures unchanged { state handle.new ≡ state handle.old }
 {
     exports::change_place(alloc, handle, index).1
@@ -167,8 +168,8 @@ pub extern "C" fn tktext_told_inserted(
     index: usize,
     room: &mut [u8],
 ) -> usize
-    ensures length { result ≡ min (length (text_told (told_of (state handle.old)) index)) usize.MAX }
-    ensures copied { room.new ≡ over (text_told (told_of (state handle.old)) index) room.old }
+    ensures length { result ≡ min (length (text_told (told_of (state handle.old)).changes index)) usize.MAX }
+    ensures copied { room.new ≡ over (text_told (told_of (state handle.old)).changes index) room.old }
     ensures unchanged { state handle.new ≡ state handle.old }
 {
     if !handle.full {
@@ -176,6 +177,99 @@ pub extern "C" fn tktext_told_inserted(
     }
     let session = handle.take(alloc);
     let length = session.copy_inserted(index, room);
+    handle.put(session);
+    length
+}
+
+/// The line of one of the ends of a change, from 1: of where it begins (0), of where what it took out ended in the
+/// text before it (1), or of where what it put in ends in the text after it (2); 0 where there is no change.
+#[unsafe(no_mangle)]
+pub extern "C" fn tktext_told_line(
+    alloc: Global,
+    handle: &mut Handle,
+    index: usize,
+    end: usize,
+) -> usize
+    ensures line { result ≡ (spot_told (told_of (state handle.old)).changes index end).line }
+    ensures unchanged { state handle.new ≡ state handle.old }
+{
+    exports::change_spot(alloc, handle, index, end).line
+}
+
+/// How many characters stand in that line before that end.
+#[unsafe(no_mangle)]
+pub extern "C" fn tktext_told_column(
+    alloc: Global,
+    handle: &mut Handle,
+    index: usize,
+    end: usize,
+) -> usize
+    ensures column { result ≡ (spot_told (told_of (state handle.old)).changes index end).column }
+    ensures unchanged { state handle.new ≡ state handle.old }
+{
+    exports::change_spot(alloc, handle, index, end).column
+}
+
+/// How many bytes of UTF-8 stand in that line before that end.
+#[unsafe(no_mangle)]
+pub extern "C" fn tktext_told_bytes(
+    alloc: Global,
+    handle: &mut Handle,
+    index: usize,
+    end: usize,
+) -> usize
+    ensures bytes { result ≡ (spot_told (told_of (state handle.old)).changes index end).bytes }
+    ensures unchanged { state handle.new ≡ state handle.old }
+{
+    exports::change_spot(alloc, handle, index, end).bytes
+}
+
+/// How many units of UTF-16 stand in that line before that end.
+#[unsafe(no_mangle)]
+pub extern "C" fn tktext_told_units(
+    alloc: Global,
+    handle: &mut Handle,
+    index: usize,
+    end: usize,
+) -> usize
+    ensures units { result ≡ (spot_told (told_of (state handle.old)).changes index end).units }
+    ensures unchanged { state handle.new ≡ state handle.old }
+{
+    exports::change_spot(alloc, handle, index, end).units
+}
+
+/// How many marks the last command that tells moved by an order, as `mark set` and `mark unset` do.
+#[unsafe(no_mangle)]
+pub extern "C" fn tktext_told_marks(alloc: Global, handle: &mut Handle) -> usize
+    ensures count { result ≡ length (told_of (state handle.old)).marks }
+    ensures unchanged { state handle.new ≡ state handle.old }
+{
+    if !handle.full {
+        return 0;
+    }
+    let session = handle.take(alloc);
+    let count = session.count_marks();
+    handle.put(session);
+    count
+}
+
+/// Copies the name of one of these marks to the front of the room, as far as it goes, and gives the length of all.
+#[unsafe(no_mangle)]
+pub extern "C" fn tktext_told_mark(
+    alloc: Global,
+    handle: &mut Handle,
+    index: usize,
+    room: &mut [u8],
+) -> usize
+    ensures length { result ≡ min (length (mark_told (told_of (state handle.old)).marks index)) usize.MAX }
+    ensures copied { room.new ≡ over (mark_told (told_of (state handle.old)).marks index) room.old }
+    ensures unchanged { state handle.new ≡ state handle.old }
+{
+    if !handle.full {
+        return 0;
+    }
+    let session = handle.take(alloc);
+    let length = session.copy_mark(index, room);
     handle.put(session);
     length
 }

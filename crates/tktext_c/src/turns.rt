@@ -5,6 +5,7 @@ ghost use Rattle.tcl_words.specs.Unread.{texts_of};
 ghost use Rattle.printing.specs.Lines.{piece};
 ghost use Rattle.tktext_c.specs.Calls.{Called, Fed, Gives, Tells, Turns, can_by, finished, given_of, status_after};
 ghost use Rattle.tktext_c.specs.Told.{CalledTold, GivesTold, TurnsTold, place_told, text_told, untold, word_given};
+ghost use Rattle.tktext_c.specs.Told.{mark_told, spot_of, spot_told};
 ghost use Rattle.tktext_c.specs.Room.{over};
 ghost use Rattle.tktext_c.specs.State.{said_text, start, state_of};
 
@@ -12,7 +13,7 @@ use crate::ends::{CallEnd, FeedEnd, Given, TurnEnd, Way};
 use crate::room::{copy_line, copy_whole};
 use crate::session::{Said, Session};
 use crate::words::{WordsFault, read_words};
-use peers::{Answer, ChangeList, Fault, World};
+use peers::{Answer, ChangeList, Fault, MovedMarks, Spot, TextChange, World};
 use printing::Line;
 use std::alloc::Global;
 use std::mem;
@@ -37,6 +38,7 @@ impl Session {
             spare: Vec::new(alloc),
             said: Said::Nothing,
             told: ChangeList::new(alloc),
+            marks: MovedMarks::new(alloc),
             status: 0,
         }
     }
@@ -72,6 +74,7 @@ impl Session {
     {
         if tells {
             self.told = ChangeList::new(alloc);
+            self.marks = MovedMarks::new(alloc);
         }
     }
 
@@ -97,6 +100,7 @@ impl Session {
         match self.world.call_told(&words) {
             Ok(told) => {
                 self.told = told.changes;
+                self.marks = told.marks;
                 self.say(words, Ok(told.answer))
             }
             Err(fault) => self.say(words, Err(fault)),
@@ -133,14 +137,14 @@ impl Session {
 
     /// How many changes the last command that tells told of.
     pub(crate) fn count_told(&self) -> usize
-        ensures { result ≡ length (state_of self.now).told }
+        ensures { result ≡ length (state_of self.now).told.changes }
     {
         self.told.as_slice().len()
     }
 
     /// The offset of a change that was told, and how many characters it took out; 0 where there is none.
     pub(crate) fn change_place(&self, index: usize) -> (usize, usize)
-        ensures { result ≡ place_told (state_of self.now).told index }
+        ensures { result ≡ place_told (state_of self.now).told.changes index }
     {
         match self.told.as_slice().get(index) {
             None => (0, 0),
@@ -150,12 +154,46 @@ impl Session {
 
     /// Copies the text that a change put in to the front of the room, as far as it goes, and gives the length of all.
     pub(crate) fn copy_inserted(&self, index: usize, room: &mut [u8]) -> usize
-        ensures length { result ≡ min (length (text_told (state_of self.now).told index)) usize.MAX }
-        ensures copied { room.new ≡ over (text_told (state_of self.now).told index) room.old }
+        ensures length { result ≡ min (length (text_told (state_of self.now).told.changes index)) usize.MAX }
+        ensures copied { room.new ≡ over (text_told (state_of self.now).told.changes index) room.old }
     {
         match self.told.as_slice().get(index) {
             None => 0,
             Some(change) => copy_whole(change.inserted.as_str(), room),
+        }
+    }
+
+    /// One of the ends of a change that was told: where it begins (0), where what it took out ended in the text before
+    /// it (1), or where what it put in ends in the text after it (2 and above); zeros where there is no change.
+    pub(crate) fn change_spot(&self, index: usize, end: usize) -> Spot
+        ensures { result ≡ spot_told (state_of self.now).told.changes index end }
+    {
+        match self.told.as_slice().get(index) {
+            None => Spot {
+                line: 0,
+                column: 0,
+                bytes: 0,
+                units: 0,
+            },
+            Some(change) => spot_of(change, end),
+        }
+    }
+
+    /// How many marks the last command that tells moved.
+    pub(crate) fn count_marks(&self) -> usize
+        ensures { result ≡ length (state_of self.now).told.marks }
+    {
+        self.marks.as_slice().len()
+    }
+
+    /// Copies the name of one of them to the front of the room, as far as it goes, and gives the length of all.
+    pub(crate) fn copy_mark(&self, index: usize, room: &mut [u8]) -> usize
+        ensures length { result ≡ min (length (mark_told (state_of self.now).told.marks index)) usize.MAX }
+        ensures copied { room.new ≡ over (mark_told (state_of self.now).told.marks index) room.old }
+    {
+        match self.marks.as_slice().get(index) {
+            None => 0,
+            Some(name) => copy_whole(name.as_str(), room),
         }
     }
 
@@ -272,6 +310,17 @@ impl Session {
             Said::Reply(reply) => copy_line(&Line::of_reply(&self.words, reply), room),
             Said::Fault(fault) => copy_line(&Line::of_script_fault(*fault), room),
         }
+    }
+}
+
+/// One of the ends of a change, by its number.
+fn spot_of(change: &TextChange, end: usize) -> Spot
+    ensures { result ≡ spot_of change.now end }
+{
+    match end {
+        0 => change.start,
+        1 => change.old_end,
+        _ => change.new_end,
     }
 }
 

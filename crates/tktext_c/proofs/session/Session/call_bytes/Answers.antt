@@ -1,5 +1,4 @@
-use Rattle.std.proofs.Common.{ap, refl}
-use Rattle.std.specs.Prelude.{Err}
+use Rattle.std.proofs.Common.{ap, refl, Err}
 use Rattle.tcl_words.specs.Unread.{texts_of}
 use Rattle.tktext_c.specs.declared.ends.Given.TheVariants as given
 use Rattle.tktext_c.specs.declared.ends.CallEnd.TheVariants as call

@@ -1,5 +1,4 @@
-use Rattle.std.proofs.Common.{◌≢◌, [], ap, rules}
-use Rattle.std.specs.Prelude.{Err}
+use Rattle.std.proofs.Common.{◌≢◌, [], ap, rules, Err}
 use Rattle.tcl_words.specs.declared.fault.ScriptFault.TheVariants.{Memory}
 use Rattle.tcl_words.specs.Unread.{texts_of}
 use Rattle.tktext_c.specs.declared.ends.TurnEnd.TheVariants as turn
