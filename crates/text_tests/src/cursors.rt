@@ -185,6 +185,23 @@ fn a_cursor_looks_around(rt: HostRuntime) -> Result<(), Fail> {
 }
 
 #[test]
+fn a_cursor_gives_its_parts(rt: HostRuntime) -> Result<(), Fail> {
+    let mut cursor = Cursor::new(rt.alloc(), 6, 4)?;
+    make_all(
+        &rt,
+        rt.alloc(),
+        &mut cursor,
+        &[Move::Seek(1), Move::Put("xy"), Move::Remove(3)],
+    )?;
+    let it = cursor.into_parts(rt.alloc())?;
+    assert!(rt; it.parts.len() == 3 && it.fresh.len() == 2);
+    let (old, new) = (&it.parts[2], &it.parts[1]);
+    assert!(rt; old.from == 4 && old.to == 6 && old.slots.is_none());
+    assert!(rt; new.from == 0 && new.to == 2 && new.slots.is_some());
+    Ok(())
+}
+
+#[test]
 fn lines_begin(rt: HostRuntime) -> Result<(), Fail> {
     check_lines::<PlainStore>(&rt, rt.alloc())?;
     check_lines::<LineStore<LineVec>>(&rt, rt.alloc())?;

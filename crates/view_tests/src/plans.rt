@@ -5,9 +5,11 @@ ghost use Rattle.undo_stack.specs.History.{no_history};
 ghost use Rattle.view_tests.specs.declared.plans.TheConstants.{RECORDING};
 
 use crate::scenes::store_of;
+use crate::told::are;
 use edit_ops::{
-    EditFault, EditRules, EditedText, Recording, SlottedText, Span, Target, anchors_stand, commit,
-    plan_clear, plan_delete, plan_insert, plan_redo, plan_replace, plan_tag, plan_undo,
+    EditFault, EditRules, EditedText, Hunk, Recording, SlottedText, Span, Target, anchors_stand,
+    commit, plan_clear, plan_delete, plan_insert, plan_redo, plan_replace, plan_tag, plan_undo,
+    reversal_hunks,
 };
 use std::alloc::{AllocError, Global};
 use std::process::Abort;
@@ -175,4 +177,29 @@ fn an_edit_is_undone_and_redone(rt: HostRuntime) -> Result<(), Fail> {
     holds(&rt, &text, "one two\n")?;
     redo(&rt, rt.alloc(), &limits, &mut text)?;
     holds(&rt, &text, "one x two\n")
+}
+
+// What becomes of the text where the last group is reverted, if there is one.
+fn undo_hunks<S: TextStore>(
+    alloc: Global,
+    limits: &Limits,
+    text: &EditedText<S>,
+) -> Result<Vec<Hunk>, AllocError>
+    requires { IsKept limits.now.chars RECORDING (state_in S.content text.now) }
+{
+    let Some(group) = text.history.last_undo() else {
+        return Ok(Vec::new(alloc));
+    };
+    reversal_hunks(alloc, &text.store, &group, true, limits.chars())
+}
+
+#[test]
+fn an_undo_takes_out_what_was_put_in(rt: HostRuntime) -> Result<(), Fail> {
+    let limits = Limits::new(100, 10, 10, 10, 10).ok_or("small numbers")?;
+    let mut text = edited::<PlainStore>(rt.alloc())?;
+    assert!(rt; 4 < text.store.len() && text.store.len() <= limits.chars());
+    insert(&rt, rt.alloc(), &limits, &mut text)?;
+    let hunks = undo_hunks(rt.alloc(), &limits, &text)?;
+    assert!(rt; are(&hunks, &[(4, 6, "")]));
+    Ok(())
 }
