@@ -22,11 +22,11 @@ class Mirror:
             self.make_in_copy(change)
 
     def make_in_copy(self, change: Change) -> None:
-        start = f"1.0 + {change.at} chars"
+        # A spot is an index once it is a string: its line, and its column there.
         if change.removed:
-            self.copy.delete(start, f"1.0 + {change.at + change.removed} chars")
+            self.copy.delete(str(change.start), str(change.old_end))
         if change.inserted:
-            self.copy.insert(start, change.inserted)
+            self.copy.insert(str(change.start), change.inserted)
 
 
 if __name__ == "__main__":

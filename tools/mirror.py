@@ -5,7 +5,8 @@
 
 MODULE is the folder of the Python package, and the scripts are those of tools/fuzz.py.  After each command the string
 and the text of the other world have to be what the text is, and what is told has to be no idle change of what stood
-there.  Where there is no such package a line says that it is skipped.  Ends in a line `N passed, M failed`; the exit
+there, whose three ends are where it says; and of a command that leaves the text the marks told have to be just those
+that stand elsewhere, are new, or are gone.  Where there is no such package a line says that it is skipped.  Ends in a line `N passed, M failed`; the exit
 status is 1 if anything failed.
 """
 
@@ -19,13 +20,45 @@ from harness import Tally
 TOP = os.path.dirname(os.path.dirname(os.path.abspath(__file__)))
 
 
+def spot_in(text, offset):
+    """Where an offset of a text is, as a Spot counts."""
+    line = text[:offset].rpartition("\n")[2]
+    return (text.count("\n", 0, offset) + 1, len(line), len(line.encode()), len(line.encode("utf-16-le")) // 2)
+
+
+class Followed:
+    """A text, by a peer of our own that shows all of it and that no script destroys, and what follows it."""
+
+    def __init__(self, whole, mirror):
+        self.whole, self.mirror = whole, mirror
+        self.is_edited = False
+        self.moved = []
+        self.places = self.find_marks()
+
+    def moved_on(self, names):
+        self.moved.extend(names)
+
+    def find_marks(self):
+        """Where each mark stands that all peers share."""
+        marks = self.whole.dump("1.0", "end", mark=True)
+        return {name: index for _, name, index in marks if name not in ("insert", "current")}
+
+    def take_moves(self):
+        """The marks that stand elsewhere than before, and those that were told, of a command that leaves the text."""
+        old, self.places = self.places, self.find_marks()
+        told, self.moved, is_edited, self.is_edited = self.moved, [], self.is_edited, False
+        if is_edited:
+            return [], told
+        return sorted(name for name in {**old, **self.places} if old.get(name) != self.places.get(name)), sorted(told)
+
+
 class Watch:
-    """The texts of a world, each by a peer of our own that shows all of it and that no script destroys."""
+    """The texts of a world, and what was wrong in what was told of them."""
 
     def __init__(self, world, package, mirror_class):
         self.world, self.package, self.mirror_class = world, package, mirror_class
         self.followed = []
-        self.changes = 0
+        self.changes = self.moves = 0
         self.faults = []
 
     def begin(self, name):
@@ -39,28 +72,40 @@ class Watch:
         mirror = self.mirror_class(whole)
         # Looked at before the mirror follows: each change has to be one of what the mirror was till then.
         mirror.stop()
-        whole.on_change(lambda changes: self.check_changes(mirror.string, changes))
+        followed = Followed(whole, mirror)
+        whole.on_change(lambda changes: self.check_changes(followed, changes))
         whole.on_change(mirror.follow)
-        self.followed.append((whole, mirror))
+        whole.on_marks(followed.moved_on)
+        self.followed.append(followed)
 
-    def check_changes(self, text, changes):
+    def check_changes(self, followed, changes):
+        followed.is_edited = True
+        text = followed.mirror.string
         for change in changes:
             end = change.at + change.removed
             if end > len(text) or text[change.at:end] == change.inserted:
                 self.faults.append(f"{change} is no change of {text!r}")
-            text = change.made_in(text)
+            new = change.made_in(text)
+            ends = (spot_in(text, change.at), spot_in(text, end), spot_in(new, change.at + len(change.inserted)))
+            if (change.start, change.old_end, change.new_end) != ends:
+                self.faults.append(f"{change} of {text!r} has the ends {ends}")
+            text = new
         self.changes += len(changes)
 
     def compare(self):
-        for whole, mirror in self.followed:
-            now = whole.get("1.0", "end")
+        for followed in self.followed:
+            now, mirror = followed.whole.get("1.0", "end"), followed.mirror
             for name, other in (("string", mirror.string), ("copy", mirror.copy.get("1.0", "end"))):
                 if other != now:
                     self.faults.append(f"the {name} is {other!r}, and the text {now!r}")
+            moved, told = followed.take_moves()
+            if moved != told:
+                self.faults.append(f"the marks {moved} moved, and {told} were told")
+            self.moves += len(told)
 
 
 def run(script, package, mirror_class):
-    """What was wrong in a script, and how many changes were told."""
+    """What was wrong in a script, and how many changes and marks were told."""
     world = package.World()
     watch = Watch(world, package, mirror_class)
     world.feed(script)
@@ -72,7 +117,7 @@ def run(script, package, mirror_class):
         if watch.faults:
             break
     world.close()
-    return watch.faults, watch.changes
+    return watch.faults, watch.changes, watch.moves
 
 
 def main():
@@ -88,12 +133,13 @@ def main():
     import mirror
     import tktext
 
-    tally, changes = Tally(), 0
+    tally, changes, moves = Tally(), 0, 0
     for seed in range(options.first, options.first + options.seeds):
-        faults, count = run(scripts.script(seed), tktext, mirror.Mirror)
+        faults, told, moved = run(scripts.script(seed), tktext, mirror.Mirror)
         tally.check(not faults, f"seed {seed}: {' '.join(faults[:1])}")
-        changes += count
+        changes, moves = changes + told, moves + moved
     tally.check(changes > options.seeds, f"only {changes} changes were told")
+    tally.check(moves > options.seeds // 4, f"only {moves} marks were told")
     return tally.close()
 
 

@@ -489,8 +489,10 @@ print(runner.summarize().failed)
 FOLLOWED = """
 text, told = Text(undo=True, name=".t"), []
 peer, other = text.peer_create(".p"), Text(text.world, name=".u")
-end = text.on_change(lambda changes: told.append([tuple(change) for change in changes]))
+end = text.on_change(lambda changes: told.append([change[:3] for change in changes]))
 peer.on_change(lambda changes: told.append(sum(change.removed for change in changes)))
+ended = text.on_marks(lambda names: told.append(names))
+peer.on_marks(lambda names: told.append(len(names)))
 def show(answer):
     print(answer, told)
     told.clear()
@@ -498,7 +500,9 @@ show(text.insert("1.0", "one\\U0001f600", "x"))
 show(text.world.call(".p", "delete", "1.0", "1.1", "1.2"))
 show(text.edit_undo())
 show(other.insert("1.0", "another text"))
-show([text.tag_add("x", "1.0"), text.mark_set("m", "1.0"), text.insert("1.0", ""), text.delete("9.0")])
+show([text.tag_add("x", "1.0"), text.mark_gravity("insert", "left"), text.insert("1.0", ""), text.delete("9.0")])
+show([text.mark_set("m", "1.0"), text.mark_set("m", "1.0"), text.mark_set("insert", "1.1"), peer.mark_set("m", "end")])
+show((text.mark_unset("m", "n", "insert", "m"), tried(text.mark_set, "m", "nowhere"), ended(), text.mark_set("m", "1.0")))
 show(tried(text.insert, "nowhere", "x"))
 text.world.feed(b".p insert 1.0 y; .t get 1.0 1.1; .u insert 1.0 z\\n")
 show(list(text.world.lines()))
@@ -507,6 +511,10 @@ show((text.world.give([b".t", b"replace", b"1.0", b"1.1", b"q"]), text.world.sai
 answered = text.on_change(lambda changes: len(text.get("1.0", "end")) < 9 and text.insert("end", "!"))
 show(text.insert("1.0", "a"))
 answered(), answered(), end()
+ends = text.on_change(lambda changes: [told.append((str(change.start), *change[4:])) for change in changes])
+show(peer.insert("1.1", "\\u00e9\\n\\U0001f600"))
+show(peer.delete("1.1", "2.1"))
+ends()
 show((peer.changes(), text.insert("1.0", "b"), peer.changes(), peer.changes()))
 text.destroy()
 show(peer.insert("1.0", "c"))
@@ -515,15 +523,19 @@ show(other.delete("1.0", "end"))
 """
 FOLLOWED_SAYS = """None [[(0, 0, 'one😀')], 0]
  [[(2, 1, ''), (0, 1, '')], 2]
- [[(0, 0, 'o'), (2, 0, 'e')], 0]
+ [[(1, 0, 'e'), (0, 0, 'o')], 0]
 None []
-[None, None, None, None] []
+[None, '', None, None] []
+[None, None, None, None] [['m'], 1, ['insert'], ['m'], 1]
+(None, 'TclError: bad text index "nowhere"', None, None) [['m'], 1, 1]
 TclError: bad text index "nowhere" []
 [b'\\n', b'y\\n', b'\\n'] [[(0, 0, 'y')], 0]
 (0, b'y\\n') []
 (0, b'\\n') [[(0, 1, ''), (0, 0, 'q')], 1]
 None [[(0, 0, 'a')], 0, [(6, 0, '!')], 0, [(7, 0, '!')], 0]
-([], None, [Change(at=0, removed=0, inserted='b')], []) [0]
+None [0, ('1.1', Spot(line=1, column=1, bytes=1, units=1), Spot(line=2, column=1, bytes=4, units=2))]
+None [3, ('1.1', Spot(line=2, column=1, bytes=4, units=2), Spot(line=1, column=1, bytes=1, units=1))]
+([], None, [Change(at=0, removed=0, inserted='b', start=Spot(line=1, column=0, bytes=0, units=0), old_end=Spot(line=1, column=0, bytes=0, units=0), new_end=Spot(line=1, column=1, bytes=1, units=1))], []) [0]
 None [0]
 None []
 """

@@ -572,8 +572,17 @@ static PyObject *world_word(World *world, PyObject *Py_UNUSED(nothing))
     return text_of_world(world, tktext_word, 0);
 }
 
+/* An end of a change: its line, and how many characters, bytes and units of UTF-16 stand in that before it. */
+static PyObject *spot_of(World *world, size_t change, size_t end)
+{
+    return Py_BuildValue("nnnn", (Py_ssize_t)tktext_told_line(&world->handle, change, end),
+                         (Py_ssize_t)tktext_told_column(&world->handle, change, end),
+                         (Py_ssize_t)tktext_told_bytes(&world->handle, change, end),
+                         (Py_ssize_t)tktext_told_units(&world->handle, change, end));
+}
+
 /* What the last command changed of a text, where that is kept: of each change the offset, how many characters were taken
-   out, and what was put in. */
+   out, what was put in, and its three ends. */
 static PyObject *world_told(World *world, PyObject *Py_UNUSED(nothing))
 {
     PyObject *told = PyList_New(0);
@@ -581,12 +590,25 @@ static PyObject *world_told(World *world, PyObject *Py_UNUSED(nothing))
     for (size_t at = 0; told != NULL && at < count; at++) {
         PyObject *text = text_of_world(world, tktext_told_inserted, at);
         PyObject *change = text == NULL ? NULL
-            : Py_BuildValue("nnN", (Py_ssize_t)tktext_told_at(&world->handle, at),
-                            (Py_ssize_t)tktext_told_removed(&world->handle, at), text);
+            : Py_BuildValue("nnNNNN", (Py_ssize_t)tktext_told_at(&world->handle, at),
+                            (Py_ssize_t)tktext_told_removed(&world->handle, at), text,
+                            spot_of(world, at, TKTEXT_START), spot_of(world, at, TKTEXT_OLD_END),
+                            spot_of(world, at, TKTEXT_NEW_END));
         if (append(told, change) < 0)
             Py_CLEAR(told);
     }
     return told;
+}
+
+/* The names of the marks that the last command moved by an order, where that is kept. */
+static PyObject *world_moved(World *world, PyObject *Py_UNUSED(nothing))
+{
+    PyObject *names = PyList_New(0);
+    size_t count = tktext_told_marks(&world->handle);
+    for (size_t mark = 0; names != NULL && mark < count; mark++)
+        if (append(names, text_of_world(world, tktext_told_mark, mark)) < 0)
+            Py_CLEAR(names);
+    return names;
 }
 
 static PyMethodDef world_methods[] = {
@@ -603,6 +625,7 @@ static PyMethodDef world_methods[] = {
     {"_tell", (PyCFunction)world_tell, METH_O, NULL},
     {"_word", (PyCFunction)world_word, METH_NOARGS, NULL},
     {"_told", (PyCFunction)world_told, METH_NOARGS, NULL},
+    {"_moved", (PyCFunction)world_moved, METH_NOARGS, NULL},
     {NULL, NULL, 0, NULL},
 };
 

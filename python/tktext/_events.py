@@ -30,16 +30,38 @@ class Event:
         return f"<{self.type} of {self.widget}>"
 
 
+class Spot(NamedTuple):
+    """Where a place of a text is: its line, from 1, and how much of that stands before it.
+
+    That is `column` characters, as Tk counts them, `bytes` of UTF-8, as parsers do, or `units` of UTF-16, as language
+    servers do.
+
+    >>> str(Spot(2, 1, 4, 2))
+    '2.1'
+    """
+
+    line: int
+    column: int
+    bytes: int
+    units: int
+
+    def __str__(self) -> str:
+        return f"{self.line}.{self.column}"
+
+
 class Change(NamedTuple):
     """A change of a text: from the character `at`, counted from 0, so many were `removed`, and others `inserted`.
 
-    >>> Change(1, 2, "o").made_in("aXXb")
-    'aob'
+    It began at the spot `start`; what it took out ended at `old_end`, in the text before it, and what it put in ends at
+    `new_end`, in the text after it.
     """
 
     at: int
     removed: int
     inserted: str
+    start: Spot
+    old_end: Spot
+    new_end: Spot
 
     def made_in(self, text: str) -> str:
         """A text after the change of it."""

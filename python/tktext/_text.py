@@ -140,6 +140,7 @@ class Text(_core.Widget):
         self._own_tags: dict[str, dict[str, str]] = {}
         self._bindings = Bindings()
         self._followers: list[Callable[[list[Change]], Any]] = []
+        self._mark_followers: list[Callable[[list[str]], Any]] = []
         # None as long as nobody asks for what changed.
         self._changed: list[Change] | None = None
         self._virtual: dict[str, dict[str, None]] = {}
@@ -850,18 +851,39 @@ class Text(_core.Widget):
 
         >>> text = Text()
         >>> end = text.on_change(print)
-        >>> text.insert("1.0", "one")
-        [Change(at=0, removed=0, inserted='one')]
+        >>> text.insert("1.0", "one")  # doctest: +NORMALIZE_WHITESPACE
+        [Change(at=0, removed=0, inserted='one', start=Spot(line=1, column=0, bytes=0, units=0),
+                old_end=Spot(line=1, column=0, bytes=0, units=0), new_end=Spot(line=1, column=3, bytes=3, units=3))]
         >>> end()
         """
-        self._followers.append(function)
-        self.world._follow_text(self, True)
-        return partial(self._end_following, function)
+        return self._follow(self._followers, function)
 
-    def _end_following(self, function: Callable[[list[Change]], Any]) -> None:
-        if function in self._followers:
-            self._followers.remove(function)
-        self.world._follow_text(self, bool(self._followers) or self._changed is not None)
+    def on_marks(self, function: Callable[[list[str]], Any]) -> Callable[[], None]:
+        """Has a function called behind each command that moves marks by an order, with the names of these.
+
+        Such orders are `mark_set` and `mark_unset`, and a mark was moved that stands elsewhere then, is new, or is gone.
+        Marks that go along with the text aren't named.  `insert` and `current` are the widget's own; of any other mark
+        each peer is told.  It gives a function that ends this.
+
+        >>> text = Text()
+        >>> end = text.on_marks(print)
+        >>> text.mark_set("here", "1.0"), text.mark_set("here", "1.0")
+        ['here']
+        (None, None)
+        >>> end()
+        """
+        return self._follow(self._mark_followers, function)
+
+    def _follow(self, followers: list[Callable[[Any], Any]], function: Callable[[Any], Any]) -> Callable[[], None]:
+        followers.append(function)
+        self.world._follow_text(self, True)
+        return partial(self._end_following, followers, function)
+
+    def _end_following(self, followers: list[Callable[[Any], Any]], function: Callable[[Any], Any]) -> None:
+        if function in followers:
+            followers.remove(function)
+        is_followed = bool(self._followers or self._mark_followers) or self._changed is not None
+        self.world._follow_text(self, is_followed)
 
     def changes(self) -> list[Change]:
         """The changes of the text since this was asked last, as `on_change` tells them; the first time there are none.
@@ -871,19 +893,21 @@ class Text(_core.Widget):
         []
         >>> text.insert("1.0", "one"), text.delete("1.0")
         (None, None)
-        >>> text.changes()
-        [Change(at=0, removed=0, inserted='one'), Change(at=0, removed=1, inserted='')]
+        >>> [(change.at, change.removed, change.inserted, str(change.new_end)) for change in text.changes()]
+        [(0, 0, 'one', '1.3'), (0, 1, '', '1.0')]
         """
         changed = self._changed or []
         self._changed = []
         self.world._follow_text(self, True)
         return changed
 
-    def _take_changes(self, changes: list[Change]) -> None:
+    def _take_changes(self, changes: list[Change], marks: list[str]) -> None:
         if self._changed is not None:
             self._changed.extend(changes)
-        for function in list(self._followers):
+        for function in list(self._followers) if changes else ():
             called(function, list(changes))
+        for function in list(self._mark_followers) if marks else ():
+            called(function, list(marks))
 
     # ---- what a widget answers that isn't shown
 

@@ -10,13 +10,15 @@ from functools import partial
 from typing import TYPE_CHECKING, Any, Callable, Iterable, Iterator, Sequence
 
 from . import _core
-from ._events import Change, Event
+from ._events import Change, Event, Spot
 
 if TYPE_CHECKING:
     from ._text import Text
 
 # The status of a script that can't be read on.
 _SCRIPT_FAULT = 2
+# Marks of which each widget has its own.
+_OWN_MARKS = ("insert", "current")
 # How many numbers the library's types for the four limits have.
 _LIMIT_NUMBERS = (2 ** (8 * struct.calcsize("N")), 2**16, 2**16, 2**16)
 
@@ -215,18 +217,22 @@ class World(_core.World):
     def _notice(self) -> None:
         """Sends the events of the last command, and those that come of their handlers, one after the other."""
         self._last_line = None
-        if self._followed and (told := self._told()):
-            self._tell_peers(self._word(), [Change(*change) for change in told])
+        if self._followed:
+            changes = [Change(*change[:3], *map(Spot._make, change[3:])) for change in self._told()]
+            marks = self._moved()
+            if changes or marks:
+                self._tell_peers(self._word(), changes, marks)
         for text in self._watched:
             self._events.extend(partial(text._bindings.send, event) for event in text._news())
         self._send()
 
-    def _tell_peers(self, name: str, changes: list[Change]) -> None:
-        """Tells the widgets on the text that the one of a name shows what changed of it."""
+    def _tell_peers(self, name: str, changes: list[Change], marks: list[str]) -> None:
+        """Tells the widgets on the text that the one of a name shows what changed of it, and which marks were moved."""
         shown = _core.split_list(self._run((name, "peer", "names")))
         for text in self._followed:
             if text._name == name or text._name in shown:
-                self._events.append(partial(text._take_changes, changes))
+                shared = marks if text._name == name else [mark for mark in marks if mark not in _OWN_MARKS]
+                self._events.append(partial(text._take_changes, changes, shared))
 
     def _send(self) -> None:
         if self._is_sending:
