@@ -6,7 +6,11 @@
    makes a command `.u` too; `tktext::destroy ?W ..?` takes widgets away, with their commands, whatever these are called
    by then, and a command that is renamed to the empty name takes its own widget with it.  `tktext::onchange W prefix` has
    a command called behind each change of the text that W shows, by whichever peer, with a list of the changes: each is
-   a list of an offset in characters, how many characters were taken out there, and what was put in.  All widgets of an
+   a list of an offset in characters, how many characters were taken out there, what was put in, and three ends: where the
+   change begins, where what was taken out ended in the text before it, and where what was put in ends in the text after
+   it; an end is a list of a line, and of how many characters, bytes of UTF-8 and units of UTF-16 stand in that before it.
+   `tktext::onmarks W prefix` has a command called behind each command that moves marks by an order, as `mark set` does,
+   with a list of their names, `insert` and `current` only where they are W's own.  All widgets of an
    interpreter stand in one world, which goes with it.  A refused command is an error of its text, behind which stands what that
    leaves unsaid, as the form of a command; its error code is `TKTEXT FAULT` and the text alone.  The code is `TKTEXT
    MEMORY` where memory was refused, and `TKTEXT SIZE` where words or an answer have more bytes than a value of Tcl can
@@ -41,6 +45,9 @@ typedef struct World {
     int followed;
 } World;
 
+/* What a widget is followed by: who hears of the changes of its text, and who of the marks that are moved there. */
+enum { CHANGES, MARKS, WAYS };
+
 /* Whether a widget stands in the world; or it was destroyed, and its command is yet to be deleted, or is just then. */
 enum { STANDS, IS_DESTROYED, IS_DELETED };
 
@@ -50,8 +57,8 @@ struct Widget {
     Tcl_Obj *name;
     Tcl_Command command;
     int state;
-    /* The words that are called with what changed of its text, or NULL. */
-    Tcl_Obj *follower;
+    /* The words that are called with what changed, or NULL. */
+    Tcl_Obj *followers[WAYS];
 };
 
 static void let_go(void *data)
@@ -319,16 +326,17 @@ static int give(Tcl_Interp *interp, World *world, Tcl_Obj *first, int count, Tcl
 
 /* ---- What changed */
 
-/* What a change put in; NULL where there is no memory for it, or Tcl can't hold it. */
-static Tcl_Obj *inserted(World *world, size_t change)
+/* A text that was told, by a call that copies it to some room and gives its length; NULL where there is no memory for it,
+   or Tcl can't hold it. */
+static Tcl_Obj *text_told(World *world, size_t (*copy)(tktext *, size_t, uint8_t *, size_t), size_t index)
 {
     uint8_t fixed[FIXED_BYTES], *text = fixed;
-    size_t length = tktext_told_inserted(&world->handle, change, fixed, sizeof fixed);
+    size_t length = copy(&world->handle, index, fixed, sizeof fixed);
     if (length > sizeof fixed) {
         text = fits(length, 0) ? malloc(length) : NULL;
         if (text == NULL)
             return NULL;
-        tktext_told_inserted(&world->handle, change, text, length);
+        copy(&world->handle, index, text, length);
     }
     size_t growth = growth_of(text, length);
     Tcl_Obj *value = fits(length, growth) ? value_of(text, length, growth) : NULL;
@@ -336,22 +344,70 @@ static Tcl_Obj *inserted(World *world, size_t change)
     return value;
 }
 
-/* The changes that were told, each as a list; NULL where there is no memory for them. */
-static Tcl_Obj *changes_of(World *world)
+static Tcl_Obj *number_of(size_t number)
 {
-    Tcl_Obj *changes = Tcl_NewListObj(0, NULL);
-    size_t count = tktext_told(&world->handle);
-    for (size_t change = 0; change < count; change++) {
-        Tcl_Obj *text = inserted(world, change);
-        if (text == NULL) {
-            Tcl_DecrRefCount(changes);
+    return Tcl_NewWideIntObj((Tcl_WideInt)number);
+}
+
+/* An end of a change: a line, and how many characters, bytes and units of UTF-16 stand in that before it. */
+static Tcl_Obj *spot_of(World *world, size_t change, size_t end)
+{
+    Tcl_Obj *numbers[] = {number_of(tktext_told_line(&world->handle, change, end)),
+                          number_of(tktext_told_column(&world->handle, change, end)),
+                          number_of(tktext_told_bytes(&world->handle, change, end)),
+                          number_of(tktext_told_units(&world->handle, change, end))};
+    return Tcl_NewListObj(4, numbers);
+}
+
+/* A change that was told, as a list; NULL where there is no memory for it. */
+static Tcl_Obj *change_of(World *world, size_t change)
+{
+    Tcl_Obj *text = text_told(world, tktext_told_inserted, change);
+    if (text == NULL)
+        return NULL;
+    Tcl_Obj *parts[] = {number_of(tktext_told_at(&world->handle, change)),
+                        number_of(tktext_told_removed(&world->handle, change)), text,
+                        spot_of(world, change, TKTEXT_START), spot_of(world, change, TKTEXT_OLD_END),
+                        spot_of(world, change, TKTEXT_NEW_END)};
+    return Tcl_NewListObj(6, parts);
+}
+
+/* The name of a mark that was told; NULL where there is no memory for it. */
+static Tcl_Obj *mark_of(World *world, size_t mark)
+{
+    return text_told(world, tktext_told_mark, mark);
+}
+
+/* So many things that were told, as a list; NULL where there is no memory for them. */
+static Tcl_Obj *all_told(World *world, size_t count, Tcl_Obj *(*one)(World *, size_t))
+{
+    Tcl_Obj *all = Tcl_NewListObj(0, NULL);
+    for (size_t index = 0; index < count; index++) {
+        Tcl_Obj *told = one(world, index);
+        if (told == NULL) {
+            Tcl_DecrRefCount(all);
             return NULL;
         }
-        Tcl_Obj *parts[] = {Tcl_NewWideIntObj((Tcl_WideInt)tktext_told_at(&world->handle, change)),
-                            Tcl_NewWideIntObj((Tcl_WideInt)tktext_told_removed(&world->handle, change)), text};
-        Tcl_ListObjAppendElement(NULL, changes, Tcl_NewListObj(3, parts));
+        Tcl_ListObjAppendElement(NULL, all, told);
     }
-    return changes;
+    return all;
+}
+
+static int is_word(Tcl_Obj *word, const char *text)
+{
+    return strcmp(Tcl_GetString(word), text) == 0;
+}
+
+/* Of the names of marks those that all peers share. */
+static Tcl_Obj *shared_of(Tcl_Obj *marks)
+{
+    int count;
+    Tcl_Obj **all, *shared = Tcl_NewListObj(0, NULL);
+    Tcl_ListObjGetElements(NULL, marks, &count, &all);
+    for (int number = 0; number < count; number++)
+        if (!is_word(all[number], "insert") && !is_word(all[number], "current"))
+            Tcl_ListObjAppendElement(NULL, shared, all[number]);
+    return shared;
 }
 
 /* The names of the peers of a widget, as a list in the interpreter's result. */
@@ -379,30 +435,50 @@ static int is_listed(Tcl_Obj *names, Tcl_Obj *name)
     return 0;
 }
 
-/* The words to be called of the widgets on the text of one, as a list, each with the changes behind them. */
-static Tcl_Obj *calls_of(Widget *changed, Tcl_Obj *peers, Tcl_Obj *changes)
+/* Adds the words to be called of a widget, with a list behind them, unless it is empty or nobody hears of it. */
+static void add_call(Tcl_Obj *calls, Tcl_Obj *follower, Tcl_Obj *told)
 {
-    Tcl_Obj *calls = Tcl_NewListObj(0, NULL);
+    int count;
+    Tcl_ListObjLength(NULL, told, &count);
+    if (follower == NULL || count == 0)
+        return;
+    Tcl_Obj *words = Tcl_DuplicateObj(follower);
+    Tcl_ListObjAppendElement(NULL, words, told);
+    Tcl_ListObjAppendElement(NULL, calls, words);
+}
+
+/* The words to be called of the widgets on the text of one, as a list, each with what it hears of behind them: all
+   changes, and the marks that are moved, of which the own ones concern the widget alone whose command it was. */
+static Tcl_Obj *calls_of(Widget *changed, Tcl_Obj *peers, Tcl_Obj *changes, Tcl_Obj *marks)
+{
+    Tcl_Obj *calls = Tcl_NewListObj(0, NULL), *shared = shared_of(marks);
+    Tcl_IncrRefCount(shared);
     for (Widget *widget = changed->world->widgets; widget != NULL; widget = widget->next) {
-        if (widget->follower == NULL || (widget != changed && !is_listed(peers, widget->name)))
+        if (widget != changed && !is_listed(peers, widget->name))
             continue;
-        Tcl_Obj *words = Tcl_DuplicateObj(widget->follower);
-        Tcl_ListObjAppendElement(NULL, words, changes);
-        Tcl_ListObjAppendElement(NULL, calls, words);
+        add_call(calls, widget->followers[CHANGES], changes);
+        add_call(calls, widget->followers[MARKS], widget == changed ? marks : shared);
     }
+    Tcl_DecrRefCount(shared);
     return calls;
 }
 
 /* The same, of what the last command told; NULL where there is no memory for that. */
 static Tcl_Obj *calls_behind(Tcl_Interp *interp, Widget *changed)
 {
-    Tcl_Obj *changes = changes_of(changed->world), *calls = NULL;
-    if (changes == NULL)
-        return NULL;
-    Tcl_IncrRefCount(changes);
-    if (peers_of(interp, changed) == TCL_OK)
-        calls = calls_of(changed, Tcl_GetObjResult(interp), changes);
-    Tcl_DecrRefCount(changes);
+    World *world = changed->world;
+    Tcl_Obj *changes = all_told(world, tktext_told(&world->handle), change_of);
+    Tcl_Obj *marks = all_told(world, tktext_told_marks(&world->handle), mark_of), *calls = NULL;
+    if (changes != NULL)
+        Tcl_IncrRefCount(changes);
+    if (marks != NULL)
+        Tcl_IncrRefCount(marks);
+    if (changes != NULL && marks != NULL && peers_of(interp, changed) == TCL_OK)
+        calls = calls_of(changed, Tcl_GetObjResult(interp), changes, marks);
+    if (changes != NULL)
+        Tcl_DecrRefCount(changes);
+    if (marks != NULL)
+        Tcl_DecrRefCount(marks);
     return calls;
 }
 
@@ -431,14 +507,15 @@ static void tell(Tcl_Interp *interp, Widget *widget)
 
 /* ---- Widgets */
 
-static void set_follower(Widget *widget, Tcl_Obj *follower)
+static void set_follower(Widget *widget, int way, Tcl_Obj *follower)
 {
-    widget->world->followed += (follower != NULL) - (widget->follower != NULL);
+    Tcl_Obj *old = widget->followers[way];
+    widget->world->followed += (follower != NULL) - (old != NULL);
     if (follower != NULL)
         Tcl_IncrRefCount(follower);
-    if (widget->follower != NULL)
-        Tcl_DecrRefCount(widget->follower);
-    widget->follower = follower;
+    if (old != NULL)
+        Tcl_DecrRefCount(old);
+    widget->followers[way] = follower;
 }
 
 static void unlink_widget(Widget *widget)
@@ -460,15 +537,11 @@ static void forget(void *data)
         Tcl_DecrRefCount(destroy);
     }
     unlink_widget(widget);
-    set_follower(widget, NULL);
+    for (int way = 0; way < WAYS; way++)
+        set_follower(widget, way, NULL);
     Tcl_DecrRefCount(widget->name);
     let_go(widget->world);
     free(widget);
-}
-
-static int is_word(Tcl_Obj *word, const char *text)
-{
-    return strcmp(Tcl_GetString(word), text) == 0;
 }
 
 static int make_widget(Tcl_Interp *interp, World *world, Tcl_Obj *first, int count, Tcl_Obj *const words[],
@@ -487,7 +560,8 @@ static int run_widget(void *data, Tcl_Interp *interp, int count, Tcl_Obj *const 
     if (count > 3 && is_word(words[1], "peer") && is_word(words[2], "create"))
         return make_widget(interp, widget->world, widget->name, count - 1, words + 1, words[3]);
     int result = give(interp, widget->world, widget->name, count - 1, words + 1, &is_done);
-    if (is_done && widget->world->followed > 0 && tktext_told(&widget->world->handle) > 0)
+    tktext *handle = &widget->world->handle;
+    if (is_done && widget->world->followed > 0 && tktext_told(handle) + tktext_told_marks(handle) > 0)
         tell(interp, widget);
     return result;
 }
@@ -531,7 +605,7 @@ static int make_widget(Tcl_Interp *interp, World *world, Tcl_Obj *first, int cou
         free(widget);
         return result;
     }
-    *widget = (Widget){world, world->widgets, name, NULL, STANDS, NULL};
+    *widget = (Widget){world, world->widgets, name, NULL, STANDS, {NULL, NULL}};
     world->widgets = widget;
     world->holders++;
     Tcl_IncrRefCount(name);
@@ -613,28 +687,38 @@ static Widget *find_widget(World *world, Tcl_Obj *name)
     return widget;
 }
 
-/* tktext::onchange W ?prefix? */
-static int follow(void *data, Tcl_Interp *interp, int count, Tcl_Obj *const words[])
+/* tktext::onchange W ?prefix?, and the like */
+static int follow(World *world, Tcl_Interp *interp, int way, int count, Tcl_Obj *const words[])
 {
     int length;
     if (count != 2 && count != 3) {
         Tcl_WrongNumArgs(interp, 1, words, "window ?prefix?");
         return TCL_ERROR;
     }
-    Widget *widget = find_widget(data, words[1]);
+    Widget *widget = find_widget(world, words[1]);
     if (widget == NULL) {
         Tcl_SetObjResult(interp, Tcl_ObjPrintf("invalid command name \"%s\"", Tcl_GetString(words[1])));
         return TCL_ERROR;
     }
     if (count == 2) {
-        if (widget->follower != NULL)
-            Tcl_SetObjResult(interp, widget->follower);
+        if (widget->followers[way] != NULL)
+            Tcl_SetObjResult(interp, widget->followers[way]);
         return TCL_OK;
     }
     if (Tcl_ListObjLength(interp, words[2], &length) != TCL_OK)
         return TCL_ERROR;
-    set_follower(widget, length == 0 ? NULL : words[2]);
+    set_follower(widget, way, length == 0 ? NULL : words[2]);
     return TCL_OK;
+}
+
+static int follow_changes(void *data, Tcl_Interp *interp, int count, Tcl_Obj *const words[])
+{
+    return follow(data, interp, CHANGES, count, words);
+}
+
+static int follow_marks(void *data, Tcl_Interp *interp, int count, Tcl_Obj *const words[])
+{
+    return follow(data, interp, MARKS, count, words);
 }
 
 int DLLEXPORT Tktext_Init(Tcl_Interp *interp)
@@ -644,13 +728,14 @@ int DLLEXPORT Tktext_Init(Tcl_Interp *interp)
     World *world = malloc(sizeof *world);
     if (world == NULL)
         return fail_for_memory(interp);
-    *world = (World){TKTEXT_EMPTY, NULL, 3, 0};
+    *world = (World){TKTEXT_EMPTY, NULL, 4, 0};
     if (tktext_new_greatest(&world->handle) != TKTEXT_ANSWER) {
         free(world);
         return fail_for_memory(interp);
     }
     Tcl_CreateObjCommand(interp, "tktext::text", make, world, let_go);
     Tcl_CreateObjCommand(interp, "tktext::destroy", destroy, world, let_go);
-    Tcl_CreateObjCommand(interp, "tktext::onchange", follow, world, let_go);
+    Tcl_CreateObjCommand(interp, "tktext::onchange", follow_changes, world, let_go);
+    Tcl_CreateObjCommand(interp, "tktext::onmarks", follow_marks, world, let_go);
     return Tcl_PkgProvide(interp, "tktext", "1.0");
 }

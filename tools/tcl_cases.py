@@ -77,9 +77,10 @@ tktext::text .t -undo 1
 .t peer create .p
 set string "\n"
 proc follow {who changes} {
-    puts [list $who $changes]
+    puts [list $who {*}[lmap change $changes {lrange $change 0 2}]]
     foreach change $changes {
         lassign $change at removed inserted
+        set ::ends [lrange $change 3 end]
         set before [string range $::string 0 [expr {$at - 1}]]
         set ::string $before$inserted[string range $::string [expr {$at + $removed}] end]
     }
@@ -89,7 +90,19 @@ puts [tktext::onchange .t]
 .t insert 1.0 "one\ntwo\u00e9"
 .p delete 1.1 1.2 2.0 2.1
 puts [.t edit undo]
+puts $ends
 .t tag add x 1.0
+tktext::onmarks .t {puts}
+puts [tktext::onmarks .t]
+tktext::onmarks .p {apply {names { puts [list p $names] }}}
+.t mark set m 1.0
+.t mark set m 1.0
+.p mark set insert 1.1
+.t mark unset m n m
+.t mark set current 1.0
+tktext::onmarks .t {}
+.t mark set m 1.0
+tktext::onmarks .p {}
 tried {.t insert foo bar}
 puts [expr {$string eq [.t get 1.0 end]}]
 proc bgerror said { puts "background: $said" }
@@ -105,14 +118,23 @@ tried {tktext::onchange .p "a {b}c"}
 tried {tktext::onchange}
 """
 FOLLOWED_PRINTS = """follow t
-t {{0 0 {one
-twoé}}}
-t {{4 1 {}} {1 1 {}}}
-t {{1 0 n} {4 0 t}}
+t {0 0 {one
+twoé}}
+t {4 1 {}} {1 1 {}}
+t {3 0 t} {1 0 n}
 
+{1 1 1 1} {1 1 1 1} {1 2 2 2}
+puts
+p m
+m
+p insert
+p m
+m
+current
+p m
 error: bad text index "foo" (TKTEXT FAULT {bad text index "foo"})
 1
-t {{8 0 x}}
+t {8 0 x}
 background: bad
 {} {}
 one
