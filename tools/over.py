@@ -22,6 +22,7 @@ import sys
 import build
 
 KIT = os.path.dirname(subprocess.run(["rt", "doc"], capture_output=True, text=True, check=True).stdout.strip())
+RATTLE = f"{KIT}/bin/rattle"
 # By this file a library that was built here is known.
 BUILT = "over"
 
@@ -87,7 +88,7 @@ def main():
         os.makedirs(kept, exist_ok=True)
         words += ["--incremental", kept]
     verb = "build" if options.build else "check"
-    done = subprocess.run([f"{KIT}/bin/rattle", verb, *words, *given], cwd=root_of(options.crate)[0])
+    done = subprocess.run([RATTLE, verb, *words, *given], cwd=root_of(options.crate)[0])
     if options.build and done.returncode == 0:
         open(os.path.join(folder, BUILT), "w").close()
     return done.returncode

@@ -5,9 +5,12 @@
 
 A call of the tree that counts on a counter of its own, and not on the one that it was handed, would meet each bound on
 its steps. It doesn't compile, since the calls are generic in the counter and none can be made of it. An edit that
-doesn't compile is no must-fail edit, so this makes it in a copy of the sources, and asks for the compiler's words. Ends
-in a line `N passed, M failed`; the exit status is 1 if the copy compiles, or fails for another reason.
+doesn't compile is no must-fail edit, so this makes it in a copy of the crate, and asks for the compiler's words, for
+which nothing is proved; as it stands the copy compiles. Ends in a line `N passed, M failed`; the exit status is 1 if the
+edited copy compiles, or fails for another reason.
 """
+
+import argparse
 
 import pathlib
 import shutil
@@ -15,21 +18,16 @@ import subprocess
 import sys
 import tempfile
 
-TOP = pathlib.Path(__file__).resolve().parent.parent
-CRATES = ["text_model", "toggle_sums", "segments", "line_lists", "raw_nodes", "line_tree"]
+import build
+import over
+from harness import Tally
+
+CRATE = "line_tree"
+BELOW = ["text_model", "toggle_sums", "segments", "line_lists", "raw_nodes"]
 FILE = "src/select.rt"
 OLD = "find_at(store, at, level - 1, lines, rest, ticks)"
 NEW = "find_at(store, at, level - 1, lines, rest, &mut raw_nodes::Steps::new())"
 WANTED = "error[mismatched-types]: expected `&mut C`, found `&mut Steps`"
-
-
-def copy_sources(folder):
-    """Copies the crates from the lowest to the tree, without what was built of them."""
-    for name in CRATES:
-        shutil.copytree(TOP / "crates" / name, folder / "crates" / name, ignore=shutil.ignore_patterns("out"))
-    shutil.copy(TOP / "HANDLES", folder)
-    lines = (TOP / "crates.txt").read_text().splitlines()
-    (folder / "crates.txt").write_text("".join(line + "\n" for line in lines if line.split(":")[0] in CRATES))
 
 
 def edit(path):
@@ -40,19 +38,27 @@ def edit(path):
     path.write_text(text.replace(OLD, NEW))
 
 
+def compile_copy(folder):
+    """What the compiler says of a copy of the crate, over the sources of those below it, and whether it takes it."""
+    options = argparse.Namespace(crate=CRATE, sources=BELOW, libraries=build.TOP, jobs=1)
+    words = over.words_of(options, build.read_crates(f"{build.TOP}/crates.txt"))
+    process = subprocess.run(
+        [over.RATTLE, "check", *words, "--only", ""], cwd=folder, capture_output=True, text=True, timeout=600
+    )
+    return process.stdout + process.stderr, process.returncode == 0
+
+
 def main():
+    tally = Tally()
     with tempfile.TemporaryDirectory() as name:
-        folder = pathlib.Path(name)
-        copy_sources(folder)
-        crate = folder / "crates" / "line_tree"
-        edit(crate / FILE)
-        process = subprocess.run(["rt", "check"], cwd=crate, capture_output=True, text=True, timeout=600)
-    words = process.stdout + process.stderr
-    is_refused = process.returncode != 0 and WANTED in words
-    if not is_refused:
-        print(words)
-    print("1 passed, 0 failed" if is_refused else "0 passed, 1 failed")
-    return 0 if is_refused else 1
+        folder = pathlib.Path(name) / CRATE
+        shutil.copytree(pathlib.Path(build.TOP) / "crates" / CRATE, folder, ignore=shutil.ignore_patterns("out"))
+        words, is_taken = compile_copy(folder)
+        tally.check(is_taken, f"the crate as it stands doesn't compile: {words}")
+        edit(folder / FILE)
+        words, is_taken = compile_copy(folder)
+        tally.check(not is_taken and WANTED in words, f"a counter of its own: {words}")
+    return tally.close()
 
 
 if __name__ == "__main__":
