@@ -10,11 +10,7 @@ use Rattle.text_model.specs.Content.{Slots}
 use Rattle.tag_table.specs.Tags.{Tag, sel}
 use Rattle.command_effects.specs.Words.{is_among, is_same}
 use Rattle.text_model.specs.declared.cells.Cell.{Cell}
-
--- the key of a tag, by its name, or of a widget's `sel`, by the widget's name
-pub record Key : Type 0 where
-  pub selects : Bool
-  pub name : List ℕ
+pub use Rattle.documents.specs.declared.keys.Key.{Key}
 
 abbrev pub rank : Bool → ℕ
 rank false = 0
@@ -56,6 +52,11 @@ is_shared tag = not (is_same tag.name sel)
 -- the slots of the seats and of a table of tags, each with its key; `sel` is the seats' alone
 abbrev pub key_pairs : List Named → List Tag → List (ℕ × Key)
 key_pairs seats tags = map seat_pair seats ++ map tag_pair (filter is_shared tags)
+
+-- of these pairs the keys whose slots are in a set, in their order
+abbrev pub keys_listed : List (ℕ × Key) → Slots → List Key
+keys_listed pairs slots =
+    map (λ (pair : ℕ × Key). pair.1) (filter (λ (pair : ℕ × Key). set.contains slots pair.0) pairs)
 
 abbrev pub pair_slots : List (ℕ × Key) → List ℕ
 pair_slots pairs = map (λ (pair : ℕ × Key). pair.0) pairs

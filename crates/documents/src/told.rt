@@ -1,24 +1,31 @@
-ghost use Rattle.std.specs.Prelude.{◌≡◌, ◌<◌, ◌≤◌, ◌++◌, false, length, map, OnOk, IfOk};
+ghost use Rattle.std.specs.Prelude.{◌≡◌, ◌<◌, ◌≤◌, ◌++◌, [], false, length, map, List, OnOk, IfOk, IsSome};
 ghost use Rattle.std.specs.List.{All};
 ghost use Rattle.text_model.specs.LimitTable.{LimitTable, AreLimits};
-ghost use Rattle.edit_ops.specs.Told.{putting};
+ghost use Rattle.undo_stack.specs.Fits.{repeated_group};
+ghost use Rattle.edit_ops.specs.Replays.{replays};
+ghost use Rattle.edit_ops.specs.Told.{patched_by, putting, AreHunks};
 ghost use Rattle.command_effects.specs.Lists.{Pair as PairOfWords};
 ghost use Rattle.documents.specs.Deletions.{delete_places, replace_span};
-ghost use Rattle.documents.specs.Documents.{Widget, widget_at};
-ghost use Rattle.documents.specs.History.{edit_redo, edit_undo};
+ghost use Rattle.documents.specs.Documents.{characters, widget_at, KeyedCell};
+ghost use Rattle.documents.specs.History.{edit_redo, edit_undo, group_again};
+ghost use Rattle.documents.specs.TagsTold.{untagged, TellsTags};
 ghost use Rattle.documents.specs.Texts.{insert_at, insertion_offset};
-ghost use Rattle.documents.specs.Told.{Foretells};
+ghost use Rattle.documents.specs.Told.{Foretells, TellsCells};
 ghost use Rattle.documents.specs.Views.{is_idle, shown};
 ghost use Rattle.documents.specs.WellFormed.{IsWellFormedDocument};
 
 use crate::documents::Document;
+use crate::tag_lists::TagList;
+use crate::tags_told::run_tags;
 use crate::views::{end_of, start_of};
 use command_effects::{Pair, spans_of};
 use edit_ops::{
-    ChangeList, Hunk, deleted_runs, push_removal, push_text, reversal_hunks, take_spans, tell,
+    ChangeList, Hunk, Reversal, deleted_runs, push_removal, push_text, reversal_of, take_spans,
+    tell,
 };
-use std::alloc::AllocError;
+use std::alloc::{AllocError, Global};
 use text_model::{Limits, TextStore};
+use undo_stack::Group;
 
 /// Adds the hunks that put texts in at an offset, each behind the one before it.
 fn push_texts(hunks: &mut Vec<Hunk>, at: usize, pairs: Vec<Pair>) -> Result<(), AllocError>
@@ -31,20 +38,64 @@ fn push_texts(hunks: &mut Vec<Hunk>, at: usize, pairs: Vec<Pair>) -> Result<(), 
     Ok(())
 }
 
-impl<S: TextStore> Document<S> {
-    /// What `insert_at` changes of the text, unless it is refused.
-    pub fn told_insertion(&self, at: usize, pairs: Vec<Pair>) -> Result<ChangeList, AllocError>
-        requires { at < length self.now.cells }
-        ensures { IfOk result (λ told. (limits : LimitTable) (widget : Widget) → AreLimits limits →
-            Foretells self.now (insert_at limits self.now widget at pairs.items) told) }
+/// What is told of an edit: changes of the text, and changes of tags behind these.
+#[derive(Drop)]
+pub struct EditTold {
+    pub changes: ChangeList,
+    pub tags: TagList,
+}
+
+impl EditTold {
+    /// Nothing is told. It takes no memory.
+    pub fn nothing(alloc: Global) -> EditTold
+        ensures { result ≡ record { changes = []; tags = [] } }
     {
-        let mut hunks = Vec::with_capacity(self.alloc, pairs.len())?;
-        push_texts(&mut hunks, at, pairs)?;
-        Ok(tell(self.alloc, &self.text.store, hunks)?)
+        EditTold::of_tags(alloc, TagList::new(alloc))
     }
 
-    /// What `delete_places` changes of the text, unless it is refused.
-    pub fn told_deletion(&self, seat: usize, places: &[usize]) -> Result<ChangeList, AllocError>
+    /// Changes of tags alone.
+    pub(crate) fn of_tags(alloc: Global, tags: TagList) -> EditTold
+        ensures { result ≡ record { changes = []; tags = tags } }
+    {
+        EditTold {
+            changes: ChangeList::new(alloc),
+            tags,
+        }
+    }
+}
+
+impl<S: TextStore> Document<S> {
+    /// What it tells to make hunks of the text, and behind these changes of tags.
+    fn tell_hunks(&self, hunks: Vec<Hunk>, tags: TagList) -> Result<EditTold, AllocError>
+        requires stand { AreHunks 0 (length self.now.cells) hunks.items }
+        ensures { IfOk result (λ told. (cells : List KeyedCell) →
+            TellsTags tags (patched_by untagged 0 hunks.items self.now.cells) cells →
+            TellsCells self.now.cells cells told) }
+    {
+        let changes = tell(self.alloc, &self.text.store, hunks)?;
+        Ok(EditTold { changes, tags })
+    }
+
+    /// What `insert_at` changes, unless it is refused.
+    pub fn told_insertion(
+        &self,
+        seat: usize,
+        at: usize,
+        pairs: Vec<Pair>,
+    ) -> Result<EditTold, AllocError>
+        requires shown { seat < length self.now.widgets }
+        requires within { at < length self.now.cells }
+        ensures { IfOk result (λ told. (limits : LimitTable) → AreLimits limits →
+            Foretells self.now (insert_at limits self.now (widget_at self.now seat) at pairs.items) told) }
+    {
+        let tags = self.pair_tags(seat, at, at, &pairs)?;
+        let mut hunks = Vec::with_capacity(self.alloc, pairs.len())?;
+        push_texts(&mut hunks, at, pairs)?;
+        self.tell_hunks(hunks, tags)
+    }
+
+    /// What `delete_places` changes, unless it is refused.
+    pub fn told_deletion(&self, seat: usize, places: &[usize]) -> Result<EditTold, AllocError>
         requires shown { seat < length self.now.widgets }
         requires active { is_idle self.now (widget_at self.now seat) ≡ false }
         requires within { All (λ place. place ≤ length (shown self.now (widget_at self.now seat))) places.now }
@@ -56,19 +107,24 @@ impl<S: TextStore> Document<S> {
         let start = start_of(&self.text.anchors, slot);
         let end = end_of(&self.text.anchors, slot, store.len());
         let spans = spans_of(self.alloc, start, end - start, places)?;
-        let runs = deleted_runs(self.alloc, store, start, end, &spans)?;
+        let (runs, takes_last) = deleted_runs(self.alloc, store, start, end, &spans)?;
+        let tags = if takes_last {
+            self.bare_tags(end - 1, &runs)?
+        } else {
+            TagList::new(self.alloc)
+        };
         let hunks = take_spans(self.alloc, runs)?;
-        Ok(tell(self.alloc, store, hunks)?)
+        self.tell_hunks(hunks, tags)
     }
 
-    /// What `replace_between` changes of the text, unless it is refused.
+    /// What `replace_between` changes, unless it is refused.
     pub fn told_replacement(
         &self,
         seat: usize,
         from: usize,
         to: usize,
         pairs: Vec<Pair>,
-    ) -> Result<ChangeList, AllocError>
+    ) -> Result<EditTold, AllocError>
         requires shown { seat < length self.now.widgets }
         requires active { is_idle self.now (widget_at self.now seat) ≡ false }
         requires ordered { from ≤ to }
@@ -80,45 +136,64 @@ impl<S: TextStore> Document<S> {
     {
         let start = self.insertion_offset(seat, from);
         let end = self.insertion_offset(seat, to);
+        let tags = self.pair_tags(seat, start, end, &pairs)?;
         let mut hunks = Vec::with_capacity(self.alloc, pairs.len().saturating_add(1))?;
         push_texts(&mut hunks, start, pairs)?;
         push_removal(self.alloc, &mut hunks, start, end)?;
-        Ok(tell(self.alloc, &self.text.store, hunks)?)
+        self.tell_hunks(hunks, tags)
     }
 
-    /// What `edit_undo` changes of the text, unless it is refused.
-    pub fn told_undo(&self, limits: &Limits, seat: usize) -> Result<ChangeList, AllocError>
+    /// What it tells where the actions of a group are made once more, or, back, reverted from the last.
+    fn tell_reversal(
+        &self,
+        group: &Group<'_>,
+        back: bool,
+        limit: usize,
+    ) -> Result<EditTold, AllocError>
+        requires fits { IsSome (repeated_group limit (replays back group.now) (characters self.now.cells)) }
+        ensures { IfOk result (λ told. TellsCells self.now.cells
+            (group_again (replays back group.now) self.now).cells told) }
+    {
+        let Reversal { hunks, runs } = reversal_of(
+            self.alloc,
+            &self.text.store,
+            group,
+            back,
+            limit,
+        )?;
+        let tags = run_tags(self.alloc, &self.seats, &self.tags, &runs)?;
+        self.tell_hunks(hunks, tags)
+    }
+
+    /// What `edit_undo` changes, unless it is refused.
+    pub fn told_undo(&self, limits: &Limits, seat: usize) -> Result<EditTold, AllocError>
         requires shown { seat < length self.now.widgets }
         requires formed { IsWellFormedDocument limits.now self.now }
         ensures { IfOk result (λ told. Foretells self.now (edit_undo self.now (widget_at self.now seat)) told) }
     {
-        let nothing = ChangeList::new(self.alloc);
+        let nothing = EditTold::nothing(self.alloc);
         if !self.settings.undo || self.is_idle(seat) {
             return Ok(nothing);
         }
         let Some(group) = self.text.history.last_undo() else {
             return Ok(nothing);
         };
-        let store = &self.text.store;
-        let hunks = reversal_hunks(self.alloc, store, &group, true, limits.chars())?;
-        Ok(tell(self.alloc, store, hunks)?)
+        self.tell_reversal(&group, true, limits.chars())
     }
 
-    /// What `edit_redo` changes of the text, unless it is refused.
-    pub fn told_redo(&self, limits: &Limits, seat: usize) -> Result<ChangeList, AllocError>
+    /// What `edit_redo` changes, unless it is refused.
+    pub fn told_redo(&self, limits: &Limits, seat: usize) -> Result<EditTold, AllocError>
         requires shown { seat < length self.now.widgets }
         requires formed { IsWellFormedDocument limits.now self.now }
         ensures { IfOk result (λ told. Foretells self.now (edit_redo self.now (widget_at self.now seat)) told) }
     {
-        let nothing = ChangeList::new(self.alloc);
+        let nothing = EditTold::nothing(self.alloc);
         if !self.settings.undo || self.is_idle(seat) {
             return Ok(nothing);
         }
         let Some(group) = self.text.history.last_redo() else {
             return Ok(nothing);
         };
-        let store = &self.text.store;
-        let hunks = reversal_hunks(self.alloc, store, &group, false, limits.chars())?;
-        Ok(tell(self.alloc, store, hunks)?)
+        self.tell_reversal(&group, false, limits.chars())
     }
 }

@@ -8,6 +8,7 @@ pub mod Plans
 pub mod Removals
 pub mod Replays
 pub mod Reversals
+pub mod SlotRuns
 pub mod States
 pub mod Tagging
 pub mod Told

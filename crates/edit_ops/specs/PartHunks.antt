@@ -1,9 +1,10 @@
 -- What becomes of an old text where another one is made of parts of it, in its order, and of new texts between these.
-use Rattle.std.specs.Prelude.{ℕ, List, [], ◌∷◌, ◌++◌, Option, None, Some, slice_range}
+use Rattle.std.specs.Prelude.{ℕ, ◌+◌, ◌-◌, List, [], ◌∷◌, ◌++◌, Option, None, Some, slice_range}
 use Rattle.text_model.specs.Content.{Slots}
 use Rattle.text_cursor.specs.declared.parts.Part.{Part}
 use Rattle.text_cursor.specs.Cursors.{old_place}
 use Rattle.edit_ops.specs.declared.hunks.Hunk.{Hunk}
+use Rattle.edit_ops.specs.declared.slot_runs.SlotRun.{SlotRun}
 use Rattle.edit_ops.specs.Told.{taking_out}
 
 -- from a border on: what stands before a part of the old text is taken out, and a new text is put in
@@ -18,3 +19,14 @@ part_hunks border len fresh [] = taking_out border len
 part_hunks border len fresh (part ∷ parts) =
     hunks_before part.slots part.from part.to border fresh
     ++ part_hunks (old_place part.slots part.to border) len fresh parts
+
+-- the run of a new text, in the text that the parts make
+abbrev pub run_of : Option Slots → ℕ → ℕ → List SlotRun
+run_of None from to = []
+run_of (Some slots) from to = record { from = from; to = to; slots = slots } ∷ []
+
+-- the runs of new texts, of parts that stand in that text from an offset on
+abbrev pub part_runs : ℕ → List Part → List SlotRun
+part_runs at [] = []
+part_runs at (part ∷ parts) =
+    let end = at + (part.to - part.from) in run_of part.slots at end ++ part_runs end parts

@@ -28,6 +28,12 @@ pub record IsCursorOf (content : Content) (cursor : Cursor) : Type 0 where
 abbrev pub cursor_text : Content → Cursor → List ℕ
 cursor_text content cursor = characters (cursor_cells content.cells cursor)
 
+-- What is made of the cells in which a cursor is leads to those in which it is afterwards.
+abbrev pub MakesCells : Content → (State → State) → Cursor → Cursor → Type 0
+MakesCells content make before now =
+    (state : State) → state.content.cells ≡ cursor_cells content.cells before
+    → (make state).content.cells ≡ cursor_cells content.cells now
+
 -- what an outline makes, of which nothing is noted
 abbrev pub drawn_up : Outline → Content → Log → State
 drawn_up outline content log = state_of (after outline.steps content) outline.anchors log

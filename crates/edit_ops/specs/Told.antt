@@ -1,5 +1,5 @@
 -- What is told of an edit: the changes of a text, in order, and where in its lines they are.
-use Rattle.std.specs.Prelude.{◌≡◌, ◌≢◌, ◌<◌, ◌≤◌, ℕ, ◌+◌, ◌^◌, List, [], ◌∷◌, ◌++◌, length, take, drop, slice_range}
+use Rattle.std.specs.Prelude.{◌≡◌, ◌≢◌, ◌<◌, ◌≤◌, ℕ, ◌+◌, ◌-◌, ◌^◌, List, [], ◌∷◌, ◌++◌, length, take, drop, slice_range}
 use Rattle.std.specs.Prelude.{sum_by, nat_lt, encode_utf8_all, map, reverse, if◌then◌else◌}
 use Rattle.text_model.specs.Lines.{line_of, line_start}
 use Rattle.edit_ops.specs.declared.changes.TextChange.{TextChange}
@@ -39,9 +39,20 @@ pub record HasRoom (spot : Spot) (count : ℕ) : Type 0 where
 
 -- ---- changes
 
+-- A list with an element for each character of a text, after a change of the text: `put` gives the elements of what is
+-- put in.
+abbrev pub after_change_by : {A : Type 0} → (List ℕ → List A) → TextChange → List A → List A
+after_change_by put change list =
+    take change.at list ++ put change.inserted ++ drop (change.at + change.removed) list
+
 -- a text after a change of it
 abbrev pub after_change : TextChange → List ℕ → List ℕ
-after_change change text = take change.at text ++ change.inserted ++ drop (change.at + change.removed) text
+after_change change text = after_change_by (λ inserted. inserted) change text
+
+-- such a list after changes, one after the other
+abbrev pub after_changes_by : {A : Type 0} → (List ℕ → List A) → List TextChange → List A → List A
+after_changes_by put [] list = list
+after_changes_by put (change ∷ changes) list = after_changes_by put changes (after_change_by put change list)
 
 -- A change of a text: what it takes out stands there, and what it puts in is something else. It begins at one spot;
 -- what it takes out ends at one of the text before it, and what it puts in at one of the text after it.
@@ -70,10 +81,31 @@ abbrev pub AreHunks : ℕ → ℕ → List Hunk → Type 0
 AreHunks at len [] = at ≤ len
 AreHunks at len (hunk ∷ hunks) = (at ≤ hunk.from) × IsHunk hunk × AreHunks hunk.to len hunks
 
+-- A list with an element for each character of an old text, from an offset on, with hunks of the text made: `put` gives
+-- the elements of what is put in.
+abbrev pub patched_by : {A : Type 0} → (List ℕ → List A) → ℕ → List Hunk → List A → List A
+patched_by put at [] list = drop at list
+patched_by put at (hunk ∷ hunks) list =
+    slice_range list at hunk.from ++ put hunk.text ++ patched_by put hunk.to hunks list
+
 -- an old text from an offset on, with hunks of it made
 abbrev pub patched : ℕ → List Hunk → List ℕ → List ℕ
-patched at [] text = drop at text
-patched at (hunk ∷ hunks) text = slice_range text at hunk.from ++ hunk.text ++ patched hunk.to hunks text
+patched at hunks text = patched_by (λ put_in. put_in) at hunks text
+
+-- the change that a hunk makes of a text that is the old one up to the hunk's end
+abbrev pub hunk_change : List ℕ → Hunk → TextChange
+hunk_change text hunk = record {
+  at = hunk.from;
+  removed = hunk.to - hunk.from;
+  inserted = hunk.text;
+  start = spot_at text hunk.from;
+  old_end = spot_at text hunk.to;
+  new_end = end_of (take hunk.from text ++ hunk.text);
+}
+
+-- the changes of hunks, the last hunk's first
+abbrev pub hunk_changes : List ℕ → List Hunk → List TextChange
+hunk_changes text hunks = reverse (map (hunk_change text) hunks)
 
 -- hunks that put texts in at an offset, each behind the one before it; none of a text without characters
 abbrev pub putting : ℕ → List (List ℕ) → List Hunk

@@ -1,5 +1,5 @@
 ghost use Rattle.std.specs.Prelude.{◌≡◌, ◌+◌, ◌-◌, ◌≤◌, ◌^◌, ◌++◌, ℕ, List, [], length, IfOk};
-ghost use Rattle.edit_ops.specs.Told.{end_of, patched, AreHunks, HasRoom, Tells};
+ghost use Rattle.edit_ops.specs.Told.{end_of, hunk_changes, patched, AreHunks, HasRoom, Tells};
 ghost use Rattle.text_model.specs.Content.{characters};
 
 use crate::hunks::Hunk;
@@ -95,7 +95,8 @@ pub fn tell<S: TextStore>(
 ) -> Result<ChangeList, AllocError>
     requires stand { AreHunks 0 (length (S.content store.now).cells) hunks.items }
     requires short { length (S.content store.now).cells ≤ 2 ^ 60 }
-    ensures { IfOk result (λ told. Tells told (characters (S.content store.now).cells)
+    ensures changes { IfOk result (λ told. told ≡ hunk_changes (characters (S.content store.now).cells) hunks.items) }
+    ensures tells { IfOk result (λ told. Tells told (characters (S.content store.now).cells)
         (patched 0 hunks.items (characters (S.content store.now).cells))) }
 {
     let mut changes = Vec::with_capacity(alloc, hunks.len())?;

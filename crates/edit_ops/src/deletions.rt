@@ -110,7 +110,7 @@ fn bare(alloc: Global, offset: usize, is_bared: bool) -> Result<StepList, AllocE
 
 /// The runs of characters that go when spans are deleted of what a widget shows from `start` to `end`, the last first,
 /// and whether the last character that it shows is among the spans.
-fn runs_of<S: TextStore>(
+pub fn deleted_runs<S: TextStore>(
     alloc: Global,
     store: &S,
     start: usize,
@@ -122,31 +122,13 @@ fn runs_of<S: TextStore>(
     requires spans { All (λ span. span.to ≤ end) spans.now }
     ensures takes { IfOk result (λ found. found.1 ≡ in_spans spans.now (end - 1)) }
     ensures apart { IfOk result (λ found. AreApart (length (S.content store.now).cells) found.0.items) }
+    ensures below { IfOk result (λ found. AreApart end found.0.items) }
     ensures runs { IfOk result (λ found. found.0.items ≡ runs_below (length (S.content store.now).cells)
         (delete_set (characters (S.content store.now).cells) start end (in_spans spans.now))) }
 {
     let mut runs = union(alloc, spans)?;
     let takes_last = spare_shown(store, start, end, &mut runs);
     Ok((runs, takes_last))
-}
-
-/// The runs of characters that go when spans are deleted of what a widget shows from `start` to `end`, the last first.
-pub fn deleted_runs<S: TextStore>(
-    alloc: Global,
-    store: &S,
-    start: usize,
-    end: usize,
-    spans: &[Span],
-) -> Result<Vec<Span>, AllocError>
-    requires shows { start < end }
-    requires within { end ≤ length (S.content store.now).cells }
-    requires spans { All (λ span. span.to ≤ end) spans.now }
-    ensures apart { IfOk result (λ runs. AreApart (length (S.content store.now).cells) runs.items) }
-    ensures runs { IfOk result (λ runs. runs.items ≡ runs_below (length (S.content store.now).cells)
-        (delete_set (characters (S.content store.now).cells) start end (in_spans spans.now))) }
-{
-    let (runs, _) = runs_of(alloc, store, start, end, spans)?;
-    Ok(runs)
 }
 
 /// The edit that deletes spans of what a widget shows, with the texts of its actions where these are to be kept.
@@ -169,7 +151,7 @@ fn outline_delete<S: TextStore>(
         ≡ deleted recording start end spans.now (state_of (S.content text.now.store) text.now.anchors.items log))) }
 {
     let store = &text.store;
-    let (runs, takes_last) = runs_of(alloc, store, start, end, spans)?;
+    let (runs, takes_last) = deleted_runs(alloc, store, start, end, spans)?;
     let steps = bare(alloc, end - 1, takes_last)?;
     let mut outline = Outline::of_steps(alloc, text, steps, runs.len())?;
     outline.remove_spans(alloc, store, &runs, keeps)?;

@@ -1,15 +1,19 @@
-//! Hunks of a text in which a group is undone or redone.
+//! What becomes of a text in which a group is undone or redone, as hunks and the slots of what they put in.
 
-ghost use Rattle.std.specs.Prelude.{◌≡◌, length, IfOk, OnOk, IsSome, Some};
-ghost use Rattle.edit_ops.specs.Replays.{replays, cursor_text, IsCursorOf};
-ghost use Rattle.edit_ops.specs.Told.{AreHunks, patched};
+ghost use Rattle.std.specs.Prelude.{◌≡◌, ◌+◌, length, IfOk, OnOk, IsSome, Some};
+ghost use Rattle.edit_ops.specs.Replays.{replays, cursor_text, IsCursorOf, MakesCells};
+ghost use Rattle.edit_ops.specs.Reversals.{action_redone, group_redone, put_back, taken_back};
+ghost use Rattle.edit_ops.specs.SlotRuns.{bare_cells, slotted, AreBareRuns};
+ghost use Rattle.edit_ops.specs.States.{State};
+ghost use Rattle.edit_ops.specs.Told.{AreHunks, patched, patched_by};
 ghost use Rattle.text_model.specs.Content.{characters};
 ghost use Rattle.undo_stack.specs.Fits.{put_in, repeated, repeated_group, take_out};
 
 use crate::hunks::Hunk;
 use crate::insertions::count_of;
-use crate::part_hunks::hunks_of;
+use crate::part_hunks::{hunks_of, runs_of};
 use crate::reversals::{nth_of, puts_in};
+use crate::slot_runs::SlotRun;
 use std::alloc::{AllocError, Global};
 use text_cursor::Cursor;
 use text_model::{Text, TextStore};
@@ -28,6 +32,7 @@ fn put_text<S: TextStore>(
     ensures stands { OnOk result (IsCursorOf (S.content store.now) cursor.new) }
     ensures makes { OnOk result (put_in limit at text.now (cursor_text (S.content store.now) cursor.old)
         ≡ Some (cursor_text (S.content store.now) cursor.new)) }
+    ensures cells { OnOk result (MakesCells (S.content store.now) (put_back at text.now) cursor.old cursor.new) }
 {
     let count = count_of(text);
     cursor.seek(at)?;
@@ -48,6 +53,8 @@ fn take_text<S: TextStore>(
     ensures stands { OnOk result (IsCursorOf (S.content store.now) cursor.new) }
     ensures makes { OnOk result (take_out at text.now (cursor_text (S.content store.now) cursor.old)
         ≡ Some (cursor_text (S.content store.now) cursor.new)) }
+    ensures cells { OnOk result
+        (MakesCells (S.content store.now) (taken_back at (at + length text.now)) cursor.old cursor.new) }
 {
     let count = count_of(text);
     cursor.seek(at)?;
@@ -70,6 +77,8 @@ fn replay<S: TextStore>(
     ensures stands { OnOk result (IsCursorOf (S.content store.now) cursor.new) }
     ensures makes { OnOk result (repeated limit (record { inserts = inserts; at = at; text = text.now })
         (cursor_text (S.content store.now) cursor.old) ≡ Some (cursor_text (S.content store.now) cursor.new)) }
+    ensures cells { OnOk result (MakesCells (S.content store.now)
+        (action_redone (record { inserts = inserts; at = at; text = text.now })) cursor.old cursor.new) }
 {
     if inserts {
         put_text(store, cursor, at, text, limit)
@@ -92,6 +101,8 @@ fn replay_group<S: TextStore>(
     ensures stands { OnOk result (IsCursorOf (S.content store.now) cursor.new) }
     ensures makes { OnOk result (Some (cursor_text (S.content store.now) cursor.new)
         ≡ repeated_group limit (replays back group.now) (cursor_text (S.content store.now) cursor.old)) }
+    ensures cells { OnOk result
+        (MakesCells (S.content store.now) (group_redone (replays back group.now)) cursor.old cursor.new) }
 {
     let count = group.len();
     for index in 0..count {
@@ -102,25 +113,39 @@ fn replay_group<S: TextStore>(
     Ok(())
 }
 
+/// What becomes of a text: its hunks, and the runs of what they put in, in the text that they make, with its slots.
+#[derive(Drop)]
+pub struct Reversal {
+    pub hunks: Vec<Hunk>,
+    pub runs: Vec<SlotRun>,
+}
+
 /// What becomes of a store's text where the actions of a group are made once more, or, back, reverted from the last.
 /// The history fits that text within the limit.
-pub fn reversal_hunks<S: TextStore>(
+pub fn reversal_of<S: TextStore>(
     alloc: Global,
     store: &S,
     group: &Group<'_>,
     back: bool,
     limit: usize,
-) -> Result<Vec<Hunk>, AllocError>
+) -> Result<Reversal, AllocError>
     requires fits { IsSome (repeated_group limit (replays back group.now)
         (characters (S.content store.now).cells)) }
-    ensures stand { IfOk result (λ hunks. AreHunks 0 (length (S.content store.now).cells) hunks.items) }
-    ensures patched { IfOk result (λ hunks. Some (patched 0 hunks.items (characters (S.content store.now).cells))
+    ensures stand { IfOk result (λ made. AreHunks 0 (length (S.content store.now).cells) made.hunks.items) }
+    ensures patched { IfOk result (λ made. Some (patched 0 made.hunks.items (characters (S.content store.now).cells))
         ≡ repeated_group limit (replays back group.now) (characters (S.content store.now).cells)) }
+    ensures bare { IfOk result (λ made. AreBareRuns 0 made.runs.items
+        (patched_by bare_cells 0 made.hunks.items (S.content store.now).cells)) }
+    ensures cells { IfOk result (λ made. (state : State) → state.content.cells ≡ (S.content store.now).cells →
+        (group_redone (replays back group.now) state).content.cells
+        ≡ slotted made.runs.items (patched_by bare_cells 0 made.hunks.items (S.content store.now).cells)) }
 {
     let len = store.len();
     let room = group.len().saturating_add(1).saturating_mul(2);
     let mut cursor = Cursor::new(alloc, len, room)?;
     replay_group(store, &mut cursor, group, back, limit)?;
     let parts = cursor.into_parts(alloc)?;
-    hunks_of(alloc, &parts, len)
+    let hunks = hunks_of(alloc, &parts, len)?;
+    let runs = runs_of(alloc, &parts)?;
+    Ok(Reversal { hunks, runs })
 }

@@ -1,26 +1,30 @@
--- What is told of a command: the changes that it made of the text that its widget shows.
+-- What is told of a command: what it changed of the text that its widget shows, and of the tags there.
 use Rattle.std.specs.Prelude.{◌≡◌, ℕ, List, [], ◌∷◌, Option, None, Some, Result, Ok, Err}
 use Rattle.command_effects.specs.declared.answers.Answer.{Answer}
 use Rattle.command_effects.specs.declared.answers.Fault.{Fault}
-use Rattle.edit_ops.specs.Told.{Tells}
-use Rattle.edit_ops.specs.declared.changes.TextChange.{TextChange}
-use Rattle.documents.specs.Documents.{characters}
+use Rattle.documents.specs.Documents.{KeyedCell}
+use Rattle.documents.specs.Told.{TellsCells}
+use Rattle.documents.specs.declared.told.EditTold.{EditTold}
 use Rattle.peers.specs.World.{World, document_at, home}
 use Rattle.peers.specs.declared.world.Told.{Told}
 
--- the text of the document at a place
-abbrev pub text_at : World → ℕ → List ℕ
-text_at world place = characters (document_at world.documents place).cells
+-- nothing is told
+abbrev pub no_edit : EditTold
+no_edit = record { changes = []; tags = [] }
 
--- the changes of the document at a place; nothing is told where there is none
-abbrev pub TellsAt : World → World → Option ℕ → List TextChange → Type 0
-TellsAt old new None changes = changes ≡ []
-TellsAt old new (Some place) changes = Tells changes (text_at old place) (text_at new place)
+-- the characters of the document at a place, with their tags
+abbrev pub cells_at : World → ℕ → List KeyedCell
+cells_at world place = (document_at world.documents place).cells
+
+-- what became of the document at a place; nothing is told where there is none
+abbrev pub TellsAt : World → World → Option ℕ → EditTold → Type 0
+TellsAt old new None told = told ≡ no_edit
+TellsAt old new (Some place) told = TellsCells (cells_at old place) (cells_at new place) told
 
 -- what a command of this first word changed, which names the widget if it is a widget's command
-abbrev pub TellsOf : World → World → List (List ℕ) → List TextChange → Type 0
-TellsOf old new [] changes = changes ≡ []
-TellsOf old new (name ∷ words) changes = TellsAt old new (home name old.documents) changes
+abbrev pub TellsOf : World → World → List (List ℕ) → EditTold → Type 0
+TellsOf old new [] told = told ≡ no_edit
+TellsOf old new (name ∷ words) told = TellsAt old new (home name old.documents) told
 
 -- the answer among what was told, or the fault
 abbrev pub answer_of : Result Told Fault → Result Answer Fault

@@ -21,5 +21,5 @@ mod words;
 mod world;
 
 pub use command_effects::{Answer, Fault};
-pub use documents::{ChangeList, MovedMarks, Spot, TextChange};
+pub use documents::{ChangeList, EditTold, Key, MovedMarks, Spot, TagChange, TagList, TextChange};
 pub use world::{Told, World};

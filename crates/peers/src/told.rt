@@ -14,12 +14,13 @@ ghost use Rattle.documents.specs.Views.{shown};
 ghost use Rattle.documents.specs.WellFormed.{IsWellFormedDocument};
 ghost use Rattle.peers.specs.Commands.{command};
 ghost use Rattle.peers.specs.Deletions.{delete, replace, replace_places, replace_words};
+ghost use Rattle.peers.specs.Tags.{add_words, remove_words, tag_add, tag_remove};
 ghost use Rattle.peers.specs.Texts.{insert, insert_pairs, insert_words};
 
 use crate::ranges::places_at;
 use command_effects::{Fault, Pair, first, first_two, pairs_at};
 use command_table::{Command, Shape};
-use documents::{ChangeList, Document};
+use documents::{Document, EditTold};
 use std::alloc::AllocError;
 use text_model::{Limits, TextStore};
 
@@ -44,7 +45,7 @@ fn told_insert_pairs<S: TextStore>(
     place: usize,
     position: usize,
     words: &[String],
-) -> Result<ChangeList, AllocError>
+) -> Result<EditTold, AllocError>
     requires shown { seat < length document.now.widgets }
     requires within { place ≤ length (shown document.now (widget_at document.now seat)) }
     requires near { position + length words.now ≤ usize.MAX }
@@ -52,14 +53,14 @@ fn told_insert_pairs<S: TextStore>(
         (insert_pairs limits document.now (widget_at document.now seat) (pairs_at position (texts_of words.now)) place)
         told) }
 {
-    let nothing = ChangeList::new(document.allocator());
+    let nothing = EditTold::nothing(document.allocator());
     let Some(pairs) = unless_refused(pairs_at(document.allocator(), position, words))? else {
         return Ok(nothing);
     };
     if document.is_idle(seat) {
         return Ok(nothing);
     }
-    document.told_insertion(document.insertion_offset(seat, place), pairs)
+    document.told_insertion(seat, document.insertion_offset(seat, place), pairs)
 }
 
 fn told_insert_words<S: TextStore>(
@@ -68,7 +69,7 @@ fn told_insert_words<S: TextStore>(
     position: usize,
     index: &str,
     words: &[String],
-) -> Result<ChangeList, AllocError>
+) -> Result<EditTold, AllocError>
     requires shown { seat < length document.now.widgets }
     requires near { position + 1 + length words.now ≤ usize.MAX }
     ensures { IfOk result (λ told. (limits : LimitTable) → AreLimits limits → Foretells document.now
@@ -76,7 +77,7 @@ fn told_insert_words<S: TextStore>(
         told) }
 {
     let Some(place) = unless_refused(document.place_at(seat, position, index))? else {
-        return Ok(ChangeList::new(document.allocator()));
+        return Ok(EditTold::nothing(document.allocator()));
     };
     told_insert_pairs(document, seat, place, position + 1, words)
 }
@@ -87,14 +88,14 @@ fn told_insert<S: TextStore>(
     seat: usize,
     position: usize,
     arguments: &[String],
-) -> Result<ChangeList, AllocError>
+) -> Result<EditTold, AllocError>
     requires shown { seat < length document.now.widgets }
     requires near { position + length arguments.now ≤ usize.MAX }
     ensures { IfOk result (λ told. (limits : LimitTable) → AreLimits limits → Foretells document.now
         (insert limits document.now (widget_at document.now seat) position (texts_of arguments.now)) told) }
 {
     match first(arguments) {
-        Err(_) => Ok(ChangeList::new(document.allocator())),
+        Err(_) => Ok(EditTold::nothing(document.allocator())),
         Ok((index, words)) => told_insert_words(document, seat, position, index, words),
     }
 }
@@ -105,14 +106,14 @@ fn told_delete_places<S: TextStore>(
     document: &Document<S>,
     seat: usize,
     places: &[usize],
-) -> Result<ChangeList, AllocError>
+) -> Result<EditTold, AllocError>
     requires shown { seat < length document.now.widgets }
     requires within { All (λ place. place ≤ length (shown document.now (widget_at document.now seat))) places.now }
     ensures { IfOk result (λ told. Foretells document.now (unless_idle (widget_at document.now seat) document.now
         (delete_places document.now (widget_at document.now seat) places.now)) told) }
 {
     if document.is_idle(seat) {
-        return Ok(ChangeList::new(document.allocator()));
+        return Ok(EditTold::nothing(document.allocator()));
     }
     document.told_deletion(seat, places)
 }
@@ -123,14 +124,14 @@ fn told_delete<S: TextStore>(
     seat: usize,
     position: usize,
     arguments: &[String],
-) -> Result<ChangeList, AllocError>
+) -> Result<EditTold, AllocError>
     requires shown { seat < length document.now.widgets }
     requires near { position + length arguments.now ≤ usize.MAX }
     ensures { IfOk result (λ told. Foretells document.now
         (delete document.now (widget_at document.now seat) position (texts_of arguments.now)) told) }
 {
     let Some(places) = unless_refused(places_at(document, seat, position, arguments))? else {
-        return Ok(ChangeList::new(document.allocator()));
+        return Ok(EditTold::nothing(document.allocator()));
     };
     told_delete_places(document, seat, &places)
 }
@@ -143,7 +144,7 @@ fn told_replace_places<S: TextStore>(
     second: usize,
     places: (usize, usize),
     pairs: Vec<Pair>,
-) -> Result<ChangeList, AllocError>
+) -> Result<EditTold, AllocError>
     requires shown { seat < length document.now.widgets }
     requires within { places.1 ≤ length (shown document.now (widget_at document.now seat)) }
     ensures { IfOk result (λ told. (limits : LimitTable) → AreLimits limits → Foretells document.now
@@ -151,7 +152,7 @@ fn told_replace_places<S: TextStore>(
 {
     let (from, to) = places;
     if to < from || document.is_idle(seat) {
-        return Ok(ChangeList::new(document.allocator()));
+        return Ok(EditTold::nothing(document.allocator()));
     }
     document.told_replacement(seat, from, to, pairs)
 }
@@ -162,7 +163,7 @@ fn told_replace_pairs<S: TextStore>(
     position: usize,
     places: (usize, usize),
     words: &[String],
-) -> Result<ChangeList, AllocError>
+) -> Result<EditTold, AllocError>
     requires shown { seat < length document.now.widgets }
     requires within { places.1 ≤ length (shown document.now (widget_at document.now seat)) }
     requires near { position + 2 + length words.now ≤ usize.MAX }
@@ -171,7 +172,7 @@ fn told_replace_pairs<S: TextStore>(
         (replace_places limits document.now (widget_at document.now seat) (position + 1) places.0 places.1)) told) }
 {
     let Some(pairs) = unless_refused(pairs_at(document.allocator(), position + 2, words))? else {
-        return Ok(ChangeList::new(document.allocator()));
+        return Ok(EditTold::nothing(document.allocator()));
     };
     told_replace_places(document, seat, position + 1, places, pairs)
 }
@@ -181,7 +182,7 @@ fn told_replace_words<S: TextStore>(
     seat: usize,
     position: usize,
     words: (&str, &str, &[String]),
-) -> Result<ChangeList, AllocError>
+) -> Result<EditTold, AllocError>
     requires shown { seat < length document.now.widgets }
     requires near { position + 2 + length words.2.now ≤ usize.MAX }
     ensures { IfOk result (λ told. (limits : LimitTable) → AreLimits limits → Foretells document.now
@@ -192,10 +193,10 @@ fn told_replace_words<S: TextStore>(
         )) told) }
 {
     let Some(from) = unless_refused(document.place_at(seat, position, words.0))? else {
-        return Ok(ChangeList::new(document.allocator()));
+        return Ok(EditTold::nothing(document.allocator()));
     };
     let Some(to) = unless_refused(document.place_at(seat, position + 1, words.1))? else {
-        return Ok(ChangeList::new(document.allocator()));
+        return Ok(EditTold::nothing(document.allocator()));
     };
     told_replace_pairs(document, seat, position, (from, to), words.2)
 }
@@ -206,29 +207,103 @@ fn told_replace<S: TextStore>(
     seat: usize,
     position: usize,
     arguments: &[String],
-) -> Result<ChangeList, AllocError>
+) -> Result<EditTold, AllocError>
     requires shown { seat < length document.now.widgets }
     requires near { position + length arguments.now ≤ usize.MAX }
     ensures { IfOk result (λ told. (limits : LimitTable) → AreLimits limits → Foretells document.now
         (replace limits document.now (widget_at document.now seat) position (texts_of arguments.now)) told) }
 {
     match first_two(arguments) {
-        Err(_) => Ok(ChangeList::new(document.allocator())),
+        Err(_) => Ok(EditTold::nothing(document.allocator())),
         Ok(words) => told_replace_words(document, seat, position, words),
+    }
+}
+
+// ---- `tag add`, `tag remove`
+
+fn told_add_words<S: TextStore>(
+    document: &Document<S>,
+    seat: usize,
+    position: usize,
+    name: &str,
+    words: &[String],
+) -> Result<EditTold, AllocError>
+    requires shown { seat < length document.now.widgets }
+    requires near { position + 1 + length words.now ≤ usize.MAX }
+    ensures { IfOk result (λ told. (limits : LimitTable) → Foretells document.now (add_words limits document.now
+        (widget_at document.now seat) position (chars name.now, texts_of words.now)) told) }
+{
+    let Some(places) = unless_refused(places_at(document, seat, position + 1, words))? else {
+        return Ok(EditTold::nothing(document.allocator()));
+    };
+    document.told_tag_add(seat, name, &places)
+}
+
+/// What `tag add` tells.
+fn told_add<S: TextStore>(
+    document: &Document<S>,
+    seat: usize,
+    position: usize,
+    arguments: &[String],
+) -> Result<EditTold, AllocError>
+    requires shown { seat < length document.now.widgets }
+    requires near { position + length arguments.now ≤ usize.MAX }
+    ensures { IfOk result (λ told. (limits : LimitTable) → Foretells document.now
+        (tag_add limits document.now (widget_at document.now seat) position (texts_of arguments.now)) told) }
+{
+    match first(arguments) {
+        Err(_) => Ok(EditTold::nothing(document.allocator())),
+        Ok((name, words)) => told_add_words(document, seat, position, name, words),
+    }
+}
+
+fn told_remove_words<S: TextStore>(
+    document: &Document<S>,
+    seat: usize,
+    position: usize,
+    name: &str,
+    words: &[String],
+) -> Result<EditTold, AllocError>
+    requires shown { seat < length document.now.widgets }
+    requires near { position + 1 + length words.now ≤ usize.MAX }
+    ensures { IfOk result (λ told. Foretells document.now (remove_words document.now
+        (widget_at document.now seat) position (chars name.now, texts_of words.now)) told) }
+{
+    let Some(places) = unless_refused(places_at(document, seat, position + 1, words))? else {
+        return Ok(EditTold::nothing(document.allocator()));
+    };
+    document.told_tag_remove(seat, name, &places)
+}
+
+/// What `tag remove` tells.
+fn told_remove<S: TextStore>(
+    document: &Document<S>,
+    seat: usize,
+    position: usize,
+    arguments: &[String],
+) -> Result<EditTold, AllocError>
+    requires shown { seat < length document.now.widgets }
+    requires near { position + length arguments.now ≤ usize.MAX }
+    ensures { IfOk result (λ told. Foretells document.now
+        (tag_remove document.now (widget_at document.now seat) position (texts_of arguments.now)) told) }
+{
+    match first(arguments) {
+        Err(_) => Ok(EditTold::nothing(document.allocator())),
+        Ok((name, words)) => told_remove_words(document, seat, position, name, words),
     }
 }
 
 // ---- any command
 
-/// What a command of a widget tells, of all its words, which have this shape: each change that it makes of the text,
-/// unless it is refused.
+/// What a command of a widget tells, of all its words, which have this shape: each change that it makes of the text and
+/// of tags, unless it is refused.
 pub fn told_of<S: TextStore>(
     document: &Document<S>,
     limits: &Limits,
     seat: usize,
     shape: Shape,
     words: &[String],
-) -> Result<ChangeList, AllocError>
+) -> Result<EditTold, AllocError>
     requires shown { seat < length document.now.widgets }
     requires formed { IsWellFormedDocument limits.now document.now }
     requires limits { AreLimits limits.now }
@@ -245,6 +320,9 @@ pub fn told_of<S: TextStore>(
         Command::Replace => told_replace(document, seat, position, arguments),
         Command::EditUndo => document.told_undo(limits, seat),
         Command::EditRedo => document.told_redo(limits, seat),
-        _ => Ok(ChangeList::new(document.allocator())),
+        Command::TagAdd => told_add(document, seat, position, arguments),
+        Command::TagRemove => told_remove(document, seat, position, arguments),
+        Command::TagDelete => document.told_tag_delete(arguments),
+        _ => Ok(EditTold::nothing(document.allocator())),
     }
 }

@@ -15,7 +15,7 @@ ghost use Rattle.peers.specs.Widgets.{peer_create, peer_with};
 ghost use Rattle.peers.specs.WellFormed.{IsWellFormed};
 ghost use Rattle.peers.specs.World.{all_windows, document_at, home};
 ghost use Rattle.peers.specs.MarksTold.{MarksTellAt, MarksTellOf};
-ghost use Rattle.peers.specs.Told.{answer_of, TellsAt, TellsOf};
+ghost use Rattle.peers.specs.Told.{answer_of, no_edit, TellsAt, TellsOf};
 ghost use Rattle.documents.specs.Options.{AreLines};
 
 use crate::commands::command;
@@ -27,16 +27,17 @@ use crate::widgets::peer_settings;
 use crate::words::is_window_name;
 use command_effects::{Answer, Fault, Settings, first, is_word};
 use command_table::{Command, Shape, shape};
-use documents::{ChangeList, Document, MovedMarks};
+use documents::{Document, EditTold, MovedMarks};
 use std::alloc::{AllocError, Global};
 use std::marker::Model;
 use text_model::{Limits, TextStore};
 
-/// What a command answered, what it changed of the text that its widget shows, and which marks it moved there.
+/// What a command answered, what it changed of the text that its widget shows and of the tags there, and which marks it
+/// moved.
 #[derive(Drop)]
 pub struct Told {
     pub answer: Answer,
-    pub changes: ChangeList,
+    pub edit: EditTold,
     pub marks: MovedMarks,
 }
 
@@ -306,15 +307,15 @@ impl<S: TextStore> World<S> {
     }
 
     /// What a command of the widget of a name tells, of all its words: each change that it makes of the text that the
-    /// widget shows, unless it is refused. Nothing, where no widget has the name.
-    fn told_of(&self, name: &str, words: &[String]) -> Result<ChangeList, AllocError>
+    /// widget shows and of the tags there, unless it is refused. Nothing, where no widget has the name.
+    fn told_of(&self, name: &str, words: &[String]) -> Result<EditTold, AllocError>
         requires { 0 < length words.now }
-        ensures none { home (chars name.now) self.now.documents ≡ None → IfOk result (λ told. told ≡ []) }
+        ensures none { home (chars name.now) self.now.documents ≡ None → IfOk result (λ told. told ≡ no_edit) }
         ensures some { IfOk result (λ told. let outcome = on_widget self.now (chars name.now) (texts_of words.now) in
             is_ok outcome.reply ≡ true →
             TellsAt self.now outcome.world (home (chars name.now) self.now.documents) told) }
     {
-        let nothing = ChangeList::new(self.documents.alloc);
+        let nothing = EditTold::nothing(self.documents.alloc);
         let Some(place) = self.documents.windows.home(name) else {
             return Ok(nothing);
         };
@@ -351,27 +352,27 @@ impl<S: TextStore> World<S> {
         }
     }
 
-    /// Carries out a command as `call` does, and tells what it changed of the text that its widget shows, if its first
-    /// word names one, and, unless it edits the text, which marks it moved there. All that is told is there before
-    /// anything changes, so where memory is refused the world is as it was.
+    /// Carries out a command as `call` does, and tells what it changed of the text that its widget shows and of the tags
+    /// there, if its first word names one, and, unless it edits the text, which marks it moved. All that is told is there
+    /// before anything changes, so where memory is refused the world is as it was.
     pub fn call_told(&mut self, words: &[String]) -> Result<Told, Fault>
         requires { 0 < length words.now }
         ensures makes { Makes self.old self.new (answer_of result)
             (step self.old (texts_of words.now)) }
-        ensures tells { IfOk result (λ told. TellsOf self.old self.new (texts_of words.now) told.changes) }
+        ensures tells { IfOk result (λ told. TellsOf self.old self.new (texts_of words.now) told.edit) }
         ensures marks { IfOk result (λ told. MarksTellOf self.old self.new (texts_of words.now) told.marks) }
     {
         // Read first, so that every return knows that the world is well formed.
         let _documents = &self.documents;
         let [name, ..] = words else { unreachable!() };
         let name = name.as_str();
-        let changes = self.told_of(name, words)?;
+        let edit = self.told_of(name, words)?;
         let marks = self.told_marks(name, words)?;
         match self.call(words) {
             Err(fault) => Err(fault),
             Ok(answer) => Ok(Told {
                 answer,
-                changes,
+                edit,
                 marks,
             }),
         }

@@ -40,6 +40,11 @@ turn_code turn.Fault = pos 3
 turn_code turn.End = pos 4
 turn_code turn.WrongHandle = pos 8
 
+-- yes or no
+abbrev pub flag_code : Bool → ℤ
+flag_code true = pos 1
+flag_code false = pos 0
+
 -- yes, no, or that there is no such widget
 abbrev pub told_code : Option Bool → ℤ
 told_code (Some true) = pos 1

@@ -4,6 +4,7 @@ use Rattle.text_model.specs.LimitTable.{LimitTable}
 use Rattle.tcl_words.specs.Unread.{Unread, nothing_fed, texts_of}
 use Rattle.edit_ops.specs.declared.changes.TextChange.{TextChange}
 use Rattle.command_effects.specs.declared.answers.Fault.TheVariants.{Memory}
+use Rattle.documents.specs.declared.tag_lists.TagChange.{TagChange}
 use Rattle.peers.specs.World.{World}
 use Rattle.printing.specs.Lines.{piece}
 use Rattle.script_cli.specs.Run.{last_piece, no_documents}
@@ -11,13 +12,14 @@ use Rattle.tktext_c.specs.declared.session.Said.{Said}
 use Rattle.tktext_c.specs.declared.session.Said.TheVariants.{Nothing, Reply, Fault}
 use Rattle.tktext_c.specs.declared.session.Session.{Session}
 
--- what a command told: the changes of a text, and the names of the marks that it moved
+-- what a command told: the changes of a text and of its tags, and the names of the marks that it moved
 pub record Telling : Type 0 where
   pub changes : List TextChange
+  pub tags : List TagChange
   pub marks : List (List ℕ)
 
 abbrev pub nothing_told : Telling
-nothing_told = record { changes = []; marks = [] }
+nothing_told = record { changes = []; tags = []; marks = [] }
 
 -- the world, what is still to be read of the script that is fed, the words of the command that was given last, the
 -- bytes that were said then, what the last command that tells told, and the script's status
@@ -45,7 +47,7 @@ state_of session = record {
   script = session.splitter;
   words = texts_of session.words.items;
   said = said_text (texts_of session.words.items) session.said;
-  told = record { changes = session.told; marks = session.marks };
+  told = record { changes = session.told.changes; tags = session.told.tags; marks = session.marks };
   status = session.status;
 }
 

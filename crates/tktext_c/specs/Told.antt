@@ -1,9 +1,11 @@
 -- What a command that tells makes of a session, and what C reads of it.
-use Rattle.std.specs.Prelude.{◌≡◌, ℕ, true, List, [], Option, Some, None, is_ok, slice_get}
+use Rattle.std.specs.Prelude.{◌≡◌, ℕ, Bool, true, false, List, [], Option, Some, None, is_ok, slice_get}
 use Rattle.std.specs.Prelude.{encode_utf8_all, option_map, ◌==◌, if◌then◌else◌}
 use Rattle.tcl_words.specs.Unread.{TakesCommand}
 use Rattle.edit_ops.specs.declared.changes.TextChange.{TextChange}
 use Rattle.edit_ops.specs.declared.spots.Spot.{Spot}
+use Rattle.documents.specs.Documents.{sel}
+use Rattle.documents.specs.declared.tag_lists.TagChange.{TagChange}
 use Rattle.peers.specs.Step.{step}
 use Rattle.peers.specs.MarksTold.{MarksTellOf}
 use Rattle.peers.specs.Told.{TellsOf}
@@ -24,7 +26,8 @@ untold old = record old { told = nothing_told }
 
 -- what is told of a command of these words that made a world of another
 abbrev pub IsTold : World → World → List (List ℕ) → Telling → Type 0
-IsTold old new words told = TellsOf old new words told.changes × MarksTellOf old new words told.marks
+IsTold old new words told =
+    TellsOf old new words (record { changes = told.changes; tags = told.tags }) × MarksTellOf old new words told.marks
 
 -- From old to new a command is answered, and what it changed is told; or it is refused, which tells nothing.
 abbrev pub GivesTold : State → List (List ℕ) → State → Given → Type 0
@@ -100,6 +103,31 @@ spot_told changes index end = spot_in (slice_get changes index) end
 -- the bytes of what it put in
 abbrev pub text_told : List TextChange → ℕ → List ℕ
 text_told changes index = bytes_of (option_map (λ (change : TextChange). change.inserted) (slice_get changes index))
+
+-- a change of a tag: the tag's name, and where it is some widget's `sel`, that widget's
+abbrev pub tag_name : TagChange → List ℕ
+tag_name change = if change.key.selects then sel else change.key.name
+
+abbrev pub tag_widget : TagChange → List ℕ
+tag_widget change = if change.key.selects then change.key.name else []
+
+-- where it begins and ends, and whether the tag is put on there
+abbrev pub tag_span : TagChange → ℕ × ℕ × Bool
+tag_span change = (change.from, change.to, change.on)
+
+-- the bytes of its names; nothing where there is none
+abbrev pub tag_told : List TagChange → ℕ → List ℕ
+tag_told tags index = bytes_of (option_map tag_name (slice_get tags index))
+
+abbrev pub widget_told : List TagChange → ℕ → List ℕ
+widget_told tags index = bytes_of (option_map tag_widget (slice_get tags index))
+
+abbrev pub span_in : Option TagChange → ℕ × ℕ × Bool
+span_in None = (0, 0, false)
+span_in (Some change) = tag_span change
+
+abbrev pub span_told : List TagChange → ℕ → ℕ × ℕ × Bool
+span_told tags index = span_in (slice_get tags index)
 
 -- the bytes of the name of one of the marks
 abbrev pub mark_told : List (List ℕ) → ℕ → List ℕ

@@ -1,6 +1,6 @@
 //! How the calls from C end, and the codes of that.
 ghost use Rattle.std.specs.Prelude.{◌≡◌};
-ghost use Rattle.tktext_c.specs.Codes.{given_code, make_code, call_code, feed_code, turn_code, told_code};
+ghost use Rattle.tktext_c.specs.Codes.{flag_code, given_code, make_code, call_code, feed_code, turn_code, told_code};
 
 /// What a command was given.
 #[derive(Clone, Copy)]
@@ -128,6 +128,16 @@ impl TurnEnd {
 pub(crate) enum Way {
     Undo,
     Redo,
+}
+
+/// The code of yes or no.
+pub(crate) fn code_of_flag(flag: bool) -> i32
+    ensures { result ≡ flag_code flag }
+{
+    match flag {
+        true => 1,
+        false => 0,
+    }
 }
 
 /// The code of what is told of a widget's text.

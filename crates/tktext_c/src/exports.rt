@@ -2,7 +2,7 @@
 ghost use Rattle.std.specs.Prelude.{◌≡◌, true, false};
 ghost use Rattle.tktext_c.specs.Calls.{Makes, Calls, Feeds, Takes, Tells, can_by};
 ghost use Rattle.tktext_c.specs.Handles.{state};
-ghost use Rattle.tktext_c.specs.Told.{told_of, place_told, spot_told, CallsTold, TakesTold};
+ghost use Rattle.tktext_c.specs.Told.{told_of, place_told, span_told, spot_told, CallsTold, TakesTold};
 
 use crate::ends::{CallEnd, FeedEnd, MakeEnd, TurnEnd, Way};
 use crate::handle::Handle;
@@ -121,4 +121,18 @@ pub(crate) fn change_spot(alloc: Global, handle: &mut Handle, index: usize, end:
     let spot = session.change_spot(index, end);
     handle.put(session);
     spot
+}
+
+/// Where a change of a tag begins and ends, and whether the tag is put on there; zeros where there is none.
+pub(crate) fn tag_span(alloc: Global, handle: &mut Handle, index: usize) -> (usize, usize, bool)
+    ensures span { result ≡ span_told (told_of (state handle.old)).tags index }
+    ensures unchanged { state handle.new ≡ state handle.old }
+{
+    if !handle.full {
+        return (0, 0, false);
+    }
+    let session = handle.take(alloc);
+    let span = session.tag_span(index);
+    handle.put(session);
+    span
 }

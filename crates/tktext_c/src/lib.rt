@@ -5,11 +5,11 @@ ghost use Rattle.std.specs.Prelude.{◌≡◌, Bool, Option, None, min, length, 
 ghost use Rattle.text_model.specs.LimitTable.{most_chars, most_tags, most_marks, most_widgets};
 ghost use Rattle.peers.specs.History.{can_redo_by, can_undo_by};
 ghost use Rattle.tktext_c.specs.Calls.{Makes, Calls, Feeds, Takes, Tells, finished};
-ghost use Rattle.tktext_c.specs.Codes.{make_code, call_code, feed_code, turn_code, told_code};
+ghost use Rattle.tktext_c.specs.Codes.{make_code, call_code, feed_code, flag_code, turn_code, told_code};
 ghost use Rattle.tktext_c.specs.Handles.{state, status_of, said_of};
 ghost use Rattle.tktext_c.specs.Room.{over};
 ghost use Rattle.tktext_c.specs.Told.{told_of, mark_told, place_told, spot_told, text_told, word_given, words_of};
-ghost use Rattle.tktext_c.specs.Told.{CallsTold, TakesTold};
+ghost use Rattle.tktext_c.specs.Told.{span_told, tag_told, widget_told, CallsTold, TakesTold};
 
 mod ends;
 mod exports;
@@ -20,7 +20,7 @@ mod session;
 mod turns;
 mod words;
 
-use ends::{CallEnd, FeedEnd, MakeEnd, TurnEnd, Way, code_of_told};
+use ends::{CallEnd, FeedEnd, MakeEnd, TurnEnd, Way, code_of_flag, code_of_told};
 use handle::Handle;
 use std::alloc::Global;
 use text_model::Limits;
@@ -236,6 +236,91 @@ pub extern "C" fn tktext_told_units(
     ensures unchanged { state handle.new ≡ state handle.old }
 {
     exports::change_spot(alloc, handle, index, end).units
+}
+
+/// How many changes of tags the last command that tells told of: behind the changes of the text, and one after the other.
+#[unsafe(no_mangle)]
+pub extern "C" fn tktext_told_tags(alloc: Global, handle: &mut Handle) -> usize
+    ensures count { result ≡ length (told_of (state handle.old)).tags }
+    ensures unchanged { state handle.new ≡ state handle.old }
+{
+    if !handle.full {
+        return 0;
+    }
+    let session = handle.take(alloc);
+    let count = session.count_tags();
+    handle.put(session);
+    count
+}
+
+/// Copies the name of the tag of one of these changes to the front of the room, as far as it goes, and gives the length
+/// of all.
+#[unsafe(no_mangle)]
+pub extern "C" fn tktext_told_tag(
+    alloc: Global,
+    handle: &mut Handle,
+    index: usize,
+    room: &mut [u8],
+) -> usize
+    ensures length { result ≡ min (length (tag_told (told_of (state handle.old)).tags index)) usize.MAX }
+    ensures copied { room.new ≡ over (tag_told (told_of (state handle.old)).tags index) room.old }
+    ensures unchanged { state handle.new ≡ state handle.old }
+{
+    if !handle.full {
+        return 0;
+    }
+    let session = handle.take(alloc);
+    let length = session.copy_tag(index, room);
+    handle.put(session);
+    length
+}
+
+/// Copies the name of the widget whose `sel` the tag is in the same way; nothing of any other tag.
+#[unsafe(no_mangle)]
+pub extern "C" fn tktext_told_tag_widget(
+    alloc: Global,
+    handle: &mut Handle,
+    index: usize,
+    room: &mut [u8],
+) -> usize
+    ensures length { result ≡ min (length (widget_told (told_of (state handle.old)).tags index)) usize.MAX }
+    ensures copied { room.new ≡ over (widget_told (told_of (state handle.old)).tags index) room.old }
+    ensures unchanged { state handle.new ≡ state handle.old }
+{
+    if !handle.full {
+        return 0;
+    }
+    let session = handle.take(alloc);
+    let length = session.copy_tag_widget(index, room);
+    handle.put(session);
+    length
+}
+
+/// The offset, in characters, at which a change of a tag begins; 0 where there is none.
+#[unsafe(no_mangle)]
+pub extern "C" fn tktext_told_tag_from(alloc: Global, handle: &mut Handle, index: usize) -> usize
+    ensures from { result ≡ (span_told (told_of (state handle.old)).tags index).0 }
+    ensures unchanged { state handle.new ≡ state handle.old }
+{
+    exports::tag_span(alloc, handle, index).0
+}
+
+/// The offset, in characters, at which it ends; 0 where there is none.
+#[unsafe(no_mangle)]
+pub extern "C" fn tktext_told_tag_to(alloc: Global, handle: &mut Handle, index: usize) -> usize
+    ensures to { result ≡ (span_told (told_of (state handle.old)).tags index).1 }
+    ensures unchanged { state handle.new ≡ state handle.old }
+{
+    exports::tag_span(alloc, handle, index).1
+}
+
+/// 1 where the tag is put on there, and 0 where it is taken off, or where there is no such change.
+#[unsafe(no_mangle)]
+pub extern "C" fn tktext_told_tag_on(alloc: Global, handle: &mut Handle, index: usize) -> i32
+    ensures on { result ≡ flag_code (span_told (told_of (state handle.old)).tags index).2 }
+    ensures unchanged { state handle.new ≡ state handle.old }
+{
+    code_of_flag(exports::tag_span(alloc, handle, index).2)
 }
 
 /// How many marks the last command that tells moved by an order, as `mark set` and `mark unset` do.

@@ -2,7 +2,7 @@
 ghost use Rattle.std.specs.Prelude.{◌≡◌};
 
 use line_tree::TreeStore;
-use peers::{Answer, ChangeList, Fault, MovedMarks, World};
+use peers::{Answer, EditTold, Fault, MovedMarks, World};
 use tcl_words::{ScriptFault, Splitter};
 
 /// What was said last.
@@ -26,7 +26,7 @@ pub struct Session {
     pub(crate) words: Vec<String>,
     pub(crate) spare: Vec<String>,
     pub(crate) said: Said,
-    pub(crate) told: ChangeList,
+    pub(crate) told: EditTold,
     pub(crate) marks: MovedMarks,
     pub(crate) status: u8,
     ghost agrees: { is_finished ≡ splitter.finished },

@@ -2,7 +2,7 @@ use Rattle.std.proofs.Common.{length}
 use Rattle.text_model.specs.Content.{characters}
 use Rattle.edit_ops.proofs.RunLaws.{apart-wider}
 use Rattle.edit_ops.proofs.DeleteLaws.{runs-left}
-use Rattle.edit_ops.proofs.deletions.runs_of.Goals as goal
+use Rattle.edit_ops.proofs.deletions.deleted_runs.Goals as goal
 
 pub returns-clause-apart : goal.returns-clause-apart
 returns-clause-apart g c =

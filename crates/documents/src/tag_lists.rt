@@ -1,0 +1,149 @@
+//! What is told of tags.
+
+ghost use Rattle.std.specs.Prelude.{◌≡◌, ◌+◌, ◌<◌, ◌≤◌, ◌++◌, ◌∷◌, [], false, length, Bool, List, OnOk};
+ghost use Rattle.std.specs.List.{All};
+ghost use Rattle.text_model.specs.Content.{flags};
+ghost use Rattle.text_model.specs.TagBits.{slot_count};
+ghost use Rattle.edit_ops.specs.Deletions.{AreApart};
+ghost use Rattle.documents.specs.TagsTold.{run_changes, TellsSpan, TellsSpans};
+
+use crate::keys::Key;
+use edit_ops::Span;
+use std::alloc::{AllocError, Global};
+use std::marker::Model;
+use text_model::{TagSlot, TextStore};
+
+/// A change of a tag: it is put on the characters from one offset to another, or taken off them.
+#[derive(Drop)]
+pub struct TagChange {
+    pub key: Key,
+    pub from: usize,
+    pub to: usize,
+    pub on: bool,
+}
+
+/// Changes of tags, each of the characters as those before it leave them. None is idle: a tag is put on characters that
+/// don't have it, and taken off those that do. Contracts see a list.
+#[derive(Drop)]
+pub struct TagList {
+    alloc: Global,
+    changes: Vec<TagChange>,
+}
+
+impl Model for TagList {
+    ghost use Rattle.std.specs.Prelude.{List};
+    ghost use Rattle.std.specs.Coded.{codes};
+    ghost use Rattle.documents.specs.declared.tag_lists.TagChange.{TagChange};
+
+    ghost Value = { List TagChange };
+
+    ghost coded = { Prim.hlevel codes };
+
+    ghost view = { λ l. l.changes.items };
+}
+
+impl TagList {
+    /// No changes. It takes no memory.
+    pub fn new(alloc: Global) -> TagList
+        ensures { result ≡ [] }
+    {
+        TagList {
+            alloc,
+            changes: Vec::new(alloc),
+        }
+    }
+
+    pub fn as_slice(&self) -> &[TagChange]
+        ensures { result.now ≡ self.now }
+    {
+        self.changes.as_slice()
+    }
+
+    /// Adds that a key is put on the characters from one offset to another, or taken off them.
+    pub fn push(&mut self, key: &Key, from: usize, to: usize, on: bool) -> Result<(), AllocError>
+        ensures { OnOk result
+            (self.new ≡ self.old ++ record { key = key.now; from = from; to = to; on = on } ∷ []) }
+    {
+        let key = key.copy(self.alloc)?;
+        self.changes.push(TagChange { key, from, to, on })?;
+        Ok(())
+    }
+
+    /// Adds the same of some keys.
+    pub fn push_run(
+        &mut self,
+        keys: &[Key],
+        from: usize,
+        to: usize,
+        on: bool,
+    ) -> Result<(), AllocError>
+        ensures { OnOk result (self.new ≡ self.old ++ run_changes from to on keys.now) }
+    {
+        for key in keys {
+            self.push(key, from, to, on)?;
+        }
+        Ok(())
+    }
+
+    /// Adds that a key is put on the characters of a span, or taken off them, where they are otherwise by a store, which
+    /// knows the key by a slot.
+    pub fn push_unlike<S: TextStore>(
+        &mut self,
+        store: &S,
+        slot: TagSlot,
+        key: &Key,
+        span: Span,
+        on: bool,
+    ) -> Result<(), AllocError>
+        requires ordered { span.from ≤ span.to }
+        requires within { span.to ≤ length (S.content store.now).cells }
+        requires known { slot.0 < slot_count }
+        ensures { OnOk result (TellsSpan key.now on (flags slot.0 (S.content store.now).cells) span.from span.to
+            self.old self.new) }
+    {
+        let mut at = span.from;
+        while at < span.to {
+            let end = store.next_change(at, slot).min(span.to);
+            if store.has_tag(at, slot) != on {
+                self.push(key, at, end, on)?;
+            }
+            at = end;
+        }
+        Ok(())
+    }
+
+    /// Adds the same of spans, of which the last comes first.
+    pub fn push_spans<S: TextStore>(
+        &mut self,
+        store: &S,
+        slot: TagSlot,
+        key: &Key,
+        spans: &[Span],
+        on: bool,
+    ) -> Result<(), AllocError>
+        requires apart { AreApart (length (S.content store.now).cells + 1) spans.now }
+        requires known { slot.0 < slot_count }
+        ensures { OnOk result (TellsSpans key.now on (flags slot.0 (S.content store.now).cells) spans.now
+            self.old self.new) }
+    {
+        for span in spans {
+            self.push_unlike(store, slot, key, *span, on)?;
+        }
+        Ok(())
+    }
+
+    /// Adds that a key that no character has is put on spans, of which the last comes first; nothing is told where it
+    /// is taken off.
+    pub fn push_whole(&mut self, key: &Key, spans: &[Span], on: bool) -> Result<(), AllocError>
+        ensures { OnOk result ((flags : List Bool) → AreApart (length flags + 1) spans.now →
+            All (λ flag. flag ≡ false) flags → TellsSpans key.now on flags spans.now self.old self.new) }
+    {
+        if !on {
+            return Ok(());
+        }
+        for span in spans {
+            self.push(key, span.from, span.to, true)?;
+        }
+        Ok(())
+    }
+}

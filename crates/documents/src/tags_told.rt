@@ -1,0 +1,248 @@
+//! What commands tell of tags.
+
+ghost use Rattle.std.specs.Prelude.{◌≡◌, ◌+◌, ◌-◌, ◌<◌, ◌≤◌, ◌^◌, chars, length, option_map, sum_by, IfOk};
+ghost use Rattle.std.specs.FinSet as set;
+ghost use Rattle.std.specs.List.{All};
+ghost use Rattle.text_model.specs.LimitTable.{LimitTable};
+ghost use Rattle.text_model.specs.declared.limits.TheConstants.Limits.{MOST_WIDGETS};
+ghost use Rattle.tcl_words.specs.Unread.{texts_of};
+ghost use Rattle.tag_table.specs.Tags.{AreTags};
+ghost use Rattle.edit_ops.specs.Deletions.{AreApart};
+ghost use Rattle.edit_ops.specs.Insertions.{slots_or};
+ghost use Rattle.edit_ops.specs.Tagging.{SpanFits};
+ghost use Rattle.command_effects.specs.Lists.{total};
+ghost use Rattle.command_effects.specs.Tagging.{slots_named};
+ghost use Rattle.documents.specs.Documents.{widget_at};
+ghost use Rattle.documents.specs.Edits.{keys_or, with_tag};
+ghost use Rattle.documents.specs.Kept.{AreSeats};
+ghost use Rattle.documents.specs.Keys.{keys_named, keys_of, key_pairs};
+ghost use Rattle.documents.specs.Names.{key_of};
+ghost use Rattle.documents.specs.Tags.{add_spans, remove_spans, tag_delete};
+ghost use Rattle.documents.specs.TagsTold.{slot_changes, AreKeysOf, TellsBare, TellsPairs, TellsTags};
+ghost use Rattle.documents.specs.Told.{Foretells};
+ghost use Rattle.documents.specs.Views.{shown};
+
+use crate::documents::Document;
+use crate::keys::{Key, keys_in, keys_named, slots_named};
+use crate::tag_lists::TagList;
+use crate::told::EditTold;
+use command_effects::{Pair, find_tag};
+use edit_ops::{SlotRun, Span, count_of, slots_beside, union};
+use name_list::NameList;
+use std::alloc::{AllocError, Global};
+use tag_table::TagTable;
+use text_model::{TagSet, TagSlot, TextStore};
+
+/// The slots that there are of a text's list, or without a list those that the characters on both sides of it share.
+fn slots_of_pair(
+    tags: &TagTable,
+    own: TagSlot,
+    pair: &Pair,
+    left: &TagSet,
+    right: &TagSet,
+) -> TagSet
+    requires { own.0 < MOST_WIDGETS }
+    ensures { result ≡ slots_or (option_map (slots_named tags.now.tags own.0) pair.now.names)
+        (set.intersection left.now right.now) }
+{
+    match &pair.names {
+        None => left.common(right),
+        Some(names) => slots_named(tags, own, names),
+    }
+}
+
+/// The keys of a text's list, or without a list those of some slots, each once.
+fn keys_of_pair(
+    alloc: Global,
+    seats: &NameList,
+    tags: &TagTable,
+    widget: &str,
+    pair: &Pair,
+    slots: &TagSet,
+) -> Result<Vec<Key>, AllocError>
+    requires seats { AreSeats seats.now.entries }
+    requires limit { seats.now.limit ≡ MOST_WIDGETS }
+    requires tags { AreTags tags.now }
+    ensures { IfOk result (λ keys. AreKeysOf (keys_or (option_map (keys_named (chars widget.now)) pair.now.names)
+        (keys_of (key_pairs seats.now.entries tags.now.tags) slots.now)) keys.items) }
+{
+    match &pair.names {
+        None => keys_in(alloc, seats, tags, slots),
+        Some(names) => keys_named(alloc, widget, names),
+    }
+}
+
+/// How many characters stand in spans, of which the last comes first.
+fn count_in(spans: &[Span]) -> usize
+    requires { AreApart (2 ^ 60) spans.now }
+    ensures { result ≡ sum_by (λ span. span.to - span.from) spans.now }
+{
+    let mut count = 0;
+    for span in spans {
+        count += span.to - span.from;
+    }
+    count
+}
+
+/// What is told of tags where runs of characters get slots.
+pub fn run_tags(
+    alloc: Global,
+    seats: &NameList,
+    tags: &TagTable,
+    runs: &[SlotRun],
+) -> Result<TagList, AllocError>
+    requires { seats.now.limit ≡ MOST_WIDGETS }
+    ensures { IfOk result (λ told. told ≡ slot_changes (key_pairs seats.now.entries tags.now.tags) runs.now) }
+{
+    let mut told = TagList::new(alloc);
+    for run in runs {
+        let keys = keys_in(alloc, seats, tags, &run.slots)?;
+        told.push_run(&keys, run.from, run.to, true)?;
+    }
+    Ok(told)
+}
+
+impl<S: TextStore> Document<S> {
+    /// What is told of tags where texts take the place of the characters from one offset to another.
+    pub(crate) fn pair_tags(
+        &self,
+        seat: usize,
+        from: usize,
+        to: usize,
+        pairs: &[Pair],
+    ) -> Result<TagList, AllocError>
+        requires shown { seat < length self.now.widgets }
+        requires ordered { from ≤ to }
+        requires within { to < length self.now.cells }
+        ensures { IfOk result (λ told. length self.now.cells + total pairs.now < 2 ^ 64 →
+            TellsPairs (widget_at self.now seat) from to pairs.now self.now.cells told) }
+    {
+        let widget = self.seats.name(seat);
+        let own = TagSlot(self.seats.number(seat));
+        let (mut left, right) = slots_beside(&self.text.store, from, to, true);
+        let mut told = TagList::new(self.alloc);
+        let mut at = from;
+        for pair in pairs {
+            let count = count_of(&pair.text);
+            if count > 0 {
+                left = slots_of_pair(&self.tags, own, pair, &left, &right);
+                let keys = keys_of_pair(self.alloc, &self.seats, &self.tags, widget, pair, &left)?;
+                let end = at.saturating_add(count);
+                told.push_run(&keys, at, end, true)?;
+                at = end;
+            }
+        }
+        Ok(told)
+    }
+
+    /// What is told of tags where runs are taken out, of which the last comes first, and the character at an offset
+    /// behind them loses its tags.
+    pub(crate) fn bare_tags(&self, last: usize, runs: &[Span]) -> Result<TagList, AllocError>
+        requires within { last < length self.now.cells }
+        requires apart { AreApart (last + 1) runs.now }
+        ensures { IfOk result (TellsBare last runs.now self.now.cells) }
+    {
+        let slots = self.text.store.tags_at(last);
+        let keys = keys_in(self.alloc, &self.seats, &self.tags, &slots)?;
+        let at = last - count_in(runs);
+        let mut told = TagList::new(self.alloc);
+        told.push_run(&keys, at, at + 1, false)?;
+        Ok(told)
+    }
+}
+
+// ---- commands on tags
+
+impl<S: TextStore> Document<S> {
+    /// What it tells to put the tag of a name, as a widget knows it, on spans, or to take it off them.
+    fn span_tags(
+        &self,
+        seat: usize,
+        name: &str,
+        spans: &[Span],
+        on: bool,
+    ) -> Result<TagList, AllocError>
+        requires shown { seat < length self.now.widgets }
+        requires fit { All (SpanFits (length self.now.cells)) spans.now }
+        ensures { IfOk result (λ told. TellsTags told self.now.cells
+            (with_tag (key_of (widget_at self.now seat) (chars name.now)) on spans.now self.now.cells)) }
+    {
+        let mut told = TagList::new(self.alloc);
+        let key = Key::named(self.alloc, self.seats.name(seat), name)?;
+        let runs = union(self.alloc, spans)?;
+        match find_tag(&self.tags, TagSlot(self.seats.number(seat)), name) {
+            Some(slot) => told.push_spans(&self.text.store, slot, &key, &runs, on)?,
+            None => told.push_whole(&key, &runs, on)?,
+        }
+        Ok(told)
+    }
+
+    /// What `add_spans` changes, unless it is refused.
+    pub fn told_tag_add(
+        &self,
+        seat: usize,
+        name: &str,
+        places: &[usize],
+    ) -> Result<EditTold, AllocError>
+        requires shown { seat < length self.now.widgets }
+        requires within { All (λ place. place ≤ length (shown self.now (widget_at self.now seat))) places.now }
+        ensures { IfOk result (λ told. (limits : LimitTable) → Foretells self.now
+            (add_spans limits self.now (widget_at self.now seat) (chars name.now) places.now) told) }
+    {
+        let spans = self.spans_at(seat, places)?;
+        let tags = self.span_tags(seat, name, &spans, true)?;
+        Ok(EditTold::of_tags(self.alloc, tags))
+    }
+
+    /// What `remove_spans` changes.
+    pub fn told_tag_remove(
+        &self,
+        seat: usize,
+        name: &str,
+        places: &[usize],
+    ) -> Result<EditTold, AllocError>
+        requires shown { seat < length self.now.widgets }
+        requires within { All (λ place. place ≤ length (shown self.now (widget_at self.now seat))) places.now }
+        ensures { IfOk result (λ told. Foretells self.now
+            (remove_spans self.now (widget_at self.now seat) (chars name.now) places.now) told) }
+    {
+        let spans = self.spans_at(seat, places)?;
+        let tags = self.span_tags(seat, name, &spans, false)?;
+        Ok(EditTold::of_tags(self.alloc, tags))
+    }
+
+    /// Tells that the tag of a name goes, unless it is `sel`, unknown, or has gone already.
+    fn tell_gone(
+        &self,
+        seen: &mut TagSet,
+        told: &mut TagList,
+        name: &str,
+    ) -> Result<(), AllocError> {
+        let Some(slot) = self.tags.find(name) else {
+            return Ok(());
+        };
+        if slot.0 == 0 || seen.has(slot) {
+            return Ok(());
+        }
+        *seen = seen.with(slot);
+        let key = Key::new(self.alloc, false, name)?;
+        let store = &self.text.store;
+        let whole = Span {
+            from: 0,
+            to: store.len(),
+        };
+        told.push_unlike(store, slot, &key, whole, false)
+    }
+
+    /// What `delete_tags` changes.
+    pub fn told_tag_delete(&self, names: &[String]) -> Result<EditTold, AllocError>
+        ensures { IfOk result (λ told. Foretells self.now (tag_delete self.now (texts_of names.now)) told) }
+    {
+        let mut seen = TagSet::empty();
+        let mut told = TagList::new(self.alloc);
+        for name in names {
+            self.tell_gone(&mut seen, &mut told, name.as_str())?;
+        }
+        Ok(EditTold::of_tags(self.alloc, told))
+    }
+}
