@@ -24,6 +24,7 @@ pub mod NamesKeptLaws
 pub mod NewNameLaws
 pub mod OptionLeadLaws
 pub mod OrderLaws
+pub mod PairTagLaws
 pub mod PartsLaws
 pub mod PlacedLaws
 pub mod QueryLaws
