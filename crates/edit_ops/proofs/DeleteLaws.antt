@@ -53,7 +53,8 @@ slice-front from to border xs ys ordered within same =
     slice-is from to xs ordered ∙ ap (drop from) (front-shorter to border xs ys within same)
     ∙ sym (slice-is from to ys ordered)
 
-pub length-slice : (from to : ℕ) (xs : List ℕ) → from ≤ to → to ≤ length xs → length (slice_range xs from to) ≡ to - from
+pub length-slice : {A : Type 0} (from to : ℕ) (xs : List A) → from ≤ to → to ≤ length xs
+    → length (slice_range xs from to) ≡ to - from
 length-slice from to xs ordered within =
     length-take (to - from) (drop from xs) ∙ (let h = length-drop from xs in omega (arith, h))
 

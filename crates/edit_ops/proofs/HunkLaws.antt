@@ -4,64 +4,87 @@ use Rattle.std.proofs.Common.{refl, sym, ap, ap₂, ◌∙◌, arith, append-nil
 use Rattle.std.proofs.Common.{subst}
 use Rattle.std.specs.Prelude.{nat_lt, reverse, slice_range, if◌then◌else◌}
 use Rattle.std.proofs.lemmas.Bool.{lt-ltb, ltb-true, ltb-false}
-use Rattle.std.proofs.lemmas.List.{drop-append-le, drop_at, drop-take, map-append, take_at}
+use Rattle.std.proofs.lemmas.List.{drop-append-le, drop_at, drop-map, drop-take, map-append, nil_from_length, take_at}
 use Rattle.std.proofs.lemmas.List.{reverse-append}
 use Rattle.std.proofs.lemmas.List.Folds.{drop_split}
 use Rattle.text_model.specs.Splices.{inserted, removed}
-use Rattle.text_model.proofs.SpliceLaws.{length-removed, take-removed}
+use Rattle.text_model.proofs.SpliceLaws.{length-removed, map-slice_range, take-removed}
 use Rattle.text_cursor.proofs.CursorLaws.{slice-join}
 use Rattle.edit_ops.specs.Deletions.{AreApart}
-use Rattle.edit_ops.specs.Told.{AreHunks, patched, putting, taking, taking_out}
+use Rattle.edit_ops.specs.Told.{AreHunks, patched_by, putting, taking, taking_out}
 use Rattle.edit_ops.specs.declared.hunks.Hunk.{Hunk}
 use Rattle.edit_ops.specs.declared.spans.Span.{Span}
 use Rattle.edit_ops.proofs.TellLaws.{hunks-within}
 
--- ---- parts of a text
+-- ---- parts of a list
 
-pub slice-none : (at : ℕ) (text : List ℕ) → slice_range text at at ≡ []
-slice-none at text = ap (λ n. take n (drop at text)) (let e : at - at ≡ 0 = omega arith in e)
+pub slice-none : {A : Type 0} (at : ℕ) (list : List A) → slice_range list at at ≡ []
+slice-none at list = ap (λ n. take n (drop at list)) (let e : at - at ≡ 0 = omega arith in e)
 
 -- ---- hunks
 
--- what stands before a place of the text stays, where no hunk begins before it
-pub patched-lower : (border at len : ℕ) (hunks : List Hunk) (text : List ℕ) → border ≤ at → AreHunks at len hunks
-    → patched border hunks text ≡ slice_range text border at ++ patched at hunks text
-patched-lower border at len [] text before stand = drop_split text border at before
-patched-lower border at len (hunk ∷ hunks) text before stand =
-    let front = slice_range text border at in
-    let between = slice_range text at hunk.from in
-    let rest = patched hunk.to hunks text in
-    ap (λ xs. xs ++ hunk.text ++ rest) (sym (slice-join border at hunk.from text before stand.0))
-    ∙ ap (λ xs. xs ++ rest) (append_assoc front between hunk.text) ∙ append_assoc front (between ++ hunk.text) rest
+-- what stands before a place stays, where no hunk begins before it
+pub patched-lower : {A : Type 0} (put : List ℕ → List A) (border at len : ℕ) (hunks : List Hunk) (list : List A)
+    → border ≤ at → AreHunks at len hunks
+    → patched_by put border hunks list ≡ slice_range list border at ++ patched_by put at hunks list
+patched-lower put border at len [] list before stand = drop_split list border at before
+patched-lower put border at len (hunk ∷ hunks) list before stand =
+    let front = slice_range list border at in
+    let between = slice_range list at hunk.from in
+    let new = put hunk.text in
+    let rest = patched_by put hunk.to hunks list in
+    ap (λ xs. xs ++ new ++ rest) (sym (slice-join border at hunk.from list before stand.0))
+    ∙ ap (λ xs. xs ++ rest) (append_assoc front between new) ∙ append_assoc front (between ++ new) rest
 
--- texts one behind the other
-abbrev pub joined : List (List ℕ) → List ℕ
-joined [] = []
-joined (text ∷ texts) = text ++ joined texts
+-- a map of what hunks make
+pub map-patched : {A B : Type 0} (f : A → B) (put : List ℕ → List A) (put_mapped : List ℕ → List B)
+    → ((text : List ℕ) → map f (put text) ≡ put_mapped text) → (at : ℕ) (hunks : List Hunk) (list : List A)
+    → map f (patched_by put at hunks list) ≡ patched_by put_mapped at hunks (map f list)
+map-patched f put put_mapped same at [] list = sym (drop-map f at list)
+map-patched f put put_mapped same at (hunk ∷ hunks) list =
+    let between = slice_range list at hunk.from in
+    map-append f (between ++ put hunk.text) (patched_by put hunk.to hunks list)
+    ∙ ap₂ (λ xs ys. xs ++ ys) (map-append f between (put hunk.text)
+    ∙ ap₂ (λ xs ys. xs ++ ys) (map-slice_range f at hunk.from list) (same hunk.text))
+    (map-patched f put put_mapped same hunk.to hunks list)
 
 -- ---- texts that are put in
 
--- texts are put in at an offset of another, each behind the one before it
-abbrev pub put_all : ℕ → List (List ℕ) → List ℕ → List ℕ
-put_all at [] old = old
-put_all at (text ∷ texts) old = put_all (at + length text) texts (inserted at text old)
+-- an element for each character of a text
+abbrev pub IsEach : {A : Type 0} → (List ℕ → List A) → Type 0
+IsEach put = (text : List ℕ) → length (put text) ≡ length text
 
-put-behind : (at : ℕ) (texts : List (List ℕ)) (front rest : List ℕ) → length front ≡ at
-    → put_all at texts (front ++ rest) ≡ front ++ (joined texts ++ rest)
-put-behind at [] front rest long = refl
-put-behind at (text ∷ texts) front rest long =
-    ap₂ (λ xs ys. put_all (at + length text) texts (xs ++ text ++ ys)) (take_at front rest at long)
+-- the elements of texts, one text behind the other
+abbrev pub joined : {A : Type 0} → (List ℕ → List A) → List (List ℕ) → List A
+joined put [] = []
+joined put (text ∷ texts) = put text ++ joined put texts
+
+-- the elements of texts are put in at an offset of a list, each text behind the one before it
+abbrev pub put_all : {A : Type 0} → (List ℕ → List A) → ℕ → List (List ℕ) → List A → List A
+put_all put at [] old = old
+put_all put at (text ∷ texts) old = put_all put (at + length text) texts (inserted at (put text) old)
+
+put-behind : {A : Type 0} (put : List ℕ → List A) (at : ℕ) (texts : List (List ℕ)) (front rest : List A) → IsEach put
+    → length front ≡ at → put_all put at texts (front ++ rest) ≡ front ++ (joined put texts ++ rest)
+put-behind put at [] front rest each long = refl
+put-behind put at (text ∷ texts) front rest each long =
+    ap₂ (λ xs ys. put_all put (at + length text) texts (xs ++ put text ++ ys)) (take_at front rest at long)
     (drop_at front rest at long)
-    ∙ put-behind (at + length text) texts (front ++ text) rest (length-append front text ∙ ap (λ n. n + length text) long)
-    ∙ append_assoc front text (joined texts ++ rest) ∙ ap (λ xs. front ++ xs) (sym (append_assoc text (joined texts) rest))
+    ∙ put-behind put (at + length text) texts (front ++ put text) rest each
+    (length-append front (put text) ∙ ap₂ (λ m n. m + n) long (each text))
+    ∙ append_assoc front (put text) (joined put texts ++ rest)
+    ∙ ap (λ xs. front ++ xs) (sym (append_assoc (put text) (joined put texts) rest))
 
-put-patched : (at : ℕ) (texts : List (List ℕ)) (later : List Hunk) (text : List ℕ)
-    → patched at (putting at texts ++ later) text ≡ joined texts ++ patched at later text
-put-patched at [] later text = refl
-put-patched at ([] ∷ texts) later text = put-patched at texts later text
-put-patched at ((character ∷ new) ∷ texts) later text =
-    ap₂ (λ xs ys. xs ++ (character ∷ new) ++ ys) (slice-none at text) (put-patched at texts later text)
-    ∙ sym (append_assoc (character ∷ new) (joined texts) (patched at later text))
+put-patched : {A : Type 0} (put : List ℕ → List A) (at : ℕ) (texts : List (List ℕ)) (later : List Hunk) (list : List A)
+    → IsEach put
+    → patched_by put at (putting at texts ++ later) list ≡ joined put texts ++ patched_by put at later list
+put-patched put at [] later list each = refl
+put-patched put at ([] ∷ texts) later list each =
+    put-patched put at texts later list each
+    ∙ ap (λ xs. xs ++ joined put texts ++ patched_by put at later list) (sym (nil_from_length (put []) (each [])))
+put-patched put at ((character ∷ new) ∷ texts) later list each =
+    ap₂ (λ xs ys. xs ++ put (character ∷ new) ++ ys) (slice-none at list) (put-patched put at texts later list each)
+    ∙ sym (append_assoc (put (character ∷ new)) (joined put texts) (patched_by put at later list))
 
 -- no hunk more of a text without characters, and else one
 pub none-more : (at : ℕ) (text : List ℕ) (hunks : List Hunk) → text ≡ [] → hunks ≡ hunks ++ putting at (text ∷ [])
@@ -73,18 +96,6 @@ pub one-more : (at : ℕ) (text : List ℕ) (hunks now : List Hunk)
     → now ≡ hunks ++ putting at (text ∷ [])
 one-more at [] hunks now is some = absurd (some refl)
 one-more at (character ∷ text) hunks now is some = is
-
--- texts are put in before whatever later hunks make
-pub putting-is : (at len : ℕ) (texts : List (List ℕ)) (later : List Hunk) (text : List ℕ) → at ≤ length text
-    → AreHunks at len later → AreHunks at len (putting at texts ++ later)
-    → patched 0 (putting at texts ++ later) text ≡ put_all at texts (patched 0 later text)
-putting-is at len texts later text within stand all =
-    let front = slice_range text 0 at in
-    let long : length front ≡ at = length-take (at - 0) text ∙ omega (arith, within) in
-    patched-lower 0 at len (putting at texts ++ later) text (omega arith) all
-    ∙ ap (λ xs. front ++ xs) (put-patched at texts later text)
-    ∙ sym (ap (put_all at texts) (patched-lower 0 at len later text (omega arith) stand)
-    ∙ put-behind at texts front (patched at later text) long)
 
 pub putting-stand : (at len : ℕ) (texts : List (List ℕ)) (later : List Hunk) → AreHunks at len later
     → AreHunks at len (putting at texts ++ later)
@@ -99,6 +110,18 @@ putting-stand at len ((character ∷ new) ∷ texts) later stand = (
   },
   putting-stand at len texts later stand,
 )
+
+-- texts are put in before whatever later hunks make
+pub putting-is : {A : Type 0} (put : List ℕ → List A) (at len : ℕ) (texts : List (List ℕ)) (later : List Hunk)
+    (list : List A) → IsEach put → at ≤ length list → AreHunks at len later
+    → patched_by put 0 (putting at texts ++ later) list ≡ put_all put at texts (patched_by put 0 later list)
+putting-is put at len texts later list each within stand =
+    let front = slice_range list 0 at in
+    let long : length front ≡ at = length-take (at - 0) list ∙ omega (arith, within) in
+    patched-lower put 0 at len (putting at texts ++ later) list (omega arith) (putting-stand at len texts later stand)
+    ∙ ap (λ xs. front ++ xs) (put-patched put at texts later list each)
+    ∙ sym (ap (put_all put at texts) (patched-lower put 0 at len later list (omega arith) stand)
+    ∙ put-behind put at texts front (patched_by put at later list) each long)
 
 pub putting-append : (at : ℕ) (texts others : List (List ℕ))
     → putting at (texts ++ others) ≡ putting at texts ++ putting at others
@@ -116,10 +139,10 @@ hunks-lower border at len (hunk ∷ hunks) before stand =
 
 -- ---- spans that are taken out
 
--- spans are taken out of a text, one after the other
-abbrev pub removed_all : List Span → List ℕ → List ℕ
-removed_all [] text = text
-removed_all (span ∷ spans) text = removed_all spans (removed span.from span.to text)
+-- spans are taken out of a list, one after the other
+abbrev pub removed_all : {A : Type 0} → List Span → List A → List A
+removed_all [] list = list
+removed_all (span ∷ spans) list = removed_all spans (removed span.from span.to list)
 
 abbrev pub taken : Span → Hunk
 taken span = record { from = span.from; to = span.to; text = [] }
@@ -138,38 +161,38 @@ stand-one-more at border len [] span stand before some within = (
 stand-one-more at border len (hunk ∷ hunks) span stand before some within =
     (stand.0, stand.1, stand-one-more hunk.to border len hunks span stand.2 before some within)
 
-slice-before : (at end from to : ℕ) (text : List ℕ) → at ≤ end → end ≤ from → from ≤ length text
-    → slice_range (removed from to text) at end ≡ slice_range text at end
-slice-before at end from to text ordered before within =
-    sym (slice-is (removed from to text)) ∙ ap (drop at) (take-removed from to text end within before)
-    ∙ slice-is text
-  where
-    slice-is : (xs : List ℕ) → drop at (take end xs) ≡ slice_range xs at end
-    slice-is xs = ap (λ n. drop at (take n xs)) (let e : end ≡ at + (end - at) = omega (arith, ordered) in e)
-        ∙ drop-take at (end - at) xs
+slice-is : {A : Type 0} (at end : ℕ) (list : List A) → at ≤ end → drop at (take end list) ≡ slice_range list at end
+slice-is at end list ordered =
+    ap (λ n. drop at (take n list)) (let e : end ≡ at + (end - at) = omega (arith, ordered) in e)
+    ∙ drop-take at (end - at) list
+
+slice-before : {A : Type 0} (at end from to : ℕ) (list : List A) → at ≤ end → end ≤ from → from ≤ length list
+    → slice_range (removed from to list) at end ≡ slice_range list at end
+slice-before at end from to list ordered before within =
+    sym (slice-is at end (removed from to list) ordered) ∙ ap (drop at) (take-removed from to list end within before)
+    ∙ slice-is at end list ordered
+
+drop-before : {A : Type 0} (at from to : ℕ) (list : List A) → at ≤ from → from ≤ length list
+    → drop at (removed from to list) ≡ slice_range list at from ++ drop to list
+drop-before at from to list before within =
+    drop-append-le at (take from list) (drop to list) (let h = length-take from list in omega (arith, h, before, within))
+    ∙ ap (λ xs. xs ++ drop to list) (slice-is at from list before)
 
 -- a span that is taken out above all hunks, or before them
-one-more-is : (at border : ℕ) (hunks : List Hunk) (span : Span) (text : List ℕ) → AreHunks at border hunks
-    → border ≤ span.from → span.from ≤ span.to → span.to ≤ length text
-    → patched at (hunks ++ taken span ∷ []) text ≡ patched at hunks (removed span.from span.to text)
-one-more-is at border [] span text stand before ordered within =
-    ap (λ xs. xs ++ drop span.to text) (append-nil (slice_range text at span.from))
-    ∙ sym (drop-before at span.from span.to text (omega (arith, stand, before)) (omega (arith, ordered, within)))
-  where
-    drop-before : (at from to : ℕ) (text : List ℕ) → at ≤ from → from ≤ length text
-        → drop at (removed from to text) ≡ slice_range text at from ++ drop to text
-    drop-before at from to text before within =
-        drop-append-le at (take from text) (drop to text) (let h = length-take from text in omega (arith, h, before, within))
-        ∙ ap (λ xs. xs ++ drop to text)
-        (ap (λ n. drop at (take n text)) (let e : from ≡ at + (from - at) = omega (arith, before) in e)
-        ∙ drop-take at (from - at) text)
-one-more-is at border (hunk ∷ hunks) span text stand before ordered within =
+one-more-is : {A : Type 0} (put : List ℕ → List A) (at border : ℕ) (hunks : List Hunk) (span : Span) (list : List A)
+    → put [] ≡ [] → AreHunks at border hunks → border ≤ span.from → span.from ≤ span.to → span.to ≤ length list
+    → patched_by put at (hunks ++ taken span ∷ []) list ≡ patched_by put at hunks (removed span.from span.to list)
+one-more-is put at border [] span list none stand before ordered within =
+    ap (λ xs. slice_range list at span.from ++ xs ++ drop span.to list) none
+    ∙ ap (λ xs. xs ++ drop span.to list) (append-nil (slice_range list at span.from))
+    ∙ sym (drop-before at span.from span.to list (omega (arith, stand, before)) (omega (arith, ordered, within)))
+one-more-is put at border (hunk ∷ hunks) span list none stand before ordered within =
     let ends = hunks-within hunk.to border hunks stand.2 in
     let hunk_ordered = stand.1.ordered in
-    ap₂ (λ xs ys. xs ++ hunk.text ++ ys)
-    (sym (slice-before at hunk.from span.from span.to text stand.0 (omega (arith, ends, hunk_ordered, before))
+    ap₂ (λ xs ys. xs ++ put hunk.text ++ ys)
+    (sym (slice-before at hunk.from span.from span.to list stand.0 (omega (arith, ends, hunk_ordered, before))
     (omega (arith, ordered, within))))
-    (one-more-is hunk.to border hunks span text stand.2 before ordered within)
+    (one-more-is put hunk.to border hunks span list none stand.2 before ordered within)
 
 taking-more : (span : Span) (spans : List Span) → taking (span ∷ spans) ≡ taking spans ++ taken span ∷ []
 taking-more span spans =
@@ -185,19 +208,20 @@ taking-stand border len (span ∷ spans) apart below =
     (stand-one-more 0 span.from len (taking spans) span (taking-stand span.from span.from spans apart.2 (omega arith))
     (omega arith) some (omega (arith, within, below)))
 
-pub taking-is : (border : ℕ) (spans : List Span) (text : List ℕ) → AreApart border spans → border ≤ length text
-    → patched 0 (taking spans) text ≡ removed_all spans text
-taking-is border [] text apart below = refl
-taking-is border (span ∷ spans) text apart below =
+pub taking-is : {A : Type 0} (put : List ℕ → List A) (border : ℕ) (spans : List Span) (list : List A) → put [] ≡ []
+    → AreApart border spans → border ≤ length list → patched_by put 0 (taking spans) list ≡ removed_all spans list
+taking-is put border [] list none apart below = refl
+taking-is put border (span ∷ spans) list none apart below =
     let some = apart.0 in
     let within = apart.1 in
     let ordered : span.from ≤ span.to = omega (arith, some) in
-    let inside : span.to ≤ length text = omega (arith, within, below) in
-    let long = length-removed span.from span.to text ordered inside in
-    ap (λ hunks. patched 0 hunks text) (taking-more span spans)
-    ∙ one-more-is 0 span.from (taking spans) span text (taking-stand span.from span.from spans apart.2 (omega arith))
-    (omega arith) ordered inside
-    ∙ taking-is span.from spans (removed span.from span.to text) apart.2 (omega (arith, long, inside, ordered))
+    let inside : span.to ≤ length list = omega (arith, within, below) in
+    let long = length-removed span.from span.to list ordered inside in
+    ap (λ hunks. patched_by put 0 hunks list) (taking-more span spans)
+    ∙ one-more-is put 0 span.from (taking spans) span list none
+    (taking-stand span.from span.from spans apart.2 (omega arith)) (omega arith) ordered inside
+    ∙ taking-is put span.from spans (removed span.from span.to list) none apart.2
+    (omega (arith, long, inside, ordered))
 
 -- ---- texts in the place of what is taken out
 
@@ -220,18 +244,20 @@ pub taking-out-stands : (from to len : ℕ) (hunks : List Hunk) → from ≤ to 
     AreHunks from len (taking_out from to ++ hunks)
 taking-out-stands from to len hunks ordered are = taking-out-stands-if (nat_lt from to) from to len hunks refl ordered are
 
-taking-out-patched-if : (test : Bool) (from to : ℕ) (hunks : List Hunk) (text : List ℕ) → nat_lt from to ≡ test → from ≤ to
-    → patched from ((if test then record { from = from; to = to; text = [] } ∷ [] else []) ++ hunks) text
-    ≡ patched to hunks text
-taking-out-patched-if true from to hunks text is ordered =
-    ap (λ xs. xs ++ [] ++ patched to hunks text) (slice-none from text)
-taking-out-patched-if false from to hunks text is ordered =
-    let none = ltb-false from to is in
-    ap (λ n. patched n hunks text) (let e : from ≡ to = omega (arith, none, ordered) in e)
+taking-out-patched-if : {A : Type 0} (put : List ℕ → List A) (test : Bool) (from to : ℕ) (hunks : List Hunk)
+    (list : List A) → put [] ≡ [] → nat_lt from to ≡ test → from ≤ to
+    → patched_by put from ((if test then record { from = from; to = to; text = [] } ∷ [] else []) ++ hunks) list
+    ≡ patched_by put to hunks list
+taking-out-patched-if put true from to hunks list none is ordered =
+    ap₂ (λ xs ys. xs ++ ys ++ patched_by put to hunks list) (slice-none from list) none
+taking-out-patched-if put false from to hunks list none is ordered =
+    let least = ltb-false from to is in
+    ap (λ n. patched_by put n hunks list) (let e : from ≡ to = omega (arith, least, ordered) in e)
 
-pub taking-out-patched : (from to : ℕ) (hunks : List Hunk) (text : List ℕ) → from ≤ to →
-    patched from (taking_out from to ++ hunks) text ≡ patched to hunks text
-taking-out-patched from to hunks text ordered = taking-out-patched-if (nat_lt from to) from to hunks text refl ordered
+pub taking-out-patched : {A : Type 0} (put : List ℕ → List A) (from to : ℕ) (hunks : List Hunk) (list : List A)
+    → put [] ≡ [] → from ≤ to → patched_by put from (taking_out from to ++ hunks) list ≡ patched_by put to hunks list
+taking-out-patched put from to hunks list none ordered =
+    taking-out-patched-if put (nat_lt from to) from to hunks list none refl ordered
 
 pub one-removal-more : (from to : ℕ) (hunks now : List Hunk) (text : List ℕ) → text ≡ [] → from < to
     → now ≡ hunks ++ record { from = from; to = to; text = text } ∷ [] → now ≡ hunks ++ taking_out from to
@@ -251,19 +277,20 @@ replacing-stand from to len texts hunks ordered within are =
     (hunks-lower 0 from len (putting from texts ++ taking_out from to) (omega arith)
     (putting-stand from len texts (taking_out from to) (taking-stands from to len ordered within)))
 
-pub replacing-is : (from to : ℕ) (texts : List (List ℕ)) (hunks : List Hunk) (text : List ℕ) → from ≤ to
-    → to ≤ length text → hunks ≡ putting from texts ++ taking_out from to
-    → patched 0 hunks text ≡ put_all from texts (removed from to text)
-replacing-is from to texts hunks text ordered within are =
-    let len = length text in
+pub replacing-is : {A : Type 0} (put : List ℕ → List A) (from to : ℕ) (texts : List (List ℕ)) (hunks : List Hunk)
+    (list : List A) → IsEach put → from ≤ to → to ≤ length list → hunks ≡ putting from texts ++ taking_out from to
+    → patched_by put 0 hunks list ≡ put_all put from texts (removed from to list)
+replacing-is put from to texts hunks list each ordered within are =
+    let len = length list in
     let later = taking_out from to in
     let stands = taking-stands from to len ordered within in
-    ap (λ hs. patched 0 hs text) are
-    ∙ putting-is from len texts later text (omega (arith, ordered, within)) stands
-    (putting-stand from len texts later stands)
-    ∙ ap (put_all from texts) (patched-lower 0 from len later text (omega arith) stands
-    ∙ ap₂ (λ n xs. take n text ++ xs) (let e : from - 0 ≡ from = omega arith in e)
-    (ap (λ hs. patched from hs text) (sym (append-nil later)) ∙ taking-out-patched from to [] text ordered))
+    let none = nil_from_length (put []) (each []) in
+    ap (λ hs. patched_by put 0 hs list) are
+    ∙ putting-is put from len texts later list each (omega (arith, ordered, within)) stands
+    ∙ ap (put_all put from texts) (patched-lower put 0 from len later list (omega arith) stands
+    ∙ ap₂ (λ n xs. take n list ++ xs) (let e : from - 0 ≡ from = omega arith in e)
+    (ap (λ hs. patched_by put from hs list) (sym (append-nil later))
+    ∙ taking-out-patched put from to [] list none ordered))
 
 -- texts are put in
 pub inserting-stand : (at len : ℕ) (texts : List (List ℕ)) (hunks : List Hunk) → at ≤ len → hunks ≡ putting at texts
@@ -272,8 +299,9 @@ inserting-stand at len texts hunks within are =
     subst (AreHunks 0 len) (append-nil (putting at texts) ∙ sym are)
     (hunks-lower 0 at len (putting at texts ++ []) (omega arith) (putting-stand at len texts [] within))
 
-pub inserting-is : (at : ℕ) (texts : List (List ℕ)) (hunks : List Hunk) (text : List ℕ) → at ≤ length text
-    → hunks ≡ putting at texts → patched 0 hunks text ≡ put_all at texts text
-inserting-is at texts hunks text within are =
-    ap (λ hs. patched 0 hs text) (are ∙ sym (append-nil (putting at texts)))
-    ∙ putting-is at (length text) texts [] text within within (putting-stand at (length text) texts [] within)
+pub inserting-is : {A : Type 0} (put : List ℕ → List A) (at : ℕ) (texts : List (List ℕ)) (hunks : List Hunk)
+    (list : List A) → IsEach put → at ≤ length list → hunks ≡ putting at texts
+    → patched_by put 0 hunks list ≡ put_all put at texts list
+inserting-is put at texts hunks list each within are =
+    ap (λ hs. patched_by put 0 hs list) (are ∙ sym (append-nil (putting at texts)))
+    ∙ putting-is put at (length list) texts [] list each within within

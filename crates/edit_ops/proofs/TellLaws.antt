@@ -1,6 +1,6 @@
 -- The changes of hunks, the last hunk's first, tell what the hunks make of a text.
 use Rattle.std.proofs.Common.{◌≡◌, ◌≢◌, ℕ, ◌+◌, ◌-◌, ◌≤◌, List, [], ◌∷◌, ◌++◌, map, reverse, inl, inr}
-use Rattle.std.proofs.Common.{length, take, drop, sym, ap, ◌∙◌, arith, subst, append-nil}
+use Rattle.std.proofs.Common.{length, take, drop, refl, sym, ap, ◌∙◌, arith, subst, append-nil}
 use Rattle.std.specs.Prelude.{slice_range}
 use Rattle.std.proofs.Math.Seq.{take-add}
 use Rattle.std.proofs.lemmas.Bool.{cases_lt}
@@ -12,23 +12,10 @@ use Rattle.text_model.specs.Content.{characters}
 use Rattle.edit_ops.specs.declared.changes.TextChange.{TextChange}
 use Rattle.edit_ops.specs.declared.hunks.Hunk.{Hunk}
 use Rattle.edit_ops.specs.declared.spot_walks.SpotWalk.{SpotWalk}
-use Rattle.edit_ops.specs.Told.{spot_at, end_of, after_change, patched, AreHunks, IsChange, IsHunk, Tells}
+use Rattle.edit_ops.specs.Told.{spot_at, end_of, after_change, after_change_by, after_changes_by, hunk_change}
+use Rattle.edit_ops.specs.Told.{hunk_changes, patched, patched_by, AreHunks, IsChange, IsHunk, Tells}
 use Rattle.edit_ops.proofs.DeleteLaws.{length-slice}
 use Rattle.edit_ops.proofs.SpotLaws.{spot-end, spot-same}
-
--- the change that a hunk makes of a text that is the old one up to the hunk's end
-abbrev pub change_of : List ℕ → Hunk → TextChange
-change_of text hunk = record {
-  at = hunk.from;
-  removed = hunk.to - hunk.from;
-  inserted = hunk.text;
-  start = spot_at text hunk.from;
-  old_end = spot_at text hunk.to;
-  new_end = end_of (take hunk.from text ++ hunk.text);
-}
-
-abbrev pub changes_of : List ℕ → List Hunk → List TextChange
-changes_of text hunks = map (change_of text) hunks
 
 -- ---- one hunk
 
@@ -40,25 +27,27 @@ tells-snoc [] change start text told is =
 tells-snoc (first ∷ changes) change start text told is =
     (told.0, tells-snoc changes change (after_change first start) text told.1 is)
 
--- the old text up to an offset, and something else behind
-abbrev later : List ℕ → ℕ → List ℕ → List ℕ
-later text border rest = take border text ++ rest
+-- the old list up to an offset, and something else behind
+abbrev later : {A : Type 0} → List A → ℕ → List A → List A
+later list border rest = take border list ++ rest
 
-later-front : (text rest : List ℕ) (border at : ℕ) → at ≤ border → border ≤ length text →
-    take at (later text border rest) ≡ take at text
-later-front text rest border at before within =
-    take-append-le at (take border text) rest (omega (arith, length-take-le border text within, before))
-    ∙ take-take at border text before
+later-front : {A : Type 0} (list rest : List A) (border at : ℕ) → at ≤ border → border ≤ length list →
+    take at (later list border rest) ≡ take at list
+later-front list rest border at before within =
+    take-append-le at (take border list) rest (omega (arith, length-take-le border list within, before))
+    ∙ take-take at border list before
 
-made-after : (text rest : List ℕ) (hunk : Hunk) → hunk.from ≤ hunk.to → hunk.to ≤ length text →
-    after_change (change_of text hunk) (later text hunk.to rest) ≡ take hunk.from text ++ hunk.text ++ rest
-made-after text rest hunk ordered within =
-    let mid = later text hunk.to rest in
+made-after : {A : Type 0} (put : List ℕ → List A) (text : List ℕ) (list rest : List A) (hunk : Hunk)
+    → hunk.from ≤ hunk.to → hunk.to ≤ length list
+    → after_change_by put (hunk_change text hunk) (later list hunk.to rest)
+    ≡ take hunk.from list ++ put hunk.text ++ rest
+made-after put text list rest hunk ordered within =
+    let mid = later list hunk.to rest in
     let end : hunk.from + (hunk.to - hunk.from) ≡ hunk.to = omega (arith, ordered) in
-    ap (λ n. take hunk.from mid ++ hunk.text ++ drop n mid) end
-    ∙ ap (λ xs. take hunk.from mid ++ hunk.text ++ xs)
-    (drop_at (take hunk.to text) rest hunk.to (length-take-le hunk.to text within))
-    ∙ ap (λ xs. xs ++ hunk.text ++ rest) (later-front text rest hunk.to hunk.from ordered within)
+    ap (λ n. take hunk.from mid ++ put hunk.text ++ drop n mid) end
+    ∙ ap (λ xs. take hunk.from mid ++ put hunk.text ++ xs)
+    (drop_at (take hunk.to list) rest hunk.to (length-take-le hunk.to list within))
+    ∙ ap (λ xs. xs ++ put hunk.text ++ rest) (later-front list rest hunk.to hunk.from ordered within)
 
 made-differs : (old : List ℕ) (hunk : Hunk) (to : ℕ) → IsHunk hunk → to ≡ hunk.to → to ≤ length old →
     slice_range old hunk.from to ≢ hunk.text
@@ -73,10 +62,10 @@ made-differs old hunk to is end within same =
     ]
 
 made-is : (text rest : List ℕ) (hunk : Hunk) → IsHunk hunk → hunk.to ≤ length text →
-    IsChange (later text hunk.to rest) (change_of text hunk)
+    IsChange (later text hunk.to rest) (hunk_change text hunk)
 made-is text rest hunk is within =
     let mid = later text hunk.to rest in
-    let change = change_of text hunk in
+    let change = hunk_change text hunk in
     let after = after_change change mid in
     let behind = hunk.from + length hunk.text in
     let end : hunk.from + (hunk.to - hunk.from) ≡ hunk.to = omega (arith, is.ordered) in
@@ -86,7 +75,8 @@ made-is text rest hunk is within =
     omega (arith, length-append (take hunk.to text) rest, length-take-le hunk.to text within) in
     let long : length (take hunk.from text) ≡ hunk.from =
     length-take-le hunk.from text (omega (arith, is.ordered, within)) in
-    let made : after ≡ (take hunk.from text ++ hunk.text) ++ rest = made-after text rest hunk is.ordered within in
+    let made : after ≡ (take hunk.from text ++ hunk.text) ++ rest = made-after (λ put_in. put_in) text text rest hunk is.ordered
+    within in
     let new : length (take hunk.from text ++ hunk.text) ≡ behind =
     length-append (take hunk.from text) hunk.text ∙ ap (λ n. n + length hunk.text) long in
     let fits : behind ≤ length after =
@@ -107,39 +97,62 @@ hunks-within at len [] are = are
 hunks-within at len (hunk ∷ hunks) are =
     omega (arith, are.0, are.1.ordered, hunks-within hunk.to len hunks are.2)
 
-patched-front : (text rest : List ℕ) (at : ℕ) (hunk : Hunk) → at ≤ hunk.from →
-    take hunk.from text ++ hunk.text ++ rest ≡ take at text ++ (slice_range text at hunk.from ++ hunk.text ++ rest)
-patched-front text rest at hunk before =
-    let between = slice_range text at hunk.from in
-    let front : take hunk.from text ≡ take at text ++ between =
-    ap (λ n. take n text) (let e : hunk.from ≡ at + (hunk.from - at) = omega (arith, before) in e)
-    ∙ take-add at (hunk.from - at) text in
-    ap (λ xs. xs ++ hunk.text ++ rest) front
-    ∙ ap (λ xs. xs ++ rest) (append_assoc (take at text) between hunk.text)
-    ∙ append_assoc (take at text) (between ++ hunk.text) rest
+-- the change of a hunk, where those behind it are made
+hunk-made : {A : Type 0} (put : List ℕ → List A) (text : List ℕ) (at : ℕ) (hunk : Hunk) (list rest : List A)
+    → at ≤ hunk.from → hunk.from ≤ hunk.to → hunk.to ≤ length list
+    → after_change_by put (hunk_change text hunk) (later list hunk.to rest)
+    ≡ take at list ++ (slice_range list at hunk.from ++ put hunk.text ++ rest)
+hunk-made put text at hunk list rest before ordered within =
+    let between = slice_range list at hunk.from in
+    let front : take hunk.from list ≡ take at list ++ between =
+    ap (λ n. take n list) (let e : hunk.from ≡ at + (hunk.from - at) = omega (arith, before) in e)
+    ∙ take-add at (hunk.from - at) list in
+    made-after put text list rest hunk ordered within ∙ ap (λ xs. xs ++ put hunk.text ++ rest) front
+    ∙ ap (λ xs. xs ++ rest) (append_assoc (take at list) between (put hunk.text))
+    ∙ append_assoc (take at list) (between ++ put hunk.text) rest
+
+changes-cons : (text : List ℕ) (hunk : Hunk) (hunks : List Hunk) →
+    hunk_changes text (hunk ∷ hunks) ≡ hunk_changes text hunks ++ hunk_change text hunk ∷ []
+changes-cons text hunk hunks = reverse-append (hunk_change text hunk ∷ []) (map (hunk_change text) hunks)
+
+-- one change more
+after-snoc : {A : Type 0} (put : List ℕ → List A) (changes : List TextChange) (change : TextChange) (list : List A) →
+    after_changes_by put (changes ++ change ∷ []) list ≡ after_change_by put change (after_changes_by put changes list)
+after-snoc put [] change list = refl
+after-snoc put (first ∷ changes) change list = after-snoc put changes change (after_change_by put first list)
+
+-- the changes of hunks of a text make what the hunks make, of a list with an element for each of its characters
+pub hunks-made : {A : Type 0} (put : List ℕ → List A) (text : List ℕ) (at : ℕ) (hunks : List Hunk) (list : List A)
+    → AreHunks at (length list) hunks
+    → after_changes_by put (hunk_changes text hunks) list ≡ take at list ++ patched_by put at hunks list
+hunks-made put text at [] list are = sym (take-append-drop at list)
+hunks-made put text at (hunk ∷ hunks) list are =
+    ap (λ changes. after_changes_by put changes list) (changes-cons text hunk hunks)
+    ∙ after-snoc put (hunk_changes text hunks) (hunk_change text hunk) list
+    ∙ ap (after_change_by put (hunk_change text hunk)) (hunks-made put text hunk.to hunks list are.2)
+    ∙ hunk-made put text at hunk list (patched_by put hunk.to hunks list) are.0 are.1.ordered
+    (hunks-within hunk.to (length list) hunks are.2)
 
 pub hunks-told : (text : List ℕ) (at : ℕ) (hunks : List Hunk) → AreHunks at (length text) hunks →
-    Tells (reverse (changes_of text hunks)) text (take at text ++ patched at hunks text)
+    Tells (hunk_changes text hunks) text (take at text ++ patched at hunks text)
 hunks-told text at [] are = take-append-drop at text
 hunks-told text at (hunk ∷ hunks) are =
     let within = hunks-within hunk.to (length text) hunks are.2 in
     let rest = patched hunk.to hunks text in
-    let change = change_of text hunk in
-    let others = changes_of text hunks in
-    let told = tells-snoc (reverse others) change text (later text hunk.to rest) (hunks-told text hunk.to hunks are.2)
-    (made-is text rest hunk are.1 within) in
-    let made : after_change change (later text hunk.to rest) ≡ take at text ++ patched at (hunk ∷ hunks) text =
-    made-after text rest hunk are.1.ordered within ∙ patched-front text rest at hunk are.0 in
+    let change = hunk_change text hunk in
+    let told = tells-snoc (hunk_changes text hunks) change text (later text hunk.to rest)
+    (hunks-told text hunk.to hunks are.2) (made-is text rest hunk are.1 within) in
     subst (λ changes. Tells changes text (take at text ++ patched at (hunk ∷ hunks) text))
-    (sym (reverse-append (change ∷ []) others))
-    (subst (Tells (reverse others ++ change ∷ []) text) made told)
+    (sym (changes-cons text hunk hunks))
+    (subst (Tells (hunk_changes text hunks ++ change ∷ []) text)
+    (hunk-made (λ put_in. put_in) text at hunk text rest are.0 are.1.ordered within) told)
 
 -- ---- the hunks one after the other
 
 -- the first of the hunks have their changes, and these are left
 pub record Telling (cells : List Cell) (hunks : List Hunk) (changes : List TextChange) (walk : SpotWalk)
     (left : List Hunk) : Type 0 where
-  pub made : changes ++ changes_of (characters cells) left ≡ changes_of (characters cells) hunks
+  pub made : changes ++ map (hunk_change (characters cells)) left ≡ map (hunk_change (characters cells)) hunks
   pub are : AreHunks walk.offset (length cells) left
   pub stands : walk.spot ≡ spot_at (characters cells) walk.offset
 
@@ -193,7 +206,7 @@ more-told cells hunks changes new walk start end all left hunk change so_far is 
     let offset : hunk.to ≡ end.offset = sym (ap (λ (w : SpotWalk). w.offset) end_is) in
     let within : hunk.from ≤ length text = omega (arith, next.from, same-length cells) in
     let plain = change_is (take hunk.from text) (from ∙ spot-end text hunk.from within) in
-    let exact : change ≡ change_of text hunk = plain ∙ λ i. record {
+    let exact : change ≡ hunk_change text hunk = plain ∙ λ i. record {
       at = hunk.from;
       removed = hunk.to - hunk.from;
       inserted = hunk.text;
@@ -202,21 +215,25 @@ more-told cells hunks changes new walk start end all left hunk change so_far is 
       new_end = end_of (take hunk.from text ++ hunk.text);
     } in
     record {
-      made = ap (λ xs. xs ++ changes_of text left) new_is
-          ∙ ap (λ c. (changes ++ c ∷ []) ++ changes_of text left) exact
-          ∙ append_assoc changes (change_of text hunk ∷ []) (changes_of text left)
-          ∙ sym (ap (λ hs. changes ++ changes_of text hs) is)
+      made = ap (λ xs. xs ++ map (hunk_change text) left) new_is
+          ∙ ap (λ c. (changes ++ c ∷ []) ++ map (hunk_change text) left) exact
+          ∙ append_assoc changes (hunk_change text hunk ∷ []) (map (hunk_change text) left)
+          ∙ sym (ap (λ hs. changes ++ map (hunk_change text) hs) is)
           ∙ so_far.made;
       are = subst (λ n. AreHunks n (length cells) left) offset are.2;
       stands = to ∙ ap (spot_at text) offset;
     }
 
-pub all-told : (cells : List Cell) (hunks : List Hunk) (changes told : List TextChange) (walk : SpotWalk)
-    (left : List Hunk) → AreHunks 0 (length cells) hunks → Telling cells hunks changes walk left → left ≡ []
-    → told ≡ reverse changes → Tells told (characters cells) (patched 0 hunks (characters cells))
-all-told cells hunks changes told walk left are so_far none told_is =
+pub all-changes : (cells : List Cell) (hunks : List Hunk) (changes told : List TextChange) (walk : SpotWalk)
+    (left : List Hunk) → Telling cells hunks changes walk left → left ≡ [] → told ≡ reverse changes
+    → told ≡ hunk_changes (characters cells) hunks
+all-changes cells hunks changes told walk left so_far none told_is =
+    let change = hunk_change (characters cells) in
+    told_is ∙ ap reverse (sym (append-nil changes) ∙ sym (ap (λ hs. changes ++ map change hs) none) ∙ so_far.made)
+
+pub all-told : (cells : List Cell) (hunks : List Hunk) (told : List TextChange) → AreHunks 0 (length cells) hunks
+    → told ≡ hunk_changes (characters cells) hunks → Tells told (characters cells) (patched 0 hunks (characters cells))
+all-told cells hunks told are told_is =
     let text = characters cells in
-    let all : changes ≡ changes_of text hunks = sym (append-nil changes)
-    ∙ sym (ap (λ hs. changes ++ changes_of text hs) none) ∙ so_far.made in
-    subst (λ cs. Tells cs text (patched 0 hunks text)) (sym (told_is ∙ ap reverse all))
+    subst (λ changes. Tells changes text (patched 0 hunks text)) (sym told_is)
     (hunks-told text 0 hunks (subst (λ n. AreHunks 0 n hunks) (same-length cells) are))

@@ -3,7 +3,7 @@ use Rattle.std.proofs.lemmas.List.{nil_from_length}
 use Rattle.text_model.specs.Content.{characters}
 use Rattle.edit_ops.specs.declared.spot_walks.SpotWalk.{SpotWalk}
 use Rattle.edit_ops.proofs.SpotLaws.{room-at}
-use Rattle.edit_ops.proofs.TellLaws.{next-told, more-told, all-told, start-before}
+use Rattle.edit_ops.proofs.TellLaws.{next-told, more-told, all-changes, all-told, start-before}
 use Rattle.edit_ops.proofs.changes.tell.Goals as goal
 
 pub to-requires-clause-stands : goal.to-requires-clause-stands
@@ -49,9 +49,14 @@ loop-hunk-preserved g c =
     c.loop-hunk.invariant c.in-Some.ensures.steps.0 c.in_ok-start.ensures c.in_ok-walk.ensures c.change_of.ensures
     c.in_ok-push.ensures.items
 
-pub returns : goal.returns
-returns g c =
+pub returns-clause-changes : goal.returns-clause-changes
+returns-clause-changes g c =
     let rest = c.loop-hunk.hunk-iterator.rest in
-    all-told (g.S.TextStore.content c.args.store.now).cells c.args.hunks.items c.loop-hunk.changes.items
-    c.reverse.new.self.items c.loop-hunk.walk rest.items c.requires.stand c.loop-hunk.invariant
+    all-changes (g.S.TextStore.content c.args.store.now).cells c.args.hunks.items c.loop-hunk.changes.items
+    c.reverse.new.self.items c.loop-hunk.walk rest.items c.loop-hunk.invariant
     (nil_from_length rest.items (omega (arith, c.in-None.ensures.steps.0, rest.ok.0))) c.reverse.ensures.items
+
+pub returns-clause-tells : goal.returns-clause-tells
+returns-clause-tells g c =
+    all-told (g.S.TextStore.content c.args.store.now).cells c.args.hunks.items c.reverse.new.self.items
+    c.requires.stand (returns-clause-changes g c)
