@@ -67,7 +67,7 @@ or_none : (a : Bool) → (a || false) ≡ a
 or_none true = refl
 or_none false = refl
 
-and_none : (a : Bool) → (a && false) ≡ false
+pub and_none : (a : Bool) → (a && false) ≡ false
 and_none true = refl
 and_none false = refl
 

@@ -1,22 +1,39 @@
 -- Texts that are put in get the keys of their lists, and this is told of them.
-use Rattle.std.proofs.Common.{◌≡◌, ◌≢◌, ℕ, zero, suc, ◌+◌, ◌-◌, ◌<◌, ◌≤◌, ◌==◌, ◌&&◌, Bool, true, false, List, [], ◌∷◌, ◌++◌}
+use Rattle.std.proofs.Common.{◌≡◌, ℕ, zero, suc, ◌+◌, ◌-◌, ◌<◌, ◌≤◌, ◌==◌, ◌&&◌, ◌||◌, true, false, List, [], ◌∷◌, ◌++◌}
 use Rattle.std.proofs.Common.{Option, None, Some, map, length, take, drop, get_or, refl, sym, ap, ap₂, ◌∙◌, arith, subst}
-use Rattle.std.proofs.Common.{append_assoc, length-append, option_map, if◌then◌else◌}
+use Rattle.std.proofs.Common.{append_assoc, length-append, option_map, if◌then◌else◌, slice_get}
 use Rattle.std.specs.FinSet as set
-use Rattle.std.proofs.lemmas.Bool.{eqb-true}
-use Rattle.std.proofs.lemmas.List.{length-drop, length-map, length-take-le, map-append, take-append-drop}
-use Rattle.std.proofs.lemmas.List.Sums.{sum_by-cons}
-use Rattle.std.proofs.lemmas.Option.{slice_get-get_or}
+use Rattle.std.specs.Ordering.{eq_by_cmp}
+use Rattle.std.proofs.lemmas.Bool.{eqb-true, false_from_ne_true}
+use Rattle.std.proofs.lemmas.List.{length-map, length-take-le, map-append, take-append-drop}
+use Rattle.std.proofs.lemmas.List.Sums.{sum_by-append, sum_by-cons}
+use Rattle.std.proofs.lemmas.Option.{none-some, slice_get-get_or}
 use Rattle.text_model.specs.Splices.{inserted, removed}
+use Rattle.text_model.specs.Content.{Slots}
 use Rattle.text_model.proofs.SpliceLaws.{get_or-inserted_behind, get_or-inserted_within, length-inserted}
 use Rattle.undo_stack.specs.declared.actions.Action.{Action}
 use Rattle.undo_stack.specs.declared.actions.EditKind.{EditKind}
+use Rattle.name_list.specs.Names.{Named}
+use Rattle.tag_table.specs.Tags.{AreTags, Tags}
+use Rattle.index_grammar.specs.Names.{known_tags}
+use Rattle.edit_ops.specs.Insertions.{slots_or}
+use Rattle.edit_ops.proofs.HunkLaws.{joined, put-behind, put_all}
 use Rattle.command_effects.specs.Lists.{Pair, total}
-use Rattle.documents.specs.Documents.{Document, KeyedCell, Widget, characters}
+use Rattle.command_effects.specs.Tagging.{slots_named, with_found}
+use Rattle.documents.specs.Documents.{Document, KeyedCell, Widget}
 use Rattle.documents.specs.Edits.{KeyedText, common_keys, keys_between, keys_or, with_action, with_cells, with_text}
 use Rattle.documents.specs.Edits.{with_texts}
-use Rattle.documents.specs.Keys.{Keys, keys_named}
+use Rattle.documents.specs.Kept.{AreSeats}
+use Rattle.documents.specs.Keys.{Key, Keys, key_cmp, key_named, key_pairs, keys_named, keys_of}
+use Rattle.documents.specs.TagsTold.{AreKeysOf, TellsTags, run_changes, untagged}
 use Rattle.documents.specs.Texts.{keyed_text}
+use Rattle.documents.specs.declared.tag_lists.TagChange.{TagChange}
+use Rattle.documents.proofs.BridgeLaws.{and_none, key_tied, keys_of-empty, keys_of-has, keys_of-intersection}
+use Rattle.documents.proofs.BridgeLaws.{keys_of-set_slot, keys_same}
+use Rattle.documents.proofs.KeyLaws.{key_cmp_total}
+use Rattle.documents.proofs.LookupLaws.{has}
+use Rattle.documents.proofs.SlotLaws.{slot_for, slot_for-named}
+use Rattle.documents.proofs.TagsToldLaws.{tells-run, tells-then}
 
 -- ---- cells that are put in
 
@@ -77,6 +94,11 @@ with-pairs-more widget at (first ∷ done) pair cells =
     (let counted = sum_by-cons (λ (p : Pair). length p.text) first done in
     let e : at + length first.text + total done ≡ at + total (first ∷ done) = omega (arith, counted) in e)
 
+pub total-more : (done : List Pair) (pair : Pair) → total (done ++ pair ∷ []) ≡ total done + length pair.text
+total-more done pair = sum_by-append (λ (p : Pair). length p.text) done (pair ∷ [])
+    ∙ ap (λ n. total done + n) (let one = sum_by-cons (λ (p : Pair). length p.text) pair [] in
+    let e : total (pair ∷ []) ≡ length pair.text = omega (arith, one) in e)
+
 -- how many cells there are then
 pub length-pairs : (widget : List ℕ) (at : ℕ) (pairs : List Pair) (cells : List KeyedCell) → at ≤ length cells
     → length (with_pairs widget at pairs cells) ≡ length cells + total pairs
@@ -112,6 +134,15 @@ keys-within keys [] i within = absurd (omega (arith, within))
 keys-within keys (character ∷ text) zero within = refl
 keys-within keys (character ∷ text) (suc i) within = keys-within keys text i (omega (arith, within))
 
+-- the cell behind a text that was put in stood there before
+pub key-behind : (keys : Keys) (at : ℕ) (text : List ℕ) (cells : List KeyedCell) → at < length cells
+    → keys_at (inserted at (with_keys keys text) cells) (at + length text) ≡ keys_at cells at
+key-behind keys at text cells within =
+    let new = with_keys keys text in
+    ap (λ n. keys_at (inserted at new cells) (at + n)) (sym (length-map text _))
+    ∙ ap (λ (cell : KeyedCell). cell.keys) (get_or-inserted_behind at new cells at no_cell (omega (arith, within))
+    (omega arith))
+
 -- behind a text that was put in: its own keys, with those of the cell that stood there
 pub keys-behind : (keys : Keys) (at : ℕ) (text : List ℕ) (cells : List KeyedCell) → 0 < length text → at < length cells
     → keys_between (inserted at (with_keys keys text) cells) (at + length text)
@@ -127,6 +158,190 @@ keys-behind keys at text cells some within =
     ∙ ap (λ (cell : KeyedCell). cell.keys) (get_or-inserted_within at new cells (length text - 1) no_cell
     (omega (arith, within)) (omega (arith, count, some)))
     ∙ keys-within keys text (length text - 1) (omega (arith, some)))
-    (ap (λ n. keys_at made (at + n)) (sym count)
-    ∙ ap (λ (cell : KeyedCell). cell.keys) (get_or-inserted_behind at new cells at no_cell (omega (arith, within))
-    (omega arith)))
+    (key-behind keys at text cells within)
+
+-- ---- the keys that a text and a character share
+
+-- the seats of a document and the table of its tags, and a widget
+module _ (seats : List Named) (table : Tags) (seated : AreSeats seats) (sound : AreTags table) (place : ℕ)
+    (seat : Named) (sits : slice_get seats place ≡ Some seat) where
+  abbrev pairs : List (ℕ × Key)
+  pairs = key_pairs seats table.tags
+
+  has_key : (slots : Slots) (key : Key) → set.contains (keys_of pairs slots) key
+      ≡ has slots (slot_for seats table.tags key)
+  has_key slots key = keys_of-has seats table.tags slots key seated.names_apart sound.names_apart
+
+  -- a key that has a slot is one of a list where its slot is one of the list's
+  named-has : (names : List (List ℕ)) (key : Key) (slot : ℕ) → slot_for seats table.tags key ≡ Some slot
+      → set.contains (keys_of pairs (slots_named table.tags seat.number names)) key
+      ≡ set.contains (keys_named seat.name names) key
+  named-has [] key slot is = ap (λ keys. set.contains keys key) (keys_of-empty pairs)
+  named-has (name ∷ names) key slot is = by (known_tags table.tags seat.number name) refl
+    where
+      rest : set.contains (keys_of pairs (slots_named table.tags seat.number names)) key
+          ≡ set.contains (keys_named seat.name names) key
+      rest = named-has names key slot is
+
+      other : Key
+      other = key_named seat.name name
+
+      slot_is : slot_for seats table.tags other ≡ known_tags table.tags seat.number name
+      slot_is = slot_for-named seats table seated sound place seat name sits
+
+      by : (found : Option ℕ) → known_tags table.tags seat.number name ≡ found
+          → set.contains (keys_of pairs (with_found found (slots_named table.tags seat.number names))) key
+          ≡ set.contains (keys_named seat.name (name ∷ names)) key
+      by (Some own) known =
+          ap (λ keys. set.contains keys key) (keys_of-set_slot seats table seated sound other own true
+          (slots_named table.tags seat.number names) (slot_is ∙ known))
+          ∙ set.contains-insert key_cmp_total (keys_of pairs (slots_named table.tags seat.number names)) other key
+          ∙ ap (λ b. eq_by_cmp key_cmp key other || b) rest
+          ∙ sym (set.contains-insert key_cmp_total (keys_named seat.name names) other key)
+      by None known =
+          let apart : eq_by_cmp key_cmp key other ≡ false =
+          false_from_ne_true (eq_by_cmp key_cmp key other) (λ tied.
+          none-some slot (sym (slot_is ∙ known) ∙ ap (slot_for seats table.tags) (sym (key_tied key other tied)) ∙ is)) in
+          rest ∙ ap (λ b. b || set.contains (keys_named seat.name names) key) (sym apart)
+          ∙ sym (set.contains-insert key_cmp_total (keys_named seat.name names) other key)
+
+  -- what a list's slots and others share
+  listed-shared : (names : List (List ℕ)) (slots : Slots)
+      → keys_of pairs (set.intersection (slots_named table.tags seat.number names) slots)
+      ≡ set.intersection (keys_named seat.name names) (keys_of pairs slots)
+  listed-shared names slots =
+      keys_of-intersection seats table seated sound (slots_named table.tags seat.number names) slots
+      ∙ keys_same (set.intersection (keys_of pairs (slots_named table.tags seat.number names)) (keys_of pairs slots))
+      (set.intersection (keys_named seat.name names) (keys_of pairs slots)) (λ key.
+      set.contains-intersection key_cmp_total (keys_of pairs (slots_named table.tags seat.number names))
+      (keys_of pairs slots) key
+      ∙ both key (slot_for seats table.tags key) refl
+      ∙ sym (set.contains-intersection key_cmp_total (keys_named seat.name names) (keys_of pairs slots) key))
+    where
+      both : (key : Key) (found : Option ℕ) → slot_for seats table.tags key ≡ found
+          → (set.contains (keys_of pairs (slots_named table.tags seat.number names)) key
+          && set.contains (keys_of pairs slots) key)
+          ≡ (set.contains (keys_named seat.name names) key && set.contains (keys_of pairs slots) key)
+      both key None is =
+          let none : set.contains (keys_of pairs slots) key ≡ false = has_key slots key ∙ ap (has slots) is in
+          ap (λ b. set.contains (keys_of pairs (slots_named table.tags seat.number names)) key && b) none
+          ∙ and_none (set.contains (keys_of pairs (slots_named table.tags seat.number names)) key)
+          ∙ sym (ap (λ b. set.contains (keys_named seat.name names) key && b) none
+          ∙ and_none (set.contains (keys_named seat.name names) key))
+      both key (Some slot) is = ap (λ b. b && set.contains (keys_of pairs slots) key)
+          (named-has names key slot is)
+
+  -- behind a text that gets its list's keys, or those of some slots, its slots and others share what the keys do
+  pub next-shared : (names : Option (List (List ℕ))) (left right next : Slots)
+      → next ≡ slots_or (option_map (slots_named table.tags seat.number) names) (set.intersection left right)
+      → keys_of pairs (set.intersection next right)
+      ≡ set.intersection (keys_or (option_map (keys_named seat.name) names) (keys_of pairs (set.intersection left right)))
+      (keys_of pairs right)
+  next-shared None left right next is =
+      ap (λ slots. keys_of pairs (set.intersection slots right)) is
+      ∙ keys_of-intersection seats table seated sound (set.intersection left right) right
+  next-shared (Some names) left right next is =
+      ap (λ slots. keys_of pairs (set.intersection slots right)) is ∙ listed-shared names right
+
+-- ---- what is told
+
+-- The first of some texts are put in, at which it is told of their tags, and these are left: what the last of them, or
+-- the character before the first, shares with the character behind them are the keys of two sets of slots.
+pub record PairsTold (ps : List (ℕ × Key)) (widget : List ℕ) (from : ℕ) (base : List KeyedCell) (right : Slots)
+    (all done rest : List Pair) (at : ℕ) (left : Slots) (told : List TagChange) : Type 0 where
+  pub place : at ≡ from + total done
+  pub shared : keys_of ps (set.intersection left right) ≡ keys_between (with_pairs widget from done base) at
+  pub behind : keys_at (with_pairs widget from done base) at ≡ keys_of ps right
+  pub tells : TellsTags told (put_all untagged from (texts_of all) base)
+      (put_all untagged at (texts_of rest) (with_pairs widget from done base))
+
+module _ (ps : List (ℕ × Key)) (widget : List ℕ) (from : ℕ) (base : List KeyedCell) (right : Slots)
+    (all done rest : List Pair) (pair : Pair) (at : ℕ) (left : Slots) (told : List TagChange)
+    (within : from < length base) (so_far : PairsTold ps widget from base right all done (pair ∷ rest) at left told)
+    where
+  abbrev now : List KeyedCell
+  now = with_pairs widget from done base
+
+  inside : at < length now
+  inside =
+      let long = length-pairs widget from done base (omega (arith, within)) in
+      let place = so_far.place in omega (arith, long, place, within)
+
+  more-is : with_pairs widget from (done ++ pair ∷ []) base ≡ with_pair widget at pair now
+  more-is = with-pairs-more widget from done pair base ∙ ap (λ n. with_pair widget n pair now) (sym so_far.place)
+
+  place-more : (end : ℕ) → end ≡ at + length pair.text → end ≡ from + total (done ++ pair ∷ [])
+  place-more end is =
+      let place = so_far.place in let more = total-more done pair in omega (arith, is, place, more)
+
+  -- a text without characters
+  pub none-told : length pair.text ≡ 0 → PairsTold ps widget from base right all (done ++ pair ∷ []) rest at left told
+  none-told none =
+      let new = with_keys (keys_or (option_map (keys_named widget) pair.names) (keys_between now at)) pair.text in
+      let same : with_pairs widget from (done ++ pair ∷ []) base ≡ now =
+      more-is ∙ none-inserted at new now (length-map pair.text _ ∙ none) in
+      let bare : inserted at (untagged pair.text) now ≡ now =
+      none-inserted at (untagged pair.text) now (length-map pair.text _ ∙ none) in
+      let stays : at ≡ at + length pair.text = omega (arith, none) in
+      record {
+        place = place-more at stays;
+        shared = so_far.shared ∙ ap (λ cells. keys_between cells at) (sym same);
+        behind = ap (λ cells. keys_at cells at) same ∙ so_far.behind;
+        tells = subst (TellsTags told (put_all untagged from (texts_of all) base))
+            (ap₂ (λ n cells. put_all untagged n (texts_of rest) cells) (sym stays) bare
+            ∙ ap (put_all untagged at (texts_of rest)) (sym same)) so_far.tells;
+      }
+
+  -- a text with characters
+  pub one-told : (next : Slots) (keys : List Key) (end : ℕ) (more : List TagChange) → 0 < length pair.text
+      → end ≡ at + length pair.text
+      → AreKeysOf (keys_or (option_map (keys_named widget) pair.names) (keys_of ps (set.intersection left right))) keys
+      → keys_of ps (set.intersection next right)
+      ≡ set.intersection (keys_or (option_map (keys_named widget) pair.names) (keys_of ps (set.intersection left right)))
+      (keys_of ps right)
+      → more ≡ told ++ run_changes at end true keys
+      → PairsTold ps widget from base right all (done ++ pair ∷ []) rest end next more
+  one-told next keys end more some end_is are shares more_is =
+      let own : Keys = keys_or (option_map (keys_named widget) pair.names) (keys_between now at) in
+      let same : keys_or (option_map (keys_named widget) pair.names) (keys_of ps (set.intersection left right)) ≡ own =
+      ap (keys_or (option_map (keys_named widget) pair.names)) so_far.shared in
+      let made = inserted at (with_keys own pair.text) now in
+      let texts = texts_of rest in
+      let front = take at now in
+      let long : length front ≡ at = length-take-le at now (omega (arith, inside)) in
+      let back = joined untagged texts ++ drop at now in
+      let spread : (new : List KeyedCell) → length new ≡ length pair.text
+          → put_all untagged (at + length pair.text) texts (inserted at new now) ≡ front ++ new ++ back =
+      λ new count.
+      ap (put_all untagged (at + length pair.text) texts) (sym (append_assoc front new (drop at now)))
+      ∙ put-behind untagged (at + length pair.text) texts (front ++ new) (drop at now) (λ text. length-map text _)
+      (length-append front new ∙ ap₂ (λ m n. m + n) long count)
+      ∙ append_assoc front new back in
+      let run = tells-run own keys front back pair.text (subst (λ k. AreKeysOf k keys) same are) some in
+      let told_run : TellsTags (run_changes at end true keys)
+          (put_all untagged (at + length pair.text) texts (inserted at (untagged pair.text) now))
+          (put_all untagged end texts made) =
+      subst (λ cells. TellsTags (run_changes at end true keys) cells (put_all untagged end texts made))
+      (sym (spread (untagged pair.text) (length-map pair.text _)))
+      (subst (TellsTags (run_changes at end true keys) (front ++ untagged pair.text ++ back))
+      (sym (ap (λ n. put_all untagged n texts made) end_is ∙ spread (with_keys own pair.text) (length-map pair.text _)))
+      (subst (λ n. TellsTags (run_changes n end true keys) (front ++ untagged pair.text ++ back)
+      (front ++ with_keys own pair.text ++ back)) long
+      (subst (λ n. TellsTags (run_changes (length front) n true keys) (front ++ untagged pair.text ++ back)
+      (front ++ with_keys own pair.text ++ back))
+      (ap (λ n. n + length pair.text) long ∙ sym end_is) run))) in
+      record {
+        place = place-more end end_is;
+        shared = shares ∙ ap₂ set.intersection same (sym so_far.behind)
+            ∙ sym (ap₂ keys_between more-is end_is ∙ keys-behind own at pair.text now some inside);
+        behind = ap₂ keys_at more-is end_is
+            ∙ key-behind own at pair.text now inside ∙ so_far.behind;
+        tells = subst (λ ts. TellsTags ts (put_all untagged from (texts_of all) base)
+            (put_all untagged end texts (with_pairs widget from (done ++ pair ∷ []) base))) (sym more_is)
+            (tells-then told (run_changes at end true keys) (put_all untagged from (texts_of all) base)
+            (put_all untagged (at + length pair.text) texts (inserted at (untagged pair.text) now))
+            (put_all untagged end texts (with_pairs widget from (done ++ pair ∷ []) base)) so_far.tells
+            (subst (λ cells. TellsTags (run_changes at end true keys)
+            (put_all untagged (at + length pair.text) texts (inserted at (untagged pair.text) now))
+            (put_all untagged end texts cells)) (sym more-is) told_run));
+      }

@@ -64,7 +64,7 @@ abbrev pub put_all : {A : Type 0} → (List ℕ → List A) → ℕ → List (Li
 put_all put at [] old = old
 put_all put at (text ∷ texts) old = put_all put (at + length text) texts (inserted at (put text) old)
 
-put-behind : {A : Type 0} (put : List ℕ → List A) (at : ℕ) (texts : List (List ℕ)) (front rest : List A) → IsEach put
+pub put-behind : {A : Type 0} (put : List ℕ → List A) (at : ℕ) (texts : List (List ℕ)) (front rest : List A) → IsEach put
     → length front ≡ at → put_all put at texts (front ++ rest) ≡ front ++ (joined put texts ++ rest)
 put-behind put at [] front rest each long = refl
 put-behind put at (text ∷ texts) front rest each long =
