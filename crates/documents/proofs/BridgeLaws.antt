@@ -25,10 +25,10 @@ use Rattle.documents.proofs.SlotLaws.{slot_for, tag_slot, tag_slot-is}
 
 -- ---- keys that are one
 
-key_tied : (a b : Key) → eq_by_cmp key_cmp a b ≡ true → a ≡ b
+pub key_tied : (a b : Key) → eq_by_cmp key_cmp a b ≡ true → a ≡ b
 key_tied a b tied = key_cmp_exact a b ((Equal-is (key_cmp a b)).0 tied)
 
-key_itself : (a b : Key) → a ≡ b → eq_by_cmp key_cmp a b ≡ true
+pub key_itself : (a b : Key) → a ≡ b → eq_by_cmp key_cmp a b ≡ true
 key_itself a b same =
     ap (λ k. eq_by_cmp key_cmp a k) (sym same) ∙ (Equal-is (key_cmp a a)).1 (tied_itself key_cmp_total a)
 
@@ -154,7 +154,7 @@ without_one true h = refl
 without_one false h = refl
 
 -- a set of keys with one of them in it, or out of it
-contains-set_key : (key : Key) (on : Bool) (keys : Keys) (other : Key) →
+pub contains-set_key : (key : Key) (on : Bool) (keys : Keys) (other : Key) →
     set.contains (set_key key on keys) other ≡ cond (eq_by_cmp key_cmp other key) on (set.contains keys other)
 contains-set_key key true keys other =
     set.contains-insert key_cmp_total keys key other ∙ with_one (eq_by_cmp key_cmp other key) (set.contains keys other)

@@ -44,6 +44,7 @@ pub mod StillTextLaws
 pub mod TableLaws
 pub mod TagLaws
 pub mod TaggedLaws
+pub mod TagsToldLaws
 pub mod ToldLaws
 pub mod UndoLaws
 pub mod UndoRunLaws
