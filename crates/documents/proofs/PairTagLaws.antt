@@ -5,33 +5,37 @@ use Rattle.std.proofs.Common.{append_assoc, length-append, option_map, if◌then
 use Rattle.std.specs.FinSet as set
 use Rattle.std.specs.Ordering.{eq_by_cmp}
 use Rattle.std.proofs.lemmas.Bool.{eqb-true, false_from_ne_true}
-use Rattle.std.proofs.lemmas.List.{length-map, length-take-le, map-append, take-append-drop}
+use Rattle.std.proofs.lemmas.List.{drop_more, length-map, length-take-le, take-append-drop, take_more}
 use Rattle.std.proofs.lemmas.List.Sums.{sum_by-append, sum_by-cons}
-use Rattle.std.proofs.lemmas.Option.{none-some, slice_get-get_or}
+use Rattle.std.proofs.lemmas.Option.{get_or_from_slice_get, none-some, slice_get-get_or}
 use Rattle.text_model.specs.Splices.{inserted, removed}
-use Rattle.text_model.specs.Content.{Slots}
-use Rattle.text_model.proofs.SpliceLaws.{get_or-inserted_behind, get_or-inserted_within, length-inserted}
+use Rattle.text_model.specs.Content.{Slots, slot_sets, slots_left_of}
+use Rattle.text_model.specs.declared.cells.Cell.{Cell}
+use Rattle.text_model.proofs.SpliceLaws.{get_or-inserted_behind, get_or-inserted_within, get_or-removed_before}
+use Rattle.text_model.proofs.SpliceLaws.{get_or-removed_behind, length-inserted, length-removed}
 use Rattle.undo_stack.specs.declared.actions.Action.{Action}
 use Rattle.undo_stack.specs.declared.actions.EditKind.{EditKind}
 use Rattle.name_list.specs.Names.{Named}
 use Rattle.tag_table.specs.Tags.{AreTags, Tags}
 use Rattle.index_grammar.specs.Names.{known_tags}
 use Rattle.edit_ops.specs.Insertions.{slots_or}
-use Rattle.edit_ops.proofs.HunkLaws.{joined, put-behind, put_all}
+use Rattle.edit_ops.specs.Told.{putting, taking_out}
+use Rattle.edit_ops.proofs.HunkLaws.{joined, put-behind, put_all, replacing-is}
 use Rattle.command_effects.specs.Lists.{Pair, total}
 use Rattle.command_effects.specs.Tagging.{slots_named, with_found}
 use Rattle.documents.specs.Documents.{Document, KeyedCell, Widget}
 use Rattle.documents.specs.Edits.{KeyedText, common_keys, keys_between, keys_or, with_action, with_cells, with_text}
 use Rattle.documents.specs.Edits.{with_texts}
 use Rattle.documents.specs.Kept.{AreSeats}
-use Rattle.documents.specs.Keys.{Key, Keys, key_cmp, key_named, key_pairs, keys_named, keys_of}
-use Rattle.documents.specs.TagsTold.{AreKeysOf, TellsTags, run_changes, untagged}
+use Rattle.documents.specs.Keys.{Key, Keys, key_cmp, key_named, key_pairs, keyed, keys_named, keys_of}
+use Rattle.documents.specs.TagsTold.{AreKeysOf, TellsPairs, TellsTags, run_changes, untagged}
 use Rattle.documents.specs.Texts.{keyed_text}
 use Rattle.documents.specs.declared.tag_lists.TagChange.{TagChange}
 use Rattle.documents.proofs.BridgeLaws.{and_none, key_tied, keys_of-empty, keys_of-has, keys_of-intersection}
 use Rattle.documents.proofs.BridgeLaws.{keys_of-set_slot, keys_same}
 use Rattle.documents.proofs.KeyLaws.{key_cmp_total}
 use Rattle.documents.proofs.LookupLaws.{has}
+use Rattle.documents.proofs.PartsLaws.{length-keyed}
 use Rattle.documents.proofs.SlotLaws.{slot_for, slot_for-named}
 use Rattle.documents.proofs.TagsToldLaws.{tells-run, tells-then}
 
@@ -177,12 +181,9 @@ module _ (seats : List Named) (table : Tags) (seated : AreSeats seats) (sound : 
       → set.contains (keys_of pairs (slots_named table.tags seat.number names)) key
       ≡ set.contains (keys_named seat.name names) key
   named-has [] key slot is = ap (λ keys. set.contains keys key) (keys_of-empty pairs)
-  named-has (name ∷ names) key slot is = by (known_tags table.tags seat.number name) refl
+  named-has (name ∷ names) key slot is =
+      by (known_tags table.tags seat.number name) refl (named-has names key slot is)
     where
-      rest : set.contains (keys_of pairs (slots_named table.tags seat.number names)) key
-          ≡ set.contains (keys_named seat.name names) key
-      rest = named-has names key slot is
-
       other : Key
       other = key_named seat.name name
 
@@ -190,15 +191,17 @@ module _ (seats : List Named) (table : Tags) (seated : AreSeats seats) (sound : 
       slot_is = slot_for-named seats table seated sound place seat name sits
 
       by : (found : Option ℕ) → known_tags table.tags seat.number name ≡ found
+          → set.contains (keys_of pairs (slots_named table.tags seat.number names)) key
+          ≡ set.contains (keys_named seat.name names) key
           → set.contains (keys_of pairs (with_found found (slots_named table.tags seat.number names))) key
           ≡ set.contains (keys_named seat.name (name ∷ names)) key
-      by (Some own) known =
+      by (Some own) known rest =
           ap (λ keys. set.contains keys key) (keys_of-set_slot seats table seated sound other own true
           (slots_named table.tags seat.number names) (slot_is ∙ known))
           ∙ set.contains-insert key_cmp_total (keys_of pairs (slots_named table.tags seat.number names)) other key
           ∙ ap (λ b. eq_by_cmp key_cmp key other || b) rest
           ∙ sym (set.contains-insert key_cmp_total (keys_named seat.name names) other key)
-      by None known =
+      by None known rest =
           let apart : eq_by_cmp key_cmp key other ≡ false =
           false_from_ne_true (eq_by_cmp key_cmp key other) (λ tied.
           none-some slot (sym (slot_is ∙ known) ∙ ap (slot_for seats table.tags) (sym (key_tied key other tied)) ∙ is)) in
@@ -312,11 +315,8 @@ module _ (ps : List (ℕ × Key)) (widget : List ℕ) (from : ℕ) (base : List 
       let back = joined untagged texts ++ drop at now in
       let spread : (new : List KeyedCell) → length new ≡ length pair.text
           → put_all untagged (at + length pair.text) texts (inserted at new now) ≡ front ++ new ++ back =
-      λ new count.
-      ap (put_all untagged (at + length pair.text) texts) (sym (append_assoc front new (drop at now)))
-      ∙ put-behind untagged (at + length pair.text) texts (front ++ new) (drop at now) (λ text. length-map text _)
-      (length-append front new ∙ ap₂ (λ m n. m + n) long count)
-      ∙ append_assoc front new back in
+      λ new count. put-behind untagged (at + length pair.text) texts (front ++ new) (drop at now)
+      (λ text. length-map text _) (length-append front new ∙ ap₂ (λ m n. m + n) long count) in
       let run = tells-run own keys front back pair.text (subst (λ k. AreKeysOf k keys) same are) some in
       let told_run : TellsTags (run_changes at end true keys)
           (put_all untagged (at + length pair.text) texts (inserted at (untagged pair.text) now))
@@ -345,3 +345,173 @@ module _ (ps : List (ℕ × Key)) (widget : List ℕ) (from : ℕ) (base : List 
             (put_all untagged (at + length pair.text) texts (inserted at (untagged pair.text) now))
             (put_all untagged end texts cells)) (sym more-is) told_run));
       }
+
+-- ---- the texts one after the other
+
+-- a text's own keys, or those of the slots that it gets
+own-keys : (names : Option (List (List ℕ))) (ps : List (ℕ × Key)) (widget : List ℕ) (named : List (List ℕ) → Slots)
+    (next both : Slots) → next ≡ slots_or (option_map named names) both
+    → keys_or (option_map (keys_named widget) names) (keys_of ps next)
+    ≡ keys_or (option_map (keys_named widget) names) (keys_of ps both)
+own-keys None ps widget named next both is = ap (keys_of ps) is
+own-keys (Some names) ps widget named next both is = refl
+
+-- the texts up to one of them are no longer than all
+pub room-for : (all : List Pair) (i : ℕ) (pair : Pair) → i < length all → pair ≡ get_or all i pair
+    → total (take i all) + length pair.text ≤ total all
+room-for all i pair within is =
+    let count : Pair → ℕ = λ p. length p.text in
+    let parts = ap total (take-append-drop i all) in
+    let split = sum_by-append count (take i all) (drop i all) in
+    let rest = ap total (drop_more all i pair within) in
+    let one = sum_by-cons count (get_or all i pair) (drop (i + 1) all) in
+    let long = ap count is in
+    omega (arith, parts, split, rest, one, long)
+
+-- what is read of the first of the texts that are left
+step-lists : (all : List Pair) (i : ℕ) (pair : Pair) → i < length all → pair ≡ get_or all i pair
+    → (drop i all ≡ pair ∷ drop (i + 1) all) × (take (i + 1) all ≡ take i all ++ pair ∷ [])
+step-lists all i pair within is = (
+  drop_more all i pair within ∙ ap (λ p. p ∷ drop (i + 1) all) (sym is),
+  take_more all i pair within ∙ ap (λ p. take i all ++ p ∷ []) (sym is),
+)
+
+module _ (seats : List Named) (table : Tags) (seated : AreSeats seats) (sound : AreTags table) (place : ℕ)
+    (seat : Named) (sits : slice_get seats place ≡ Some seat) (widget : List ℕ) (named : seat.name ≡ widget)
+    (from : ℕ) (base : List KeyedCell) (right : Slots) (all : List Pair) (i at : ℕ) (left : Slots)
+    (told : List TagChange) (pair : Pair) (text : List ℕ) (within : from < length base) (inside : i < length all)
+    (is : pair ≡ get_or all i pair) (text_is : text ≡ pair.text)
+    (so_far : PairsTold (key_pairs seats table.tags) widget from base right all (take i all) (drop i all) at left told)
+    where
+  abbrev keyed_by : List (ℕ × Key)
+  keyed_by = key_pairs seats table.tags
+
+  lists : (drop i all ≡ pair ∷ drop (i + 1) all) × (take (i + 1) all ≡ take i all ++ pair ∷ [])
+  lists = step-lists all i pair inside is
+
+  before : PairsTold keyed_by widget from base right all (take i all) (pair ∷ drop (i + 1) all) at left told
+  before = subst (λ rest. PairsTold keyed_by widget from base right all (take i all) rest at left told) lists.0 so_far
+
+  behind : (end : ℕ) (next : Slots) (more : List TagChange)
+      → PairsTold keyed_by widget from base right all (take i all ++ pair ∷ []) (drop (i + 1) all) end next more
+      → PairsTold keyed_by widget from base right all (take (i + 1) all) (drop (i + 1) all) end next more
+  behind end next more =
+      subst (λ done. PairsTold keyed_by widget from base right all done (drop (i + 1) all) end next more) (sym lists.1)
+
+  pub none-goes : (count end : ℕ) (next : Slots) (more : List TagChange) → count ≡ length text → count ≤ 0
+      → end ≡ at → next ≡ left → more ≡ told
+      → PairsTold keyed_by widget from base right all (take (i + 1) all) (drop (i + 1) all) end next more
+  none-goes count end next more counted none end_is next_is more_is =
+      subst (λ (t : ℕ × Slots × List TagChange). PairsTold keyed_by widget from base right all (take (i + 1) all)
+      (drop (i + 1) all) t.0 t.1 t.2) (λ j. (sym end_is j, sym next_is j, sym more_is j))
+      (behind at left told (none-told keyed_by widget from base right all (take i all) (drop (i + 1) all) pair at left
+      told within before
+      (let long = ap length text_is in omega (arith, counted, long, none))))
+
+  pub one-goes : (count sum end : ℕ) (made next : Slots) (keys : List Key) (more : List TagChange)
+      → count ≡ length text → 0 < count → made ≡ slots_or (option_map (slots_named table.tags seat.number) pair.names)
+      (set.intersection left right)
+      → AreKeysOf (keys_or (option_map (keys_named widget) pair.names) (keys_of keyed_by made)) keys
+      → sum ≡ at + count → end ≡ sum → next ≡ made → more ≡ told ++ run_changes at sum true keys
+      → PairsTold keyed_by widget from base right all (take (i + 1) all) (drop (i + 1) all) end next more
+  one-goes count sum end made next keys more counted some made_is are sum_is end_is next_is more_is =
+      let both : Slots = set.intersection left right in
+      let own = own-keys pair.names keyed_by widget (slots_named table.tags seat.number) made both made_is in
+      let shares = next-shared seats table seated sound place seat sits pair.names left right made made_is
+      ∙ ap (λ name. set.intersection (keys_or (option_map (keys_named name) pair.names) (keys_of keyed_by both))
+      (keys_of keyed_by right)) named in
+      let long : count ≡ length pair.text = counted ∙ ap length text_is in
+      subst (λ (t : ℕ × Slots). PairsTold keyed_by widget from base right all (take (i + 1) all)
+      (drop (i + 1) all) t.0 t.1 more) (λ j. (sym end_is j, sym next_is j))
+      (behind sum made more (one-told keyed_by widget from base right all (take i all) (drop (i + 1) all) pair at left
+      told within before made keys sum more (omega (arith, some, long)) (omega (arith, sum_is, long))
+      (subst (λ ks. AreKeysOf ks keys) own are) shares more_is))
+
+-- ---- before the first text
+
+keys-kept : (ps : List (ℕ × Key)) (cells : List Cell) (at : ℕ) → at < length cells
+    → keys_at (keyed ps cells) at ≡ keys_of ps (get_or (slot_sets cells) at set.empty)
+keys-kept ps [] at within = absurd (omega (arith, within))
+keys-kept ps (cell ∷ cells) zero within = refl
+keys-kept ps (cell ∷ cells) (suc at) within = keys-kept ps cells at (omega (arith, within))
+
+-- of a document as it is kept, where the characters between two offsets are taken out
+module _ (seats : List Named) (table : Tags) (seated : AreSeats seats) (sound : AreTags table) (cells : List Cell)
+    (from to : ℕ) (left right : Slots) (ordered : from ≤ to) (inside : to < length cells)
+    (left_is : left ≡ slots_left_of from cells) (right_is : slice_get (slot_sets cells) to ≡ Some right) where
+  abbrev ps : List (ℕ × Key)
+  ps = key_pairs seats table.tags
+
+  abbrev old : List KeyedCell
+  old = keyed ps cells
+
+  abbrev base : List KeyedCell
+  base = removed from to old
+
+  counted : length old ≡ length cells
+  counted = length-keyed ps cells
+
+  first : from ≤ length old
+  first = omega (arith, counted, ordered, inside)
+
+  last-is : keys_at base from ≡ keys_of ps right
+  last-is =
+      ap (λ (cell : KeyedCell). cell.keys) (get_or-removed_behind from to old from no_cell first ordered (omega arith))
+      ∙ ap (keys_at old) (let e : from + (to - from) ≡ to = omega (arith, ordered) in e)
+      ∙ keys-kept ps cells to inside ∙ ap (keys_of ps) (get_or_from_slice_get (slot_sets cells) to right set.empty right_is)
+
+  pub base-within : from < length base
+  base-within =
+      let long = length-removed from to old ordered (omega (arith, counted, inside)) in
+      omega (arith, long, counted, ordered, inside)
+
+  none-shared : keys_of ps (set.intersection set.empty right) ≡ set.empty
+  none-shared = keys_same (keys_of ps (set.intersection set.empty right)) set.empty (λ key.
+      ap (λ keys. set.contains keys key) (keys_of-intersection seats table seated sound set.empty right)
+      ∙ set.contains-intersection key_cmp_total (keys_of ps set.empty) (keys_of ps right) key
+      ∙ ap (λ keys. set.contains keys key && set.contains (keys_of ps right) key) (keys_of-empty ps)
+      ∙ ap (λ b. b && set.contains (keys_of ps right) key) (set.contains-empty key_cmp key)
+      ∙ sym (set.contains-empty key_cmp key))
+
+  shared-by : (at : ℕ) → at ≡ from → keys_of ps (set.intersection (slots_left_of at cells) right) ≡ keys_between base at
+  shared-by zero is = none-shared
+  shared-by (suc before) is =
+      let before_is : before ≡ from - 1 = omega (arith, is) in
+      let some : before < from = omega (arith, is) in
+      let back : suc before - 1 ≡ before = omega arith in
+      keys_of-intersection seats table seated sound (slots_left_of (suc before) cells) right
+      ∙ ap₂ set.intersection (sym (ap (keys_at base) back
+      ∙ ap (λ (cell : KeyedCell). cell.keys) (get_or-removed_before from to old before no_cell first some)
+      ∙ keys-kept ps cells before (omega (arith, some, ordered, inside))))
+      (sym (ap (keys_at base) is ∙ last-is))
+      ∙ sym (keys-between-is base (suc before) (omega arith)
+      (let h = base-within in omega (arith, h, is)))
+
+  pub told-start : (widget : List ℕ) (pairs : List Pair) (told : List TagChange) → told ≡ []
+      → PairsTold ps widget from base right pairs [] pairs from left told
+  told-start widget pairs told none = record {
+    place = let e : from ≡ from + total [] = omega arith in e;
+    shared = ap (λ slots. keys_of ps (set.intersection slots right)) left_is ∙ shared-by from refl;
+    behind = last-is;
+    tells = subst (λ ts. TellsTags ts (put_all untagged from (texts_of pairs) base)
+        (put_all untagged from (texts_of pairs) base)) (sym none) refl;
+  }
+
+-- behind the last text
+pub pairs-told : (ps : List (ℕ × Key)) (widget : Widget) (from to : ℕ) (cells : List KeyedCell) (right left : Slots)
+    (all done rest : List Pair) (at : ℕ) (told : List TagChange) → from ≤ to → to < length cells → rest ≡ [] → done ≡ all
+    → PairsTold ps widget.name from (removed from to cells) right all done rest at left told
+    → TellsPairs widget from to all cells told
+pairs-told ps widget from to cells right left all done rest at told ordered inside none whole so_far = λ kind document same.
+    let base = removed from to cells in
+    let texts = texts_of all in
+    let made = with_pairs widget.name from all base in
+    let told_made : TellsTags told (put_all untagged from texts base) made =
+    subst (λ left. TellsTags told (put_all untagged from texts base) (put_all untagged at (texts_of left) made)) none
+    (subst (λ pairs. TellsTags told (put_all untagged from texts base)
+    (put_all untagged at (texts_of rest) (with_pairs widget.name from pairs base))) whole so_far.tells) in
+    subst (λ old. TellsTags told old (with_texts kind from (map (keyed_text widget) all) document).cells)
+    (sym (replacing-is untagged from to texts (putting from texts ++ taking_out from to) cells
+    (λ text. length-map text _) ordered (omega (arith, inside)) refl))
+    (subst (TellsTags told (put_all untagged from texts base))
+    (sym (cells-texts kind from widget all document ∙ ap (with_pairs widget.name from all) same)) told_made)
