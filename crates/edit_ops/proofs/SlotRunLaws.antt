@@ -7,10 +7,11 @@ use Rattle.std.specs.List.{All}
 use Rattle.std.proofs.lemmas.List.{drop_at, length-map, take_at}
 use Rattle.std.proofs.lemmas.List.Elements.{All-cons, All-head, All-nil, All-tail}
 use Rattle.text_model.specs.declared.cells.Cell.{Cell}
-use Rattle.text_model.specs.Content.{Slots}
+use Rattle.text_model.specs.Content.{Content, Slots}
 use Rattle.text_model.specs.Splices.{changed}
 use Rattle.text_model.specs.Steps.{cells_of}
 use Rattle.text_model.proofs.SpliceLaws.{map-map}
+use Rattle.text_cursor.specs.declared.cursors.Cursor.{Cursor}
 use Rattle.text_cursor.specs.declared.parts.Part.{Part}
 use Rattle.text_cursor.specs.Parts.{parts_len}
 use Rattle.text_cursor.specs.Cursors.{cells_between, front_cells, part_cells, source_len, PartFits, Rise}
@@ -18,6 +19,7 @@ use Rattle.text_cursor.proofs.CursorLaws.{part-length}
 use Rattle.edit_ops.specs.declared.hunks.Hunk.{Hunk}
 use Rattle.edit_ops.specs.declared.slot_runs.SlotRun.{SlotRun}
 use Rattle.edit_ops.specs.PartHunks.{part_hunks, part_runs, run_of}
+use Rattle.edit_ops.specs.Replays.{IsCursorOf}
 use Rattle.edit_ops.specs.SlotRuns.{bare_cells, slotted, with_slots, AreBareRuns}
 use Rattle.edit_ops.specs.Told.{patched_by}
 use Rattle.edit_ops.proofs.DeleteLaws.{length-slice}
@@ -149,6 +151,17 @@ pub record OfParts (old : List Cell) (fresh : List ℕ) (parts : List Part) (hun
   pub fit : All (PartFits (length old) (length fresh)) parts
   pub hunks_are : hunks ≡ part_hunks 0 (length old) fresh parts
   pub runs_are : runs ≡ part_runs 0 parts
+
+pub of-parts : (content : Content) (cursor : Cursor) (len : ℕ) (fresh : List ℕ) (parts : List Part) (hunks : List Hunk)
+    (runs : List SlotRun) → IsCursorOf content cursor → len ≡ length content.cells → Rise 0 cursor.old_len parts
+    → All (PartFits cursor.old_len (length fresh)) parts → hunks ≡ part_hunks 0 len fresh parts
+    → runs ≡ part_runs 0 parts → OfParts content.cells fresh parts hunks runs
+of-parts content cursor len fresh parts hunks runs stands long rise fit hunks_are runs_are = record {
+  rise = subst (λ n. Rise 0 n parts) stands.old_len rise;
+  fit = subst (λ n. All (PartFits n (length fresh)) parts) stands.old_len fit;
+  hunks_are = hunks_are ∙ ap (λ n. part_hunks 0 n fresh parts) long;
+  runs_are = runs_are;
+}
 
 bare-is : (old : List Cell) (fresh : List ℕ) (parts : List Part) (hunks : List Hunk) (runs : List SlotRun)
     → OfParts old fresh parts hunks runs
