@@ -2,6 +2,7 @@
 use Rattle.std.proofs.Common.{◌≡◌, ℕ, ◌+◌, ◌-◌, ◌<◌, ◌≤◌, ◌&&◌, Bool, true, false, List, [], ◌∷◌, Option, Some, None}
 use Rattle.std.proofs.Common.{length, refl, sym, ap, ap₂, ◌∙◌, arith, subst}
 use Rattle.std.specs.Prelude.{slice_range, bytes_eq, nat_lt, nat_le, option_and_then, IsSome, if◌then◌else◌}
+use Rattle.std.specs.List.{All}
 use Rattle.std.proofs.lemmas.Bool.{false≢true, leb-true, ltb-true, and_parts}
 use Rattle.text_model.specs.declared.cells.Cell.{Cell}
 use Rattle.text_model.specs.Content.{Content, Slots, characters}
@@ -9,12 +10,17 @@ use Rattle.text_model.specs.Splices.{inserted, removed}
 use Rattle.text_model.specs.Steps.{cells_of}
 use Rattle.text_model.proofs.SpliceLaws.{map-inserted, map-removed}
 use Rattle.text_cursor.specs.declared.cursors.Cursor.{Cursor}
-use Rattle.text_cursor.specs.Cursors.{cursor_cells, Moves, Takes, Puts}
+use Rattle.text_cursor.specs.declared.parts.Part.{Part}
+use Rattle.text_cursor.specs.Around.{shared_slots}
+use Rattle.text_cursor.specs.Cursors.{cursor_cells, front_cells, Moves, PartFits, Takes, Puts}
+use Rattle.text_cursor.specs.Parts.{parts_len}
 use Rattle.text_cursor.proofs.AroundLaws.{characters-of, length-characters}
-use Rattle.text_cursor.proofs.CursorLaws.{whole-is}
+use Rattle.text_cursor.proofs.CursorLaws.{front-length, whole-is}
 use Rattle.undo_stack.specs.declared.actions.Action.{Action}
 use Rattle.undo_stack.specs.Fits.{put_in, take_out, repeated, repeated_group}
-use Rattle.edit_ops.specs.Replays.{cursor_text, IsCursorOf}
+use Rattle.edit_ops.specs.Replays.{cursor_text, IsCursorOf, MakesCells}
+use Rattle.edit_ops.specs.Reversals.{action_redone, group_redone, put_back, taken_back}
+use Rattle.edit_ops.specs.States.{State}
 
 -- how long the text is
 pub cursor_text-length : (content : Content) (cursor : Cursor) → IsCursorOf content cursor →
@@ -58,6 +64,13 @@ put-fits content cursor limit at text stands some =
     let inside = puts.inside in let short = puts.short in
     (omega (arith, inside, long), omega (arith, short, long))
 
+put-leaves : (content : Content) (before moved now : Cursor) (at : ℕ) (text : List ℕ) (slots : Slots)
+    → IsCursorOf content before → Moves before moved → moved.at ≡ at → Puts text slots moved now
+    → cursor_cells content.cells now ≡ inserted at (cells_of text slots) (cursor_cells content.cells before)
+put-leaves content before moved now at text slots stands moves at_is puts =
+    puts.cells content.cells (sym (moves.old_len ∙ stands.old_len))
+    ∙ ap₂ (λ n cells. inserted n (cells_of text slots) cells) at_is (moves.cells content.cells)
+
 pub put-makes : (content : Content) (before moved now : Cursor) (limit at : ℕ) (text : List ℕ) (slots : Slots)
     → IsCursorOf content before → Moves before moved → moved.at ≡ at → Puts text slots moved now
     → IsSome (put_in limit at text (cursor_text content before))
@@ -65,10 +78,19 @@ pub put-makes : (content : Content) (before moved now : Cursor) (limit at : ℕ)
 put-makes content before moved now limit at text slots stands moves at_is puts some =
     let cell = λ (cell : Cell). cell.character in
     (puts-in limit at text (cursor_text content before) some).is
-    ∙ ap Some (sym (ap characters (puts.cells content.cells (sym (moves.old_len ∙ stands.old_len))
-    ∙ ap₂ (λ n cells. inserted n (cells_of text slots) cells) at_is (moves.cells content.cells))
+    ∙ ap Some (sym (ap characters (put-leaves content before moved now at text slots stands moves at_is puts)
     ∙ map-inserted cell at (cells_of text slots) (cursor_cells content.cells before)
     ∙ ap (λ new. inserted at new (cursor_text content before)) (characters-of text slots)))
+
+pub put-cells : (content : Content) (before moved now : Cursor) (at : ℕ) (text : List ℕ) (slots : Slots)
+    → IsCursorOf content before → Moves before moved → moved.at ≡ at → Puts text slots moved now
+    → slots ≡ shared_slots moved.at (cursor_cells content.cells moved) → MakesCells content (put_back at text) before now
+put-cells content before moved now at text slots stands moves at_is puts slots_are = λ state same.
+    let shared : slots ≡ shared_slots at (cursor_cells content.cells before) =
+    slots_are ∙ ap₂ shared_slots at_is (moves.cells content.cells) in
+    ap (λ cells. inserted at (cells_of text (shared_slots at cells)) cells) same
+    ∙ ap (λ some. inserted at (cells_of text some) (cursor_cells content.cells before)) (sym shared)
+    ∙ sym (put-leaves content before moved now at text slots stands moves at_is puts)
 
 -- ---- a text that is taken out
 
@@ -93,28 +115,60 @@ take-fits content cursor at text stands some =
     let inside = takes.inside in
     omega (arith, inside, long)
 
+take-leaves : (content : Content) (before moved now : Cursor) (at count : ℕ) (text : List ℕ)
+    → IsCursorOf content before → Moves before moved → moved.at ≡ at → Takes moved now → now.len ≡ moved.len - count
+    → count ≡ length text → at + length text < before.len
+    → cursor_cells content.cells now ≡ removed at (at + length text) (cursor_cells content.cells before)
+take-leaves content before moved now at count text stands moves at_is takes len_is counted inside =
+    let moved_len = moves.len in
+    let end : moved.at + (moved.len - now.len) ≡ at + length text =
+    omega (arith, at_is, len_is, counted, inside, moved_len) in
+    takes.cells content.cells (sym (moves.old_len ∙ stands.old_len))
+    ∙ ap (λ n. removed moved.at n (cursor_cells content.cells moved)) end
+    ∙ ap₂ (λ n cells. removed n (at + length text) cells) at_is (moves.cells content.cells)
+
 pub take-makes : (content : Content) (before moved now : Cursor) (at count : ℕ) (text : List ℕ)
     → IsCursorOf content before → Moves before moved → moved.at ≡ at → Takes moved now → now.len ≡ moved.len - count
     → count ≡ length text → IsSome (take_out at text (cursor_text content before))
     → take_out at text (cursor_text content before) ≡ Some (cursor_text content now)
 take-makes content before moved now at count text stands moves at_is takes len_is counted some =
     let cell = λ (cell : Cell). cell.character in
-    let inside = take-fits content before at text stands some in
-    let moved_len = moves.len in
-    let end : moved.at + (moved.len - now.len) ≡ at + length text =
-    omega (arith, at_is, len_is, counted, inside, moved_len) in
     (takes-out at text (cursor_text content before) some).is
-    ∙ ap Some (sym (ap characters (takes.cells content.cells (sym (moves.old_len ∙ stands.old_len))
-    ∙ ap (λ n. removed moved.at n (cursor_cells content.cells moved)) end
-    ∙ ap₂ (λ n cells. removed n (at + length text) cells) at_is (moves.cells content.cells))
+    ∙ ap Some (sym (ap characters (take-leaves content before moved now at count text stands moves at_is takes len_is
+    counted (take-fits content before at text stands some))
     ∙ map-removed cell at (at + length text) (cursor_cells content.cells before)))
 
+pub take-cells : (content : Content) (before moved now : Cursor) (at count : ℕ) (text : List ℕ)
+    → IsCursorOf content before → Moves before moved → moved.at ≡ at → Takes moved now → now.len ≡ moved.len - count
+    → count ≡ length text → IsSome (take_out at text (cursor_text content before))
+    → MakesCells content (taken_back at (at + length text)) before now
+take-cells content before moved now at count text stands moves at_is takes len_is counted some = λ state same.
+    ap (removed at (at + length text)) same
+    ∙ sym (take-leaves content before moved now at count text stands moves at_is takes len_is counted
+    (take-fits content before at text stands some))
+
 -- ---- the actions of a group
+
+-- A state with the cells in which a cursor is, of which the actions that are left make another one.
+pub record OnTheWay (content : Content) (cursor : Cursor) (left : List Action) (end : State) : Type 0 where
+  pub state : State
+  pub cells : state.content.cells ≡ cursor_cells content.cells cursor
+  pub leads : group_redone left state ≡ end
 
 -- the first of them are made, and these are left
 pub record MadeSoFar (limit : ℕ) (content : Content) (before now : Cursor) (all left : List Action) : Type 0 where
   pub stands : IsCursorOf content now
   pub rest : repeated_group limit left (cursor_text content now) ≡ repeated_group limit all (cursor_text content before)
+  pub way : (state : State) → state.content.cells ≡ cursor_cells content.cells before
+      → OnTheWay content now left (group_redone all state)
+
+pub none-made : (limit : ℕ) (content : Content) (cursor : Cursor) (all : List Action) → IsCursorOf content cursor
+    → MadeSoFar limit content cursor cursor all all
+none-made limit content cursor all stands = record {
+  stands = stands;
+  rest = refl;
+  way = λ state same. record { state = state; cells = same; leads = refl };
+}
 
 first-some : (found : Option (List ℕ)) (after_it : List ℕ → Option (List ℕ)) → IsSome (option_and_then after_it found) →
     IsSome found
@@ -133,11 +187,16 @@ next-fits limit content before now all left rest action so_far some is =
 pub next-made : (limit : ℕ) (content : Content) (before now new : Cursor) (all left rest : List Action)
     (action : Action) → MadeSoFar limit content before now all left → left ≡ action ∷ rest → IsCursorOf content new
     → repeated limit action (cursor_text content now) ≡ Some (cursor_text content new)
-    → MadeSoFar limit content before new all rest
-next-made limit content before now new all left rest action so_far is stands made = record {
+    → MakesCells content (action_redone action) now new → MadeSoFar limit content before new all rest
+next-made limit content before now new all left rest action so_far is stands made makes = record {
   stands = stands;
   rest = sym (ap (option_and_then (repeated_group limit rest)) made)
       ∙ ap (λ l. repeated_group limit l (cursor_text content now)) (sym is) ∙ so_far.rest;
+  way = λ state same. let here = so_far.way state same in record {
+    state = action_redone action here.state;
+    cells = makes here.state here.cells;
+    leads = ap (λ l. group_redone l here.state) (sym is) ∙ here.leads;
+  };
 }
 
 pub all-made : (limit : ℕ) (content : Content) (before now : Cursor) (all left : List Action)
@@ -145,3 +204,20 @@ pub all-made : (limit : ℕ) (content : Content) (before now : Cursor) (all left
     → Some (cursor_text content now) ≡ repeated_group limit all (cursor_text content before)
 all-made limit content before now all left so_far none =
     ap (λ l. repeated_group limit l (cursor_text content now)) (sym none) ∙ so_far.rest
+
+pub all-cells : (limit : ℕ) (content : Content) (before now : Cursor) (all left : List Action)
+    → MadeSoFar limit content before now all left → left ≡ [] → MakesCells content (group_redone all) before now
+all-cells limit content before now all left so_far none = λ state same.
+    let here = so_far.way state same in
+    ap (λ (s : State). s.content.cells) (sym here.leads ∙ ap (λ l. group_redone l here.state) none) ∙ here.cells
+
+-- ---- the parts of the text that is made
+
+-- they are as long as the text
+pub parts-long : (content : Content) (cursor : Cursor) (fresh : List ℕ) (parts : List Part) → IsCursorOf content cursor
+    → All (PartFits cursor.old_len (length fresh)) parts
+    → front_cells content.cells fresh parts ≡ cursor_cells content.cells cursor → parts_len parts ≡ cursor.len
+parts-long content cursor fresh parts stands fit cells =
+    sym (front-length content.cells fresh parts
+    (subst (λ n. All (PartFits n (length fresh)) parts) stands.old_len fit))
+    ∙ ap length cells ∙ whole-is cursor content.cells stands.is (sym stands.old_len)

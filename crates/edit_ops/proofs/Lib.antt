@@ -18,3 +18,4 @@ pub mod TellLaws
 pub mod CoverLaws
 pub mod OrderLaws
 pub mod PartHunkLaws
+pub mod SlotRunLaws

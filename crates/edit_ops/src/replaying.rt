@@ -1,6 +1,6 @@
 //! What becomes of a text in which a group is undone or redone, as hunks and the slots of what they put in.
 
-ghost use Rattle.std.specs.Prelude.{◌≡◌, ◌+◌, length, IfOk, OnOk, IsSome, Some};
+ghost use Rattle.std.specs.Prelude.{◌≡◌, ◌<◌, ◌+◌, ◌^◌, length, IfOk, OnOk, IsSome, Some};
 ghost use Rattle.edit_ops.specs.Replays.{replays, cursor_text, IsCursorOf, MakesCells};
 ghost use Rattle.edit_ops.specs.Reversals.{action_redone, group_redone, put_back, taken_back};
 ghost use Rattle.edit_ops.specs.SlotRuns.{bare_cells, slotted, AreBareRuns};
@@ -103,6 +103,7 @@ fn replay_group<S: TextStore>(
         ≡ repeated_group limit (replays back group.now) (cursor_text (S.content store.now) cursor.old)) }
     ensures cells { OnOk result
         (MakesCells (S.content store.now) (group_redone (replays back group.now)) cursor.old cursor.new) }
+    ensures short { OnOk result (cursor.new.len < 2 ^ 64) }
 {
     let count = group.len();
     for index in 0..count {
@@ -110,6 +111,8 @@ fn replay_group<S: TextStore>(
         let inserts = puts_in(action, back);
         replay(store, cursor, inserts, action.at, &action.text, limit)?;
     }
+    // Read, so that the prover sees its range.
+    let _len = cursor.len;
     Ok(())
 }
 

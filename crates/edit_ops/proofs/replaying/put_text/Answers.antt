@@ -1,5 +1,5 @@
 use Rattle.std.proofs.Common.{arith}
-use Rattle.edit_ops.proofs.CursorTextLaws.{put-fits, put-makes}
+use Rattle.edit_ops.proofs.CursorTextLaws.{put-cells, put-fits, put-makes}
 use Rattle.edit_ops.proofs.replaying.put_text.Goals as goal
 
 pub seek-requires-clause-within : goal.seek-requires-clause-within
@@ -29,3 +29,9 @@ returns-clause-makes g c =
     put-makes (g.S.TextStore.content c.args.store.now) c.args.cursor.now c.seek.new.self c.put.new.self c.args.limit
     c.args.at c.args.text.now c.shared-slots.result c.requires.stands c.in_ok-seek.ensures.moves
     c.in_ok-seek.ensures.there c.in_ok-put.ensures c.requires.fits
+
+pub returns-clause-cells : goal.returns-clause-cells
+returns-clause-cells g c =
+    put-cells (g.S.TextStore.content c.args.store.now) c.args.cursor.now c.seek.new.self c.put.new.self c.args.at
+    c.args.text.now c.shared-slots.result c.requires.stands c.in_ok-seek.ensures.moves c.in_ok-seek.ensures.there
+    c.in_ok-put.ensures c.shared-slots.ensures

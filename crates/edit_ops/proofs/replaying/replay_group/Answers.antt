@@ -1,13 +1,15 @@
-use Rattle.std.proofs.Common.{◌+◌, drop, refl, arith}
+use Rattle.std.proofs.Common.{◌+◌, drop, arith}
 use Rattle.std.proofs.lemmas.List.{drop_all}
 use Rattle.undo_stack.specs.declared.actions.Action.{Action}
 use Rattle.edit_ops.specs.Replays.{replays}
-use Rattle.edit_ops.proofs.CursorTextLaws.{next-fits, next-made, all-made}
+use Rattle.edit_ops.proofs.CursorTextLaws.{all-cells, all-made, next-fits, next-made, none-made}
 use Rattle.edit_ops.proofs.ReplayLaws.{next-replayed, replays-length}
 use Rattle.edit_ops.proofs.replaying.replay_group.Goals as goal
 
 pub loop-index-init : goal.loop-index-init
-loop-index-init g c = record { stands = c.requires.stands; rest = refl }
+loop-index-init g c =
+    none-made c.args.limit (g.S.TextStore.content c.args.store.now) c.args.cursor.now
+    (replays c.args.back c.args.group.now) c.requires.stands
 
 pub replay-requires-clause-stands : goal.replay-requires-clause-stands
 replay-requires-clause-stands g c = c.loop-index.invariant.stands
@@ -41,7 +43,7 @@ loop-index-preserved g c =
     c.nth_of.ensures.place c.action-action.ensures c.puts_in-inserts.ensures in
     next-made c.args.limit (g.S.TextStore.content c.args.store.now) c.args.cursor.now c.loop-index.cursor
     c.replay.new.cursor all (drop i all) (drop (i + 1) all) action c.loop-index.invariant next
-    c.in_ok-replay.ensures.stands c.in_ok-replay.ensures.makes
+    c.in_ok-replay.ensures.stands c.in_ok-replay.ensures.makes c.in_ok-replay.ensures.cells
 
 pub returns-clause-makes : goal.returns-clause-makes
 returns-clause-makes g c =
@@ -49,5 +51,14 @@ returns-clause-makes g c =
     let i = c.loop-index.index in
     let long = replays-length c.args.back c.args.group.now in
     all-made c.args.limit (g.S.TextStore.content c.args.store.now) c.args.cursor.now c.loop-index.cursor all
+    (drop i all) c.loop-index.invariant
+    (drop_all i all (omega (arith, long, c.len-count.ensures, c.loop-index-test.false)))
+
+pub returns-clause-cells : goal.returns-clause-cells
+returns-clause-cells g c =
+    let all = replays c.args.back c.args.group.now in
+    let i = c.loop-index.index in
+    let long = replays-length c.args.back c.args.group.now in
+    all-cells c.args.limit (g.S.TextStore.content c.args.store.now) c.args.cursor.now c.loop-index.cursor all
     (drop i all) c.loop-index.invariant
     (drop_all i all (omega (arith, long, c.len-count.ensures, c.loop-index-test.false)))
