@@ -38,9 +38,9 @@ pub mod SeenLaws
 pub mod SlotLaws
 pub mod SpanLaws
 pub mod StateLaws
+pub mod StillCellLaws
 pub mod StillLeadLaws
 pub mod StillMarksLaws
-pub mod StillTextLaws
 pub mod TableLaws
 pub mod TagLaws
 pub mod TaggedLaws

@@ -40,21 +40,22 @@ named-carried limits windows document widget =
     let kept : (new : Document) → HasNamesOf document new →
     AreNamed windows document new = named-same windows document in
     record {
-      still = record {
-        quiet = record {
-          same = kept document refl;
-          turned = λ name old gravity _.
-              kept _ (mark-kept document widget name (record old { gravity = gravity }));
-          added = λ name places. kept _ (add-kept limits document widget name places);
-          removed = λ name places. kept _ (remove-kept document widget name places);
-          untagged = λ names. kept _ refl;
-          ordered = λ position order words. carried-reordered (AreNamed windows document) document position order words
-              (kept document refl) (λ tags. kept _ refl);
-          modified = λ flag. kept _ refl;
-          separated = kept _ (elim document.undo as
-              (λ b. HasNamesOf document (if b then record document { history = separated document.history }
-              else document)) [ true ↦ refl | false ↦ refl ]);
-        };
+      quiet = record {
+        same = kept document refl;
+        turned = λ name old gravity _. kept _ (mark-kept document widget name (record old { gravity = gravity }));
+        ordered = λ position order words. carried-reordered (AreNamed windows document) document position order words
+            (kept document refl) (λ tags. kept _ refl);
+        modified = λ flag. kept _ refl;
+        separated = kept _ (elim document.undo as
+            (λ b. HasNamesOf document (if b then record document { history = separated document.history }
+            else document)) [ true ↦ refl | false ↦ refl ]);
+      };
+      tagged = record {
+        added = λ name places. kept _ (add-kept limits document widget name places);
+        removed = λ name places. kept _ (remove-kept document widget name places);
+        untagged = λ names. kept _ refl;
+      };
+      marked = record {
         set = λ name offset found. kept _ (set-kept limits document widget name offset found);
         unset = λ names. kept _ refl;
       };

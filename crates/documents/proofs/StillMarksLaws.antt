@@ -21,7 +21,7 @@ use Rattle.documents.specs.Promise.{answered, refused}
 use Rattle.documents.specs.Ranges.{spans_shown}
 use Rattle.documents.specs.Tags.{add_spans, remove_spans, tag_delete}
 use Rattle.documents.specs.Widgets.{new_widget, widget_named, with_peer}
-use Rattle.documents.proofs.CarriedLaws.{IsQuiet, carried-reordered}
+use Rattle.documents.proofs.CarriedLaws.{IsQuiet, IsTagged, carried-reordered}
 use Rattle.documents.proofs.MarksToldLaws.{put-still, seen-found, told-none, widget-changed}
 
 -- a document in which the widget of a name sees each mark where it saw it in another one
@@ -61,6 +61,14 @@ module _ (window : List ℕ) (document : Document) where
       elim (is_among name document.tags) as (λ b. HasMarksOf window document (if b then made else document))
       [ true ↦ alike made refl refl | false ↦ λ word. refl ]
 
+  pub marks-tagged : (limits : LimitTable) (widget : Widget)
+      → IsTagged limits document widget (HasMarksOf window document)
+  marks-tagged limits widget = record {
+    added = λ name places. marks-added limits widget name places;
+    removed = λ name places. marks-removed widget name places;
+    untagged = λ names. alike (tag_delete document names).document refl refl;
+  }
+
   -- ---- the widget of a command
 
   module _ (widget : Widget) (found : widget_named window document ≡ Some widget) where
@@ -69,9 +77,6 @@ module _ (window : List ℕ) (document : Document) where
       same = λ word. refl;
       turned = λ name old gravity there. put-still document widget name (record old { gravity = gravity }) window found
           old there refl;
-      added = λ name places. marks-added limits widget name places;
-      removed = λ name places. marks-removed widget name places;
-      untagged = λ names. alike (tag_delete document names).document refl refl;
       ordered = λ position order words. carried-reordered (HasMarksOf window document) document position order words
           (λ word. refl) (λ tags. alike (record document { tags = tags }) refl refl);
       modified = λ flag. alike (modified_set document flag).document refl refl;

@@ -109,20 +109,22 @@ pub leads-carried : (limits : LimitTable) (start : List ℕ) (document : Documen
     → AreAnchored (characters document.cells) (anchors_of widget) →
     IsCarried limits document widget (Leads limits.chars start)
 leads-carried limits start document widget leads anchored = record {
-  still = record {
-    quiet = record {
-      same = leads;
-      turned = λ name old gravity _.
-          leads-mark limits.chars start document widget name (record old { gravity = gravity }) leads;
-      added = λ name places. leads-added limits limits.chars start document widget name places leads;
-      removed = λ name places. leads-removed limits.chars start document widget name places leads;
-      untagged = λ names. leads-untagged limits.chars start document names leads;
-      ordered = λ position order words. carried-reordered (Leads limits.chars start) document position order words leads
-          (λ tags. leads-still limits.chars start document (record document { tags = tags }) leads refl refl refl refl
-          refl);
-      modified = λ flag. leads-modified limits.chars start document flag leads;
-      separated = leads-separated limits.chars start document leads;
-    };
+  quiet = record {
+    same = leads;
+    turned = λ name old gravity _.
+        leads-mark limits.chars start document widget name (record old { gravity = gravity }) leads;
+    ordered = λ position order words. carried-reordered (Leads limits.chars start) document position order words leads
+        (λ tags. leads-still limits.chars start document (record document { tags = tags }) leads refl refl refl refl
+        refl);
+    modified = λ flag. leads-modified limits.chars start document flag leads;
+    separated = leads-separated limits.chars start document leads;
+  };
+  tagged = record {
+    added = λ name places. leads-added limits limits.chars start document widget name places leads;
+    removed = λ name places. leads-removed limits.chars start document widget name places leads;
+    untagged = λ names. leads-untagged limits.chars start document names leads;
+  };
+  marked = record {
     set = λ name offset found. leads-set limits limits.chars start document widget name offset found leads;
     unset = λ names. leads-unset limits.chars start document names leads;
   };

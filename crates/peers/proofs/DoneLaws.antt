@@ -38,7 +38,7 @@ use Rattle.documents.specs.Tags.{add_spans, lowered, raised, remove_spans, reord
 use Rattle.documents.specs.Texts.{insert_at, insertion_offset}
 use Rattle.documents.specs.Views.{shown, view_end}
 use Rattle.documents.specs.Widgets.{with_peer}
-use Rattle.documents.proofs.CarriedLaws.{IsCarried, IsQuiet, IsStill, carried-active, carried-with}
+use Rattle.documents.proofs.CarriedLaws.{IsCarried, IsMarked, IsQuiet, IsTagged, carried-active, carried-with}
 use Rattle.documents.proofs.IndexPlaceLaws.{place-within}
 use Rattle.peers.specs.Commands.{Call, done}
 use Rattle.peers.specs.Deletions.{delete, replace, replace_places, replace_words}
@@ -105,6 +105,13 @@ IsTextEdit EditUndo = ⊤
 IsTextEdit EditRedo = ⊤
 IsTextEdit command = ⊥
 
+-- a command that puts tags on characters or takes them off
+abbrev pub IsTagEdit : Command → Type 0
+IsTagEdit TagAdd = ⊤
+IsTagEdit TagRemove = ⊤
+IsTagEdit TagDelete = ⊤
+IsTagEdit command = ⊥
+
 -- a command that sets marks or takes them out
 abbrev pub IsMarkMove : Command → Type 0
 IsMarkMove MarkSet = ⊤
@@ -122,7 +129,7 @@ calling limits windows widget switches position arguments = record {
   arguments = arguments;
 }
 
--- ---- commands that leave the characters and move no mark
+-- ---- commands that leave the characters, their tags and the marks
 
 module _ (limits : LimitTable) (document : Document) (widget : Widget) (P : Document →
     Type 0) (quiet : IsQuiet limits document widget P) where
@@ -146,20 +153,6 @@ module _ (limits : LimitTable) (document : Document) (widget : Widget) (P : Docu
   turns position words =
       carried-with P document (one_or_two_of words) (gravity_words document widget position) quiet.same (λ given _. turns-words position given)
 
-  adds : (position : ℕ) (words : List (List ℕ)) → P (tag_add limits document widget position words).document
-  adds position words =
-      carried-with P document (first_of words) (add_words limits document widget position) quiet.same (λ given _.
-      carried-with P document (places_at document widget (position + 1) given.1)
-      (add_spans limits document widget given.0) quiet.same (λ places _.
-      quiet.added given.0 places))
-
-  removes : (position : ℕ) (words : List (List ℕ)) → P (tag_remove document widget position words).document
-  removes position words =
-      carried-with P document (first_of words) (remove_words document widget position) quiet.same (λ given _.
-      carried-with P document (places_at document widget (position + 1) given.1) (remove_spans document widget given.0)
-      quiet.same (λ places _.
-      quiet.removed given.0 places))
-
   raises : (position : ℕ) (words : List (List ℕ)) → P (tag_raise document position words).document
   raises position words = carried-with P document (one_or_two_of words) (reordered document position raised) quiet.same
       (λ given _. quiet.ordered position raised given)
@@ -179,63 +172,80 @@ module _ (limits : LimitTable) (document : Document) (widget : Widget) (P : Docu
       carried-with P document (none_or_one_of words) (modified_word document position) quiet.same (λ word _.
       modifies-word position word)
 
-  -- any command, where it holds after those that edit the text or move marks, and after three others
+  -- any command, where it holds after those that edit the text or tags or move marks, and after three others
   pub quiet-done : (command : Command) (windows switches : List (List ℕ)) (position : ℕ) (arguments : List (List ℕ))
       → (IsTextEdit command →
+      P (done command document (calling limits windows widget switches position arguments)).document)
+      → (IsTagEdit command →
       P (done command document (calling limits windows widget switches position arguments)).document)
       → (IsMarkMove command →
       P (done command document (calling limits windows widget switches position arguments)).document)
       → (IsOther command →
       P (done command document (calling limits windows widget switches position arguments)).document)
       → P (done command document (calling limits windows widget switches position arguments)).document
-  quiet-done Insert windows switches position arguments edit move other = edit tt
-  quiet-done Delete windows switches position arguments edit move other = edit tt
-  quiet-done Replace windows switches position arguments edit move other = edit tt
-  quiet-done MarkGravity windows switches position arguments edit move other = turns position arguments
-  quiet-done MarkSet windows switches position arguments edit move other = move tt
-  quiet-done MarkUnset windows switches position arguments edit move other = move tt
-  quiet-done TagAdd windows switches position arguments edit move other = adds position arguments
-  quiet-done TagRemove windows switches position arguments edit move other = removes position arguments
-  quiet-done TagDelete windows switches position arguments edit move other = quiet.untagged arguments
-  quiet-done TagRaise windows switches position arguments edit move other = raises position arguments
-  quiet-done TagLower windows switches position arguments edit move other = lowers position arguments
-  quiet-done Configure windows switches position arguments edit move other = other tt
-  quiet-done EditUndo windows switches position arguments edit move other = edit tt
-  quiet-done EditRedo windows switches position arguments edit move other = edit tt
-  quiet-done EditModified windows switches position arguments edit move other = modifies position arguments
-  quiet-done EditReset windows switches position arguments edit move other = other tt
-  quiet-done EditSeparator windows switches position arguments edit move other = quiet.separated
-  quiet-done PeerCreate windows switches position arguments edit move other = other tt
-  quiet-done command windows switches position arguments edit move other = quiet.same
+  quiet-done Insert windows switches position arguments edit tag move other = edit tt
+  quiet-done Delete windows switches position arguments edit tag move other = edit tt
+  quiet-done Replace windows switches position arguments edit tag move other = edit tt
+  quiet-done MarkGravity windows switches position arguments edit tag move other = turns position arguments
+  quiet-done MarkSet windows switches position arguments edit tag move other = move tt
+  quiet-done MarkUnset windows switches position arguments edit tag move other = move tt
+  quiet-done TagAdd windows switches position arguments edit tag move other = tag tt
+  quiet-done TagRemove windows switches position arguments edit tag move other = tag tt
+  quiet-done TagDelete windows switches position arguments edit tag move other = tag tt
+  quiet-done TagRaise windows switches position arguments edit tag move other = raises position arguments
+  quiet-done TagLower windows switches position arguments edit tag move other = lowers position arguments
+  quiet-done Configure windows switches position arguments edit tag move other = other tt
+  quiet-done EditUndo windows switches position arguments edit tag move other = edit tt
+  quiet-done EditRedo windows switches position arguments edit tag move other = edit tt
+  quiet-done EditModified windows switches position arguments edit tag move other = modifies position arguments
+  quiet-done EditReset windows switches position arguments edit tag move other = other tt
+  quiet-done EditSeparator windows switches position arguments edit tag move other = quiet.separated
+  quiet-done PeerCreate windows switches position arguments edit tag move other = other tt
+  quiet-done command windows switches position arguments edit tag move other = quiet.same
 
--- ---- commands that leave the characters
+-- ---- commands that edit tags
 
-module _ (limits : LimitTable) (document : Document) (widget : Widget) (P : Document →
-    Type 0) (still : IsStill limits document widget P) where
+module _ (limits : LimitTable) (document : Document) (widget : Widget) (P : Document → Type 0) (same : P document)
+    (tagged : IsTagged limits document widget P) where
+  adds : (position : ℕ) (words : List (List ℕ)) → P (tag_add limits document widget position words).document
+  adds position words =
+      carried-with P document (first_of words) (add_words limits document widget position) same (λ given _.
+      carried-with P document (places_at document widget (position + 1) given.1)
+      (add_spans limits document widget given.0) same (λ places _.
+      tagged.added given.0 places))
+
+  removes : (position : ℕ) (words : List (List ℕ)) → P (tag_remove document widget position words).document
+  removes position words =
+      carried-with P document (first_of words) (remove_words document widget position) same (λ given _.
+      carried-with P document (places_at document widget (position + 1) given.1) (remove_spans document widget given.0)
+      same (λ places _.
+      tagged.removed given.0 places))
+
+  pub tags-done : (command : Command) (windows switches : List (List ℕ)) (position : ℕ) (arguments : List (List ℕ)) →
+      IsTagEdit command
+      → P (done command document (calling limits windows widget switches position arguments)).document
+  tags-done TagAdd windows switches position arguments is = adds position arguments
+  tags-done TagRemove windows switches position arguments is = removes position arguments
+  tags-done TagDelete windows switches position arguments is = tagged.untagged arguments
+  tags-done command windows switches position arguments is = absurd is
+
+-- ---- commands that move marks
+
+module _ (limits : LimitTable) (document : Document) (widget : Widget) (P : Document → Type 0) (same : P document)
+    (marked : IsMarked limits document widget P) where
   sets : (position : ℕ) (words : List (List ℕ)) → P (mark_set limits document widget position words).document
   sets position words =
-      carried-with P document (two_of words) (set_words limits document widget position) still.quiet.same (λ given _.
+      carried-with P document (two_of words) (set_words limits document widget position) same (λ given _.
       carried-with P document (place_at document widget (position + 1) given.1) (set_at limits document widget given.0)
-      still.quiet.same (λ place _.
-      still.set given.0 (mark_offset document widget given.0 place) (place_named document widget given.0)))
+      same (λ place _.
+      marked.set given.0 (mark_offset document widget given.0 place) (place_named document widget given.0)))
 
-  moves : (command : Command) (windows switches : List (List ℕ)) (position : ℕ) (arguments : List (List ℕ)) →
+  pub marks-done : (command : Command) (windows switches : List (List ℕ)) (position : ℕ) (arguments : List (List ℕ)) →
       IsMarkMove command
       → P (done command document (calling limits windows widget switches position arguments)).document
-  moves MarkSet windows switches position arguments is = sets position arguments
-  moves MarkUnset windows switches position arguments is = still.unset arguments
-  moves command windows switches position arguments is = absurd is
-
-  -- any command, where it holds after those that edit the text, and after three others
-  pub still-done : (command : Command) (windows switches : List (List ℕ)) (position : ℕ) (arguments : List (List ℕ))
-      → (IsTextEdit command →
-      P (done command document (calling limits windows widget switches position arguments)).document)
-      → (IsOther command →
-      P (done command document (calling limits windows widget switches position arguments)).document)
-      → P (done command document (calling limits windows widget switches position arguments)).document
-  still-done command windows switches position arguments edit other =
-      quiet-done limits document widget P still.quiet command windows switches position arguments edit
-      (moves command windows switches position arguments) other
+  marks-done MarkSet windows switches position arguments is = sets position arguments
+  marks-done MarkUnset windows switches position arguments is = marked.unset arguments
+  marks-done command windows switches position arguments is = absurd is
 
 -- ---- commands that edit the text
 
@@ -243,15 +253,15 @@ module _ (limits : LimitTable) (document : Document) (widget : Widget) (P : Docu
     Type 0) (carried : IsCarried limits document widget P) where
   inserts : (position : ℕ) (words : List (List ℕ)) → P (insert limits document widget position words).document
   inserts position words =
-      carried-with P document (first_of words) (insert_words limits document widget position) carried.still.quiet.same
+      carried-with P document (first_of words) (insert_words limits document widget position) carried.quiet.same
       (λ given _.
       carried-with P document (place_at document widget position given.0)
-      (insert_pairs limits document widget (pairs_at (position + 1) given.1)) carried.still.quiet.same (λ place _.
+      (insert_pairs limits document widget (pairs_at (position + 1) given.1)) carried.quiet.same (λ place _.
       carried-with P document (pairs_at (position + 1) given.1)
       (λ pairs. unless_idle widget document (insert_at limits document widget (insertion_offset document widget place)
-      pairs)) carried.still.quiet.same (λ pairs _.
+      pairs)) carried.quiet.same (λ pairs _.
       carried-active P document widget (insert_at limits document widget (insertion_offset document widget place) pairs)
-      carried.still.quiet.same
+      carried.quiet.same
       (carried.inserted place pairs))))
 
   replaces-places : (second from to : ℕ) (pairs : List Pair) →
@@ -261,32 +271,32 @@ module _ (limits : LimitTable) (document : Document) (widget : Widget) (P : Docu
       (insertion_offset document widget to) pairs in
       elim (nat_lt to from) as (λ b. nat_lt to from ≡ b →
       P (if b then refused document (IndexOrder second) else unless_idle widget document change).document) [
-        | true ↦ λ _. carried.still.quiet.same
-        | false ↦ λ ordered. carried-active P document widget change carried.still.quiet.same (λ busy.
+        | true ↦ λ _. carried.quiet.same
+        | false ↦ λ ordered. carried-active P document widget change carried.quiet.same (λ busy.
             carried.replaced from to pairs busy (ltb-false to from ordered))
       ] refl
 
   replaces : (position : ℕ) (words : List (List ℕ)) → P (replace limits document widget position words).document
   replaces position words =
-      carried-with P document (first_two_of words) (replace_words limits document widget position) carried.still.quiet.same
+      carried-with P document (first_two_of words) (replace_words limits document widget position) carried.quiet.same
       (λ given _.
       carried-with P document (place_at document widget position given.0) (λ from.
       change_with document (place_at document widget (position + 1) given.1) (λ to.
       change_with document (pairs_at (position + 2) given.2) (replace_places limits document widget (position + 1) from to)))
-      carried.still.quiet.same (λ from _.
+      carried.quiet.same (λ from _.
       carried-with P document (place_at document widget (position + 1) given.1) (λ to.
       change_with document (pairs_at (position + 2) given.2) (replace_places limits document widget (position + 1) from to))
-      carried.still.quiet.same (λ to _.
+      carried.quiet.same (λ to _.
       carried-with P document (pairs_at (position + 2) given.2) (replace_places limits document widget (position + 1) from to)
-      carried.still.quiet.same (λ pairs _.
+      carried.quiet.same (λ pairs _.
       replaces-places (position + 1) from to pairs))))
 
   deletes : (position : ℕ) (words : List (List ℕ)) → P (delete document widget position words).document
   deletes position words =
       carried-with P document (places_at document widget position words) (λ places.
-      unless_idle widget document (delete_places document widget places)) carried.still.quiet.same
+      unless_idle widget document (delete_places document widget places)) carried.quiet.same
       (λ places is.
-      carried-active P document widget (delete_places document widget places) carried.still.quiet.same (λ busy.
+      carried-active P document widget (delete_places document widget places) carried.quiet.same (λ busy.
       carried.deleted places busy (λ within. places-within document widget position words places within is)))
 
   edits : (command : Command) (windows switches : List (List ℕ)) (position : ℕ) (arguments : List (List ℕ)) →
@@ -306,8 +316,11 @@ module _ (limits : LimitTable) (document : Document) (widget : Widget) (P : Docu
       P (done command document (calling limits windows widget switches position arguments)).document)
       → P (done command document (calling limits windows widget switches position arguments)).document
   carried-done command windows switches position arguments other =
-      still-done limits document widget P carried.still command windows switches position arguments
-      (edits command windows switches position arguments) other
+      quiet-done limits document widget P carried.quiet command windows switches position arguments
+      (edits command windows switches position arguments)
+      (tags-done limits document widget P carried.quiet.same carried.tagged command windows switches position arguments)
+      (marks-done limits document widget P carried.quiet.same carried.marked command windows switches position arguments)
+      other
 
 -- ---- the three others
 

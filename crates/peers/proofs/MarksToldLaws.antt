@@ -17,13 +17,14 @@ use Rattle.documents.specs.Documents.{Document, Widget}
 use Rattle.documents.specs.MarksTold.{ForetellsMarks, MarksTold}
 use Rattle.documents.specs.Promise.{Change, change_with}
 use Rattle.documents.specs.Widgets.{widget_named}
-use Rattle.documents.proofs.StillMarksLaws.{HasMarksOf, marks-configured, marks-peered, marks-quiet, told-still}
+use Rattle.documents.proofs.StillMarksLaws.{HasMarksOf, marks-configured, marks-peered, marks-quiet, marks-tagged}
+use Rattle.documents.proofs.StillMarksLaws.{told-still}
 use Rattle.peers.specs.Commands.{arguments_of, call_of, command as command_of, done, shaped, switches_of}
 use Rattle.peers.specs.MarksTold.{MarksTellAt, MarksTellOf, edits_reading, edits_text}
 use Rattle.peers.specs.Step.{Makes, changed, on_found, on_home, on_widget, step}
 use Rattle.peers.specs.WellFormed.{IsWellFormed}
 use Rattle.peers.specs.World.{World, all_windows, document_at, home}
-use Rattle.peers.proofs.DoneLaws.{IsMarkMove, IsTextEdit, calling, other-done, quiet-done}
+use Rattle.peers.proofs.DoneLaws.{IsMarkMove, IsTextEdit, calling, other-done, quiet-done, tags-done}
 use Rattle.peers.proofs.FrontLaws.{set-at}
 use Rattle.peers.proofs.HomeStepLaws.{home-is}
 use Rattle.peers.proofs.ToldStepLaws.{holds-step}
@@ -54,7 +55,10 @@ marks-done : (limits : LimitTable) (windows : List (List ℕ)) (document : Docum
     (done command document (calling limits windows widget switches position arguments)).document
 marks-done limits windows document widget window found command switches position arguments still stay =
     quiet-done limits document widget (HasMarksOf window document) (marks-quiet window document widget found limits)
-    command windows switches position arguments (λ edit. absurd (still edit)) (λ move. absurd (stay move))
+    command windows switches position arguments (λ edit. absurd (still edit))
+    (tags-done limits document widget (HasMarksOf window document) (λ name. refl)
+    (marks-tagged window document limits widget) command windows switches position arguments)
+    (λ move. absurd (stay move))
     (other-done limits windows document widget (HasMarksOf window document) (λ name. refl)
     (marks-configured window document widget found) (marks-peered window document widget found) (λ name. refl)
     command switches position arguments)

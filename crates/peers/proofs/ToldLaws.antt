@@ -1,31 +1,35 @@
--- What is told of a command of a widget, by its words; and a command that is no edit of the text leaves the characters.
-use Rattle.std.proofs.Common.{◌≡◌, ◌≢◌, ℕ, List, [], Ok, Err, refl, sym, subst, IfOk, Result}
+-- What is told of a command of a widget, by its words; and one that is no edit of the text or of tags leaves the
+-- characters with their tags.
+use Rattle.std.proofs.Common.{◌≡◌, ◌≢◌, ℕ, List, Ok, Err, refl, sym, subst, IfOk, Result}
 use Rattle.text_model.specs.LimitTable.{LimitTable}
 use Rattle.command_table.specs.Reading.{reading}
 use Rattle.command_table.specs.declared.commands.Command.{Command}
-use Rattle.command_table.specs.declared.commands.Command.TheVariants.{Delete, EditRedo, EditUndo}
-use Rattle.command_table.specs.declared.commands.Command.TheVariants.{Insert, Replace}
+use Rattle.command_table.specs.declared.commands.Command.TheVariants.{Delete, EditRedo, EditUndo, Insert, Replace}
+use Rattle.command_table.specs.declared.commands.Command.TheVariants.{TagAdd, TagDelete, TagRemove}
 use Rattle.command_table.specs.declared.shapes.Shape.{Shape}
-use Rattle.edit_ops.specs.declared.changes.TextChange.{TextChange}
 use Rattle.command_effects.specs.declared.answers.Fault.{Fault}
 use Rattle.documents.specs.Documents.{Document, Widget}
 use Rattle.documents.specs.Promise.{Change, change_with}
 use Rattle.documents.specs.Told.{Foretells}
-use Rattle.documents.proofs.StillTextLaws.{HasTextOf, text-still}
+use Rattle.documents.specs.declared.told.EditTold.{EditTold}
+use Rattle.documents.proofs.StillCellLaws.{HasCellsOf, cells-marked, cells-quiet}
+use Rattle.documents.proofs.ToldLaws.{told-nothing}
 use Rattle.peers.specs.Commands.{arguments_of, call_of, command as command_of, done, shaped, switches_of}
-use Rattle.peers.proofs.DoneLaws.{IsTextEdit, calling, other-done, still-done}
+use Rattle.peers.specs.Told.{no_edit}
+use Rattle.peers.proofs.DoneLaws.{IsTagEdit, IsTextEdit, calling, marks-done, other-done, quiet-done}
 
--- ---- commands that leave the text
+-- ---- commands that leave the characters with their tags
 
 module _ (limits : LimitTable) (windows : List (List ℕ)) (document : Document) (widget : Widget) where
-  -- a command that is no edit of the text leaves the characters
-  pub text-done : (command : Command) (switches : List (List ℕ)) (position : ℕ) (arguments : List (List ℕ))
-      → (IsTextEdit command → ⊥)
-      → HasTextOf document (done command document (calling limits windows widget switches position arguments)).document
-  text-done command switches position arguments still =
-      still-done limits document widget (HasTextOf document) (text-still limits document widget) command windows
-      switches position arguments (λ edit. absurd (still edit))
-      (other-done limits windows document widget (HasTextOf document) refl (λ settings. refl) (λ name settings. refl)
+  cells-done : (command : Command) (switches : List (List ℕ)) (position : ℕ) (arguments : List (List ℕ))
+      → (IsTextEdit command → ⊥) → (IsTagEdit command → ⊥)
+      → HasCellsOf document (done command document (calling limits windows widget switches position arguments)).document
+  cells-done command switches position arguments text tags =
+      quiet-done limits document widget (HasCellsOf document) (cells-quiet limits document widget) command windows
+      switches position arguments (λ edit. absurd (text edit)) (λ edit. absurd (tags edit))
+      (marks-done limits document widget (HasCellsOf document) refl (cells-marked limits document widget) command
+      windows switches position arguments)
+      (other-done limits windows document widget (HasCellsOf document) refl (λ settings. refl) (λ name settings. refl)
       refl command switches position arguments)
 
 -- a command that edits no text
@@ -38,6 +42,13 @@ no-edit EditUndo insert delete replace undo redo edit = undo refl
 no-edit EditRedo insert delete replace undo redo edit = redo refl
 no-edit command insert delete replace undo redo edit = edit
 
+-- a command that edits no tags
+no-tags : (command : Command) → command ≢ TagAdd → command ≢ TagRemove → command ≢ TagDelete → IsTagEdit command → ⊥
+no-tags TagAdd add remove delete edit = add refl
+no-tags TagRemove add remove delete edit = remove refl
+no-tags TagDelete add remove delete edit = delete refl
+no-tags command add remove delete edit = edit
+
 -- ---- what is told
 
 -- what a call ensures of what it tells
@@ -48,7 +59,7 @@ told-through P Q (Err fault) goes is = tt
 
 -- a word whose value is there
 pub foretells-found : {A : Type 0} (defined : Result A Fault) (value : A) (document : Document) (next : A → Change)
-    (told : List TextChange) → defined ≡ Ok value → Foretells document (next value) told
+    (told : EditTold) → defined ≡ Ok value → Foretells document (next value) told
     → Foretells document (change_with document defined next) told
 foretells-found defined value document next told is foretold =
     subst (λ found. Foretells document (change_with document found next) told) (sym is) foretold
@@ -57,7 +68,7 @@ foretells-found defined value document next told is foretold =
 
 module _ (limits : LimitTable) (windows : List (List ℕ)) (document : Document) (widget : Widget)
     (words : List (List ℕ)) (shape : Shape) (read : reading words ≡ Ok shape) where
-  pub foretells-command : (command : Command) (told : List TextChange) → shape.command ≡ command
+  pub foretells-command : (command : Command) (told : EditTold) → shape.command ≡ command
       → Foretells document (done command document (call_of limits windows widget shape words)) told
       → Foretells document (command_of limits windows document widget words) told
   foretells-command command told is foretold =
@@ -66,9 +77,11 @@ module _ (limits : LimitTable) (windows : List (List ℕ)) (document : Document)
       (sym is) foretold)
 
   pub foretells-other : shape.command ≢ Insert → shape.command ≢ Delete → shape.command ≢ Replace →
-      shape.command ≢ EditUndo → shape.command ≢ EditRedo
-      → Foretells document (command_of limits windows document widget words) []
-  foretells-other insert delete replace undo redo =
-      foretells-command shape.command [] refl (λ _.
-      text-done limits windows document widget shape.command (switches_of shape words) shape.arguments
-      (arguments_of shape words) (no-edit shape.command insert delete replace undo redo))
+      shape.command ≢ EditUndo → shape.command ≢ EditRedo → shape.command ≢ TagAdd → shape.command ≢ TagRemove →
+      shape.command ≢ TagDelete → Foretells document (command_of limits windows document widget words) no_edit
+  foretells-other insert delete replace undo redo add remove gone =
+      foretells-command shape.command no_edit refl
+      (told-nothing document (done shape.command document (call_of limits windows widget shape words)) no_edit refl
+      (cells-done limits windows document widget shape.command (switches_of shape words) shape.arguments
+      (arguments_of shape words) (no-edit shape.command insert delete replace undo redo)
+      (no-tags shape.command add remove gone)))

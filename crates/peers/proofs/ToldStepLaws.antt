@@ -7,17 +7,16 @@ use Rattle.tcl_words.specs.Unread.{texts_of}
 use Rattle.command_table.specs.Reading.{reading}
 use Rattle.command_effects.specs.declared.answers.Answer.{Answer}
 use Rattle.command_effects.specs.Words.{is_same, literal}
-use Rattle.edit_ops.specs.Told.{Tells}
-use Rattle.edit_ops.specs.declared.changes.TextChange.{TextChange}
-use Rattle.documents.specs.Documents.{Document, Widget, characters}
+use Rattle.documents.specs.Documents.{Document, Widget}
 use Rattle.documents.specs.Kept.{is_window_name}
 use Rattle.documents.specs.Promise.{Change}
-use Rattle.documents.specs.Told.{Foretells}
+use Rattle.documents.specs.Told.{Foretells, TellsCells}
 use Rattle.documents.specs.WellFormed.{IsWellFormedDocument}
 use Rattle.documents.specs.Widgets.{widget_named}
+use Rattle.documents.specs.declared.told.EditTold.{EditTold}
 use Rattle.peers.specs.Commands.{command}
 use Rattle.peers.specs.Step.{Makes, changed, create_shaped, destroy_shaped, on_found, on_home, on_widget, step}
-use Rattle.peers.specs.Told.{TellsAt, TellsOf, text_at}
+use Rattle.peers.specs.Told.{TellsAt, TellsOf, cells_at, no_edit}
 use Rattle.peers.specs.WellFormed.{IsWellFormed}
 use Rattle.peers.specs.World.{World, all_windows, document_at, home}
 use Rattle.peers.proofs.FrontLaws.{set-at}
@@ -28,16 +27,16 @@ use Rattle.peers.proofs.WorldLaws.{all-at}
 
 -- ---- a command of a widget
 
-tells-changed : (world : World) (place : ℕ) (change : Change) (told : List TextChange) → place < length world.documents
+tells-changed : (world : World) (place : ℕ) (change : Change) (told : EditTold) → place < length world.documents
     → Foretells (document_at world.documents place) change told → is_ok change.reply ≡ true
-    → Tells told (text_at world place) (text_at (changed world place change).world place)
+    → TellsCells (cells_at world place) (cells_at (changed world place change).world place) told
 tells-changed world place change told within foretold answered =
-    subst (λ (d : Document). Tells told (text_at world place) (characters d.cells))
+    subst (λ (d : Document). TellsCells (cells_at world place) d.cells told)
     (sym (set-at world.documents place change.document within)) (foretold answered)
 
 -- what a command of a widget that is found tells
 pub tells-found : (world : World) (name : List ℕ) (words : List (List ℕ)) (place : ℕ) (widget : Widget)
-    (told : List TextChange) → home name world.documents ≡ Some place
+    (told : EditTold) → home name world.documents ≡ Some place
     → widget_named name (document_at world.documents place) ≡ Some widget
     → Foretells (document_at world.documents place)
     (command world.limits (all_windows world) (document_at world.documents place) widget words) told
@@ -50,7 +49,7 @@ tells-found world name words place widget told there found foretold =
     subst (λ (at : Option ℕ). is_ok (on_home world name words at).reply ≡ true →
     TellsAt world (on_home world name words at).world at told) (sym there)
     (subst (λ (seen : Option Widget). is_ok (on_found world place document words seen).reply ≡ true →
-    Tells told (text_at world place) (text_at (on_found world place document words seen).world place)) (sym found)
+    TellsCells (cells_at world place) (cells_at (on_found world place document words seen).world place) told) (sym found)
     (tells-changed world place change told within foretold))
 
 -- ---- any command
@@ -109,9 +108,9 @@ holds-step P world new name others answer formed makes none some =
 
 -- what a command tells of its words as they are given
 pub tells-call : {Z : Type 0} (world new : World) (words : List (String Z)) (first : String Z) (answer : Answer)
-    (told : List TextChange) → IsWellFormed world → 0 < length words → first ≡ get_or words 0 first
+    (told : EditTold) → IsWellFormed world → 0 < length words → first ≡ get_or words 0 first
     → Makes world new (Ok answer) (step world (texts_of words))
-    → (home (chars (string_bytes first)) world.documents ≡ None → told ≡ [])
+    → (home (chars (string_bytes first)) world.documents ≡ None → told ≡ no_edit)
     → (is_ok (on_widget world (chars (string_bytes first)) (texts_of words)).reply ≡ true
     → TellsAt world (on_widget world (chars (string_bytes first)) (texts_of words)).world
     (home (chars (string_bytes first)) world.documents) told)
@@ -123,6 +122,6 @@ tells-call {Z} world new (word ∷ words) first answer told formed within is mak
     let all = texts_of (word ∷ words) in
     holds-step (λ (w : World) (at : Option ℕ). TellsAt world w at told) world new (chars (string_bytes word))
     (texts_of words) answer formed makes
-    (subst (λ name. home name world.documents ≡ None → told ≡ []) same none)
+    (subst (λ name. home name world.documents ≡ None → told ≡ no_edit) same none)
     (subst (λ name. is_ok (on_widget world name all).reply ≡ true
     → TellsAt world (on_widget world name all).world (home name world.documents) told) same some)

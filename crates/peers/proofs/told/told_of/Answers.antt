@@ -1,10 +1,13 @@
 use Rattle.std.proofs.Common.{List, ℕ, sym, subst}
 use Rattle.tcl_words.specs.Unread.{texts_of}
-use Rattle.command_table.specs.declared.commands.Command.TheVariants.{Delete, Insert, Replace}
+use Rattle.command_table.specs.declared.commands.Command.TheVariants.{Delete, Insert, Replace, TagAdd, TagDelete}
+use Rattle.command_table.specs.declared.commands.Command.TheVariants.{TagRemove}
 use Rattle.documents.specs.Documents.{widget_at}
+use Rattle.documents.specs.Tags.{tag_delete}
 use Rattle.documents.specs.Told.{Foretells}
 use Rattle.peers.specs.Commands.{command}
 use Rattle.peers.specs.Deletions.{delete, replace}
+use Rattle.peers.specs.Tags.{tag_add, tag_remove}
 use Rattle.peers.specs.Texts.{insert}
 use Rattle.peers.proofs.ArgumentLaws.{arguments-part}
 use Rattle.peers.proofs.ToldLaws.{foretells-command, foretells-other, told-through}
@@ -40,11 +43,42 @@ returns-in-Replace g c =
     c.in-Replace.is (subst (λ arguments. Foretells document (replace limits document widget shape.arguments arguments)
     told) (arguments-part c.args.words.now shape) (foretold limits c.requires.limits))) c.told_replace.ensures
 
+pub returns-in-TagAdd : goal.returns-in-TagAdd
+returns-in-TagAdd g c =
+    let document = c.args.document.now in let widget = widget_at document c.args.seat in
+    let shape = c.args.shape in let limits = c.args.limits.now in let words = texts_of c.args.words.now in
+    told-through _ (λ told. (windows : List (List ℕ)) → Foretells document
+    (command limits windows document widget words) told) c.told_add.result
+    (λ told foretold windows. foretells-command limits windows document widget words shape c.requires.shape TagAdd told
+    c.in-TagAdd.is (subst (λ arguments. Foretells document (tag_add limits document widget shape.arguments arguments) told)
+    (arguments-part c.args.words.now shape) (foretold limits))) c.told_add.ensures
+
+pub returns-in-TagRemove : goal.returns-in-TagRemove
+returns-in-TagRemove g c =
+    let document = c.args.document.now in let widget = widget_at document c.args.seat in
+    let shape = c.args.shape in let limits = c.args.limits.now in let words = texts_of c.args.words.now in
+    told-through _ (λ told. (windows : List (List ℕ)) → Foretells document
+    (command limits windows document widget words) told) c.told_remove.result
+    (λ told foretold windows. foretells-command limits windows document widget words shape c.requires.shape TagRemove told
+    c.in-TagRemove.is (subst (λ arguments. Foretells document (tag_remove document widget shape.arguments arguments) told)
+    (arguments-part c.args.words.now shape) foretold)) c.told_remove.ensures
+
+pub returns-in-TagDelete : goal.returns-in-TagDelete
+returns-in-TagDelete g c =
+    let document = c.args.document.now in let widget = widget_at document c.args.seat in
+    let shape = c.args.shape in let limits = c.args.limits.now in let words = texts_of c.args.words.now in
+    told-through _ (λ told. (windows : List (List ℕ)) → Foretells document
+    (command limits windows document widget words) told) c.told_tag_delete.result
+    (λ told foretold windows. foretells-command limits windows document widget words shape c.requires.shape TagDelete told
+    c.in-TagDelete.is (subst (λ arguments. Foretells document (tag_delete document arguments) told)
+    (arguments-part c.args.words.now shape) foretold)) c.told_tag_delete.ensures
+
 pub returns-in_default : goal.returns-in_default
 returns-in_default g c = λ windows.
     let document = c.args.document.now in let widget = widget_at document c.args.seat in
     let other = c.in_default in
     subst (λ told. Foretells document (command c.args.limits.now windows document widget
-    (texts_of c.args.words.now)) told) (sym c.new.ensures)
+    (texts_of c.args.words.now)) told) (sym c.nothing.ensures)
     (foretells-other c.args.limits.now windows document widget (texts_of c.args.words.now) c.args.shape
-    c.requires.shape other.not-Insert other.not-Delete other.not-Replace other.not-EditUndo other.not-EditRedo)
+    c.requires.shape other.not-Insert other.not-Delete other.not-Replace other.not-EditUndo other.not-EditRedo
+    other.not-TagAdd other.not-TagRemove other.not-TagDelete)

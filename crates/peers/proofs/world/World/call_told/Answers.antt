@@ -3,7 +3,7 @@ use Rattle.tcl_words.specs.Unread.{texts_of}
 use Rattle.command_effects.specs.declared.answers.Fault.TheVariants.{Memory}
 use Rattle.peers.specs.Step.{on_widget, step}
 use Rattle.peers.specs.MarksTold.{MarksTellAt}
-use Rattle.peers.specs.Told.{TellsAt, answer_of}
+use Rattle.peers.specs.Told.{TellsAt, answer_of, no_edit}
 use Rattle.peers.specs.WellFormed.{IsWellFormed}
 use Rattle.peers.specs.World.{home}
 use Rattle.peers.proofs.MakesLaws.{makes-memory}
@@ -11,8 +11,8 @@ use Rattle.peers.proofs.MarksToldLaws.{marks-call}
 use Rattle.peers.proofs.ToldStepLaws.{tells-call}
 use Rattle.peers.proofs.world.World.call_told.Goals as goal
 
-pub returns-in_err-changes-clause-makes : goal.returns-in_err-changes-clause-makes
-returns-in_err-changes-clause-makes g c =
+pub returns-in_err-edit-clause-makes : goal.returns-in_err-edit-clause-makes
+returns-in_err-edit-clause-makes g c =
     let known : c.from_residual.result ≡ Err Memory = search rules in
     makes-memory c.args.self.now (answer_of c.from_residual.result) (step c.args.self.now (texts_of c.args.words.now))
     (subst IsWellFormed c.self.view_is c.self.invariant.0) (ap answer_of known)
@@ -26,14 +26,14 @@ returns-in_err-marks-clause-makes g c =
 pub returns-in-Ok-clause-tells : goal.returns-in-Ok-clause-tells
 returns-in-Ok-clause-tells g c =
     let world = c.args.self.now in let words = texts_of c.args.words.now in
-    let told = c.in_ok-changes.changes in let spelled = c.as_str-name.ensures.value in
+    let told = c.in_ok-edit.edit in let spelled = c.as_str-name.ensures.value in
     tells-call world c.call.new.self c.args.words.now c.name-item.result c.in-Ok.answer told
     (subst IsWellFormed c.self.view_is c.self.invariant.0) c.in-len1-up.len_at_least c.name-item.is
     c.in-Ok.ensures.makes
-    (subst (λ bytes. home (chars bytes) world.documents ≡ None → told ≡ []) spelled c.in_ok-changes.ensures.none)
+    (subst (λ bytes. home (chars bytes) world.documents ≡ None → told ≡ no_edit) spelled c.in_ok-edit.ensures.none)
     (subst (λ bytes. is_ok (on_widget world (chars bytes) words).reply ≡ true
     → TellsAt world (on_widget world (chars bytes) words).world (home (chars bytes) world.documents) told) spelled
-    c.in_ok-changes.ensures.some)
+    c.in_ok-edit.ensures.some)
 
 pub returns-in-Ok-clause-marks : goal.returns-in-Ok-clause-marks
 returns-in-Ok-clause-marks g c =

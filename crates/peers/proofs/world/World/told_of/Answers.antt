@@ -24,8 +24,8 @@ returns-in_default-clause-some g c = λ _.
     ap (home_in name) c.self.invariant.1 ∙ home-found name c.self.inside.documents.list.items
     ∙ ap (λ (w : World). home name w.documents) c.self.view_is in
     let none : home name world.documents ≡ None = sym homes ∙ sym c.home.ensures ∙ c.in_default.is in
-    subst (λ (at : Option ℕ). TellsAt world (on_widget world name words).world at c.new-nothing.result) (sym none)
-    c.new-nothing.ensures
+    subst (λ (at : Option ℕ). TellsAt world (on_widget world name words).world at c.nothing-nothing.result) (sym none)
+    c.nothing-nothing.ensures
 
 pub index-document-requires : goal.index-document-requires
 index-document-requires g c =
