@@ -117,7 +117,7 @@ length-pairs widget at (pair ∷ pairs) cells within =
 
 -- ---- neighbours
 
-abbrev no_cell : KeyedCell
+abbrev pub no_cell : KeyedCell
 no_cell = record { character = 0; keys = set.empty }
 
 -- the keys of the cell at an offset
@@ -261,90 +261,90 @@ pub record PairsTold (ps : List (ℕ × Key)) (widget : List ℕ) (from : ℕ) (
 module _ (ps : List (ℕ × Key)) (widget : List ℕ) (from : ℕ) (base : List KeyedCell) (right : Slots)
     (all done rest : List Pair) (pair : Pair) (at : ℕ) (left : Slots) (told : List TagChange)
     (within : from < length base) (so_far : PairsTold ps widget from base right all done (pair ∷ rest) at left told)
-    where
-  abbrev now : List KeyedCell
-  now = with_pairs widget from done base
+  where
+    abbrev now : List KeyedCell
+    now = with_pairs widget from done base
 
-  inside : at < length now
-  inside =
-      let long = length-pairs widget from done base (omega (arith, within)) in
-      let place = so_far.place in omega (arith, long, place, within)
+    inside : at < length now
+    inside =
+        let long = length-pairs widget from done base (omega (arith, within)) in
+        let place = so_far.place in omega (arith, long, place, within)
 
-  more-is : with_pairs widget from (done ++ pair ∷ []) base ≡ with_pair widget at pair now
-  more-is = with-pairs-more widget from done pair base ∙ ap (λ n. with_pair widget n pair now) (sym so_far.place)
+    more-is : with_pairs widget from (done ++ pair ∷ []) base ≡ with_pair widget at pair now
+    more-is = with-pairs-more widget from done pair base ∙ ap (λ n. with_pair widget n pair now) (sym so_far.place)
 
-  place-more : (end : ℕ) → end ≡ at + length pair.text → end ≡ from + total (done ++ pair ∷ [])
-  place-more end is =
-      let place = so_far.place in let more = total-more done pair in omega (arith, is, place, more)
+    place-more : (end : ℕ) → end ≡ at + length pair.text → end ≡ from + total (done ++ pair ∷ [])
+    place-more end is =
+        let place = so_far.place in let more = total-more done pair in omega (arith, is, place, more)
 
-  -- a text without characters
-  pub none-told : length pair.text ≡ 0 → PairsTold ps widget from base right all (done ++ pair ∷ []) rest at left told
-  none-told none =
-      let new = with_keys (keys_or (option_map (keys_named widget) pair.names) (keys_between now at)) pair.text in
-      let same : with_pairs widget from (done ++ pair ∷ []) base ≡ now =
-      more-is ∙ none-inserted at new now (length-map pair.text _ ∙ none) in
-      let bare : inserted at (untagged pair.text) now ≡ now =
-      none-inserted at (untagged pair.text) now (length-map pair.text _ ∙ none) in
-      let stays : at ≡ at + length pair.text = omega (arith, none) in
-      record {
-        place = place-more at stays;
-        shared = so_far.shared ∙ ap (λ cells. keys_between cells at) (sym same);
-        behind = ap (λ cells. keys_at cells at) same ∙ so_far.behind;
-        tells = subst (TellsTags told (put_all untagged from (texts_of all) base))
-            (ap₂ (λ n cells. put_all untagged n (texts_of rest) cells) (sym stays) bare
-            ∙ ap (put_all untagged at (texts_of rest)) (sym same)) so_far.tells;
-      }
+    -- a text without characters
+    pub none-told : length pair.text ≡ 0 → PairsTold ps widget from base right all (done ++ pair ∷ []) rest at left told
+    none-told none =
+        let new = with_keys (keys_or (option_map (keys_named widget) pair.names) (keys_between now at)) pair.text in
+        let same : with_pairs widget from (done ++ pair ∷ []) base ≡ now =
+        more-is ∙ none-inserted at new now (length-map pair.text _ ∙ none) in
+        let bare : inserted at (untagged pair.text) now ≡ now =
+        none-inserted at (untagged pair.text) now (length-map pair.text _ ∙ none) in
+        let stays : at ≡ at + length pair.text = omega (arith, none) in
+        record {
+          place = place-more at stays;
+          shared = so_far.shared ∙ ap (λ cells. keys_between cells at) (sym same);
+          behind = ap (λ cells. keys_at cells at) same ∙ so_far.behind;
+          tells = subst (TellsTags told (put_all untagged from (texts_of all) base))
+              (ap₂ (λ n cells. put_all untagged n (texts_of rest) cells) (sym stays) bare
+              ∙ ap (put_all untagged at (texts_of rest)) (sym same)) so_far.tells;
+        }
 
-  -- a text with characters
-  pub one-told : (next : Slots) (keys : List Key) (end : ℕ) (more : List TagChange) → 0 < length pair.text
-      → end ≡ at + length pair.text
-      → AreKeysOf (keys_or (option_map (keys_named widget) pair.names) (keys_of ps (set.intersection left right))) keys
-      → keys_of ps (set.intersection next right)
-      ≡ set.intersection (keys_or (option_map (keys_named widget) pair.names) (keys_of ps (set.intersection left right)))
-      (keys_of ps right)
-      → more ≡ told ++ run_changes at end true keys
-      → PairsTold ps widget from base right all (done ++ pair ∷ []) rest end next more
-  one-told next keys end more some end_is are shares more_is =
-      let own : Keys = keys_or (option_map (keys_named widget) pair.names) (keys_between now at) in
-      let same : keys_or (option_map (keys_named widget) pair.names) (keys_of ps (set.intersection left right)) ≡ own =
-      ap (keys_or (option_map (keys_named widget) pair.names)) so_far.shared in
-      let made = inserted at (with_keys own pair.text) now in
-      let texts = texts_of rest in
-      let front = take at now in
-      let long : length front ≡ at = length-take-le at now (omega (arith, inside)) in
-      let back = joined untagged texts ++ drop at now in
-      let spread : (new : List KeyedCell) → length new ≡ length pair.text
-          → put_all untagged (at + length pair.text) texts (inserted at new now) ≡ front ++ new ++ back =
-      λ new count. put-behind untagged (at + length pair.text) texts (front ++ new) (drop at now)
-      (λ text. length-map text _) (length-append front new ∙ ap₂ (λ m n. m + n) long count) in
-      let run = tells-run own keys front back pair.text (subst (λ k. AreKeysOf k keys) same are) some in
-      let told_run : TellsTags (run_changes at end true keys)
-          (put_all untagged (at + length pair.text) texts (inserted at (untagged pair.text) now))
-          (put_all untagged end texts made) =
-      subst (λ cells. TellsTags (run_changes at end true keys) cells (put_all untagged end texts made))
-      (sym (spread (untagged pair.text) (length-map pair.text _)))
-      (subst (TellsTags (run_changes at end true keys) (front ++ untagged pair.text ++ back))
-      (sym (ap (λ n. put_all untagged n texts made) end_is ∙ spread (with_keys own pair.text) (length-map pair.text _)))
-      (subst (λ n. TellsTags (run_changes n end true keys) (front ++ untagged pair.text ++ back)
-      (front ++ with_keys own pair.text ++ back)) long
-      (subst (λ n. TellsTags (run_changes (length front) n true keys) (front ++ untagged pair.text ++ back)
-      (front ++ with_keys own pair.text ++ back))
-      (ap (λ n. n + length pair.text) long ∙ sym end_is) run))) in
-      record {
-        place = place-more end end_is;
-        shared = shares ∙ ap₂ set.intersection same (sym so_far.behind)
-            ∙ sym (ap₂ keys_between more-is end_is ∙ keys-behind own at pair.text now some inside);
-        behind = ap₂ keys_at more-is end_is
-            ∙ key-behind own at pair.text now inside ∙ so_far.behind;
-        tells = subst (λ ts. TellsTags ts (put_all untagged from (texts_of all) base)
-            (put_all untagged end texts (with_pairs widget from (done ++ pair ∷ []) base))) (sym more_is)
-            (tells-then told (run_changes at end true keys) (put_all untagged from (texts_of all) base)
-            (put_all untagged (at + length pair.text) texts (inserted at (untagged pair.text) now))
-            (put_all untagged end texts (with_pairs widget from (done ++ pair ∷ []) base)) so_far.tells
-            (subst (λ cells. TellsTags (run_changes at end true keys)
-            (put_all untagged (at + length pair.text) texts (inserted at (untagged pair.text) now))
-            (put_all untagged end texts cells)) (sym more-is) told_run));
-      }
+    -- a text with characters
+    pub one-told : (next : Slots) (keys : List Key) (end : ℕ) (more : List TagChange) → 0 < length pair.text
+        → end ≡ at + length pair.text
+        → AreKeysOf (keys_or (option_map (keys_named widget) pair.names) (keys_of ps (set.intersection left right))) keys
+        → keys_of ps (set.intersection next right)
+        ≡ set.intersection (keys_or (option_map (keys_named widget) pair.names) (keys_of ps (set.intersection left right)))
+        (keys_of ps right)
+        → more ≡ told ++ run_changes at end true keys
+        → PairsTold ps widget from base right all (done ++ pair ∷ []) rest end next more
+    one-told next keys end more some end_is are shares more_is =
+        let own : Keys = keys_or (option_map (keys_named widget) pair.names) (keys_between now at) in
+        let same : keys_or (option_map (keys_named widget) pair.names) (keys_of ps (set.intersection left right)) ≡ own =
+        ap (keys_or (option_map (keys_named widget) pair.names)) so_far.shared in
+        let made = inserted at (with_keys own pair.text) now in
+        let texts = texts_of rest in
+        let front = take at now in
+        let long : length front ≡ at = length-take-le at now (omega (arith, inside)) in
+        let back = joined untagged texts ++ drop at now in
+        let spread : (new : List KeyedCell) → length new ≡ length pair.text
+        → put_all untagged (at + length pair.text) texts (inserted at new now) ≡ front ++ new ++ back =
+        λ new count. put-behind untagged (at + length pair.text) texts (front ++ new) (drop at now)
+        (λ text. length-map text _) (length-append front new ∙ ap₂ (λ m n. m + n) long count) in
+        let run = tells-run own keys front back pair.text (subst (λ k. AreKeysOf k keys) same are) some in
+        let told_run : TellsTags (run_changes at end true keys)
+        (put_all untagged (at + length pair.text) texts (inserted at (untagged pair.text) now))
+        (put_all untagged end texts made) =
+        subst (λ cells. TellsTags (run_changes at end true keys) cells (put_all untagged end texts made))
+        (sym (spread (untagged pair.text) (length-map pair.text _)))
+        (subst (TellsTags (run_changes at end true keys) (front ++ untagged pair.text ++ back))
+        (sym (ap (λ n. put_all untagged n texts made) end_is ∙ spread (with_keys own pair.text) (length-map pair.text _)))
+        (subst (λ n. TellsTags (run_changes n end true keys) (front ++ untagged pair.text ++ back)
+        (front ++ with_keys own pair.text ++ back)) long
+        (subst (λ n. TellsTags (run_changes (length front) n true keys) (front ++ untagged pair.text ++ back)
+        (front ++ with_keys own pair.text ++ back))
+        (ap (λ n. n + length pair.text) long ∙ sym end_is) run))) in
+        record {
+          place = place-more end end_is;
+          shared = shares ∙ ap₂ set.intersection same (sym so_far.behind)
+              ∙ sym (ap₂ keys_between more-is end_is ∙ keys-behind own at pair.text now some inside);
+          behind = ap₂ keys_at more-is end_is
+              ∙ key-behind own at pair.text now inside ∙ so_far.behind;
+          tells = subst (λ ts. TellsTags ts (put_all untagged from (texts_of all) base)
+              (put_all untagged end texts (with_pairs widget from (done ++ pair ∷ []) base))) (sym more_is)
+              (tells-then told (run_changes at end true keys) (put_all untagged from (texts_of all) base)
+              (put_all untagged (at + length pair.text) texts (inserted at (untagged pair.text) now))
+              (put_all untagged end texts (with_pairs widget from (done ++ pair ∷ []) base)) so_far.tells
+              (subst (λ cells. TellsTags (run_changes at end true keys)
+              (put_all untagged (at + length pair.text) texts (inserted at (untagged pair.text) now))
+              (put_all untagged end texts cells)) (sym more-is) told_run));
+        }
 
 -- ---- the texts one after the other
 
@@ -382,50 +382,50 @@ module _ (seats : List Named) (table : Tags) (seated : AreSeats seats) (sound : 
     (told : List TagChange) (pair : Pair) (text : List ℕ) (within : from < length base) (inside : i < length all)
     (is : pair ≡ get_or all i pair) (text_is : text ≡ pair.text)
     (so_far : PairsTold (key_pairs seats table.tags) widget from base right all (take i all) (drop i all) at left told)
-    where
-  abbrev keyed_by : List (ℕ × Key)
-  keyed_by = key_pairs seats table.tags
+  where
+    abbrev keyed_by : List (ℕ × Key)
+    keyed_by = key_pairs seats table.tags
 
-  lists : (drop i all ≡ pair ∷ drop (i + 1) all) × (take (i + 1) all ≡ take i all ++ pair ∷ [])
-  lists = step-lists all i pair inside is
+    lists : (drop i all ≡ pair ∷ drop (i + 1) all) × (take (i + 1) all ≡ take i all ++ pair ∷ [])
+    lists = step-lists all i pair inside is
 
-  before : PairsTold keyed_by widget from base right all (take i all) (pair ∷ drop (i + 1) all) at left told
-  before = subst (λ rest. PairsTold keyed_by widget from base right all (take i all) rest at left told) lists.0 so_far
+    before : PairsTold keyed_by widget from base right all (take i all) (pair ∷ drop (i + 1) all) at left told
+    before = subst (λ rest. PairsTold keyed_by widget from base right all (take i all) rest at left told) lists.0 so_far
 
-  behind : (end : ℕ) (next : Slots) (more : List TagChange)
-      → PairsTold keyed_by widget from base right all (take i all ++ pair ∷ []) (drop (i + 1) all) end next more
-      → PairsTold keyed_by widget from base right all (take (i + 1) all) (drop (i + 1) all) end next more
-  behind end next more =
-      subst (λ done. PairsTold keyed_by widget from base right all done (drop (i + 1) all) end next more) (sym lists.1)
+    behind : (end : ℕ) (next : Slots) (more : List TagChange)
+        → PairsTold keyed_by widget from base right all (take i all ++ pair ∷ []) (drop (i + 1) all) end next more
+        → PairsTold keyed_by widget from base right all (take (i + 1) all) (drop (i + 1) all) end next more
+    behind end next more =
+        subst (λ done. PairsTold keyed_by widget from base right all done (drop (i + 1) all) end next more) (sym lists.1)
 
-  pub none-goes : (count end : ℕ) (next : Slots) (more : List TagChange) → count ≡ length text → count ≤ 0
-      → end ≡ at → next ≡ left → more ≡ told
-      → PairsTold keyed_by widget from base right all (take (i + 1) all) (drop (i + 1) all) end next more
-  none-goes count end next more counted none end_is next_is more_is =
-      subst (λ (t : ℕ × Slots × List TagChange). PairsTold keyed_by widget from base right all (take (i + 1) all)
-      (drop (i + 1) all) t.0 t.1 t.2) (λ j. (sym end_is j, sym next_is j, sym more_is j))
-      (behind at left told (none-told keyed_by widget from base right all (take i all) (drop (i + 1) all) pair at left
-      told within before
-      (let long = ap length text_is in omega (arith, counted, long, none))))
+    pub none-goes : (count end : ℕ) (next : Slots) (more : List TagChange) → count ≡ length text → count ≤ 0
+        → end ≡ at → next ≡ left → more ≡ told
+        → PairsTold keyed_by widget from base right all (take (i + 1) all) (drop (i + 1) all) end next more
+    none-goes count end next more counted none end_is next_is more_is =
+        subst (λ (t : ℕ × Slots × List TagChange). PairsTold keyed_by widget from base right all (take (i + 1) all)
+        (drop (i + 1) all) t.0 t.1 t.2) (λ j. (sym end_is j, sym next_is j, sym more_is j))
+        (behind at left told (none-told keyed_by widget from base right all (take i all) (drop (i + 1) all) pair at left
+        told within before
+        (let long = ap length text_is in omega (arith, counted, long, none))))
 
-  pub one-goes : (count sum end : ℕ) (made next : Slots) (keys : List Key) (more : List TagChange)
-      → count ≡ length text → 0 < count → made ≡ slots_or (option_map (slots_named table.tags seat.number) pair.names)
-      (set.intersection left right)
-      → AreKeysOf (keys_or (option_map (keys_named widget) pair.names) (keys_of keyed_by made)) keys
-      → sum ≡ at + count → end ≡ sum → next ≡ made → more ≡ told ++ run_changes at sum true keys
-      → PairsTold keyed_by widget from base right all (take (i + 1) all) (drop (i + 1) all) end next more
-  one-goes count sum end made next keys more counted some made_is are sum_is end_is next_is more_is =
-      let both : Slots = set.intersection left right in
-      let own = own-keys pair.names keyed_by widget (slots_named table.tags seat.number) made both made_is in
-      let shares = next-shared seats table seated sound place seat sits pair.names left right made made_is
-      ∙ ap (λ name. set.intersection (keys_or (option_map (keys_named name) pair.names) (keys_of keyed_by both))
-      (keys_of keyed_by right)) named in
-      let long : count ≡ length pair.text = counted ∙ ap length text_is in
-      subst (λ (t : ℕ × Slots). PairsTold keyed_by widget from base right all (take (i + 1) all)
-      (drop (i + 1) all) t.0 t.1 more) (λ j. (sym end_is j, sym next_is j))
-      (behind sum made more (one-told keyed_by widget from base right all (take i all) (drop (i + 1) all) pair at left
-      told within before made keys sum more (omega (arith, some, long)) (omega (arith, sum_is, long))
-      (subst (λ ks. AreKeysOf ks keys) own are) shares more_is))
+    pub one-goes : (count sum end : ℕ) (made next : Slots) (keys : List Key) (more : List TagChange)
+        → count ≡ length text → 0 < count → made ≡ slots_or (option_map (slots_named table.tags seat.number) pair.names)
+        (set.intersection left right)
+        → AreKeysOf (keys_or (option_map (keys_named widget) pair.names) (keys_of keyed_by made)) keys
+        → sum ≡ at + count → end ≡ sum → next ≡ made → more ≡ told ++ run_changes at sum true keys
+        → PairsTold keyed_by widget from base right all (take (i + 1) all) (drop (i + 1) all) end next more
+    one-goes count sum end made next keys more counted some made_is are sum_is end_is next_is more_is =
+        let both : Slots = set.intersection left right in
+        let own = own-keys pair.names keyed_by widget (slots_named table.tags seat.number) made both made_is in
+        let shares = next-shared seats table seated sound place seat sits pair.names left right made made_is
+        ∙ ap (λ name. set.intersection (keys_or (option_map (keys_named name) pair.names) (keys_of keyed_by both))
+        (keys_of keyed_by right)) named in
+        let long : count ≡ length pair.text = counted ∙ ap length text_is in
+        subst (λ (t : ℕ × Slots). PairsTold keyed_by widget from base right all (take (i + 1) all)
+        (drop (i + 1) all) t.0 t.1 more) (λ j. (sym end_is j, sym next_is j))
+        (behind sum made more (one-told keyed_by widget from base right all (take i all) (drop (i + 1) all) pair at left
+        told within before made keys sum more (omega (arith, some, long)) (omega (arith, sum_is, long))
+        (subst (λ ks. AreKeysOf ks keys) own are) shares more_is))
 
 -- ---- before the first text
 

@@ -1,56 +1,68 @@
--- What is told of a command beforehand is what it makes of the text.
-use Rattle.std.proofs.Common.{◌≡◌, ℕ, ◌+◌, ◌-◌, ◌<◌, ◌≤◌, ◌==◌, ◌&&◌, true, false, List, [], ◌∷◌, Option, Some, None}
-use Rattle.std.proofs.Common.{map, length, take, drop, refl, sym, ap, ap₂, ◌∙◌, arith, subst, append_assoc, ◌++◌, Bool}
-use Rattle.std.proofs.Common.{bytes_eq, nat_le, nat_lt, slice_range, if◌then◌else◌}
-use Rattle.std.proofs.lemmas.Bool.{eqb-true, false≢true, ltb-false}
-use Rattle.std.proofs.lemmas.List.{map-append, take-append-drop}
-use Rattle.std.proofs.lemmas.Option.{none-some, option_and_then_some, same_Some}
+-- What is told of a command beforehand is what it makes of the text and of its tags.
+use Rattle.std.proofs.Common.{◌≡◌, ℕ, ◌+◌, ◌-◌, ◌<◌, ◌≤◌, ◌^◌, ◌==◌, ◌&&◌, not, true, false, List, [], ◌∷◌, Option, Some, None}
+use Rattle.std.proofs.Common.{map, length, take, drop, get_or, refl, sym, ap, ap₂, ◌∙◌, arith, subst, append_assoc, ◌++◌}
+use Rattle.std.proofs.Common.{Bool, IsSome, append-nil, nat_le, nat_lt, slice_range, sum_by, if◌then◌else◌}
+use Rattle.std.specs.FinSet as set
+use Rattle.std.proofs.lemmas.Bool.{and_parts, eqb-true, false≢true, ltb-false, ltb-true}
+use Rattle.std.proofs.lemmas.List.{drop_more, length-take-le, map-append, take-append-drop}
+use Rattle.std.proofs.lemmas.List.Sums.{sum_by-cons}
+use Rattle.std.proofs.lemmas.Option.{option_and_then_some}
 use Rattle.text_model.specs.Content as model
-use Rattle.text_model.specs.LimitTable.{LimitTable}
-use Rattle.text_model.specs.Splices.{inserted, removed}
+use Rattle.text_model.specs.LimitTable.{AreLimits, LimitTable}
+use Rattle.text_model.specs.Splices.{changed, inserted, removed}
 use Rattle.text_model.specs.declared.places.Place.{Place}
-use Rattle.text_model.proofs.SpliceLaws.{changed-same, map-changed}
+use Rattle.text_model.proofs.SpliceLaws.{length-removed, map-map, removed-append_left}
 use Rattle.undo_stack.specs.declared.actions.Action.{Action}
 use Rattle.undo_stack.specs.declared.actions.EditKind.{EditKind}
 use Rattle.undo_stack.specs.declared.actions.EditKind.TheVariants as kind
-use Rattle.undo_stack.specs.Fits.{FitsText, put_in, take_out, repeated, reverted, repeated_group, reverted_group}
+use Rattle.undo_stack.specs.Fits.{put_in, take_out, repeated, repeated_group}
 use Rattle.undo_stack.specs.History.{next_redo, next_undo}
-use Rattle.undo_stack.proofs.FitsLaws.{redo-goes, undo-goes}
+use Rattle.name_list.specs.Names.{Named}
+use Rattle.tag_table.specs.Tags.{AreTags, Tags}
+use Rattle.text_cursor.specs.Around.{shared_slots}
+use Rattle.text_cursor.proofs.AroundLaws.{length-characters}
 use Rattle.edit_ops.specs.Deletions.{AreApart, delete_set, in_spans, runs_below}
 use Rattle.edit_ops.specs.Removals.{clipped}
-use Rattle.edit_ops.specs.Replays.{replays}
-use Rattle.edit_ops.specs.Reversals.{redo_end, undo_end}
-use Rattle.edit_ops.specs.Told.{Tells, patched, putting, taking, taking_out}
-use Rattle.edit_ops.specs.declared.changes.TextChange.{TextChange}
+use Rattle.edit_ops.specs.Replays.{replayed, replays}
+use Rattle.edit_ops.specs.Reversals.{action_redone, group_redone, put_back, redo_end, taken_back, undo_end}
+use Rattle.edit_ops.specs.SlotRuns.{AreBareRuns, bare_cells, slotted}
+use Rattle.edit_ops.specs.States.{State}
+use Rattle.edit_ops.specs.Told.{AreHunks, Tells, hunk_changes, patched, patched_by, putting, taking, taking_out}
 use Rattle.edit_ops.specs.declared.hunks.Hunk.{Hunk}
+use Rattle.edit_ops.specs.declared.slot_runs.SlotRun.{SlotRun}
 use Rattle.edit_ops.specs.declared.spans.Span.{Span}
-use Rattle.edit_ops.proofs.HunkLaws.{inserting-is, put_all, putting-append, removed_all, replacing-is}
-use Rattle.edit_ops.proofs.HunkLaws.{taking-is}
-use Rattle.edit_ops.proofs.ReplayLaws.{back-reverted}
+use Rattle.edit_ops.proofs.HunkLaws.{map-patched, putting-append, removed_all, taking-is}
+use Rattle.edit_ops.proofs.ReplayLaws.{back-cons, guarded-holds}
+use Rattle.edit_ops.proofs.ReversalLaws.{redone-text}
+use Rattle.edit_ops.proofs.TellLaws.{hunks-made}
 use Rattle.command_effects.specs.Lists.{Pair, total}
 use Rattle.command_effects.specs.declared.answers.Answer.TheVariants.{Empty}
-use Rattle.command_effects.specs.declared.answers.Fault.{Fault}
 use Rattle.command_effects.specs.declared.answers.Fault.TheVariants.{NothingToRedo, NothingToUndo, TextTooLong}
 use Rattle.command_effects.specs.declared.answers.Fault.TheVariants.{TooManyTags}
 use Rattle.documents.specs.Deletions.{delete_places, delete_spans, deleted_runs, last_bare, replace_span, replaced}
 use Rattle.documents.specs.Deletions.{with_clipped}
 use Rattle.documents.specs.Documents.{Document, KeyedCell, Parts, Widget, characters, widget_at}
-use Rattle.documents.specs.Edits.{KeyedText, bare, keys_between, keys_or, with_action, with_bare, with_cells, with_text}
-use Rattle.documents.specs.Edits.{with_texts, without_cells, without_span, without_spans}
+use Rattle.documents.specs.Edits.{bare, keys_between, with_action, with_bare, with_texts, without_cells, without_span}
+use Rattle.documents.specs.Edits.{without_spans}
 use Rattle.documents.specs.History.{action_again, action_back, edit_redo, edit_undo, group_again, group_back}
 use Rattle.documents.specs.History.{redo_found, redone, text_back, undo_found, undone, with_end}
-use Rattle.documents.specs.Kept.{Stands}
+use Rattle.documents.specs.Kept.{AreSeats, Stands}
+use Rattle.documents.specs.Keys.{Key, key_pairs, keyed}
 use Rattle.documents.specs.Promise.{Change, answered, refused}
 use Rattle.documents.specs.Ranges.{spans_shown}
+use Rattle.documents.specs.TagsTold.{AreKeysOf, TellsPairs, TellsTags, after_changes, run_changes}
+use Rattle.documents.specs.TagsTold.{slot_changes, untagged}
 use Rattle.documents.specs.Texts.{insert_at, keyed_text, tags_with, within_limits}
-use Rattle.documents.specs.Told.{Foretells}
+use Rattle.documents.specs.Told.{Foretells, TellsCells}
 use Rattle.documents.specs.Views.{is_idle, view_end, view_start}
-use Rattle.documents.proofs.LeadLaws.{characters-made, characters-out, characters-put, counted}
+use Rattle.documents.specs.declared.tag_lists.TagChange.{TagChange}
+use Rattle.documents.specs.declared.told.EditTold.{EditTold}
+use Rattle.documents.proofs.BridgeLaws.{keys_of-empty}
+use Rattle.documents.proofs.KeyedLaws.{keyed-inserted, keyed-removed, keyed-shared, keyed_cell}
+use Rattle.documents.proofs.PairTagLaws.{keys_at, no_cell, texts_of}
 use Rattle.documents.proofs.PartsLaws.{Sits, cells-kept, characters-kept}
+use Rattle.documents.proofs.TagsToldLaws.{tells-bare, tells-slot-runs, told-characters}
 use Rattle.documents.proofs.ViewLaws.{end-is, end_in, start-is, start_in}
-
-abbrev pub texts_of : List Pair → List (List ℕ)
-texts_of pairs = map (λ (pair : Pair). pair.text) pairs
 
 -- the hunks of one pair more
 pub texts-more : (at : ℕ) (front hunks now : List Hunk) (pairs : List Pair) (pair : Pair) (text : List ℕ)
@@ -62,182 +74,50 @@ texts-more at front hunks now pairs pair text so_far same is =
     ∙ ap (λ hs. front ++ hs) (sym (putting-append at (texts_of pairs) (pair.text ∷ []))
     ∙ ap (putting at) (sym (map-append (λ (pair : Pair). pair.text) pairs (pair ∷ []))))
 
--- ---- what edits make of the characters
+-- ---- what edits make of the cells
 
-none-inserted : (at : ℕ) (new xs : List ℕ) → length new ≡ 0 → inserted at new xs ≡ xs
-none-inserted at [] xs none = append_assoc (take at xs) [] (drop at xs) ∙ take-append-drop at xs
-none-inserted at (x ∷ new) xs none = absurd (omega (arith, none))
+-- what is told of a change of the cells
+told-by : (document : Document) (change : Change) (told : EditTold) (cells : List KeyedCell) → change.document.cells ≡ cells
+    → TellsCells document.cells cells told → Foretells document change told
+told-by document change told cells is tells =
+    λ ok. subst (λ new. TellsCells document.cells new told) (sym is) tells
 
-characters-text : (kind : EditKind) (at : ℕ) (text : KeyedText) (document : Document)
-    → characters (with_text kind at text document).cells ≡ inserted at text.text (characters document.cells)
-characters-text kind at text document =
-    let cell : ℕ → KeyedCell = λ character. record {
-      character = character;
-      keys = keys_or text.keys (keys_between document.cells at);
-    } in
-    let cells = map cell text.text in
-    let made : Document = with_action kind (record { inserts = true; at = at; text = text.text })
-    (with_cells at cells document) in
-    let old = characters document.cells in
-    elim (length text.text == 0) as (λ b. (length text.text == 0) ≡ b
-    → characters (if b then document else made).cells ≡ inserted at text.text old) [
-      | true ↦ λ none. sym (none-inserted at text.text old (eqb-true (length text.text) 0 none))
-      | false ↦ λ _. characters-put at cells document
-          ∙ ap (λ new. inserted at new old) (characters-made cell (λ c. refl) text.text)
-    ] refl
+-- hunks of the text, and changes of tags behind these
+pub hunks-tell : (cells new : List KeyedCell) (hunks : List Hunk) (told : EditTold) → AreHunks 0 (length cells) hunks
+    → told.changes ≡ hunk_changes (characters cells) hunks
+    → Tells told.changes (characters cells) (patched 0 hunks (characters cells))
+    → TellsTags told.tags (patched_by untagged 0 hunks cells) new → TellsCells cells new told
+hunks-tell cells new hunks told stand are tells tags =
+    let between = patched_by untagged 0 hunks cells in
+    let spelled : characters between ≡ patched 0 hunks (characters cells) =
+    map-patched (λ (cell : KeyedCell). cell.character) untagged (λ text. text) characters-untagged 0 hunks cells in
+    record {
+      text = subst (Tells told.changes (characters cells)) (sym (told-characters told.tags between new tags ∙ spelled))
+          tells;
+      tags = subst (λ old. TellsTags told.tags old new)
+          (sym (ap (λ changes. after_changes changes cells) are
+          ∙ hunks-made untagged (characters cells) 0 hunks cells stand)) tags;
+    }
+  where
+    characters-untagged : (text : List ℕ) → characters (untagged text) ≡ text
+    characters-untagged [] = refl
+    characters-untagged (character ∷ text) = ap (λ rest. character ∷ rest) (characters-untagged text)
 
-characters-texts : (kind : EditKind) (at : ℕ) (widget : Widget) (pairs : List Pair) (document : Document)
-    → characters (with_texts kind at (map (keyed_text widget) pairs) document).cells
-    ≡ put_all at (texts_of pairs) (characters document.cells)
-characters-texts kind at widget [] document = refl
-characters-texts kind at widget (pair ∷ pairs) document =
-    characters-texts kind (at + length pair.text) widget pairs (with_text kind at (keyed_text widget pair) document)
-    ∙ ap (put_all (at + length pair.text) (texts_of pairs))
-    (characters-text kind at (keyed_text widget pair) document)
-
-characters-span : (kind : EditKind) (from to : ℕ) (document : Document)
-    → characters (without_span kind from to document).cells ≡ removed from to (characters document.cells)
-characters-span kind from to document =
-    let old = characters document.cells in
-    let action : Action = record { inserts = false; at = from; text = slice_range old from to } in
-    let made : Document = with_action kind action (without_cells from to document) in
-    elim (from == to) as (λ b. (from == to) ≡ b
-    → characters (if b then document else made).cells ≡ removed from to old) [
-      | true ↦ λ none. sym (ap (λ n. removed from n old) (sym (eqb-true from to none)) ∙ take-append-drop from old)
-      | false ↦ λ _. characters-out from to document
-    ] refl
-
-characters-spans : (kind : EditKind) (spans : List Span) (document : Document)
-    → characters (without_spans kind spans document).cells ≡ removed_all spans (characters document.cells)
-characters-spans kind [] document = refl
-characters-spans kind (span ∷ spans) document =
-    characters-spans kind spans (without_span kind span.from span.to document)
-    ∙ ap (removed_all spans) (characters-span kind span.from span.to document)
-
-characters-bare : (widget : Widget) (spans : List Span) (document : Document)
-    → characters (last_bare widget spans document).cells ≡ characters document.cells
-characters-bare widget spans document =
-    let at = view_end document widget - 1 in
-    elim (in_spans spans at) as (λ b. characters (if b then with_bare at document else document).cells
-    ≡ characters document.cells) [
-      | true ↦ map-changed (λ (cell : KeyedCell). cell.character) bare (λ c. c) (λ cell. refl) at (at + 1)
-          document.cells
-          ∙ changed-same at (at + 1) (characters document.cells) (omega arith)
-      | false ↦ refl
-    ]
-
-characters-clipped : (widget : Widget) (place : Option Place) (document : Document)
-    → characters (with_clipped widget place document).cells ≡ characters document.cells
-characters-clipped widget None document = refl
-characters-clipped widget (Some place) document = refl
-
-characters-end : (widget : Widget) (end : Option ℕ) (document : Document)
-    → characters (with_end widget end document).cells ≡ characters document.cells
-characters-end widget None document = refl
-characters-end widget (Some at) document = refl
-
--- ---- actions of a group
-
-found-is : {A : Type 0} (test : Bool) (x y : A) → (if test then Some x else None) ≡ Some y → x ≡ y
-found-is true x y is = same_Some x y is
-found-is false x y is = absurd (none-some y is)
-
-characters-back : (limit at : ℕ) (text found : List ℕ) (document : Document)
-    → put_in limit at text (characters document.cells) ≡ Some found
-    → characters (text_back at text document).cells ≡ found
-characters-back limit at text found document is =
-    let old = characters document.cells in
-    let cell : ℕ → KeyedCell = λ character. record { character = character; keys = keys_between document.cells at } in
-    characters-put at (map cell text) document
-    ∙ ap (λ new. inserted at new old) (characters-made cell (λ c. refl) text)
-    ∙ found-is (nat_lt at (length old) && nat_le (length old + length text) limit) (inserted at text old) found is
-
-characters-taken : (at : ℕ) (text found : List ℕ) (document : Document)
-    → take_out at text (characters document.cells) ≡ Some found
-    → characters (without_cells at (at + length text) document).cells ≡ found
-characters-taken at text found document is =
-    let old = characters document.cells in
-    let to = at + length text in
-    characters-out at to document
-    ∙ found-is (nat_lt to (length old) && bytes_eq (slice_range old at to) text) (removed at to old) found is
-
-one-back : (limit : ℕ) (action : Action) (found : List ℕ) (document : Document)
-    → reverted limit action (characters document.cells) ≡ Some found
-    → characters (action_back action document).cells ≡ found
-one-back limit action found document is =
-    elim action.inserts as
-    (λ b. (if b then take_out action.at action.text (characters document.cells) else put_in limit action.at action.text
-    (characters document.cells)) ≡ Some found
-    → characters (if b then without_cells action.at (action.at + length action.text) document
-    else text_back action.at action.text document).cells ≡ found) [
-      | true ↦ λ goes. characters-taken action.at action.text found document goes
-      | false ↦ λ goes. characters-back limit action.at action.text found document goes
-    ] is
-
-one-again : (limit : ℕ) (action : Action) (found : List ℕ) (document : Document)
-    → repeated limit action (characters document.cells) ≡ Some found
-    → characters (action_again action document).cells ≡ found
-one-again limit action found document is =
-    elim action.inserts as
-    (λ b. (if b then put_in limit action.at action.text (characters document.cells) else take_out action.at action.text
-    (characters document.cells)) ≡ Some found
-    → characters (if b then text_back action.at action.text document
-    else without_cells action.at (action.at + length action.text) document).cells ≡ found) [
-      | true ↦ λ goes. characters-back limit action.at action.text found document goes
-      | false ↦ λ goes. characters-taken action.at action.text found document goes
-    ] is
-
-all-back : (limit : ℕ) (group : List Action) (found : List ℕ) (document : Document)
-    → reverted_group limit group (characters document.cells) ≡ Some found
-    → characters (group_back group document).cells ≡ found
-all-back limit [] found document is = same_Some (characters document.cells) found is
-all-back limit (action ∷ actions) found document is =
-    option_and_then_some (reverted limit action) (reverted_group limit actions (characters document.cells)) found is
-    (λ between others one. one-back limit action found (group_back actions document)
-    (ap (reverted limit action) (all-back limit actions between document others) ∙ one))
-
-all-again : (limit : ℕ) (group : List Action) (found : List ℕ) (document : Document)
-    → repeated_group limit group (characters document.cells) ≡ Some found
-    → characters (group_again group document).cells ≡ found
-all-again limit [] found document is = same_Some (characters document.cells) found is
-all-again limit (action ∷ actions) found document is =
-    option_and_then_some (repeated_group limit actions) (repeated limit action (characters document.cells)) found is
-    (λ between one others. all-again limit actions found (action_again action document)
-    (ap (repeated_group limit actions) (one-again limit action between document one) ∙ others))
-
--- ---- what is told
-
--- what hunks make is told, and the change makes just that
-told-by : (document : Document) (change : Change) (hunks : List Hunk) (told : List TextChange)
-    → Tells told (characters document.cells) (patched 0 hunks (characters document.cells))
-    → characters change.document.cells ≡ patched 0 hunks (characters document.cells)
-    → Foretells document change told
-told-by document change hunks told tells is =
-    λ ok. subst (Tells told (characters document.cells)) (sym is) tells
-
--- what is told of the text that is kept is told of the document's
-pub tells-kept : (parts : Parts) (document : Document) (hunks : List Hunk) (told : List TextChange)
-    → Stands parts document
-    → Tells told (model.characters parts.content.cells) (patched 0 hunks (model.characters parts.content.cells))
-    → Tells told (characters document.cells) (patched 0 hunks (characters document.cells))
-tells-kept parts document hunks told stands =
-    subst (λ (text : List ℕ). Tells told text (patched 0 hunks text)) (sym (characters-kept parts document stands.is))
-
--- nothing is told of a change that leaves the text, or is refused
-pub told-nothing : (document : Document) (change : Change) (told : List TextChange) → told ≡ []
-    → characters change.document.cells ≡ characters document.cells → Foretells document change told
+-- nothing is told of a change that leaves the cells, or is refused
+pub told-nothing : (document : Document) (change : Change) (told : EditTold) → told ≡ record { changes = []; tags = [] }
+    → change.document.cells ≡ document.cells → Foretells document change told
 told-nothing document change told none same =
-    λ ok. subst (λ (some : List TextChange). Tells some (characters document.cells) (characters change.document.cells))
-    (sym none) same
+    told-by document change told document.cells same
+    (subst (TellsCells document.cells document.cells) (sym none) (record { text = refl; tags = refl }))
 
 -- a change that is another one
-same-foretold : (document : Document) (change is : Change) (told : List TextChange) → change ≡ is →
+same-foretold : (document : Document) (change is : Change) (told : EditTold) → change ≡ is →
     Foretells document is told → Foretells document change told
 same-foretold document change is told same = subst (λ (c : Change). Foretells document c told) (sym same)
 
 -- a change within the limits, or a refusal
 limited-foretold : (limits : LimitTable) (document : Document) (tags chars : ℕ) (change : Change)
-    (told : List TextChange) → (chars ≤ limits.chars → Foretells document change told)
+    (told : EditTold) → (chars ≤ limits.chars → Foretells document change told)
     → Foretells document (within_limits limits document tags chars change) told
 limited-foretold limits document tags chars change told next =
     elim (nat_lt (limits.tags + 1) tags) as
@@ -251,75 +131,143 @@ limited-foretold limits document tags chars change told next =
           ] refl
     ]
 
--- ---- insert
+-- ---- cells that go
+
+pub cells-span : (kind : EditKind) (from to : ℕ) (document : Document)
+    → (without_span kind from to document).cells ≡ removed from to document.cells
+cells-span kind from to document =
+    let action : Action = record {
+      inserts = false;
+      at = from;
+      text = slice_range (characters document.cells) from to;
+    } in
+    let made : Document = with_action kind action (without_cells from to document) in
+    elim (from == to) as (λ b. (from == to) ≡ b → (if b then document else made).cells ≡ removed from to document.cells) [
+      | true ↦ λ none. sym (ap (λ n. removed from n document.cells) (sym (eqb-true from to none))
+          ∙ take-append-drop from document.cells)
+      | false ↦ λ _. refl
+    ] refl
+
+pub cells-spans : (kind : EditKind) (spans : List Span) (document : Document)
+    → (without_spans kind spans document).cells ≡ removed_all spans document.cells
+cells-spans kind [] document = refl
+cells-spans kind (span ∷ spans) document =
+    cells-spans kind spans (without_span kind span.from span.to document)
+    ∙ ap (removed_all spans) (cells-span kind span.from span.to document)
+
+cells-clipped : (widget : Widget) (place : Option Place) (document : Document)
+    → (with_clipped widget place document).cells ≡ document.cells
+cells-clipped widget None document = refl
+cells-clipped widget (Some place) document = refl
+
+cells-end : (widget : Widget) (end : Option ℕ) (document : Document)
+    → (with_end widget end document).cells ≡ document.cells
+cells-end widget None document = refl
+cells-end widget (Some at) document = refl
+
+-- ---- insert and replace
+
+-- nothing is taken out
+none-out : (at : ℕ) (hunks : List Hunk) → hunks ++ taking_out at at ≡ hunks
+none-out at hunks =
+    elim (nat_lt at at) as (λ b. nat_lt at at ≡ b →
+    hunks ++ (if b then record { from = at; to = at; text = [] } ∷ [] else []) ≡ hunks) [
+      | true ↦ λ less. let never = ltb-true at at less in absurd (omega (arith, never))
+      | false ↦ λ _. append-nil hunks
+    ] refl
 
 pub insertion-foretold : (limits : LimitTable) (document : Document) (widget : Widget) (at : ℕ) (pairs : List Pair)
-    (hunks : List Hunk) (told : List TextChange) → at < length document.cells → hunks ≡ putting at (texts_of pairs)
-    → Tells told (characters document.cells) (patched 0 hunks (characters document.cells))
+    (hunks : List Hunk) (tags : List TagChange) (told : EditTold) → AreLimits limits → hunks ≡ putting at (texts_of pairs)
+    → (length document.cells + total pairs < 2 ^ 64 → TellsPairs widget at at pairs document.cells tags)
+    → ((cells : List KeyedCell) → TellsTags tags (patched_by untagged 0 hunks document.cells) cells
+    → TellsCells document.cells cells told)
     → Foretells document (insert_at limits document widget at pairs) told
-insertion-foretold limits document widget at pairs hunks told within are tells =
+insertion-foretold limits document widget at pairs hunks tags told bounds are put tells =
     let tagged : Document = record document { tags = tags_with document pairs } in
-    let old = characters document.cells in
-    let change = answered (with_texts kind.Insert at (map (keyed_text widget) pairs) tagged) Empty in
-    limited-foretold limits document (length (tags_with document pairs)) (length document.cells + total pairs) change told
-    (λ _. told-by document change hunks told tells
-    (characters-texts kind.Insert at widget pairs tagged
-    ∙ sym (inserting-is at (texts_of pairs) hunks old (omega (arith, within, counted document.cells)) are)))
-
--- ---- replace
+    let made : Document = with_texts kind.Insert at (map (keyed_text widget) pairs) tagged in
+    let most = bounds.chars in
+    limited-foretold limits document (length (tags_with document pairs)) (length document.cells + total pairs)
+    (answered made Empty) told
+    (λ fits. told-by document (answered made Empty) told made.cells refl (tells made.cells
+    (subst (λ hs. TellsTags tags (patched_by untagged 0 hs document.cells) made.cells)
+    (none-out at (putting at (texts_of pairs)) ∙ sym are)
+    (put (omega (arith, fits, most)) kind.Insert tagged (sym (take-append-drop at document.cells))))))
 
 -- with both offsets as they were found
 pub replacement-foretold : (limits : LimitTable) (document : Document) (widget : Widget) (from to start end : ℕ)
-    (pairs : List Pair) (hunks : List Hunk) (told : List TextChange) → start ≡ from → end ≡ to → start ≤ end
-    → end < length document.cells → hunks ≡ putting start (texts_of pairs) ++ taking_out start end
-    → Tells told (characters document.cells) (patched 0 hunks (characters document.cells))
+    (pairs : List Pair) (hunks : List Hunk) (tags : List TagChange) (told : EditTold) → AreLimits limits → start ≡ from → end ≡ to
+    → start ≤ end → length document.cells ≤ 2 ^ 60 → hunks ≡ putting start (texts_of pairs) ++ taking_out start end
+    → (length document.cells + total pairs < 2 ^ 64 → TellsPairs widget start end pairs document.cells tags)
+    → ((cells : List KeyedCell) → TellsTags tags (patched_by untagged 0 hunks document.cells) cells
+    → TellsCells document.cells cells told)
     → Foretells document (replace_span limits document widget from to pairs) told
-replacement-foretold limits document widget from to start end pairs hunks told begins ends ordered within are tells =
+replacement-foretold limits document widget from to start end pairs hunks tags told bounds begins ends ordered short are
+    put tells =
     let tagged : Document = record document { tags = tags_with document pairs } in
-    let old = characters document.cells in
     let out : Document = without_span kind.Replace start end tagged in
     let in_place : Document = with_texts kind.Replace start (map (keyed_text widget) pairs) out in
     let change = answered (replaced document widget start end pairs) Empty in
+    let most = bounds.chars in
     same-foretold document (replace_span limits document widget from to pairs)
     (replace_span limits document widget start end pairs) told
     (ap₂ (λ a b. replace_span limits document widget a b pairs) (sym begins) (sym ends))
     (limited-foretold limits document (length (tags_with document pairs))
     (length document.cells - (end - start) + total pairs) change told
-    (λ _. told-by document change hunks told tells
-    (characters-clipped widget (clipped start end (total pairs) widget.insert) in_place
-    ∙ characters-texts kind.Replace start widget pairs out
-    ∙ ap (put_all start (texts_of pairs)) (characters-span kind.Replace start end tagged)
-    ∙ sym (replacing-is start end (texts_of pairs) hunks old ordered
-    (omega (arith, within, counted document.cells)) are))))
+    (λ fits. told-by document change told in_place.cells
+    (cells-clipped widget (clipped start end (total pairs) widget.insert) in_place)
+    (tells in_place.cells (subst (λ hs. TellsTags tags (patched_by untagged 0 hs document.cells) in_place.cells)
+    (sym are) (put (omega (arith, fits, most, short)) kind.Replace out (cells-span kind.Replace start end tagged))))))
 
 -- ---- delete
 
-deletion-foretold : (document : Document) (widget : Widget) (spans runs : List Span) (hunks : List Hunk)
-    (told : List TextChange)
-    → runs ≡ deleted_runs document widget spans → AreApart (length (characters document.cells)) runs
-    → hunks ≡ taking runs → Tells told (characters document.cells) (patched 0 hunks (characters document.cells))
+-- what is told where spans are taken out, of which the last comes first, and the character at an offset behind them
+-- loses its keys
+abbrev pub TellsBare : ℕ → List Span → List KeyedCell → List TagChange → Type 0
+TellsBare last spans cells told =
+    (kind : EditKind) (document : Document) → document.cells ≡ cells
+    → TellsTags told (patched_by untagged 0 (taking spans) cells)
+    (without_spans kind spans (with_bare last document)).cells
+
+deletion-foretold : (document : Document) (widget : Widget) (spans runs : List Span) (hunks : List Hunk) (takes : Bool)
+    (tags : List TagChange) (told : EditTold) → runs ≡ deleted_runs document widget spans → AreApart (length document.cells) runs
+    → hunks ≡ taking runs → takes ≡ in_spans spans (view_end document widget - 1)
+    → (takes ≡ true → TellsBare (view_end document widget - 1) runs document.cells tags)
+    → (takes ≡ false → tags ≡ [])
+    → ((cells : List KeyedCell) → TellsTags tags (patched_by untagged 0 hunks document.cells) cells
+    → TellsCells document.cells cells told)
     → Foretells document (delete_spans document widget spans) told
-deletion-foretold document widget spans runs hunks told is apart are tells =
-    let old = characters document.cells in
-    let bared : Document = last_bare widget spans document in
-    told-by document (delete_spans document widget spans) hunks told tells
-    (characters-spans kind.Delete (deleted_runs document widget spans) bared
-    ∙ ap (removed_all (deleted_runs document widget spans)) (characters-bare widget spans document)
-    ∙ ap (λ rs. removed_all rs old) (sym is)
-    ∙ sym (taking-is (length old) runs old apart (omega arith)) ∙ ap (λ hs. patched 0 hs old) (sym are))
+deletion-foretold document widget spans runs hunks takes tags told is apart are takes_is bared plain tells =
+    let last = view_end document widget - 1 in
+    let gone : Bool → Document = λ b.
+    without_spans kind.Delete runs (if b then with_bare last document else document) in
+    let made : (delete_spans document widget spans).document.cells ≡ (gone takes).cells =
+    ap (λ rs. (without_spans kind.Delete rs (last_bare widget spans document)).cells) (sym is)
+    ∙ ap (λ b. (gone b).cells) (sym takes_is) in
+    told-by document (delete_spans document widget spans) told (gone takes).cells made (tells (gone takes).cells
+    (subst (λ hs. TellsTags tags (patched_by untagged 0 hs document.cells) (gone takes).cells) (sym are)
+    (elim takes as (λ b. takes ≡ b
+    → TellsTags tags (patched_by untagged 0 (taking runs) document.cells) (gone b).cells) [
+      | true ↦ λ takes_it. bared takes_it kind.Delete document refl
+      | false ↦ λ leaves_it. subst (λ ts. TellsTags ts (patched_by untagged 0 (taking runs) document.cells)
+          (gone false).cells) (sym (plain leaves_it))
+          (cells-spans kind.Delete runs document
+          ∙ sym (taking-is untagged (length document.cells) runs document.cells refl apart (omega arith)))
+    ] refl)))
 
 -- of a document as it is kept, where the view's bounds, the spans and the runs were found
 pub deletion-told : (parts : Parts) (document : Document) (place slot start end : ℕ) (places : List ℕ)
-    (spans runs : List Span) (hunks : List Hunk) (told : List TextChange) → Stands parts document
+    (spans runs : List Span) (hunks : List Hunk) (takes : Bool) (tags : List TagChange) (told : EditTold) → Stands parts document
     → Sits parts document place slot → start ≡ start_in parts slot → end ≡ end_in parts slot
     → spans ≡ spans_shown document (widget_at document place) places
     → runs ≡ runs_below (length parts.content.cells) (delete_set (model.characters parts.content.cells) start end
     (in_spans spans))
-    → AreApart (length parts.content.cells) runs → hunks ≡ taking runs
-    → Tells told (model.characters parts.content.cells) (patched 0 hunks (model.characters parts.content.cells))
+    → AreApart (length parts.content.cells) runs → hunks ≡ taking runs → takes ≡ in_spans spans (end - 1)
+    → (takes ≡ true → TellsBare (end - 1) runs document.cells tags) → (takes ≡ false → tags ≡ [])
+    → ((cells : List KeyedCell) → TellsTags tags (patched_by untagged 0 hunks document.cells) cells
+    → TellsCells document.cells cells told)
     → Foretells document (delete_places document (widget_at document place) places) told
-deletion-told parts document place slot start end places spans runs hunks told stands sits begins ends shows is apart
-    are tells =
+deletion-told parts document place slot start end places spans runs hunks takes tags told stands sits begins ends shows
+    is apart are takes_is bared plain tells =
     let widget : Widget = widget_at document place in
     let shown_spans : List Span = spans_shown document widget places in
     let long = cells-kept parts document stands.is in
@@ -329,16 +277,180 @@ deletion-told parts document place slot start end places spans runs hunks told s
     let runs_are : runs ≡ deleted_runs document widget shown_spans =
     is
     ∙ (λ i. runs_below (sym long i) (delete_set (sym text_is i) (start_is i) (end_is i) (in_spans (shows i)))) in
-    deletion-foretold document widget shown_spans runs hunks told runs_are
-    (subst (λ n. AreApart n runs) (sym (counted document.cells ∙ long)) apart) are
-    (tells-kept parts document hunks told stands tells)
+    deletion-foretold document widget shown_spans runs hunks takes tags told runs_are
+    (subst (λ n. AreApart n runs) (sym long) apart) are
+    (takes_is ∙ ap₂ (λ ss n. in_spans ss (n - 1)) shows end_is)
+    (subst (λ n. takes ≡ true → TellsBare (n - 1) runs document.cells tags) end_is bared) plain tells
+
+-- ---- a character that loses its tags
+
+abbrev pub gone_in : List Span → ℕ
+gone_in spans = sum_by (λ (span : Span). span.to - span.from) spans
+
+-- spans of the front of a list
+removed-front : {A : Type 0} (spans : List Span) (border : ℕ) (front rest : List A) → AreApart border spans
+    → border ≤ length front + 1
+    → (removed_all spans (front ++ rest) ≡ removed_all spans front ++ rest)
+    × (length (removed_all spans front) + gone_in spans ≡ length front)
+removed-front [] border front rest apart below = (refl, omega arith)
+removed-front (span ∷ spans) border front rest apart below =
+    let some = apart.0 in
+    let within = apart.1 in
+    let ordered : span.from ≤ span.to = omega (arith, some) in
+    let inside : span.to ≤ length front = omega (arith, within, below) in
+    let long = length-removed span.from span.to front ordered inside in
+    let others = removed-front spans span.from (removed span.from span.to front) rest apart.2
+    (omega (arith, long, inside, ordered)) in
+    let left = others.1 in
+    let counted = sum_by-cons (λ (s : Span). s.to - s.from) span spans in (
+      ap (removed_all spans) (removed-append_left span.from span.to front rest ordered inside) ∙ others.0,
+      omega (arith, left, long, counted, ordered),
+    )
+
+pub bared-told : (last at : ℕ) (spans : List Span) (cells : List KeyedCell) (keys : List Key) (told : List TagChange)
+    → last < length cells → AreApart (last + 1) spans → at ≡ last - gone_in spans
+    → AreKeysOf (keys_at cells last) keys → told ≡ run_changes at (at + 1) false keys → TellsBare last spans cells told
+bared-told last at spans cells keys told within apart at_is are told_is = λ kind document same.
+    let cell : KeyedCell = get_or cells last no_cell in
+    let front = take last cells in
+    let rest = drop (last + 1) cells in
+    let long : length front ≡ last = length-take-le last cells (omega (arith, within)) in
+    let split : cells ≡ front ++ cell ∷ rest =
+    sym (take-append-drop last cells) ∙ ap (λ xs. front ++ xs) (drop_more cells last no_cell within) in
+    let low = removed-front spans (last + 1) front (cell ∷ rest) apart (omega (arith, long)) in
+    let bared = removed-front spans (last + 1) front (bare cell ∷ rest) apart (omega (arith, long)) in
+    let made = removed_all spans front in
+    let counts = low.1 in
+    let there : length made ≡ at = omega (arith, counts, long, at_is) in
+    let old : patched_by untagged 0 (taking spans) cells ≡ made ++ cell ∷ rest =
+    taking-is untagged (last + 1) spans cells refl apart (omega (arith, within))
+    ∙ ap (removed_all spans) split ∙ low.0 in
+    let one : changed bare last (last + 1) cells ≡ front ++ bare cell ∷ rest =
+    ap (λ xs. front ++ map bare xs ++ rest) (part-one last cells within)
+    ∙ append_assoc front (bare cell ∷ []) rest in
+    let new : (without_spans kind spans (with_bare last document)).cells ≡ made ++ bare cell ∷ rest =
+    cells-spans kind spans (with_bare last document)
+    ∙ ap (λ cs. removed_all spans (changed bare last (last + 1) cs)) same ∙ ap (removed_all spans) one ∙ bared.0 in
+    subst (λ ts. TellsTags ts (patched_by untagged 0 (taking spans) cells)
+    (without_spans kind spans (with_bare last document)).cells) (sym told_is)
+    (subst (λ cs. TellsTags (run_changes at (at + 1) false keys) cs
+    (without_spans kind spans (with_bare last document)).cells) (sym old)
+    (subst (TellsTags (run_changes at (at + 1) false keys) (made ++ cell ∷ rest)) (sym new)
+    (subst (λ n. TellsTags (run_changes n (n + 1) false keys) (made ++ cell ∷ rest) (made ++ bare cell ∷ rest)) there
+    (tells-bare cell keys made rest are))))
+  where
+    part-one : (at : ℕ) (cells : List KeyedCell) → at < length cells
+        → slice_range cells at (at + 1) ≡ get_or cells at no_cell ∷ []
+    part-one at cells within =
+        ap (λ n. take n (drop at cells)) (let e : at + 1 - at ≡ 1 = omega arith in e)
+        ∙ ap (take 1) (drop_more cells at no_cell within)
 
 -- ---- undo and redo
 
--- a refusal
-refused-foretold : (document : Document) (fault : Fault) (told : List TextChange) →
-    Foretells document (refused document fault) told
-refused-foretold document fault told = λ ok. absurd (false≢true ok)
+-- of a document as it is kept
+module _ (seats : List Named) (table : Tags) (seated : AreSeats seats) (sound : AreTags table) where
+  abbrev ps : List (ℕ × Key)
+  ps = key_pairs seats table.tags
+
+  put-again : (limit at : ℕ) (text found : List ℕ) (state : State) (document : Document)
+      → document.cells ≡ keyed ps state.content.cells → put_in limit at text (model.characters state.content.cells) ≡ Some found
+      → (text_back at text document).cells ≡ keyed ps (put_back at text state).content.cells
+  put-again limit at text found state document kept is =
+      let cells = state.content.cells in
+      let inside : at < length cells =
+      let parts = and_parts (nat_lt at (length (model.characters cells)))
+      (nat_le (length (model.characters cells) + length text) limit)
+      (guarded-holds (nat_lt at (length (model.characters cells))
+      && nat_le (length (model.characters cells) + length text) limit) (inserted at text (model.characters cells)) found is)
+      in let less = ltb-true at (length (model.characters cells)) parts.0 in
+      omega (arith, less, length-characters cells) in
+      ap (λ cs. inserted at (map (λ character. record { character = character; keys = keys_between cs at }) text) cs) kept
+      ∙ ap (λ keys. inserted at (map (λ character. record { character = character; keys = keys }) text) (keyed ps cells))
+      (sym (keyed-shared seats table seated sound at cells inside))
+      ∙ sym (keyed-inserted ps at text (shared_slots at cells) cells)
+
+  action-cells : (limit : ℕ) (action : Action) (found : List ℕ) (state : State) (document : Document)
+      → document.cells ≡ keyed ps state.content.cells
+      → repeated limit action (model.characters state.content.cells) ≡ Some found
+      → (action_again action document).cells ≡ keyed ps (action_redone action state).content.cells
+  action-cells limit action found state document kept is =
+      let text = model.characters state.content.cells in
+      let to = action.at + length action.text in
+      elim action.inserts as (λ b. (if b then put_in limit action.at action.text text
+      else take_out action.at action.text text) ≡ Some found
+      → (if b then text_back action.at action.text document else without_cells action.at to document).cells
+      ≡ keyed ps (if b then put_back action.at action.text state else taken_back action.at to state).content.cells) [
+        | true ↦ λ goes. put-again limit action.at action.text found state document kept goes
+        | false ↦ λ _. ap (removed action.at to) kept ∙ sym (keyed-removed ps action.at to state.content.cells)
+      ] is
+
+  group-cells : (limit : ℕ) (actions : List Action) (found : List ℕ) (state : State) (document : Document)
+      → document.cells ≡ keyed ps state.content.cells
+      → repeated_group limit actions (model.characters state.content.cells) ≡ Some found
+      → (group_again actions document).cells ≡ keyed ps (group_redone actions state).content.cells
+  group-cells limit [] found state document kept is = kept
+  group-cells limit (action ∷ actions) found state document kept is =
+      option_and_then_some (repeated_group limit actions) (repeated limit action (model.characters state.content.cells))
+      found is (λ between one others.
+      group-cells limit actions found (action_redone action state) (action_again action document)
+      (action-cells limit action between state document kept one)
+      (ap (repeated_group limit actions) (redone-text limit action between state one) ∙ others))
+
+  untagged-kept : (text : List ℕ) → map (keyed_cell ps) (bare_cells text) ≡ untagged text
+  untagged-kept text =
+      map-map (keyed_cell ps) (λ character. record { character = character; tags = set.empty }) text
+      ∙ ap (λ keys. map (λ character. record { character = character; keys = keys }) text) (keys_of-empty ps)
+
+  -- what is told of the slots of what comes back
+  pub reversal-tells : (limit : ℕ) (actions : List Action) (state : State) (document : Document)
+      (hunks : List Hunk) (runs : List SlotRun) (told : List TagChange) → document.cells ≡ keyed ps state.content.cells
+      → IsSome (repeated_group limit actions (model.characters state.content.cells))
+      → AreBareRuns 0 runs (patched_by bare_cells 0 hunks state.content.cells)
+      → (group_redone actions state).content.cells ≡ slotted runs (patched_by bare_cells 0 hunks state.content.cells)
+      → told ≡ slot_changes ps runs
+      → TellsTags told (patched_by untagged 0 hunks document.cells) (group_again actions document).cells
+  reversal-tells limit actions state document hunks runs told kept fits bare made told_is =
+      let between = patched_by bare_cells 0 hunks state.content.cells in
+      let old : keyed ps between ≡ patched_by untagged 0 hunks document.cells =
+      map-patched (keyed_cell ps) bare_cells untagged untagged-kept 0 hunks state.content.cells
+      ∙ ap (patched_by untagged 0 hunks) (sym kept) in
+      let new : keyed ps (slotted runs between) ≡ (group_again actions document).cells =
+      ap (keyed ps) (sym made)
+      ∙ sym (by (repeated_group limit actions (model.characters state.content.cells)) refl fits) in
+      subst (λ ts. TellsTags ts (patched_by untagged 0 hunks document.cells) (group_again actions document).cells)
+      (sym told_is)
+      (subst (λ cs. TellsTags (slot_changes ps runs) cs (group_again actions document).cells) old
+      (subst (TellsTags (slot_changes ps runs) (keyed ps between)) new
+      (tells-slot-runs seats table seated sound 0 runs between bare)))
+    where
+      by : (found : Option (List ℕ)) → repeated_group limit actions (model.characters state.content.cells) ≡ found
+          → IsSome found
+          → (group_again actions document).cells ≡ keyed ps (group_redone actions state).content.cells
+      by None is some = absurd (false≢true some)
+      by (Some text) is some = group-cells limit actions text state document kept is
+
+-- the actions of a group that are reverted, the last first
+again-append : (actions others : List Action) (document : Document)
+    → group_again (actions ++ others) document ≡ group_again others (group_again actions document)
+again-append [] others document = refl
+again-append (action ∷ actions) others document = again-append actions others (action_again action document)
+
+flipped-again : (action : Action) (document : Document)
+    → action_again (replayed true action) document ≡ action_back action document
+flipped-again action document =
+    elim action.inserts as (λ b. (if not b then text_back action.at action.text document
+    else without_cells action.at (action.at + length action.text) document)
+    ≡ (if b then without_cells action.at (action.at + length action.text) document
+    else text_back action.at action.text document)) [ true ↦ refl | false ↦ refl ]
+
+pub again-back : (group : List Action) (document : Document)
+    → group_again (replays true group) document ≡ group_back group document
+again-back [] document = refl
+again-back (action ∷ actions) document =
+    ap (λ all. group_again all document) (back-cons action actions)
+    ∙ again-append (replays true actions) (replayed true action ∷ []) document
+    ∙ flipped-again action (group_again (replays true actions) document)
+    ∙ ap (action_back action) (again-back actions document)
 
 -- there is a group, or none
 undo-as : (document : Document) (widget : Widget) (found : Option (List Action)) → document.undo ≡ true →
@@ -355,58 +467,42 @@ redo-as document widget found on is =
     ap (λ b. if b then redo_found document widget (next_redo document.history) else answered document Empty) on
     ∙ ap (redo_found document widget) is
 
-pub undo-none : (document : Document) (widget : Widget) (told : List TextChange) → document.undo ≡ true →
+-- there is no group, which is a refusal
+pub undo-none : (document : Document) (widget : Widget) (told : EditTold) → document.undo ≡ true →
     next_undo document.history ≡ None
     → Foretells document (edit_undo document widget) told
 undo-none document widget told on is =
     same-foretold document (edit_undo document widget) (refused document NothingToUndo) told
-    (undo-as document widget None on is)
-    (refused-foretold document NothingToUndo told)
+    (undo-as document widget None on is) (λ ok. absurd (false≢true ok))
 
-pub redo-none : (document : Document) (widget : Widget) (told : List TextChange) → document.undo ≡ true →
+pub redo-none : (document : Document) (widget : Widget) (told : EditTold) → document.undo ≡ true →
     next_redo document.history ≡ None
     → Foretells document (edit_redo document widget) told
 redo-none document widget told on is =
     same-foretold document (edit_redo document widget) (refused document NothingToRedo) told
-    (redo-as document widget None on is)
-    (refused-foretold document NothingToRedo told)
+    (redo-as document widget None on is) (λ ok. absurd (false≢true ok))
 
-pub undo-some : (limit : ℕ) (document : Document) (widget : Widget) (group : List Action) (hunks : List Hunk)
-    (told : List TextChange)
+pub undo-some : (document : Document) (widget : Widget) (group : List Action) (told : EditTold)
     → document.undo ≡ true → next_undo document.history ≡ Some group → is_idle document widget ≡ false
-    → FitsText limit (characters document.cells) document.history
-    → Some (patched 0 hunks (characters document.cells))
-    ≡ repeated_group limit (replays true group) (characters document.cells)
-    → Tells told (characters document.cells) (patched 0 hunks (characters document.cells))
+    → TellsCells document.cells (group_again (replays true group) document).cells told
     → Foretells document (edit_undo document widget) told
-undo-some limit document widget group hunks told on is busy fits made tells =
-    let old = characters document.cells in
+undo-some document widget group told on is busy tells =
     let gone : Document = undone widget group document in
-    let found = undo-goes limit document.history old group fits is in
     same-foretold document (edit_undo document widget) (answered gone Empty) told
     (undo-as document widget (Some group) on is
     ∙ ap (λ b. answered (if b then document else gone) Empty) busy)
-    (told-by document (answered gone Empty) hunks told tells
-    (characters-end widget (undo_end group) (group_back group document)
-    ∙ all-back limit group found.0 document found.1
-    ∙ same_Some found.0 (patched 0 hunks old) (sym (made ∙ back-reverted limit group old ∙ found.1))))
+    (told-by document (answered gone Empty) told (group_again (replays true group) document).cells
+    (cells-end widget (undo_end group) (group_back group document)
+    ∙ ap (λ (d : Document). d.cells) (sym (again-back group document))) tells)
 
-pub redo-some : (limit : ℕ) (document : Document) (widget : Widget) (group : List Action) (hunks : List Hunk)
-    (told : List TextChange)
+pub redo-some : (document : Document) (widget : Widget) (group : List Action) (told : EditTold)
     → document.undo ≡ true → next_redo document.history ≡ Some group → is_idle document widget ≡ false
-    → FitsText limit (characters document.cells) document.history
-    → Some (patched 0 hunks (characters document.cells))
-    ≡ repeated_group limit (replays false group) (characters document.cells)
-    → Tells told (characters document.cells) (patched 0 hunks (characters document.cells))
+    → TellsCells document.cells (group_again (replays false group) document).cells told
     → Foretells document (edit_redo document widget) told
-redo-some limit document widget group hunks told on is busy fits made tells =
-    let old = characters document.cells in
+redo-some document widget group told on is busy tells =
     let again : Document = redone widget group document in
-    let found = redo-goes limit document.history old group fits is in
     same-foretold document (edit_redo document widget) (answered again Empty) told
     (redo-as document widget (Some group) on is
     ∙ ap (λ b. answered (if b then document else again) Empty) busy)
-    (told-by document (answered again Empty) hunks told tells
-    (characters-end widget (redo_end group) (group_again group document)
-    ∙ all-again limit group found.0 document found.1
-    ∙ same_Some found.0 (patched 0 hunks old) (sym (made ∙ found.1))))
+    (told-by document (answered again Empty) told (group_again (replays false group) document).cells
+    (cells-end widget (redo_end group) (group_again group document)) tells)

@@ -4,13 +4,13 @@ use Rattle.std.specs.FinSet as set
 use Rattle.std.specs.List.{All}
 use Rattle.text_model.specs.Splices.{changed, removed}
 use Rattle.undo_stack.specs.declared.actions.EditKind.{EditKind}
-use Rattle.edit_ops.specs.Told.{after_changes_by, patched_by, putting, taking, taking_out}
+use Rattle.edit_ops.specs.Told.{after_changes_by, patched_by, putting, taking_out}
 use Rattle.edit_ops.specs.declared.changes.TextChange.{TextChange}
 use Rattle.edit_ops.specs.declared.slot_runs.SlotRun.{SlotRun}
 use Rattle.edit_ops.specs.declared.spans.Span.{Span}
 use Rattle.command_effects.specs.Lists.{Pair}
 use Rattle.documents.specs.Documents.{Document, KeyedCell, Widget}
-use Rattle.documents.specs.Edits.{with_bare, with_key, with_tag, with_texts, without_spans}
+use Rattle.documents.specs.Edits.{with_key, with_tag, with_texts}
 use Rattle.documents.specs.Keys.{Key, Keys, keys_listed}
 use Rattle.documents.specs.Texts.{keyed_text}
 use Rattle.documents.specs.declared.tag_lists.TagChange.{TagChange}
@@ -87,11 +87,3 @@ TellsPairs widget from to pairs cells told =
     → TellsTags told
     (patched_by untagged 0 (putting from (map (λ (pair : Pair). pair.text) pairs) ++ taking_out from to) cells)
     (with_texts kind from (map (keyed_text widget) pairs) document).cells
-
--- what is told where spans are taken out, of which the last comes first, and the character at an offset behind them
--- loses its keys
-abbrev pub TellsBare : ℕ → List Span → List KeyedCell → List TagChange → Type 0
-TellsBare last spans cells told =
-    (kind : EditKind) (document : Document) → document.cells ≡ cells
-    → TellsTags told (patched_by untagged 0 (taking spans) cells)
-    (without_spans kind spans (with_bare last document)).cells

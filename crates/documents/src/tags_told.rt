@@ -1,8 +1,9 @@
 //! What commands tell of tags.
 
-ghost use Rattle.std.specs.Prelude.{◌≡◌, ◌+◌, ◌-◌, ◌<◌, ◌≤◌, ◌^◌, chars, length, option_map, sum_by, IfOk};
+ghost use Rattle.std.specs.Prelude.{◌≡◌, ◌+◌, ◌-◌, ◌<◌, ◌≤◌, ◌^◌, Some, true, false, chars, slice_get, length, option_map, sum_by, IfOk};
 ghost use Rattle.std.specs.FinSet as set;
 ghost use Rattle.std.specs.List.{All};
+ghost use Rattle.text_model.specs.Content.{slot_sets};
 ghost use Rattle.text_model.specs.LimitTable.{LimitTable};
 ghost use Rattle.text_model.specs.declared.limits.TheConstants.Limits.{MOST_WIDGETS};
 ghost use Rattle.tcl_words.specs.Unread.{texts_of};
@@ -15,10 +16,10 @@ ghost use Rattle.command_effects.specs.Tagging.{slots_named};
 ghost use Rattle.documents.specs.Documents.{widget_at};
 ghost use Rattle.documents.specs.Edits.{keys_or, with_tag};
 ghost use Rattle.documents.specs.Kept.{AreSeats};
-ghost use Rattle.documents.specs.Keys.{keys_named, keys_of, key_pairs};
+ghost use Rattle.documents.specs.Keys.{keys_listed, keys_named, keys_of, key_pairs};
 ghost use Rattle.documents.specs.Names.{key_of};
 ghost use Rattle.documents.specs.Tags.{add_spans, remove_spans, tag_delete};
-ghost use Rattle.documents.specs.TagsTold.{slot_changes, AreKeysOf, TellsBare, TellsPairs, TellsTags};
+ghost use Rattle.documents.specs.TagsTold.{run_changes, slot_changes, AreKeysOf, TellsPairs, TellsTags};
 ghost use Rattle.documents.specs.Told.{Foretells};
 ghost use Rattle.documents.specs.Views.{shown};
 
@@ -73,7 +74,7 @@ fn keys_of_pair(
 }
 
 /// How many characters stand in spans, of which the last comes first.
-fn count_in(spans: &[Span]) -> usize
+pub fn count_in(spans: &[Span]) -> usize
     requires { AreApart (2 ^ 60) spans.now }
     ensures { result ≡ sum_by (λ span. span.to - span.from) spans.now }
 {
@@ -82,6 +83,38 @@ fn count_in(spans: &[Span]) -> usize
         count += span.to - span.from;
     }
     count
+}
+
+/// What is told of tags where the character at an offset has these slots, and loses them.
+pub fn bare_tags(
+    alloc: Global,
+    seats: &NameList,
+    tags: &TagTable,
+    slots: &TagSet,
+    at: usize,
+) -> Result<TagList, AllocError>
+    requires limit { seats.now.limit ≡ MOST_WIDGETS }
+    requires within { at < usize.MAX }
+    ensures { IfOk result (λ told.
+        told ≡ run_changes at (at + 1) false (keys_listed (key_pairs seats.now.entries tags.now.tags) slots.now)) }
+{
+    let keys = keys_in(alloc, seats, tags, slots)?;
+    let mut told = TagList::new(alloc);
+    told.push_run(&keys, at, at + 1, false)?;
+    Ok(told)
+}
+
+/// The slots that the character at an offset loses, if it loses its tags.
+pub fn bared_slots<S: TextStore>(store: &S, offset: usize, is_bared: bool) -> TagSet
+    requires { offset < length (S.content store.now).cells }
+    ensures bared { is_bared ≡ true → slice_get (slot_sets (S.content store.now).cells) offset ≡ Some result }
+    ensures none { is_bared ≡ false → result ≡ set.empty }
+{
+    if is_bared {
+        store.tags_at(offset)
+    } else {
+        TagSet::empty()
+    }
 }
 
 /// What is told of tags where runs of characters get slots.
@@ -132,21 +165,6 @@ impl<S: TextStore> Document<S> {
                 at = end;
             }
         }
-        Ok(told)
-    }
-
-    /// What is told of tags where runs are taken out, of which the last comes first, and the character at an offset
-    /// behind them loses its tags.
-    pub(crate) fn bare_tags(&self, last: usize, runs: &[Span]) -> Result<TagList, AllocError>
-        requires within { last < length self.now.cells }
-        requires apart { AreApart (last + 1) runs.now }
-        ensures { IfOk result (TellsBare last runs.now self.now.cells) }
-    {
-        let slots = self.text.store.tags_at(last);
-        let keys = keys_in(self.alloc, &self.seats, &self.tags, &slots)?;
-        let at = last - count_in(runs);
-        let mut told = TagList::new(self.alloc);
-        told.push_run(&keys, at, at + 1, false)?;
         Ok(told)
     }
 }

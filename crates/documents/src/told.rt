@@ -16,7 +16,7 @@ ghost use Rattle.documents.specs.WellFormed.{IsWellFormedDocument};
 
 use crate::documents::Document;
 use crate::tag_lists::TagList;
-use crate::tags_told::run_tags;
+use crate::tags_told::{bare_tags, bared_slots, count_in, run_tags};
 use crate::views::{end_of, start_of};
 use command_effects::{Pair, spans_of};
 use edit_ops::{
@@ -91,7 +91,7 @@ impl<S: TextStore> Document<S> {
         let tags = self.pair_tags(seat, at, at, &pairs)?;
         let mut hunks = Vec::with_capacity(self.alloc, pairs.len())?;
         push_texts(&mut hunks, at, pairs)?;
-        self.tell_hunks(hunks, tags)
+        Ok(self.tell_hunks(hunks, tags)?)
     }
 
     /// What `delete_places` changes, unless it is refused.
@@ -108,13 +108,11 @@ impl<S: TextStore> Document<S> {
         let end = end_of(&self.text.anchors, slot, store.len());
         let spans = spans_of(self.alloc, start, end - start, places)?;
         let (runs, takes_last) = deleted_runs(self.alloc, store, start, end, &spans)?;
-        let tags = if takes_last {
-            self.bare_tags(end - 1, &runs)?
-        } else {
-            TagList::new(self.alloc)
-        };
+        let slots = bared_slots(store, end - 1, takes_last);
+        let at = (end - 1).saturating_sub(count_in(&runs));
+        let tags = bare_tags(self.alloc, &self.seats, &self.tags, &slots, at)?;
         let hunks = take_spans(self.alloc, runs)?;
-        self.tell_hunks(hunks, tags)
+        Ok(self.tell_hunks(hunks, tags)?)
     }
 
     /// What `replace_between` changes, unless it is refused.
@@ -140,7 +138,7 @@ impl<S: TextStore> Document<S> {
         let mut hunks = Vec::with_capacity(self.alloc, pairs.len().saturating_add(1))?;
         push_texts(&mut hunks, start, pairs)?;
         push_removal(self.alloc, &mut hunks, start, end)?;
-        self.tell_hunks(hunks, tags)
+        Ok(self.tell_hunks(hunks, tags)?)
     }
 
     /// What it tells where the actions of a group are made once more, or, back, reverted from the last.
@@ -162,7 +160,7 @@ impl<S: TextStore> Document<S> {
             limit,
         )?;
         let tags = run_tags(self.alloc, &self.seats, &self.tags, &runs)?;
-        self.tell_hunks(hunks, tags)
+        Ok(self.tell_hunks(hunks, tags)?)
     }
 
     /// What `edit_undo` changes, unless it is refused.
@@ -178,7 +176,7 @@ impl<S: TextStore> Document<S> {
         let Some(group) = self.text.history.last_undo() else {
             return Ok(nothing);
         };
-        self.tell_reversal(&group, true, limits.chars())
+        Ok(self.tell_reversal(&group, true, limits.chars())?)
     }
 
     /// What `edit_redo` changes, unless it is refused.
@@ -194,6 +192,6 @@ impl<S: TextStore> Document<S> {
         let Some(group) = self.text.history.last_redo() else {
             return Ok(nothing);
         };
-        self.tell_reversal(&group, false, limits.chars())
+        Ok(self.tell_reversal(&group, false, limits.chars())?)
     }
 }

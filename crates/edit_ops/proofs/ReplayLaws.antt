@@ -163,7 +163,7 @@ take-replayed content outline new before moved now from to line far follows move
 reverse-cons : (action : Action) (actions : List Action) → reverse (action ∷ actions) ≡ reverse actions ++ action ∷ []
 reverse-cons action actions = reverse-append (action ∷ []) actions
 
-back-cons : (action : Action) (actions : List Action) → replays true (action ∷ actions)
+pub back-cons : (action : Action) (actions : List Action) → replays true (action ∷ actions)
     ≡ replays true actions ++ replayed true action ∷ []
 back-cons action actions =
     ap (map (replayed true)) (reverse-cons action actions) ∙ map-append (replayed true) (reverse actions) (action ∷ [])

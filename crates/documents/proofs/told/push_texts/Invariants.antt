@@ -1,6 +1,6 @@
 use Rattle.std.proofs.Common.{◌≡◌, ◌++◌}
 use Rattle.edit_ops.specs.Told.{putting}
-use Rattle.documents.proofs.ToldLaws.{texts_of}
+use Rattle.documents.proofs.PairTagLaws.{texts_of}
 use Rattle.documents.proofs.told.push_texts.Given as goal
 
 abbrev pub invariant-loop-pair : goal.invariant-loop-pair
