@@ -1,7 +1,6 @@
 -- The history goes on fitting the text.
 use Rattle.std.proofs.Common.{◌≡◌, ℕ, zero, suc, ◌+◌, ◌-◌, ◌<◌, ◌≤◌, ◌==◌, ◌&&◌, Bool, true, false, inl, inr, List, []}
-use Rattle.std.proofs.Common.{◌∷◌, Option, Some, None, map, length, get_or, drop, refl, sym, ap, ap₂, ◌∙◌, arith, subst}
-use Rattle.std.proofs.Common.{length-take, length-drop}
+use Rattle.std.proofs.Common.{◌∷◌, Option, Some, None, map, length, get_or, refl, sym, ap, ap₂, ◌∙◌, arith, subst}
 use Rattle.std.specs.Prelude.{slice_range, bytes_eq, nat_lt, nat_le, min, not, ◌||◌, if◌then◌else◌, option_and_then}
 use Rattle.std.specs.FinMap as finite
 use Rattle.std.specs.List.{All}
@@ -36,6 +35,7 @@ use Rattle.edit_ops.specs.Keeping.{IsKept}
 use Rattle.edit_ops.specs.Removals.{removed_span, clipped, with_mark, replaced}
 use Rattle.edit_ops.specs.States.{State, Log, log_noted, state_of}
 use Rattle.edit_ops.specs.Tagging.{SpanFits, tagged}
+use Rattle.edit_ops.proofs.DeleteLaws.{length-slice}
 use Rattle.edit_ops.proofs.InsertLaws.{total-cons}
 use Rattle.text_cursor.proofs.AroundLaws.{characters-of, length-characters}
 use Rattle.edit_ops.proofs.RunLaws.{apart-wider, in-within}
@@ -136,10 +136,6 @@ texts-kept limit at recording kind (piece ∷ pieces) state kept within short =
 
 -- ---- spans that are taken out
 
-slice-length : (from to : ℕ) (xs : List ℕ) → from ≤ to → to ≤ length xs → length (slice_range xs from to) ≡ to - from
-slice-length from to xs ordered within =
-    length-take (to - from) (drop from xs) ∙ (let h = length-drop from xs in omega (arith, h))
-
 take-made : (limit from to : ℕ) (content : Content) → from ≤ to → to < length content.cells
     → repeated limit (record { inserts = false; at = from; text = slice_range (characters content.cells) from to })
     (characters content.cells) ≡ Some (characters (after_removal from to content).cells)
@@ -147,7 +143,7 @@ take-made limit from to content ordered within =
     let text = characters content.cells in
     let long = length-characters content.cells in
     let taken = slice_range text from to in
-    let counted = slice-length from to text ordered (omega (arith, long, within)) in
+    let counted = length-slice from to text ordered (omega (arith, long, within)) in
     let end : from + length taken ≡ to = omega (arith, counted, ordered) in
     ap (λ n. if nat_lt n (length text) && bytes_eq (slice_range text from n) taken then Some (removed from n text)
     else None) end
