@@ -77,8 +77,9 @@ fn push_tags(
         (keys.new.items ≡ keys.old.items ++ keys_listed (map tag_pair (filter is_shared tags.now.tags)) slots.now) }
 {
     for place in 0..tags.len() {
-        if !is_word(tags.name(place), "sel") && slots.has(tags.slot(place)) {
-            keys.push(Key::new(alloc, false, tags.name(place))?)?;
+        let name = tags.name(place);
+        if !is_word(name, "sel") && slots.has(tags.slot(place)) {
+            keys.push(Key::new(alloc, false, name)?)?;
         }
     }
     Ok(())
