@@ -111,8 +111,9 @@ pub fn keys_named(alloc: Global, widget: &str, names: &[String]) -> Result<Vec<K
     let mut seen = BTreeSet::new(alloc);
     let mut keys = Vec::new(alloc);
     for name in names {
-        if seen.insert(String::from_str(alloc, name.as_str())?)? {
-            keys.push(Key::named(alloc, widget, name.as_str())?)?;
+        let name = name.as_str();
+        if seen.insert(String::from_str(alloc, name)?)? {
+            keys.push(Key::named(alloc, widget, name)?)?;
         }
     }
     Ok(keys)
