@@ -9,6 +9,7 @@ pub mod IndexPlaceLaws
 pub mod InsertionLaws
 pub mod JournalLaws
 pub mod KeyLaws
+pub mod KeyListLaws
 pub mod KeyedLaws
 pub mod KnownLaws
 pub mod LeadLaws

@@ -219,7 +219,7 @@ set-listed (pair ∷ pairs) slots =
 abbrev keys_in : List (ℕ × Key) → List Key
 keys_in pairs = map (λ (pair : ℕ × Key). pair.1) pairs
 
-both-false : (a b : Bool) → (a || b) ≡ false → (a ≡ false) × (b ≡ false)
+pub both-false : (a b : Bool) → (a || b) ≡ false → (a ≡ false) × (b ≡ false)
 both-false true b none = absurd (true≢false none)
 both-false false b none = (refl, none)
 

@@ -77,8 +77,9 @@ fn push_tags(
         (keys.new.items ≡ keys.old.items ++ keys_listed (map tag_pair (filter is_shared tags.now.tags)) slots.now) }
 {
     for place in 0..tags.len() {
-        if !is_word(tags.name(place), "sel") && slots.has(tags.slot(place)) {
-            keys.push(Key::new(alloc, false, tags.name(place))?)?;
+        let name = tags.name(place);
+        if !is_word(name, "sel") && slots.has(tags.slot(place)) {
+            keys.push(Key::new(alloc, false, name)?)?;
         }
     }
     Ok(())
@@ -110,8 +111,9 @@ pub fn keys_named(alloc: Global, widget: &str, names: &[String]) -> Result<Vec<K
     let mut seen = BTreeSet::new(alloc);
     let mut keys = Vec::new(alloc);
     for name in names {
-        if seen.insert(String::from_str(alloc, name.as_str())?)? {
-            keys.push(Key::named(alloc, widget, name.as_str())?)?;
+        let name = name.as_str();
+        if seen.insert(String::from_str(alloc, name)?)? {
+            keys.push(Key::named(alloc, widget, name)?)?;
         }
     }
     Ok(keys)

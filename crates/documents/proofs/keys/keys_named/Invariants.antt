@@ -1,0 +1,13 @@
+use Rattle.std.proofs.Common.{◌≡◌, ℕ, List, chars, take}
+use Rattle.std.specs.BTreeSet.{contains_text}
+use Rattle.tcl_words.specs.Unread.{texts_of}
+use Rattle.documents.specs.Keys.{keys_named}
+use Rattle.documents.specs.TagsTold.{AreKeysOf}
+use Rattle.documents.proofs.KeyListLaws.{is_spelled}
+use Rattle.documents.proofs.keys.keys_named.Given as goal
+
+abbrev pub invariant-loop-name : goal.invariant-loop-name
+invariant-loop-name l = record {
+  seen : (q : List ℕ) → contains_text l.seen q ≡ is_spelled q (take l.name-index l.names);
+  keys : AreKeysOf (keys_named (chars l.widget) (texts_of (take l.name-index l.names))) l.keys.items;
+}

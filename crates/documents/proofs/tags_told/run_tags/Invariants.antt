@@ -1,0 +1,7 @@
+use Rattle.std.proofs.Common.{◌≡◌, take}
+use Rattle.documents.specs.Keys.{key_pairs}
+use Rattle.documents.specs.TagsTold.{slot_changes}
+use Rattle.documents.proofs.tags_told.run_tags.Given as goal
+
+abbrev pub invariant-loop-run : goal.invariant-loop-run
+invariant-loop-run l = l.told ≡ slot_changes (key_pairs l.seats.entries l.tags.tags) (take l.run-index l.runs)
