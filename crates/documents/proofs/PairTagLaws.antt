@@ -429,7 +429,7 @@ module _ (seats : List Named) (table : Tags) (seated : AreSeats seats) (sound : 
 
 -- ---- before the first text
 
-keys-kept : (ps : List (ℕ × Key)) (cells : List Cell) (at : ℕ) → at < length cells
+pub keys-kept : (ps : List (ℕ × Key)) (cells : List Cell) (at : ℕ) → at < length cells
     → keys_at (keyed ps cells) at ≡ keys_of ps (get_or (slot_sets cells) at set.empty)
 keys-kept ps [] at within = absurd (omega (arith, within))
 keys-kept ps (cell ∷ cells) zero within = refl

@@ -1,13 +1,15 @@
 -- What is told of a command beforehand is what it makes of the text and of its tags.
 use Rattle.std.proofs.Common.{◌≡◌, ℕ, ◌+◌, ◌-◌, ◌<◌, ◌≤◌, ◌^◌, ◌==◌, ◌&&◌, not, true, false, List, [], ◌∷◌, Option, Some, None}
 use Rattle.std.proofs.Common.{map, length, take, drop, get_or, refl, sym, ap, ap₂, ◌∙◌, arith, subst, append_assoc, ◌++◌}
-use Rattle.std.proofs.Common.{Bool, IsSome, append-nil, nat_le, nat_lt, slice_range, sum_by, if◌then◌else◌}
+use Rattle.std.proofs.Common.{Bool, IsSome, append-nil, slice_get, nat_le, nat_lt, slice_range, sum_by, if◌then◌else◌}
 use Rattle.std.specs.FinSet as set
 use Rattle.std.proofs.lemmas.Bool.{and_parts, eqb-true, false≢true, ltb-false, ltb-true}
 use Rattle.std.proofs.lemmas.List.{drop_more, length-take-le, map-append, take-append-drop}
 use Rattle.std.proofs.lemmas.List.Sums.{sum_by-cons}
-use Rattle.std.proofs.lemmas.Option.{option_and_then_some}
+use Rattle.std.proofs.lemmas.Option.{get_or_from_slice_get, option_and_then_some}
 use Rattle.text_model.specs.Content as model
+use Rattle.text_model.specs.Content.{slot_sets}
+use Rattle.text_model.specs.declared.cells.Cell.{Cell}
 use Rattle.text_model.specs.LimitTable.{AreLimits, LimitTable}
 use Rattle.text_model.specs.Splices.{changed, inserted, removed}
 use Rattle.text_model.specs.declared.places.Place.{Place}
@@ -47,7 +49,7 @@ use Rattle.documents.specs.Edits.{without_spans}
 use Rattle.documents.specs.History.{action_again, action_back, edit_redo, edit_undo, group_again, group_back}
 use Rattle.documents.specs.History.{redo_found, redone, text_back, undo_found, undone, with_end}
 use Rattle.documents.specs.Kept.{AreSeats, Stands}
-use Rattle.documents.specs.Keys.{Key, key_pairs, keyed}
+use Rattle.documents.specs.Keys.{Key, key_pairs, keyed, keys_listed, keys_of}
 use Rattle.documents.specs.Promise.{Change, answered, refused}
 use Rattle.documents.specs.Ranges.{spans_shown}
 use Rattle.documents.specs.TagsTold.{AreKeysOf, TellsPairs, TellsTags, after_changes, run_changes}
@@ -58,10 +60,11 @@ use Rattle.documents.specs.Views.{is_idle, view_end, view_start}
 use Rattle.documents.specs.declared.tag_lists.TagChange.{TagChange}
 use Rattle.documents.specs.declared.told.EditTold.{EditTold}
 use Rattle.documents.proofs.BridgeLaws.{keys_of-empty}
+use Rattle.documents.proofs.KeyListLaws.{listed-none}
 use Rattle.documents.proofs.KeyedLaws.{keyed-inserted, keyed-removed, keyed-shared, keyed_cell}
-use Rattle.documents.proofs.PairTagLaws.{keys_at, no_cell, texts_of}
-use Rattle.documents.proofs.PartsLaws.{Sits, cells-kept, characters-kept}
-use Rattle.documents.proofs.TagsToldLaws.{tells-bare, tells-slot-runs, told-characters}
+use Rattle.documents.proofs.PairTagLaws.{keys-kept, keys_at, no_cell, texts_of}
+use Rattle.documents.proofs.PartsLaws.{Sits, cells-kept, characters-kept, length-keyed}
+use Rattle.documents.proofs.TagsToldLaws.{keys-listed, tells-bare, tells-slot-runs, told-characters}
 use Rattle.documents.proofs.ViewLaws.{end-is, end_in, start-is, start_in}
 
 -- the hunks of one pair more
@@ -344,6 +347,29 @@ bared-told last at spans cells keys told within apart at_is are told_is = λ kin
     part-one at cells within =
         ap (λ n. take n (drop at cells)) (let e : at + 1 - at ≡ 1 = omega arith in e)
         ∙ ap (take 1) (drop_more cells at no_cell within)
+
+-- of a document as it is kept, by the slots that the character loses
+pub bared-kept : (seats : List Named) (table : Tags) (cells : List Cell) (document : Document) (last at : ℕ)
+    (spans : List Span) (slots : model.Slots) (told : List TagChange) → AreSeats seats → AreTags table
+    → document.cells ≡ keyed (key_pairs seats table.tags) cells → last < length cells → AreApart (last + 1) spans
+    → at ≡ last - gone_in spans → slice_get (slot_sets cells) last ≡ Some slots
+    → told ≡ run_changes at (at + 1) false (keys_listed (key_pairs seats table.tags) slots)
+    → TellsBare last spans document.cells told
+bared-kept seats table cells document last at spans slots told seated sound kept within apart at_is slots_are told_is =
+    let ps = key_pairs seats table.tags in
+    let own : keys_at document.cells last ≡ keys_of ps slots =
+    ap (λ cs. keys_at cs last) kept ∙ keys-kept ps cells last within
+    ∙ ap (keys_of ps) (get_or_from_slice_get (slot_sets cells) last slots set.empty slots_are) in
+    bared-told last at spans document.cells (keys_listed ps slots) told
+    (subst (λ (cs : List KeyedCell). last < length cs) (sym kept) (let long = length-keyed ps cells in
+    omega (arith, within, long))) apart at_is
+    (subst (λ ks. AreKeysOf ks (keys_listed ps slots)) (sym own) (keys-listed seats table slots seated sound)) told_is
+
+-- no character does
+pub none-bared : (pairs : List (ℕ × Key)) (at : ℕ) (slots : model.Slots) (told : List TagChange) → slots ≡ set.empty
+    → told ≡ run_changes at (at + 1) false (keys_listed pairs slots) → told ≡ []
+none-bared pairs at slots told none is =
+    is ∙ ap (run_changes at (at + 1) false) (sym (listed-none pairs slots none))
 
 -- ---- undo and redo
 
