@@ -25,6 +25,7 @@ pub mod NamesKeptLaws
 pub mod NewNameLaws
 pub mod OptionLeadLaws
 pub mod OrderLaws
+pub mod PaintLaws
 pub mod PartsLaws
 pub mod PlacedLaws
 pub mod QueryLaws
@@ -37,6 +38,7 @@ pub mod SeatedLaws
 pub mod SeenLaws
 pub mod SlotLaws
 pub mod SpanLaws
+pub mod SpanToldLaws
 pub mod StateLaws
 pub mod StillLeadLaws
 pub mod StillMarksLaws

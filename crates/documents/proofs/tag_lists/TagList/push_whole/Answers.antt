@@ -1,0 +1,1 @@
+use Rattle.documents.proofs.SpanToldLaws.{whole-none, whole-then}
