@@ -6,9 +6,10 @@ use Rattle.std.specs.Prelude.{slice_range}
 use Rattle.std.specs.FinSet as set
 use Rattle.std.specs.List.{All}
 use Rattle.std.proofs.lemmas.List.{drop-drop, drop-take, get_or-drop, get_or-map, get_or-take, length-append, length-drop}
-use Rattle.std.proofs.lemmas.List.{length-map, length-take-le, map-append, take-append-drop, take-take}
+use Rattle.std.proofs.lemmas.List.{length-map, length-take-le, map-append, take-append-drop, take-take, take_more}
 use Rattle.std.proofs.lemmas.List.Edits.{split_between}
-use Rattle.std.proofs.lemmas.List.Elements.{All-cons, All-drop, All-from_get_or, All-head, All-nil, All-tail, All-take}
+use Rattle.std.proofs.lemmas.List.Elements.{All-cons, All-drop, All-from_get_or, All-get_or, All-head, All-nil}
+use Rattle.std.proofs.lemmas.List.Elements.{All-tail, All-take}
 use Rattle.std.proofs.lemmas.List.Folds.{drop_split}
 use Rattle.std.proofs.lemmas.Option.{get_or_from_slice_get}
 use mathlib.Core.Bool.{beq}
@@ -19,7 +20,6 @@ use Rattle.text_index.proofs.FlagLaws.{next-alike}
 use Rattle.edit_ops.specs.Deletions.{AreApart}
 use Rattle.edit_ops.specs.Tagging.{SpanFits}
 use Rattle.edit_ops.specs.declared.spans.Span.{Span}
-use Rattle.command_effects.proofs.MadeLaws.{take-more}
 use Rattle.documents.specs.Documents.{KeyedCell}
 use Rattle.documents.specs.Edits.{with_key, with_tag}
 use Rattle.documents.specs.Keys.{Key}
@@ -226,30 +226,35 @@ record IsBelow (border : ℕ) (span : Span) (others : List Span) : Type 0 where
   pub below : span.to < border
   pub above : All (λ (other : Span). span.to ≤ other.from) others
 
-apart-at : (border : ℕ) (spans : List Span) (at : ℕ) (span : Span) → at < length spans → span ≡ get_or spans at span →
-    AreApart border spans → IsBelow border span (take at spans)
-apart-at border [] at span within is apart = absurd (omega (arith, within))
-apart-at border (first ∷ spans) zero span within is apart =
-    record {
-      some = subst (λ (s : Span). s.from < s.to) (sym is) apart.0;
-      below = subst (λ (s : Span). s.to < border) (sym is) apart.1;
-      above = All-nil (λ (other : Span). span.to ≤ other.from);
-    }
-apart-at border (first ∷ spans) (suc at) span within is apart =
-    let rest = apart-at first.from spans at span (omega (arith, within)) is apart.2 in
+apart-at : (border : ℕ) (spans : List Span) (at : ℕ) (d : Span) → at < length spans → AreApart border spans →
+    IsBelow border (get_or spans at d) (take at spans)
+apart-at border [] at d within apart = absurd (omega (arith, within))
+apart-at border (span ∷ spans) zero d within apart =
+    record { some = apart.0; below = apart.1; above = All-nil (λ (other : Span). span.to ≤ other.from) }
+apart-at border (first ∷ spans) (suc at) d within apart =
+    let rest = apart-at first.from spans at d (omega (arith, within)) apart.2 in
+    let to = (get_or spans at d).to in
     let some = apart.0 in let below = apart.1 in let under = rest.below in
     record {
       some = rest.some;
       below = omega (arith, some, below, under);
-      above = All-cons (λ (other : Span). span.to ≤ other.from) first (take at spans) (omega (arith, under)) rest.above;
+      above = All-cons (λ (other : Span). to ≤ other.from) first (take at spans) (omega (arith, under)) rest.above;
     }
 
-pub spans-then : (key : Key) (on : Bool) (flags : List Bool) (spans : List Span) (at : ℕ) (span : Span)
-    (told between more : List TagChange) → at < length spans → span ≡ get_or spans at span
-    → AreApart (length flags + 1) spans → TellsSpans key on flags (take at spans) told between
-    → TellsSpan key on flags span.from span.to between more → TellsSpans key on flags (take (at + 1) spans) told more
-spans-then key on flags spans at span told between more within is apart first second start cells same so_far =
-    let fit = apart-at (length flags + 1) spans at span within is apart in
+-- a span of a text
+pub apart-fits : (len : ℕ) (spans : List Span) (at : ℕ) (d : Span) → at < length spans → AreApart (len + 1) spans →
+    SpanFits len (get_or spans at d)
+apart-fits len spans at d within apart =
+    All-get_or (SpanFits len) spans at d within (apart-fit (len + 1) len spans (omega arith) apart)
+
+pub spans-then : (key : Key) (on : Bool) (flags : List Bool) (spans : List Span) (at : ℕ) (d : Span)
+    (told between more : List TagChange) → at < length spans → AreApart (length flags + 1) spans
+    → TellsSpans key on flags (take at spans) told between
+    → TellsSpan key on flags (get_or spans at d).from (get_or spans at d).to between more
+    → TellsSpans key on flags (take (at + 1) spans) told more
+spans-then key on flags spans at d told between more within apart first second start cells same so_far =
+    let span = get_or spans at d in
+    let fit = apart-at (length flags + 1) spans at d within apart in
     let some = fit.some in let below = fit.below in
     let f = with_key key on in
     let before = take at spans in
@@ -267,7 +272,7 @@ spans-then key on flags spans at span told between more within is apart first se
     ∙ map-slice_range (has_key key) span.from span.to cells ∙ ap (λ fs. slice_range fs span.from span.to) same in
     let made : changed f span.from span.to now ≡ with_tag key on (take (at + 1) spans) cells =
     ap (changed f span.from span.to) paints ∙ sym (painted-push f before span cells)
-    ∙ ap (λ xs. painted f xs cells) (sym (take-more spans at span within is))
+    ∙ ap (λ xs. painted f xs cells) (sym (take_more spans at d within))
     ∙ sym (with_tag-paints key on (take (at + 1) spans) cells) in
     subst (TellsTags more start) made
     (second start now (ap length paints ∙ painted-long f before cells fits ∙ long) still
@@ -280,16 +285,17 @@ none-set flags from to none = All-take (λ flag. flag ≡ false) (to - from) (dr
     (All-drop (λ flag. flag ≡ false) from flags none)
 
 -- a key that no character has: it is told of each span that it is put there
-pub whole-then : (key : Key) (flags : List Bool) (spans : List Span) (at : ℕ) (span : Span)
-    (told between more : List TagChange) → at < length spans → span ≡ get_or spans at span
-    → AreApart (length flags + 1) spans → All (λ flag. flag ≡ false) flags
-    → TellsSpans key true flags (take at spans) told between
-    → more ≡ between ++ record { key = key; from = span.from; to = span.to; on = true } ∷ []
+pub whole-then : (key : Key) (flags : List Bool) (spans : List Span) (at : ℕ) (d : Span)
+    (told between more : List TagChange) → at < length spans → AreApart (length flags + 1) spans
+    → All (λ flag. flag ≡ false) flags → TellsSpans key true flags (take at spans) told between
+    → (let span = get_or spans at d in
+    more ≡ between ++ record { key = key; from = span.from; to = span.to; on = true } ∷ [])
     → TellsSpans key true flags (take (at + 1) spans) told more
-whole-then key flags spans at span told between more within is apart none first made =
-    let fit = apart-at (length flags + 1) spans at span within is apart in
+whole-then key flags spans at d told between more within apart none first made =
+    let span = get_or spans at d in
+    let fit = apart-at (length flags + 1) spans at d within apart in
     let below = fit.below in
-    spans-then key true flags spans at span told between more within is apart first
+    spans-then key true flags spans at d told between more within apart first
     (subst (TellsSpan key true flags span.from span.to between) (sym made)
     (run-unlike key true flags span.from span.to between fit.some (omega (arith, below))
     (none-set flags span.from span.to none)))
