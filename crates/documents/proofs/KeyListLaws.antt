@@ -27,10 +27,10 @@ use Rattle.command_effects.proofs.WrittenLaws.{filter-append, filter-in, filter-
 use Rattle.documents.specs.Keys.{Key, Keys, is_shared, key_cmp, key_named, keys_listed, keys_named, seat_pair, tag_pair}
 use Rattle.documents.specs.TagsTold.{AreDistinct, AreKeysOf, key_set, run_changes, slot_changes}
 use Rattle.documents.specs.declared.tag_lists.TagChange.{TagChange}
-use Rattle.documents.proofs.BridgeLaws.{key_itself, key_tied, keys_same}
+use Rattle.documents.proofs.BridgeLaws.{key_itself, key_tied}
 use Rattle.documents.proofs.KeyLaws.{key_cmp_exact, key_cmp_total}
 use Rattle.documents.proofs.MarksToldLaws.{texts-more}
-use Rattle.documents.proofs.TagsToldLaws.{both-false}
+use Rattle.documents.proofs.TagsToldLaws.{both-false, set_again}
 
 -- the name `sel` as it stands in code
 pub sel-is : chars (115 ∷ 101 ∷ 108 ∷ []) ≡ sel
@@ -236,15 +236,6 @@ distinct-push (first ∷ keys) key distinct new =
       distinct-push keys key distinct.1 parts.1,
     )
 
-insert_again : (keys : Keys) (key : Key) → set.contains keys key ≡ true → set.insert keys key ≡ keys
-insert_again keys key there = keys_same (set.insert keys key) keys (λ other.
-    set.contains-insert key_cmp_total keys key other
-    ∙ elim (eq_by_cmp key_cmp other key) as (λ b. eq_by_cmp key_cmp other key ≡ b →
-    (b || set.contains keys other) ≡ set.contains keys other) [
-      | true ↦ λ same. sym (ap (set.contains keys) (key_tied other key same) ∙ there)
-      | false ↦ λ _. refl
-    ] refl)
-
 -- the keys of a word more
 module _ {Z : Type 0} (widget : List ℕ) (words : List (String Z)) (at : ℕ) (word : String Z) (bytes : List ℕ)
     (within : at < length words) (is : word ≡ get_or words at word) (spelled : bytes ≡ string_bytes word)
@@ -280,7 +271,7 @@ module _ {Z : Type 0} (widget : List ℕ) (words : List (String Z)) (at : ℕ) (
       → AreKeysOf (keys_named widget (texts_of (take (at + 1) words))) keys
   keys-out old = record {
     distinct = are.distinct;
-    all = are.all ∙ sym (keys-longer ∙ insert_again (keys_named widget (texts_of (take at words))) named
+    all = are.all ∙ sym (keys-longer ∙ set_again named true (keys_named widget (texts_of (take at words)))
         (named-any widget word (take at words) ∙ ap (λ bs. is_spelled bs (take at words)) (sym spelled) ∙ old));
   }
 

@@ -26,6 +26,7 @@ pub mod NewNameLaws
 pub mod OptionLeadLaws
 pub mod OrderLaws
 pub mod PairTagLaws
+pub mod PaintLaws
 pub mod PartsLaws
 pub mod PlacedLaws
 pub mod QueryLaws
@@ -38,6 +39,7 @@ pub mod SeatedLaws
 pub mod SeenLaws
 pub mod SlotLaws
 pub mod SpanLaws
+pub mod SpanToldLaws
 pub mod StateLaws
 pub mod StillCellLaws
 pub mod StillLeadLaws

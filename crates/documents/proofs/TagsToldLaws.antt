@@ -135,6 +135,16 @@ unlike-rest on first listed keys new unlike key there =
     ∙ ap (λ b. cond b on (set.contains keys key)) other
     ∙ unlike key (or_right (eq_by_cmp key_cmp key first) (list_any (eq_by_cmp key_cmp key) listed) there)
 
+-- keys with one of them put on that they have, or taken off that they haven't
+pub set_again : (key : Key) (on : Bool) (keys : Keys) → set.contains keys key ≡ on → set_key key on keys ≡ keys
+set_again key on keys is = keys_same (set_key key on keys) keys (λ other.
+    contains-set_key key on keys other
+    ∙ elim (eq_by_cmp key_cmp other key) as (λ b. eq_by_cmp key_cmp other key ≡ b →
+    cond b on (set.contains keys other) ≡ set.contains keys other) [
+      | true ↦ λ same. sym (ap (set.contains keys) (key_tied other key same) ∙ is)
+      | false ↦ λ _. refl
+    ] refl)
+
 -- characters with the same keys
 abbrev pub dressed : Keys → List ℕ → List KeyedCell
 dressed keys text = map (λ character. record { character = character; keys = keys }) text
@@ -309,7 +319,7 @@ keys-listed seats table slots seated sound = record {
 -- ---- runs of characters that get slots
 
 -- what stands behind a change stays as it is
-drop-changed : {A : Type 0} (f : A → A) (from to : ℕ) (xs : List A) (n : ℕ) → from ≤ to → to ≤ length xs → to ≤ n →
+pub drop-changed : {A : Type 0} (f : A → A) (from to : ℕ) (xs : List A) (n : ℕ) → from ≤ to → to ≤ length xs → to ≤ n →
     drop n (changed f from to xs) ≡ drop n xs
 drop-changed f from to xs n ordered within behind =
     let front = take from xs ++ map f (slice_range xs from to) in

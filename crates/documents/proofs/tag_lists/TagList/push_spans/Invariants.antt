@@ -1,0 +1,9 @@
+use Rattle.std.proofs.Common.{take}
+use Rattle.text_model.specs.Content.{flags}
+use Rattle.documents.specs.TagsTold.{TellsSpans}
+use Rattle.documents.proofs.tag_lists.TagList.push_spans.Given as goal
+
+abbrev pub invariant-loop-span : goal.invariant-loop-span
+invariant-loop-span g l =
+    TellsSpans l.key l.on (flags l.slot.0 (g.S.TextStore.content l.store).cells) (take l.span-index l.spans) l.fn.self
+    l.self

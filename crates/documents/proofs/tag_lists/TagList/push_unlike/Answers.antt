@@ -1,0 +1,48 @@
+use Rattle.std.proofs.Common.{◌≡◌, ◌<◌, ◌≤◌, length, arith}
+use Rattle.std.specs.FinSet as set
+use Rattle.std.proofs.lemmas.List.{length-map}
+use Rattle.text_model.specs.Changes.{next_change}
+use Rattle.text_model.specs.Content.{flags}
+use Rattle.text_model.specs.declared.cells.Cell.{Cell}
+use Rattle.documents.proofs.SpanToldLaws.{run-passed, run-told}
+use Rattle.documents.proofs.tag_lists.TagList.push_unlike.Goals as goal
+
+pub loop-at-preserved-in_ok-push : goal.loop-at-preserved-in_ok-push
+loop-at-preserved-in_ok-push g c =
+    let cells = (g.S.TextStore.content c.args.store.now).cells in
+    let slot = c.args.slot.0 in
+    let at = c.loop-at.at in
+    let to = c.args.span.to in
+    let end = c.min-end.result in
+    let next = c.next_change.ensures in
+    let some : at < end = omega (arith, c.min-end.ensures, next.above, c.loop-at-test.true) in
+    let below : end ≤ next_change (flags slot cells) at = omega (arith, c.min-end.ensures, next.value) in
+    let cut : end ≤ to = omega (arith, c.min-end.ensures) in
+    record {
+      above = omega (arith, some, c.loop-at.invariant.above);
+      below = cut;
+      told = run-told c.args.key.now c.args.on c.has_tag.result (flags slot cells) c.args.span.from at end
+          c.args.self.now c.loop-at.self c.loop-at.invariant.above some below
+          (omega (arith, cut, c.requires.within, length-map cells (λ (cell : Cell). set.contains cell.tags slot)))
+          c.has_tag.ensures c.loop-at.invariant.told c.push.new.self c.if-has_tag-on.true c.in_ok-push.ensures;
+    }
+
+pub loop-at-preserved : goal.loop-at-preserved
+loop-at-preserved g c =
+    let cells = (g.S.TextStore.content c.args.store.now).cells in
+    let slot = c.args.slot.0 in
+    let at = c.loop-at.at in
+    let to = c.args.span.to in
+    let end = c.min-end.result in
+    let next = c.next_change.ensures in
+    let some : at < end = omega (arith, c.min-end.ensures, next.above, c.loop-at-test.true) in
+    let below : end ≤ next_change (flags slot cells) at = omega (arith, c.min-end.ensures, next.value) in
+    let cut : end ≤ to = omega (arith, c.min-end.ensures) in
+    record {
+      above = omega (arith, some, c.loop-at.invariant.above);
+      below = cut;
+      told = run-passed c.args.key.now c.args.on c.has_tag.result (flags slot cells) c.args.span.from at end
+          c.args.self.now c.loop-at.self c.loop-at.invariant.above some below
+          (omega (arith, cut, c.requires.within, length-map cells (λ (cell : Cell). set.contains cell.tags slot)))
+          c.has_tag.ensures c.loop-at.invariant.told c.if-has_tag-on.false;
+    }

@@ -1,0 +1,10 @@
+use Rattle.std.proofs.Common.{◌≡◌, ◌+◌, Bool, List, length, take, false, true}
+use Rattle.std.specs.List.{All}
+use Rattle.edit_ops.specs.Deletions.{AreApart}
+use Rattle.documents.specs.TagsTold.{TellsSpans}
+use Rattle.documents.proofs.tag_lists.TagList.push_whole.Given as goal
+
+abbrev pub invariant-loop-span : goal.invariant-loop-span
+invariant-loop-span l =
+    (flags : List Bool) → AreApart (length flags + 1) l.spans → All (λ flag. flag ≡ false) flags
+    → TellsSpans l.key true flags (take l.span-index l.spans) l.fn.self l.self
