@@ -20,8 +20,7 @@ use crate::tags_told::{bare_tags, bared_slots, count_in, run_tags};
 use crate::views::{end_of, start_of};
 use command_effects::{Pair, spans_of};
 use edit_ops::{
-    ChangeList, Hunk, Reversal, deleted_runs, push_removal, push_text, reversal_of, take_spans,
-    tell,
+    ChangeList, Hunk, deleted_runs, push_removal, push_text, reversal_of, take_spans, tell,
 };
 use std::alloc::{AllocError, Global};
 use text_model::{Limits, TextStore};
@@ -152,15 +151,9 @@ impl<S: TextStore> Document<S> {
         ensures { IfOk result (λ told. TellsCells self.now.cells
             (group_again (replays back group.now) self.now).cells told) }
     {
-        let Reversal { hunks, runs } = reversal_of(
-            self.alloc,
-            &self.text.store,
-            group,
-            back,
-            limit,
-        )?;
-        let tags = run_tags(self.alloc, &self.seats, &self.tags, &runs)?;
-        Ok(self.tell_hunks(hunks, tags)?)
+        let made = reversal_of(self.alloc, &self.text.store, group, back, limit)?;
+        let tags = run_tags(self.alloc, &self.seats, &self.tags, &made.runs)?;
+        Ok(self.tell_hunks(made.hunks, tags)?)
     }
 
     /// What `edit_undo` changes, unless it is refused.

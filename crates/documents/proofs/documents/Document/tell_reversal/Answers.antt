@@ -2,12 +2,11 @@ use Rattle.std.proofs.Common.{List, [], ℕ, IsSome, ap, refl, subst, sym, ◌�
 use Rattle.undo_stack.specs.Fits.{repeated_group}
 use Rattle.edit_ops.specs.Replays.{replays}
 use Rattle.edit_ops.specs.States.{State, state_of}
-use Rattle.edit_ops.specs.Told.{patched_by}
 use Rattle.documents.specs.Documents.{Document}
 use Rattle.documents.specs.History.{group_again}
 use Rattle.documents.specs.Inside.{parts_of}
 use Rattle.documents.specs.Keys.{key_pairs}
-use Rattle.documents.specs.TagsTold.{TellsTags, slot_changes, untagged}
+use Rattle.documents.specs.TagsTold.{slot_changes}
 use Rattle.documents.proofs.PartsLaws.{characters-kept}
 use Rattle.documents.proofs.ToldLaws.{reversal-tells}
 use Rattle.documents.proofs.documents.Document.tell_reversal.Goals as goal
@@ -26,14 +25,11 @@ returns g c =
     let actions = replays c.args.back c.args.group.now in
     let state : State = state_of parts.content [] parts.journal.log in
     let ps = key_pairs parts.seats.entries parts.tags.tags in
-    let made = c.in_ok-hunks.field-0 in
-    let runs_are = ap (λ (runs : Vec). runs.items) c.in_ok-hunks.runs-is in
+    let made = c.in_ok-made.made in
     c.in_ok-tell_hunks.ensures (group_again actions document).cells
-    (subst (λ hs. TellsTags c.in_ok-tags.tags (patched_by untagged 0 hs document.cells)
-    (group_again actions document).cells) (sym (ap (λ (hunks : Vec). hunks.items) c.in_ok-hunks.hunks-is))
     (reversal-tells parts.seats.entries parts.tags kept.seats kept.tags c.args.limit actions state document
     made.hunks.items made.runs.items c.in_ok-tags.tags (ap (λ (d : Document). d.cells) (sym c.self.view_is))
     (subst (λ (text : List ℕ). IsSome (repeated_group c.args.limit actions text))
     (characters-kept parts document c.self.view_is) c.requires.fits)
-    c.in_ok-hunks.ensures.bare (c.in_ok-hunks.ensures.cells state refl)
-    (c.in_ok-tags.ensures ∙ ap (slot_changes ps) (c.deref.ensures.value ∙ runs_are))))
+    c.in_ok-made.ensures.bare (c.in_ok-made.ensures.cells state refl)
+    (c.in_ok-tags.ensures ∙ ap (slot_changes ps) c.deref.ensures.value))
