@@ -126,6 +126,25 @@ size_t tktext_told_column(tktext *handle, size_t change, size_t end);
 size_t tktext_told_bytes(tktext *handle, size_t change, size_t end);
 size_t tktext_told_units(tktext *handle, size_t change, size_t end);
 
+/* How many changes of tags the last call that tells told of: made one after the other behind the changes of the text, of
+   whose new characters none has a tag yet, they give the characters their tags.  None is idle: a tag is put on characters
+   that don't have it, and taken off those that do. */
+size_t tktext_told_tags(tktext *handle);
+
+/* Copies the name of the tag of one of them, counted from 0, as tktext_said does; no text of one that there isn't. */
+size_t tktext_told_tag(tktext *handle, size_t change, uint8_t *room, size_t size);
+
+/* Copies the name of the widget whose `sel` that tag is in the same way; no text of any other tag, which all peers
+   share. */
+size_t tktext_told_tag_widget(tktext *handle, size_t change, uint8_t *room, size_t size);
+
+/* The offsets at which it begins and ends, in characters from the start of the text; 0 of one that there isn't. */
+size_t tktext_told_tag_from(tktext *handle, size_t change);
+size_t tktext_told_tag_to(tktext *handle, size_t change);
+
+/* 1 where the tag is put on there, 0 where it is taken off, and of a change that there isn't. */
+int32_t tktext_told_tag_on(tktext *handle, size_t change);
+
 /* How many marks the last call that tells moved by an order (`mark set`, `mark unset`), so that each stands elsewhere
    now, is new, or is gone: 0 of a command that edits the text, with which marks go along untold. */
 size_t tktext_told_marks(tktext *handle);

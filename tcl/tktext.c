@@ -9,6 +9,9 @@
    a list of an offset in characters, how many characters were taken out there, what was put in, and three ends: where the
    change begins, where what was taken out ended in the text before it, and where what was put in ends in the text after
    it; an end is a list of a line, and of how many characters, bytes of UTF-8 and units of UTF-16 stand in that before it.
+   `tktext::ontags W prefix` has a command called behind each command that changes which characters have tags, with a list
+   of these changes, behind those of the text, of whose new characters none has a tag yet: each is a list of a tag, `sel`
+   only where it is W's own, of the offsets where it begins and ends, and of 1 where the tag is put on there, or 0.
    `tktext::onmarks W prefix` has a command called behind each command that moves marks by an order, as `mark set` does,
    with a list of their names, `insert` and `current` only where they are W's own.  All widgets of an
    interpreter stand in one world, which goes with it.  A refused command is an error of its text, behind which stands what that
@@ -36,7 +39,7 @@
 
 typedef struct Widget Widget;
 
-/* One world, its widgets that have a command, how many hold it: the package's three commands and each widget; and of how
+/* One world, its widgets that have a command, how many hold it: the package's five commands and each widget; and of how
    many widgets the text is followed. */
 typedef struct World {
     tktext handle;
@@ -45,8 +48,9 @@ typedef struct World {
     int followed;
 } World;
 
-/* What a widget is followed by: who hears of the changes of its text, and who of the marks that are moved there. */
-enum { CHANGES, MARKS, WAYS };
+/* What a widget is followed by: who hears of the changes of its text, who of those of tags, and who of the marks that are
+   moved there. */
+enum { CHANGES, TAGS, MARKS, WAYS };
 
 /* Whether a widget stands in the world; or it was destroyed, and its command is yet to be deleted, or is just then. */
 enum { STANDS, IS_DESTROYED, IS_DELETED };
@@ -372,6 +376,24 @@ static Tcl_Obj *change_of(World *world, size_t change)
     return Tcl_NewListObj(6, parts);
 }
 
+/* A change of a tag that was told, as a list, with the name of the widget whose `sel` it is in front, or an empty one; NULL
+   where there is no memory for it. */
+static Tcl_Obj *tag_change_of(World *world, size_t change)
+{
+    Tcl_Obj *tag = text_told(world, tktext_told_tag, change);
+    if (tag == NULL)
+        return NULL;
+    Tcl_Obj *widget = text_told(world, tktext_told_tag_widget, change);
+    if (widget == NULL) {
+        Tcl_DecrRefCount(tag);
+        return NULL;
+    }
+    Tcl_Obj *parts[] = {widget, tag, number_of(tktext_told_tag_from(&world->handle, change)),
+                        number_of(tktext_told_tag_to(&world->handle, change)),
+                        Tcl_NewIntObj(tktext_told_tag_on(&world->handle, change))};
+    return Tcl_NewListObj(5, parts);
+}
+
 /* The name of a mark that was told; NULL where there is no memory for it. */
 static Tcl_Obj *mark_of(World *world, size_t mark)
 {
@@ -408,6 +430,20 @@ static Tcl_Obj *shared_of(Tcl_Obj *marks)
         if (!is_word(all[number], "insert") && !is_word(all[number], "current"))
             Tcl_ListObjAppendElement(NULL, shared, all[number]);
     return shared;
+}
+
+/* Of changes of tags those that concern a widget, without the name in front of each. */
+static Tcl_Obj *tags_for(Tcl_Obj *tags, Widget *widget)
+{
+    int count, size;
+    Tcl_Obj **all, **parts, *own = Tcl_NewListObj(0, NULL);
+    Tcl_ListObjGetElements(NULL, tags, &count, &all);
+    for (int number = 0; number < count; number++) {
+        Tcl_ListObjGetElements(NULL, all[number], &size, &parts);
+        if (is_word(parts[0], "") || is_word(parts[0], Tcl_GetString(widget->name)))
+            Tcl_ListObjAppendElement(NULL, own, Tcl_NewListObj(size - 1, parts + 1));
+    }
+    return own;
 }
 
 /* The names of the peers of a widget, as a list in the interpreter's result. */
@@ -448,16 +484,21 @@ static void add_call(Tcl_Obj *calls, Tcl_Obj *follower, Tcl_Obj *told)
 }
 
 /* The words to be called of the widgets on the text of one, as a list, each with what it hears of behind them: all
-   changes, and the marks that are moved, of which the own ones concern the widget alone whose command it was. */
-static Tcl_Obj *calls_of(Widget *changed, Tcl_Obj *peers, Tcl_Obj *changes, Tcl_Obj *marks)
+   changes of the text, those of tags that concern it, and the marks that are moved, of which the own ones concern the
+   widget alone whose command it was.  `told` has these three lists. */
+static Tcl_Obj *calls_of(Widget *changed, Tcl_Obj *peers, Tcl_Obj *const told[])
 {
-    Tcl_Obj *calls = Tcl_NewListObj(0, NULL), *shared = shared_of(marks);
+    Tcl_Obj *calls = Tcl_NewListObj(0, NULL), *shared = shared_of(told[MARKS]);
     Tcl_IncrRefCount(shared);
     for (Widget *widget = changed->world->widgets; widget != NULL; widget = widget->next) {
         if (widget != changed && !is_listed(peers, widget->name))
             continue;
-        add_call(calls, widget->followers[CHANGES], changes);
-        add_call(calls, widget->followers[MARKS], widget == changed ? marks : shared);
+        Tcl_Obj *tags = tags_for(told[TAGS], widget);
+        Tcl_IncrRefCount(tags);
+        add_call(calls, widget->followers[CHANGES], told[CHANGES]);
+        add_call(calls, widget->followers[TAGS], tags);
+        add_call(calls, widget->followers[MARKS], widget == changed ? told[MARKS] : shared);
+        Tcl_DecrRefCount(tags);
     }
     Tcl_DecrRefCount(shared);
     return calls;
@@ -467,18 +508,21 @@ static Tcl_Obj *calls_of(Widget *changed, Tcl_Obj *peers, Tcl_Obj *changes, Tcl_
 static Tcl_Obj *calls_behind(Tcl_Interp *interp, Widget *changed)
 {
     World *world = changed->world;
-    Tcl_Obj *changes = all_told(world, tktext_told(&world->handle), change_of);
-    Tcl_Obj *marks = all_told(world, tktext_told_marks(&world->handle), mark_of), *calls = NULL;
-    if (changes != NULL)
-        Tcl_IncrRefCount(changes);
-    if (marks != NULL)
-        Tcl_IncrRefCount(marks);
-    if (changes != NULL && marks != NULL && peers_of(interp, changed) == TCL_OK)
-        calls = calls_of(changed, Tcl_GetObjResult(interp), changes, marks);
-    if (changes != NULL)
-        Tcl_DecrRefCount(changes);
-    if (marks != NULL)
-        Tcl_DecrRefCount(marks);
+    Tcl_Obj *told[] = {all_told(world, tktext_told(&world->handle), change_of),
+                       all_told(world, tktext_told_tags(&world->handle), tag_change_of),
+                       all_told(world, tktext_told_marks(&world->handle), mark_of)};
+    Tcl_Obj *calls = NULL;
+    int is_whole = 1;
+    for (int way = 0; way < WAYS; way++)
+        if (told[way] != NULL)
+            Tcl_IncrRefCount(told[way]);
+        else
+            is_whole = 0;
+    if (is_whole && peers_of(interp, changed) == TCL_OK)
+        calls = calls_of(changed, Tcl_GetObjResult(interp), told);
+    for (int way = 0; way < WAYS; way++)
+        if (told[way] != NULL)
+            Tcl_DecrRefCount(told[way]);
     return calls;
 }
 
@@ -561,7 +605,8 @@ static int run_widget(void *data, Tcl_Interp *interp, int count, Tcl_Obj *const 
         return make_widget(interp, widget->world, widget->name, count - 1, words + 1, words[3]);
     int result = give(interp, widget->world, widget->name, count - 1, words + 1, &is_done);
     tktext *handle = &widget->world->handle;
-    if (is_done && widget->world->followed > 0 && tktext_told(handle) + tktext_told_marks(handle) > 0)
+    if (is_done && widget->world->followed > 0
+        && tktext_told(handle) + tktext_told_tags(handle) + tktext_told_marks(handle) > 0)
         tell(interp, widget);
     return result;
 }
@@ -716,6 +761,11 @@ static int follow_changes(void *data, Tcl_Interp *interp, int count, Tcl_Obj *co
     return follow(data, interp, CHANGES, count, words);
 }
 
+static int follow_tags(void *data, Tcl_Interp *interp, int count, Tcl_Obj *const words[])
+{
+    return follow(data, interp, TAGS, count, words);
+}
+
 static int follow_marks(void *data, Tcl_Interp *interp, int count, Tcl_Obj *const words[])
 {
     return follow(data, interp, MARKS, count, words);
@@ -728,7 +778,7 @@ int DLLEXPORT Tktext_Init(Tcl_Interp *interp)
     World *world = malloc(sizeof *world);
     if (world == NULL)
         return fail_for_memory(interp);
-    *world = (World){TKTEXT_EMPTY, NULL, 4, 0};
+    *world = (World){TKTEXT_EMPTY, NULL, 5, 0};
     if (tktext_new_greatest(&world->handle) != TKTEXT_ANSWER) {
         free(world);
         return fail_for_memory(interp);
@@ -736,6 +786,7 @@ int DLLEXPORT Tktext_Init(Tcl_Interp *interp)
     Tcl_CreateObjCommand(interp, "tktext::text", make, world, let_go);
     Tcl_CreateObjCommand(interp, "tktext::destroy", destroy, world, let_go);
     Tcl_CreateObjCommand(interp, "tktext::onchange", follow_changes, world, let_go);
+    Tcl_CreateObjCommand(interp, "tktext::ontags", follow_tags, world, let_go);
     Tcl_CreateObjCommand(interp, "tktext::onmarks", follow_marks, world, let_go);
     return Tcl_PkgProvide(interp, "tktext", "1.0");
 }

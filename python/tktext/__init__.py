@@ -30,7 +30,7 @@ except ImportError as error:
         "`make try-lib` for an unproved one; `make python` builds it below out/python"
     ) from error
 from ._errors import TclError, error_of_fault
-from ._events import Change, Event, Spot
+from ._events import Change, Event, Spot, TagChange
 from ._values import list_text, word
 
 _core.use(word, error_of_fault, MethodType)
@@ -51,11 +51,11 @@ SEL_LAST = "sel.last"
 
 split_list = _core.split_list
 
-for _public in (Change, Event, Spot, Text, World):
+for _public in (Change, Event, Spot, TagChange, Text, World):
     # It is shown where it is taken from.
     _public.__module__ = __name__
 
 __all__ = [
-    "CURRENT", "Change", "END", "Event", "INSERT", "SEL", "SEL_FIRST", "SEL_LAST", "Spot", "TclError", "Text", "World",
-    "list_text", "split_list",
+    "CURRENT", "Change", "END", "Event", "INSERT", "SEL", "SEL_FIRST", "SEL_LAST", "Spot", "TagChange", "TclError", "Text",
+    "World", "list_text", "split_list",
 ]

@@ -600,6 +600,27 @@ static PyObject *world_told(World *world, PyObject *Py_UNUSED(nothing))
     return told;
 }
 
+/* What the last command changed of tags, where that is kept: of each change the tag, where it begins and ends, whether the
+   tag was put on there, and of a `sel` the widget's name. */
+static PyObject *world_tagged(World *world, PyObject *Py_UNUSED(nothing))
+{
+    PyObject *told = PyList_New(0);
+    size_t count = tktext_told_tags(&world->handle);
+    for (size_t at = 0; told != NULL && at < count; at++) {
+        PyObject *tag = text_of_world(world, tktext_told_tag, at);
+        PyObject *widget = tag == NULL ? NULL : text_of_world(world, tktext_told_tag_widget, at);
+        PyObject *change = widget == NULL ? NULL
+            : Py_BuildValue("OnnNO", tag, (Py_ssize_t)tktext_told_tag_from(&world->handle, at),
+                            (Py_ssize_t)tktext_told_tag_to(&world->handle, at),
+                            PyBool_FromLong(tktext_told_tag_on(&world->handle, at)), widget);
+        Py_XDECREF(tag);
+        Py_XDECREF(widget);
+        if (append(told, change) < 0)
+            Py_CLEAR(told);
+    }
+    return told;
+}
+
 /* The names of the marks that the last command moved by an order, where that is kept. */
 static PyObject *world_moved(World *world, PyObject *Py_UNUSED(nothing))
 {
@@ -625,6 +646,7 @@ static PyMethodDef world_methods[] = {
     {"_tell", (PyCFunction)world_tell, METH_O, NULL},
     {"_word", (PyCFunction)world_word, METH_NOARGS, NULL},
     {"_told", (PyCFunction)world_told, METH_NOARGS, NULL},
+    {"_tagged", (PyCFunction)world_tagged, METH_NOARGS, NULL},
     {"_moved", (PyCFunction)world_moved, METH_NOARGS, NULL},
     {NULL, NULL, 0, NULL},
 };

@@ -68,6 +68,23 @@ class Change(NamedTuple):
         return text[: self.at] + self.inserted + text[self.at + self.removed :]
 
 
+class TagChange(NamedTuple):
+    """A change of a tag: it was put on the characters from `at` to `end`, counted from 0, or taken off them (`on`).
+
+    None of them had it before, or each; `sel` is that of the widget that is told.
+    """
+
+    tag: str
+    at: int
+    end: int
+    on: bool
+
+    def made_in(self, tagged: set[int]) -> set[int]:
+        """Which characters have the tag after the change, of those that had it before."""
+        span = range(self.at, self.end)
+        return tagged.union(span) if self.on else tagged.difference(span)
+
+
 class _Bound(NamedTuple):
     name: str
     handler: Handler

@@ -8,7 +8,7 @@ from typing import Any, Callable, Mapping, Protocol, TypeVar, cast
 
 from . import _core, _options
 from ._errors import TclError, refusal
-from ._events import MODIFIED, SELECTION, Bindings, Change, Event, Handler, called
+from ._events import MODIFIED, SELECTION, Bindings, Change, Event, Handler, TagChange, called
 from ._values import list_text, number_or_text, word
 from ._world import World
 
@@ -140,6 +140,7 @@ class Text(_core.Widget):
         self._own_tags: dict[str, dict[str, str]] = {}
         self._bindings = Bindings()
         self._followers: list[Callable[[list[Change]], Any]] = []
+        self._tag_followers: list[Callable[[list[TagChange]], Any]] = []
         self._mark_followers: list[Callable[[list[str]], Any]] = []
         # None as long as nobody asks for what changed.
         self._changed: list[Change] | None = None
@@ -858,6 +859,24 @@ class Text(_core.Widget):
         """
         return self._follow(self._followers, function)
 
+    def on_tags(self, function: Callable[[list[TagChange]], Any]) -> Callable[[], None]:
+        """Has a function called behind each command that changes which characters have tags, with these changes.
+
+        They are `TagChange`s in order, behind what `on_change` tells of the same command: characters that were put in
+        have no tags at first.  Made one after the other on the old tags they give the new ones.  `sel` is the widget's
+        own.  It gives a function that ends this.
+
+        >>> text = Text()
+        >>> end = text.on_tags(print)
+        >>> text.insert("1.0", "one two", "bold"), text.insert("1.3", "-"), text.tag_remove("bold", "1.0", "end")
+        [TagChange(tag='bold', at=0, end=7, on=True)]
+        [TagChange(tag='bold', at=3, end=4, on=True)]
+        [TagChange(tag='bold', at=0, end=8, on=False)]
+        (None, None, None)
+        >>> end()
+        """
+        return self._follow(self._tag_followers, function)
+
     def on_marks(self, function: Callable[[list[str]], Any]) -> Callable[[], None]:
         """Has a function called behind each command that moves marks by an order, with the names of these.
 
@@ -882,7 +901,8 @@ class Text(_core.Widget):
     def _end_following(self, followers: list[Callable[[Any], Any]], function: Callable[[Any], Any]) -> None:
         if function in followers:
             followers.remove(function)
-        is_followed = bool(self._followers or self._mark_followers) or self._changed is not None
+        is_followed = bool(self._followers or self._tag_followers or self._mark_followers)
+        is_followed = is_followed or self._changed is not None
         self.world._follow_text(self, is_followed)
 
     def changes(self) -> list[Change]:
@@ -901,11 +921,13 @@ class Text(_core.Widget):
         self.world._follow_text(self, True)
         return changed
 
-    def _take_changes(self, changes: list[Change], marks: list[str]) -> None:
+    def _take_changes(self, changes: list[Change], tags: list[TagChange], marks: list[str]) -> None:
         if self._changed is not None:
             self._changed.extend(changes)
         for function in list(self._followers) if changes else ():
             called(function, list(changes))
+        for function in list(self._tag_followers) if tags else ():
+            called(function, list(tags))
         for function in list(self._mark_followers) if marks else ():
             called(function, list(marks))
 

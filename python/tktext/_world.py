@@ -10,7 +10,7 @@ from functools import partial
 from typing import TYPE_CHECKING, Any, Callable, Iterable, Iterator, Sequence
 
 from . import _core
-from ._events import Change, Event, Spot
+from ._events import Change, Event, Spot, TagChange
 
 if TYPE_CHECKING:
     from ._text import Text
@@ -219,20 +219,26 @@ class World(_core.World):
         self._last_line = None
         if self._followed:
             changes = [Change(*change[:3], *map(Spot._make, change[3:])) for change in self._told()]
-            marks = self._moved()
-            if changes or marks:
-                self._tell_peers(self._word(), changes, marks)
+            tags, marks = self._tagged(), self._moved()
+            if changes or tags or marks:
+                self._tell_peers(self._word(), changes, tags, marks)
         for text in self._watched:
             self._events.extend(partial(text._bindings.send, event) for event in text._news())
         self._send()
 
-    def _tell_peers(self, name: str, changes: list[Change], marks: list[str]) -> None:
-        """Tells the widgets on the text that the one of a name shows what changed of it, and which marks were moved."""
+    def _tell_peers(
+        self, name: str, changes: list[Change], tags: list[tuple[str, int, int, bool, str]], marks: list[str]
+    ) -> None:
+        """Tells the widgets on the text that the one of a name shows what changed of it, and which marks were moved.
+
+        Each hears of its own `sel` alone, and of its own marks.
+        """
         shown = _core.split_list(self._run((name, "peer", "names")))
         for text in self._followed:
             if text._name == name or text._name in shown:
+                own = [TagChange(*change) for *change, widget in tags if widget in ("", text._name)]
                 shared = marks if text._name == name else [mark for mark in marks if mark not in _OWN_MARKS]
-                self._events.append(partial(text._take_changes, changes, shared))
+                self._events.append(partial(text._take_changes, changes, own, shared))
 
     def _send(self) -> None:
         if self._is_sending:
