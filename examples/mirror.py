@@ -1,10 +1,10 @@
 #!/usr/bin/env python3
-"""Copies of a text that follow it by its changes alone: a plain string, and a text of another world.
+"""Copies of a text that follow it by its changes alone: a plain string, and a text of another world with its tags.
 
     python3 examples/mirror.py        where the package is installed by `pip install .`
 """
 
-from tktext import Change, Text
+from tktext import Change, TagChange, Text
 
 
 class Mirror:
@@ -14,7 +14,14 @@ class Mirror:
         self.string = text.get("1.0", "end")
         self.copy = Text()
         self.copy.insert("1.0", self.string[:-1])
-        self.stop = text.on_change(self.follow)
+        for tag in text.tag_names():
+            for start, end in ranges_of(text, tag):
+                self.copy.tag_add(tag, start, end)
+        self.stops = [text.on_change(self.follow), text.on_tags(self.follow_tags)]
+
+    def stop(self) -> None:
+        for stop in self.stops:
+            stop()
 
     def follow(self, changes: "list[Change]") -> None:
         for change in changes:
@@ -26,7 +33,19 @@ class Mirror:
         if change.removed:
             self.copy.delete(str(change.start), str(change.old_end))
         if change.inserted:
-            self.copy.insert(str(change.start), change.inserted)
+            # With an empty list, since what is put in has no tags until these are told.
+            self.copy.insert(str(change.start), change.inserted, "")
+
+    def follow_tags(self, changes: "list[TagChange]") -> None:
+        for change in changes:
+            put = self.copy.tag_add if change.on else self.copy.tag_remove
+            put(change.tag, f"1.0 + {change.at} chars", f"1.0 + {change.end} chars")
+
+
+def ranges_of(text: Text, tag: str) -> "list[tuple[str, str]]":
+    """Where the ranges of a tag begin and end."""
+    places = [str(place) for place in text.tag_ranges(tag)]
+    return list(zip(places[::2], places[1::2]))
 
 
 if __name__ == "__main__":
@@ -37,4 +56,7 @@ if __name__ == "__main__":
     peer.replace("1.0", "1.end", "2")
     text.edit_undo()
     peer.delete("2.0", "2.2")
+    peer.tag_add("bold", "1.0", "end")
+    text.insert("2.1", "-")
     print(repr(mirror.string), mirror.copy.get("1.0", "end") == text.get("1.0", "end"))
+    print(ranges_of(text, "bold"), ranges_of(mirror.copy, "bold"))

@@ -5,9 +5,11 @@
 
 MODULE is the folder of the Python package, and the scripts are those of tools/fuzz.py.  After each command the string
 and the text of the other world have to be what the text is, and what is told has to be no idle change of what stood
-there, whose three ends are where it says; and of a command that leaves the text the marks told have to be just those
-that stand elsewhere, are new, or are gone.  Where there is no such package a line says that it is skipped.  Ends in a line `N passed, M failed`; the exit
-status is 1 if anything failed.
+there, whose three ends are where it says.  Each tag has to be on just the characters on which it was told to be, each
+widget's `sel` too, no change of a tag may be idle, and the other world's text has to have the tags that all peers share.
+Of a command that leaves the text the marks told have to be just those that stand elsewhere, are new, or are gone.  Where
+there is no such package a line says that it is skipped.  Ends in a line `N passed, M failed`; the exit status is 1 if
+anything failed.
 """
 
 import argparse
@@ -26,6 +28,21 @@ def spot_in(text, offset):
     return (text.count("\n", 0, offset) + 1, len(line), len(line.encode()), len(line.encode("utf-16-le")) // 2)
 
 
+def moved_by(change, tagged):
+    """Which characters have a tag after a change of the text, whose new characters don't have it."""
+    end, growth = change.at + change.removed, len(change.inserted) - change.removed
+    return {at for at in tagged if at < change.at} | {at + growth for at in tagged if at >= end}
+
+
+def offsets_in(text, places):
+    """The offsets of the characters between places, which are a list of where ranges begin and end."""
+    starts = [0]
+    for line in text.split("\n")[:-1]:
+        starts.append(starts[-1] + len(line) + 1)
+    offsets = [starts[int(line) - 1] + int(char) for line, char in (str(place).split(".") for place in places)]
+    return {at for start, end in zip(offsets[::2], offsets[1::2]) for at in range(start, end)}
+
+
 class Followed:
     """A text, by a peer of our own that shows all of it and that no script destroys, and what follows it."""
 
@@ -34,6 +51,37 @@ class Followed:
         self.is_edited = False
         self.moved = []
         self.places = self.find_marks()
+        # Which characters have a tag, or the `sel` of a widget.
+        self.tagged = {}
+
+    def take_changes(self, changes):
+        self.is_edited = True
+        for key, tagged in self.tagged.items():
+            for change in changes:
+                tagged = moved_by(change, tagged)
+            self.tagged[key] = tagged
+
+    def take_tags(self, package, changes):
+        """Puts tags on and takes them off as it was told, and gives what was idle."""
+        idle = []
+        for tag, at, end, is_on, widget in changes:
+            tagged = self.tagged.get((tag, widget), set())
+            if not at < end <= len(self.mirror.string) or any((place in tagged) == is_on for place in range(at, end)):
+                idle.append((tag, at, end, is_on, widget))
+            self.tagged[tag, widget] = package.TagChange(tag, at, end, is_on).made_in(tagged)
+        return idle
+
+    def wrong_tags(self, package, text):
+        """The tags that aren't where they were told to be: those of all peers, the copy's, and each widget's `sel`."""
+        world, names = self.whole.world, [str(name) for name in self.whole.peer_names()]
+        self.tagged = {(tag, widget): on for (tag, widget), on in self.tagged.items() if widget in ("", *names)}
+        views = [package.Text.named(world, name) for name in names]
+        whole = [view for view in views if not str(view.cget("startline")) + str(view.cget("endline"))]
+        found = [((tag, ""), other) for other in (self.whole, self.mirror.copy) for tag in self.whole.tag_names()
+                 if tag != "sel"]
+        found += [(("sel", str(view)), view) for view in whole]
+        return [(key, str(view)) for key, view in found
+                if offsets_in(text, view.tag_ranges(key[0])) != self.tagged.get(key, set())]
 
     def moved_on(self, names):
         self.moved.extend(names)
@@ -58,8 +106,17 @@ class Watch:
     def __init__(self, world, package, mirror_class):
         self.world, self.package, self.mirror_class = world, package, mirror_class
         self.followed = []
-        self.changes = self.moves = 0
+        self.changes = self.moves = self.tags = 0
         self.faults = []
+        # What each command told of tags, all widgets' `sel` among them, by the command's widget.
+        self.told_tags = []
+        tagged = world._tagged
+        world._tagged = lambda: self.note_tags(tagged())
+
+    def note_tags(self, changes):
+        if changes:
+            self.told_tags.append((self.world._word(), changes))
+        return changes
 
     def begin(self, name):
         """Follows the text of a widget that was made, if there is room for a peer."""
@@ -75,11 +132,12 @@ class Watch:
         followed = Followed(whole, mirror)
         whole.on_change(lambda changes: self.check_changes(followed, changes))
         whole.on_change(mirror.follow)
+        whole.on_tags(mirror.follow_tags)
         whole.on_marks(followed.moved_on)
         self.followed.append(followed)
 
     def check_changes(self, followed, changes):
-        followed.is_edited = True
+        followed.take_changes(changes)
         text = followed.mirror.string
         for change in changes:
             end = change.at + change.removed
@@ -92,9 +150,22 @@ class Watch:
             text = new
         self.changes += len(changes)
 
+    def take_tags(self):
+        told, self.told_tags = self.told_tags, []
+        for name, changes in told:
+            self.tags += len(changes)
+            for followed in self.followed:
+                if name in map(str, followed.whole.peer_names()):
+                    idle = followed.take_tags(self.package, changes)
+                    self.faults.extend(f"{change} is no change of a tag" for change in idle)
+
     def compare(self):
+        self.take_tags()
         for followed in self.followed:
             now, mirror = followed.whole.get("1.0", "end"), followed.mirror
+            wrong = followed.wrong_tags(self.package, now)
+            if wrong:
+                self.faults.append(f"the tags {wrong} of {now!r} aren't as they were told")
             for name, other in (("string", mirror.string), ("copy", mirror.copy.get("1.0", "end"))):
                 if other != now:
                     self.faults.append(f"the {name} is {other!r}, and the text {now!r}")
@@ -105,7 +176,7 @@ class Watch:
 
 
 def run(script, package, mirror_class):
-    """What was wrong in a script, and how many changes and marks were told."""
+    """What was wrong in a script, and how many changes, changes of tags and marks were told."""
     world = package.World()
     watch = Watch(world, package, mirror_class)
     world.feed(script)
@@ -117,7 +188,7 @@ def run(script, package, mirror_class):
         if watch.faults:
             break
     world.close()
-    return watch.faults, watch.changes, watch.moves
+    return watch.faults, watch.changes, watch.tags, watch.moves
 
 
 def main():
@@ -133,12 +204,13 @@ def main():
     import mirror
     import tktext
 
-    tally, changes, moves = Tally(), 0, 0
+    tally, changes, tags, moves = Tally(), 0, 0, 0
     for seed in range(options.first, options.first + options.seeds):
-        faults, told, moved = run(scripts.script(seed), tktext, mirror.Mirror)
+        faults, told, tagged, moved = run(scripts.script(seed), tktext, mirror.Mirror)
         tally.check(not faults, f"seed {seed}: {' '.join(faults[:1])}")
-        changes, moves = changes + told, moves + moved
+        changes, tags, moves = changes + told, tags + tagged, moves + moved
     tally.check(changes > options.seeds, f"only {changes} changes were told")
+    tally.check(tags > options.seeds, f"only {tags} changes of tags were told")
     tally.check(moves > options.seeds // 4, f"only {moves} marks were told")
     return tally.close()
 
