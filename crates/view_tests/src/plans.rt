@@ -1,20 +1,20 @@
-ghost use Rattle.std.specs.Prelude.{◌≡◌, ◌<◌, length, IfOk, OnOk};
+ghost use Rattle.std.specs.Prelude.{◌≡◌, ◌<◌, ◌≤◌, length, IfOk, OnOk};
 ghost use Rattle.edit_ops.specs.Keeping.{IsKept};
 ghost use Rattle.edit_ops.specs.States.{state_in};
 ghost use Rattle.undo_stack.specs.History.{no_history};
 ghost use Rattle.view_tests.specs.declared.plans.TheConstants.{RECORDING};
 
-use crate::scenes::store_of;
+use crate::scenes::store_with;
 use crate::told::are;
 use edit_ops::{
-    EditFault, EditRules, EditedText, Hunk, Recording, SlottedText, Span, Target, anchors_stand,
-    commit, plan_clear, plan_delete, plan_insert, plan_redo, plan_replace, plan_tag, plan_undo,
-    reversal_hunks,
+    EditFault, EditRules, EditedText, Recording, Reversal, SlotRun, SlottedText, Span, Target,
+    anchors_stand, commit, plan_clear, plan_delete, plan_insert, plan_redo, plan_replace, plan_tag,
+    plan_undo, reversal_of,
 };
 use std::alloc::{AllocError, Global};
 use std::process::Abort;
 use std::test::Fail;
-use text_model::{Limits, MarkNo, PlainStore, TagSlot, Text, TextStore};
+use text_model::{Limits, MarkNo, PlainStore, TagSet, TagSlot, Text, TextStore};
 use undo_stack::UndoStack;
 
 const RECORDING: Recording = Recording {
@@ -29,8 +29,15 @@ const SLOT: TagSlot = TagSlot(70);
 fn edited<S: TextStore>(alloc: Global) -> Result<EditedText<S>, AllocError>
     ensures { IfOk result (λ text. text.history.history ≡ no_history) }
 {
+    edited_with(alloc, TagSet::empty())
+}
+
+// The same, where each character of the two words has some slots.
+fn edited_with<S: TextStore>(alloc: Global, slots: TagSet) -> Result<EditedText<S>, AllocError>
+    ensures { IfOk result (λ text. text.history.history ≡ no_history) }
+{
     Ok(EditedText {
-        store: store_of(alloc, "one two")?,
+        store: store_with(alloc, "one two", slots)?,
         history: UndoStack::new(alloc),
         anchors: Vec::new(alloc),
     })
@@ -180,17 +187,20 @@ fn an_edit_is_undone_and_redone(rt: HostRuntime) -> Result<(), Fail> {
 }
 
 // What becomes of the text where the last group is reverted, if there is one.
-fn undo_hunks<S: TextStore>(
+fn undo_reversal<S: TextStore>(
     alloc: Global,
     limits: &Limits,
     text: &EditedText<S>,
-) -> Result<Vec<Hunk>, AllocError>
+) -> Result<Reversal, AllocError>
     requires { IsKept limits.now.chars RECORDING (state_in S.content text.now) }
 {
     let Some(group) = text.history.last_undo() else {
-        return Ok(Vec::new(alloc));
+        return Ok(Reversal {
+            hunks: Vec::new(alloc),
+            runs: Vec::new(alloc),
+        });
     };
-    reversal_hunks(alloc, &text.store, &group, true, limits.chars())
+    reversal_of(alloc, &text.store, &group, true, limits.chars())
 }
 
 #[test]
@@ -199,7 +209,37 @@ fn an_undo_takes_out_what_was_put_in(rt: HostRuntime) -> Result<(), Fail> {
     let mut text = edited::<PlainStore>(rt.alloc())?;
     assert!(rt; 4 < text.store.len() && text.store.len() <= limits.chars());
     insert(&rt, rt.alloc(), &limits, &mut text)?;
-    let hunks = undo_hunks(rt.alloc(), &limits, &text)?;
-    assert!(rt; are(&hunks, &[(4, 6, "")]));
+    let made = undo_reversal(rt.alloc(), &limits, &text)?;
+    assert!(rt; are(&made.hunks, &[(4, 6, "")]) && made.runs.is_empty());
+    Ok(())
+}
+
+// Takes `tw` out. What becomes of the text where that is reverted.
+fn undo_delete<S: TextStore>(
+    alloc: Global,
+    limits: &Limits,
+    text: &mut EditedText<S>,
+) -> Result<Reversal, EditFault>
+    requires long { 6 ≤ length (S.content text.old.store).cells }
+    requires kept { IsKept limits.now.chars RECORDING (state_in S.content text.old) }
+{
+    let end = text.store.len();
+    let plan = plan_delete(alloc, text, 0, end, &[Span { from: 4, to: 6 }], RECORDING)?;
+    commit(plan, text);
+    Ok(undo_reversal(alloc, limits, text)?)
+}
+
+// Whether the characters from 4 to 6 alone get slots, and the one that is set among these.
+fn gets_slot(runs: &[SlotRun]) -> bool {
+    runs.len() == 1 && runs[0].from == 4 && runs[0].to == 6 && runs[0].slots.has(SLOT)
+}
+
+#[test]
+fn a_text_comes_back_with_the_slots_of_both_neighbours(rt: HostRuntime) -> Result<(), Fail> {
+    let limits = Limits::new(100, 10, 10, 10, 10).ok_or("small numbers")?;
+    let mut text = edited_with::<PlainStore>(rt.alloc(), TagSet::empty().with(SLOT))?;
+    assert!(rt; 6 <= text.store.len() && text.store.len() <= limits.chars());
+    let made = undo_delete(rt.alloc(), &limits, &mut text)?;
+    assert!(rt; are(&made.hunks, &[(4, 4, "tw")]) && gets_slot(&made.runs));
     Ok(())
 }

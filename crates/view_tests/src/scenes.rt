@@ -14,10 +14,15 @@ pub struct Scene {
 
 /// A store of a text, with the newline behind it.
 pub fn store_of<S: TextStore>(alloc: Global, text: &str) -> Result<S, AllocError> {
+    store_with(alloc, text, TagSet::empty())
+}
+
+/// A store of a text whose characters have these slots, with the newline behind it.
+pub fn store_with<S: TextStore>(alloc: Global, text: &str, slots: TagSet) -> Result<S, AllocError> {
     let mut store = S::new(alloc)?;
     let mut steps = StepList::new(alloc);
     let text = Text::new(String::from_str(alloc, text)?);
-    steps.push(Step::Insert(0, text, TagSet::empty()))?;
+    steps.push(Step::Insert(0, text, slots))?;
     let prepared = store.prepare(&Edit { steps })?;
     store.commit(prepared);
     Ok(store)
