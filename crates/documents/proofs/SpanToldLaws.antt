@@ -1,7 +1,7 @@
 -- What is told where a key is put on spans, or taken off them.
 use Rattle.std.proofs.Common.{◌≡◌, ℕ, zero, suc, ◌+◌, ◌-◌, ◌<◌, ◌≤◌, Bool, true, false, not, List, [], ◌∷◌, ◌++◌}
 use Rattle.std.proofs.Common.{map, length, take, drop, get_or, refl, sym, ap, ap₂, ◌∙◌, arith, subst, append_assoc, Some}
-use Rattle.std.proofs.Common.{slice_get}
+use Rattle.std.proofs.Common.{slice_get, cond, None}
 use Rattle.std.specs.Prelude.{slice_range}
 use Rattle.std.specs.FinSet as set
 use Rattle.std.specs.List.{All}
@@ -9,23 +9,34 @@ use Rattle.std.proofs.lemmas.List.{drop-drop, drop-take, get_or-drop, get_or-map
 use Rattle.std.proofs.lemmas.List.{length-map, length-take-le, map-append, take-append-drop, take-take, take_more}
 use Rattle.std.proofs.lemmas.List.Edits.{split_between}
 use Rattle.std.proofs.lemmas.List.Elements.{All-cons, All-drop, All-from_get_or, All-get_or, All-head, All-nil}
-use Rattle.std.proofs.lemmas.List.Elements.{All-tail, All-take}
+use Rattle.std.proofs.lemmas.List.Elements.{All-map, All-tail, All-take}
 use Rattle.std.proofs.lemmas.List.Folds.{drop_split}
-use Rattle.std.proofs.lemmas.Option.{get_or_from_slice_get}
+use Rattle.std.proofs.lemmas.Option.{get_or_from_slice_get, same_Some}
 use mathlib.Core.Bool.{beq}
+use Rattle.name_list.specs.Names.{Named, names_of}
+use Rattle.index_grammar.specs.Names.{known_tags}
+use Rattle.text_model.specs.Content.{flags}
 use Rattle.text_model.specs.Changes.{flag_at, is_alike, next_change}
 use Rattle.text_model.specs.Splices.{changed}
 use Rattle.text_model.proofs.SpliceLaws.{length-changed, map-slice_range}
 use Rattle.text_index.proofs.FlagLaws.{next-alike}
-use Rattle.edit_ops.specs.Deletions.{AreApart}
+use Rattle.edit_ops.specs.Deletions.{AreApart, in_spans}
 use Rattle.edit_ops.specs.Tagging.{SpanFits}
 use Rattle.edit_ops.specs.declared.spans.Span.{Span}
-use Rattle.documents.specs.Documents.{KeyedCell}
+use Rattle.documents.specs.Documents.{Document, KeyedCell, Parts, Widget, document_of, widget_at}
 use Rattle.documents.specs.Edits.{with_key, with_tag}
-use Rattle.documents.specs.Keys.{Key}
+use Rattle.documents.specs.Keys.{Key, key_named, key_pairs, set_key}
+use Rattle.documents.specs.Kept.{Stands}
+use Rattle.documents.specs.Names.{key_of}
 use Rattle.documents.specs.TagsTold.{IsTagChange, TellsSpan, TellsSpans, TellsTags, flags_of}
 use Rattle.documents.specs.declared.tag_lists.TagChange.{TagChange}
+use Rattle.documents.proofs.BridgeLaws.{contains-set_key, key_itself, keys_of-has}
+use Rattle.documents.proofs.KeyedLaws.{keyed-flags, keyed_cell}
+use Rattle.documents.proofs.LookupLaws.{has}
 use Rattle.documents.proofs.PaintLaws.{apart-fit, painted, painted-front, painted-idle, painted-long, painted-push}
+use Rattle.documents.proofs.PaintLaws.{painted-same}
+use Rattle.documents.proofs.PartsLaws.{Sits, mapped-at}
+use Rattle.documents.proofs.SlotLaws.{slot_for, slot_for-named}
 use Rattle.documents.proofs.TagsToldLaws.{drop-changed, part-changed, set_again, tells-then}
 
 -- ---- parts of a list
@@ -312,3 +323,75 @@ whole-none key flags spans told apart none start cells same so_far =
     (ap (λ fs. slice_range fs span.from span.to) same) (none-set flags span.from span.to none))
     (apart-fit (length flags + 1) (length cells) spans (omega (arith, long)) apart) in
     subst (TellsTags told start) (sym idle) so_far
+
+-- ---- a command that tags spans, by the longest runs of them
+
+-- a key that is put on twice, or taken off twice
+with_key-twice : (key : Key) (on : Bool) (cell : KeyedCell) →
+    with_key key on (with_key key on cell) ≡ with_key key on cell
+with_key-twice key on cell =
+    ap (λ keys. record cell { keys = keys }) (set_again key on (set_key key on cell.keys)
+    (contains-set_key key on cell.keys key ∙ ap (λ b. cond b on (set.contains cell.keys key)) (key_itself key key refl)))
+
+-- spans in which the same offsets lie are tagged alike
+pub with_tag-same : (key : Key) (on : Bool) (spans others : List Span) (cells : List KeyedCell) →
+    All (SpanFits (length cells)) spans → All (SpanFits (length cells)) others
+    → ((offset : ℕ) → in_spans spans offset ≡ in_spans others offset)
+    → with_tag key on spans cells ≡ with_tag key on others cells
+with_tag-same key on spans others cells fits others_fit same =
+    with_tag-paints key on spans cells
+    ∙ painted-same (with_key key on) (with_key-twice key on) spans others cells fits others_fit same
+    ∙ sym (with_tag-paints key on others cells)
+
+pub runs-told : (key : Key) (on : Bool) (flags : List Bool) (cells : List KeyedCell) (spans runs : List Span)
+    (before told : List TagChange) → All (SpanFits (length cells)) spans → AreApart (length cells + 1) runs
+    → ((offset : ℕ) → in_spans runs offset ≡ in_spans spans offset) → flags_of key cells ≡ flags → before ≡ []
+    → TellsSpans key on flags runs before told → TellsTags told cells (with_tag key on spans cells)
+runs-told key on flags cells spans runs before told fits apart covers same none tells =
+    subst (TellsTags told cells)
+    (with_tag-same key on runs spans cells (apart-fit (length cells + 1) (length cells) runs (omega arith) apart) fits
+    covers)
+    (tells cells cells same (subst (λ changes. TellsTags changes cells cells) (sym none) refl))
+
+-- the key of a name to a widget that sits at a place, by the slot that the name has to the widget, and where it has none
+module _ (parts : Parts) (document : Document) (place slot : ℕ) (stands : Stands parts document)
+    (sits : Sits parts document place slot) (name : List ℕ) where
+  abbrev pub seen_key : Key
+  seen_key = key_of (widget_at document place) name
+
+  seen-is : key_named sits.seat.name name ≡ seen_key
+  seen-is = ap (λ (widget : Widget). key_named widget.name name) (sym sits.widget)
+
+  -- by the name as the widget's seat has it
+  pub seen-named : (widget : List ℕ) → slice_get (names_of parts.seats.entries) place ≡ Some widget →
+      key_named widget name ≡ seen_key
+  seen-named widget is =
+      ap (λ n. key_named n name) (same_Some widget sits.seat.name (sym is
+      ∙ mapped-at (λ (seat : Named). seat.name) parts.seats.entries place sits.seat sits.stands)) ∙ seen-is
+
+  pub seen-flags : (tag : ℕ) → known_tags parts.tags.tags slot name ≡ Some tag →
+      flags_of seen_key document.cells ≡ flags tag parts.content.cells
+  seen-flags tag known =
+      let kept = stands.sound.kept in
+      let there : known_tags parts.tags.tags sits.seat.number name ≡ Some tag =
+      ap (λ n. known_tags parts.tags.tags n name) sits.number ∙ known in
+      ap₂ (λ key (d : Document). flags_of key d.cells) (sym seen-is) (sym stands.is)
+      ∙ sym (keyed-flags parts.seats.entries parts.tags kept.seats kept.tags place sits.seat sits.stands name tag there
+      parts.content.cells)
+
+  -- no character has the key of an unknown name
+  pub seen-none : known_tags parts.tags.tags slot name ≡ None → All (λ flag. flag ≡ false) (flags_of seen_key document.cells)
+  seen-none unknown =
+      let kept = stands.sound.kept in
+      let seats = parts.seats.entries in
+      let tags = parts.tags.tags in
+      let none : slot_for seats tags (key_named sits.seat.name name) ≡ None =
+      slot_for-named seats parts.tags kept.seats kept.tags place sits.seat name sits.stands
+      ∙ ap (λ n. known_tags tags n name) sits.number ∙ unknown in
+      subst (All (λ flag. flag ≡ false)) (ap₂ (λ key (d : Document). flags_of key d.cells) seen-is stands.is)
+      (All-map (λ flag. flag ≡ false) (has_key (key_named sits.seat.name name)) (document_of parts).cells
+      (All-map (λ (cell : KeyedCell). has_key (key_named sits.seat.name name) cell ≡ false)
+      (keyed_cell (key_pairs seats tags)) parts.content.cells (λ k d _.
+      keys_of-has seats tags (get_or parts.content.cells k d).tags (key_named sits.seat.name name)
+      kept.seats.names_apart kept.tags.names_apart
+      ∙ ap (has (get_or parts.content.cells k d).tags) none)))
