@@ -384,25 +384,25 @@ module _ (parts : Parts) (document : Document) (place slot : ℕ) (stands : Stan
       ap (λ n. key_named n name) (same_Some widget sits.seat.name (sym is
       ∙ mapped-at (λ (seat : Named). seat.name) parts.seats.entries place sits.seat sits.stands)) ∙ seen-is
 
-  pub seen-flags : (tag : ℕ) → known_tags parts.tags.tags slot name ≡ Some tag →
+  pub seen-flags : (tag : ℕ) → Some tag ≡ known_tags parts.tags.tags slot name →
       flags_of seen_key document.cells ≡ flags tag parts.content.cells
   seen-flags tag known =
       let kept = stands.sound.kept in
       let there : known_tags parts.tags.tags sits.seat.number name ≡ Some tag =
-      ap (λ n. known_tags parts.tags.tags n name) sits.number ∙ known in
+      ap (λ n. known_tags parts.tags.tags n name) sits.number ∙ sym known in
       ap₂ (λ key (d : Document). flags_of key d.cells) (sym seen-is) (sym stands.is)
       ∙ sym (keyed-flags parts.seats.entries parts.tags kept.seats kept.tags place sits.seat sits.stands name tag there
       parts.content.cells)
 
   -- no character has the key of an unknown name
-  pub seen-none : known_tags parts.tags.tags slot name ≡ None → All (λ flag. flag ≡ false) (flags_of seen_key document.cells)
+  pub seen-none : None ≡ known_tags parts.tags.tags slot name → All (λ flag. flag ≡ false) (flags_of seen_key document.cells)
   seen-none unknown =
       let kept = stands.sound.kept in
       let seats = parts.seats.entries in
       let tags = parts.tags.tags in
       let none : slot_for seats tags (key_named sits.seat.name name) ≡ None =
       slot_for-named seats parts.tags kept.seats kept.tags place sits.seat name sits.stands
-      ∙ ap (λ n. known_tags tags n name) sits.number ∙ unknown in
+      ∙ ap (λ n. known_tags tags n name) sits.number ∙ sym unknown in
       subst (All (λ flag. flag ≡ false)) (ap₂ (λ key (d : Document). flags_of key d.cells) seen-is stands.is)
       (All-map (λ flag. flag ≡ false) (has_key (key_named sits.seat.name name)) (document_of parts).cells
       (All-map (λ (cell : KeyedCell). has_key (key_named sits.seat.name name) cell ≡ false)
@@ -417,9 +417,9 @@ module _ (parts : Parts) (document : Document) (place slot : ℕ) (stands : Stan
   unknown-off absent spans fits =
       with_tag-none seen_key (flags_of seen_key document.cells) spans document.cells fits refl (seen-none unknown)
     where
-      unknown : known_tags parts.tags.tags slot name ≡ None
+      unknown : None ≡ known_tags parts.tags.tags slot name
       unknown = elim (known_tags parts.tags.tags slot name) as (λ o. known_tags parts.tags.tags slot name ≡ o →
-          o ≡ None) [
+          None ≡ o) [
             | None ↦ λ _. refl
             | Some tag ↦ λ there. absurd (true≢false (sym (slot_known name parts.tags.tags slot tag there)
                 ∙ ap (λ (d : Document). is_among name d.tags) stands.is ∙ absent))

@@ -47,7 +47,7 @@ returns g c =
           subst (λ ts. TellsTags ts document.cells (with_tag key on spans document.cells)) (sym w.told-is)
           (runs-told key on found document.cells spans runs c.new-told.result told c.requires.fit apart
           c.in_ok-runs.ensures.covers
-          (seen-flags parts document place slot stands seat name tag (sym w.in-Some.ensures.value)) c.new-told.ensures
+          (seen-flags parts document place slot stands seat name tag w.in-Some.ensures.value) c.new-told.ensures
           (subst (λ k. TellsSpans k on found runs c.new-told.result told) is
           (subst (λ ss. TellsSpans c.in_ok-key.key on found ss c.new-told.result told) w.deref.ensures.value
           w.in_ok-push_spans-in-Some.ensures)))
@@ -58,7 +58,7 @@ returns g c =
           let tells = w.in_ok-push_whole-in-None.ensures found
           (subst (AreApart (length found + 1)) (sym w.deref-in-None.ensures.value)
           (subst (λ n. AreApart (n + 1) runs) (sym flagged) apart))
-          (seen-none parts document place slot stands seat name (sym w.in-None.ensures.value)) in
+          (seen-none parts document place slot stands seat name w.in-None.ensures.value) in
           subst (λ ts. TellsTags ts document.cells (with_tag key on spans document.cells)) (sym w.told-is)
           (runs-told key on found document.cells spans runs c.new-told.result told c.requires.fit apart
           c.in_ok-runs.ensures.covers refl c.new-told.ensures
