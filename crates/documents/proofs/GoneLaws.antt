@@ -10,7 +10,7 @@ use Rattle.std.proofs.lemmas.Bool.{eqb-true, false_from_ne_true}
 use Rattle.std.proofs.lemmas.List.{append-nil, length-map}
 use Rattle.std.proofs.lemmas.Option.{none-some, same_Some}
 use Rattle.name_list.specs.Names.{Named}
-use Rattle.tag_table.specs.Tags.{AreTags, Tags, sel, slot_of}
+use Rattle.tag_table.specs.Tags.{AreTags, Tag, Tags, sel, slot_of}
 use Rattle.text_model.specs.Content.{Slots, flags}
 use Rattle.text_model.specs.Splices.{changed}
 use Rattle.text_model.specs.declared.cells.Cell.{Cell}
@@ -103,6 +103,11 @@ retain-all keys = keys_same (set.retain keys (key_stays [])) keys (λ key.
     and_true : (b : Bool) → (b && true) ≡ b
     and_true true = refl
     and_true false = refl
+
+-- what a word is found to be is what the name is that it spells
+pub found-as : (tags : List Tag) (found : Option ℕ) (word name : List ℕ) → found ≡ slot_of word tags → word ≡ name →
+    found ≡ slot_of name tags
+found-as tags found word name is spelled = is ∙ ap (λ n. slot_of n tags) spelled
 
 -- ---- the seats of a document, the table of its tags, and the cells of its store
 

@@ -431,7 +431,7 @@ module _ (parts : Parts) (document : Document) (place slot : ℕ) (stands : Stan
 abbrev pub of_tags : List TagChange → EditTold
 of_tags told = record { changes = []; tags = told }
 
-tags-alone : (told : List TagChange) (old new : List KeyedCell) → TellsTags told old new →
+pub tags-alone : (told : List TagChange) (old new : List KeyedCell) → TellsTags told old new →
     TellsCells old new (of_tags told)
 tags-alone told old new tells = record { text = told-characters told old new tells; tags = tells }
 
