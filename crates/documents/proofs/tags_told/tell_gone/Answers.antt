@@ -1,10 +1,8 @@
-use Rattle.std.proofs.Common.{◌++◌, ◌∷◌, [], List, sym, subst, ap, ◌∙◌, chars, take}
+use Rattle.std.proofs.Common.{subst, take}
 use Rattle.std.proofs.lemmas.List.{take_all}
 use Rattle.tcl_words.specs.Unread.{texts_of}
-use Rattle.documents.specs.Keys.{Key}
 use Rattle.documents.specs.TagsGone.{AreGone}
-use Rattle.documents.proofs.GoneLaws.{gone-none}
-use Rattle.documents.proofs.MarksToldLaws.{texts-more}
+use Rattle.documents.proofs.GoneLaws.{gone-none, names-more}
 use Rattle.documents.proofs.tags_told.tell_gone.Goals as goal
 
 pub loop-name-init : goal.loop-name-init
@@ -19,9 +17,8 @@ loop-name-preserved g c = λ seats seated.
     let before = texts_of (take at words) in
     subst (λ names. AreGone seats c.args.tags.now (g.S.TextStore.content c.args.store.now).cells names
     c.push_gone.new.seen c.push_gone.new.told)
-    (ap (λ (key : Key). before ++ key.name ∷ []) c.in_ok-key.ensures
-    ∙ texts-more words at c.name-item.result c.as_str.result.now c.loop-name-test.true c.name-item.is
-    c.as_str.ensures.value)
+    (names-more words at c.name-item.result c.as_str.result.now c.in_ok-key.key c.loop-name-test.true c.name-item.is
+    c.as_str.ensures.value c.in_ok-key.ensures)
     (c.in_ok-push_gone.ensures seats before seated (c.loop-name.invariant seats seated))
 
 pub returns : goal.returns
