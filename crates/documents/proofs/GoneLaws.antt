@@ -1,9 +1,9 @@
 -- What is told where tags are deleted, name by name.
-use Rattle.std.proofs.Common.{◌≡◌, ◌≢◌, ℕ, ◌+◌, ◌<◌, ◌≤◌, Bool, true, false, cond, not, ◌&&◌, ◌||◌, List, [], ◌∷◌, ◌++◌}
+use Rattle.std.proofs.Common.{◌≡◌, ◌≢◌, ℕ, ◌+◌, ◌<◌, Bool, true, false, cond, not, ◌&&◌, ◌||◌, List, [], ◌∷◌, ◌++◌}
 use Rattle.std.proofs.Common.{Option, None, Some, map, length, refl, sym, ap, ap₂, ◌∙◌, arith, subst, true≢false, ne_eqb}
 use Rattle.std.proofs.Common.{eq-eqb, get_or, take, chars, string_bytes}
 use Rattle.std.specs.Prelude.{slice_range}
-use Rattle.std.specs.Cmp.{both_ways, nat_cmp_total, unsigned_tied}
+use Rattle.std.specs.Cmp.{nat_cmp_total, unsigned_tied}
 use Rattle.std.specs.FinSet as set
 use Rattle.std.specs.Ordering.{eq_by_cmp, nat_cmp}
 use Rattle.std.specs.declared.string.String.{String}
@@ -29,8 +29,8 @@ use Rattle.documents.specs.declared.tag_lists.TagChange.{TagChange}
 use Rattle.documents.proofs.BridgeLaws.{and_none, contains-set_key, key_itself, key_tied, keys_of-has, keys_same, retained}
 use Rattle.documents.proofs.KeyedLaws.{keyed_cell}
 use Rattle.documents.proofs.LookupLaws.{has}
-use Rattle.documents.proofs.MarksToldLaws.{among-in, among-last, among-other, same-word, texts-more, words-are}
-use Rattle.documents.proofs.SlotLaws.{same_slot, slot_for, slot_high}
+use Rattle.documents.proofs.MarksToldLaws.{among-last, among-other, same-word, texts-more, words-are}
+use Rattle.documents.proofs.SlotLaws.{not_selection, same_slot, slot_for, slot_high}
 use Rattle.documents.proofs.TagsToldLaws.{part-changed}
 
 -- the key of a tag, by its name
@@ -132,15 +132,11 @@ module _ (seats : List Named) (table : Tags) (seated : AreSeats seats) (sound : 
   has_tag_key slots name =
       keys_of-has seats table.tags slots (tag_key name) seated.names_apart sound.names_apart
 
-  -- the slot 0 is that of `sel`
-  not-selection : (name : List ℕ) (slot : ℕ) → slot_of name table.tags ≡ Some slot → slot ≢ 0 → is_same name sel ≡ false
-  not-selection name slot is own = false_from_ne_true (is_same name sel) (λ same.
-      own (same_Some slot 0 (sym is ∙ ap (λ n. slot_of n table.tags) (words-are name sel same) ∙ sound.selection)))
-
   own-slot : (name : List ℕ) (slot : ℕ) → slot_of name table.tags ≡ Some slot → slot ≢ 0 →
       slot_for seats table.tags (tag_key name) ≡ Some slot
   own-slot name slot is own =
-      ap (λ b. cond (not b) (slot_of name table.tags) None) (not-selection name slot is own) ∙ is
+      ap (λ b. cond (not b) (slot_of name table.tags) None) (not_selection seats table seated sound name slot
+      is own) ∙ is
 
   no-slot : (name : List ℕ) → slot_of name table.tags ≡ None → slot_for seats table.tags (tag_key name) ≡ None
   no-slot name none = elim (is_same name sel) as (λ b. cond (not b) (slot_of name table.tags) None ≡ None) [

@@ -1,7 +1,6 @@
 use Rattle.std.proofs.Common.{◌≡◌, None, Some, false, sym, subst, ◌∙◌, chars}
 use Rattle.std.proofs.lemmas.Result.{on_ok_weaker}
 use Rattle.text_model.specs.Content.{flags}
-use Rattle.documents.specs.Keys.{Key}
 use Rattle.documents.specs.TagsTold.{TellsSpan}
 use Rattle.documents.proofs.GoneLaws.{found-as, gone-more, gone-seen, gone-selection, gone-unknown}
 use Rattle.documents.proofs.tags_told.push_gone.Goals as goal
