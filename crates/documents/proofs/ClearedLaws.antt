@@ -21,7 +21,7 @@ use Rattle.documents.specs.Tags.{key_stays, without_tags}
 use Rattle.documents.proofs.KeyedLaws.{keyed-left, with_staying}
 use Rattle.documents.proofs.KnownLaws.{known-without}
 use Rattle.documents.proofs.LookupLaws.{AreApart-filter, filter_stands, filter_stood, looked-filter}
-use Rattle.documents.proofs.SlotLaws.{GoWith, is_in, number_low, same_slot, seat_stands, slot_for, slot_high}
+use Rattle.documents.proofs.SlotLaws.{GoWith, is_in, not_selection, number_low, same_slot, seat_stands, slot_for, slot_high}
 use Rattle.documents.proofs.SlotLaws.{tag_slot-is}
 
 not_not : (a : Bool) → a ≡ not (not a)
@@ -134,17 +134,13 @@ GoWith-deleted seats table names seated sound = record {
         (looked-filter (λ (tag : Tag). tag.name) (λ (tag : Tag). tag.slot) (stays names) name table.tags)
         ∙ kept_slot (is_same name sel) (is_among name names) (slot_of name table.tags)
 
-    high : (name : List ℕ) (slot : ℕ) → slot_of name table.tags ≡ Some slot → slot ≢ 0 → is_same name sel ≡ false
-    high name slot is own = false_from_ne_true (is_same name sel) (λ same.
-        own (same_Some slot 0 (sym is ∙ ap (λ n. slot_of n table.tags) ((bytes_eq-Decides name sel).0 same)
-        ∙ sound.selection)))
-
     goes : (selects : Bool) (name : List ℕ) (slot : ℕ)
         → (let key : Key = record { selects = selects; name = name } in slot_for seats table.tags key ≡ Some slot →
         is_in (slots_deleted table.tags names) slot ≡ not (key_stays names key))
     goes true name slot is = false_from_ne_true (is_in (slots_deleted table.tags names) slot) (λ there.
         let found = goes_with table.tags names slot there in
-        let above = slot_high seats table seated sound found.0 slot (high found.0 slot found.2 found.3) found.2 in
+        let above = slot_high seats table seated sound found.0 slot (not_selection seats table seated sound found.0 slot found.2
+        found.3) found.2 in
         let below = number_low seats table seated sound name slot is in
         omega (arith, above, below))
     goes false name slot is =

@@ -1,16 +1,18 @@
 -- What is told where tags are deleted, name by name.
-use Rattle.std.proofs.Common.{◌≡◌, ◌≢◌, ℕ, ◌+◌, ◌<◌, ◌≤◌, Bool, true, false, cond, not, ◌&&◌, ◌||◌, List, [], ◌∷◌, ◌++◌}
+use Rattle.std.proofs.Common.{◌≡◌, ◌≢◌, ℕ, ◌+◌, ◌<◌, Bool, true, false, cond, not, ◌&&◌, ◌||◌, List, [], ◌∷◌, ◌++◌}
 use Rattle.std.proofs.Common.{Option, None, Some, map, length, refl, sym, ap, ap₂, ◌∙◌, arith, subst, true≢false, ne_eqb}
-use Rattle.std.proofs.Common.{eq-eqb, ◌==◌, inl, inr}
+use Rattle.std.proofs.Common.{eq-eqb, get_or, take, chars, string_bytes}
 use Rattle.std.specs.Prelude.{slice_range}
-use Rattle.std.specs.Cmp.{both_ways, nat_cmp_total, unsigned_tied}
+use Rattle.std.specs.Cmp.{nat_cmp_total, unsigned_tied}
 use Rattle.std.specs.FinSet as set
 use Rattle.std.specs.Ordering.{eq_by_cmp, nat_cmp}
-use Rattle.std.proofs.lemmas.Bool.{eqb-true, false_from_ne_true}
+use Rattle.std.specs.declared.string.String.{String}
+use Rattle.std.proofs.lemmas.Bool.{false_from_ne_true}
 use Rattle.std.proofs.lemmas.List.{append-nil, length-map}
 use Rattle.std.proofs.lemmas.Option.{none-some, same_Some}
 use Rattle.name_list.specs.Names.{Named}
-use Rattle.tag_table.specs.Tags.{AreTags, Tags, sel, slot_of}
+use Rattle.tag_table.specs.Tags.{AreTags, Tag, Tags, sel, slot_of}
+use Rattle.tcl_words.specs.Unread.{texts_of}
 use Rattle.text_model.specs.Content.{Slots, flags}
 use Rattle.text_model.specs.Splices.{changed}
 use Rattle.text_model.specs.declared.cells.Cell.{Cell}
@@ -27,8 +29,8 @@ use Rattle.documents.specs.declared.tag_lists.TagChange.{TagChange}
 use Rattle.documents.proofs.BridgeLaws.{and_none, contains-set_key, key_itself, key_tied, keys_of-has, keys_same, retained}
 use Rattle.documents.proofs.KeyedLaws.{keyed_cell}
 use Rattle.documents.proofs.LookupLaws.{has}
-use Rattle.documents.proofs.MarksToldLaws.{among-in, among-last, among-other, same-word, words-are}
-use Rattle.documents.proofs.SlotLaws.{same_slot, slot_for, slot_high}
+use Rattle.documents.proofs.MarksToldLaws.{among-last, among-other, same-word, texts-more, words-are}
+use Rattle.documents.proofs.SlotLaws.{not_selection, same_slot, slot_for, slot_high}
 use Rattle.documents.proofs.TagsToldLaws.{part-changed}
 
 -- the key of a tag, by its name
@@ -104,6 +106,18 @@ retain-all keys = keys_same (set.retain keys (key_stays [])) keys (λ key.
     and_true true = refl
     and_true false = refl
 
+-- what a word is found to be is what the name is that it spells
+pub found-as : (tags : List Tag) (found : Option ℕ) (word name : List ℕ) → found ≡ slot_of word tags → word ≡ name →
+    found ≡ slot_of name tags
+found-as tags found word name is spelled = is ∙ ap (λ n. slot_of n tags) spelled
+
+-- the names of words with one more, whose key was made
+pub names-more : {Z : Type 0} (words : List (String Z)) (at : ℕ) (word : String Z) (bytes : List ℕ) (key : Key) →
+    at < length words → word ≡ get_or words at word → bytes ≡ string_bytes word → key ≡ tag_key (chars bytes)
+    → texts_of (take at words) ++ key.name ∷ [] ≡ texts_of (take (at + 1) words)
+names-more words at word bytes key within is spelled made =
+    ap (λ (k : Key). texts_of (take at words) ++ k.name ∷ []) made ∙ texts-more words at word bytes within is spelled
+
 -- ---- the seats of a document, the table of its tags, and the cells of its store
 
 module _ (seats : List Named) (table : Tags) (seated : AreSeats seats) (sound : AreTags table) (cells : List Cell) where
@@ -118,15 +132,11 @@ module _ (seats : List Named) (table : Tags) (seated : AreSeats seats) (sound : 
   has_tag_key slots name =
       keys_of-has seats table.tags slots (tag_key name) seated.names_apart sound.names_apart
 
-  -- the slot 0 is that of `sel`
-  not-selection : (name : List ℕ) (slot : ℕ) → slot_of name table.tags ≡ Some slot → slot ≢ 0 → is_same name sel ≡ false
-  not-selection name slot is own = false_from_ne_true (is_same name sel) (λ same.
-      own (same_Some slot 0 (sym is ∙ ap (λ n. slot_of n table.tags) (words-are name sel same) ∙ sound.selection)))
-
   own-slot : (name : List ℕ) (slot : ℕ) → slot_of name table.tags ≡ Some slot → slot ≢ 0 →
       slot_for seats table.tags (tag_key name) ≡ Some slot
   own-slot name slot is own =
-      ap (λ b. cond (not b) (slot_of name table.tags) None) (not-selection name slot is own) ∙ is
+      ap (λ b. cond (not b) (slot_of name table.tags) None) (not_selection seats table seated sound name slot
+      is own) ∙ is
 
   no-slot : (name : List ℕ) → slot_of name table.tags ≡ None → slot_for seats table.tags (tag_key name) ≡ None
   no-slot name none = elim (is_same name sel) as (λ b. cond (not b) (slot_of name table.tags) None ≡ None) [

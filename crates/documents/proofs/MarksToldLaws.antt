@@ -611,7 +611,7 @@ foretells-unset document words seen names gathered widget = λ _ window found.
 
 -- ---- names that are gathered
 
-pub among-in : (name word : List ℕ) (names : List (List ℕ)) → is_among name names ≡ true →
+among-in : (name word : List ℕ) (names : List (List ℕ)) → is_among name names ≡ true →
     is_among name (names ++ word ∷ []) ≡ true
 among-in name word [] is = absurd (false≢true is)
 among-in name word (first ∷ names) is =

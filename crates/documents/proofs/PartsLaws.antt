@@ -123,8 +123,7 @@ pub sits-shown : (parts : Parts) (document : Document) (place : ℕ) → Stands 
     place < length document.widgets → (slot : ℕ) × Sits parts document place slot
 sits-shown parts document place stands within =
     let numbers = numbers_of parts.seats.entries in
-    let slot = get_or numbers place 0 in
-    (
+    let slot = get_or numbers place 0 in (
       slot,
       sits parts document place slot stands (slice_get-get_or numbers place 0 (omega (
         arith,

@@ -3,6 +3,7 @@ use Rattle.std.proofs.Common.{◌≡◌, ◌≢◌, ℕ, ◌<◌, ◌≤◌, Boo
 use Rattle.std.proofs.Common.{filter, map, length, drop, slice_get, refl, sym, ap, subst, ◌∙◌, true≢false, arith, inl}
 use Rattle.std.proofs.Common.{inr, ne_eqb, option_map, ◌==◌, Contains, if◌then◌else◌}
 use Rattle.std.specs.List.{list_any}
+use Rattle.std.proofs.lemmas.Bool.{false_from_ne_true}
 use Rattle.std.proofs.lemmas.List.{map-append, take-append-drop}
 use Rattle.std.proofs.lemmas.List.Elements.{Contains-append_cases, Contains-append_left, Contains-append_right}
 use Rattle.std.proofs.lemmas.Option.{none-some, same_Some, slice_get-map}
@@ -179,6 +180,12 @@ module _ (seats : List Named) (table : Tags) (seated : AreSeats seats) (sound : 
       ∙ other) in
       (sound.others found.0 slot (slice_get-map (λ (tag : Tag). tag.slot) tags found.0
       ∙ ap (option_map (λ (tag : Tag). tag.slot)) found.2 ∙ ap Some found.4) own).0
+
+  -- the slot 0 alone is that of `sel`
+  pub not_selection : (name : List ℕ) (slot : ℕ) → slot_of name tags ≡ Some slot → slot ≢ 0 → is_same name sel ≡ false
+  not_selection name slot is own = false_from_ne_true (is_same name sel) (λ same.
+      own (same_Some slot 0 (sym is ∙ ap (λ n. slot_of n tags) ((bytes_eq-Decides name sel).0 same)
+      ∙ sound.selection)))
 
   apart_kinds : (name other : List ℕ) (slot : ℕ) → seat_number name seats ≡ Some slot →
       tag_slot other tags ≡ Some slot → ⊥

@@ -1,16 +1,18 @@
 -- What is told where a key is put on spans, or taken off them.
 use Rattle.std.proofs.Common.{◌≡◌, ℕ, zero, suc, ◌+◌, ◌-◌, ◌<◌, ◌≤◌, Bool, true, false, not, List, [], ◌∷◌, ◌++◌}
 use Rattle.std.proofs.Common.{map, length, take, drop, get_or, refl, sym, ap, ap₂, ◌∙◌, arith, subst, append_assoc, Some}
-use Rattle.std.proofs.Common.{slice_get, cond, None, true≢false, nat_lt, if◌then◌else◌}
-use Rattle.std.specs.Prelude.{slice_range}
+use Rattle.std.proofs.Common.{slice_get, cond, None, true≢false, nat_lt, inl, inr, if◌then◌else◌}
+use Rattle.std.specs.Prelude.{slice_range, sum_by}
 use Rattle.std.specs.FinSet as set
 use Rattle.std.specs.List.{All}
+use Rattle.std.proofs.lemmas.Bool.{cases_lt}
 use Rattle.std.proofs.lemmas.List.{drop-drop, drop-take, get_or-drop, get_or-map, get_or-take, length-append, length-drop}
 use Rattle.std.proofs.lemmas.List.{length-map, length-take-le, map-append, take-append-drop, take-take, take_more}
 use Rattle.std.proofs.lemmas.List.Edits.{split_between}
 use Rattle.std.proofs.lemmas.List.Elements.{All-cons, All-drop, All-from_get_or, All-get_or, All-head, All-nil}
 use Rattle.std.proofs.lemmas.List.Elements.{All-map, All-tail, All-take}
 use Rattle.std.proofs.lemmas.List.Folds.{drop_split}
+use Rattle.std.proofs.lemmas.List.Sums.{sum_by-cons}
 use Rattle.std.proofs.lemmas.Option.{get_or_from_slice_get, same_Some}
 use mathlib.Core.Bool.{beq}
 use Rattle.name_list.specs.Names.{Named, names_of}
@@ -243,12 +245,12 @@ with_tag-paints key on (span ∷ spans) cells =
     with_tag-paints key on spans (changed (with_key key on) span.from span.to cells)
 
 -- a span that stands below others
-record IsBelow (border : ℕ) (span : Span) (others : List Span) : Type 0 where
+pub record IsBelow (border : ℕ) (span : Span) (others : List Span) : Type 0 where
   pub some : span.from < span.to
   pub below : span.to < border
   pub above : All (λ (other : Span). span.to ≤ other.from) others
 
-apart-at : (border : ℕ) (spans : List Span) (at : ℕ) (d : Span) → at < length spans → AreApart border spans →
+pub apart-at : (border : ℕ) (spans : List Span) (at : ℕ) (d : Span) → at < length spans → AreApart border spans →
     IsBelow border (get_or spans at d) (take at spans)
 apart-at border [] at d within apart = absurd (omega (arith, within))
 apart-at border (span ∷ spans) zero d within apart =
@@ -262,6 +264,26 @@ apart-at border (first ∷ spans) (suc at) d within apart =
       below = omega (arith, some, below, under);
       above = All-cons (λ (other : Span). to ≤ other.from) first (take at spans) (omega (arith, under)) rest.above;
     }
+
+abbrev pub long : Span → ℕ
+long span = span.to - span.from
+
+-- spans that don't touch have less in them than there is below their border
+pub counted : (border : ℕ) (spans : List Span) → 0 < border → AreApart border spans → sum_by long spans < border
+counted border [] some apart = some
+counted border (span ∷ spans) some apart =
+    let above = apart.0 in let below = apart.1 in
+    let sum = sum_by-cons long span spans in
+    elim (cases_lt 0 span.from) [
+      | inl inside ↦ (let rest = counted span.from spans inside apart.2 in omega (arith, sum, rest, above, below))
+      | inr first ↦
+          (let rest = none spans (subst (λ n. AreApart n spans) (omega (arith, first)) apart.2) in
+          omega (arith, sum, rest, above, below))
+    ]
+  where
+    none : (spans : List Span) → AreApart 0 spans → sum_by long spans ≡ 0
+    none [] apart = refl
+    none (span ∷ spans) apart = absurd (let below = apart.1 in omega (arith, below))
 
 -- a span of a text
 pub apart-fits : (len : ℕ) (spans : List Span) (at : ℕ) (d : Span) → at < length spans → AreApart (len + 1) spans →
@@ -431,7 +453,7 @@ module _ (parts : Parts) (document : Document) (place slot : ℕ) (stands : Stan
 abbrev pub of_tags : List TagChange → EditTold
 of_tags told = record { changes = []; tags = told }
 
-tags-alone : (told : List TagChange) (old new : List KeyedCell) → TellsTags told old new →
+pub tags-alone : (told : List TagChange) (old new : List KeyedCell) → TellsTags told old new →
     TellsCells old new (of_tags told)
 tags-alone told old new tells = record { text = told-characters told old new tells; tags = tells }
 

@@ -1,11 +1,8 @@
-use Rattle.std.proofs.Common.{◌≡◌, ℕ, List, Some, false, length, sym, subst, ap, ◌∙◌, chars}
-use Rattle.std.specs.FinSet as set
+use Rattle.std.proofs.Common.{◌≡◌, None, Some, false, sym, subst, ◌∙◌, chars}
 use Rattle.std.proofs.lemmas.Result.{on_ok_weaker}
-use Rattle.tag_table.specs.Tags.{slot_of}
 use Rattle.text_model.specs.Content.{flags}
-use Rattle.documents.specs.Keys.{Key}
 use Rattle.documents.specs.TagsTold.{TellsSpan}
-use Rattle.documents.proofs.GoneLaws.{gone-more, gone-seen, gone-selection, gone-unknown}
+use Rattle.documents.proofs.GoneLaws.{found-as, gone-more, gone-seen, gone-selection, gone-unknown}
 use Rattle.documents.proofs.tags_told.push_gone.Goals as goal
 use Rattle.documents.proofs.tags_told.push_gone.Goals.{then-slot-eq0-via-then-slot-eq0}
 use Rattle.documents.proofs.tags_told.push_gone.Goals.{then-slot-eq0-via-else-slot-eq0+then-has}
@@ -16,7 +13,7 @@ returns-in_default g c = λ seats names seated gone.
     let cells = (g.S.TextStore.content c.args.store.now).cells in
     let name = c.args.key.now.name in
     gone-unknown seats table seated c.requires.sound cells names name c.args.seen.now c.args.told.now gone
-    (c.in_default.ensures.value ∙ ap (λ n. slot_of n table.tags) c.as_str.ensures.characters)
+    (found-as table.tags None (chars c.as_str.result.now) name c.in_default.ensures.value c.as_str.ensures.characters)
 
 pub returns-then-slot-eq0 : goal.returns-then-slot-eq0
 returns-then-slot-eq0 g c = λ seats names seated gone.
@@ -24,7 +21,8 @@ returns-then-slot-eq0 g c = λ seats names seated gone.
     let cells = (g.S.TextStore.content c.args.store.now).cells in
     let name = c.args.key.now.name in
     let slot = c.in-Some.slot.0 in
-    let is = c.in-Some.ensures.value ∙ ap (λ n. slot_of n table.tags) c.as_str.ensures.characters in
+    let is = found-as table.tags (Some slot) (chars c.as_str.result.now) name c.in-Some.ensures.value
+    c.as_str.ensures.characters in
     elim c.then-slot-eq0.branch [
       | then-slot-eq0-via-then-slot-eq0 w ↦
           gone-selection seats table seated c.requires.sound cells names name c.args.seen.now c.args.told.now gone slot is
@@ -40,7 +38,8 @@ returns g c =
     let cells = (g.S.TextStore.content c.args.store.now).cells in
     let name = c.args.key.now.name in
     let slot = c.in-Some.slot.0 in
-    let is = c.in-Some.ensures.value ∙ ap (λ n. slot_of n table.tags) c.as_str.ensures.characters in
+    let is = found-as table.tags (Some slot) (chars c.as_str.result.now) name c.in-Some.ensures.value
+    c.as_str.ensures.characters in
     let shared : c.args.key.now ≡ record { selects = false; name = name } = λ i. record {
       selects = c.requires.shared i;
       name = name;

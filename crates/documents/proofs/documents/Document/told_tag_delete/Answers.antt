@@ -1,0 +1,18 @@
+use Rattle.std.proofs.Common.{map, sym, subst}
+use Rattle.tcl_words.specs.Unread.{texts_of}
+use Rattle.documents.specs.Documents.{Document}
+use Rattle.documents.specs.Tags.{tag_delete, without_tags}
+use Rattle.documents.specs.TagsTold.{TellsTags}
+use Rattle.documents.specs.Told.{Foretells}
+use Rattle.documents.proofs.SpanToldLaws.{tags-alone}
+use Rattle.documents.proofs.documents.Document.told_tag_delete.Goals as goal
+
+pub returns : goal.returns
+returns g c =
+    let document = c.args.self.now in
+    let names = texts_of c.args.names.now in
+    let told = c.in_ok-tags.tags in
+    subst (Foretells document (tag_delete document names)) (sym c.of_tags.ensures) (λ _.
+    tags-alone told document.cells (map (without_tags names) document.cells)
+    (subst (λ (d : Document). TellsTags told d.cells (map (without_tags names) d.cells)) c.self.view_is
+    (c.in_ok-tags.ensures c.self.inside.seats.entries c.self.invariant.kept.seats)))
