@@ -40,6 +40,9 @@ class Mirror:
         for change in changes:
             put = self.copy.tag_add if change.on else self.copy.tag_remove
             put(change.tag, f"1.0 + {change.at} chars", f"1.0 + {change.end} chars")
+            if not change.on and not self.copy.tag_ranges(change.tag):
+                # So a copy has no more tags than its text, where there may be only so many.
+                self.copy.tag_delete(change.tag)
 
 
 def ranges_of(text: Text, tag: str) -> "list[tuple[str, str]]":

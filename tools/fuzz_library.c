@@ -570,12 +570,27 @@ static void check_ends(tktext *world, size_t change, int takes_out, int puts_in)
     check(puts_in || is_one_place(world, change, TKTEXT_START, TKTEXT_NEW_END), "what isn't put in has an end");
 }
 
+/* The changes of tags: each of some characters and with a name, and a widget's name of `sel` alone. */
+static void check_tags(tktext *world)
+{
+    uint8_t tag[4], widget[4];
+    size_t count = tktext_told_tags(world);
+    for (size_t at = 0; at < count; at++) {
+        size_t length = tktext_told_tag(world, at, tag, 4), owner = tktext_told_tag_widget(world, at, widget, 4);
+        check(tktext_told_tag_from(world, at) < tktext_told_tag_to(world, at), "an idle change of a tag is told");
+        check((owner > 0) == (length == 3 && memcmp(tag, "sel", 3) == 0), "a tag of a widget's own");
+    }
+    check(tktext_told_tag(world, count, tag, 4) == 0 && tktext_told_tag_to(world, count) == 0, "a tag too many");
+    check(tktext_told_tag_on(world, count) == 0 && tktext_told_tag_widget(world, count, tag, 4) == 0, "a tag too many");
+}
+
 /* What a call that tells told: none of a refused command, and no idle change; marks of no edit of the text. */
 static void check_told(tktext *world, int32_t code)
 {
     uint8_t room[4];
-    size_t count = tktext_told(world), marks = tktext_told_marks(world);
-    check(code == TKTEXT_ANSWER || count + marks == 0, "a refused command tells of a change");
+    size_t count = tktext_told(world), tags = tktext_told_tags(world), marks = tktext_told_marks(world);
+    check(code == TKTEXT_ANSWER || count + tags + marks == 0, "a refused command tells of a change");
+    check_tags(world);
     check(count == 0 || marks == 0, "an edit tells of marks");
     for (size_t at = 0; at < count; at++) {
         int takes_out = tktext_told_removed(world, at) > 0, puts_in = tktext_told_inserted(world, at, room, 4) > 0;

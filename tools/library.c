@@ -278,6 +278,42 @@ static void check_ends(void)
     check(tktext_told_mark(&world, 0, room, sizeof room) == 0, "no such mark");
     tktext_drop(&world);
 }
+/* Whether one of the changes of tags is this one: a tag, of a `sel` its widget's name, and what becomes of it where. */
+static bool tag_is(tktext *world, size_t change, const char *tag, const char *widget, size_t from, size_t to, int on)
+{
+    uint8_t room[8];
+    size_t length = tktext_told_tag(world, change, room, sizeof room);
+    bool named = length == strlen(tag) && memcmp(room, tag, length) == 0;
+    length = tktext_told_tag_widget(world, change, room, sizeof room);
+    return named && length == strlen(widget) && memcmp(room, widget, length) == 0
+        && tktext_told_tag_from(world, change) == from && tktext_told_tag_to(world, change) == to
+        && tktext_told_tag_on(world, change) == on;
+}
+
+static void check_tags(void)
+{
+    tktext world = TKTEXT_EMPTY;
+    check(tktext_told_tags(&world) == 0 && tag_is(&world, 0, "", "", 0, 0, 0), "the tags that no world told");
+    tktext_new_greatest(&world);
+    tktext_call_words(&world, WORDS("text", ".t", "-undo", "1"));
+    check(call_told(&world, ".tinsert1.0abcb sel", LENGTHS(2, 6, 3, 3, 5)) == TKTEXT_ANSWER && tktext_told(&world) == 1
+          && tktext_told_tags(&world) == 2 && tag_is(&world, 0, "b", "", 0, 3, 1)
+          && tag_is(&world, 1, "sel", ".t", 0, 3, 1), "the tags of a list");
+    check(call_told(&world, ".tdelete1.1end", LENGTHS(2, 6, 3, 3)) == TKTEXT_ANSWER && tktext_told(&world) == 1
+          && tktext_told_tags(&world) == 0, "tags that go with their characters");
+    check(call_told(&world, ".ttagaddb1.0end", LENGTHS(2, 3, 3, 1, 3, 3)) == TKTEXT_ANSWER && tktext_told(&world) == 0
+          && tktext_told_tags(&world) == 1 && tag_is(&world, 0, "b", "", 1, 2, 1), "a tag where it isn't yet");
+    check(call_told(&world, ".teditundo", LENGTHS(2, 4, 4)) == TKTEXT_ANSWER && tktext_told_tags(&world) == 1
+          && tag_is(&world, 0, "b", "", 1, 3, 1), "what comes back between two that have it");
+    check(call_told(&world, ".tdelete1.2end", LENGTHS(2, 6, 3, 3)) == TKTEXT_ANSWER && tktext_told_tags(&world) == 1
+          && tag_is(&world, 0, "b", "", 2, 3, 0), "the last character loses it where it stands then");
+    check(call_told(&world, ".ttagdeletebbc", LENGTHS(2, 3, 6, 1, 1, 1)) == TKTEXT_ANSWER
+          && tktext_told_tags(&world) == 1 && tag_is(&world, 0, "b", "", 0, 2, 0), "a tag that goes");
+    check(call_told(&world, ".ttagaddb", LENGTHS(2, 3, 3, 1)) == TKTEXT_FAULT && tktext_told_tags(&world) == 0, "a refused one");
+    check(tag_is(&world, 0, "", "", 0, 0, 0), "no such change of a tag");
+    tktext_drop(&world);
+}
+
 static void check_told(void)
 {
     uint8_t room[4] = "abcd";
@@ -408,6 +444,7 @@ static int try_uses(void)
     check_script(&world);
     check_undo();
     check_told();
+    check_tags();
     check_ends();
     tktext_drop(&world);
     check_empty(&world);

@@ -540,6 +540,43 @@ None [0]
 None []
 """
 
+# What becomes of tags is told behind it: to each of its own `sel` alone.
+TAGGED = """
+text, told = Text(undo=True, name=".t"), []
+peer = text.peer_create(".p")
+end = text.on_tags(lambda tags: told.append([tuple(change) for change in tags]))
+peer.on_tags(lambda tags: told.append(len(tags)))
+def show(answer):
+    print(answer, told)
+    told.clear()
+show(text.insert("1.0", "one", ("b", "sel", "b"), "two"))
+show(peer.insert("1.1", "x"))
+show(text.tag_add("b", "1.2", "end"))
+show(text.tag_add("b", "1.0", "1.1"))
+show(text.world.call(".p", "tag", "remove", "b", "1.1", "1.2", "1.4", "1.5"))
+show(text.delete("1.5", "end"))
+show(text.edit_undo())
+show((text.tag_add("b", "1.0", "end"), text.edit_redo(), text.edit_undo()))
+show(text.tag_delete("b", "b", "none", "sel"))
+show(text.replace("1.0", "1.2", "zz"))
+show((peer.tag_add("sel", "1.0"), text.tag_raise("sel"), text.mark_set("m", "1.1")))
+end()
+show((tried(text.insert, "nowhere", "a", "q"), text.insert("1.0", "a", "q")))
+"""
+TAGGED_SAYS = """None [[('b', 0, 3, True), ('sel', 0, 3, True)], 1]
+None [[('sel', 1, 2, True), ('b', 1, 2, True)], 1]
+None [[('b', 4, 8, True)], 1]
+None []
+ [[('b', 4, 5, False), ('b', 1, 2, False)], 2]
+None [[('b', 5, 6, False)], 1]
+ []
+(None, '', '') [[('b', 1, 2, True), ('b', 4, 8, True)], 2, [('b', 5, 7, True)], 1]
+None [[('b', 0, 8, False)], 1]
+None []
+(None, None, None) [1]
+('TclError: bad text index "nowhere"', None) [1]
+"""
+
 
 def cases(rounds):
     """The name of each case, its script, and what it prints."""
@@ -564,6 +601,7 @@ def cases(rounds):
     yield "what is left", LEFT, LEFT_SAYS
     yield "calls by position", DIRECT, DIRECT_SAYS
     yield "a text that is followed", FOLLOWED, FOLLOWED_SAYS.rstrip()
+    yield "tags that are followed", TAGGED, TAGGED_SAYS.rstrip()
     yield "the examples of the docstrings", EXAMPLES, "[]\n[]\n[]\n[]\n[]\n0"
     yield "random values", TKINTER, "done"
 

@@ -92,6 +92,14 @@ puts [tktext::onchange .t]
 puts [.t edit undo]
 puts $ends
 .t tag add x 1.0
+tktext::ontags .t {apply {tags { puts [list tags {*}$tags] }}}
+tktext::ontags .p {apply {tags { puts [list peer {*}$tags] }}}
+.t tag add y 1.0 1.1
+.t insert 1.1 a {y sel} b
+.p tag remove y 1.0 1.2
+tktext::ontags .t {}
+.t delete 1.1 1.3
+tktext::ontags .p {}
 tktext::onmarks .t {puts}
 puts [tktext::onmarks .t]
 tktext::onmarks .p {apply {names { puts [list p $names] }}}
@@ -124,6 +132,14 @@ t {4 1 {}} {1 1 {}}
 t {3 0 t} {1 0 n}
 
 {1 1 1 1} {1 1 1 1} {1 2 2 2}
+peer {y 0 1 1}
+tags {y 0 1 1}
+peer {y 1 2 1}
+t {1 0 b} {1 0 a}
+tags {y 1 2 1} {sel 1 2 1}
+peer {y 0 2 0}
+tags {y 0 2 0}
+t {1 2 {}}
 puts
 p m
 m

@@ -44,6 +44,12 @@ fn main(rt: HostRuntime) {
     let _ = tktext_told_column(alloc, &mut handle, 0, 0);
     let _ = tktext_told_bytes(alloc, &mut handle, 0, 0);
     let _ = tktext_told_units(alloc, &mut handle, 0, 0);
+    let _ = tktext_told_tags(alloc, &mut handle);
+    let _ = tktext_told_tag(alloc, &mut handle, 0, &mut room);
+    let _ = tktext_told_tag_widget(alloc, &mut handle, 0, &mut room);
+    let _ = tktext_told_tag_from(alloc, &mut handle, 0);
+    let _ = tktext_told_tag_to(alloc, &mut handle, 0);
+    let _ = tktext_told_tag_on(alloc, &mut handle, 0);
     let _ = tktext_told_marks(alloc, &mut handle);
     let _ = tktext_told_mark(alloc, &mut handle, 0, &mut room);
     let _ = tktext_can_undo(alloc, &mut handle, b".t");

@@ -296,7 +296,8 @@ contains-without (other ∷ gone) slots slot =
     ∙ ap (λ b. not b && set.contains slots slot) (unsigned_tied slot other))
     ∙ one_less (slot == other) (set.contains slots slot) (is_in gone slot)
 
-retained : (stays : Key → Bool) (keys : Keys) (key : Key) →
+-- keys of which those stay that pass
+pub retained : (stays : Key → Bool) (keys : Keys) (key : Key) →
     set.contains (set.retain keys stays) key ≡ (set.contains keys key && stays key)
 retained stays keys key =
     set.contains-retain keys stays key (λ other tied. ap stays (sym (key_cmp_exact key other tied)))

@@ -5,6 +5,7 @@ pub mod ClearedLaws
 pub mod EditLeadLaws
 pub mod FindLaws
 pub mod FirstLaws
+pub mod GoneLaws
 pub mod IndexPlaceLaws
 pub mod InsertionLaws
 pub mod JournalLaws

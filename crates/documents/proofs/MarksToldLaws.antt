@@ -611,7 +611,7 @@ foretells-unset document words seen names gathered widget = λ _ window found.
 
 -- ---- names that are gathered
 
-among-in : (name word : List ℕ) (names : List (List ℕ)) → is_among name names ≡ true →
+pub among-in : (name word : List ℕ) (names : List (List ℕ)) → is_among name names ≡ true →
     is_among name (names ++ word ∷ []) ≡ true
 among-in name word [] is = absurd (false≢true is)
 among-in name word (first ∷ names) is =
@@ -619,14 +619,14 @@ among-in name word (first ∷ names) is =
     → (b || is_among name (names ++ word ∷ [])) ≡ true)
     [ true ↦ λ _. refl | false ↦ λ there. among-in name word names there ] is
 
-among-last : (name word : List ℕ) (names : List (List ℕ)) → is_same name word ≡ true →
+pub among-last : (name word : List ℕ) (names : List (List ℕ)) → is_same name word ≡ true →
     is_among name (names ++ word ∷ []) ≡ true
 among-last name word [] is = ap (λ b. b || false) is
 among-last name word (first ∷ names) is =
     elim (is_same name first) as (λ b. (b || is_among name (names ++ word ∷ [])) ≡ true)
     [ true ↦ refl | false ↦ among-last name word names is ]
 
-among-other : (name word : List ℕ) (names : List (List ℕ)) → is_same name word ≡ false →
+pub among-other : (name word : List ℕ) (names : List (List ℕ)) → is_same name word ≡ false →
     is_among name (names ++ word ∷ []) ≡ is_among name names
 among-other name word [] other = ap (λ b. b || false) other
 among-other name word (first ∷ names) other =

@@ -1,10 +1,10 @@
 -- A document as it is kept: its characters, its widgets, and what of it a change leaves.
 use Rattle.std.proofs.Common.{◌≡◌, ℕ, zero, suc, ◌+◌, ◌*◌, ◌<◌, true, List, [], ◌∷◌, length, map, refl, sym, ap, subst}
-use Rattle.std.proofs.Common.{◌∙◌, slice_get, option_map, Some, is_some}
+use Rattle.std.proofs.Common.{◌∙◌, slice_get, option_map, Some, is_some, get_or, arith}
 use Rattle.std.specs.FinMap as finite
 use Rattle.std.specs.List.{AllByRecursion}
 use Rattle.std.proofs.lemmas.List.{length-map}
-use Rattle.std.proofs.lemmas.Option.{none-some, same_Some, get_or_from_slice_get, slice_get-map}
+use Rattle.std.proofs.lemmas.Option.{none-some, same_Some, get_or_from_slice_get, slice_get-get_or, slice_get-map}
 use Rattle.text_model.specs.declared.cells.Cell.{Cell}
 use Rattle.text_model.specs.declared.limits.TheConstants.Limits.{MOST_WIDGETS}
 use Rattle.text_model.specs.Content as model
@@ -117,3 +117,19 @@ sits parts document place slot stands is =
       insert = subst (λ n. is_some (finite.get parts.content.marks (2 * n)) ≡ true) same own.insert;
       current = subst (λ n. is_some (finite.get parts.content.marks (2 * n + 1)) ≡ true) same own.current;
     }
+
+-- a widget that there is
+pub sits-shown : (parts : Parts) (document : Document) (place : ℕ) → Stands parts document →
+    place < length document.widgets → (slot : ℕ) × Sits parts document place slot
+sits-shown parts document place stands within =
+    let numbers = numbers_of parts.seats.entries in
+    let slot = get_or numbers place 0 in
+    (
+      slot,
+      sits parts document place slot stands (slice_get-get_or numbers place 0 (omega (
+        arith,
+        within,
+        widgets-kept parts document stands.is,
+        length-map parts.seats.entries (λ (seat : Named). seat.number),
+      ))),
+    )

@@ -1,7 +1,7 @@
 -- What is told where a key is put on spans, or taken off them.
 use Rattle.std.proofs.Common.{◌≡◌, ℕ, zero, suc, ◌+◌, ◌-◌, ◌<◌, ◌≤◌, Bool, true, false, not, List, [], ◌∷◌, ◌++◌}
 use Rattle.std.proofs.Common.{map, length, take, drop, get_or, refl, sym, ap, ap₂, ◌∙◌, arith, subst, append_assoc, Some}
-use Rattle.std.proofs.Common.{slice_get}
+use Rattle.std.proofs.Common.{slice_get, cond, None, true≢false, nat_lt, if◌then◌else◌}
 use Rattle.std.specs.Prelude.{slice_range}
 use Rattle.std.specs.FinSet as set
 use Rattle.std.specs.List.{All}
@@ -9,24 +9,46 @@ use Rattle.std.proofs.lemmas.List.{drop-drop, drop-take, get_or-drop, get_or-map
 use Rattle.std.proofs.lemmas.List.{length-map, length-take-le, map-append, take-append-drop, take-take, take_more}
 use Rattle.std.proofs.lemmas.List.Edits.{split_between}
 use Rattle.std.proofs.lemmas.List.Elements.{All-cons, All-drop, All-from_get_or, All-get_or, All-head, All-nil}
-use Rattle.std.proofs.lemmas.List.Elements.{All-tail, All-take}
+use Rattle.std.proofs.lemmas.List.Elements.{All-map, All-tail, All-take}
 use Rattle.std.proofs.lemmas.List.Folds.{drop_split}
-use Rattle.std.proofs.lemmas.Option.{get_or_from_slice_get}
+use Rattle.std.proofs.lemmas.Option.{get_or_from_slice_get, same_Some}
 use mathlib.Core.Bool.{beq}
+use Rattle.name_list.specs.Names.{Named, names_of}
+use Rattle.index_grammar.specs.Names.{known_tags}
+use Rattle.text_model.specs.Content.{flags}
 use Rattle.text_model.specs.Changes.{flag_at, is_alike, next_change}
+use Rattle.text_model.specs.LimitTable.{LimitTable}
 use Rattle.text_model.specs.Splices.{changed}
 use Rattle.text_model.proofs.SpliceLaws.{length-changed, map-slice_range}
 use Rattle.text_index.proofs.FlagLaws.{next-alike}
-use Rattle.edit_ops.specs.Deletions.{AreApart}
+use Rattle.edit_ops.specs.Deletions.{AreApart, in_spans}
 use Rattle.edit_ops.specs.Tagging.{SpanFits}
 use Rattle.edit_ops.specs.declared.spans.Span.{Span}
-use Rattle.documents.specs.Documents.{KeyedCell}
+use Rattle.command_effects.specs.Lists.{with_name}
+use Rattle.command_effects.specs.Words.{is_among}
+use Rattle.command_effects.specs.declared.answers.Answer.TheVariants.{Empty}
+use Rattle.command_effects.specs.declared.answers.Fault.TheVariants.{TooManyTags}
+use Rattle.documents.specs.Documents.{Document, KeyedCell, Parts, Widget, document_of, widget_at}
 use Rattle.documents.specs.Edits.{with_key, with_tag}
-use Rattle.documents.specs.Keys.{Key}
+use Rattle.documents.specs.Keys.{Key, key_named, key_pairs, set_key}
+use Rattle.documents.specs.Kept.{Stands}
+use Rattle.documents.specs.Names.{key_of}
+use Rattle.documents.specs.Promise.{Change, answered, refused}
+use Rattle.documents.specs.Ranges.{spans_shown}
+use Rattle.documents.specs.Tags.{add_spans, remove_spans}
 use Rattle.documents.specs.TagsTold.{IsTagChange, TellsSpan, TellsSpans, TellsTags, flags_of}
+use Rattle.documents.specs.Told.{Foretells, TellsCells}
 use Rattle.documents.specs.declared.tag_lists.TagChange.{TagChange}
+use Rattle.documents.specs.declared.told.EditTold.{EditTold}
+use Rattle.documents.proofs.BridgeLaws.{contains-set_key, key_itself, keys_of-has}
+use Rattle.documents.proofs.KeyedLaws.{keyed-flags, keyed_cell}
+use Rattle.documents.proofs.LookupLaws.{has}
 use Rattle.documents.proofs.PaintLaws.{apart-fit, painted, painted-front, painted-idle, painted-long, painted-push}
-use Rattle.documents.proofs.TagsToldLaws.{drop-changed, part-changed, set_again, tells-then}
+use Rattle.documents.proofs.PaintLaws.{painted-same}
+use Rattle.documents.proofs.PartsLaws.{Sits, mapped-at}
+use Rattle.documents.proofs.SlotLaws.{slot_for, slot_for-named}
+use Rattle.documents.proofs.SpanLaws.{slot_known}
+use Rattle.documents.proofs.TagsToldLaws.{drop-changed, part-changed, set_again, tells-then, told-characters}
 
 -- ---- parts of a list
 
@@ -301,14 +323,147 @@ whole-then key flags spans at d told between more within apart none first made =
     (none-set flags span.from span.to none)))
 
 -- and nothing where it is taken off
+with_tag-none : (key : Key) (flags : List Bool) (spans : List Span) (cells : List KeyedCell) →
+    All (SpanFits (length cells)) spans → flags_of key cells ≡ flags → All (λ flag. flag ≡ false) flags
+    → with_tag key false spans cells ≡ cells
+with_tag-none key flags spans cells fits same none =
+    with_tag-paints key false spans cells
+    ∙ painted-idle (with_key key false) spans cells (λ span fit. unchanged key false flags cells span.from span.to
+    fit.ordered (ap (λ fs. slice_range fs span.from span.to) same) (none-set flags span.from span.to none)) fits
+
 pub whole-none : (key : Key) (flags : List Bool) (spans : List Span) (told : List TagChange) →
     AreApart (length flags + 1) spans → All (λ flag. flag ≡ false) flags → TellsSpans key false flags spans told told
 whole-none key flags spans told apart none start cells same so_far =
     let long : length cells ≡ length flags = sym (length-map cells (has_key key)) ∙ ap length same in
-    let f = with_key key false in
-    let idle : with_tag key false spans cells ≡ cells =
-    with_tag-paints key false spans cells
-    ∙ painted-idle f spans cells (λ span fits. unchanged key false flags cells span.from span.to fits.ordered
-    (ap (λ fs. slice_range fs span.from span.to) same) (none-set flags span.from span.to none))
-    (apart-fit (length flags + 1) (length cells) spans (omega (arith, long)) apart) in
-    subst (TellsTags told start) (sym idle) so_far
+    subst (TellsTags told start)
+    (sym (with_tag-none key flags spans cells (apart-fit (length flags + 1) (length cells) spans (omega (arith, long))
+    apart) same none)) so_far
+
+-- ---- a command that tags spans, by the longest runs of them
+
+-- a key that is put on twice, or taken off twice
+with_key-twice : (key : Key) (on : Bool) (cell : KeyedCell) →
+    with_key key on (with_key key on cell) ≡ with_key key on cell
+with_key-twice key on cell =
+    ap (λ keys. record cell { keys = keys }) (set_again key on (set_key key on cell.keys)
+    (contains-set_key key on cell.keys key ∙ ap (λ b. cond b on (set.contains cell.keys key)) (key_itself key key refl)))
+
+-- spans in which the same offsets lie are tagged alike
+pub with_tag-same : (key : Key) (on : Bool) (spans others : List Span) (cells : List KeyedCell) →
+    All (SpanFits (length cells)) spans → All (SpanFits (length cells)) others
+    → ((offset : ℕ) → in_spans spans offset ≡ in_spans others offset)
+    → with_tag key on spans cells ≡ with_tag key on others cells
+with_tag-same key on spans others cells fits others_fit same =
+    with_tag-paints key on spans cells
+    ∙ painted-same (with_key key on) (with_key-twice key on) spans others cells fits others_fit same
+    ∙ sym (with_tag-paints key on others cells)
+
+pub runs-told : (key : Key) (on : Bool) (flags : List Bool) (cells : List KeyedCell) (spans runs : List Span)
+    (before told : List TagChange) → All (SpanFits (length cells)) spans → AreApart (length cells + 1) runs
+    → ((offset : ℕ) → in_spans runs offset ≡ in_spans spans offset) → flags_of key cells ≡ flags → before ≡ []
+    → TellsSpans key on flags runs before told → TellsTags told cells (with_tag key on spans cells)
+runs-told key on flags cells spans runs before told fits apart covers same none tells =
+    subst (TellsTags told cells)
+    (with_tag-same key on runs spans cells (apart-fit (length cells + 1) (length cells) runs (omega arith) apart) fits
+    covers)
+    (tells cells cells same (subst (λ changes. TellsTags changes cells cells) (sym none) refl))
+
+-- the key of a name to a widget that sits at a place, by the slot that the name has to the widget, and where it has none
+module _ (parts : Parts) (document : Document) (place slot : ℕ) (stands : Stands parts document)
+    (sits : Sits parts document place slot) (name : List ℕ) where
+  abbrev pub seen_key : Key
+  seen_key = key_of (widget_at document place) name
+
+  seen-is : key_named sits.seat.name name ≡ seen_key
+  seen-is = ap (λ (widget : Widget). key_named widget.name name) (sym sits.widget)
+
+  -- by the name as the widget's seat has it
+  pub seen-named : (widget : List ℕ) → slice_get (names_of parts.seats.entries) place ≡ Some widget →
+      key_named widget name ≡ seen_key
+  seen-named widget is =
+      ap (λ n. key_named n name) (same_Some widget sits.seat.name (sym is
+      ∙ mapped-at (λ (seat : Named). seat.name) parts.seats.entries place sits.seat sits.stands)) ∙ seen-is
+
+  pub seen-flags : (tag : ℕ) → Some tag ≡ known_tags parts.tags.tags slot name →
+      flags_of seen_key document.cells ≡ flags tag parts.content.cells
+  seen-flags tag known =
+      let kept = stands.sound.kept in
+      let there : known_tags parts.tags.tags sits.seat.number name ≡ Some tag =
+      ap (λ n. known_tags parts.tags.tags n name) sits.number ∙ sym known in
+      ap₂ (λ key (d : Document). flags_of key d.cells) (sym seen-is) (sym stands.is)
+      ∙ sym (keyed-flags parts.seats.entries parts.tags kept.seats kept.tags place sits.seat sits.stands name tag there
+      parts.content.cells)
+
+  -- no character has the key of an unknown name
+  pub seen-none : None ≡ known_tags parts.tags.tags slot name → All (λ flag. flag ≡ false) (flags_of seen_key document.cells)
+  seen-none unknown =
+      let kept = stands.sound.kept in
+      let seats = parts.seats.entries in
+      let tags = parts.tags.tags in
+      let none : slot_for seats tags (key_named sits.seat.name name) ≡ None =
+      slot_for-named seats parts.tags kept.seats kept.tags place sits.seat name sits.stands
+      ∙ ap (λ n. known_tags tags n name) sits.number ∙ sym unknown in
+      subst (All (λ flag. flag ≡ false)) (ap₂ (λ key (d : Document). flags_of key d.cells) seen-is stands.is)
+      (All-map (λ flag. flag ≡ false) (has_key (key_named sits.seat.name name)) (document_of parts).cells
+      (All-map (λ (cell : KeyedCell). has_key (key_named sits.seat.name name) cell ≡ false)
+      (keyed_cell (key_pairs seats tags)) parts.content.cells (λ k d _.
+      keys_of-has seats tags (get_or parts.content.cells k d).tags (key_named sits.seat.name name)
+      kept.seats.names_apart kept.tags.names_apart
+      ∙ ap (has (get_or parts.content.cells k d).tags) none)))
+
+  -- to take an unknown tag off spans changes nothing
+  pub unknown-off : is_among name document.tags ≡ false → (spans : List Span)
+      → All (SpanFits (length document.cells)) spans → with_tag seen_key false spans document.cells ≡ document.cells
+  unknown-off absent spans fits =
+      with_tag-none seen_key (flags_of seen_key document.cells) spans document.cells fits refl (seen-none unknown)
+    where
+      unknown : None ≡ known_tags parts.tags.tags slot name
+      unknown = elim (known_tags parts.tags.tags slot name) as (λ o. known_tags parts.tags.tags slot name ≡ o →
+          None ≡ o) [
+            | None ↦ λ _. refl
+            | Some tag ↦ λ there. absurd (true≢false (sym (slot_known name parts.tags.tags slot tag there)
+                ∙ ap (λ (d : Document). is_among name d.tags) stands.is ∙ absent))
+          ] refl
+
+-- ---- what commands on tags tell
+
+-- changes of tags alone
+abbrev pub of_tags : List TagChange → EditTold
+of_tags told = record { changes = []; tags = told }
+
+tags-alone : (told : List TagChange) (old new : List KeyedCell) → TellsTags told old new →
+    TellsCells old new (of_tags told)
+tags-alone told old new tells = record { text = told-characters told old new tells; tags = tells }
+
+pub foretells-added : (limits : LimitTable) (document : Document) (widget : Widget) (name : List ℕ) (places : List ℕ)
+    (spans : List Span) (told : List TagChange) → spans ≡ spans_shown document widget places
+    → TellsTags told document.cells (with_tag (key_of widget name) true spans document.cells)
+    → Foretells document (add_spans limits document widget name places) (of_tags told)
+foretells-added limits document widget name places spans told are tells =
+    let new = with_tag (key_of widget name) true (spans_shown document widget places) document.cells in
+    let made : Change = answered (record document { tags = with_name document.tags name; cells = new }) Empty in
+    elim (nat_lt (limits.tags + 1) (length (with_name document.tags name))) as (λ b.
+    Foretells document (if b then refused document TooManyTags else made) (of_tags told)) [
+      | true ↦ λ never. absurd (true≢false (sym never))
+      | false ↦ λ _. tags-alone told document.cells new
+          (subst (λ ss. TellsTags told document.cells (with_tag (key_of widget name) true ss document.cells)) are tells)
+    ]
+
+pub foretells-removed : (parts : Parts) (document : Document) (place slot : ℕ) → Stands parts document →
+    Sits parts document place slot → (name : List ℕ) (places : List ℕ) (spans : List Span) (told : List TagChange)
+    → spans ≡ spans_shown document (widget_at document place) places → All (SpanFits (length document.cells)) spans
+    → (let widget = widget_at document place in
+    TellsTags told document.cells (with_tag (key_of widget name) false spans document.cells)
+    → Foretells document (remove_spans document widget name places) (of_tags told))
+foretells-removed parts document place slot stands sits name places spans told are fits tells =
+    let widget = widget_at document place in
+    let key = key_of widget name in
+    let new = with_tag key false (spans_shown document widget places) document.cells in
+    elim (is_among name document.tags) as (λ b. is_among name document.tags ≡ b →
+    Foretells document (answered (if b then record document { cells = new } else document) Empty) (of_tags told)) [
+      | true ↦ λ _ _. tags-alone told document.cells new
+          (subst (λ ss. TellsTags told document.cells (with_tag key false ss document.cells)) are tells)
+      | false ↦ λ absent _. tags-alone told document.cells document.cells
+          (subst (TellsTags told document.cells)
+          (unknown-off parts document place slot stands sits name absent spans fits) tells)
+    ] refl

@@ -15,6 +15,7 @@ pub mod Queries
 pub mod Ranges
 pub mod Seats
 pub mod Tags
+pub mod TagsGone
 pub mod TagsTold
 pub mod Texts
 pub mod Told

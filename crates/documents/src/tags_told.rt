@@ -1,11 +1,13 @@
 //! What commands tell of tags.
 
-ghost use Rattle.std.specs.Prelude.{◌≡◌, ◌+◌, ◌-◌, ◌<◌, ◌≤◌, ◌^◌, Some, true, false, chars, slice_get, length, option_map, sum_by, IfOk};
+ghost use Rattle.std.specs.Prelude.{◌≡◌, ℕ, ◌+◌, ◌-◌, ◌<◌, ◌≤◌, ◌^◌, ◌++◌, ◌∷◌, [], Some, true, false, chars, slice_get};
+ghost use Rattle.std.specs.Prelude.{length, option_map, sum_by, IfOk, List, OnOk};
 ghost use Rattle.std.specs.FinSet as set;
 ghost use Rattle.std.specs.List.{All};
 ghost use Rattle.text_model.specs.Content.{slot_sets};
 ghost use Rattle.text_model.specs.LimitTable.{LimitTable};
 ghost use Rattle.text_model.specs.declared.limits.TheConstants.Limits.{MOST_WIDGETS};
+ghost use Rattle.name_list.specs.Names.{Named};
 ghost use Rattle.tcl_words.specs.Unread.{texts_of};
 ghost use Rattle.tag_table.specs.Tags.{AreTags};
 ghost use Rattle.edit_ops.specs.Deletions.{AreApart};
@@ -19,6 +21,7 @@ ghost use Rattle.documents.specs.Kept.{AreSeats};
 ghost use Rattle.documents.specs.Keys.{keys_listed, keys_named, keys_of, key_pairs};
 ghost use Rattle.documents.specs.Names.{key_of};
 ghost use Rattle.documents.specs.Tags.{add_spans, remove_spans, tag_delete};
+ghost use Rattle.documents.specs.TagsGone.{AreGone, TellsGone};
 ghost use Rattle.documents.specs.TagsTold.{run_changes, slot_changes, AreKeysOf, TellsPairs, TellsTags};
 ghost use Rattle.documents.specs.Told.{Foretells};
 ghost use Rattle.documents.specs.Views.{shown};
@@ -169,6 +172,53 @@ impl<S: TextStore> Document<S> {
     }
 }
 
+// ---- tags that are deleted
+
+/// Tells that the tag of a name goes, unless it is `sel`, unknown, or has gone already.
+fn push_gone<S: TextStore>(
+    told: &mut TagList,
+    seen: &mut TagSet,
+    store: &S,
+    tags: &TagTable,
+    key: &Key,
+) -> Result<(), AllocError>
+    requires sound { AreTags tags.now }
+    requires shared { key.now.selects ≡ false }
+    ensures { OnOk result ((seats : List Named) (names : List (List ℕ)) → AreSeats seats →
+        AreGone seats tags.now (S.content store.now).cells names seen.old told.old →
+        AreGone seats tags.now (S.content store.now).cells (names ++ key.now.name ∷ []) seen.new told.new) }
+{
+    let Some(slot) = tags.find(key.name.as_str()) else {
+        return Ok(());
+    };
+    if slot.0 == 0 || seen.has(slot) {
+        return Ok(());
+    }
+    *seen = seen.with(slot);
+    let to = store.len();
+    told.push_unlike(store, slot, key, Span { from: 0, to }, false)
+}
+
+/// What is told where the tags of some names go.
+fn tell_gone<S: TextStore>(
+    alloc: Global,
+    store: &S,
+    tags: &TagTable,
+    names: &[String],
+) -> Result<TagList, AllocError>
+    requires { AreTags tags.now }
+    ensures { IfOk result (λ told. (seats : List Named) → AreSeats seats →
+        TellsGone seats tags.now (S.content store.now).cells (texts_of names.now) told) }
+{
+    let mut seen = TagSet::empty();
+    let mut told = TagList::new(alloc);
+    for name in names {
+        let key = Key::new(alloc, false, name.as_str())?;
+        push_gone(&mut told, &mut seen, store, tags, &key)?;
+    }
+    Ok(told)
+}
+
 // ---- commands on tags
 
 impl<S: TextStore> Document<S> {
@@ -229,38 +279,11 @@ impl<S: TextStore> Document<S> {
         Ok(EditTold::of_tags(self.alloc, tags))
     }
 
-    /// Tells that the tag of a name goes, unless it is `sel`, unknown, or has gone already.
-    fn tell_gone(
-        &self,
-        seen: &mut TagSet,
-        told: &mut TagList,
-        name: &str,
-    ) -> Result<(), AllocError> {
-        let Some(slot) = self.tags.find(name) else {
-            return Ok(());
-        };
-        if slot.0 == 0 || seen.has(slot) {
-            return Ok(());
-        }
-        *seen = seen.with(slot);
-        let key = Key::new(self.alloc, false, name)?;
-        let store = &self.text.store;
-        let whole = Span {
-            from: 0,
-            to: store.len(),
-        };
-        told.push_unlike(store, slot, &key, whole, false)
-    }
-
     /// What `delete_tags` changes.
     pub fn told_tag_delete(&self, names: &[String]) -> Result<EditTold, AllocError>
         ensures { IfOk result (λ told. Foretells self.now (tag_delete self.now (texts_of names.now)) told) }
     {
-        let mut seen = TagSet::empty();
-        let mut told = TagList::new(self.alloc);
-        for name in names {
-            self.tell_gone(&mut seen, &mut told, name.as_str())?;
-        }
-        Ok(EditTold::of_tags(self.alloc, told))
+        let tags = tell_gone(self.alloc, &self.text.store, &self.tags, names)?;
+        Ok(EditTold::of_tags(self.alloc, tags))
     }
 }

@@ -1,0 +1,68 @@
+use Rattle.std.proofs.Common.{◌≡◌, ◌+◌, ◌≤◌, ℕ, List, None, Some, length, refl, sym, subst, ap, ◌∙◌, chars}
+use Rattle.std.specs.FinSet as set
+use Rattle.std.specs.List.{All}
+use Rattle.std.proofs.lemmas.List.{length-map}
+use Rattle.std.proofs.lemmas.List.Elements.{All-weaker}
+use Rattle.index_grammar.specs.Names.{known_tags}
+use Rattle.text_model.specs.Content.{flags}
+use Rattle.edit_ops.specs.Deletions.{AreApart}
+use Rattle.edit_ops.specs.Tagging.{SpanFits}
+use Rattle.edit_ops.specs.declared.spans.Span.{Span}
+use Rattle.documents.specs.Documents.{KeyedCell, widget_at}
+use Rattle.documents.specs.Edits.{with_tag}
+use Rattle.documents.specs.Inside.{parts_of}
+use Rattle.documents.specs.Kept.{Stands}
+use Rattle.documents.specs.Names.{key_of}
+use Rattle.documents.specs.TagsTold.{TellsSpans, TellsTags, flags_of}
+use Rattle.documents.proofs.PartsLaws.{sits}
+use Rattle.documents.proofs.SpanToldLaws.{runs-told, seen-flags, seen-named, seen-none}
+use Rattle.documents.proofs.documents.Document.span_tags.Goals as goal
+use Rattle.documents.proofs.documents.Document.span_tags.Goals.{in-Some+in_ok-push_spans-in-Some}
+use Rattle.documents.proofs.documents.Document.span_tags.Goals.{in-None+in_ok-push_whole-in-None}
+
+pub returns : goal.returns
+returns g c =
+    let old = c.self.inside in
+    let document = c.args.self.now in
+    let parts = parts_of g.S.TextStore.content old in
+    let stands : Stands parts document = record { sound = c.self.invariant; is = c.self.view_is } in
+    let place = c.args.seat in
+    let slot = c.number.result in
+    let seat = sits parts document place slot stands c.number.ensures.value in
+    let name = chars c.args.name.now in
+    let key = key_of (widget_at document place) name in
+    let on = c.args.on in
+    let spans = c.args.spans.now in
+    let runs = c.in_ok-runs.runs.items in
+    let long = length document.cells in
+    let apart : AreApart (long + 1) runs = c.in_ok-runs.ensures.apart long
+    (All-weaker (SpanFits long) (λ (span : Span). span.to ≤ long) (λ span fits. fits.within) spans c.requires.fit) in
+    let is : c.in_ok-key.key ≡ key = c.in_ok-key.ensures
+    ∙ seen-named parts document place slot stands seat name (chars c.name.result.now) c.name.ensures in
+    elim c.match-find_tag.branch [
+      | in-Some+in_ok-push_spans-in-Some w ↦
+          let tag = w.in-Some.slot.0 in
+          let found = flags tag parts.content.cells in
+          let told = w.push_spans.new.self in
+          subst (λ ts. TellsTags ts document.cells (with_tag key on spans document.cells)) (sym w.told-is)
+          (runs-told key on found document.cells spans runs c.new-told.result told c.requires.fit apart
+          c.in_ok-runs.ensures.covers
+          (seen-flags parts document place slot stands seat name tag w.in-Some.ensures.value) c.new-told.ensures
+          (subst (λ k. TellsSpans k on found runs c.new-told.result told) is
+          (subst (λ ss. TellsSpans c.in_ok-key.key on found ss c.new-told.result told) w.deref.ensures.value
+          w.in_ok-push_spans-in-Some.ensures)))
+      | in-None+in_ok-push_whole-in-None w ↦
+          let found = flags_of key document.cells in
+          let told = w.push_whole.new.self in
+          let flagged = length-map document.cells (λ (cell : KeyedCell). set.contains cell.keys key) in
+          let tells = w.in_ok-push_whole-in-None.ensures found
+          (subst (AreApart (length found + 1)) (sym w.deref-in-None.ensures.value)
+          (subst (λ n. AreApart (n + 1) runs) (sym flagged) apart))
+          (seen-none parts document place slot stands seat name w.in-None.ensures.value) in
+          subst (λ ts. TellsTags ts document.cells (with_tag key on spans document.cells)) (sym w.told-is)
+          (runs-told key on found document.cells spans runs c.new-told.result told c.requires.fit apart
+          c.in_ok-runs.ensures.covers refl c.new-told.ensures
+          (subst (λ k. TellsSpans k on found runs c.new-told.result told) is
+          (subst (λ ss. TellsSpans c.in_ok-key.key on found ss c.new-told.result told) w.deref-in-None.ensures.value
+          tells)))
+    ]
