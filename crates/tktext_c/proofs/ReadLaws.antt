@@ -1,12 +1,10 @@
--- What C reads of words and of changes.
+-- What C reads of words, of changes and of names.
 use Rattle.std.proofs.Common.{◌≡◌, ℕ, ◌<◌, ◌≤◌, List, [], length, get_or, refl, sym, ap, subst, ◌∙◌}
-use Rattle.std.specs.Prelude.{Some, None, chars, encode_utf8_all, option_map, slice_get, IsUtf8, String, string_bytes}
+use Rattle.std.specs.Prelude.{Option, Some, None, chars, encode_utf8_all, option_map, slice_get, IsUtf8, String, string_bytes}
 use Rattle.std.proofs.lemmas.Option.{slice_get-map, slice_get_past, slice_get_read}
 use Rattle.std.proofs.lemmas.Str.{encodes-chars}
-use Rattle.edit_ops.specs.declared.changes.TextChange.{TextChange}
 use Rattle.tcl_words.specs.Unread.{texts_of}
-use Rattle.tktext_c.specs.Told.{bytes_of, mark_told, place_of, place_told, spot_in, spot_of, spot_told, text_told}
-use Rattle.tktext_c.specs.Told.{word_given}
+use Rattle.tktext_c.specs.Told.{bytes_of, mark_told, word_given}
 
 -- the element at a place of a list, which is another one's
 element : {A : Type 0} (shown all : List A) (index : ℕ) (x : A) → shown ≡ all → index < length shown
@@ -31,24 +29,14 @@ no-word shown words index same beyond =
     ap bytes_of (slice_get-map (λ w. chars (string_bytes w)) words index
     ∙ ap (option_map (λ w. chars (string_bytes w))) (past shown words index same beyond))
 
-pub place-found : (shown changes : List TextChange) (index : ℕ) (change : TextChange) → shown ≡ changes
-    → index < length shown → change ≡ get_or shown index change
-    → ◌≡◌ {A = ℕ × ℕ} (change.at, change.removed) (place_told changes index)
-place-found shown changes index change same within is =
-    sym (ap place_of (element shown changes index change same within is))
+-- what is read of the element at a place, or where there is none
+pub read-found : {A B : Type 0} (shown all : List A) (index : ℕ) (x : A) (read : Option A → B) → shown ≡ all
+    → index < length shown → x ≡ get_or shown index x → read (Some x) ≡ read (slice_get all index)
+read-found shown all index x read same within is = sym (ap read (element shown all index x same within is))
 
-pub no-place : (shown changes : List TextChange) (index : ℕ) → shown ≡ changes → length shown ≤ index
-    → ◌≡◌ {A = ℕ × ℕ} (0, 0) (place_told changes index)
-no-place shown changes index same beyond = sym (ap place_of (past shown changes index same beyond))
-
-pub spot-found : (shown changes : List TextChange) (index end : ℕ) (change : TextChange) → shown ≡ changes
-    → index < length shown → change ≡ get_or shown index change → spot_of change end ≡ spot_told changes index end
-spot-found shown changes index end change same within is =
-    sym (ap (λ found. spot_in found end) (element shown changes index change same within is))
-
-pub no-spot : (shown changes : List TextChange) (index end : ℕ) → shown ≡ changes → length shown ≤ index
-    → spot_in None end ≡ spot_told changes index end
-no-spot shown changes index end same beyond = sym (ap (λ found. spot_in found end) (past shown changes index same beyond))
+pub read-none : {A B : Type 0} (shown all : List A) (index : ℕ) (read : Option A → B) → shown ≡ all
+    → length shown ≤ index → read None ≡ read (slice_get all index)
+read-none shown all index read same beyond = sym (ap read (past shown all index same beyond))
 
 -- a name among the marks, as words
 pub mark-found : {Z : Type 0} (shown : List (String Z)) (marks : List (List ℕ)) (index : ℕ) (word : String Z)
@@ -62,15 +50,3 @@ pub no-mark : {Z : Type 0} (shown : List (String Z)) (marks : List (List ℕ)) (
     → length shown ≤ index → mark_told marks index ≡ []
 no-mark shown marks index same beyond =
     sym (ap (λ words. word_given words index) same) ∙ no-word shown shown index refl beyond
-
-pub text-found : (shown changes : List TextChange) (index : ℕ) (change : TextChange) (bytes : List ℕ)
-    → shown ≡ changes → index < length shown → change ≡ get_or shown index change
-    → bytes ≡ encode_utf8_all change.inserted → bytes ≡ text_told changes index
-text-found shown changes index change bytes same within is spelled =
-    spelled ∙ sym (ap (λ found. bytes_of (option_map (λ (c : TextChange). c.inserted) found))
-    (element shown changes index change same within is))
-
-pub no-text : (shown changes : List TextChange) (index : ℕ) → shown ≡ changes → length shown ≤ index
-    → text_told changes index ≡ []
-no-text shown changes index same beyond =
-    ap (λ found. bytes_of (option_map (λ (c : TextChange). c.inserted) found)) (past shown changes index same beyond)

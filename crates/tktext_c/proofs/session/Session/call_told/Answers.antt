@@ -8,7 +8,8 @@ pub returns-in-Ok : goal.returns-in-Ok
 returns-in-Ok c =
     gives_told-answer (state_of c.args.self.now) (state_of c.say.new.self) c.call_told.new.self
     (texts_of c.args.words.items) (texts_of c.deref.result.now) c.in-Ok.told.answer
-    (record { changes = c.in-Ok.told.changes; marks = c.in-Ok.told.marks }) c.say.result
+    (record { changes = c.in-Ok.told.edit.changes; tags = c.in-Ok.told.edit.tags; marks = c.in-Ok.told.marks })
+    c.say.result
     (ap texts_of c.deref.ensures.value) c.in-Ok.ensures.makes (c.in-Ok.ensures.tells, c.in-Ok.ensures.marks)
     c.say.ensures.state c.say.ensures.given
 

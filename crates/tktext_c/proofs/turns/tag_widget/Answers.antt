@@ -1,0 +1,8 @@
+use Rattle.std.proofs.Common.{Bool, [], ap, sym}
+use Rattle.std.specs.Prelude.{if◌then◌else◌}
+use Rattle.std.specs.Str.{chars}
+use Rattle.tktext_c.proofs.turns.tag_widget.Goals as goal
+
+pub returns-else-change : goal.returns-else-change
+unfolding chars
+returns-else-change c = ap (λ (b : Bool). if b then c.args.change.now.key.name else []) (sym c.if-change.false)
