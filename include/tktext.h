@@ -93,8 +93,9 @@ size_t tktext_word(tktext *handle, size_t word, uint8_t *room, size_t size);
 
 /* Carries out a command as tktext_call does, and keeps what it changed of the text that its widget shows: changes, each of
    the text that those before it leave, from an offset so many characters taken out, and others put in.  Made one after
-   the other on the old characters they give the new ones, and none changes nothing.  They are there before anything
-   changes, so TKTEXT_NO_MEMORY leaves all as it was.  After any other code than TKTEXT_ANSWER nothing is told. */
+   the other on the old characters they give the new ones, and none changes nothing.  Behind these it keeps changes of tags
+   (tktext_told_tags), and which marks were moved by an order (tktext_told_marks).  All is there before anything changes, so
+   TKTEXT_NO_MEMORY leaves all as it was.  After any other code than TKTEXT_ANSWER nothing is told. */
 int32_t tktext_call_told(tktext *handle, const uint8_t *bytes, size_t size, const size_t *lengths, size_t count);
 
 /* How many changes the last call that tells told of: 0 too of an empty handle. */
@@ -120,15 +121,18 @@ enum {
 /* The line of an end of a change, from 1; 0 of a change that there isn't. */
 size_t tktext_told_line(tktext *handle, size_t change, size_t end);
 
-/* How much stands in that line before it: characters, as Tk counts, bytes of UTF-8, as parsers do, or units of UTF-16, as
-   language servers do; 0 of a change that there isn't. */
+/* How many characters stand in that line before it, as Tk counts; 0 of a change that there isn't. */
 size_t tktext_told_column(tktext *handle, size_t change, size_t end);
+
+/* The same in bytes of UTF-8, as parsers count. */
 size_t tktext_told_bytes(tktext *handle, size_t change, size_t end);
+
+/* The same in units of UTF-16, as language servers count. */
 size_t tktext_told_units(tktext *handle, size_t change, size_t end);
 
 /* How many changes of tags the last call that tells told of: made one after the other behind the changes of the text, of
-   whose new characters none has a tag yet, they give the characters their tags.  None is idle: a tag is put on characters
-   that don't have it, and taken off those that do. */
+   whose new characters none has a tag yet, they give the new characters with their tags.  None is idle: a tag is put on
+   characters of which none has it, and taken off such of which each has it. */
 size_t tktext_told_tags(tktext *handle);
 
 /* Copies the name of the tag of one of them, counted from 0, as tktext_said does; no text of one that there isn't. */
@@ -138,8 +142,10 @@ size_t tktext_told_tag(tktext *handle, size_t change, uint8_t *room, size_t size
    share. */
 size_t tktext_told_tag_widget(tktext *handle, size_t change, uint8_t *room, size_t size);
 
-/* The offsets at which it begins and ends, in characters from the start of the text; 0 of one that there isn't. */
+/* The offset at which it begins, in characters from the start of the text; 0 of one that there isn't. */
 size_t tktext_told_tag_from(tktext *handle, size_t change);
+
+/* The offset at which it ends. */
 size_t tktext_told_tag_to(tktext *handle, size_t change);
 
 /* 1 where the tag is put on there, 0 where it is taken off, and of a change that there isn't. */

@@ -9,9 +9,10 @@
    a list of an offset in characters, how many characters were taken out there, what was put in, and three ends: where the
    change begins, where what was taken out ended in the text before it, and where what was put in ends in the text after
    it; an end is a list of a line, and of how many characters, bytes of UTF-8 and units of UTF-16 stand in that before it.
-   `tktext::ontags W prefix` has a command called behind each command that changes which characters have tags, with a list
-   of these changes, behind those of the text, of whose new characters none has a tag yet: each is a list of a tag, `sel`
-   only where it is W's own, of the offsets where it begins and ends, and of 1 where the tag is put on there, or 0.
+   `tktext::ontags W prefix` has a command called behind each command that puts tags on characters or takes them off, with
+   a list of these changes, to be made behind those of the text, of whose new characters none has a tag yet: each is a list
+   of a tag, `sel` only where it is W's own, of the offsets where it begins and ends, and of 1 where the tag is put on
+   there, or 0.
    `tktext::onmarks W prefix` has a command called behind each command that moves marks by an order, as `mark set` does,
    with a list of their names, `insert` and `current` only where they are W's own.  All widgets of an
    interpreter stand in one world, which goes with it.  A refused command is an error of its text, behind which stands what that

@@ -6,10 +6,10 @@
 MODULE is the folder of the Python package, and the scripts are those of tools/fuzz.py.  After each command the string
 and the text of the other world have to be what the text is, and what is told has to be no idle change of what stood
 there, whose three ends are where it says.  Each tag has to be on just the characters on which it was told to be, each
-widget's `sel` too, no change of a tag may be idle, and the other world's text has to have the tags that all peers share.
-Of a command that leaves the text the marks told have to be just those that stand elsewhere, are new, or are gone.  Where
-there is no such package a line says that it is skipped.  Ends in a line `N passed, M failed`; the exit status is 1 if
-anything failed.
+widget's `sel` too, no change of a tag may be idle, and the other world's text has to have the tags that all peers
+share.  Of a command that leaves the text the marks told have to be just those that stand elsewhere, are new, or are
+gone.  Where there is no such package a line says that it is skipped.  Ends in a line `N passed, M failed`; the exit
+status is 1 if anything failed.
 """
 
 import argparse

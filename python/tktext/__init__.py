@@ -56,6 +56,6 @@ for _public in (Change, Event, Spot, TagChange, Text, World):
     _public.__module__ = __name__
 
 __all__ = [
-    "CURRENT", "Change", "END", "Event", "INSERT", "SEL", "SEL_FIRST", "SEL_LAST", "Spot", "TagChange", "TclError", "Text",
-    "World", "list_text", "split_list",
+    "CURRENT", "Change", "END", "Event", "INSERT", "SEL", "SEL_FIRST", "SEL_LAST", "Spot", "TagChange", "TclError",
+    "Text", "World", "list_text", "split_list",
 ]

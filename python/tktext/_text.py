@@ -860,11 +860,12 @@ class Text(_core.Widget):
         return self._follow(self._followers, function)
 
     def on_tags(self, function: Callable[[list[TagChange]], Any]) -> Callable[[], None]:
-        """Has a function called behind each command that changes which characters have tags, with these changes.
+        """Has a function called behind each command that puts tags on characters or takes them off, with these changes.
 
         They are `TagChange`s in order, behind what `on_change` tells of the same command: characters that were put in
-        have no tags at first.  Made one after the other on the old tags they give the new ones.  `sel` is the widget's
-        own.  It gives a function that ends this.
+        have no tags at first, and those that went are gone with theirs.  Made one after the other on what is left of the
+        old tags they give the new ones.  Their offsets are of the whole text, whatever part of it the widget shows, and
+        `sel` is the widget's own.  It gives a function that ends this.
 
         >>> text = Text()
         >>> end = text.on_tags(print)

@@ -85,8 +85,8 @@ impl TagList {
         Ok(())
     }
 
-    /// Adds that a key is put on the characters of a span, or taken off them, where they are otherwise by a store, which
-    /// knows the key by a slot.
+    /// Adds that a key is put on the characters of a span, or taken off them, where they are otherwise by a store,
+    /// which knows the key by a slot.
     pub fn push_unlike<S: TextStore>(
         &mut self,
         store: &S,
@@ -132,8 +132,8 @@ impl TagList {
         Ok(())
     }
 
-    /// Adds that a key that no character has is put on spans, of which the last comes first; nothing is told where it
-    /// is taken off.
+    /// Adds that a key that no character has is put on spans, of which the last comes first. Where it is taken off,
+    /// nothing is to be told.
     pub fn push_whole(&mut self, key: &Key, spans: &[Span], on: bool) -> Result<(), AllocError>
         ensures { OnOk result ((flags : List Bool) → AreApart (length flags + 1) spans.now →
             All (λ flag. flag ≡ false) flags → TellsSpans key.now on flags spans.now self.old self.new) }

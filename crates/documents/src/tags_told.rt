@@ -1,7 +1,7 @@
 //! What commands tell of tags.
 
-ghost use Rattle.std.specs.Prelude.{◌≡◌, ℕ, ◌+◌, ◌-◌, ◌<◌, ◌≤◌, ◌^◌, ◌++◌, ◌∷◌, [], Some, true, false, chars, slice_get};
-ghost use Rattle.std.specs.Prelude.{length, option_map, sum_by, IfOk, List, OnOk};
+ghost use Rattle.std.specs.Prelude.{◌≡◌, ℕ, ◌+◌, ◌-◌, ◌<◌, ◌≤◌, ◌^◌, ◌++◌, ◌∷◌, [], Some, true, false, chars};
+ghost use Rattle.std.specs.Prelude.{length, option_map, slice_get, sum_by, IfOk, List, OnOk};
 ghost use Rattle.std.specs.FinSet as set;
 ghost use Rattle.std.specs.List.{All};
 ghost use Rattle.text_model.specs.Content.{slot_sets};

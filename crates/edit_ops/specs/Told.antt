@@ -1,6 +1,6 @@
 -- What is told of an edit: the changes of a text, in order, and where in its lines they are.
-use Rattle.std.specs.Prelude.{◌≡◌, ◌≢◌, ◌<◌, ◌≤◌, ℕ, ◌+◌, ◌-◌, ◌^◌, List, [], ◌∷◌, ◌++◌, length, take, drop, slice_range}
-use Rattle.std.specs.Prelude.{sum_by, nat_lt, encode_utf8_all, map, reverse, if◌then◌else◌}
+use Rattle.std.specs.Prelude.{◌≡◌, ◌≢◌, ◌<◌, ◌≤◌, ℕ, ◌+◌, ◌-◌, ◌^◌, List, [], ◌∷◌, ◌++◌, length, take, drop}
+use Rattle.std.specs.Prelude.{slice_range, sum_by, nat_lt, encode_utf8_all, map, reverse, if◌then◌else◌}
 use Rattle.text_model.specs.Lines.{line_of, line_start}
 use Rattle.edit_ops.specs.declared.changes.TextChange.{TextChange}
 use Rattle.edit_ops.specs.declared.hunks.Hunk.{Hunk}

@@ -1,3 +1,5 @@
+//! What commands tell of the text and of its tags.
+
 ghost use Rattle.std.specs.Prelude.{◌≡◌, ◌≢◌, ◌+◌, ◌<◌, ◌≤◌, List, ℕ, None, Ok, chars, length, IfOk, IfSome};
 ghost use Rattle.std.specs.Prelude.{IfErr};
 ghost use Rattle.std.specs.List.{All};

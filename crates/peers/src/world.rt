@@ -352,9 +352,9 @@ impl<S: TextStore> World<S> {
         }
     }
 
-    /// Carries out a command as `call` does, and tells what it changed of the text that its widget shows and of the tags
-    /// there, if its first word names one, and, unless it edits the text, which marks it moved. All that is told is there
-    /// before anything changes, so where memory is refused the world is as it was.
+    /// Carries out a command as `call` does, and tells what it changed of the text that its widget shows and of the
+    /// tags there, if its first word names one, and, unless it edits the text, which marks it moved. All that is told
+    /// is there before anything changes, so where memory is refused the world is as it was.
     pub fn call_told(&mut self, words: &[String]) -> Result<Told, Fault>
         requires { 0 < length words.now }
         ensures makes { Makes self.old self.new (answer_of result)

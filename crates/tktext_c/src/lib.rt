@@ -238,7 +238,8 @@ pub extern "C" fn tktext_told_units(
     exports::change_spot(alloc, handle, index, end).units
 }
 
-/// How many changes of tags the last command that tells told of: behind the changes of the text, and one after the other.
+/// How many changes of tags the last command that tells told of: they are made one after the other, behind the changes
+/// of the text.
 #[unsafe(no_mangle)]
 pub extern "C" fn tktext_told_tags(alloc: Global, handle: &mut Handle) -> usize
     ensures count { result ≡ length (told_of (state handle.old)).tags }

@@ -5,7 +5,8 @@ ghost use Rattle.tcl_words.specs.Unread.{texts_of};
 ghost use Rattle.printing.specs.Lines.{piece};
 ghost use Rattle.tktext_c.specs.Calls.{Called, Fed, Gives, Tells, Turns, can_by, finished, given_of, status_after};
 ghost use Rattle.tktext_c.specs.Told.{CalledTold, GivesTold, TurnsTold, place_told, text_told, untold, word_given};
-ghost use Rattle.tktext_c.specs.Told.{mark_told, span_told, spot_of, spot_told, tag_name, tag_told, tag_widget, widget_told};
+ghost use Rattle.tktext_c.specs.Told.{mark_told, span_told, spot_of, spot_told, tag_name, tag_told, tag_widget};
+ghost use Rattle.tktext_c.specs.Told.{widget_told};
 ghost use Rattle.tktext_c.specs.Room.{over};
 ghost use Rattle.tktext_c.specs.State.{said_text, start, state_of};
 
