@@ -24,7 +24,7 @@ use Rattle.command_effects.specs.Words.{is_same}
 use Rattle.command_effects.proofs.MadeLaws.{take-more}
 use Rattle.command_effects.proofs.WordLaws.{bytes_eq-chars}
 use Rattle.command_effects.proofs.WrittenLaws.{filter-append, filter-in, filter-out, take-found}
-use Rattle.documents.specs.Keys.{Key, Keys, is_shared, key_cmp, key_named, keys_listed, keys_named, seat_pair, tag_pair}
+use Rattle.documents.specs.Keys.{Key, is_shared, key_cmp, key_named, keys_listed, keys_named, seat_pair, tag_pair}
 use Rattle.documents.specs.TagsTold.{AreDistinct, AreKeysOf, key_set, run_changes, slot_changes}
 use Rattle.documents.specs.declared.tag_lists.TagChange.{TagChange}
 use Rattle.documents.proofs.BridgeLaws.{key_itself, key_tied}

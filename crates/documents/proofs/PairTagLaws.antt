@@ -13,7 +13,6 @@ use Rattle.text_model.specs.Content.{Slots, slot_sets, slots_left_of}
 use Rattle.text_model.specs.declared.cells.Cell.{Cell}
 use Rattle.text_model.proofs.SpliceLaws.{get_or-inserted_behind, get_or-inserted_within, get_or-removed_before}
 use Rattle.text_model.proofs.SpliceLaws.{get_or-removed_behind, length-inserted, length-removed}
-use Rattle.undo_stack.specs.declared.actions.Action.{Action}
 use Rattle.undo_stack.specs.declared.actions.EditKind.{EditKind}
 use Rattle.name_list.specs.Names.{Named}
 use Rattle.tag_table.specs.Tags.{AreTags, Tags}

@@ -1,6 +1,6 @@
 //! The keys of tags, as they are told.
 
-ghost use Rattle.std.specs.Prelude.{◌≡◌, ◌<◌, ◌++◌, [], chars, filter, length, map, IfOk, OnOk};
+ghost use Rattle.std.specs.Prelude.{◌≡◌, ◌<◌, ◌++◌, chars, filter, map, IfOk, OnOk};
 ghost use Rattle.documents.specs.Keys.{is_shared, key_named, key_pairs, keys_listed, keys_named, seat_pair, tag_pair};
 ghost use Rattle.documents.specs.TagsTold.{AreKeysOf};
 ghost use Rattle.command_effects.specs.Tagging.{slots_named};

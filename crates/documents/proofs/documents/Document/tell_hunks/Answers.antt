@@ -1,4 +1,4 @@
-use Rattle.std.proofs.Common.{List, ℕ, ap, arith, length, subst, sym, ◌∙◌}
+use Rattle.std.proofs.Common.{List, ℕ, ap, arith, subst, sym, ◌∙◌}
 use Rattle.edit_ops.specs.Told.{AreHunks, Tells, hunk_changes, patched}
 use Rattle.documents.specs.Inside.{parts_of}
 use Rattle.documents.proofs.PartsLaws.{cells-kept, characters-kept}
