@@ -27,7 +27,6 @@ pub mod NewNameLaws
 pub mod OptionLeadLaws
 pub mod OrderLaws
 pub mod PairTagLaws
-pub mod PaintLaws
 pub mod PartsLaws
 pub mod PlacedLaws
 pub mod QueryLaws

@@ -45,8 +45,8 @@ use Rattle.documents.specs.declared.told.EditTold.{EditTold}
 use Rattle.documents.proofs.BridgeLaws.{contains-set_key, key_itself, keys_of-has}
 use Rattle.documents.proofs.KeyedLaws.{keyed-flags, keyed_cell}
 use Rattle.documents.proofs.LookupLaws.{has}
-use Rattle.documents.proofs.PaintLaws.{apart-fit, painted, painted-front, painted-idle, painted-long, painted-push}
-use Rattle.documents.proofs.PaintLaws.{painted-same}
+use Rattle.edit_ops.proofs.PaintLaws.{apart-fit, painted, painted-front, painted-idle, painted-long, painted-push}
+use Rattle.edit_ops.proofs.PaintLaws.{painted-same}
 use Rattle.documents.proofs.PartsLaws.{Sits, mapped-at}
 use Rattle.documents.proofs.SlotLaws.{slot_for, slot_for-named}
 use Rattle.documents.proofs.SpanLaws.{slot_known}

@@ -17,5 +17,6 @@ pub mod StartLaws
 pub mod TellLaws
 pub mod CoverLaws
 pub mod OrderLaws
+pub mod PaintLaws
 pub mod PartHunkLaws
 pub mod SlotRunLaws
