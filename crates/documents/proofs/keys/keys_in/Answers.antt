@@ -1,4 +1,4 @@
-use Rattle.std.proofs.Common.{◌≡◌, ◌++◌, map, filter, ◌∙◌, ap, refl, sym}
+use Rattle.std.proofs.Common.{◌++◌, map, filter, ◌∙◌, ap, sym}
 use Rattle.documents.specs.Keys.{is_shared, key_pairs, keys_listed, seat_pair, tag_pair}
 use Rattle.documents.proofs.KeyListLaws.{listed-append, listed-none}
 use Rattle.documents.proofs.keys.keys_in.Goals as goal

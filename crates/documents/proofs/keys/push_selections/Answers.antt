@@ -1,5 +1,4 @@
-use Rattle.std.proofs.Common.{◌≡◌, ◌+◌, ◌++◌, List, map, sym, subst, ap, ◌∙◌, chars, take}
-use Rattle.documents.specs.Keys.{Key, keys_listed, seat_pair}
+use Rattle.std.proofs.Common.{ap, ◌∙◌, chars}
 use Rattle.documents.proofs.KeyListLaws.{selection-in, selection-out}
 use Rattle.documents.proofs.keys.push_selections.Goals as goal
 use Rattle.documents.proofs.keys.push_selections.Goals.{then-has+in_ok-new+in_ok-push, else-has}

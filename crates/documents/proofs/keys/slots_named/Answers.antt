@@ -1,8 +1,5 @@
-use Rattle.std.proofs.Common.{◌≡◌, ◌+◌, sym, ap, ap₂, ◌∙◌, chars, Some, None, option_map, take}
-use Rattle.index_grammar.specs.Names.{known_tags}
-use Rattle.tcl_words.specs.Unread.{texts_of}
-use Rattle.text_model.specs.declared.places.TagSlot.{TagSlot}
-use Rattle.command_effects.specs.Tagging.{slots_named, with_found}
+use Rattle.std.proofs.Common.{ap₂, ◌∙◌}
+use Rattle.command_effects.specs.Tagging.{with_found}
 use Rattle.command_effects.proofs.SlotLaws.{slots_named-step}
 use Rattle.documents.proofs.keys.slots_named.Goals as goal
 use Rattle.documents.proofs.keys.slots_named.Goals.{in-Some, in_default}

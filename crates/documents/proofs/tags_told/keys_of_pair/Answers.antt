@@ -1,9 +1,9 @@
-use Rattle.std.proofs.Common.{◌≡◌, List, None, sym, subst, ap, ◌∙◌, chars, IfOk, option_map}
+use Rattle.std.proofs.Common.{◌≡◌, None, sym, subst, ap, ◌∙◌, chars, option_map}
 use Rattle.std.proofs.lemmas.Result.{IfOk-weaker}
 use Rattle.tcl_words.specs.Unread.{texts_of}
 use Rattle.command_effects.specs.Lists.{Pair}
 use Rattle.documents.specs.Edits.{keys_or}
-use Rattle.documents.specs.Keys.{Key, keys_named, keys_of, key_pairs}
+use Rattle.documents.specs.Keys.{keys_named, keys_of, key_pairs}
 use Rattle.documents.specs.TagsTold.{AreKeysOf}
 use Rattle.documents.proofs.TagsToldLaws.{keys-listed}
 use Rattle.documents.proofs.tags_told.keys_of_pair.Goals as goal

@@ -1,9 +1,7 @@
-use Rattle.std.proofs.Common.{◌≡◌, ◌+◌, ◌≤◌, ℕ, List, None, Some, length, refl, sym, subst, ap, ◌∙◌, chars}
+use Rattle.std.proofs.Common.{◌≡◌, ◌+◌, ◌≤◌, length, refl, sym, subst, ◌∙◌, chars}
 use Rattle.std.specs.FinSet as set
-use Rattle.std.specs.List.{All}
 use Rattle.std.proofs.lemmas.List.{length-map}
 use Rattle.std.proofs.lemmas.List.Elements.{All-weaker}
-use Rattle.index_grammar.specs.Names.{known_tags}
 use Rattle.text_model.specs.Content.{flags}
 use Rattle.edit_ops.specs.Deletions.{AreApart}
 use Rattle.edit_ops.specs.Tagging.{SpanFits}

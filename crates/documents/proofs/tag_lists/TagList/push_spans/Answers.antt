@@ -1,4 +1,4 @@
-use Rattle.std.proofs.Common.{◌≡◌, ◌+◌, ◌<◌, ◌≤◌, length, subst, sym, ap}
+use Rattle.std.proofs.Common.{◌+◌, length, subst, sym}
 use Rattle.std.specs.FinSet as set
 use Rattle.std.proofs.lemmas.List.{length-map}
 use Rattle.text_model.specs.Content.{flags}
