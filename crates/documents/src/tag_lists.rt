@@ -85,8 +85,8 @@ impl TagList {
         Ok(())
     }
 
-    /// Adds that a key is put on the characters of a span, or taken off them, where they are otherwise by a store, which
-    /// knows the key by a slot.
+    /// Adds that a key is put on the characters of a span, or taken off them, where they are otherwise by a store,
+    /// which knows the key by a slot.
     pub fn push_unlike<S: TextStore>(
         &mut self,
         store: &S,
