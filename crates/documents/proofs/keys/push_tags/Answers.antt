@@ -1,4 +1,4 @@
-use Rattle.std.proofs.Common.{◌+◌, ap, ◌∙◌, chars}
+use Rattle.std.proofs.Common.{ap, ◌∙◌, chars}
 use Rattle.command_effects.specs.Words.{is_same}
 use Rattle.documents.proofs.KeyListLaws.{own-out, sel-is, shared-in, shared-out}
 use Rattle.documents.proofs.keys.push_tags.Goals as goal

@@ -1,5 +1,5 @@
 use Rattle.std.proofs.Common.{ap₂, ◌∙◌}
-use Rattle.command_effects.specs.Tagging.{slots_named, with_found}
+use Rattle.command_effects.specs.Tagging.{with_found}
 use Rattle.command_effects.proofs.SlotLaws.{slots_named-step}
 use Rattle.documents.proofs.keys.slots_named.Goals as goal
 use Rattle.documents.proofs.keys.slots_named.Goals.{in-Some, in_default}
