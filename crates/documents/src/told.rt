@@ -109,8 +109,9 @@ impl<S: TextStore> Document<S> {
         let end = end_of(&self.text.anchors, slot, store.len());
         let spans = spans_of(self.alloc, start, end - start, places)?;
         let (runs, takes_last) = deleted_runs(self.alloc, store, start, end, &spans)?;
-        let slots = bared_slots(store, end - 1, takes_last);
-        let at = (end - 1).saturating_sub(count_in(&runs));
+        let last = end - 1;
+        let slots = bared_slots(store, last, takes_last);
+        let at = last.saturating_sub(count_in(&runs));
         let tags = bare_tags(self.alloc, &self.seats, &self.tags, &slots, at)?;
         let hunks = take_spans(self.alloc, runs)?;
         Ok(self.tell_hunks(hunks, tags)?)

@@ -95,6 +95,19 @@ deleted_runs-requires-clause-spans g c =
     c.deref-3.ensures.value in
     λ k d inside. (let h = (within.1 k d inside).within in omega (arith, h, end))
 
+pub overflow_sub-last : goal.overflow_sub-last
+overflow_sub-last g c =
+    let old = c.self.inside in
+    let document = c.args.self.now in
+    let parts = parts_of g.S.TextStore.content old in
+    let stands : Stands parts document = record { sound = c.self.invariant; is = c.self.view_is } in
+    let slot = c.number-slot.result in
+    let seated = sits parts document c.args.seat slot stands c.number-slot.ensures.value in
+    let end = end-found parts slot c.deref-2.result.now c.len.result c.end_of-end.result c.deref-2.ensures.value
+    c.len.ensures c.end_of-end.ensures in
+    let shows = active-is parts document c.args.seat slot stands seated c.requires.active in
+    omega (arith, end, shows.1)
+
 pub count_in-requires : goal.count_in-requires
 count_in-requires g c =
     subst (AreApart (2 ^ 60)) (sym c.deref-4.ensures.value)
