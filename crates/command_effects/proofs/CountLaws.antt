@@ -1,14 +1,10 @@
 -- How many tags there are with the names of lists, before any of them is made.
-use Rattle.std.proofs.Common.{◌≡◌, ℕ, ◌+◌, ◌-◌, ◌<◌, ◌≤◌, Bool, true, false, not, cond, List, [], ◌∷◌, ◌++◌, length}
-use Rattle.std.proofs.Common.{take, refl, sym, ap, ap₂, ◌∙◌, arith}
-use Rattle.std.specs.Prelude.{String, chars, string_bytes, get_or, is_some, option_map, Option, None, Some, ◌||◌, ◌&&◌}
-use Rattle.tag_table.specs.Tags.{Tag, names_of, slot_of}
-use Rattle.text_model.specs.declared.places.TagSlot.{TagSlot}
-use Rattle.std.proofs.lemmas.List.{append-nil, length-append, map-append}
-use Rattle.std.proofs.lemmas.Slice.Eq.{bytes_eq-Decides}
-use Rattle.tcl_words.specs.Unread.{texts_of}
-use Rattle.command_effects.specs.Lists.{Pair, all_names, listed_names, with_name, with_names}
-use Rattle.command_effects.specs.Words.{is_among, is_same}
+use Rattle.command_effects.proofs.Words.{◌≡◌, ℕ, ◌+◌, ◌-◌, ◌<◌, ◌≤◌, Bool, true, false, not, cond, List, [], ◌∷◌, ◌++◌}
+use Rattle.command_effects.proofs.Words.{length, take, refl, sym, ap, ap₂, ◌∙◌, arith, String, chars, string_bytes}
+use Rattle.command_effects.proofs.Words.{get_or, is_some, option_map, Option, None, Some, ◌||◌, Tag, names_of, slot_of}
+use Rattle.command_effects.proofs.Words.{TagSlot, append-nil, length-append, map-append, bytes_eq-Decides, texts_of}
+use Rattle.command_effects.proofs.Words.{Pair, all_names, listed_names, with_name, with_names, is_among, is_same}
+use Rattle.std.specs.Prelude.{◌&&◌}
 use Rattle.command_effects.proofs.MadeLaws.{absent_slot, all_names-append, among_slot, take-more}
 
 or-none : (a : Bool) → (a || false) ≡ a

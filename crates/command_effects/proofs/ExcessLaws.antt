@@ -1,21 +1,14 @@
 -- Whether there are more tags or characters than there may be.
-use Rattle.std.proofs.Common.{◌≡◌, ℕ, ◌+◌, ◌<◌, ◌≤◌, true, false, List, [], ◌∷◌, None, Some, length, map, refl, sym, ap}
-use Rattle.std.proofs.Common.{ap₂, ◌∙◌, arith}
-use Rattle.std.proofs.lemmas.Bool.Decides.{nat_tests}
-use Rattle.std.specs.Prelude.{nat_lt, if◌then◌else◌, encode_utf8_all}
-use Rattle.std.proofs.lemmas.Bool.{le-ltb, lt-ltb}
+use Rattle.command_effects.proofs.Words.{◌≡◌, ℕ, ◌+◌, ◌<◌, ◌≤◌, true, false, List, [], ◌∷◌, length, map, refl, sym, ap}
+use Rattle.command_effects.proofs.Words.{ap₂, ◌∙◌, arith, nat_tests, nat_lt, if◌then◌else◌, encode_utf8_all, le-ltb}
+use Rattle.command_effects.proofs.Words.{lt-ltb, length-le-encodes, Tag, Fault, TooManyTags, TextTooLong, excess, total}
+use Rattle.command_effects.proofs.Words.{total_bytes, piece_of}
+use Rattle.std.proofs.Common.{None, Some}
 use Rattle.std.proofs.lemmas.List.Sums.{sum_by-cons}
-use Rattle.std.proofs.lemmas.Str.{length-le-encodes}
 use Rattle.edit_ops.specs.Insertions as pieces
 use Rattle.edit_ops.specs.declared.slotted_texts.SlottedText.{SlottedText}
-use Rattle.tag_table.specs.Tags.{Tag}
 use Rattle.text_model.specs.LimitTable.{LimitTable}
-use Rattle.command_effects.specs.declared.answers.Fault.{Fault}
-use Rattle.command_effects.specs.declared.answers.Fault.TheVariants.{TooManyTags, TextTooLong}
 use Rattle.command_effects.specs.declared.lists.Pair.{Pair}
-use Rattle.command_effects.specs.Edits.{excess}
-use Rattle.command_effects.specs.Lists.{total, total_bytes}
-use Rattle.command_effects.specs.Tagging.{piece_of}
 
 pub excess-none : (limits : LimitTable) (tags chars : ℕ) → tags ≤ limits.tags + 1 → chars ≤ limits.chars →
     excess limits tags chars ≡ None

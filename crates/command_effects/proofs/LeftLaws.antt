@@ -1,19 +1,12 @@
 -- Tables from which names are taken out, one after the other.
-use Rattle.std.proofs.Common.{map, ◌≡◌, ℕ, zero, suc, Bool, true, false, cond, not, ◌&&◌, ◌||◌, List, [], ◌∷◌, ◌++◌}
-use Rattle.std.proofs.Common.{Some, filter, slice_get, refl, sym, ap, ap₂, ◌∙◌, true≢false}
-use Rattle.std.specs.Prelude.{bytes_eq, if◌then◌else◌}
-use Rattle.std.specs.Cmp.{both_ways}
-use Rattle.std.proofs.lemmas.Bool.{false_from_ne_true, or_right}
-use Rattle.std.proofs.lemmas.List.Folds.{list_any-append}
-use Rattle.std.proofs.lemmas.Slice.Eq.{bytes_eq-Decides}
-use Rattle.name_list.specs.Moves.{without}
+use Rattle.command_effects.proofs.Words.{map, ◌≡◌, ℕ, zero, suc, Bool, true, false, cond, not, ◌&&◌, List, [], ◌∷◌}
+use Rattle.command_effects.proofs.Words.{◌++◌, refl, sym, ap, ap₂, ◌∙◌, true≢false, bytes_eq, if◌then◌else◌, both_ways}
+use Rattle.command_effects.proofs.Words.{false_from_ne_true, or_right, list_any-append, bytes_eq-Decides, without}
+use Rattle.command_effects.proofs.Words.{deleted, Tag, is_named, names_of, sel, Mark, is_left, marks_left, stays}
+use Rattle.command_effects.proofs.Words.{tags_left, is_among, is_same}
+use Rattle.std.proofs.Common.{◌||◌, Some, filter, slice_get}
 use Rattle.name_list.specs.Names.{AreApart}
-use Rattle.tag_table.specs.Priority.{deleted}
-use Rattle.tag_table.specs.Tags.{Tag, is_named, names_of, sel}
-use Rattle.mark_table.specs.SharedMarks.{Mark, is_named as mark_is_named, names_of as mark_names_of}
-use Rattle.command_effects.specs.Marking.{is_left, marks_left}
-use Rattle.command_effects.specs.Tagging.{stays, tags_left}
-use Rattle.command_effects.specs.Words.{is_among, is_same}
+use Rattle.mark_table.specs.SharedMarks.{is_named as mark_is_named, names_of as mark_names_of}
 
 -- ---- lists of distinct elements
 

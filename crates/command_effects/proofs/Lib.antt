@@ -8,4 +8,5 @@ pub mod SettingLaws
 pub mod SlotLaws
 pub mod TakeLaws
 pub mod WordLaws
+pub mod Words
 pub mod WrittenLaws

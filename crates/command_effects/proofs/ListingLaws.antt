@@ -1,18 +1,14 @@
 -- Lists of elements as they are written.
-use Rattle.std.proofs.Common.{◌≡◌, ℕ, zero, suc, ◌+◌, ◌-◌, ◌<◌, ◌≤◌, Option, Bool, true, false, List, [], ◌∷◌, ◌++◌, chars, length, refl, sym}
-use Rattle.std.proofs.Common.{ap, subst, ◌∙◌, arith}
-use Rattle.std.specs.Prelude.{None, Some, IfSome, slice_get, take, filter, if◌then◌else◌}
-use Rattle.std.proofs.lemmas.Option.{none-some, same_Some}
-use Rattle.std.proofs.lemmas.Str.{chars-nil}
-use Rattle.tag_table.specs.Tags.{Tag, names_of, slots_of}
-use Rattle.std.proofs.lemmas.List.{append_assoc, append-nil, map-append}
-use Rattle.text_index.specs.Positions.{position_text}
+use Rattle.command_effects.proofs.Words.{◌≡◌, ℕ, zero, suc, ◌+◌, ◌-◌, ◌<◌, ◌≤◌, Bool, true, false, List, [], ◌∷◌, ◌++◌}
+use Rattle.command_effects.proofs.Words.{length, refl, sym, ap, subst, ◌∙◌, arith, None, Some, IfSome, slice_get}
+use Rattle.command_effects.proofs.Words.{filter, if◌then◌else◌, none-some, same_Some, chars-nil, Tag, names_of}
+use Rattle.command_effects.proofs.Words.{slots_of, append_assoc, append-nil, map-append, position_text}
+use Rattle.command_effects.proofs.Words.{ranges_from-first, goes_nowhere, goes_on, Goes}
+use Rattle.std.proofs.Common.{Option, chars}
+use Rattle.std.specs.Prelude.{take}
 use Rattle.text_index.specs.Ranges.{tag_ranges, ranges_from, and_later}
 use Rattle.text_index.specs.declared.ranges.TagRange.{TagRange}
-use Rattle.text_index.proofs.RangeLaws.{ranges_from-first}
 use Rattle.command_effects.proofs.WrittenLaws.{take-found, filter-in, filter-out}
-use Rattle.tcl_words.proofs.ListGrowth.{goes_nowhere, goes_on}
-use Rattle.tcl_words.specs.ListGrowth.{Goes}
 use Rattle.command_effects.specs.Listing.{is_filled, range_words}
 
 range_words-append : (text : List ℕ) (ranges more : List TagRange) →

@@ -1,21 +1,13 @@
 -- Tables of tags as tags are made.
-use Rattle.std.proofs.Common.{◌≡◌, ℕ, zero, suc, ◌+◌, ◌<◌, ◌≤◌, true, false, cond, List, [], ◌∷◌, ◌++◌, length, take}
-use Rattle.std.proofs.Common.{refl, sym, ap, subst, ◌∙◌, arith, inl, inr, ◌⊎◌}
-use Rattle.std.specs.Prelude.{String, chars, string_bytes, get_or, drop, IfSome, Option, None, Some, find, option_map}
-use Rattle.std.specs.Prelude.{bytes_eq, slice_get, ◌||◌, if◌then◌else◌}
-use Rattle.std.specs.List.{position_from}
-use Rattle.std.specs.Option.{option_or}
-use Rattle.std.proofs.lemmas.List.{length-map, map-append, append_assoc, append-nil, take_all, take-append-le}
-use Rattle.std.proofs.lemmas.List.{take-append-drop, length-append}
-use Rattle.std.proofs.lemmas.List.Folds.{find-append}
-use Rattle.std.proofs.Math.Seq.{take-suc}
-use Rattle.tcl_words.specs.Unread.{texts_of}
-use Rattle.std.proofs.lemmas.Option.{none-some}
-use Rattle.std.proofs.lemmas.Slice.Eq.{bytes_eq-Decides}
-use Rattle.tag_table.specs.Tags.{Tag, Tags, names_of, slot_of, is_named}
-use Rattle.command_effects.specs.Lists.{Pair, with_name, with_names, listed_names, all_names}
-use Rattle.command_effects.specs.Tagging.{IsFront}
-use Rattle.command_effects.specs.Words.{is_among, is_same}
+use Rattle.command_effects.proofs.Words.{◌≡◌, ℕ, zero, suc, ◌+◌, ◌<◌, ◌≤◌, true, false, cond, List, [], ◌∷◌, ◌++◌}
+use Rattle.command_effects.proofs.Words.{length, take, refl, sym, ap, subst, ◌∙◌, arith, inl, inr, ◌⊎◌, String, chars}
+use Rattle.command_effects.proofs.Words.{string_bytes, get_or, IfSome, Option, None, Some, find, option_map, bytes_eq}
+use Rattle.command_effects.proofs.Words.{slice_get, ◌||◌, if◌then◌else◌, position_from, option_or, length-map}
+use Rattle.command_effects.proofs.Words.{map-append, append_assoc, append-nil, take_all, take-append-le}
+use Rattle.command_effects.proofs.Words.{take-append-drop, length-append, find-append, take-suc, texts_of, none-some}
+use Rattle.command_effects.proofs.Words.{bytes_eq-Decides, Tag, Tags, names_of, slot_of, is_named, Pair, with_name}
+use Rattle.command_effects.proofs.Words.{with_names, listed_names, all_names, IsFront, is_among, is_same}
+use Rattle.std.specs.Prelude.{drop}
 
 -- an unknown name, and one that stands in a table, at a place
 abbrev pub IsUnknown : List ℕ → List Tag → ℕ → Type 0

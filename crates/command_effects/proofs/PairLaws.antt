@@ -1,17 +1,13 @@
 -- Lists that are taken by twos.
-use Rattle.std.proofs.Common.{◌≡◌, ℕ, suc, ◌+◌, ◌-◌, ◌<◌, ◌≤◌, List, [], ◌∷◌, ◌++◌, length, drop, get_or, refl, sym, ap}
-use Rattle.std.proofs.Common.{◌∙◌, arith}
-use Rattle.std.specs.List.{All}
-use Rattle.std.proofs.lemmas.List.Elements.{All-cons, All-nil}
+use Rattle.command_effects.proofs.Words.{◌≡◌, ℕ, suc, ◌+◌, ◌-◌, ◌<◌, ◌≤◌, List, [], ◌∷◌, ◌++◌, length, drop, refl, sym}
+use Rattle.command_effects.proofs.Words.{ap, ◌∙◌, arith, All, All-cons, All-nil, min, Result, Ok, Err, Some, String}
+use Rattle.command_effects.proofs.Words.{chars, string_bytes, take_rest, append_assoc, drop-map, length-map, get_or-map}
+use Rattle.command_effects.proofs.Words.{texts_of, with_value, Pair, pair_at, and_pairs, pairs_at, Fault, span}
+use Rattle.command_effects.proofs.Words.{spans_of}
+use Rattle.std.proofs.Common.{get_or}
 use Rattle.edit_ops.specs.Tagging.{SpanFits}
-use Rattle.std.specs.Prelude.{min, take, Result, Ok, Err, Some, String, chars, string_bytes}
-use Rattle.std.proofs.lemmas.List.{take_rest, append_assoc, drop-map, length-map, get_or-map}
-use Rattle.tcl_words.specs.Unread.{texts_of}
-use Rattle.command_effects.specs.Faults.{with_value}
-use Rattle.command_effects.specs.Lists.{Pair, pair_at, and_pairs, pairs_at}
-use Rattle.command_effects.specs.declared.answers.Fault.{Fault}
+use Rattle.std.specs.Prelude.{take}
 use Rattle.edit_ops.specs.declared.spans.Span.{Span}
-use Rattle.command_effects.specs.Ranges.{span, spans_of}
 
 pub spans_of-two : (start len : ℕ) (places : List ℕ) → 2 ≤ length places
     → spans_of start len places ≡ span start (get_or places 0 0) (get_or places 1 0)

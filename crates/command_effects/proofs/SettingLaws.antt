@@ -1,17 +1,13 @@
 -- Options with their values, which are taken by twos, and the words of lines.
-use Rattle.std.proofs.Common.{◌≡◌, ℕ, ℤ, ◌+◌, ◌-◌, ◌<◌, ◌≤◌, List, [], ◌∷◌, length, drop, get_or, refl, sym, ap, ◌∙◌}
-use Rattle.std.proofs.Common.{arith}
-use Rattle.std.specs.Prelude.{take, Option, None, Some, option_and_then, option_map, ok_or, Result, Ok, Err, String}
-use Rattle.std.specs.Prelude.{chars, string_bytes}
-use Rattle.std.proofs.lemmas.List.{take_rest, drop-map, length-map}
-use Rattle.std.proofs.lemmas.Str.{chars-nil}
+use Rattle.command_effects.proofs.Words.{◌≡◌, ℕ, ℤ, ◌+◌, ◌-◌, ◌<◌, ◌≤◌, List, [], ◌∷◌, length, drop, refl, sym, ap, ◌∙◌}
+use Rattle.command_effects.proofs.Words.{arith, Option, None, Some, option_and_then, option_map, ok_or, Result, Ok, Err}
+use Rattle.command_effects.proofs.Words.{String, chars, string_bytes, take_rest, drop-map, length-map, chars-nil}
+use Rattle.command_effects.proofs.Words.{texts_of, Fault, BadInteger, with_value, line_numbered, line_of_word}
+use Rattle.command_effects.proofs.Words.{setting_read, settings_read}
+use Rattle.std.proofs.Common.{get_or}
+use Rattle.std.specs.Prelude.{take}
 use Rattle.command_table.specs.Numbers.{integer_of}
-use Rattle.tcl_words.specs.Unread.{texts_of}
-use Rattle.command_effects.specs.declared.answers.Fault.{Fault}
-use Rattle.command_effects.specs.declared.answers.Fault.TheVariants.{BadInteger}
 use Rattle.command_effects.specs.declared.settings.Settings.{Settings}
-use Rattle.command_effects.specs.Faults.{with_value}
-use Rattle.command_effects.specs.Settings.{line_numbered, line_of_word, setting_read, settings_read}
 use Rattle.command_effects.proofs.PairLaws.{word_or}
 
 settings_read-two : (lines position : ℕ) (words : List (List ℕ)) (settings : Settings) → 2 ≤ length words

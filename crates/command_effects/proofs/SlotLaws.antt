@@ -1,23 +1,13 @@
 -- The slots of tag lists, as they are put together.
-use Rattle.std.proofs.Common.{◌≡◌, ℕ, Bool, true, false, List, [], ◌∷◌, ◌++◌, length, map, take, refl, sym, ap, ◌∙◌}
-use Rattle.std.proofs.Common.{◌<◌, ◌+◌}
-use Rattle.std.specs.Prelude.{Option, None, Some, ◌||◌, String, chars, string_bytes, get_or}
+use Rattle.command_effects.proofs.Words.{◌≡◌, ℕ, Bool, true, false, List, [], ◌∷◌, ◌++◌, length, map, take, refl, sym}
+use Rattle.command_effects.proofs.Words.{ap, ◌∙◌, ◌<◌, ◌+◌, Option, None, Some, ◌||◌, String, chars, string_bytes}
+use Rattle.command_effects.proofs.Words.{get_or, nat_cmp_total, cons_option, append-nil, map-append, filter_map-append}
+use Rattle.command_effects.proofs.Words.{Slots, TagSlot, Tag, slot_of, texts_of, Mark, number_of, MarkNo, numbers_named}
+use Rattle.command_effects.proofs.Words.{slot_taken, slots_deleted, slots_named, with_found}
 use Rattle.std.specs.FinSet as set
 use Rattle.std.specs.FinMap.{nat_cmp-IsAntisymmetric}
-use Rattle.std.specs.Cmp.{nat_cmp_total}
 use Rattle.std.specs.Ordering.{eq_by_cmp, nat_cmp}
-use Rattle.std.specs.List.{cons_option}
-use Rattle.std.proofs.lemmas.List.{append-nil, map-append}
-use Rattle.std.proofs.lemmas.List.Elements.{filter_map-append}
-use Rattle.text_model.specs.Content.{Slots}
-use Rattle.text_model.specs.declared.places.TagSlot.{TagSlot}
 use Rattle.index_grammar.specs.Names.{known_tags}
-use Rattle.tag_table.specs.Tags.{Tag, slot_of}
-use Rattle.tcl_words.specs.Unread.{texts_of}
-use Rattle.mark_table.specs.SharedMarks.{Mark, number_of}
-use Rattle.text_model.specs.declared.places.MarkNo.{MarkNo}
-use Rattle.command_effects.specs.Marking.{numbers_named}
-use Rattle.command_effects.specs.Tagging.{slot_taken, slots_deleted, slots_named, with_found}
 use Rattle.command_effects.proofs.MadeLaws.{take-more}
 
 or_swap : (a b c : Bool) → (a || (b || c)) ≡ (b || (a || c))

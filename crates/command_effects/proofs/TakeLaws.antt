@@ -1,21 +1,11 @@
 -- Edits that take marks out of a store, and what widgets have of their own.
-use Rattle.std.proofs.Common.{◌≡◌, ℕ, suc, ◌+◌, ◌<◌, List, [], ◌∷◌, ◌++◌, length, map, take, get_or, refl, sym, ap, ◌∙◌}
-use Rattle.std.proofs.Common.{arith}
-use Rattle.std.proofs.lemmas.List.{append_assoc, map-append}
+use Rattle.command_effects.proofs.Words.{◌≡◌, ℕ, suc, ◌+◌, ◌<◌, List, [], ◌∷◌, ◌++◌, length, map, take, refl, sym, ap}
+use Rattle.command_effects.proofs.Words.{◌∙◌, arith, append_assoc, map-append, ClearSlot, TakeMark, MarkNo, Content}
+use Rattle.command_effects.proofs.Words.{Fits, after, after_step, taken, take-suc, ◌*◌, All, All-head, All-tail}
+use Rattle.command_effects.proofs.Words.{slot_count, TagSlot, without_widgets, without_widget}
+use Rattle.std.proofs.Common.{get_or}
 use Rattle.text_model.specs.declared.edits.Step.{Step}
-use Rattle.text_model.specs.declared.edits.Step.TheVariants.{ClearSlot, TakeMark}
-use Rattle.text_model.specs.declared.places.MarkNo.{MarkNo}
-use Rattle.text_model.specs.Content.{Content}
-use Rattle.text_model.specs.Steps.{Fits, after, after_step}
-use Rattle.command_effects.specs.Marking.{taken}
-use Rattle.std.proofs.Math.Seq.{take-suc}
-use Rattle.std.specs.Prelude.{◌*◌}
-use Rattle.std.specs.List.{All}
-use Rattle.std.proofs.lemmas.List.Elements.{All-head, All-tail}
-use Rattle.text_model.specs.TagBits.{slot_count}
 use Rattle.text_model.specs.declared.limits.TheConstants.Limits.{MOST_WIDGETS}
-use Rattle.text_model.specs.declared.places.TagSlot.{TagSlot}
-use Rattle.command_effects.specs.Edits.{without_widgets, without_widget}
 
 abbrev pub takes : List MarkNo → List Step
 takes numbers = map (λ (number : MarkNo). TakeMark number) numbers

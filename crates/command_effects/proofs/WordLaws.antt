@@ -1,9 +1,6 @@
 -- Two texts are the same exactly where their characters are.
-use Rattle.std.proofs.Common.{◌≡◌, ℕ, List, sym, ap, ◌∙◌}
-use Rattle.std.specs.Prelude.{chars, bytes_eq, IsUtf8, encode_utf8_all}
-use Rattle.std.proofs.lemmas.Bool.Decides.{same_from_decides}
-use Rattle.std.proofs.lemmas.Slice.Eq.{bytes_eq-Decides}
-use Rattle.std.proofs.lemmas.Str.{encodes-chars}
+use Rattle.command_effects.proofs.Words.{◌≡◌, ℕ, List, sym, ap, ◌∙◌, chars, bytes_eq, IsUtf8, encode_utf8_all}
+use Rattle.command_effects.proofs.Words.{same_from_decides, bytes_eq-Decides, encodes-chars}
 
 pub bytes_eq-chars : (a b : List ℕ) → IsUtf8 a → IsUtf8 b → bytes_eq a b ≡ bytes_eq (chars a) (chars b)
 bytes_eq-chars a b text other =

@@ -1,8 +1,7 @@
 -- What stands in the text of a list that was written.
-use Rattle.std.proofs.Common.{◌≡◌, ℕ, ◌+◌, Bool, true, false, cond, List, [], ◌∷◌, ◌++◌, take, refl, sym, ap, ◌∙◌}
-use Rattle.std.specs.Prelude.{Some, slice_get, filter}
-use Rattle.std.proofs.lemmas.Option.{get_or_from_slice_get, slice_get_within}
-use Rattle.std.proofs.lemmas.List.{append-nil}
+use Rattle.command_effects.proofs.Words.{◌≡◌, ℕ, ◌+◌, Bool, true, false, cond, List, [], ◌∷◌, ◌++◌, take, refl, sym, ap}
+use Rattle.command_effects.proofs.Words.{◌∙◌, Some, slice_get, filter, get_or_from_slice_get, slice_get_within}
+use Rattle.command_effects.proofs.Words.{append-nil}
 use Rattle.command_effects.proofs.MadeLaws.{take-more}
 
 pub take-found : {A : Type 0} (xs : List A) (at : ℕ) (x : A) → slice_get xs at ≡ Some x →

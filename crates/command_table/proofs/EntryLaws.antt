@@ -1,13 +1,11 @@
 -- How a run of switches goes on, and when words are too many to begin a subcommand.
-use Rattle.std.proofs.Common.{◌≡◌, ℕ, ◌+◌, ◌<◌, Bool, true, false, ◌&&◌, List, [], ◌∷◌, ◌++◌, length, take, drop}
-use Rattle.std.proofs.Common.{get_or, refl, sym, ap, ◌∙◌, arith, append_assoc, add-one}
-use Rattle.std.specs.Prelude.{Err, String, chars, string_bytes, if◌then◌else◌}
-use Rattle.std.proofs.lemmas.List.{length-map, drop_more, get_or-map}
+use Rattle.command_table.proofs.Words.{◌≡◌, ℕ, ◌+◌, ◌<◌, Bool, true, false, ◌&&◌, List, [], ◌∷◌, ◌++◌, length, take}
+use Rattle.command_table.proofs.Words.{drop, get_or, refl, sym, ap, ◌∙◌, arith, append_assoc, add-one, Err, String}
+use Rattle.command_table.proofs.Words.{chars, string_bytes, if◌then◌else◌, length-map, drop_more, get_or-map, go_on}
+use Rattle.command_table.proofs.Words.{unknown, Word, texts_of, is_same, is_dashed, SwitchRule, begins, ends_switches}
+use Rattle.command_table.proofs.Words.{dashed_words}
 use Rattle.std.proofs.Math.Seq.{take-suc}
-use Rattle.command_table.specs.Reading.{go_on, unknown}
-use Rattle.command_table.specs.Words.{Word, texts_of, is_same, is_dashed}
 use Rattle.command_table.specs.declared.shapes.ShapeFault.TheVariants.{BadOption, WrongArguments}
-use Rattle.command_table.specs.Entries.{SwitchRule, begins, ends_switches, dashed_words}
 
 and_false : (b : Bool) → (b && false) ≡ false
 and_false true = refl

@@ -1,4 +1,5 @@
+pub mod EntryLaws
 pub mod NumberLaws
 pub mod PlaceLaws
-pub mod EntryLaws
 pub mod WordLaws
+pub mod Words

@@ -1,17 +1,14 @@
 -- Integers of bytes are those of characters, and numbers of at most nine digits are small.
-use Rattle.std.proofs.Common.{◌≡◌, take_all, le-leb, ℕ, zero, suc, ◌^◌, ◌<◌, ◌≤◌, Bool, true, false, ◌&&◌, List, []}
-use Rattle.std.proofs.Common.{◌∷◌, length, take, w32, to_z, Option, Some, None, refl, sym, ap, ap₂, ◌∙◌, arith}
+use Rattle.command_table.proofs.Words.{◌≡◌, take_all, le-leb, ℕ, zero, suc, ◌^◌, ◌<◌, ◌≤◌, Bool, true, false, ◌&&◌}
+use Rattle.command_table.proofs.Words.{List, [], ◌∷◌, length, take, w32, to_z, refl, sym, ap, ap₂, ◌∙◌, arith}
+use Rattle.command_table.proofs.Words.{is_ascii_digit, list_all, IsAscii, IsUtf8, slice_index, ℤ, pos, neg_ℤ, nat_lt}
+use Rattle.command_table.proofs.Words.{nat_le, fold, option_map, ◌==◌, if◌then◌else◌, false≢true, nat_tests}
+use Rattle.command_table.proofs.Words.{Decides-eqb, Decides-ltb, chars-IsAscii, encodes-IsAscii, encodes-chars}
+use Rattle.command_table.proofs.Words.{add_digit, number_of, integer_of}
+use Rattle.std.proofs.Common.{Option, Some, None}
 use Rattle.std.specs.Str.{chars}
-use Rattle.std.specs.Char.{is_ascii_digit}
-use Rattle.std.specs.List.{list_all}
-use Rattle.std.specs.Prelude.{IsAscii, IsUtf8, slice_index, ℤ, pos, neg_ℤ, nat_lt, nat_le, fold, option_map, ◌==◌}
-use Rattle.std.specs.Prelude.{if◌then◌else◌}
 use Rattle.std.proofs.Math.Facts.{to_z_pos}
 use Rattle.std.proofs.Math.Nat.{pow-le-pow_right}
-use Rattle.std.proofs.lemmas.Bool.{false≢true}
-use Rattle.std.proofs.lemmas.Bool.Decides.{nat_tests, Decides-eqb, Decides-ltb}
-use Rattle.std.proofs.lemmas.Str.{chars-IsAscii, encodes-IsAscii, encodes-chars}
-use Rattle.command_table.specs.Numbers.{add_digit, number_of, integer_of}
 
 pub ten_to_small : (i : ℕ) → i ≤ 9 → 10 ^ i ≤ 1000000000
 ten_to_small i few = pow-le-pow_right {n = 10} (omega arith) few

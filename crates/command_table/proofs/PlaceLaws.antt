@@ -1,13 +1,9 @@
 -- Which entry of the table begins with words.
-use Rattle.std.proofs.Common.{◌≡◌, ℕ, ◌<◌, ◌≤◌, ◌+◌, Bool, true, false, ◌&&◌, List, [], ◌∷◌, ◌++◌, map, length, drop}
-use Rattle.std.proofs.Common.{get_or, refl, sym, ap, ◌∙◌, subst, arith, cond}
-use Rattle.std.specs.Prelude.{Option, Some, None, IfSome, String, string_bytes, chars}
-use Rattle.std.proofs.lemmas.Bool.{false≢true}
-use Rattle.std.proofs.lemmas.List.{length-map, get_or-map}
-use Rattle.command_table.specs.Words.{Word, texts_of}
-use Rattle.command_table.specs.Entries.{EntryRule, begins}
-use Rattle.command_table.specs.Spelled.{entry_rule, spelled}
-use Rattle.command_table.specs.Table.{IsPlaceOf, table, text_entry, find_in}
+use Rattle.command_table.proofs.Words.{◌≡◌, ℕ, ◌<◌, ◌≤◌, ◌+◌, Bool, true, false, ◌&&◌, List, [], ◌∷◌, ◌++◌, length}
+use Rattle.command_table.proofs.Words.{drop, get_or, refl, sym, ap, ◌∙◌, subst, arith, cond, Option, Some, None, IfSome}
+use Rattle.command_table.proofs.Words.{String, string_bytes, chars, false≢true, length-map, get_or-map, Word, texts_of}
+use Rattle.command_table.proofs.Words.{EntryRule, begins, entry_rule, spelled, IsPlaceOf, table, text_entry, find_in}
+use Rattle.std.proofs.Common.{map}
 use Rattle.command_table.specs.declared.entries.Entry.{Entry}
 use Rattle.command_table.proofs.EntryLaws.{rest_at}
 

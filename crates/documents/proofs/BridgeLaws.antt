@@ -1,23 +1,15 @@
 -- The slots of a store and the keys of a world: sets of them.
-use Rattle.std.proofs.Common.{◌≡◌, ℕ, Bool, true, false, cond, not, ◌&&◌, ◌||◌, List, [], ◌∷◌, ◌++◌, Option, None, Some}
-use Rattle.std.proofs.Common.{filter, map, refl, sym, ap, ap₂, ◌∙◌, true≢false, eq-eqb, ne_eqb}
-use Rattle.std.specs.Prelude.{bytes_eq, ◌==◌, if◌then◌else◌}
+use Rattle.documents.proofs.Words.{◌≡◌, ℕ, Bool, true, false, cond, not, ◌&&◌, ◌||◌, List, [], ◌∷◌, ◌++◌, Option, None}
+use Rattle.documents.proofs.Words.{Some, filter, map, refl, sym, ap, ap₂, ◌∙◌, true≢false, eq-eqb, ne_eqb, bytes_eq}
+use Rattle.documents.proofs.Words.{if◌then◌else◌, Equal-is, tied_itself, both_ways, nat_cmp_total, unsigned_tied}
+use Rattle.documents.proofs.Words.{eq_by_cmp, nat_cmp, list_any, false_from_ne_true, none-some, bytes_eq-Decides}
+use Rattle.documents.proofs.Words.{AreApart, Named, AreTags, Tag, Tags, sel, slot_of, Slots, set_slot}
+use Rattle.documents.proofs.Words.{contains-set_slot, without, is_among, is_same, Key, Keys, is_shared, key_cmp}
+use Rattle.documents.proofs.Words.{key_pairs, keys_of, seat_pair, set_key, tag_pair, AreKnown, AreSeats}
+use Rattle.std.specs.Prelude.{◌==◌}
 use Rattle.std.specs.FinSet as set
-use Rattle.std.specs.Cmp.{Equal-is, tied_itself, both_ways, nat_cmp_total, unsigned_tied}
-use Rattle.std.specs.Ordering.{eq_by_cmp, nat_cmp}
-use Rattle.std.specs.List.{list_any}
-use Rattle.std.proofs.lemmas.Bool.{false_from_ne_true}
-use Rattle.std.proofs.lemmas.Option.{none-some}
-use Rattle.std.proofs.lemmas.Slice.Eq.{bytes_eq-Decides}
-use Rattle.name_list.specs.Names.{AreApart, Named, names_of}
-use Rattle.tag_table.specs.Tags.{AreTags, Tag, Tags, names_of as tag_names, sel, slot_of}
-use Rattle.text_model.specs.Content.{Slots}
-use Rattle.text_model.specs.Steps.{set_slot}
-use Rattle.text_model.proofs.CellLaws.{contains-set_slot}
-use Rattle.edit_ops.specs.Tagging.{without}
-use Rattle.command_effects.specs.Words.{is_among, is_same}
-use Rattle.documents.specs.Keys.{Key, Keys, is_shared, key_cmp, key_pairs, keys_of, seat_pair, set_key, tag_pair}
-use Rattle.documents.specs.Kept.{AreKnown, AreSeats}
+use Rattle.name_list.specs.Names.{names_of}
+use Rattle.tag_table.specs.Tags.{names_of as tag_names}
 use Rattle.documents.proofs.KeyLaws.{key_cmp_total, key_cmp_exact}
 use Rattle.documents.proofs.LookupLaws.{AreApart-filter, has, looked-among, looked-any}
 use Rattle.documents.proofs.SlotLaws.{Extends, GoWith, is_in, key_for, one_key, seat_number, shared_slot, slot_among}

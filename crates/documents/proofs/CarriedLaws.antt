@@ -1,25 +1,12 @@
 -- What holds of a document before a command, and after each edit that a command may make, holds after the command.
-use Rattle.std.proofs.Common.{◌≡◌, ℕ, ◌+◌, ◌≤◌, Bool, true, false, List, Option, Some, None, Ok, Err, length, refl}
-use Rattle.std.specs.Prelude.{Result, nat_lt, if◌then◌else◌}
-use Rattle.std.specs.List.{All}
-use Rattle.std.proofs.lemmas.Bool.{ltb-false}
-use Rattle.text_model.specs.declared.places.Gravity.{Gravity}
-use Rattle.text_model.specs.declared.places.Place.{Place}
-use Rattle.text_model.specs.LimitTable.{LimitTable}
-use Rattle.command_effects.specs.declared.answers.Answer.TheVariants.{Empty}
-use Rattle.command_effects.specs.declared.answers.Fault.{Fault}
-use Rattle.command_effects.specs.declared.answers.Fault.TheVariants.{NoSuchTag, TooManyTags, TextTooLong}
-use Rattle.command_effects.specs.Lists.{Pair}
-use Rattle.command_effects.specs.Words.{is_among}
-use Rattle.documents.specs.Deletions.{delete_places, replace_span}
-use Rattle.documents.specs.Documents.{Document, Widget}
-use Rattle.documents.specs.History.{edit_separator, modified_set}
-use Rattle.documents.specs.Marks.{mark_unset, place_named, set_found, with_mark}
-use Rattle.documents.specs.Promise.{Change, answered, refused, change_with, unless_idle}
-use Rattle.documents.specs.History.{edit_redo, edit_undo}
-use Rattle.documents.specs.Tags.{add_spans, known_or, remove_spans, reordered, tag_delete}
-use Rattle.documents.specs.Texts.{insert_at, insertion_offset, within_limits}
-use Rattle.documents.specs.Views.{is_idle, shown, view_end}
+use Rattle.documents.proofs.Words.{◌≡◌, ℕ, ◌+◌, ◌≤◌, Bool, true, false, List, Option, Some, None, Ok, Err, length, refl}
+use Rattle.documents.proofs.Words.{nat_lt, if◌then◌else◌, All, ltb-false, Gravity, Place, LimitTable, Empty, Fault}
+use Rattle.documents.proofs.Words.{NoSuchTag, TooManyTags, TextTooLong, Pair, is_among, delete_places, replace_span}
+use Rattle.documents.proofs.Words.{Document, Widget, edit_separator, modified_set, edit_redo, edit_undo, mark_unset}
+use Rattle.documents.proofs.Words.{place_named, set_found, with_mark, Change, answered, refused, change_with}
+use Rattle.documents.proofs.Words.{unless_idle, add_spans, known_or, remove_spans, reordered, tag_delete, insert_at}
+use Rattle.documents.proofs.Words.{insertion_offset, within_limits, is_idle, shown, view_end}
+use Rattle.std.specs.Prelude.{Result}
 
 -- ---- what may follow, or not
 

@@ -1,19 +1,10 @@
 -- What a change makes of a document as it is kept, and that it does what the definition says.
-use Rattle.std.proofs.Common.{◌≡◌, ◌≢◌, ℕ, ◌+◌, ◌≤◌, Err, Ok, length, take, refl, sym, ap, ap₂, subst, ◌∙◌, arith}
+use Rattle.documents.proofs.Words.{◌≡◌, ◌≢◌, ℕ, ◌+◌, ◌≤◌, Err, Ok, length, take, refl, sym, ap, ap₂, subst, ◌∙◌, arith}
+use Rattle.documents.proofs.Words.{Tags, LimitTable, FitsText, Answer, Empty, Fault, Memory, IsFront, Document, Parts}
+use Rattle.documents.proofs.Words.{document_of, IsSound, Stands, Change, Does, answered, refused, IsWellFormedDocument}
+use Rattle.documents.proofs.Words.{window_names}
 use Rattle.std.specs.Prelude.{Result}
-use Rattle.tag_table.specs.Tags.{Tags}
 use Rattle.text_model.specs.Content as model
-use Rattle.text_model.specs.LimitTable.{LimitTable}
-use Rattle.undo_stack.specs.Fits.{FitsText}
-use Rattle.command_effects.specs.declared.answers.Answer.{Answer}
-use Rattle.command_effects.specs.declared.answers.Answer.TheVariants.{Empty}
-use Rattle.command_effects.specs.declared.answers.Fault.{Fault}
-use Rattle.command_effects.specs.declared.answers.Fault.TheVariants.{Memory}
-use Rattle.command_effects.specs.Tagging.{IsFront}
-use Rattle.documents.specs.Documents.{Document, Parts, document_of}
-use Rattle.documents.specs.Kept.{IsSound, Stands}
-use Rattle.documents.specs.Promise.{Change, Does, answered, refused}
-use Rattle.documents.specs.WellFormed.{IsWellFormedDocument, window_names}
 use Rattle.documents.proofs.PartsLaws.{marks-kept, tags-kept}
 use Rattle.documents.proofs.WellFormedLaws.{IsWellFormedDocument-kept, fits-kept, windows-kept}
 use Rattle.name_list.specs.Names.{names_of}

@@ -1,28 +1,20 @@
 -- Slots that are taken off all cells with their keys: those of tags that are deleted, and of seats that are given up.
-use Rattle.std.proofs.Common.{◌≡◌, ◌≢◌, ℕ, zero, suc, Bool, true, false, cond, not, ◌<◌, ◌||◌, List, [], ◌∷◌, Option}
-use Rattle.std.proofs.Common.{None, Some, filter, map, slice_get, refl, sym, ap, ◌∙◌, true≢false, arith, eqb-true}
-use Rattle.std.proofs.Common.{eq-eqb, ne_eqb, bytes_eq, option_map, ◌==◌, if◌then◌else◌}
-use Rattle.std.specs.Cmp.{both_ways}
-use Rattle.std.specs.List.{All, cons_option}
-use Rattle.std.proofs.lemmas.Bool.{eqb-false, false_from_ne_true, or_left, or_right}
-use Rattle.std.proofs.lemmas.Option.{none-some, same_Some, slice_get-map}
-use Rattle.std.proofs.lemmas.Slice.Eq.{bytes_eq-Decides}
-use Rattle.name_list.specs.Names.{Named, numbers_of}
-use Rattle.name_list.proofs.ListLaws.{Stands, stands_map, stood_at}
-use Rattle.tag_table.specs.Tags.{AreTags, Tag, Tags, names_of as tag_names, sel, slot_of}
-use Rattle.text_model.specs.declared.cells.Cell.{Cell}
-use Rattle.text_model.specs.declared.limits.TheConstants.Limits.{MOST_WIDGETS}
-use Rattle.edit_ops.specs.Tagging.{cell_without}
-use Rattle.command_effects.specs.Tagging.{slot_taken, slots_deleted, stays, tags_left}
-use Rattle.command_effects.specs.Words.{is_among, is_same}
-use Rattle.documents.specs.Kept.{AreSeats, HasKnownSlots}
-use Rattle.documents.specs.Keys.{Key, key_pairs, keyed, numbers_gone, seats_left, selection_stays}
-use Rattle.documents.specs.Tags.{key_stays, without_tags}
+use Rattle.documents.proofs.Words.{◌≡◌, ◌≢◌, ℕ, zero, suc, Bool, true, false, cond, not, ◌<◌, ◌||◌, List, [], ◌∷◌}
+use Rattle.documents.proofs.Words.{Option, None, Some, filter, map, refl, sym, ap, ◌∙◌, true≢false, arith, eq-eqb}
+use Rattle.documents.proofs.Words.{ne_eqb, option_map, ◌==◌, both_ways, All, cons_option, eqb-false, false_from_ne_true}
+use Rattle.documents.proofs.Words.{or_left, or_right, none-some, same_Some, slice_get-map, bytes_eq-Decides, Named}
+use Rattle.documents.proofs.Words.{numbers_of, stands_map, stood_at, AreTags, Tag, Tags, sel, slot_of, Cell}
+use Rattle.documents.proofs.Words.{MOST_WIDGETS, cell_without, slot_taken, slots_deleted, stays, tags_left, is_among}
+use Rattle.documents.proofs.Words.{is_same, AreSeats, HasKnownSlots, Key, key_pairs, keyed, numbers_gone, seats_left}
+use Rattle.documents.proofs.Words.{selection_stays, key_stays, without_tags}
+use Rattle.std.proofs.Common.{slice_get, eqb-true, bytes_eq, if◌then◌else◌}
+use Rattle.name_list.proofs.ListLaws.{Stands}
+use Rattle.tag_table.specs.Tags.{names_of as tag_names}
 use Rattle.documents.proofs.KeyedLaws.{keyed-left, with_staying}
 use Rattle.documents.proofs.KnownLaws.{known-without}
 use Rattle.documents.proofs.LookupLaws.{AreApart-filter, filter_stands, filter_stood, looked-filter}
-use Rattle.documents.proofs.SlotLaws.{GoWith, is_in, not_selection, number_low, same_slot, seat_stands, slot_for, slot_high}
-use Rattle.documents.proofs.SlotLaws.{tag_slot-is}
+use Rattle.documents.proofs.SlotLaws.{GoWith, is_in, not_selection, number_low, same_slot, seat_stands, slot_for}
+use Rattle.documents.proofs.SlotLaws.{slot_high, tag_slot-is}
 
 not_not : (a : Bool) → a ≡ not (not a)
 not_not true = refl

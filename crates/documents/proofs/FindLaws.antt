@@ -1,18 +1,12 @@
 -- The widgets of a document by their names.
-use Rattle.std.proofs.Common.{◌≡◌, ℕ, suc, ◌+◌, Bool, true, false, cond, List, [], ◌∷◌, map, refl, sym, ap, ◌∙◌, arith}
-use Rattle.std.proofs.Common.{inl, inr, ◌⊎◌, true≢false}
-use Rattle.std.specs.Prelude.{IfSome, bytes_eq, find, slice_get, Option, None, Some, is_some, ◌||◌}
-use Rattle.std.specs.List.{position_from}
-use Rattle.std.proofs.lemmas.Bool.{false_from_ne_true}
+use Rattle.documents.proofs.Words.{◌≡◌, ℕ, suc, ◌+◌, Bool, true, false, cond, List, [], ◌∷◌, map, refl, sym, ap, ◌∙◌}
+use Rattle.documents.proofs.Words.{arith, inl, inr, ◌⊎◌, true≢false, IfSome, bytes_eq, find, slice_get, is_some}
+use Rattle.documents.proofs.Words.{position_from, false_from_ne_true, none-some, same_Some, bytes_eq-Decides, Named}
+use Rattle.documents.proofs.Words.{is_among, is_same, Document, Parts, Widget, widget_at, widget_of, Stands}
+use Rattle.documents.proofs.Words.{window_names, widget_named}
+use Rattle.std.specs.Prelude.{Option, None, Some, ◌||◌}
 use Rattle.std.proofs.lemmas.Iterator.Adapters.{position_from-zero}
-use Rattle.std.proofs.lemmas.Option.{none-some, same_Some}
-use Rattle.std.proofs.lemmas.Slice.Eq.{bytes_eq-Decides}
-use Rattle.name_list.specs.Names.{Named, names_of, place_of}
-use Rattle.command_effects.specs.Words.{is_among, is_same}
-use Rattle.documents.specs.Documents.{Document, Parts, Widget, widget_at, widget_of}
-use Rattle.documents.specs.Kept.{Stands}
-use Rattle.documents.specs.WellFormed.{window_names}
-use Rattle.documents.specs.Widgets.{widget_named}
+use Rattle.name_list.specs.Names.{names_of, place_of}
 use Rattle.documents.proofs.PartsLaws.{widget-is}
 use Rattle.documents.proofs.WellFormedLaws.{windows-kept}
 

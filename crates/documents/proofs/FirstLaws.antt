@@ -1,26 +1,13 @@
 -- A new document.
-use Rattle.std.proofs.Common.{◌≡◌, ◌≢◌, ℕ, zero, suc, ◌+◌, ◌<◌, ◌≤◌, cond, List, [], ◌∷◌, refl, sym, ap, ◌∙◌}
-use Rattle.std.proofs.Common.{true≢false, arith, Some, None, slice_get, option_map}
-use Rattle.std.specs.Ordering.{nat_cmp}
+use Rattle.documents.proofs.Words.{◌≡◌, ◌≢◌, ℕ, zero, suc, ◌+◌, ◌<◌, ◌≤◌, cond, List, [], ◌∷◌, refl, sym, ap, ◌∙◌}
+use Rattle.documents.proofs.Words.{true≢false, arith, Some, None, option_map, nat_cmp, All-cons, All-nil, none-some}
+use Rattle.documents.proofs.Words.{same_Some, bytes_eq-Decides, MOST_MARKS, MOST_TAGS, MOST_WIDGETS, new_content}
+use Rattle.documents.proofs.Words.{MarksStand, AreLimits, LimitTable, IsDocument-new, AreApart, AreTags, Tag}
+use Rattle.documents.proofs.Words.{first_slot, sel, no_history, unmodified, AreAnchored, first_document_settings, Parts}
+use Rattle.documents.proofs.Words.{document_of, AreMarked, HasKnownSlots, IsSound, IsWellFormedDocument}
+use Rattle.std.proofs.Common.{slice_get}
 use Rattle.std.specs.FinMap as finite
 use Rattle.std.specs.FinSet as set
-use Rattle.std.proofs.lemmas.List.Elements.{All-cons, All-nil}
-use Rattle.std.proofs.lemmas.Option.{none-some, same_Some}
-use Rattle.std.proofs.lemmas.Slice.Eq.{bytes_eq-Decides}
-use Rattle.text_model.specs.declared.limits.TheConstants.Limits.{MOST_MARKS, MOST_TAGS, MOST_WIDGETS}
-use Rattle.text_model.specs.Content.{new_content}
-use Rattle.text_model.specs.Documents.{MarksStand}
-use Rattle.text_model.specs.LimitTable.{AreLimits, LimitTable}
-use Rattle.text_model.proofs.DocumentLaws.{IsDocument-new}
-use Rattle.name_list.specs.Names.{AreApart}
-use Rattle.tag_table.specs.Tags.{AreTags, Tag, first_slot, sel}
-use Rattle.undo_stack.specs.History.{no_history}
-use Rattle.undo_stack.specs.Modified.{unmodified}
-use Rattle.edit_ops.specs.Anchors.{AreAnchored}
-use Rattle.command_effects.specs.Settings.{first_document_settings}
-use Rattle.documents.specs.Documents.{Parts, document_of}
-use Rattle.documents.specs.Kept.{AreMarked, HasKnownSlots, IsSound}
-use Rattle.documents.specs.WellFormed.{IsWellFormedDocument}
 use Rattle.documents.proofs.WellFormedLaws.{IsWellFormedDocument-kept}
 
 abbrev pub sel_alone : List Tag

@@ -1,32 +1,16 @@
 -- What is told where tags are deleted, name by name.
-use Rattle.std.proofs.Common.{◌≡◌, ◌≢◌, ℕ, ◌+◌, ◌<◌, Bool, true, false, cond, not, ◌&&◌, ◌||◌, List, [], ◌∷◌, ◌++◌}
-use Rattle.std.proofs.Common.{Option, None, Some, map, length, refl, sym, ap, ap₂, ◌∙◌, arith, subst, true≢false, ne_eqb}
-use Rattle.std.proofs.Common.{eq-eqb, get_or, take, chars, string_bytes}
-use Rattle.std.specs.Prelude.{slice_range}
-use Rattle.std.specs.Cmp.{nat_cmp_total, unsigned_tied}
+use Rattle.documents.proofs.Words.{◌≡◌, ◌≢◌, ℕ, ◌+◌, ◌<◌, Bool, true, false, cond, not, ◌&&◌, ◌||◌, List, [], ◌∷◌, ◌++◌}
+use Rattle.documents.proofs.Words.{Option, None, Some, map, length, refl, sym, ap, ap₂, ◌∙◌, arith, subst, true≢false}
+use Rattle.documents.proofs.Words.{ne_eqb, eq-eqb, get_or, take, chars, string_bytes, slice_range, nat_cmp_total}
+use Rattle.documents.proofs.Words.{unsigned_tied, eq_by_cmp, nat_cmp, String, false_from_ne_true, append-nil}
+use Rattle.documents.proofs.Words.{length-map, none-some, same_Some, Named, AreTags, Tag, Tags, sel, slot_of, texts_of}
+use Rattle.documents.proofs.Words.{Slots, flags, changed, Cell, map-alike, map-map, is_among, is_same, KeyedCell}
+use Rattle.documents.proofs.Words.{with_key, Key, Keys, key_cmp, key_pairs, keyed, keys_of, set_key, AreSeats}
+use Rattle.documents.proofs.Words.{key_stays, without_tags, AreGone, TellsGone, TellsSpan, TellsTags, flags_of}
+use Rattle.documents.proofs.Words.{TagChange}
 use Rattle.std.specs.FinSet as set
-use Rattle.std.specs.Ordering.{eq_by_cmp, nat_cmp}
-use Rattle.std.specs.declared.string.String.{String}
-use Rattle.std.proofs.lemmas.Bool.{false_from_ne_true}
-use Rattle.std.proofs.lemmas.List.{append-nil, length-map}
-use Rattle.std.proofs.lemmas.Option.{none-some, same_Some}
-use Rattle.name_list.specs.Names.{Named}
-use Rattle.tag_table.specs.Tags.{AreTags, Tag, Tags, sel, slot_of}
-use Rattle.tcl_words.specs.Unread.{texts_of}
-use Rattle.text_model.specs.Content.{Slots, flags}
-use Rattle.text_model.specs.Splices.{changed}
-use Rattle.text_model.specs.declared.cells.Cell.{Cell}
-use Rattle.text_model.proofs.SpliceLaws.{map-alike, map-map}
-use Rattle.command_effects.specs.Words.{is_among, is_same}
-use Rattle.documents.specs.Documents.{KeyedCell}
-use Rattle.documents.specs.Edits.{with_key}
-use Rattle.documents.specs.Keys.{Key, Keys, key_cmp, key_pairs, keyed, keys_of, set_key}
-use Rattle.documents.specs.Kept.{AreSeats}
-use Rattle.documents.specs.Tags.{key_stays, without_tags}
-use Rattle.documents.specs.TagsGone.{AreGone, TellsGone}
-use Rattle.documents.specs.TagsTold.{TellsSpan, TellsTags, flags_of}
-use Rattle.documents.specs.declared.tag_lists.TagChange.{TagChange}
-use Rattle.documents.proofs.BridgeLaws.{and_none, contains-set_key, key_itself, key_tied, keys_of-has, keys_same, retained}
+use Rattle.documents.proofs.BridgeLaws.{and_none, contains-set_key, key_itself, key_tied, keys_of-has, keys_same}
+use Rattle.documents.proofs.BridgeLaws.{retained}
 use Rattle.documents.proofs.KeyedLaws.{keyed_cell}
 use Rattle.documents.proofs.LookupLaws.{has}
 use Rattle.documents.proofs.MarksToldLaws.{among-last, among-other, same-word, texts-more, words-are}

@@ -1,19 +1,13 @@
 -- An index stands for a place of what a widget shows.
-use Rattle.std.proofs.Common.{◌≡◌, ℕ, zero, suc, ◌-◌, ◌≤◌, Bool, List, [], Some, Ok, Err, length, map, ap, arith}
-use Rattle.std.specs.Prelude.{slice_get, slice_index_or}
+use Rattle.documents.proofs.Words.{◌≡◌, ℕ, zero, suc, ◌-◌, ◌≤◌, Bool, List, [], Some, Ok, Err, length, map, ap, arith}
+use Rattle.documents.proofs.Words.{slice_get, slice_index_or, length-map, option_and_then_some, AreWithin, own_place}
+use Rattle.documents.proofs.Words.{shared_place, is_word, at_position, index_fault, Document, Widget, SharedMark}
+use Rattle.documents.proofs.Words.{KeyedCell, characters, key_of, mark_place, meanings, place_of, shown, view_end}
+use Rattle.documents.proofs.Words.{view_start}
 use Rattle.std.specs.FinSet as set
-use Rattle.std.proofs.lemmas.List.{length-map}
-use Rattle.std.proofs.lemmas.Option.{option_and_then_some}
 use Rattle.index_grammar.specs.Grammar.{index_of}
-use Rattle.text_index.specs.Meanings.{AreWithin}
-use Rattle.text_index.specs.Views.{own_place, shared_place}
-use Rattle.text_index.specs.Words.{is_word}
 use Rattle.text_index.proofs.BoundLaws.{own-within, shared-within, value_of-le}
-use Rattle.command_effects.specs.Faults.{at_position, index_fault}
-use Rattle.documents.specs.Documents.{Document, Widget, SharedMark, KeyedCell, characters}
 use Rattle.documents.specs.Indices.{place_at}
-use Rattle.documents.specs.Names.{key_of, mark_place, meanings, place_of}
-use Rattle.documents.specs.Views.{shown, view_end, view_start}
 use Rattle.documents.proofs.ViewLaws.{part-length}
 
 mark-within : (document : Document) (widget : Widget) (number place : ℕ) →

@@ -1,30 +1,12 @@
 -- A document after texts with tag lists are put in, or where that is refused.
-use Rattle.std.proofs.Common.{◌≡◌, ℕ, ◌+◌, ◌<◌, ◌≤◌, true, false, List, None, Some, Ok, map, length, refl, sym, ap, ap₂}
-use Rattle.std.proofs.Common.{subst, ◌∙◌, arith, nat_lt, if◌then◌else◌}
-use Rattle.std.specs.Char.{IsScalar}
-use Rattle.std.specs.List.{All}
-use Rattle.std.proofs.lemmas.Bool.Decides.{nat_tests}
-use Rattle.std.proofs.lemmas.List.{length-map}
-use Rattle.tag_table.specs.Tags.{AreTags, Tag, Tags, names_of}
-use Rattle.text_model.specs.LimitTable.{AreLimits, LimitTable}
-use Rattle.undo_stack.specs.declared.actions.EditKind.TheVariants.{Insert}
-use Rattle.edit_ops.specs.Insertions.{inserted_texts}
-use Rattle.edit_ops.specs.States.{State}
-use Rattle.edit_ops.specs.declared.slotted_texts.SlottedText.{SlottedText}
-use Rattle.edit_ops.proofs.KeepLaws.{texts-kept}
-use Rattle.command_effects.specs.declared.answers.Answer.TheVariants.{Empty}
-use Rattle.command_effects.specs.declared.answers.Fault.{Fault}
-use Rattle.command_effects.specs.declared.answers.Fault.TheVariants.{TextTooLong, TooManyTags}
-use Rattle.command_effects.specs.Edits.{excess}
-use Rattle.command_effects.specs.Lists.{Pair, all_names, total, with_names}
-use Rattle.command_effects.specs.Settings.{recording_of}
-use Rattle.command_effects.specs.Tagging.{IsFront, piece_of}
-use Rattle.command_effects.specs.Words.{is_among}
-use Rattle.documents.specs.Documents.{Document, Parts, Widget, document_of, widget_at}
-use Rattle.documents.specs.Edits.{with_texts}
-use Rattle.documents.specs.Kept.{Stands}
-use Rattle.documents.specs.Promise.{Change, answered, refused}
-use Rattle.documents.specs.Texts.{insert_at, keyed_text, tags_with, within_limits}
+use Rattle.documents.proofs.Words.{◌≡◌, ℕ, ◌+◌, ◌<◌, ◌≤◌, true, false, List, None, Some, Ok, map, length, refl, sym, ap}
+use Rattle.documents.proofs.Words.{ap₂, subst, ◌∙◌, arith, IsScalar, All, nat_tests, length-map, AreTags, Tag, Tags}
+use Rattle.documents.proofs.Words.{names_of, AreLimits, LimitTable, Insert, inserted_texts, State, SlottedText}
+use Rattle.documents.proofs.Words.{texts-kept, Empty, Fault, TextTooLong, TooManyTags, excess, Pair, all_names, total}
+use Rattle.documents.proofs.Words.{with_names, recording_of, IsFront, piece_of, is_among, Document, Parts, Widget}
+use Rattle.documents.proofs.Words.{document_of, widget_at, with_texts, Stands, Change, answered, refused, insert_at}
+use Rattle.documents.proofs.Words.{keyed_text, tags_with, within_limits}
+use Rattle.std.proofs.Common.{nat_lt, if◌then◌else◌}
 use Rattle.documents.proofs.ChangeLaws.{Leaves, does-changed}
 use Rattle.documents.proofs.KeyedLaws.{keyed-more}
 use Rattle.documents.proofs.KnownLaws.{IsKnownPiece, known-front}

@@ -1,22 +1,11 @@
 -- A document after its journal alone is changed.
-use Rattle.std.proofs.Common.{◌≡◌, ℕ, Bool, true, false, List, Ok, refl, sym, ap, subst, ◌∙◌, zero, suc, ◌-◌, [], drop}
-use Rattle.std.specs.Prelude.{◌==◌, if◌then◌else◌}
+use Rattle.documents.proofs.Words.{◌≡◌, ℕ, Bool, true, false, List, Ok, refl, sym, ap, subst, ◌∙◌, zero, suc, ◌-◌, []}
+use Rattle.documents.proofs.Words.{drop, if◌then◌else◌, LimitTable, FitsText, History, limit_of, newest, no_history}
+use Rattle.documents.proofs.Words.{separated, set_to, Kept, Action, limited-fits, nothing-fits, log_of, history_under}
+use Rattle.documents.proofs.Words.{Empty, DocumentSettings, edit_reset, edit_separator, modified_set, Document, Journal}
+use Rattle.documents.proofs.Words.{Parts, document_of, IsOrderly, Stands, Change, answered}
+use Rattle.std.specs.Prelude.{◌==◌}
 use Rattle.text_model.specs.Content as model
-use Rattle.text_model.specs.LimitTable.{LimitTable}
-use Rattle.undo_stack.specs.Fits.{FitsText}
-use Rattle.undo_stack.specs.History.{History, limit_of, newest, no_history, separated}
-use Rattle.undo_stack.specs.Modified.{set_to}
-use Rattle.undo_stack.specs.Rings.{Kept}
-use Rattle.undo_stack.specs.declared.actions.Action.{Action}
-use Rattle.undo_stack.proofs.FitsLaws.{limited-fits, nothing-fits}
-use Rattle.edit_ops.specs.States.{log_of}
-use Rattle.command_effects.specs.Settings.{history_under}
-use Rattle.command_effects.specs.declared.answers.Answer.TheVariants.{Empty}
-use Rattle.command_effects.specs.declared.settings.DocumentSettings.{DocumentSettings}
-use Rattle.documents.specs.History.{edit_reset, edit_separator, modified_set}
-use Rattle.documents.specs.Documents.{Document, Journal, Parts, document_of}
-use Rattle.documents.specs.Kept.{IsOrderly, Stands}
-use Rattle.documents.specs.Promise.{Change, answered}
 use Rattle.documents.proofs.ChangeLaws.{Leaves, does-changed}
 
 -- the parts with what is kept of the edits

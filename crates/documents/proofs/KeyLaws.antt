@@ -1,12 +1,10 @@
 -- The order of keys, and sets of none.
-use Rattle.std.proofs.Common.{◌≡◌, ℕ, zero, suc, Bool, true, false, List, refl, sym, ap, ◌∙◌}
+use Rattle.documents.proofs.Words.{◌≡◌, ℕ, zero, suc, Bool, true, false, List, refl, sym, ap, ◌∙◌, nat_cmp}
+use Rattle.documents.proofs.Words.{IsTotalOrder, nat_cmp_total, CmpEqualImpliesEq, exact_pairs, exact_unsigned, Key}
+use Rattle.documents.proofs.Words.{key_cmp, rank}
 use Rattle.std.specs.FinMap.{nat_cmp-IsAntisymmetric, slice_cmp-IsAntisymmetric}
-use Rattle.std.specs.Ordering.{nat_cmp}
-use Rattle.std.specs.Cmp.{IsTotalOrder, nat_cmp_total}
 use Rattle.std.specs.Cmp.Lexicographic.{slice_cmp, nat_list_cmp_total}
 use Rattle.std.proofs.lemmas.Cmp.{on_total, then_total}
-use Rattle.std.proofs.lemmas.Map.Lookups.{CmpEqualImpliesEq, exact_pairs, exact_unsigned}
-use Rattle.documents.specs.Keys.{Key, key_cmp, rank}
 
 pub key_cmp_total : IsTotalOrder key_cmp
 key_cmp_total = then_total (on_total (λ (key : Key). rank key.selects) nat_cmp_total)

@@ -1,32 +1,19 @@
 -- Keys as loops list them: those of slots, and those of names.
-use Rattle.std.proofs.Common.{◌≡◌, ℕ, ◌+◌, ◌<◌, Bool, true, false, cond, not, ◌||◌, List, [], ◌∷◌, ◌++◌, Some, filter}
-use Rattle.std.proofs.Common.{map, take, length, get_or, refl, sym, ap, ap₂, ◌∙◌, append_assoc, slice_get, option_map}
-use Rattle.std.proofs.Common.{subst, true≢false, bytes_eq, string_bytes, if◌then◌else◌}
-use Rattle.std.specs.Cmp.{both_ways}
+use Rattle.documents.proofs.Words.{◌≡◌, ℕ, ◌+◌, ◌<◌, Bool, true, false, cond, not, ◌||◌, List, [], ◌∷◌, ◌++◌, Some}
+use Rattle.documents.proofs.Words.{filter, map, take, length, get_or, refl, sym, ap, ap₂, ◌∙◌, append_assoc, option_map}
+use Rattle.documents.proofs.Words.{subst, true≢false, string_bytes, both_ways, list_any, eq_by_cmp, nat_cmp, String}
+use Rattle.documents.proofs.Words.{false_from_ne_true, append-nil, map-append, list_any-append, same_Some}
+use Rattle.documents.proofs.Words.{slice_get-map, bytes_eq-Decides, IsUtf8-string_bytes, Named, numbers_of, stood_at}
+use Rattle.documents.proofs.Words.{Tag, sel, slots_of, texts_of, Slots, SlotRun, is_same, take-more, filter-append}
+use Rattle.documents.proofs.Words.{filter-in, filter-out, take-found, Key, is_shared, key_cmp, key_named, keys_listed}
+use Rattle.documents.proofs.Words.{keys_named, seat_pair, tag_pair, AreDistinct, AreKeysOf, key_set, run_changes}
+use Rattle.documents.proofs.Words.{slot_changes, TagChange}
+use Rattle.std.proofs.Common.{slice_get, bytes_eq, if◌then◌else◌}
 use Rattle.std.specs.FinSet as set
-use Rattle.std.specs.List.{list_any}
-use Rattle.std.specs.Ordering.{eq_by_cmp, nat_cmp}
 use Rattle.std.specs.Str.{chars}
-use Rattle.std.specs.declared.string.String.{String}
-use Rattle.std.proofs.lemmas.Bool.{false_from_ne_true}
-use Rattle.std.proofs.lemmas.List.{append-nil, map-append}
-use Rattle.std.proofs.lemmas.List.Folds.{list_any-append}
-use Rattle.std.proofs.lemmas.Option.{same_Some, slice_get-map}
-use Rattle.std.proofs.lemmas.Slice.Eq.{bytes_eq-Decides}
-use Rattle.std.proofs.lemmas.Str.{IsUtf8-string_bytes}
-use Rattle.name_list.specs.Names.{Named, names_of, numbers_of}
-use Rattle.name_list.proofs.ListLaws.{stood_at}
-use Rattle.tag_table.specs.Tags.{Tag, names_of as tag_names, sel, slots_of}
-use Rattle.tcl_words.specs.Unread.{texts_of}
-use Rattle.text_model.specs.Content.{Slots}
-use Rattle.edit_ops.specs.declared.slot_runs.SlotRun.{SlotRun}
-use Rattle.command_effects.specs.Words.{is_same}
-use Rattle.command_effects.proofs.MadeLaws.{take-more}
+use Rattle.name_list.specs.Names.{names_of}
+use Rattle.tag_table.specs.Tags.{names_of as tag_names}
 use Rattle.command_effects.proofs.WordLaws.{bytes_eq-chars}
-use Rattle.command_effects.proofs.WrittenLaws.{filter-append, filter-in, filter-out, take-found}
-use Rattle.documents.specs.Keys.{Key, is_shared, key_cmp, key_named, keys_listed, keys_named, seat_pair, tag_pair}
-use Rattle.documents.specs.TagsTold.{AreDistinct, AreKeysOf, key_set, run_changes, slot_changes}
-use Rattle.documents.specs.declared.tag_lists.TagChange.{TagChange}
 use Rattle.documents.proofs.BridgeLaws.{key_itself, key_tied}
 use Rattle.documents.proofs.KeyLaws.{key_cmp_exact, key_cmp_total}
 use Rattle.documents.proofs.MarksToldLaws.{texts-more}

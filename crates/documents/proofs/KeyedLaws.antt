@@ -1,27 +1,16 @@
 -- The cells of a store and those of a document.
-use Rattle.std.proofs.Common.{◌≡◌, ℕ, zero, suc, ◌+◌, ◌-◌, ◌<◌, Bool, List, [], ◌∷◌, ◌++◌, Some, map, length, get_or}
-use Rattle.std.proofs.Common.{refl, sym, ap, ap₂, ◌∙◌, ne_eqb, arith, slice_get, option_map, if◌then◌else◌}
+use Rattle.documents.proofs.Words.{◌≡◌, ℕ, zero, suc, ◌+◌, ◌-◌, ◌<◌, Bool, List, [], ◌∷◌, ◌++◌, Some, map, length}
+use Rattle.documents.proofs.Words.{get_or, refl, sym, ap, ap₂, ◌∙◌, ne_eqb, arith, option_map, All, get_or-map}
+use Rattle.documents.proofs.Words.{All-tail, slice_get-map, slice_get-get_or, AreApart, Named, AreTags, Tag, Tags}
+use Rattle.documents.proofs.Words.{slot_of, known_tags, Cell, Content, Slots, flags, slot_sets, inserted, removed}
+use Rattle.documents.proofs.Words.{changed, cells_of, with_slot, without_slots, map-inserted, map-removed, map-changed}
+use Rattle.documents.proofs.Words.{map-alike, map-map, Span, shared_slots, cell_without, tagged, IsFront, bare}
+use Rattle.documents.proofs.Words.{with_key, with_tag, keys_between, common_keys, AreSeats, HasKnownSlots, Key, Keys}
+use Rattle.documents.proofs.Words.{keyed, keys_of, key_named, key_pairs, KeyedCell}
+use Rattle.std.proofs.Common.{slice_get, if◌then◌else◌}
 use Rattle.std.specs.FinSet as set
-use Rattle.std.specs.List.{All}
-use Rattle.std.proofs.lemmas.List.{get_or-map}
-use Rattle.std.proofs.lemmas.List.Elements.{All-tail}
-use Rattle.std.proofs.lemmas.Option.{slice_get-map, slice_get-get_or}
-use Rattle.name_list.specs.Names.{AreApart, Named, names_of}
-use Rattle.tag_table.specs.Tags.{AreTags, Tag, Tags, names_of as tag_names, slot_of}
-use Rattle.index_grammar.specs.Names.{known_tags}
-use Rattle.text_model.specs.declared.cells.Cell.{Cell}
-use Rattle.text_model.specs.Content.{Content, Slots, flags, slot_sets}
-use Rattle.text_model.specs.Splices.{inserted, removed, changed}
-use Rattle.text_model.specs.Steps.{cells_of, with_slot, without_slots}
-use Rattle.text_model.proofs.SpliceLaws.{map-inserted, map-removed, map-changed, map-alike, map-map}
-use Rattle.edit_ops.specs.declared.spans.Span.{Span}
-use Rattle.text_cursor.specs.Around.{shared_slots}
-use Rattle.edit_ops.specs.Tagging.{cell_without, tagged}
-use Rattle.command_effects.specs.Tagging.{IsFront}
-use Rattle.documents.specs.Edits.{bare, with_key, with_tag, keys_between, common_keys}
-use Rattle.documents.specs.Kept.{AreSeats, HasKnownSlots}
-use Rattle.documents.specs.Keys.{Key, Keys, keyed, keys_of, key_named, key_pairs}
-use Rattle.documents.specs.Documents.{KeyedCell}
+use Rattle.name_list.specs.Names.{names_of}
+use Rattle.tag_table.specs.Tags.{names_of as tag_names}
 use Rattle.documents.proofs.BridgeLaws.{keys_of-empty, keys_of-extended, keys_of-has, keys_of-intersection}
 use Rattle.documents.proofs.BridgeLaws.{keys_of-left, keys_of-reordered, keys_of-set_slot}
 use Rattle.documents.proofs.LookupLaws.{has}

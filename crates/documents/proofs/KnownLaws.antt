@@ -1,29 +1,14 @@
 -- Slots of seats and tags alone.
-use Rattle.std.proofs.Common.{◌≡◌, ℕ, ◌-◌, ◌<◌, Bool, true, false, cond, ◌&&◌, List, [], ◌∷◌, Option, None, Some, map}
-use Rattle.std.proofs.Common.{length, ◌++◌, get_or, slice_get, take, drop, refl, sym, subst, ◌∙◌, true≢false, arith}
-use Rattle.std.proofs.Common.{eqb-true, Contains, IfSome, slice_range, ◌==◌, if◌then◌else◌}
+use Rattle.documents.proofs.Words.{◌≡◌, ℕ, ◌-◌, ◌<◌, Bool, true, false, cond, ◌&&◌, List, [], ◌∷◌, Option, None, Some}
+use Rattle.documents.proofs.Words.{map, length, ◌++◌, get_or, take, drop, refl, sym, subst, ◌∙◌, true≢false, arith}
+use Rattle.documents.proofs.Words.{Contains, ◌==◌, IsScalar, nat_cmp_total, All, nat_cmp, get_or-map, All-append}
+use Rattle.documents.proofs.Words.{All-cons, All-drop, All-map, All-nil, All-take, Named, AreTags, Tag, Tags, slot_of}
+use Rattle.documents.proofs.Words.{known_tags, Cell, Slots, slot_sets, changed, inserted, cells_of, set_slot, with_slot}
+use Rattle.documents.proofs.Words.{contains-set_slot, SlottedText, slots_or, cell_without, shared_slots, IsFront}
+use Rattle.documents.proofs.Words.{slots_named, with_found, AreKnown, AreSeats, HasKnownSlots, Key, key_named}
+use Rattle.documents.proofs.Words.{key_pairs, pair_slots}
+use Rattle.std.proofs.Common.{slice_get, eqb-true, IfSome, slice_range, if◌then◌else◌}
 use Rattle.std.specs.FinSet as set
-use Rattle.std.specs.Char.{IsScalar}
-use Rattle.std.specs.Cmp.{nat_cmp_total}
-use Rattle.std.specs.List.{All}
-use Rattle.std.specs.Ordering.{nat_cmp}
-use Rattle.std.proofs.lemmas.List.{get_or-map}
-use Rattle.std.proofs.lemmas.List.Elements.{All-append, All-cons, All-drop, All-map, All-nil, All-take}
-use Rattle.name_list.specs.Names.{Named}
-use Rattle.tag_table.specs.Tags.{AreTags, Tag, Tags, slot_of}
-use Rattle.index_grammar.specs.Names.{known_tags}
-use Rattle.text_model.specs.declared.cells.Cell.{Cell}
-use Rattle.text_model.specs.Content.{Slots, slot_sets}
-use Rattle.text_model.specs.Splices.{changed, inserted}
-use Rattle.text_model.specs.Steps.{cells_of, set_slot, with_slot}
-use Rattle.text_model.proofs.CellLaws.{contains-set_slot}
-use Rattle.edit_ops.specs.declared.slotted_texts.SlottedText.{SlottedText}
-use Rattle.edit_ops.specs.Insertions.{slots_or}
-use Rattle.edit_ops.specs.Tagging.{cell_without}
-use Rattle.text_cursor.specs.Around.{shared_slots}
-use Rattle.command_effects.specs.Tagging.{IsFront, slots_named, with_found}
-use Rattle.documents.specs.Kept.{AreKnown, AreSeats, HasKnownSlots}
-use Rattle.documents.specs.Keys.{Key, key_named, key_pairs, pair_slots}
 use Rattle.documents.proofs.BridgeLaws.{known-extended, known-left}
 use Rattle.documents.proofs.SlotLaws.{Extends, Extends-front, Extends-seated, Extends-tags, GoWith, slot_among}
 use Rattle.documents.proofs.SlotLaws.{slot_for-named}

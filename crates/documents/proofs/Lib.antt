@@ -56,3 +56,4 @@ pub mod ViewLaws
 pub mod WellFormedLaws
 pub mod WidgetLaws
 pub mod WidgetLeadLaws
+pub mod Words

@@ -1,17 +1,11 @@
 -- What is listed of a document: the names of its marks and of its tags.
-use Rattle.std.proofs.Common.{◌≡◌, ℕ, suc, ◌+◌, ◌≤◌, List, [], ◌∷◌, length, refl, sym, ap, ◌∙◌, arith}
-use Rattle.std.specs.Prelude.{Some, slice_get, slice_index_or, chars, IsUtf8}
-use Rattle.std.proofs.lemmas.List.{get_or_past, length-map}
-use Rattle.std.proofs.lemmas.Option.{get_or_from_slice_get}
-use Rattle.std.proofs.lemmas.Str.{chars_from_encodes}
-use Rattle.mark_table.specs.SharedMarks.{Mark, names_of}
+use Rattle.documents.proofs.Words.{◌≡◌, ℕ, suc, ◌+◌, ◌≤◌, List, [], ◌∷◌, length, refl, sym, ap, ◌∙◌, arith, slice_get}
+use Rattle.documents.proofs.Words.{slice_index_or, IsUtf8, get_or_past, length-map, get_or_from_slice_get}
+use Rattle.documents.proofs.Words.{chars_from_encodes, Mark, Goes, list_text, literal, Document, Parts, Stands}
+use Rattle.documents.proofs.Words.{mark_names}
+use Rattle.std.specs.Prelude.{Some, chars}
+use Rattle.mark_table.specs.SharedMarks.{names_of}
 use Rattle.tag_table.specs.Tags.{names_of as tag_names}
-use Rattle.tcl_words.specs.ListGrowth.{Goes}
-use Rattle.tcl_words.specs.ListText.{list_text}
-use Rattle.command_effects.specs.Words.{literal}
-use Rattle.documents.specs.Documents.{Document, Parts}
-use Rattle.documents.specs.Kept.{Stands}
-use Rattle.documents.specs.Marks.{mark_names}
 use Rattle.documents.proofs.PlacedLaws.{placed-names}
 
 -- the text of a list that was begun with nothing

@@ -1,17 +1,12 @@
 -- Elements of a list that are found by their names.
-use Rattle.std.proofs.Common.{◌≡◌, ℕ, zero, suc, Bool, true, false, cond, ◌&&◌, ◌||◌, List, [], ◌∷◌, ◌++◌, Option, None}
-use Rattle.std.proofs.Common.{Some, filter, map, slice_get, refl, sym, ap, ap₂, ◌∙◌, true≢false, arith}
-use Rattle.std.specs.Prelude.{find, bytes_eq, option_map}
+use Rattle.documents.proofs.Words.{◌≡◌, ℕ, zero, suc, Bool, true, false, cond, ◌&&◌, ◌||◌, List, [], ◌∷◌, ◌++◌, Option}
+use Rattle.documents.proofs.Words.{None, Some, filter, map, refl, sym, ap, ap₂, ◌∙◌, true≢false, arith, find, bytes_eq}
+use Rattle.documents.proofs.Words.{list_any, false_from_ne_true, none-some, same_Some, bytes_eq-Decides, AreApart}
+use Rattle.documents.proofs.Words.{AreApart-insert, stands_map, stood_at, Slots, is_among, AreApart-head, AreApart-tail}
+use Rattle.std.proofs.Common.{slice_get}
+use Rattle.std.specs.Prelude.{option_map}
 use Rattle.std.specs.FinSet as set
-use Rattle.std.specs.List.{list_any}
-use Rattle.std.proofs.lemmas.Bool.{false_from_ne_true}
-use Rattle.std.proofs.lemmas.Option.{none-some, same_Some}
-use Rattle.std.proofs.lemmas.Slice.Eq.{bytes_eq-Decides}
-use Rattle.name_list.specs.Names.{AreApart}
-use Rattle.name_list.proofs.ListLaws.{AreApart-insert, Stands, stands_map, stood_at}
-use Rattle.text_model.specs.Content.{Slots}
-use Rattle.command_effects.specs.Words.{is_among}
-use Rattle.command_effects.proofs.LeftLaws.{AreApart-head, AreApart-tail}
+use Rattle.name_list.proofs.ListLaws.{Stands}
 
 -- whether a set has the slot, if there is one
 abbrev pub has : Slots → Option ℕ → Bool

@@ -1,37 +1,20 @@
 -- A document after a mark is put at a place, made or taken out.
-use Rattle.std.proofs.Common.{◌≡◌, ◌≢◌, ℕ, zero, suc, ◌+◌, ◌*◌, ◌<◌, ◌≤◌, Bool, true, false, cond, List, [], ◌∷◌, ◌++◌}
-use Rattle.std.proofs.Common.{length, map, refl, sym, ap, ap₂, subst, ◌∙◌, arith, inl, inr}
-use Rattle.std.specs.Prelude.{◌||◌, bytes_eq, filter, find, nat_le, not, slice_get, Option, None, Some, Ok, is_some}
-use Rattle.std.specs.Prelude.{option_map, unwrap_or, if◌then◌else◌}
-use Rattle.std.specs.Cmp.{nat_cmp_total, unsigned_tied}
+use Rattle.documents.proofs.Words.{◌≡◌, ◌≢◌, ℕ, zero, suc, ◌+◌, ◌*◌, ◌<◌, ◌≤◌, Bool, true, false, cond, List, [], ◌∷◌}
+use Rattle.documents.proofs.Words.{◌++◌, length, map, refl, sym, ap, ap₂, subst, ◌∙◌, arith, inl, inr, bytes_eq, find}
+use Rattle.documents.proofs.Words.{nat_le, slice_get, is_some, unwrap_or, if◌then◌else◌, nat_cmp_total, unsigned_tied}
+use Rattle.documents.proofs.Words.{AllByRecursion, cons_option, nat_cmp, eq_by_cmp, or_left, or_right, nat_tests}
+use Rattle.documents.proofs.Words.{length-map, length-append, map-append, none-some, same_Some, bytes_eq-Decides, Named}
+use Rattle.documents.proofs.Words.{Contains-from_stands, AreMarks, Mark, SharedMarks, first_number, is_named, number_of}
+use Rattle.documents.proofs.Words.{turned, MOST_WIDGETS, Right, Place, Content, Marks, MarksStand, LimitTable, Empty}
+use Rattle.documents.proofs.Words.{TooManyMarks, new_mark, is_left, IsMadeMark, marks_left, numbers_named, taken}
+use Rattle.documents.proofs.Words.{is_among, is_own, is_same, literal, Document, Journal, Parts, SharedMark, Widget}
+use Rattle.documents.proofs.Words.{document_of, mark_of, placed, widget_at, widget_of, AreMarked, AreSeats, HasOwnMarks}
+use Rattle.documents.proofs.Words.{IsMarked, Stands, mark_unset, place_named, set_found, with_current, with_insert}
+use Rattle.documents.proofs.Words.{with_shared, Change, Does, answered, refused}
+use Rattle.std.specs.Prelude.{◌||◌, filter, not, Option, None, Some, Ok, option_map}
 use Rattle.std.specs.FinMap as finite
-use Rattle.std.specs.List.{AllByRecursion, cons_option}
-use Rattle.std.specs.Ordering.{nat_cmp, eq_by_cmp}
-use Rattle.std.proofs.lemmas.Bool.{or_left, or_right, true≢false}
-use Rattle.std.proofs.lemmas.Bool.Decides.{nat_tests}
-use Rattle.std.proofs.lemmas.List.{length-map, length-append, map-append}
-use Rattle.std.proofs.lemmas.Option.{none-some, same_Some}
-use Rattle.std.proofs.lemmas.Slice.Eq.{bytes_eq-Decides}
-use Rattle.name_list.specs.Names.{Named}
-use Rattle.name_list.proofs.ListLaws.{Contains-from_stands}
-use Rattle.mark_table.specs.SharedMarks.{AreMarks, Mark, SharedMarks, first_number, is_named, number_of, numbers_of}
-use Rattle.mark_table.specs.SharedMarks.{turned}
-use Rattle.text_model.specs.declared.limits.TheConstants.Limits.{MOST_WIDGETS}
-use Rattle.text_model.specs.declared.places.Gravity.TheVariants.{Right}
-use Rattle.text_model.specs.declared.places.Place.{Place}
-use Rattle.text_model.specs.Content.{Content, Marks}
-use Rattle.text_model.specs.Documents.{MarksStand}
-use Rattle.text_model.specs.LimitTable.{LimitTable}
-use Rattle.command_effects.specs.declared.answers.Answer.TheVariants.{Empty}
-use Rattle.command_effects.specs.declared.answers.Fault.TheVariants.{TooManyMarks}
-use Rattle.command_effects.specs.Edits.{new_mark}
-use Rattle.command_effects.specs.Marking.{is_left, IsMadeMark, marks_left, numbers_named, taken}
-use Rattle.command_effects.specs.Words.{is_among, is_own, is_same, literal}
-use Rattle.documents.specs.Documents.{Document, Journal, Parts, SharedMark, Widget, document_of, mark_of, placed}
-use Rattle.documents.specs.Documents.{widget_at, widget_of}
-use Rattle.documents.specs.Kept.{AreMarked, AreSeats, HasOwnMarks, IsMarked, Stands}
-use Rattle.documents.specs.Marks.{mark_unset, place_named, set_found, with_current, with_insert, with_shared}
-use Rattle.documents.specs.Promise.{Change, Does, answered, refused}
+use Rattle.std.proofs.lemmas.Bool.{true≢false}
+use Rattle.mark_table.specs.SharedMarks.{numbers_of}
 use Rattle.documents.proofs.ChangeLaws.{Leaves, does-changed, does-nothing, stands-same}
 use Rattle.documents.proofs.PartsLaws.{Sits, mapped-at, marks-kept}
 use Rattle.documents.proofs.PlacedLaws.{AreAlike, StandsMark, found_mark, marked-alike, placed-alike}

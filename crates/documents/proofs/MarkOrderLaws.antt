@@ -1,31 +1,22 @@
 -- The marks that a widget can use in their order: by their places in its view, and by those in the text.
-use Rattle.std.proofs.Common.{◌≡◌, ◌≢◌, ℕ, ◌+◌, ◌-◌, ◌*◌, ◌<◌, ◌≤◌, min, max, Bool, true, false, cond, List, [], ◌∷◌}
-use Rattle.std.proofs.Common.{◌++◌, map, refl, sym, ap, ap₂, ◌∙◌, arith, subst, true≢false, eqb-true, eq-eqb}
-use Rattle.std.specs.Prelude.{find, get_or, length, nat_le, nat_lt, Option, None, Some, is_some, option_map}
-use Rattle.std.specs.Prelude.{option_and_then, unwrap_or, ◌&&◌, ◌||◌, ◌==◌, if◌then◌else◌}
+use Rattle.documents.proofs.Words.{◌≡◌, ◌≢◌, ℕ, ◌+◌, ◌-◌, ◌*◌, ◌<◌, ◌≤◌, min, max, Bool, true, false, cond, List, []}
+use Rattle.documents.proofs.Words.{◌∷◌, ◌++◌, map, refl, sym, ap, ap₂, ◌∙◌, arith, subst, true≢false, eq-eqb, find}
+use Rattle.documents.proofs.Words.{nat_le, nat_lt, is_some, option_and_then, unwrap_or, if◌then◌else◌, AllByRecursion}
+use Rattle.documents.proofs.Words.{fold, false≢true, nat_tests, map-append, Shown, earlier, usable, Mark, MOST_CHARS}
+use Rattle.documents.proofs.Words.{Place, Marks, Anchors, new_mark, Document, Parts, SharedMark, Widget, mark_of}
+use Rattle.documents.proofs.Words.{placed, whole, widget_at, IsMarked, Stands, shared_from, shown_at, usable_marks}
+use Rattle.documents.proofs.Words.{origin_in}
+use Rattle.std.proofs.Common.{eqb-true}
+use Rattle.std.specs.Prelude.{get_or, length, Option, None, Some, option_map, ◌&&◌, ◌||◌, ◌==◌}
 use Rattle.std.specs.FinMap as finite
-use Rattle.std.specs.List.{AllByRecursion, filter, fold}
-use Rattle.std.proofs.lemmas.Bool.{false≢true}
-use Rattle.std.proofs.lemmas.Bool.Decides.{nat_tests}
-use Rattle.std.proofs.lemmas.List.{map-append}
+use Rattle.std.specs.List.{filter}
 use Rattle.mark_table.specs.declared.order.MarkView.{MarkView}
 use Rattle.mark_table.specs.declared.order.Origin.{Origin}
 use Rattle.mark_table.specs.declared.order.Origin.TheVariants.{Mark as From, Place as Offset}
-use Rattle.mark_table.specs.declared.order.Shown.{Shown}
 use Rattle.mark_table.specs.declared.order.WidgetMark.{WidgetMark}
 use Rattle.mark_table.specs.Order as order
-use Rattle.mark_table.specs.Order.{earlier, usable}
-use Rattle.mark_table.specs.SharedMarks.{Mark, numbers_of}
-use Rattle.text_model.specs.declared.limits.TheConstants.Limits.{MOST_CHARS}
-use Rattle.text_model.specs.declared.places.Place.{Place}
-use Rattle.text_model.specs.Content.{Marks}
+use Rattle.mark_table.specs.SharedMarks.{numbers_of}
 use Rattle.text_index.specs.Views as view
-use Rattle.edit_ops.specs.declared.anchors.Anchors.{Anchors}
-use Rattle.command_effects.specs.Edits.{new_mark}
-use Rattle.documents.specs.Documents.{Document, Parts, SharedMark, Widget, mark_of, placed, whole, widget_at}
-use Rattle.documents.specs.Kept.{IsMarked, Stands}
-use Rattle.documents.specs.Marks.{shared_from, shown_at, usable_marks}
-use Rattle.documents.specs.Marks.{origin_in}
 use Rattle.documents.proofs.MeaningLaws.{current-is, insert-is}
 use Rattle.documents.proofs.PartsLaws.{Sits}
 use Rattle.documents.proofs.PlacedLaws.{marked-there}

@@ -1,25 +1,14 @@
 -- What is found of the marks of a document.
-use Rattle.std.proofs.Common.{◌≡◌, ℕ, zero, suc, ◌+◌, ◌-◌, ◌*◌, ◌<◌, ◌≤◌, Bool, true, false, List, [], ◌∷◌, length}
-use Rattle.std.proofs.Common.{refl, sym, ap, ap₂, ◌∙◌, arith, inl, inr}
-use Rattle.std.specs.Prelude.{Contains, IfSome, find, slice_get, nat_le, Option, None, Some, is_some, option_map}
-use Rattle.std.specs.Prelude.{option_and_then, unwrap_or, ◌&&◌, if◌then◌else◌}
+use Rattle.documents.proofs.Words.{◌≡◌, ℕ, zero, suc, ◌+◌, ◌-◌, ◌*◌, ◌<◌, ◌≤◌, Bool, true, false, List, [], ◌∷◌, length}
+use Rattle.documents.proofs.Words.{refl, sym, ap, ap₂, ◌∙◌, arith, inl, inr, IfSome, find, slice_get, nat_le, is_some}
+use Rattle.documents.proofs.Words.{option_and_then, unwrap_or, if◌then◌else◌, AllByRecursion, position_from, false≢true}
+use Rattle.documents.proofs.Words.{nat_tests, none-some, same_Some, Contains-from_stands, Mark, number_of, Place, Marks}
+use Rattle.documents.proofs.Words.{shared_place, new_mark, is_same, literal, Document, Parts, SharedMark, Widget}
+use Rattle.documents.proofs.Words.{mark_of, placed, widget_at, IsMarked, Stands, place_named, mark_number, mark_place}
+use Rattle.documents.proofs.Words.{view_end, view_start}
+use Rattle.std.specs.Prelude.{Contains, Option, None, Some, option_map, ◌&&◌}
 use Rattle.std.specs.FinMap as finite
-use Rattle.std.specs.List.{AllByRecursion, position_from}
-use Rattle.std.proofs.lemmas.Bool.{false≢true}
-use Rattle.std.proofs.lemmas.Bool.Decides.{nat_tests}
-use Rattle.std.proofs.lemmas.Option.{none-some, same_Some}
-use Rattle.name_list.proofs.ListLaws.{Contains-from_stands}
-use Rattle.mark_table.specs.SharedMarks.{Mark, number_of, numbers_of}
-use Rattle.text_model.specs.declared.places.Place.{Place}
-use Rattle.text_model.specs.Content.{Marks}
-use Rattle.text_index.specs.Views.{shared_place}
-use Rattle.command_effects.specs.Edits.{new_mark}
-use Rattle.command_effects.specs.Words.{is_same, literal}
-use Rattle.documents.specs.Documents.{Document, Parts, SharedMark, Widget, mark_of, placed, widget_at}
-use Rattle.documents.specs.Kept.{IsMarked, Stands}
-use Rattle.documents.specs.Marks.{place_named}
-use Rattle.documents.specs.Names.{mark_number, mark_place}
-use Rattle.documents.specs.Views.{view_end, view_start}
+use Rattle.mark_table.specs.SharedMarks.{numbers_of}
 use Rattle.documents.proofs.MeaningLaws.{current-is, insert-is}
 use Rattle.documents.proofs.PartsLaws.{Sits, cells-kept}
 use Rattle.documents.proofs.PlacedLaws.{StandsMark, found_mark, marked-there}

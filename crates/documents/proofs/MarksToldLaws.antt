@@ -1,36 +1,16 @@
 -- What is told of the marks that a command moves.
-use Rattle.std.proofs.Common.{◌≡◌, ℕ, zero, suc, ◌+◌, ◌≤◌, Bool, true, false, List, [], ◌∷◌, ◌++◌, length, map, refl}
-use Rattle.std.proofs.Common.{◌<◌, get_or, take, sym, ap, ap₂, ◌∙◌, arith, subst, inl, inr, true≢false}
-use Rattle.std.specs.Prelude.{◌≢◌, filter, find, nat_le, not, slice_get, Option, None, Some}
-use Rattle.std.specs.Prelude.{String, chars, is_some, option_and_then, string_bytes, option_map, ◌||◌, if◌then◌else◌}
-use Rattle.std.specs.Bool.{Decides, OnFalse}
-use Rattle.std.specs.BTreeMap.{is_at}
-use Rattle.std.specs.Ordering.{nat_cmp, is_eq}
+use Rattle.documents.proofs.Words.{◌≡◌, ℕ, zero, suc, ◌+◌, ◌≤◌, Bool, true, false, List, [], ◌∷◌, ◌++◌, length, map}
+use Rattle.documents.proofs.Words.{refl, ◌<◌, get_or, take, sym, ap, ap₂, ◌∙◌, arith, subst, inl, inr, true≢false, find}
+use Rattle.documents.proofs.Words.{nat_le, slice_get, is_some, option_and_then, if◌then◌else◌, Decides, OnFalse, is_at}
+use Rattle.documents.proofs.Words.{nat_cmp, is_eq, map-append, take_more, exact_unsigned, All, position_from}
+use Rattle.documents.proofs.Words.{false_from_ne_true, false≢true, All-cons, All-nil, All-push, All-weaker, none-some}
+use Rattle.documents.proofs.Words.{same_Some, bytes_eq-Decides, LimitTable, Right, Place, texts_of, AreApart}
+use Rattle.documents.proofs.Words.{get_push_cases, Empty, TooManyMarks, is_left, is_among, is_same, literal, Document}
+use Rattle.documents.proofs.Words.{SharedMark, Widget, mark_unset, place_named, set_found, with_current, with_insert}
+use Rattle.documents.proofs.Words.{with_mark, with_shared, with_widget, AreGathered, ForetellsMarks, IsSharedName}
+use Rattle.documents.proofs.Words.{MarksTold, offset_named, offset_seen, mark_number, answered, refused, widget_named}
+use Rattle.std.specs.Prelude.{◌≢◌, filter, not, Option, None, Some, String, chars, string_bytes, option_map, ◌||◌}
 use Rattle.std.specs.declared.cmp.Ordering.TheVariants.{Less, Equal, Greater}
-use Rattle.std.proofs.lemmas.List.{map-append, take_more}
-use Rattle.std.proofs.lemmas.Map.Lookups.{exact_unsigned}
-use Rattle.std.specs.List.{All, position_from}
-use Rattle.std.proofs.lemmas.Bool.{false_from_ne_true, false≢true}
-use Rattle.std.proofs.lemmas.List.Elements.{All-cons, All-nil, All-push, All-weaker}
-use Rattle.std.proofs.lemmas.Option.{none-some, same_Some}
-use Rattle.std.proofs.lemmas.Slice.Eq.{bytes_eq-Decides}
-use Rattle.text_model.specs.LimitTable.{LimitTable}
-use Rattle.text_model.specs.declared.places.Gravity.TheVariants.{Right}
-use Rattle.text_model.specs.declared.places.Place.{Place}
-use Rattle.tcl_words.specs.Unread.{texts_of}
-use Rattle.name_list.specs.Names.{AreApart}
-use Rattle.name_list.proofs.ListLaws.{get_push_cases}
-use Rattle.command_effects.specs.declared.answers.Answer.TheVariants.{Empty}
-use Rattle.command_effects.specs.declared.answers.Fault.TheVariants.{TooManyMarks}
-use Rattle.command_effects.specs.Marking.{is_left}
-use Rattle.command_effects.specs.Words.{is_among, is_same, literal}
-use Rattle.documents.specs.Documents.{Document, SharedMark, Widget}
-use Rattle.documents.specs.Marks.{mark_unset, place_named, set_found, with_current, with_insert, with_mark, with_shared}
-use Rattle.documents.specs.Marks.{with_widget}
-use Rattle.documents.specs.MarksTold.{AreGathered, ForetellsMarks, IsSharedName, MarksTold, offset_named, offset_seen}
-use Rattle.documents.specs.Names.{mark_number}
-use Rattle.documents.specs.Promise.{answered, refused}
-use Rattle.documents.specs.Widgets.{widget_named}
 
 -- ---- words
 

@@ -1,37 +1,20 @@
 -- What names mean to a widget, and the places of its words.
-use Rattle.std.proofs.Common.{◌≡◌, ◌≢◌, ℕ, suc, [], ◌+◌, ◌-◌, ◌*◌, ◌<◌, ◌≤◌, true, false, List, refl, sym, ap, ◌∙◌}
-use Rattle.std.proofs.Common.{arith, inl, inr}
-use Rattle.std.specs.Prelude.{IfOk, slice_get, Option, None, Some, Result, Ok, Err, is_some, option_map}
-use Rattle.std.specs.Prelude.{option_and_then, unwrap_or, codes, bytes_eq, get_or, nat_lt, if◌then◌else◌, ◌==◌}
+use Rattle.documents.proofs.Words.{◌≡◌, ◌≢◌, ℕ, suc, [], ◌+◌, ◌-◌, ◌*◌, ◌<◌, ◌≤◌, true, false, List, refl, sym, ap, ◌∙◌}
+use Rattle.documents.proofs.Words.{arith, inl, inr, slice_get, is_some, option_and_then, unwrap_or, codes, bytes_eq}
+use Rattle.documents.proofs.Words.{nat_lt, if◌then◌else◌, position_from, false≢true, nat_tests, get_or_from_slice_get}
+use Rattle.documents.proofs.Words.{MOST_WIDGETS, Place, Content, SharedMarks, first_number, number_of, names_of}
+use Rattle.documents.proofs.Words.{known_marks, known_tags, own_place, shared_place, shown_mark, is_word, MeanTheSame}
+use Rattle.documents.proofs.Words.{shown_meanings, word_value, new_mark, index_fault, at_position, literal, is_same}
+use Rattle.documents.proofs.Words.{found_tag, Document, Parts, SharedMark, Widget, mark_of, placed, widget_at}
+use Rattle.documents.proofs.Words.{key_named, AreMarked, Stands, mark_number, mark_place, meanings, place_of, tag_flags}
+use Rattle.documents.proofs.Words.{tag_number, Gives, shown, shown_flags, view_end, view_start}
+use Rattle.std.specs.Prelude.{IfOk, Option, None, Some, Result, Ok, Err, option_map, get_or, ◌==◌}
 use Rattle.std.specs.Str.{chars}
 use Rattle.std.specs.FinMap as finite
-use Rattle.std.specs.List.{position_from}
-use Rattle.std.proofs.lemmas.Bool.{false≢true}
-use Rattle.std.proofs.lemmas.Bool.Decides.{nat_tests}
-use Rattle.std.proofs.lemmas.Option.{get_or_from_slice_get}
-use Rattle.text_model.specs.declared.limits.TheConstants.Limits.{MOST_WIDGETS}
-use Rattle.text_model.specs.declared.places.Place.{Place}
-use Rattle.text_model.specs.Content.{Content}
-use Rattle.mark_table.specs.SharedMarks.{SharedMarks, first_number, number_of}
-use Rattle.tag_table.specs.Tags.{names_of}
-use Rattle.index_grammar.specs.Names.{known_marks, known_tags}
 use Rattle.index_grammar.specs.declared.faults.IndexFault.{IndexFault}
 use Rattle.index_grammar.specs.declared.faults.IndexFault.TheVariants as index
 use Rattle.text_index.specs.Views as view
-use Rattle.text_index.specs.Views.{own_place, shared_place, shown_mark}
-use Rattle.text_index.specs.Words.{is_word}
-use Rattle.text_index.specs.Meanings.{MeanTheSame, shown_meanings, word_value}
 use Rattle.text_index.proofs.MeaningLaws.{word_value-same}
-use Rattle.command_effects.specs.Edits.{new_mark}
-use Rattle.command_effects.specs.Faults.{index_fault, at_position}
-use Rattle.command_effects.specs.Words.{literal, is_same}
-use Rattle.command_effects.proofs.MadeLaws.{found_tag}
-use Rattle.documents.specs.Documents.{Document, Parts, SharedMark, Widget, mark_of, placed, widget_at}
-use Rattle.documents.specs.Keys.{key_named}
-use Rattle.documents.specs.Kept.{AreMarked, Stands}
-use Rattle.documents.specs.Names.{mark_number, mark_place, meanings, place_of, tag_flags, tag_number}
-use Rattle.documents.specs.Promise.{Gives}
-use Rattle.documents.specs.Views.{shown, shown_flags, view_end, view_start}
 use Rattle.documents.proofs.PartsLaws.{Sits}
 use Rattle.documents.proofs.PlacedLaws.{found_mark, marked-there}
 use Rattle.documents.proofs.ViewLaws.{IsSeen, end-is, end_in, flags-is, shown-is, start-is, start_in}

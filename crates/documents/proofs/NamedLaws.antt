@@ -1,34 +1,20 @@
 -- The slots and the keys of tag lists.
-use Rattle.std.proofs.Common.{◌≡◌, ℕ, true, false, ◌||◌, ◌+◌, List, [], ◌∷◌, ◌++◌, Option, None, Some, map, length}
-use Rattle.std.proofs.Common.{get_or, slice_get, refl, sym, ap, ap₂, subst, ◌∙◌, arith, length-append}
-use Rattle.std.proofs.Common.{get_or-append-add, IfSome, bytes_eq, option_map, ◌==◌, if◌then◌else◌}
-use Rattle.std.specs.Char.{IsScalar}
+use Rattle.documents.proofs.Words.{◌≡◌, ℕ, true, false, ◌||◌, ◌+◌, List, [], ◌∷◌, ◌++◌, Option, None, Some, map, length}
+use Rattle.documents.proofs.Words.{get_or, refl, sym, ap, ap₂, subst, ◌∙◌, arith, get_or-append-add, option_map, ◌==◌}
+use Rattle.documents.proofs.Words.{IsScalar, All, All-cons, All-head, All-map, All-nil, All-tail, or_left, or_right}
+use Rattle.documents.proofs.Words.{get_or_append_left, list_any-append, sum_by-cons, bytes_eq-Decides, Named, AreTags}
+use Rattle.documents.proofs.Words.{Tag, Tags, names_of, known_tags, Key, keys_of, key_named, key_pairs, keys_named}
+use Rattle.documents.proofs.Words.{AreKnown, AreSeats, SlottedText, Pair, all_names, listed_names, with_name}
+use Rattle.documents.proofs.Words.{with_names, piece_of, slots_named, with_found, keyed_text, is_among, is_same, Widget}
+use Rattle.documents.proofs.Words.{KeyedText}
+use Rattle.std.proofs.Common.{slice_get, length-append, IfSome, bytes_eq, if◌then◌else◌}
 use Rattle.std.specs.FinSet as set
-use Rattle.std.specs.List.{All}
-use Rattle.std.proofs.lemmas.List.Elements.{All-cons, All-head, All-map, All-nil, All-tail}
-use Rattle.std.proofs.lemmas.Bool.{or_left, or_right}
-use Rattle.std.proofs.lemmas.List.{get_or_append_left}
-use Rattle.std.proofs.lemmas.List.Folds.{list_any-append}
-use Rattle.std.proofs.lemmas.List.Sums.{sum_by-cons}
-use Rattle.std.proofs.lemmas.Slice.Eq.{bytes_eq-Decides}
-use Rattle.name_list.specs.Names.{Named}
-use Rattle.tag_table.specs.Tags.{AreTags, Tag, Tags, names_of}
-use Rattle.index_grammar.specs.Names.{known_tags}
-use Rattle.documents.specs.Keys.{Key, keys_of, key_named, key_pairs, keys_named}
-use Rattle.documents.specs.Kept.{AreKnown, AreSeats}
-use Rattle.edit_ops.specs.declared.slotted_texts.SlottedText.{SlottedText}
 use Rattle.edit_ops.specs.Insertions.{total}
-use Rattle.command_effects.specs.Lists.{Pair, all_names, listed_names, with_name, with_names}
-use Rattle.command_effects.specs.Tagging.{piece_of, slots_named, with_found}
 use Rattle.command_effects.specs.Lists as texts
-use Rattle.documents.specs.Texts.{keyed_text}
-use Rattle.command_effects.specs.Words.{is_among, is_same}
-use Rattle.documents.specs.Documents.{Widget}
 use Rattle.documents.proofs.BridgeLaws.{keys_of-empty, keys_of-set_slot}
 use Rattle.documents.proofs.KnownLaws.{IsKnownPiece, known-named}
 use Rattle.documents.proofs.LookupLaws.{among-looked}
 use Rattle.documents.proofs.SlotLaws.{slot_for-named}
-use Rattle.documents.specs.Edits.{KeyedText}
 
 -- a name of a tag has a slot for each widget
 pub slot_found : (name : List ℕ) (tags : List Tag) (widget : ℕ) → is_among name (names_of tags) ≡ true →

@@ -1,38 +1,18 @@
 -- Edits leave a document its widgets, by their names.
-use Rattle.std.proofs.Common.{◌≡◌, ℕ, ◌+◌, ◌-◌, ◌==◌, true, false, List, [], ◌∷◌, ◌++◌, Option, Some, None, map, length}
-use Rattle.std.proofs.Common.{refl, ◌∙◌, nat_le, nat_lt, slice_range, if◌then◌else◌}
-use Rattle.text_model.specs.LimitTable.{LimitTable}
-use Rattle.text_model.specs.declared.places.Gravity.TheVariants.{Right}
-use Rattle.text_model.specs.declared.places.Place.{Place}
-use Rattle.undo_stack.specs.declared.actions.Action.{Action}
-use Rattle.undo_stack.specs.declared.actions.EditKind.{EditKind}
+use Rattle.documents.proofs.Words.{◌≡◌, ℕ, ◌+◌, ◌-◌, ◌==◌, true, false, List, [], ◌∷◌, ◌++◌, Option, Some, None, map}
+use Rattle.documents.proofs.Words.{length, refl, ◌∙◌, LimitTable, Right, Place, Action, EditKind, next_redo, next_undo}
+use Rattle.documents.proofs.Words.{Span, in_spans, clipped, redo_end, undo_end, Empty, TooManyMarks, TooManyTags}
+use Rattle.documents.proofs.Words.{Settings, Pair, total, with_name, is_among, is_same, literal, delete_spans}
+use Rattle.documents.proofs.Words.{deleted_runs, last_bare, replace_span, with_clipped, Document, Widget, KeyedCell}
+use Rattle.documents.proofs.Words.{characters, KeyedText, keys_between, keys_or, widget_drawn, widget_moved}
+use Rattle.documents.proofs.Words.{with_action, with_bare, with_cells, with_tag, with_text, with_texts, without_cells}
+use Rattle.documents.proofs.Words.{without_span, without_spans, set_found, with_current, with_insert, with_mark}
+use Rattle.documents.proofs.Words.{with_shared, with_widget, key_of, widget_set, with_settings, answered, refused}
+use Rattle.documents.proofs.Words.{spans_shown, action_again, action_back, edit_redo, edit_undo, group_again}
+use Rattle.documents.proofs.Words.{group_back, redo_found, redone, text_back, undo_found, undone, with_end, add_spans}
+use Rattle.documents.proofs.Words.{remove_spans, insert_at, keyed_text, tags_with, is_idle, view_end, window_names}
+use Rattle.std.proofs.Common.{nat_le, nat_lt, slice_range, if◌then◌else◌}
 use Rattle.undo_stack.specs.declared.actions.EditKind.TheVariants as kind
-use Rattle.undo_stack.specs.History.{next_redo, next_undo}
-use Rattle.edit_ops.specs.declared.spans.Span.{Span}
-use Rattle.edit_ops.specs.Deletions.{in_spans}
-use Rattle.edit_ops.specs.Removals.{clipped}
-use Rattle.edit_ops.specs.Reversals.{redo_end, undo_end}
-use Rattle.command_effects.specs.declared.answers.Answer.TheVariants.{Empty}
-use Rattle.command_effects.specs.declared.answers.Fault.TheVariants.{TooManyMarks, TooManyTags}
-use Rattle.command_effects.specs.declared.settings.Settings.{Settings}
-use Rattle.command_effects.specs.Lists.{Pair, total, with_name}
-use Rattle.command_effects.specs.Words.{is_among, is_same, literal}
-use Rattle.documents.specs.Deletions.{delete_spans, deleted_runs, last_bare, replace_span, with_clipped}
-use Rattle.documents.specs.Documents.{Document, Widget, KeyedCell, characters}
-use Rattle.documents.specs.Edits.{KeyedText, keys_between, keys_or, widget_drawn, widget_moved, with_action, with_bare}
-use Rattle.documents.specs.Edits.{with_cells, with_tag, with_text, with_texts, without_cells, without_span}
-use Rattle.documents.specs.Edits.{without_spans}
-use Rattle.documents.specs.Marks.{set_found, with_current, with_insert, with_mark, with_shared, with_widget}
-use Rattle.documents.specs.Names.{key_of}
-use Rattle.documents.specs.Options.{widget_set, with_settings}
-use Rattle.documents.specs.Promise.{answered, refused}
-use Rattle.documents.specs.Ranges.{spans_shown}
-use Rattle.documents.specs.History.{action_again, action_back, edit_redo, edit_undo, group_again, group_back}
-use Rattle.documents.specs.History.{redo_found, redone, text_back, undo_found, undone, with_end}
-use Rattle.documents.specs.Tags.{add_spans, remove_spans}
-use Rattle.documents.specs.Texts.{insert_at, keyed_text, tags_with}
-use Rattle.documents.specs.Views.{is_idle, view_end}
-use Rattle.documents.specs.WellFormed.{window_names}
 use Rattle.documents.proofs.CarriedLaws.{carried-limited}
 
 -- a document with the widgets of another one, by their names

@@ -1,19 +1,10 @@
 -- The names of the widgets that a document has after a command.
-use Rattle.std.proofs.Common.{◌≡◌, ℕ, ◌<◌, ◌||◌, Bool, true, false, List, [], ◌∷◌, ◌++◌, length, refl, sym, ap, ◌∙◌}
-use Rattle.std.proofs.Common.{arith, ◌⊎◌, inl, inr, if◌then◌else◌}
-use Rattle.std.proofs.lemmas.List.{length-append, length-map, map-append}
-use Rattle.std.proofs.lemmas.Slice.Eq.{bytes_eq-Decides}
-use Rattle.text_model.specs.LimitTable.{LimitTable}
-use Rattle.undo_stack.specs.History.{separated}
+use Rattle.documents.proofs.Words.{◌≡◌, ℕ, ◌<◌, ◌||◌, Bool, true, false, List, [], ◌∷◌, ◌++◌, length, refl, sym, ap}
+use Rattle.documents.proofs.Words.{◌∙◌, arith, ◌⊎◌, inl, inr, length-append, length-map, map-append, bytes_eq-Decides}
+use Rattle.documents.proofs.Words.{LimitTable, separated, Settings, is_among, is_same, Document, Widget, is_window_name}
+use Rattle.documents.proofs.Words.{spans_shown, insertion_offset, window_names, new_widget, with_peer}
+use Rattle.std.proofs.Common.{if◌then◌else◌}
 use Rattle.command_effects.proofs.CountLaws.{among-append}
-use Rattle.command_effects.specs.declared.settings.Settings.{Settings}
-use Rattle.command_effects.specs.Words.{is_among, is_same}
-use Rattle.documents.specs.Documents.{Document, Widget}
-use Rattle.documents.specs.Kept.{is_window_name}
-use Rattle.documents.specs.Ranges.{spans_shown}
-use Rattle.documents.specs.Texts.{insertion_offset}
-use Rattle.documents.specs.WellFormed.{window_names}
-use Rattle.documents.specs.Widgets.{new_widget, with_peer}
 use Rattle.documents.proofs.CarriedLaws.{IsCarried, carried-reordered}
 use Rattle.documents.proofs.NamesKeptLaws.{HasNamesOf, add-kept, delete-kept, insert-kept, mark-kept, redo-kept}
 use Rattle.documents.proofs.NamesKeptLaws.{remove-kept, replace-kept, set-kept, undo-kept}

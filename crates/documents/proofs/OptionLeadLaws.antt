@@ -1,26 +1,15 @@
 -- Options that still keep all actions, and widgets that come and go, leave what a document leads back to; and so it
 -- begins.
-use Rattle.std.proofs.Common.{◌≡◌, ℕ, ◌<◌, ◌≤◌, Bool, true, false, cond, List, [], ◌∷◌, map, length, refl, sym, ap, ap₂}
-use Rattle.std.proofs.Common.{◌∙◌, arith, subst, true≢false}
-use Rattle.std.specs.Prelude.{filter, unwrap_or, if◌then◌else◌}
-use Rattle.std.specs.List.{All, AllByRecursion}
-use Rattle.std.proofs.lemmas.List.{length-map, map-append}
-use Rattle.std.proofs.lemmas.List.Elements.{All-append, All-cons, All-nil, All-tail}
-use Rattle.text_model.specs.Documents.{ends_in_newline}
-use Rattle.text_model.specs.LimitTable.{LimitTable}
-use Rattle.text_model.specs.Lines.{lines}
-use Rattle.undo_stack.specs.Fits.{FitsText, reverted_groups}
-use Rattle.undo_stack.specs.History.{History, limit_of, limited, no_history}
-use Rattle.edit_ops.specs.Anchors.{AreAnchored}
-use Rattle.edit_ops.proofs.StartLaws.{text-end-begins}
-use Rattle.command_effects.specs.declared.settings.DocumentSettings.{DocumentSettings}
-use Rattle.command_effects.specs.declared.settings.Settings.{Settings}
-use Rattle.command_effects.specs.Settings.{history_under, is_behind}
-use Rattle.command_effects.specs.Words.{is_same}
-use Rattle.documents.specs.Documents.{Document, Widget, KeyedCell, characters}
-use Rattle.documents.specs.Options.{AreLines, settings_of, widget_set, with_settings}
-use Rattle.documents.specs.WellFormed.{IsPlaced, IsWellFormedDocument}
-use Rattle.documents.specs.Widgets.{is_kept, new_widget, with_peer, without_selections, without_widgets}
+use Rattle.documents.proofs.Words.{◌≡◌, ℕ, ◌<◌, ◌≤◌, Bool, true, false, cond, List, [], ◌∷◌, map, length, refl, sym, ap}
+use Rattle.documents.proofs.Words.{ap₂, ◌∙◌, arith, subst, true≢false, unwrap_or, if◌then◌else◌, All, AllByRecursion}
+use Rattle.documents.proofs.Words.{length-map, map-append, All-append, All-cons, All-nil, All-tail, ends_in_newline}
+use Rattle.documents.proofs.Words.{LimitTable, lines, FitsText, reverted_groups, History, limit_of, limited, no_history}
+use Rattle.documents.proofs.Words.{AreAnchored, text-end-begins, DocumentSettings, Settings, history_under, is_behind}
+use Rattle.documents.proofs.Words.{is_same, Document, Widget, KeyedCell, characters, AreLines, settings_of, widget_set}
+use Rattle.documents.proofs.Words.{with_settings, IsPlaced, IsWellFormedDocument, is_kept, new_widget, with_peer}
+use Rattle.documents.proofs.Words.{without_selections}
+use Rattle.std.specs.Prelude.{filter}
+use Rattle.documents.specs.Widgets.{without_widgets}
 use Rattle.documents.proofs.LeadLaws.{Leads, Page, anchors_of}
 use Rattle.documents.proofs.WidgetLaws.{anchor-line, lines-anchored}
 

@@ -1,19 +1,14 @@
 -- Tags that are raised or lowered: the names in their order, and the slots of names.
-use Rattle.std.proofs.Common.{◌≡◌, ℕ, suc, Bool, true, false, cond, ◌||◌, List, [], ◌∷◌, ◌++◌, Option, None, Some}
-use Rattle.std.proofs.Common.{Result, Ok, Err, length, refl, sym, ap, ap₂, ◌∙◌, true≢false, arith, length-append}
-use Rattle.std.specs.Prelude.{IfSome, find, bytes_eq, is_some, option_map, slice_get, if◌then◌else◌}
-use Rattle.std.proofs.lemmas.Bool.{false_from_ne_true}
-use Rattle.std.proofs.lemmas.Option.{none-some, same_Some}
-use Rattle.std.proofs.lemmas.Slice.Eq.{bytes_eq-Decides}
+use Rattle.documents.proofs.Words.{◌≡◌, ℕ, suc, Bool, true, false, cond, ◌||◌, List, [], ◌∷◌, ◌++◌, Option, None, Some}
+use Rattle.documents.proofs.Words.{Result, Ok, Err, length, refl, sym, ap, ap₂, ◌∙◌, true≢false, arith, IfSome, find}
+use Rattle.documents.proofs.Words.{bytes_eq, is_some, slice_get, if◌then◌else◌, false_from_ne_true, none-some}
+use Rattle.documents.proofs.Words.{same_Some, bytes_eq-Decides, AreApart, Moved, Neighbour, next_to, Tag, names_of}
+use Rattle.documents.proofs.Words.{slot_of, lowered, raised, is_among, is_same, AreApart-head, AreApart-tail}
+use Rattle.std.proofs.Common.{length-append}
+use Rattle.std.specs.Prelude.{option_map}
 use Rattle.name_list.specs.Moves.{put_before, put_behind, without}
-use Rattle.name_list.specs.Names.{AreApart}
-use Rattle.tag_table.specs.declared.faults.NoSuchTag.TheVariants.{Moved, Neighbour}
 use Rattle.tag_table.specs.Priority as table
-use Rattle.tag_table.specs.Priority.{next_to}
-use Rattle.tag_table.specs.Tags.{Tag, is_named, names_of, slot_of}
-use Rattle.documents.specs.Tags.{lowered, raised}
-use Rattle.command_effects.specs.Words.{is_among, is_same}
-use Rattle.command_effects.proofs.LeftLaws.{AreApart-head, AreApart-tail}
+use Rattle.tag_table.specs.Tags.{is_named}
 
 -- ---- names
 

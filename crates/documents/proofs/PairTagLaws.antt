@@ -1,35 +1,19 @@
 -- Texts that are put in get the keys of their lists, and this is told of them.
-use Rattle.std.proofs.Common.{◌≡◌, ℕ, zero, suc, ◌+◌, ◌-◌, ◌<◌, ◌≤◌, ◌==◌, ◌&&◌, ◌||◌, true, false, List, [], ◌∷◌, ◌++◌}
-use Rattle.std.proofs.Common.{Option, None, Some, map, length, take, drop, get_or, refl, sym, ap, ap₂, ◌∙◌, arith, subst}
-use Rattle.std.proofs.Common.{append_assoc, length-append, option_map, if◌then◌else◌, slice_get}
+use Rattle.documents.proofs.Words.{◌≡◌, ℕ, zero, suc, ◌+◌, ◌-◌, ◌<◌, ◌≤◌, ◌==◌, ◌&&◌, ◌||◌, true, false, List, [], ◌∷◌}
+use Rattle.documents.proofs.Words.{◌++◌, Option, None, Some, map, length, take, drop, get_or, refl, sym, ap, ap₂, ◌∙◌}
+use Rattle.documents.proofs.Words.{arith, subst, append_assoc, option_map, eq_by_cmp, eqb-true, false_from_ne_true}
+use Rattle.documents.proofs.Words.{drop_more, length-map, length-take-le, take-append-drop, take_more, sum_by-append}
+use Rattle.documents.proofs.Words.{sum_by-cons, get_or_from_slice_get, none-some, slice_get-get_or, inserted, removed}
+use Rattle.documents.proofs.Words.{Slots, slot_sets, slots_left_of, Cell, get_or-inserted_behind}
+use Rattle.documents.proofs.Words.{get_or-inserted_within, get_or-removed_before, get_or-removed_behind}
+use Rattle.documents.proofs.Words.{length-inserted, length-removed, EditKind, Named, AreTags, Tags, known_tags}
+use Rattle.documents.proofs.Words.{slots_or, putting, taking_out, joined, put-behind, put_all, replacing-is, Pair}
+use Rattle.documents.proofs.Words.{total, slots_named, with_found, Document, KeyedCell, Widget, KeyedText, common_keys}
+use Rattle.documents.proofs.Words.{keys_between, keys_or, with_action, with_cells, with_text, with_texts, AreSeats, Key}
+use Rattle.documents.proofs.Words.{Keys, key_cmp, key_named, key_pairs, keyed, keys_named, keys_of, AreKeysOf}
+use Rattle.documents.proofs.Words.{TellsPairs, TellsTags, run_changes, untagged, keyed_text, TagChange}
+use Rattle.std.proofs.Common.{length-append, if◌then◌else◌, slice_get}
 use Rattle.std.specs.FinSet as set
-use Rattle.std.specs.Ordering.{eq_by_cmp}
-use Rattle.std.proofs.lemmas.Bool.{eqb-true, false_from_ne_true}
-use Rattle.std.proofs.lemmas.List.{drop_more, length-map, length-take-le, take-append-drop, take_more}
-use Rattle.std.proofs.lemmas.List.Sums.{sum_by-append, sum_by-cons}
-use Rattle.std.proofs.lemmas.Option.{get_or_from_slice_get, none-some, slice_get-get_or}
-use Rattle.text_model.specs.Splices.{inserted, removed}
-use Rattle.text_model.specs.Content.{Slots, slot_sets, slots_left_of}
-use Rattle.text_model.specs.declared.cells.Cell.{Cell}
-use Rattle.text_model.proofs.SpliceLaws.{get_or-inserted_behind, get_or-inserted_within, get_or-removed_before}
-use Rattle.text_model.proofs.SpliceLaws.{get_or-removed_behind, length-inserted, length-removed}
-use Rattle.undo_stack.specs.declared.actions.EditKind.{EditKind}
-use Rattle.name_list.specs.Names.{Named}
-use Rattle.tag_table.specs.Tags.{AreTags, Tags}
-use Rattle.index_grammar.specs.Names.{known_tags}
-use Rattle.edit_ops.specs.Insertions.{slots_or}
-use Rattle.edit_ops.specs.Told.{putting, taking_out}
-use Rattle.edit_ops.proofs.HunkLaws.{joined, put-behind, put_all, replacing-is}
-use Rattle.command_effects.specs.Lists.{Pair, total}
-use Rattle.command_effects.specs.Tagging.{slots_named, with_found}
-use Rattle.documents.specs.Documents.{Document, KeyedCell, Widget}
-use Rattle.documents.specs.Edits.{KeyedText, common_keys, keys_between, keys_or, with_action, with_cells, with_text}
-use Rattle.documents.specs.Edits.{with_texts}
-use Rattle.documents.specs.Kept.{AreSeats}
-use Rattle.documents.specs.Keys.{Key, Keys, key_cmp, key_named, key_pairs, keyed, keys_named, keys_of}
-use Rattle.documents.specs.TagsTold.{AreKeysOf, TellsPairs, TellsTags, run_changes, untagged}
-use Rattle.documents.specs.Texts.{keyed_text}
-use Rattle.documents.specs.declared.tag_lists.TagChange.{TagChange}
 use Rattle.documents.proofs.BridgeLaws.{and_none, key_tied, keys_of-empty, keys_of-has, keys_of-intersection}
 use Rattle.documents.proofs.BridgeLaws.{keys_of-set_slot, keys_same}
 use Rattle.documents.proofs.KeyLaws.{key_cmp_total}

@@ -1,20 +1,13 @@
 -- A document as it is kept: its characters, its widgets, and what of it a change leaves.
-use Rattle.std.proofs.Common.{◌≡◌, ℕ, zero, suc, ◌+◌, ◌*◌, ◌<◌, true, List, [], ◌∷◌, length, map, refl, sym, ap, subst}
-use Rattle.std.proofs.Common.{◌∙◌, slice_get, option_map, Some, is_some, get_or, arith}
+use Rattle.documents.proofs.Words.{◌≡◌, ℕ, zero, suc, ◌+◌, ◌*◌, ◌<◌, true, List, [], ◌∷◌, length, map, refl, sym, ap}
+use Rattle.documents.proofs.Words.{subst, ◌∙◌, option_map, Some, get_or, arith, AllByRecursion, length-map, none-some}
+use Rattle.documents.proofs.Words.{same_Some, get_or_from_slice_get, slice_get-get_or, slice_get-map, Cell}
+use Rattle.documents.proofs.Words.{MOST_WIDGETS, Named, numbers_of, Tag, AreAnchored, Document, Parts, anchors_at}
+use Rattle.documents.proofs.Words.{characters, document_of, no_widget, whole, widget_at, widget_of, HasOwnMarks}
+use Rattle.documents.proofs.Words.{IsSeated, Stands, Key, key_pairs, keyed}
+use Rattle.std.proofs.Common.{slice_get, is_some}
 use Rattle.std.specs.FinMap as finite
-use Rattle.std.specs.List.{AllByRecursion}
-use Rattle.std.proofs.lemmas.List.{length-map}
-use Rattle.std.proofs.lemmas.Option.{none-some, same_Some, get_or_from_slice_get, slice_get-get_or, slice_get-map}
-use Rattle.text_model.specs.declared.cells.Cell.{Cell}
-use Rattle.text_model.specs.declared.limits.TheConstants.Limits.{MOST_WIDGETS}
 use Rattle.text_model.specs.Content as model
-use Rattle.name_list.specs.Names.{Named, numbers_of}
-use Rattle.tag_table.specs.Tags.{Tag}
-use Rattle.edit_ops.specs.Anchors.{AreAnchored}
-use Rattle.documents.specs.Documents.{Document, Parts, anchors_at, characters, document_of, no_widget, whole, widget_at}
-use Rattle.documents.specs.Documents.{widget_of}
-use Rattle.documents.specs.Kept.{HasOwnMarks, IsSeated, Stands}
-use Rattle.documents.specs.Keys.{Key, key_pairs, keyed}
 use Rattle.documents.proofs.PlacedLaws.{placed-length}
 
 -- ---- its characters and counts

@@ -1,24 +1,14 @@
 -- The marks of a table with where they stand in a store.
-use Rattle.std.proofs.Common.{◌≡◌, ℕ, suc, ◌+◌, ◌≤◌, true, false, cond, List, [], ◌∷◌, length, map, refl, ap, ap₂, ◌∙◌}
-use Rattle.std.proofs.Common.{arith, inl, inr, ◌⊎◌}
-use Rattle.std.specs.Prelude.{bytes_eq, find, slice_get, Option, None, Some, is_some, option_map, unwrap_or}
-use Rattle.std.specs.Prelude.{if◌then◌else◌}
+use Rattle.documents.proofs.Words.{◌≡◌, ℕ, suc, ◌+◌, ◌≤◌, true, false, cond, List, [], ◌∷◌, length, map, refl, ap, ap₂}
+use Rattle.documents.proofs.Words.{◌∙◌, arith, inl, inr, ◌⊎◌, bytes_eq, find, slice_get, is_some, unwrap_or}
+use Rattle.documents.proofs.Words.{if◌then◌else◌, AllByRecursion, position_from, false≢true, length-map, none-some}
+use Rattle.documents.proofs.Words.{bytes_eq-Decides, Mark, SharedMarks, is_named, number_of, Gravity, Place, Marks}
+use Rattle.documents.proofs.Words.{map_marks, goes_behind, moved, AreMarked, IsMarked, is_own, is_same, SharedMark}
+use Rattle.documents.proofs.Words.{mark_of, placed, new_mark}
+use Rattle.std.specs.Prelude.{Option, None, Some, option_map}
 use Rattle.std.specs.FinMap as finite
-use Rattle.std.specs.List.{AllByRecursion, position_from}
-use Rattle.std.proofs.lemmas.Bool.{false≢true}
-use Rattle.std.proofs.lemmas.List.{length-map}
-use Rattle.std.proofs.lemmas.Option.{none-some}
-use Rattle.std.proofs.lemmas.Slice.Eq.{bytes_eq-Decides}
-use Rattle.mark_table.specs.SharedMarks.{Mark, SharedMarks, is_named, names_of, number_of, numbers_of}
-use Rattle.text_model.specs.declared.places.Gravity.{Gravity}
-use Rattle.text_model.specs.declared.places.Place.{Place}
-use Rattle.text_model.specs.Content.{Marks, map_marks}
-use Rattle.text_model.specs.Splices.{goes_behind, moved}
+use Rattle.mark_table.specs.SharedMarks.{names_of, numbers_of}
 use Rattle.text_model.proofs.PlaceLaws.{get-map_marks}
-use Rattle.documents.specs.Kept.{AreMarked, IsMarked}
-use Rattle.command_effects.specs.Words.{is_own, is_same}
-use Rattle.documents.specs.Documents.{SharedMark, mark_of, placed}
-use Rattle.command_effects.specs.Edits.{new_mark}
 
 -- a mark that is there moves, and stays there
 pub mark_of-moved : (f : Place → Place) (marks : Marks) (number : ℕ) → is_some (finite.get marks number) ≡ true →

@@ -1,7 +1,7 @@
 -- What the queries of a document's store and tables answer.
-use Rattle.std.proofs.Common.{◌≡◌, ℕ, List, sym, String, chars, encode_utf8_all, string_bytes}
-use Rattle.std.proofs.lemmas.Str.{IsUtf8-string_bytes, chars_from_encodes}
-use Rattle.tcl_words.specs.ListText.{list_text}
+use Rattle.documents.proofs.Words.{◌≡◌, ℕ, List, sym, chars, encode_utf8_all, string_bytes, IsUtf8-string_bytes}
+use Rattle.documents.proofs.Words.{chars_from_encodes, list_text}
+use Rattle.std.proofs.Common.{String}
 
 -- a text that spells a list
 pub spelled : {Z : Type 0} (text : String Z) (elements : List (List ℕ)) →

@@ -1,35 +1,16 @@
 -- A document after spans of what a widget shows are deleted.
-use Rattle.std.proofs.Common.{◌≡◌, ℕ, ◌+◌, ◌-◌, ◌<◌, ◌≤◌, Bool, true, false, List, [], ◌∷◌, Ok, map, length, take, drop}
-use Rattle.std.proofs.Common.{◌++◌, refl, sym, ap, ap₂, subst, ◌∙◌, arith, slice_range, if◌then◌else◌}
-use Rattle.std.specs.List.{All}
-use Rattle.std.proofs.lemmas.List.Elements.{All-append, All-drop, All-map, All-take}
-use Rattle.text_model.specs.declared.cells.Cell.{Cell}
-use Rattle.text_model.specs.declared.edits.Step.TheVariants.{ClearTags}
+use Rattle.documents.proofs.Words.{◌≡◌, ℕ, ◌+◌, ◌-◌, ◌<◌, ◌≤◌, Bool, true, false, List, [], ◌∷◌, Ok, map, length, take}
+use Rattle.documents.proofs.Words.{drop, ◌++◌, refl, sym, ap, ap₂, subst, ◌∙◌, arith, All, All-append, All-drop}
+use Rattle.documents.proofs.Words.{All-map, All-take, Cell, ClearTags, IsDocument, LimitTable, changed, after_step}
+use Rattle.documents.proofs.Words.{without_slots, characters-without_slots, length-changed, EditKind, Delete}
+use Rattle.documents.proofs.Words.{AreAnchored, delete_set, deleted, in_spans, removed_spans, runs_below, removed_span}
+use Rattle.documents.proofs.Words.{State, SpanFits, Span, deleted-kept, deleted-runs, Empty, recording_of}
+use Rattle.documents.proofs.Words.{delete_places, delete_spans, deleted_runs, last_bare, Document, Parts, Widget}
+use Rattle.documents.proofs.Words.{document_of, widget_at, with_bare, without_spans, HasKnownSlots, Stands, answered}
+use Rattle.documents.proofs.Words.{spans_shown, is_idle}
+use Rattle.std.proofs.Common.{slice_range, if◌then◌else◌}
 use Rattle.text_model.specs.Content as model
-use Rattle.text_model.specs.Documents.{IsDocument}
-use Rattle.text_model.specs.LimitTable.{LimitTable}
-use Rattle.text_model.specs.Splices.{changed}
-use Rattle.text_model.specs.Steps.{after_step, without_slots}
-use Rattle.text_model.proofs.CellLaws.{characters-without_slots}
-use Rattle.text_model.proofs.SpliceLaws.{length-changed}
-use Rattle.undo_stack.specs.declared.actions.EditKind.{EditKind}
-use Rattle.undo_stack.specs.declared.actions.EditKind.TheVariants.{Delete}
-use Rattle.edit_ops.specs.Anchors.{AreAnchored}
-use Rattle.edit_ops.specs.Deletions.{AreApart, delete_set, deleted, in_spans, removed_spans, runs_below}
-use Rattle.edit_ops.specs.Removals.{removed_span}
-use Rattle.edit_ops.specs.States.{State}
-use Rattle.edit_ops.specs.Tagging.{SpanFits}
-use Rattle.edit_ops.specs.declared.spans.Span.{Span}
-use Rattle.edit_ops.proofs.KeepLaws.{deleted-kept, deleted-runs}
-use Rattle.command_effects.specs.declared.answers.Answer.TheVariants.{Empty}
-use Rattle.command_effects.specs.Settings.{recording_of}
-use Rattle.documents.specs.Deletions.{delete_places, delete_spans, deleted_runs, last_bare}
-use Rattle.documents.specs.Documents.{Document, Parts, Widget, document_of, widget_at}
-use Rattle.documents.specs.Edits.{with_bare, without_spans}
-use Rattle.documents.specs.Kept.{HasKnownSlots, Stands}
-use Rattle.documents.specs.Promise.{answered}
-use Rattle.documents.specs.Ranges.{spans_shown}
-use Rattle.documents.specs.Views.{is_idle}
+use Rattle.edit_ops.specs.Deletions.{AreApart}
 use Rattle.documents.proofs.ChangeLaws.{Leaves, does-changed}
 use Rattle.documents.proofs.KeyedLaws.{keyed-bare}
 use Rattle.documents.proofs.KnownLaws.{known-empty}

@@ -1,18 +1,11 @@
 -- What `raise` and `lower` answer.
-use Rattle.std.proofs.Common.{◌≡◌, ℕ, true, false, List, Option, None, Some, Ok, Err, refl, sym, ap, ap₂, subst, ◌∙◌}
-use Rattle.std.proofs.Common.{◌+◌, find, bytes_eq, is_some, if◌then◌else◌}
-use Rattle.std.proofs.lemmas.Option.{same_Some}
+use Rattle.documents.proofs.Words.{◌≡◌, ℕ, true, false, List, Option, None, Some, Ok, Err, refl, sym, ap, ap₂, subst}
+use Rattle.documents.proofs.Words.{◌∙◌, ◌+◌, same_Some, Moved, Neighbour, next_to, Tag, names_of, Empty, NoSuchTag}
+use Rattle.documents.proofs.Words.{answered, refused, known_or, reordered, Document, is_among}
+use Rattle.std.proofs.Common.{find, bytes_eq, is_some, if◌then◌else◌}
 use Rattle.tag_table.specs.declared.faults.NoSuchTag as table_fault
-use Rattle.tag_table.specs.declared.faults.NoSuchTag.TheVariants.{Moved, Neighbour}
 use Rattle.tag_table.specs.Priority as table
-use Rattle.tag_table.specs.Priority.{next_to}
-use Rattle.tag_table.specs.Tags.{Tag, is_named, names_of}
-use Rattle.command_effects.specs.declared.answers.Answer.TheVariants.{Empty}
-use Rattle.command_effects.specs.declared.answers.Fault.TheVariants.{NoSuchTag}
-use Rattle.documents.specs.Promise.{answered, refused}
-use Rattle.documents.specs.Tags.{known_or, reordered}
-use Rattle.documents.specs.Documents.{Document}
-use Rattle.command_effects.specs.Words.{is_among}
+use Rattle.tag_table.specs.Tags.{is_named}
 use Rattle.documents.proofs.OrderLaws.{IsOrdered, Order, found_among, known_found, same_Err}
 
 -- a name that isn't a tag's, by itself or as a neighbour

@@ -1,41 +1,19 @@
 -- A document after texts have taken the place of cells, or where that is refused.
-use Rattle.std.proofs.Common.{◌≡◌, ◌≢◌, ℕ, ◌+◌, ◌-◌, ◌*◌, ◌<◌, ◌≤◌, true, min, List, Ok, Err, map, length, refl, sym}
-use Rattle.std.proofs.Common.{ap, ap₂, subst, ◌∙◌, arith}
-use Rattle.std.specs.Prelude.{None, Option, Result, Some, is_some, nat_lt, option_and_then, option_map, slice_get}
-use Rattle.std.specs.Prelude.{unwrap_or}
+use Rattle.documents.proofs.Words.{◌≡◌, ◌≢◌, ℕ, ◌+◌, ◌-◌, ◌*◌, ◌<◌, ◌≤◌, true, min, List, Ok, Err, map, length, refl}
+use Rattle.documents.proofs.Words.{sym, ap, ap₂, subst, ◌∙◌, arith, is_some, nat_lt, option_and_then, slice_get}
+use Rattle.documents.proofs.Words.{unwrap_or, All, false≢true, slice_get-map, Named, numbers_of, Tags, names_of}
+use Rattle.documents.proofs.Words.{MOST_CHARS, Place, LimitTable, Replace, inserted_texts, clipped, removed_span}
+use Rattle.documents.proofs.Words.{replaced_span, State, SlottedText, replaced-kept, Answer, Empty, Fault, Memory}
+use Rattle.documents.proofs.Words.{excess, length_replaced, new_mark, Pair, all_names, total, with_names, recording_of}
+use Rattle.documents.proofs.Words.{piece_of, replace_span, replaced, with_clipped, Document, Parts, Widget, document_of}
+use Rattle.documents.proofs.Words.{mark_of, widget_at, with_texts, without_span, Stands, with_insert, Change, answered}
+use Rattle.documents.proofs.Words.{refused, insertion_offset, tags_with}
+use Rattle.std.specs.Prelude.{None, Option, Result, Some, option_map}
 use Rattle.std.specs.FinMap as finite
-use Rattle.std.specs.List.{All}
-use Rattle.std.proofs.lemmas.Bool.{false≢true}
-use Rattle.std.proofs.lemmas.Option.{slice_get-map}
-use Rattle.name_list.specs.Names.{Named, numbers_of}
-use Rattle.tag_table.specs.Tags.{Tags, names_of}
-use Rattle.text_model.specs.declared.limits.TheConstants.Limits.{MOST_CHARS}
-use Rattle.text_model.specs.declared.places.Place.{Place}
-use Rattle.text_model.specs.LimitTable.{LimitTable}
-use Rattle.undo_stack.specs.declared.actions.EditKind.TheVariants.{Replace}
 use Rattle.edit_ops.specs.Insertions as insertions
-use Rattle.edit_ops.specs.Insertions.{inserted_texts}
 use Rattle.edit_ops.specs.Removals as removals
-use Rattle.edit_ops.specs.Removals.{clipped, removed_span, replaced_span, with_mark}
-use Rattle.edit_ops.specs.States.{State}
-use Rattle.edit_ops.specs.declared.slotted_texts.SlottedText.{SlottedText}
-use Rattle.edit_ops.proofs.KeepLaws.{replaced-kept}
+use Rattle.edit_ops.specs.Removals.{with_mark}
 use Rattle.edit_ops.proofs.ReplaceLaws.{found-within}
-use Rattle.command_effects.specs.declared.answers.Answer.{Answer}
-use Rattle.command_effects.specs.declared.answers.Answer.TheVariants.{Empty}
-use Rattle.command_effects.specs.declared.answers.Fault.{Fault}
-use Rattle.command_effects.specs.declared.answers.Fault.TheVariants.{Memory}
-use Rattle.command_effects.specs.Edits.{excess, length_replaced, new_mark}
-use Rattle.command_effects.specs.Lists.{Pair, all_names, total, with_names}
-use Rattle.command_effects.specs.Settings.{recording_of}
-use Rattle.command_effects.specs.Tagging.{piece_of}
-use Rattle.documents.specs.Deletions.{replace_span, replaced, with_clipped}
-use Rattle.documents.specs.Documents.{Document, Parts, Widget, document_of, mark_of, widget_at}
-use Rattle.documents.specs.Edits.{with_texts, without_span}
-use Rattle.documents.specs.Kept.{Stands}
-use Rattle.documents.specs.Marks.{with_insert}
-use Rattle.documents.specs.Promise.{Change, answered, refused}
-use Rattle.documents.specs.Texts.{insertion_offset, tags_with}
 use Rattle.documents.proofs.ChangeLaws.{Leaves, does-changed}
 use Rattle.documents.proofs.InsertionLaws.{IsListed, IsWithin, count-made, excess-none, few_enough, limits-made}
 use Rattle.documents.proofs.InsertionLaws.{limits-refused, ready, with_tags}

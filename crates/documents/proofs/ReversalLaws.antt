@@ -1,46 +1,23 @@
 -- A document after a group is undone or redone.
-use Rattle.std.proofs.Common.{◌≡◌, ℕ, ◌+◌, ◌*◌, ◌<◌, ◌≤◌, ◌&&◌, Bool, true, false, List, [], ◌∷◌, Option, None, Some}
-use Rattle.std.proofs.Common.{Ok, length, refl, sym, ap, subst, ◌∙◌, arith, true≢false}
-use Rattle.std.specs.Prelude.{slice_range, bytes_eq, nat_lt, nat_le, option_map, option_and_then, IfSome, if◌then◌else◌}
-use Rattle.std.specs.Char.{IsScalar}
+use Rattle.documents.proofs.Words.{◌≡◌, ℕ, ◌+◌, ◌*◌, ◌<◌, ◌≤◌, ◌&&◌, Bool, true, false, List, [], ◌∷◌, Option, None}
+use Rattle.documents.proofs.Words.{Some, Ok, length, refl, sym, ap, subst, ◌∙◌, arith, true≢false, slice_range}
+use Rattle.documents.proofs.Words.{bytes_eq, nat_lt, nat_le, option_and_then, IfSome, if◌then◌else◌, IsScalar, All}
+use Rattle.documents.proofs.Words.{and_parts, nat_tests, length-map, All-head, All-tail, option_and_then_some}
+use Rattle.documents.proofs.Words.{same_Some, Cell, MOST_CHARS, Place, Content, AreLimits, LimitTable, inserted}
+use Rattle.documents.proofs.Words.{removed, length-inserted, length-removed, FitsText, put_in, take_out, repeated}
+use Rattle.documents.proofs.Words.{repeated_group, reverted, reverted_group, after_redo, after_undo, limit_of}
+use Rattle.documents.proofs.Words.{next_redo, next_undo, counted_down, counted_up, times, Action, redo-goes, undo-goes}
+use Rattle.documents.proofs.Words.{action_redone, action_undone, group_redone, group_undone, log_redone, log_undone}
+use Rattle.documents.proofs.Words.{put_back, redo_end, taken_back, undo_end, Log, State, group-redone-text}
+use Rattle.documents.proofs.Words.{group-undone-text, guarded, redone-kept, redone-text, undone-kept, shared_slots}
+use Rattle.documents.proofs.Words.{Empty, recording_of, with_clipped, Document, Parts, Widget, document_of, widget_at}
+use Rattle.documents.proofs.Words.{keys_between, without_cells, Stands, answered, action_again, action_back, edit_redo}
+use Rattle.documents.proofs.Words.{edit_undo, group_again, group_back, redo_found, redone, text_back, undo_found}
+use Rattle.documents.proofs.Words.{undone, with_end, is_idle, IsWellFormedDocument}
+use Rattle.std.specs.Prelude.{option_map}
 use Rattle.std.specs.FinMap as finite
-use Rattle.std.specs.List.{All}
-use Rattle.std.proofs.lemmas.Bool.{and_parts}
-use Rattle.std.proofs.lemmas.Bool.Decides.{nat_tests}
-use Rattle.std.proofs.lemmas.List.{length-map}
-use Rattle.std.proofs.lemmas.List.Elements.{All-head, All-tail}
-use Rattle.std.proofs.lemmas.Option.{option_and_then_some, same_Some}
-use Rattle.text_model.specs.declared.cells.Cell.{Cell}
-use Rattle.text_model.specs.declared.limits.TheConstants.Limits.{MOST_CHARS}
-use Rattle.text_model.specs.declared.places.Place.{Place}
 use Rattle.text_model.specs.Content as model
-use Rattle.text_model.specs.Content.{Content}
-use Rattle.text_model.specs.LimitTable.{AreLimits, LimitTable}
-use Rattle.text_model.specs.Splices.{inserted, removed}
-use Rattle.text_model.proofs.SpliceLaws.{length-inserted, length-removed}
-use Rattle.undo_stack.specs.Fits.{FitsText, put_in, take_out, repeated, repeated_group, reverted, reverted_group}
-use Rattle.undo_stack.specs.History.{after_redo, after_undo, limit_of, next_redo, next_undo}
-use Rattle.undo_stack.specs.Modified.{counted_down, counted_up, times}
-use Rattle.undo_stack.specs.declared.actions.Action.{Action}
-use Rattle.undo_stack.proofs.FitsLaws.{redo-goes, undo-goes}
 use Rattle.edit_ops.specs.Reversals as edits
-use Rattle.edit_ops.specs.Reversals.{action_redone, action_undone, group_redone, group_undone, log_redone, log_undone}
-use Rattle.edit_ops.specs.Reversals.{put_back, redo_end, taken_back, undo_end}
-use Rattle.edit_ops.specs.States.{Log, State}
-use Rattle.edit_ops.proofs.ReversalLaws.{group-redone-text, group-undone-text, guarded, redone-kept, redone-text}
-use Rattle.edit_ops.proofs.ReversalLaws.{undone-kept}
-use Rattle.text_cursor.specs.Around.{shared_slots}
-use Rattle.command_effects.specs.declared.answers.Answer.TheVariants.{Empty}
-use Rattle.command_effects.specs.Settings.{recording_of}
-use Rattle.documents.specs.Deletions.{with_clipped}
-use Rattle.documents.specs.Documents.{Document, Parts, Widget, document_of, widget_at}
-use Rattle.documents.specs.Edits.{keys_between, without_cells}
-use Rattle.documents.specs.Kept.{Stands}
-use Rattle.documents.specs.Promise.{answered}
-use Rattle.documents.specs.History.{action_again, action_back, edit_redo, edit_undo, group_again, group_back}
-use Rattle.documents.specs.History.{redo_found, redone, text_back, undo_found, undone, with_end}
-use Rattle.documents.specs.Views.{is_idle}
-use Rattle.documents.specs.WellFormed.{IsWellFormedDocument}
 use Rattle.documents.proofs.ChangeLaws.{Leaves, does-changed}
 use Rattle.documents.proofs.KnownLaws.{known-shared}
 use Rattle.documents.proofs.PartsLaws.{Sits}

@@ -1,14 +1,12 @@
 -- The seats of widgets, as a loop goes over them.
-use Rattle.std.proofs.Common.{◌≡◌, ℕ, Bool, cond, zero, suc, ◌+◌, ◌<◌, true, false, List, [], ◌∷◌, ◌++◌, take, drop}
-use Rattle.std.proofs.Common.{length, refl, sym, ap, subst, ◌∙◌, arith, slice_get, remove, filter, not, Some}
-use Rattle.std.proofs.lemmas.List.{map-append, length-append, append_assoc}
-use Rattle.std.proofs.lemmas.Option.{none-some, same_Some}
-use Rattle.name_list.specs.Names.{Named, names_of, numbers_of}
-use Rattle.command_effects.specs.Words.{is_among}
-use Rattle.command_effects.proofs.WrittenLaws.{filter-append, filter-in, filter-out, take-found}
-use Rattle.tcl_words.specs.ListGrowth.{Goes}
+use Rattle.documents.proofs.Words.{◌≡◌, ℕ, Bool, cond, zero, suc, ◌+◌, ◌<◌, true, false, List, [], ◌∷◌, ◌++◌, take}
+use Rattle.documents.proofs.Words.{drop, length, refl, sym, ap, subst, ◌∙◌, arith, remove, filter, not, Some}
+use Rattle.documents.proofs.Words.{map-append, length-append, none-some, same_Some, Named, numbers_of, is_among}
+use Rattle.documents.proofs.Words.{filter-append, filter-in, filter-out, take-found, Goes, numbers_gone, seats_left}
+use Rattle.std.proofs.Common.{slice_get}
+use Rattle.std.proofs.lemmas.List.{append_assoc}
+use Rattle.name_list.specs.Names.{names_of}
 use Rattle.tcl_words.proofs.ListGrowth.{goes_on}
-use Rattle.documents.specs.Keys.{numbers_gone, seats_left}
 
 -- the seat of a name at a place
 pub record SeatAt (seats : List Named) (place : ℕ) (name : List ℕ) : Type 0 where

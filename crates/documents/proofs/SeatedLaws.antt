@@ -1,38 +1,19 @@
 -- A widget that is made.
-use Rattle.std.proofs.Common.{◌≡◌, ◌≢◌, ℕ, zero, suc, ◌+◌, ◌*◌, ◌<◌, ◌≤◌, Bool, true, false, set, List, [], ◌∷◌, ◌++◌}
-use Rattle.std.proofs.Common.{length, map, get_or, refl, sym, ap, ap₂, subst, ◌∙◌, true≢false, arith}
-use Rattle.std.specs.Prelude.{slice_get, is_some, option_map, unwrap_or, IfSome, Some, None, Option}
+use Rattle.documents.proofs.Words.{◌≡◌, ◌≢◌, ℕ, zero, suc, ◌+◌, ◌*◌, ◌<◌, ◌≤◌, Bool, true, false, set, List, [], ◌∷◌}
+use Rattle.documents.proofs.Words.{◌++◌, length, map, get_or, refl, sym, ap, ap₂, subst, ◌∙◌, true≢false, arith}
+use Rattle.documents.proofs.Words.{slice_get, is_some, unwrap_or, IfSome, All, AllByRecursion, replicate, length-append}
+use Rattle.documents.proofs.Words.{length-set, map-append, get_or-set_other, All-append, All-replicate, All-set}
+use Rattle.documents.proofs.Words.{get_or-set_at, MOST_WIDGETS, Place, Content, Marks, LimitTable, IsLineStart, lines}
+use Rattle.documents.proofs.Words.{FitsText, limit_of, Kept, Contains-from_stands, AreNames, IsLeastFree, Named, Names}
+use Rattle.documents.proofs.Words.{numbers_of, first_number, AreAnchored, Anchors, new_mark, with_own_marks, is_among}
+use Rattle.documents.proofs.Words.{history_under, is_behind, Settings, Document, Journal, Parts, Widget, characters}
+use Rattle.documents.proofs.Words.{document_of, mark_of, placed, whole, widget_of, HasOwnMarks, IsSeated, IsSound}
+use Rattle.documents.proofs.Words.{Stands, is_window_name, AreLines, anchor_at, IsLonger, IsWellFormedDocument}
+use Rattle.documents.proofs.Words.{window_names, new_widget, with_peer}
+use Rattle.std.specs.Prelude.{option_map, Some, None, Option}
 use Rattle.std.specs.FinMap as finite
-use Rattle.std.specs.List.{All, AllByRecursion}
-use Rattle.std.proofs.Math.ListN.{replicate}
-use Rattle.std.proofs.lemmas.List.{length-append, length-set, map-append, get_or-set_other}
-use Rattle.std.proofs.lemmas.List.Elements.{All-append, All-replicate, All-set}
-use Rattle.std.proofs.lemmas.Grind.{get_or-set_at}
-use Rattle.text_model.specs.declared.limits.TheConstants.Limits.{MOST_WIDGETS}
-use Rattle.text_model.specs.declared.places.Place.{Place}
 use Rattle.text_model.specs.Content as model
-use Rattle.text_model.specs.Content.{Content, Marks}
-use Rattle.text_model.specs.LimitTable.{LimitTable}
-use Rattle.text_model.specs.Lines.{IsLineStart, lines}
-use Rattle.undo_stack.specs.Fits.{FitsText}
-use Rattle.undo_stack.specs.History.{limit_of}
-use Rattle.undo_stack.specs.Rings.{Kept}
-use Rattle.name_list.proofs.ListLaws.{Contains-from_stands}
-use Rattle.name_list.specs.Names.{AreNames, IsLeastFree, Named, Names, numbers_of, place_of}
-use Rattle.mark_table.specs.SharedMarks.{first_number}
-use Rattle.edit_ops.specs.Anchors.{AreAnchored}
-use Rattle.edit_ops.specs.declared.anchors.Anchors.{Anchors}
-use Rattle.command_effects.specs.Edits.{new_mark, with_own_marks}
-use Rattle.command_effects.specs.Words.{is_among}
-use Rattle.command_effects.specs.Settings.{history_under, is_behind}
-use Rattle.command_effects.specs.declared.settings.Settings.{Settings}
-use Rattle.documents.specs.Documents.{Document, Journal, Parts, Widget, characters, document_of, mark_of, placed, whole}
-use Rattle.documents.specs.Documents.{widget_of}
-use Rattle.documents.specs.Kept.{HasOwnMarks, IsSeated, IsSound, Stands, is_window_name}
-use Rattle.documents.specs.Options.{AreLines, anchor_at}
-use Rattle.documents.specs.Seats.{IsLonger}
-use Rattle.documents.specs.WellFormed.{IsWellFormedDocument, window_names}
-use Rattle.documents.specs.Widgets.{new_widget, with_peer}
+use Rattle.name_list.specs.Names.{place_of}
 use Rattle.documents.proofs.FindLaws.{widget-among}
 use Rattle.documents.proofs.JournalLaws.{fits-under, orderly-under, with_kept}
 use Rattle.documents.proofs.KeyedLaws.{keyed-seated}

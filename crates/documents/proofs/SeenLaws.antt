@@ -1,22 +1,13 @@
 -- What a widget sees of its view, by the store and the tables of its document.
-use Rattle.std.proofs.Common.{◌≡◌, ℕ, zero, suc, ◌+◌, ◌-◌, List, [], ◌∷◌, map, sym, refl, ap, ap₂, ◌∙◌, arith}
-use Rattle.std.specs.Prelude.{Bool, Some, slice_get, slice_index_or}
-use Rattle.mark_table.specs.Order.{usable}
+use Rattle.documents.proofs.Words.{◌≡◌, ℕ, zero, suc, ◌+◌, ◌-◌, List, [], ◌∷◌, map, sym, refl, ap, ap₂, ◌∙◌, arith}
+use Rattle.documents.proofs.Words.{slice_get, slice_index_or, usable, Shown, Tag, names_of, tag_ranges, Content}
+use Rattle.documents.proofs.Words.{map-alike, map-map, name_of_rank, seen_by, literal, Document, Parts, Widget}
+use Rattle.documents.proofs.Words.{widget_at, key_named, Stands, mark_names, usable_marks, shown_flags}
+use Rattle.std.specs.Prelude.{Bool, Some}
 use Rattle.mark_table.specs.SharedMarks.{names_of as mark_names_of, numbers_of}
-use Rattle.mark_table.specs.declared.order.Shown.{Shown}
-use Rattle.tag_table.specs.Tags.{Tag, names_of}
-use Rattle.text_index.specs.Ranges.{tag_ranges}
-use Rattle.text_model.specs.Content.{Content}
-use Rattle.text_model.proofs.SpliceLaws.{map-alike, map-map}
 use Rattle.search_dump.specs.Dump as dump
-use Rattle.search_dump.specs.Dump.{name_of_rank, own_slot, seen_by}
-use Rattle.command_effects.specs.Words.{literal}
-use Rattle.documents.specs.Documents.{Document, Parts, Widget, widget_at}
-use Rattle.documents.specs.Keys.{key_named}
-use Rattle.documents.specs.Kept.{Stands}
-use Rattle.documents.specs.Marks.{mark_names, usable_marks}
+use Rattle.search_dump.specs.Dump.{own_slot}
 use Rattle.documents.specs.Queries.{mark_seen, seen, tag_seen}
-use Rattle.documents.specs.Views.{shown_flags}
 use Rattle.documents.proofs.MarkOrderLaws.{shifted, usable-is}
 use Rattle.documents.proofs.MeaningLaws.{current_bytes, insert_bytes, name-is}
 use Rattle.documents.proofs.PartsLaws.{Sits}

@@ -1,22 +1,16 @@
 -- Which slot stands for a key.
-use Rattle.std.proofs.Common.{◌≡◌, ◌≢◌, ℕ, ◌<◌, ◌≤◌, Bool, true, false, not, cond, List, ◌++◌, Option, None, Some}
-use Rattle.std.proofs.Common.{filter, map, length, drop, slice_get, refl, sym, ap, subst, ◌∙◌, true≢false, arith, inl}
-use Rattle.std.proofs.Common.{inr, ne_eqb, option_map, ◌==◌, Contains, if◌then◌else◌}
-use Rattle.std.specs.List.{list_any}
-use Rattle.std.proofs.lemmas.Bool.{false_from_ne_true}
-use Rattle.std.proofs.lemmas.List.{map-append, take-append-drop}
-use Rattle.std.proofs.lemmas.List.Elements.{Contains-append_cases, Contains-append_left, Contains-append_right}
-use Rattle.std.proofs.lemmas.Option.{none-some, same_Some, slice_get-map}
-use Rattle.std.proofs.lemmas.Slice.Eq.{bytes_eq-Decides}
-use Rattle.name_list.specs.Names.{AreApart, AreNames, Named, Names, names_of}
-use Rattle.name_list.proofs.ListLaws.{Contains-from_stands, Stands, stands_from_Contains, stands_map, stood_at}
-use Rattle.text_model.specs.declared.limits.TheConstants.Limits.{MOST_WIDGETS}
-use Rattle.tag_table.specs.Tags.{AreTags, Tag, Tags, names_of as tag_names, sel, slot_of}
-use Rattle.index_grammar.specs.Names.{known_tags}
-use Rattle.command_effects.specs.Tagging.{IsFront}
-use Rattle.command_effects.specs.Words.{is_same}
-use Rattle.documents.specs.Keys.{Key, is_shared, key_named, key_pairs, pair_slots, seat_pair, tag_pair}
-use Rattle.documents.specs.Kept.{AreSeats}
+use Rattle.documents.proofs.Words.{◌≡◌, ◌≢◌, ℕ, ◌<◌, ◌≤◌, Bool, true, false, not, cond, List, ◌++◌, Option, None, Some}
+use Rattle.documents.proofs.Words.{filter, map, length, drop, refl, sym, ap, subst, ◌∙◌, true≢false, arith, inl, inr}
+use Rattle.documents.proofs.Words.{ne_eqb, option_map, ◌==◌, Contains, list_any, false_from_ne_true, map-append}
+use Rattle.documents.proofs.Words.{take-append-drop, Contains-append_cases, Contains-append_left, Contains-append_right}
+use Rattle.documents.proofs.Words.{none-some, same_Some, slice_get-map, bytes_eq-Decides, AreApart, AreNames, Named}
+use Rattle.documents.proofs.Words.{Names, Contains-from_stands, stands_from_Contains, stands_map, stood_at}
+use Rattle.documents.proofs.Words.{MOST_WIDGETS, AreTags, Tag, Tags, sel, slot_of, known_tags, IsFront, is_same, Key}
+use Rattle.documents.proofs.Words.{is_shared, key_named, key_pairs, pair_slots, seat_pair, tag_pair, AreSeats}
+use Rattle.std.proofs.Common.{slice_get, if◌then◌else◌}
+use Rattle.name_list.specs.Names.{names_of}
+use Rattle.name_list.proofs.ListLaws.{Stands}
+use Rattle.tag_table.specs.Tags.{names_of as tag_names}
 use Rattle.documents.proofs.LookupLaws.{filter_stood, looked, looked-filter, looked-front, looked-stands}
 use Rattle.documents.proofs.LookupLaws.{looked-standing}
 

@@ -1,33 +1,12 @@
 -- A document after a tag is put on spans or taken off them, or where that is refused.
-use Rattle.std.proofs.Common.{◌≡◌, ℕ, ◌+◌, ◌-◌, ◌<◌, ◌≤◌, Bool, true, false, List, Option, None, Some, Ok, length, refl}
-use Rattle.std.proofs.Common.{sym, ap, ap₂, subst, ◌∙◌, arith, ◌==◌, nat_lt, option_map, if◌then◌else◌}
-use Rattle.std.proofs.lemmas.Option.{none-some, same_Some}
-use Rattle.std.specs.List.{All}
-use Rattle.std.proofs.lemmas.Bool.Decides.{nat_tests}
-use Rattle.std.proofs.lemmas.List.{length-map}
-use Rattle.index_grammar.specs.Names.{known_tags}
-use Rattle.tag_table.specs.Tags.{AreTags, Tag, Tags, names_of, slot_of}
-use Rattle.text_model.specs.Content.{Content}
-use Rattle.text_model.specs.LimitTable.{LimitTable}
-use Rattle.edit_ops.specs.States.{Log}
-use Rattle.edit_ops.specs.Tagging.{SpanFits, tagged}
-use Rattle.edit_ops.specs.declared.spans.Span.{Span}
-use Rattle.command_effects.specs.declared.answers.Answer.TheVariants.{Empty}
-use Rattle.command_effects.specs.declared.answers.Fault.TheVariants.{TooManyTags}
-use Rattle.command_effects.specs.Lists.{with_name}
-use Rattle.command_effects.specs.Ranges.{spans_of}
-use Rattle.command_effects.specs.Tagging.{IsFront}
-use Rattle.command_effects.specs.Words.{is_among}
-use Rattle.command_effects.proofs.MadeLaws.{absent_slot, among_slot}
-use Rattle.command_effects.proofs.PairLaws.{spans_of-fit}
-use Rattle.documents.specs.Documents.{Document, Parts, document_of, widget_at}
-use Rattle.documents.specs.Edits.{with_tag}
-use Rattle.documents.specs.Keys.{Key, key_named}
-use Rattle.documents.specs.Kept.{Stands}
-use Rattle.documents.specs.Promise.{Change, Does, answered, refused}
-use Rattle.documents.specs.Ranges.{spans_shown}
-use Rattle.documents.specs.Tags.{add_spans, remove_spans}
-use Rattle.documents.specs.Views.{shown}
+use Rattle.documents.proofs.Words.{◌≡◌, ℕ, ◌+◌, ◌-◌, ◌<◌, ◌≤◌, Bool, true, false, List, Option, None, Some, Ok, length}
+use Rattle.documents.proofs.Words.{refl, sym, ap, ap₂, subst, ◌∙◌, arith, ◌==◌, option_map, none-some, same_Some, All}
+use Rattle.documents.proofs.Words.{nat_tests, length-map, known_tags, AreTags, Tag, Tags, names_of, slot_of, Content}
+use Rattle.documents.proofs.Words.{LimitTable, Log, SpanFits, tagged, Span, Empty, TooManyTags, with_name, spans_of}
+use Rattle.documents.proofs.Words.{IsFront, is_among, absent_slot, among_slot, spans_of-fit, Document, Parts}
+use Rattle.documents.proofs.Words.{document_of, widget_at, with_tag, Key, key_named, Stands, Change, Does, answered}
+use Rattle.documents.proofs.Words.{refused, spans_shown, add_spans, remove_spans, shown}
+use Rattle.std.proofs.Common.{nat_lt, if◌then◌else◌}
 use Rattle.documents.proofs.ChangeLaws.{Leaves, does-nothing}
 use Rattle.documents.proofs.KeyedLaws.{keyed-more, keyed-tagged}
 use Rattle.documents.proofs.KnownLaws.{known-front, known-slot}

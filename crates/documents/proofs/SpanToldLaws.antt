@@ -1,47 +1,24 @@
 -- What is told where a key is put on spans, or taken off them.
-use Rattle.std.proofs.Common.{◌≡◌, ℕ, zero, suc, ◌+◌, ◌-◌, ◌<◌, ◌≤◌, Bool, true, false, not, List, [], ◌∷◌, ◌++◌}
-use Rattle.std.proofs.Common.{map, length, take, drop, get_or, refl, sym, ap, ap₂, ◌∙◌, arith, subst, append_assoc, Some}
-use Rattle.std.proofs.Common.{slice_get, cond, None, true≢false, nat_lt, inl, inr, if◌then◌else◌}
-use Rattle.std.specs.Prelude.{slice_range, sum_by}
+use Rattle.documents.proofs.Words.{◌≡◌, ℕ, zero, suc, ◌+◌, ◌-◌, ◌<◌, ◌≤◌, Bool, true, false, not, List, [], ◌∷◌, ◌++◌}
+use Rattle.documents.proofs.Words.{map, length, take, drop, get_or, refl, sym, ap, ap₂, ◌∙◌, arith, subst, append_assoc}
+use Rattle.documents.proofs.Words.{Some, cond, None, true≢false, inl, inr, slice_range, sum_by, All, cases_lt}
+use Rattle.documents.proofs.Words.{drop-drop, drop-take, get_or-drop, get_or-map, get_or-take, length-append}
+use Rattle.documents.proofs.Words.{length-drop, length-map, length-take-le, map-append, take-append-drop, take-take}
+use Rattle.documents.proofs.Words.{take_more, split_between, All-cons, All-drop, All-from_get_or, All-get_or, All-head}
+use Rattle.documents.proofs.Words.{All-nil, All-map, All-tail, All-take, drop_split, sum_by-cons, get_or_from_slice_get}
+use Rattle.documents.proofs.Words.{same_Some, Named, known_tags, flags, flag_at, is_alike, next_change, LimitTable}
+use Rattle.documents.proofs.Words.{changed, length-changed, map-slice_range, in_spans, SpanFits, Span, with_name}
+use Rattle.documents.proofs.Words.{is_among, Empty, TooManyTags, Document, KeyedCell, Parts, Widget, document_of}
+use Rattle.documents.proofs.Words.{widget_at, with_key, with_tag, Key, key_named, key_pairs, set_key, Stands, key_of}
+use Rattle.documents.proofs.Words.{Change, answered, refused, spans_shown, add_spans, remove_spans, IsTagChange}
+use Rattle.documents.proofs.Words.{TellsSpan, TellsSpans, TellsTags, flags_of, Foretells, TellsCells, TagChange}
+use Rattle.documents.proofs.Words.{EditTold}
+use Rattle.std.proofs.Common.{slice_get, nat_lt, if◌then◌else◌}
 use Rattle.std.specs.FinSet as set
-use Rattle.std.specs.List.{All}
-use Rattle.std.proofs.lemmas.Bool.{cases_lt}
-use Rattle.std.proofs.lemmas.List.{drop-drop, drop-take, get_or-drop, get_or-map, get_or-take, length-append, length-drop}
-use Rattle.std.proofs.lemmas.List.{length-map, length-take-le, map-append, take-append-drop, take-take, take_more}
-use Rattle.std.proofs.lemmas.List.Edits.{split_between}
-use Rattle.std.proofs.lemmas.List.Elements.{All-cons, All-drop, All-from_get_or, All-get_or, All-head, All-nil}
-use Rattle.std.proofs.lemmas.List.Elements.{All-map, All-tail, All-take}
-use Rattle.std.proofs.lemmas.List.Folds.{drop_split}
-use Rattle.std.proofs.lemmas.List.Sums.{sum_by-cons}
-use Rattle.std.proofs.lemmas.Option.{get_or_from_slice_get, same_Some}
 use mathlib.Core.Bool.{beq}
-use Rattle.name_list.specs.Names.{Named, names_of}
-use Rattle.index_grammar.specs.Names.{known_tags}
-use Rattle.text_model.specs.Content.{flags}
-use Rattle.text_model.specs.Changes.{flag_at, is_alike, next_change}
-use Rattle.text_model.specs.LimitTable.{LimitTable}
-use Rattle.text_model.specs.Splices.{changed}
-use Rattle.text_model.proofs.SpliceLaws.{length-changed, map-slice_range}
+use Rattle.name_list.specs.Names.{names_of}
 use Rattle.text_index.proofs.FlagLaws.{next-alike}
-use Rattle.edit_ops.specs.Deletions.{AreApart, in_spans}
-use Rattle.edit_ops.specs.Tagging.{SpanFits}
-use Rattle.edit_ops.specs.declared.spans.Span.{Span}
-use Rattle.command_effects.specs.Lists.{with_name}
-use Rattle.command_effects.specs.Words.{is_among}
-use Rattle.command_effects.specs.declared.answers.Answer.TheVariants.{Empty}
-use Rattle.command_effects.specs.declared.answers.Fault.TheVariants.{TooManyTags}
-use Rattle.documents.specs.Documents.{Document, KeyedCell, Parts, Widget, document_of, widget_at}
-use Rattle.documents.specs.Edits.{with_key, with_tag}
-use Rattle.documents.specs.Keys.{Key, key_named, key_pairs, set_key}
-use Rattle.documents.specs.Kept.{Stands}
-use Rattle.documents.specs.Names.{key_of}
-use Rattle.documents.specs.Promise.{Change, answered, refused}
-use Rattle.documents.specs.Ranges.{spans_shown}
-use Rattle.documents.specs.Tags.{add_spans, remove_spans}
-use Rattle.documents.specs.TagsTold.{IsTagChange, TellsSpan, TellsSpans, TellsTags, flags_of}
-use Rattle.documents.specs.Told.{Foretells, TellsCells}
-use Rattle.documents.specs.declared.tag_lists.TagChange.{TagChange}
-use Rattle.documents.specs.declared.told.EditTold.{EditTold}
+use Rattle.edit_ops.specs.Deletions.{AreApart}
 use Rattle.documents.proofs.BridgeLaws.{contains-set_key, key_itself, keys_of-has}
 use Rattle.documents.proofs.KeyedLaws.{keyed-flags, keyed_cell}
 use Rattle.documents.proofs.LookupLaws.{has}

@@ -1,47 +1,27 @@
 -- A document after what edits do to its text: a text is put in, cells are taken out, and an action is noted.
-use Rattle.std.proofs.Common.{◌≡◌, ℕ, ◌+◌, ◌-◌, ◌*◌, ◌<◌, ◌≤◌, true, false, List, [], ◌∷◌, Option, None, Some, map}
-use Rattle.std.proofs.Common.{length, take, drop, get_or, refl, sym, ap, ap₂, subst, ◌∙◌, arith, eqb-true}
-use Rattle.std.specs.Prelude.{Bool, option_map, slice_range, ◌==◌, if◌then◌else◌}
-use Rattle.std.specs.Char.{IsScalar}
-use Rattle.std.specs.List.{All, AllByRecursion}
-use Rattle.std.proofs.lemmas.List.{get_or-map, length-map}
-use Rattle.std.proofs.lemmas.List.Elements.{All-append, All-drop, All-head, All-tail, All-take}
-use Rattle.name_list.specs.Names.{Named}
-use Rattle.text_model.specs.declared.cells.Cell.{Cell}
-use Rattle.text_model.specs.declared.edits.Step.TheVariants.{Insert, Remove}
-use Rattle.text_model.specs.declared.limits.TheConstants.Limits.{MOST_CHARS}
-use Rattle.text_model.specs.declared.places.Place.{Place}
+use Rattle.documents.proofs.Words.{◌≡◌, ℕ, ◌+◌, ◌-◌, ◌*◌, ◌<◌, ◌≤◌, true, false, List, [], ◌∷◌, Option, None, Some, map}
+use Rattle.documents.proofs.Words.{length, take, drop, get_or, refl, sym, ap, ap₂, subst, ◌∙◌, arith, slice_range}
+use Rattle.documents.proofs.Words.{if◌then◌else◌, IsScalar, All, AllByRecursion, get_or-map, length-map, All-append}
+use Rattle.documents.proofs.Words.{All-drop, All-head, All-tail, All-take, Named, Cell, Remove, MOST_CHARS, Place}
+use Rattle.documents.proofs.Words.{Content, Marks, Slots, map_marks, IsDocument, drawn, inserted, moved}
+use Rattle.documents.proofs.Words.{after_insertion, after_removal, cells_of, characters-inserted, characters-removed}
+use Rattle.documents.proofs.Words.{IsDocument-inserted, IsDocument-removed, length-cells_inserted, length-removed}
+use Rattle.documents.proofs.Words.{shared_slots, limit_of, noted, counted_new, Action, EditKind, AnchorsStand}
+use Rattle.documents.proofs.Words.{AreAnchored, anchors_moved, anchors_removed, inserted_text, inserted_texts, slots_or}
+use Rattle.documents.proofs.Words.{removed_span, Log, State, log_noted, state_of, Anchors, SlottedText, all-moved}
+use Rattle.documents.proofs.Words.{all-removed, anchored-stand, text-end-begins, recording_of, Document, Journal}
+use Rattle.documents.proofs.Words.{KeyedCell, Parts, SharedMark, Widget, characters, document_of, placed, whole}
+use Rattle.documents.proofs.Words.{widget_of, keys_between, keys_or, with_action, with_cells, with_text, with_texts}
+use Rattle.documents.proofs.Words.{without_cells, without_span, AreKnown, HasKnownSlots, HasOwnMarks, IsSeated, Stands}
+use Rattle.documents.proofs.Words.{Keys, keyed, keys_of}
+use Rattle.std.proofs.Common.{eqb-true}
+use Rattle.std.specs.Prelude.{Bool, option_map, ◌==◌}
+use Rattle.text_model.specs.declared.edits.Step.TheVariants.{Insert}
 use Rattle.text_model.specs.Content as model
-use Rattle.text_model.specs.Content.{Content, Marks, Slots, map_marks}
-use Rattle.text_model.specs.Documents.{IsDocument}
-use Rattle.text_model.specs.Splices.{drawn, inserted, moved}
-use Rattle.text_model.specs.Steps.{after_insertion, after_removal, cells_of}
-use Rattle.text_model.proofs.CellLaws.{characters-inserted, characters-removed}
-use Rattle.text_model.proofs.DocumentLaws.{IsDocument-inserted, IsDocument-removed}
-use Rattle.text_model.proofs.SpliceLaws.{length-cells_inserted, length-removed}
 use Rattle.text_model.proofs.StepLaws.{MarksStand-after_step}
-use Rattle.text_cursor.specs.Around.{shared_slots}
-use Rattle.undo_stack.specs.History.{limit_of, noted}
-use Rattle.undo_stack.specs.Modified.{counted_new}
-use Rattle.undo_stack.specs.declared.actions.Action.{Action}
-use Rattle.undo_stack.specs.declared.actions.EditKind.{EditKind}
-use Rattle.edit_ops.specs.Anchors.{AnchorsStand, AreAnchored, anchors_moved, anchors_removed}
-use Rattle.edit_ops.specs.Insertions.{inserted_text, inserted_texts, slots_or, total}
-use Rattle.edit_ops.specs.Removals.{removed_span}
-use Rattle.edit_ops.specs.States.{Log, State, log_noted, state_of}
-use Rattle.edit_ops.specs.declared.anchors.Anchors.{Anchors}
-use Rattle.edit_ops.specs.declared.slotted_texts.SlottedText.{SlottedText}
+use Rattle.edit_ops.specs.Insertions.{total}
 use Rattle.edit_ops.specs.declared.plans.Recording.{Recording}
-use Rattle.edit_ops.proofs.AnchoredLaws.{all-moved, all-removed, anchored-stand}
 use Rattle.edit_ops.proofs.InsertLaws.{total-cons}
-use Rattle.edit_ops.proofs.StartLaws.{text-end-begins}
-use Rattle.command_effects.specs.Settings.{recording_of}
-use Rattle.documents.specs.Documents.{Document, Journal, KeyedCell, Parts, SharedMark, Widget, characters, document_of}
-use Rattle.documents.specs.Documents.{placed, whole, widget_of}
-use Rattle.documents.specs.Edits.{keys_between, keys_or, with_action, with_cells, with_text, with_texts, without_cells}
-use Rattle.documents.specs.Edits.{without_span}
-use Rattle.documents.specs.Kept.{AreKnown, HasKnownSlots, HasOwnMarks, IsSeated, Stands}
-use Rattle.documents.specs.Keys.{Keys, keyed, keys_of}
 use Rattle.documents.proofs.KeyedLaws.{keyed-inserted, keyed-removed, keyed-shared}
 use Rattle.documents.proofs.KnownLaws.{IsKnownPiece, known-inserted, known-put}
 use Rattle.documents.proofs.NamedLaws.{keyed_piece}

@@ -1,16 +1,8 @@
 -- Commands that are no edit of the text or of tags leave its characters with their tags.
-use Rattle.std.proofs.Common.{◌≡◌, ℕ, true, false, List, [], ◌∷◌, ◌++◌, Option, Some, None, length, refl}
-use Rattle.std.specs.Prelude.{nat_le, if◌then◌else◌}
-use Rattle.text_model.specs.LimitTable.{LimitTable}
-use Rattle.text_model.specs.declared.places.Gravity.TheVariants.{Right}
-use Rattle.text_model.specs.declared.places.Place.{Place}
-use Rattle.undo_stack.specs.History.{separated}
-use Rattle.command_effects.specs.declared.answers.Answer.TheVariants.{Empty}
-use Rattle.command_effects.specs.declared.answers.Fault.TheVariants.{TooManyMarks}
-use Rattle.command_effects.specs.Words.{is_same, literal}
-use Rattle.documents.specs.Documents.{Document, Widget}
-use Rattle.documents.specs.Marks.{set_found, with_current, with_insert, with_mark, with_shared}
-use Rattle.documents.specs.Promise.{answered, refused}
+use Rattle.documents.proofs.Words.{◌≡◌, ℕ, true, false, List, [], ◌∷◌, ◌++◌, Option, Some, None, length, refl, nat_le}
+use Rattle.documents.proofs.Words.{if◌then◌else◌, LimitTable, Right, Place, separated, Empty, TooManyMarks, is_same}
+use Rattle.documents.proofs.Words.{literal, Document, Widget, set_found, with_current, with_insert, with_mark}
+use Rattle.documents.proofs.Words.{with_shared, answered, refused}
 use Rattle.documents.proofs.CarriedLaws.{IsMarked, IsQuiet, carried-reordered}
 
 -- a document with the characters of another one, and with their tags

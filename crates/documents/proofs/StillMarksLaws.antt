@@ -1,26 +1,11 @@
 -- Commands that are no edit of the text and move no mark leave each mark where a widget sees it.
-use Rattle.std.proofs.Common.{◌≡◌, ℕ, ◌+◌, Bool, true, false, List, ◌∷◌, [], Some, length, refl, ap, ap₂, sym, ◌∙◌}
-use Rattle.std.proofs.Common.{find, nat_lt, option_and_then, option_map, if◌then◌else◌}
-use Rattle.std.specs.Option.{option_or}
-use Rattle.std.proofs.lemmas.List.Folds.{find-append}
-use Rattle.text_model.specs.LimitTable.{LimitTable}
-use Rattle.text_model.specs.declared.places.Place.{Place}
-use Rattle.undo_stack.specs.History.{separated}
-use Rattle.command_effects.specs.declared.answers.Answer.TheVariants.{Empty}
-use Rattle.command_effects.specs.declared.answers.Fault.TheVariants.{TooManyTags}
-use Rattle.command_effects.specs.declared.settings.Settings.{Settings}
-use Rattle.command_effects.specs.Lists.{with_name}
-use Rattle.command_effects.specs.Words.{is_among, is_same, literal}
-use Rattle.documents.specs.Documents.{Document, SharedMark, Widget}
-use Rattle.documents.specs.Edits.{with_tag}
-use Rattle.documents.specs.History.{modified_set}
-use Rattle.documents.specs.MarksTold.{MarksTold, offset_seen}
-use Rattle.documents.specs.Names.{key_of}
-use Rattle.documents.specs.Options.{widget_set, with_settings}
-use Rattle.documents.specs.Promise.{answered, refused}
-use Rattle.documents.specs.Ranges.{spans_shown}
-use Rattle.documents.specs.Tags.{add_spans, remove_spans, tag_delete}
-use Rattle.documents.specs.Widgets.{new_widget, widget_named, with_peer}
+use Rattle.documents.proofs.Words.{◌≡◌, ℕ, ◌+◌, Bool, true, false, List, ◌∷◌, [], Some, length, refl, ap, ap₂, sym, ◌∙◌}
+use Rattle.documents.proofs.Words.{option_map, option_or, find-append, LimitTable, Place, separated, Empty, TooManyTags}
+use Rattle.documents.proofs.Words.{Settings, with_name, is_among, is_same, literal, Document, SharedMark, Widget}
+use Rattle.documents.proofs.Words.{with_tag, modified_set, MarksTold, offset_seen, key_of, widget_set, with_settings}
+use Rattle.documents.proofs.Words.{answered, refused, spans_shown, add_spans, remove_spans, tag_delete, new_widget}
+use Rattle.documents.proofs.Words.{widget_named, with_peer}
+use Rattle.std.proofs.Common.{find, nat_lt, option_and_then, if◌then◌else◌}
 use Rattle.documents.proofs.CarriedLaws.{IsQuiet, IsTagged, carried-reordered}
 use Rattle.documents.proofs.MarksToldLaws.{put-still, seen-found, told-none, widget-changed}
 

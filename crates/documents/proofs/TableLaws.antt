@@ -1,30 +1,13 @@
 -- A document whose table has other tags, and whose cells have other slots.
-use Rattle.std.proofs.Common.{◌≡◌, ℕ, ◌+◌, ◌≤◌, List, [], ◌∷◌, Bool, Ok, length, map, refl, sym, ap, subst, ◌∙◌, arith}
+use Rattle.documents.proofs.Words.{◌≡◌, ℕ, ◌+◌, ◌≤◌, List, [], ◌∷◌, Bool, Ok, length, map, refl, sym, ap, subst, ◌∙◌}
+use Rattle.documents.proofs.Words.{arith, All, AllByRecursion, length-map, All-head, All-tail, Named, AreTags, Tag}
+use Rattle.documents.proofs.Words.{Tags, names_of, Cell, Content, Marks, IsDocument, LimitTable, changed, with_slot}
+use Rattle.documents.proofs.Words.{characters-with_slot, length-changed, FitsText, AreAnchored, Log, SpanFits, tagged}
+use Rattle.documents.proofs.Words.{Span, Empty, Document, KeyedCell, Parts, document_of, placed, widget_of, key_pairs}
+use Rattle.documents.proofs.Words.{keyed, pair_slots, AreMarked, HasKnownSlots, HasOwnMarks, Stands, Change, answered}
 use Rattle.std.specs.Prelude.{Contains}
 use Rattle.std.specs.FinMap as finite
-use Rattle.std.specs.List.{All, AllByRecursion}
-use Rattle.std.proofs.lemmas.List.{length-map}
-use Rattle.std.proofs.lemmas.List.Elements.{All-head, All-tail}
-use Rattle.name_list.specs.Names.{Named}
-use Rattle.tag_table.specs.Tags.{AreTags, Tag, Tags, names_of}
-use Rattle.text_model.specs.declared.cells.Cell.{Cell}
-use Rattle.text_model.specs.Content.{Content, Marks, characters}
-use Rattle.text_model.specs.Documents.{IsDocument}
-use Rattle.text_model.specs.LimitTable.{LimitTable}
-use Rattle.text_model.specs.Splices.{changed}
-use Rattle.text_model.specs.Steps.{with_slot}
-use Rattle.text_model.proofs.CellLaws.{characters-with_slot}
-use Rattle.text_model.proofs.SpliceLaws.{length-changed}
-use Rattle.undo_stack.specs.Fits.{FitsText}
-use Rattle.edit_ops.specs.Anchors.{AreAnchored}
-use Rattle.edit_ops.specs.States.{Log}
-use Rattle.edit_ops.specs.Tagging.{SpanFits, tagged}
-use Rattle.edit_ops.specs.declared.spans.Span.{Span}
-use Rattle.command_effects.specs.declared.answers.Answer.TheVariants.{Empty}
-use Rattle.documents.specs.Documents.{Document, KeyedCell, Parts, document_of, placed, widget_of}
-use Rattle.documents.specs.Keys.{key_pairs, keyed, pair_slots}
-use Rattle.documents.specs.Kept.{AreMarked, HasKnownSlots, HasOwnMarks, Stands}
-use Rattle.documents.specs.Promise.{Change, answered}
+use Rattle.text_model.specs.Content.{characters}
 use Rattle.documents.proofs.ChangeLaws.{Leaves, does-changed}
 use Rattle.documents.proofs.KnownLaws.{known-changed}
 

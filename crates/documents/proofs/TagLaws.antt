@@ -1,22 +1,10 @@
 -- A document after its tags are put in another order or deleted.
-use Rattle.std.proofs.Common.{◌≡◌, ℕ, ◌≤◌, Bool, true, false, List, [], ◌∷◌, Option, Err, Ok, cond, filter, length, map}
-use Rattle.std.proofs.Common.{refl, sym, ap, subst, ◌∙◌, arith}
-use Rattle.std.proofs.lemmas.List.{length-map}
-use Rattle.text_model.proofs.SpliceLaws.{map-map}
+use Rattle.documents.proofs.Words.{◌≡◌, ℕ, ◌≤◌, Bool, true, false, List, [], ◌∷◌, Option, Err, Ok, cond, filter, length}
+use Rattle.documents.proofs.Words.{map, refl, sym, ap, subst, ◌∙◌, arith, length-map, map-map, AreTags, Tag, Tags}
+use Rattle.documents.proofs.Words.{names_of, Cell, Content, LimitTable, Log, cell_without, cleared, Empty, NoSuchTag}
+use Rattle.documents.proofs.Words.{slots_deleted, tags_left, stays, Document, Parts, document_of, Stands, answered}
+use Rattle.documents.proofs.Words.{reordered, tag_delete, without_tags}
 use Rattle.tag_table.specs.declared.faults.NoSuchTag as table_fault
-use Rattle.tag_table.specs.Tags.{AreTags, Tag, Tags, names_of}
-use Rattle.text_model.specs.declared.cells.Cell.{Cell}
-use Rattle.text_model.specs.Content.{Content}
-use Rattle.text_model.specs.LimitTable.{LimitTable}
-use Rattle.edit_ops.specs.States.{Log}
-use Rattle.edit_ops.specs.Tagging.{cell_without, cleared}
-use Rattle.command_effects.specs.declared.answers.Answer.TheVariants.{Empty}
-use Rattle.command_effects.specs.declared.answers.Fault.TheVariants.{NoSuchTag}
-use Rattle.command_effects.specs.Tagging.{slots_deleted, tags_left, stays}
-use Rattle.documents.specs.Documents.{Document, Parts, document_of}
-use Rattle.documents.specs.Kept.{Stands}
-use Rattle.documents.specs.Promise.{answered}
-use Rattle.documents.specs.Tags.{reordered, tag_delete, without_tags}
 use Rattle.documents.proofs.ChangeLaws.{Leaves, does-left, stands-same}
 use Rattle.documents.proofs.ClearedLaws.{keyed-deleted, known-deleted, names_left}
 use Rattle.documents.proofs.KeyedLaws.{keyed-reordered}

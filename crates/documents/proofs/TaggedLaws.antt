@@ -1,23 +1,14 @@
 -- Which characters of a widget's view have a tag.
-use Rattle.std.proofs.Common.{◌≡◌, ℕ, zero, suc, ◌+◌, ◌-◌, ◌<◌, ◌≤◌, Bool, true, false, cond, List, [], ◌∷◌, length}
-use Rattle.std.proofs.Common.{drop, refl, sym, ap, ◌∙◌, arith}
-use Rattle.std.specs.Prelude.{None, Some, filter, slice_get, slice_range, if◌then◌else◌}
+use Rattle.documents.proofs.Words.{◌≡◌, ℕ, zero, suc, ◌+◌, ◌-◌, ◌<◌, ◌≤◌, Bool, true, false, cond, List, [], ◌∷◌}
+use Rattle.documents.proofs.Words.{length, drop, refl, sym, ap, ◌∙◌, arith, slice_get, slice_range, if◌then◌else◌}
+use Rattle.documents.proofs.Words.{get_or-drop, get_or-take, length-drop, length-map, length-take}
+use Rattle.documents.proofs.Words.{get_or_from_slice_get, none-some, known_tags, Tag, names_of, Cell, flag_at, Content}
+use Rattle.documents.proofs.Words.{Slots, flags, slot_sets, own_slot, is_among, Document, KeyedCell, Parts, Widget}
+use Rattle.documents.proofs.Words.{widget_at, key_named, Stands, tags_on, shown, shown_flags, view_end, view_start}
+use Rattle.std.specs.Prelude.{None, Some, filter}
 use Rattle.std.specs.FinSet as set
-use Rattle.std.proofs.lemmas.List.{get_or-drop, get_or-take, length-drop, length-map, length-take}
-use Rattle.std.proofs.lemmas.Option.{get_or_from_slice_get, none-some}
-use Rattle.index_grammar.specs.Names.{known_tags}
-use Rattle.tag_table.specs.Tags.{Tag, names_of}
 use Rattle.text_index.specs.Views as view
-use Rattle.text_model.specs.declared.cells.Cell.{Cell}
-use Rattle.text_model.specs.Changes.{flag_at}
-use Rattle.text_model.specs.Content.{Content, Slots, flags, slot_sets}
-use Rattle.command_effects.specs.Tagging.{own_slot}
-use Rattle.command_effects.specs.Words.{is_among}
-use Rattle.documents.specs.Documents.{Document, KeyedCell, Parts, Widget, widget_at}
-use Rattle.documents.specs.Keys.{key_named}
-use Rattle.documents.specs.Kept.{Stands}
-use Rattle.documents.specs.Tags.{flags_of, tags_on}
-use Rattle.documents.specs.Views.{shown, shown_flags, view_end, view_start}
+use Rattle.documents.specs.Tags.{flags_of}
 use Rattle.documents.proofs.SlotLaws.{known_standing}
 use Rattle.documents.proofs.SpanLaws.{slot_known, slot_unknown}
 use Rattle.documents.proofs.ViewLaws.{IsSeen, flags-is}

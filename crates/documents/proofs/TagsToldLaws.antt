@@ -1,36 +1,20 @@
 -- Changes of tags, one after the other, and what puts keys on characters that have none or takes all keys off.
-use Rattle.std.proofs.Common.{◌≡◌, ℕ, ◌+◌, ◌-◌, ◌<◌, ◌≤◌, suc, Bool, true, false, cond, not, ◌||◌, List, [], ◌∷◌, ◌++◌}
-use Rattle.std.proofs.Common.{map, length, take, drop, refl, sym, ap, ap₂, ◌∙◌, arith, subst, append_assoc, true≢false}
-use Rattle.std.proofs.Common.{filter, slice_get, Some}
-use Rattle.std.specs.Prelude.{slice_range}
+use Rattle.documents.proofs.Words.{◌≡◌, ℕ, ◌+◌, ◌-◌, ◌<◌, ◌≤◌, suc, Bool, true, false, cond, not, ◌||◌, List, [], ◌∷◌}
+use Rattle.documents.proofs.Words.{◌++◌, map, length, take, drop, refl, sym, ap, ap₂, ◌∙◌, arith, subst, append_assoc}
+use Rattle.documents.proofs.Words.{true≢false, filter, Some, slice_range, All, list_any, eq_by_cmp, false_from_ne_true}
+use Rattle.documents.proofs.Words.{or_left, or_right, length-append, length-drop, length-map, length-take-le}
+use Rattle.documents.proofs.Words.{map-append, append-nil, drop_at, drop-drop, take_at, split_between, All-map}
+use Rattle.documents.proofs.Words.{All-tail, list_any-append, AreApart, Named, stands_map, AreTags, Tag, Tags, changed}
+use Rattle.documents.proofs.Words.{Cell, changed-same, map-changed, length-changed, map-map, AreBareRuns, IsBareRun}
+use Rattle.documents.proofs.Words.{slotted, with_slots, SlotRun, AreApart-head, AreApart-tail, KeyedCell, characters}
+use Rattle.documents.proofs.Words.{bare, with_key, Key, Keys, is_shared, key_cmp, key_pairs, keyed, keys_listed}
+use Rattle.documents.proofs.Words.{keys_of, seat_pair, set_key, tag_pair, AreSeats, AreDistinct, AreKeysOf, IsTagChange}
+use Rattle.documents.proofs.Words.{TellsTags, key_set, run_changes, slot_changes, untagged, TagChange}
+use Rattle.std.proofs.Common.{slice_get}
 use Rattle.std.specs.FinSet as set
-use Rattle.std.specs.List.{All, list_any}
-use Rattle.std.specs.Ordering.{eq_by_cmp}
-use Rattle.std.proofs.lemmas.Bool.{false_from_ne_true, or_left, or_right}
-use Rattle.std.proofs.lemmas.List.{length-append, length-drop, length-map, length-take-le, map-append}
-use Rattle.std.proofs.lemmas.List.{append-nil, drop_at, drop-drop, take_at}
-use Rattle.std.proofs.lemmas.List.Edits.{split_between}
-use Rattle.std.proofs.lemmas.List.Elements.{All-map, All-tail}
-use Rattle.std.proofs.lemmas.List.Folds.{list_any-append}
-use Rattle.name_list.specs.Names.{AreApart, Named, names_of}
-use Rattle.name_list.proofs.ListLaws.{stands_map}
-use Rattle.tag_table.specs.Tags.{AreTags, Tag, Tags, names_of as tag_names}
+use Rattle.name_list.specs.Names.{names_of}
+use Rattle.tag_table.specs.Tags.{names_of as tag_names}
 use Rattle.text_model.specs.Content as model
-use Rattle.text_model.specs.Splices.{changed}
-use Rattle.text_model.specs.declared.cells.Cell.{Cell}
-use Rattle.text_model.proofs.SpliceLaws.{changed-same, map-changed}
-use Rattle.text_model.proofs.SpliceLaws.{length-changed, map-map}
-use Rattle.edit_ops.specs.SlotRuns.{AreBareRuns, IsBareRun, slotted, with_slots}
-use Rattle.edit_ops.specs.declared.slot_runs.SlotRun.{SlotRun}
-use Rattle.command_effects.proofs.LeftLaws.{AreApart-head, AreApart-tail}
-use Rattle.documents.specs.Documents.{KeyedCell, characters}
-use Rattle.documents.specs.Edits.{bare, with_key}
-use Rattle.documents.specs.Keys.{Key, Keys, is_shared, key_cmp, key_pairs, keyed, keys_listed, keys_of}
-use Rattle.documents.specs.Keys.{seat_pair, set_key, tag_pair}
-use Rattle.documents.specs.Kept.{AreSeats}
-use Rattle.documents.specs.TagsTold.{AreDistinct, AreKeysOf, IsTagChange, TellsTags, key_set, run_changes, slot_changes}
-use Rattle.documents.specs.TagsTold.{untagged}
-use Rattle.documents.specs.declared.tag_lists.TagChange.{TagChange}
 use Rattle.documents.proofs.BridgeLaws.{contains-set_key, key_itself, key_tied, keys_of-empty, keys_same}
 use Rattle.documents.proofs.KeyLaws.{key_cmp_total}
 use Rattle.documents.proofs.KeyedLaws.{keyed_cell}

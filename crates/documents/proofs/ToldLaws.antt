@@ -1,64 +1,34 @@
 -- What is told of a command beforehand is what it makes of the text and of its tags.
-use Rattle.std.proofs.Common.{◌≡◌, ℕ, ◌+◌, ◌-◌, ◌<◌, ◌≤◌, ◌^◌, ◌==◌, ◌&&◌, not, true, false, List, [], ◌∷◌, Option, Some, None}
-use Rattle.std.proofs.Common.{map, length, take, drop, get_or, refl, sym, ap, ap₂, ◌∙◌, arith, subst, append_assoc, ◌++◌}
-use Rattle.std.proofs.Common.{Bool, IsSome, append-nil, slice_get, nat_le, nat_lt, slice_range, sum_by, if◌then◌else◌}
+use Rattle.documents.proofs.Words.{◌≡◌, ℕ, ◌+◌, ◌-◌, ◌<◌, ◌≤◌, ◌^◌, ◌==◌, ◌&&◌, not, true, false, List, [], ◌∷◌, Option}
+use Rattle.documents.proofs.Words.{Some, None, map, length, take, drop, get_or, refl, sym, ap, ap₂, ◌∙◌, arith, subst}
+use Rattle.documents.proofs.Words.{append_assoc, ◌++◌, Bool, IsSome, and_parts, eqb-true, false≢true, ltb-false}
+use Rattle.documents.proofs.Words.{ltb-true, drop_more, length-take-le, map-append, take-append-drop, sum_by-cons}
+use Rattle.documents.proofs.Words.{get_or_from_slice_get, option_and_then_some, slot_sets, Cell, AreLimits, LimitTable}
+use Rattle.documents.proofs.Words.{changed, inserted, removed, Place, length-removed, map-map, removed-append_left}
+use Rattle.documents.proofs.Words.{Action, EditKind, put_in, take_out, repeated, repeated_group, next_redo, next_undo}
+use Rattle.documents.proofs.Words.{Named, AreTags, Tags, shared_slots, delete_set, in_spans, runs_below, clipped}
+use Rattle.documents.proofs.Words.{replayed, replays, action_redone, group_redone, put_back, redo_end, taken_back}
+use Rattle.documents.proofs.Words.{undo_end, AreBareRuns, bare_cells, slotted, State, AreHunks, Tells, hunk_changes}
+use Rattle.documents.proofs.Words.{patched, patched_by, putting, taking, taking_out, SlotRun, Span, map-patched}
+use Rattle.documents.proofs.Words.{putting-append, removed_all, taking-is, back-cons, guarded-holds, redone-text, Pair}
+use Rattle.documents.proofs.Words.{total, Empty, NothingToRedo, NothingToUndo, TextTooLong, TooManyTags, delete_places}
+use Rattle.documents.proofs.Words.{delete_spans, deleted_runs, last_bare, replace_span, replaced, with_clipped}
+use Rattle.documents.proofs.Words.{Document, KeyedCell, Parts, Widget, characters, widget_at, bare, keys_between}
+use Rattle.documents.proofs.Words.{with_action, with_bare, with_texts, without_cells, without_span, without_spans}
+use Rattle.documents.proofs.Words.{action_again, action_back, edit_redo, edit_undo, group_again, group_back, redo_found}
+use Rattle.documents.proofs.Words.{redone, text_back, undo_found, undone, with_end, AreSeats, Stands, Key, key_pairs}
+use Rattle.documents.proofs.Words.{keyed, keys_listed, keys_of, Change, answered, refused, spans_shown, AreKeysOf}
+use Rattle.documents.proofs.Words.{TellsPairs, TellsTags, after_changes, run_changes, slot_changes, untagged, insert_at}
+use Rattle.documents.proofs.Words.{keyed_text, tags_with, within_limits, Foretells, TellsCells, is_idle, view_end}
+use Rattle.documents.proofs.Words.{view_start, TagChange, EditTold}
+use Rattle.std.proofs.Common.{append-nil, slice_get, nat_le, nat_lt, slice_range, sum_by, if◌then◌else◌}
 use Rattle.std.specs.FinSet as set
-use Rattle.std.proofs.lemmas.Bool.{and_parts, eqb-true, false≢true, ltb-false, ltb-true}
-use Rattle.std.proofs.lemmas.List.{drop_more, length-take-le, map-append, take-append-drop}
-use Rattle.std.proofs.lemmas.List.Sums.{sum_by-cons}
-use Rattle.std.proofs.lemmas.Option.{get_or_from_slice_get, option_and_then_some}
 use Rattle.text_model.specs.Content as model
-use Rattle.text_model.specs.Content.{slot_sets}
-use Rattle.text_model.specs.declared.cells.Cell.{Cell}
-use Rattle.text_model.specs.LimitTable.{AreLimits, LimitTable}
-use Rattle.text_model.specs.Splices.{changed, inserted, removed}
-use Rattle.text_model.specs.declared.places.Place.{Place}
-use Rattle.text_model.proofs.SpliceLaws.{length-removed, map-map, removed-append_left}
-use Rattle.undo_stack.specs.declared.actions.Action.{Action}
-use Rattle.undo_stack.specs.declared.actions.EditKind.{EditKind}
 use Rattle.undo_stack.specs.declared.actions.EditKind.TheVariants as kind
-use Rattle.undo_stack.specs.Fits.{put_in, take_out, repeated, repeated_group}
-use Rattle.undo_stack.specs.History.{next_redo, next_undo}
-use Rattle.name_list.specs.Names.{Named}
-use Rattle.tag_table.specs.Tags.{AreTags, Tags}
-use Rattle.text_cursor.specs.Around.{shared_slots}
 use Rattle.text_cursor.proofs.AroundLaws.{length-characters}
-use Rattle.edit_ops.specs.Deletions.{AreApart, delete_set, in_spans, runs_below}
-use Rattle.edit_ops.specs.Removals.{clipped}
-use Rattle.edit_ops.specs.Replays.{replayed, replays}
-use Rattle.edit_ops.specs.Reversals.{action_redone, group_redone, put_back, redo_end, taken_back, undo_end}
-use Rattle.edit_ops.specs.SlotRuns.{AreBareRuns, bare_cells, slotted}
-use Rattle.edit_ops.specs.States.{State}
-use Rattle.edit_ops.specs.Told.{AreHunks, Tells, hunk_changes, patched, patched_by, putting, taking, taking_out}
+use Rattle.edit_ops.specs.Deletions.{AreApart}
 use Rattle.edit_ops.specs.declared.hunks.Hunk.{Hunk}
-use Rattle.edit_ops.specs.declared.slot_runs.SlotRun.{SlotRun}
-use Rattle.edit_ops.specs.declared.spans.Span.{Span}
-use Rattle.edit_ops.proofs.HunkLaws.{map-patched, putting-append, removed_all, taking-is}
-use Rattle.edit_ops.proofs.ReplayLaws.{back-cons, guarded-holds}
-use Rattle.edit_ops.proofs.ReversalLaws.{redone-text}
 use Rattle.edit_ops.proofs.TellLaws.{hunks-made}
-use Rattle.command_effects.specs.Lists.{Pair, total}
-use Rattle.command_effects.specs.declared.answers.Answer.TheVariants.{Empty}
-use Rattle.command_effects.specs.declared.answers.Fault.TheVariants.{NothingToRedo, NothingToUndo, TextTooLong}
-use Rattle.command_effects.specs.declared.answers.Fault.TheVariants.{TooManyTags}
-use Rattle.documents.specs.Deletions.{delete_places, delete_spans, deleted_runs, last_bare, replace_span, replaced}
-use Rattle.documents.specs.Deletions.{with_clipped}
-use Rattle.documents.specs.Documents.{Document, KeyedCell, Parts, Widget, characters, widget_at}
-use Rattle.documents.specs.Edits.{bare, keys_between, with_action, with_bare, with_texts, without_cells, without_span}
-use Rattle.documents.specs.Edits.{without_spans}
-use Rattle.documents.specs.History.{action_again, action_back, edit_redo, edit_undo, group_again, group_back}
-use Rattle.documents.specs.History.{redo_found, redone, text_back, undo_found, undone, with_end}
-use Rattle.documents.specs.Kept.{AreSeats, Stands}
-use Rattle.documents.specs.Keys.{Key, key_pairs, keyed, keys_listed, keys_of}
-use Rattle.documents.specs.Promise.{Change, answered, refused}
-use Rattle.documents.specs.Ranges.{spans_shown}
-use Rattle.documents.specs.TagsTold.{AreKeysOf, TellsPairs, TellsTags, after_changes, run_changes}
-use Rattle.documents.specs.TagsTold.{slot_changes, untagged}
-use Rattle.documents.specs.Texts.{insert_at, keyed_text, tags_with, within_limits}
-use Rattle.documents.specs.Told.{Foretells, TellsCells}
-use Rattle.documents.specs.Views.{is_idle, view_end, view_start}
-use Rattle.documents.specs.declared.tag_lists.TagChange.{TagChange}
-use Rattle.documents.specs.declared.told.EditTold.{EditTold}
 use Rattle.documents.proofs.BridgeLaws.{keys_of-empty}
 use Rattle.documents.proofs.KeyListLaws.{listed-none}
 use Rattle.documents.proofs.KeyedLaws.{keyed-inserted, keyed-removed, keyed-shared, keyed_cell}

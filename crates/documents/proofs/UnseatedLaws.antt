@@ -1,30 +1,15 @@
 -- Widgets that go.
-use Rattle.std.proofs.Common.{◌≡◌, ◌≢◌, ℕ, suc, ◌+◌, ◌*◌, true, false, cond, not, filter, List, [], ◌∷◌, Some, length}
-use Rattle.std.proofs.Common.{map, refl, sym, ap, ap₂, subst, ◌∙◌, arith}
-use Rattle.std.specs.Prelude.{slice_get, nat_lt, is_some, unwrap_or}
+use Rattle.documents.proofs.Words.{◌≡◌, ◌≢◌, ℕ, suc, ◌+◌, ◌*◌, true, false, cond, not, filter, List, [], ◌∷◌, Some}
+use Rattle.documents.proofs.Words.{length, map, refl, sym, ap, ap₂, subst, ◌∙◌, arith, slice_get, nat_lt, is_some}
+use Rattle.documents.proofs.Words.{unwrap_or, All, AllByRecursion, length-map, map-id, Cell, Content, Marks, IsDocument}
+use Rattle.documents.proofs.Words.{MarksStand, LimitTable, with_slot, map-map, FitsText, Named, Names, AreMarks}
+use Rattle.documents.proofs.Words.{SharedMarks, AreAnchored, cell_without, new_mark, without_widget, without_widgets}
+use Rattle.documents.proofs.Words.{is_among, Document, Journal, Parts, Widget, document_of, mark_of, widget_of}
+use Rattle.documents.proofs.Words.{AreSeats, HasKnownSlots, HasOwnMarks, IsSeated, IsSound, Stands, is_window_name}
+use Rattle.documents.proofs.Words.{key_pairs, keyed, numbers_gone, seats_left, IsWellFormedDocument, is_kept}
 use Rattle.std.specs.FinMap as finite
-use Rattle.std.specs.List.{All, AllByRecursion}
-use Rattle.std.proofs.lemmas.List.{length-map, map-id}
-use Rattle.text_model.specs.declared.cells.Cell.{Cell}
 use Rattle.text_model.specs.Content as model
-use Rattle.text_model.specs.Content.{Content, Marks}
-use Rattle.text_model.specs.Documents.{IsDocument, MarksStand}
-use Rattle.text_model.specs.LimitTable.{LimitTable}
-use Rattle.text_model.specs.Steps.{with_slot}
-use Rattle.text_model.proofs.SpliceLaws.{map-map}
-use Rattle.undo_stack.specs.Fits.{FitsText}
-use Rattle.name_list.specs.Names.{Named, Names}
-use Rattle.mark_table.specs.SharedMarks.{AreMarks, SharedMarks}
-use Rattle.edit_ops.specs.Anchors.{AreAnchored}
-use Rattle.edit_ops.specs.Tagging.{cell_without}
-use Rattle.command_effects.specs.Edits.{new_mark, without_widget, without_widgets}
-use Rattle.command_effects.specs.Words.{is_among}
-use Rattle.documents.specs.Documents.{Document, Journal, Parts, Widget, document_of, mark_of, widget_of}
-use Rattle.documents.specs.Kept.{AreSeats, HasKnownSlots, HasOwnMarks, IsSeated, IsSound, Stands, is_window_name}
-use Rattle.documents.specs.Keys.{key_pairs, keyed, numbers_gone, seats_left}
-use Rattle.documents.specs.WellFormed.{IsWellFormedDocument}
 use Rattle.documents.specs.Widgets as widgets
-use Rattle.documents.specs.Widgets.{is_kept}
 use Rattle.documents.proofs.ClearedLaws.{AreSeats-left, gone-apart, gone-low, keyed-unseated, known-unseated}
 use Rattle.documents.proofs.ClearedLaws.{map-filter}
 use Rattle.documents.proofs.MarkLaws.{get-take_other, shared-number, stand-taken}

@@ -1,27 +1,17 @@
 -- What of a document one of its widgets shows.
-use Rattle.std.proofs.Common.{[], inl, inr, min, suc, zero, ◌≡◌, ℕ, ◌+◌, ◌-◌, ◌<◌, ◌≤◌, true, false, List, length, map}
-use Rattle.std.proofs.Common.{refl, sym, ap, ap₂, subst, ◌∙◌, arith, length-drop, drop, take, true≢false, ◌≢◌, eq-eqb}
-use Rattle.std.specs.Prelude.{Bool, slice_get, ◌||◌, ◌==◌, IfSome, None, Option, Some, get_or, slice_index_or}
-use Rattle.std.specs.Prelude.{slice_range, unwrap_or}
+use Rattle.documents.proofs.Words.{[], inl, inr, min, suc, zero, ◌≡◌, ℕ, ◌+◌, ◌-◌, ◌<◌, ◌≤◌, true, false, List, length}
+use Rattle.documents.proofs.Words.{map, refl, sym, ap, ap₂, subst, ◌∙◌, arith, drop, take, true≢false, ◌≢◌, eq-eqb}
+use Rattle.documents.proofs.Words.{slice_get, IfSome, slice_index_or, slice_range, unwrap_or, cases_lt, drop_all}
+use Rattle.documents.proofs.Words.{drop-drop, drop-take, get_or_default, length-map, length-take-le, take-take}
+use Rattle.documents.proofs.Words.{numbers_of, Cell, MOST_CHARS, Content, flags, IsLineStart, IsView, known_tags}
+use Rattle.documents.proofs.Words.{Anchors, is-start, text-end-begins, Document, KeyedCell, Parts, Widget, anchors_at}
+use Rattle.documents.proofs.Words.{whole, widget_at, Key, key_named, Stands, is_idle, shown, shown_flags, view_end}
+use Rattle.documents.proofs.Words.{view_start}
+use Rattle.std.proofs.Common.{length-drop}
+use Rattle.std.specs.Prelude.{Bool, ◌||◌, ◌==◌, None, Option, Some, get_or}
 use Rattle.std.specs.FinSet as set
-use Rattle.std.proofs.lemmas.Bool.{cases_lt}
-use Rattle.std.proofs.lemmas.List.{drop_all, drop-drop, drop-take, get_or_default, length-map, length-take-le}
-use Rattle.std.proofs.lemmas.List.{take-take}
-use Rattle.name_list.specs.Names.{numbers_of}
-use Rattle.text_model.specs.declared.cells.Cell.{Cell}
-use Rattle.text_model.specs.declared.limits.TheConstants.Limits.{MOST_CHARS}
 use Rattle.text_model.specs.Content as model
-use Rattle.text_model.specs.Content.{Content, flags}
-use Rattle.text_model.specs.Lines.{IsLineStart}
 use Rattle.text_index.specs.Views as view
-use Rattle.text_index.specs.Views.{IsView}
-use Rattle.index_grammar.specs.Names.{known_tags}
-use Rattle.edit_ops.specs.declared.anchors.Anchors.{Anchors}
-use Rattle.edit_ops.proofs.StartLaws.{is-start, text-end-begins}
-use Rattle.documents.specs.Documents.{Document, KeyedCell, Parts, Widget, anchors_at, whole, widget_at}
-use Rattle.documents.specs.Keys.{Key, key_named}
-use Rattle.documents.specs.Kept.{Stands}
-use Rattle.documents.specs.Views.{is_idle, shown, shown_flags, view_end, view_start}
 use Rattle.documents.proofs.KeyedLaws.{keyed-flags}
 use Rattle.documents.proofs.PartsLaws.{Sits, cells-kept, characters-kept, sits}
 

@@ -1,30 +1,19 @@
 -- A document that is kept soundly is well formed.
-use Rattle.std.proofs.Common.{◌≡◌, ℕ, suc, ◌+◌, ◌*◌, ◌≤◌, true, false, List, [], ◌∷◌, length, refl, sym, ap, subst, ◌∙◌}
-use Rattle.std.proofs.Common.{arith, inl, inr}
-use Rattle.std.proofs.lemmas.Bool.{false_from_ne_true}
-use Rattle.std.proofs.lemmas.List.{length-map}
-use Rattle.std.proofs.lemmas.Slice.Eq.{bytes_eq-Decides}
-use Rattle.std.specs.List.{IsDistinct, AllByRecursion}
-use Rattle.std.specs.Prelude.{◌&&◌, not, map, slice_get, if◌then◌else◌, None, Some, IfSome, unwrap_or}
+use Rattle.documents.proofs.Words.{◌≡◌, ℕ, suc, ◌+◌, ◌*◌, ◌≤◌, true, false, List, [], ◌∷◌, length, refl, sym, ap, subst}
+use Rattle.documents.proofs.Words.{◌∙◌, arith, inl, inr, false_from_ne_true, length-map, bytes_eq-Decides}
+use Rattle.documents.proofs.Words.{AllByRecursion, slice_get, if◌then◌else◌, IfSome, unwrap_or, Cell, IsDocument}
+use Rattle.documents.proofs.Words.{LimitTable, IsLineStart, AreApart, Named, Tag, Tags, AreTags, names_of, FitsText}
+use Rattle.documents.proofs.Words.{AreAnchored, is_same, is_among, AreApart-head, AreApart-tail, found_tag, Key, keyed}
+use Rattle.documents.proofs.Words.{Document, Parts, Widget, anchors_at, characters, document_of, whole, widget_of}
+use Rattle.documents.proofs.Words.{IsSeated, IsSound, is_window_name, belongs, HasItsKeys, IsPlaced}
+use Rattle.documents.proofs.Words.{IsWellFormedDocument, window_names}
+use Rattle.std.specs.List.{IsDistinct}
+use Rattle.std.specs.Prelude.{◌&&◌, not, map, None, Some}
 use Rattle.std.specs.FinMap as finite
-use Rattle.text_model.specs.declared.cells.Cell.{Cell}
 use Rattle.text_model.specs.Content as model
-use Rattle.text_model.specs.Documents.{IsDocument}
-use Rattle.text_model.specs.LimitTable.{LimitTable}
-use Rattle.text_model.specs.Lines.{IsLineStart}
-use Rattle.name_list.specs.Names.{AreApart, Named, names_of as names_of_seats}
+use Rattle.name_list.specs.Names.{names_of as names_of_seats}
 use Rattle.mark_table.specs.SharedMarks.{names_of as names_of_marks}
-use Rattle.tag_table.specs.Tags.{Tag, Tags, AreTags, names_of}
-use Rattle.undo_stack.specs.Fits.{FitsText}
-use Rattle.edit_ops.specs.Anchors.{AreAnchored}
-use Rattle.command_effects.specs.Words.{is_same, is_among}
-use Rattle.command_effects.proofs.LeftLaws.{AreApart-head, AreApart-tail}
-use Rattle.command_effects.proofs.MadeLaws.{found_tag}
-use Rattle.documents.specs.Keys.{Key, keyed}
-use Rattle.documents.specs.Documents.{Document, Parts, Widget, anchors_at, characters, document_of, sel, whole}
-use Rattle.documents.specs.Documents.{widget_of}
-use Rattle.documents.specs.Kept.{IsSeated, IsSound, is_window_name}
-use Rattle.documents.specs.WellFormed.{belongs, HasItsKeys, IsPlaced, IsWellFormedDocument, window_names}
+use Rattle.documents.specs.Documents.{sel}
 use Rattle.documents.proofs.BridgeLaws.{is_key_of, keys_of-belongs}
 use Rattle.documents.proofs.PlacedLaws.{offset-within, placed-length, placed-names, placed-within, placed-words}
 use Rattle.documents.proofs.PartsLaws.{characters-keyed, length-keyed, pairs_of}

@@ -1,33 +1,17 @@
 -- The options of a document and of its widgets, and widgets that come and go.
-use Rattle.std.proofs.Common.{◌≡◌, ◌≢◌, ℕ, zero, suc, ◌+◌, ◌-◌, ◌≤◌, true, false, cond, set, List, [], ◌∷◌, Ok, length}
-use Rattle.std.proofs.Common.{take, drop, get_or, refl, sym, ap, ap₂, subst, ◌∙◌, arith}
-use Rattle.std.specs.Prelude.{filter, not, option_map, slice_get, unwrap_or, IfSome, Option, None, Some, if◌then◌else◌}
-use Rattle.std.specs.List.{AllByRecursion}
-use Rattle.std.proofs.lemmas.List.{get_or_default, length-set, get_or-set_other}
-use Rattle.std.proofs.lemmas.Grind.{get_or-set_at}
-use Rattle.std.proofs.lemmas.List.Elements.{All-set}
-use Rattle.std.proofs.lemmas.Bool.Decides.{nat_tests}
+use Rattle.documents.proofs.Words.{◌≡◌, ◌≢◌, ℕ, zero, suc, ◌+◌, ◌-◌, ◌≤◌, true, false, cond, set, List, [], ◌∷◌, Ok}
+use Rattle.documents.proofs.Words.{length, take, drop, get_or, refl, sym, ap, ap₂, subst, ◌∙◌, arith, slice_get}
+use Rattle.documents.proofs.Words.{unwrap_or, IfSome, if◌then◌else◌, AllByRecursion, get_or_default, length-set}
+use Rattle.documents.proofs.Words.{get_or-set_other, get_or-set_at, All-set, nat_tests, IsLineStart, is_newline}
+use Rattle.documents.proofs.Words.{line_of, line_start, lines, LimitTable, FitsText, limit_of, Kept, log_of, Named}
+use Rattle.documents.proofs.Words.{AreAnchored, Anchors, is_same, Empty, history_under, is_behind, Settings, Document}
+use Rattle.documents.proofs.Words.{Journal, Parts, Widget, anchors_at, characters, document_of, whole, widget_at}
+use Rattle.documents.proofs.Words.{widget_of, IsSeated, Stands, answered, AreLines, IsLine, anchor_at, settings_of}
+use Rattle.documents.proofs.Words.{widget_set, with_settings, window_names}
+use Rattle.std.specs.Prelude.{filter, not, option_map, Option, None, Some}
 use Rattle.text_model.specs.Content as model
-use Rattle.text_model.specs.Lines.{IsLineStart, is_newline, line_of, line_start, lines}
-use Rattle.text_model.specs.LimitTable.{LimitTable}
 use Rattle.text_model.proofs.LineLaws.{line_start-le, lines-append, lines-cons, lines-le-length}
-use Rattle.undo_stack.specs.Fits.{FitsText}
-use Rattle.undo_stack.specs.History.{limit_of}
-use Rattle.undo_stack.specs.Rings.{Kept}
-use Rattle.edit_ops.specs.States.{log_of}
-use Rattle.name_list.specs.Names.{Named, names_of}
-use Rattle.edit_ops.specs.Anchors.{AreAnchored}
-use Rattle.edit_ops.specs.declared.anchors.Anchors.{Anchors}
-use Rattle.command_effects.specs.Words.{is_same}
-use Rattle.command_effects.specs.declared.answers.Answer.TheVariants.{Empty}
-use Rattle.command_effects.specs.Settings.{history_under, is_behind}
-use Rattle.command_effects.specs.declared.settings.Settings.{Settings}
-use Rattle.documents.specs.Documents.{Document, Journal, Parts, Widget, anchors_at, characters, document_of, whole}
-use Rattle.documents.specs.Documents.{widget_at, widget_of}
-use Rattle.documents.specs.Kept.{IsSeated, Stands}
-use Rattle.documents.specs.Promise.{answered}
-use Rattle.documents.specs.Options.{AreLines, IsLine, anchor_at, settings_of, widget_set, with_settings}
-use Rattle.documents.specs.WellFormed.{window_names}
+use Rattle.name_list.specs.Names.{names_of}
 use Rattle.documents.proofs.ChangeLaws.{Leaves, does-changed}
 use Rattle.documents.proofs.JournalLaws.{fits-under, orderly-under, with_kept}
 use Rattle.documents.proofs.MarkLaws.{slot-there, widgets-put}

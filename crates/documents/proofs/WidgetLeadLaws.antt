@@ -1,29 +1,11 @@
 -- Each edit that a command of a widget may make leaves what the document leads back to.
-use Rattle.std.proofs.Common.{◌≡◌, ℕ, ◌+◌, ◌-◌, ◌≤◌, true, false, List, [], ◌∷◌, ◌++◌, Option, Some, None, length, refl}
-use Rattle.std.proofs.Common.{arith, nat_le, nat_lt, if◌then◌else◌}
-use Rattle.std.specs.List.{All, AllByRecursion}
-use Rattle.std.proofs.lemmas.List.{length-map}
-use Rattle.text_model.specs.LimitTable.{LimitTable}
-use Rattle.text_model.specs.declared.places.Gravity.TheVariants.{Right}
-use Rattle.text_model.specs.declared.places.Place.{Place}
-use Rattle.edit_ops.specs.Anchors.{AreAnchored}
-use Rattle.edit_ops.specs.Tagging.{SpanFits}
-use Rattle.edit_ops.specs.declared.spans.Span.{Span}
-use Rattle.command_effects.specs.declared.answers.Answer.TheVariants.{Empty}
-use Rattle.command_effects.specs.declared.answers.Fault.TheVariants.{TooManyMarks, TooManyTags}
-use Rattle.command_effects.specs.Lists.{with_name}
-use Rattle.command_effects.specs.Ranges.{spans_of}
-use Rattle.command_effects.specs.Words.{is_among}
-use Rattle.command_effects.proofs.PairLaws.{spans_of-fit}
-use Rattle.documents.specs.Documents.{Document, Widget, KeyedCell, characters}
-use Rattle.documents.specs.Edits.{with_tag}
-use Rattle.documents.specs.Marks.{set_found}
-use Rattle.documents.specs.Names.{key_of}
-use Rattle.documents.specs.Promise.{answered, refused}
-use Rattle.documents.specs.Ranges.{spans_shown}
-use Rattle.documents.specs.Tags.{add_spans, remove_spans}
-use Rattle.documents.specs.Texts.{insertion_offset}
-use Rattle.documents.specs.Views.{shown, view_end, view_start}
+use Rattle.documents.proofs.Words.{◌≡◌, ℕ, ◌+◌, ◌-◌, ◌≤◌, true, false, List, [], ◌∷◌, ◌++◌, Option, Some, None, length}
+use Rattle.documents.proofs.Words.{refl, arith, All, AllByRecursion, length-map, LimitTable, Right, Place, AreAnchored}
+use Rattle.documents.proofs.Words.{SpanFits, Span, Empty, TooManyMarks, TooManyTags, with_name, spans_of, is_among}
+use Rattle.documents.proofs.Words.{spans_of-fit, Document, Widget, KeyedCell, characters, with_tag, set_found, key_of}
+use Rattle.documents.proofs.Words.{answered, refused, spans_shown, add_spans, remove_spans, insertion_offset, shown}
+use Rattle.documents.proofs.Words.{view_end, view_start}
+use Rattle.std.proofs.Common.{nat_le, nat_lt, if◌then◌else◌}
 use Rattle.documents.proofs.EditLeadLaws.{IsActive, active, leads-deleted, leads-inserted, leads-redo, leads-replaced}
 use Rattle.documents.proofs.EditLeadLaws.{leads-undo, offset-inside}
 use Rattle.documents.proofs.LeadLaws.{Leads, anchors_of}

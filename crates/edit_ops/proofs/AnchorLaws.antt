@@ -1,13 +1,8 @@
 -- A loop that moves the anchors of each widget.
-use Rattle.std.proofs.Common.{◌≡◌, ℕ, ◌+◌, ◌<◌, List, ◌++◌, map, length, get_or, set, take, drop, sym, subst, ap, ◌∙◌}
-use Rattle.std.proofs.Common.{arith}
-use Rattle.std.specs.List.{All}
+use Rattle.edit_ops.proofs.Words.{◌≡◌, ℕ, ◌+◌, ◌<◌, List, ◌++◌, map, length, get_or, set, take, drop, sym, subst, ap}
+use Rattle.edit_ops.proofs.Words.{◌∙◌, arith, All, get_or_default, All-get_or, Anchors, AnchorsStand}
 use Rattle.std.proofs.lemmas.Grind.{common_steps}
-use Rattle.std.proofs.lemmas.List.{get_or_default}
 use Rattle.std.proofs.lemmas.List.Edits.{map_over_more}
-use Rattle.std.proofs.lemmas.List.Elements.{All-get_or}
-use Rattle.edit_ops.specs.declared.anchors.Anchors.{Anchors}
-use Rattle.edit_ops.specs.Anchors.{AnchorsStand}
 
 -- what is still to be moved stands as it did
 later_same : (f : Anchors → Anchors) (old now : List Anchors) (i : ℕ) (d : Anchors) → i < length old →

@@ -1,40 +1,20 @@
 -- The anchors of each widget go on standing where lines start, through each edit.
-use Rattle.std.proofs.Common.{◌≡◌, ℕ, ◌+◌, ◌-◌, ◌<◌, ◌≤◌, ◌==◌, ◌&&◌, Bool, true, false, List, [], ◌∷◌, Option, Some}
-use Rattle.std.proofs.Common.{None, map, length, refl, sym, ap, ◌∙◌, arith, subst}
-use Rattle.std.specs.Prelude.{slice_range, bytes_eq, nat_lt, nat_le, min, if◌then◌else◌, option_and_then}
+use Rattle.edit_ops.proofs.Words.{◌≡◌, ℕ, ◌+◌, ◌-◌, ◌<◌, ◌≤◌, ◌==◌, ◌&&◌, Bool, true, false, List, [], ◌∷◌, Option}
+use Rattle.edit_ops.proofs.Words.{Some, None, map, length, refl, sym, ap, ◌∙◌, arith, subst, slice_range, bytes_eq}
+use Rattle.edit_ops.proofs.Words.{nat_lt, nat_le, min, if◌then◌else◌, option_and_then, All, eqb-true, ltb-true}
+use Rattle.edit_ops.proofs.Words.{and_parts, option_and_then_some, Cell, ClearTags, Place, Content, Slots, characters}
+use Rattle.edit_ops.proofs.Words.{ends_in_newline, inserted, removed, cells_of, after_step, after_insertion}
+use Rattle.edit_ops.proofs.Words.{after_removal, without_slots, length-cells_inserted, length-removed, length-changed}
+use Rattle.edit_ops.proofs.Words.{map-inserted, map-removed, map-changed, changed-same, length-inserted, shared_slots}
+use Rattle.edit_ops.proofs.Words.{characters-of, length-characters, Action, EditKind, Replace, Delete, put_in, take_out}
+use Rattle.edit_ops.proofs.Words.{repeated, reverted, repeated_group, reverted_group, next_undo, next_redo, undo-goes}
+use Rattle.edit_ops.proofs.Words.{redo-goes, Anchors, SlottedText, Recording, Span, AreAnchored, anchors_moved}
+use Rattle.edit_ops.proofs.Words.{anchors_removed, in_spans, delete_set, runs_below, AreApart, removed_spans, deleted}
+use Rattle.edit_ops.proofs.Words.{slots_or, inserted_text, inserted_texts, total, IsAnchored, IsKept, removed_span}
+use Rattle.edit_ops.proofs.Words.{clipped, with_mark, replaced, put_back, taken_back, action_redone, action_undone}
+use Rattle.edit_ops.proofs.Words.{group_redone, group_undone, undone_group, redone_group, undone, redone, State}
+use Rattle.edit_ops.proofs.Words.{log_noted}
 use Rattle.std.specs.FinMap as finite
-use Rattle.std.specs.List.{All}
-use Rattle.std.proofs.lemmas.Bool.{eqb-true, ltb-true, and_parts}
-use Rattle.std.proofs.lemmas.Option.{option_and_then_some}
-use Rattle.text_model.specs.declared.cells.Cell.{Cell}
-use Rattle.text_model.specs.declared.edits.Step.TheVariants.{ClearTags}
-use Rattle.text_model.specs.declared.places.Place.{Place}
-use Rattle.text_model.specs.Content.{Content, Slots, characters}
-use Rattle.text_model.specs.Documents.{ends_in_newline}
-use Rattle.text_model.specs.Splices.{inserted, removed}
-use Rattle.text_model.specs.Steps.{cells_of, after_step, after_insertion, after_removal, without_slots}
-use Rattle.text_model.proofs.SpliceLaws.{length-cells_inserted, length-removed, length-changed, map-inserted}
-use Rattle.text_model.proofs.SpliceLaws.{map-removed, map-changed, changed-same, length-inserted}
-use Rattle.text_cursor.specs.Around.{shared_slots}
-use Rattle.text_cursor.proofs.AroundLaws.{characters-of, length-characters}
-use Rattle.undo_stack.specs.declared.actions.Action.{Action}
-use Rattle.undo_stack.specs.declared.actions.EditKind.{EditKind}
-use Rattle.undo_stack.specs.declared.actions.EditKind.TheVariants.{Replace, Delete}
-use Rattle.undo_stack.specs.Fits.{put_in, take_out, repeated, reverted, repeated_group, reverted_group}
-use Rattle.undo_stack.specs.History.{next_undo, next_redo}
-use Rattle.undo_stack.proofs.FitsLaws.{undo-goes, redo-goes}
-use Rattle.edit_ops.specs.declared.anchors.Anchors.{Anchors}
-use Rattle.edit_ops.specs.declared.slotted_texts.SlottedText.{SlottedText}
-use Rattle.edit_ops.specs.declared.plans.Recording.{Recording}
-use Rattle.edit_ops.specs.declared.spans.Span.{Span}
-use Rattle.edit_ops.specs.Anchors.{AreAnchored, anchors_moved, anchors_removed}
-use Rattle.edit_ops.specs.Deletions.{in_spans, delete_set, runs_below, AreApart, removed_spans, deleted}
-use Rattle.edit_ops.specs.Insertions.{slots_or, inserted_text, inserted_texts, total}
-use Rattle.edit_ops.specs.Keeping.{IsAnchored, IsKept}
-use Rattle.edit_ops.specs.Removals.{removed_span, clipped, with_mark, replaced}
-use Rattle.edit_ops.specs.Reversals.{put_back, taken_back, action_redone, action_undone, group_redone, group_undone}
-use Rattle.edit_ops.specs.Reversals.{undone_group, redone_group, undone, redone}
-use Rattle.edit_ops.specs.States.{State, log_noted}
 use Rattle.edit_ops.proofs.AnchoredLaws.{all-moved, all-removed}
 use Rattle.edit_ops.proofs.KeepLaws.{deleted-runs}
 use Rattle.edit_ops.proofs.ReplayLaws.{guarded-holds}

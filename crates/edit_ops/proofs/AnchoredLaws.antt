@@ -1,19 +1,11 @@
 -- Anchors go on standing where lines start.
-use Rattle.std.proofs.Common.{◌≡◌, ℕ, ◌+◌, ◌-◌, ◌<◌, ◌≤◌, ◌==◌, ◌&&◌, true, false, List, Option, Some, None, map}
-use Rattle.std.proofs.Common.{length, get_or, refl, sym, arith, subst}
-use Rattle.std.specs.Prelude.{IfSome, option_map, unwrap_or, not, nat_le, nat_lt, if◌then◌else◌}
-use Rattle.std.specs.List.{All}
-use Rattle.std.proofs.lemmas.Bool.{ltb-true, ltb-false, leb-true, leb-false, eqb-true}
-use Rattle.std.proofs.lemmas.Bool.Decides.{nat_tests}
-use Rattle.std.proofs.lemmas.List.Elements.{All-map}
-use Rattle.text_model.specs.Lines.{IsLineStart, line_of, line_start}
-use Rattle.text_model.specs.Splices.{inserted, removed}
-use Rattle.text_model.proofs.SpliceLaws.{length-inserted, length-removed}
-use Rattle.text_cursor.specs.Around.{next_line}
-use Rattle.text_cursor.proofs.AroundLaws.{line-before, next_line-removed}
-use Rattle.edit_ops.specs.declared.anchors.Anchors.{Anchors}
-use Rattle.edit_ops.specs.Anchors.{AnchorsStand, AreAnchored, anchor_moved, anchors_moved, start_drawn, end_drawn}
-use Rattle.edit_ops.specs.Anchors.{anchors_removed}
+use Rattle.edit_ops.proofs.Words.{◌≡◌, ℕ, ◌+◌, ◌-◌, ◌<◌, ◌≤◌, ◌==◌, ◌&&◌, true, false, List, Option, Some, None, map}
+use Rattle.edit_ops.proofs.Words.{length, get_or, refl, sym, arith, subst, IfSome, option_map, unwrap_or, not, nat_le}
+use Rattle.edit_ops.proofs.Words.{nat_lt, if◌then◌else◌, All, ltb-true, ltb-false, leb-true, leb-false, eqb-true}
+use Rattle.edit_ops.proofs.Words.{nat_tests, All-map, IsLineStart, line_of, line_start, inserted, removed}
+use Rattle.edit_ops.proofs.Words.{length-inserted, length-removed, next_line, line-before, next_line-removed, Anchors}
+use Rattle.edit_ops.proofs.Words.{AnchorsStand, AreAnchored, anchor_moved, anchors_moved, start_drawn, end_drawn}
+use Rattle.edit_ops.proofs.Words.{anchors_removed}
 use Rattle.edit_ops.proofs.StartLaws.{Begins, begun, is-start, inserted-before, inserted-behind, removed-before}
 use Rattle.edit_ops.proofs.StartLaws.{removed-behind, line-begins, next-begins}
 

@@ -1,20 +1,11 @@
 -- What it does to tag spans depends on the offsets that lie in them alone.
-use Rattle.std.proofs.Common.{◌≡◌, ℕ, ◌+◌, ◌==◌, ◌||◌, Bool, true, false, cond, List, [], ◌∷◌}
-use Rattle.std.proofs.Common.{length, refl, sym, ap, ◌∙◌, arith, subst}
-use Rattle.std.specs.Prelude.{reverse}
-use Rattle.std.specs.Cmp.{nat_cmp_total}
+use Rattle.edit_ops.proofs.Words.{◌≡◌, ℕ, ◌+◌, ◌==◌, ◌||◌, Bool, true, false, cond, List, [], ◌∷◌, length, refl, sym}
+use Rattle.edit_ops.proofs.Words.{ap, ◌∙◌, arith, subst, reverse, nat_cmp_total, All, All-head, All-tail, All-push}
+use Rattle.edit_ops.proofs.Words.{Cell, Content, Slots, changed, set_slot, with_slot, Span, in_spans, AreApart}
+use Rattle.edit_ops.proofs.Words.{SpanFits, tagged}
 use Rattle.std.specs.FinSet as set
-use Rattle.std.specs.List.{All}
 use mathlib.Core.List.{reverse-cons}
-use Rattle.std.proofs.lemmas.List.Elements.{All-head, All-tail, All-push}
-use Rattle.text_model.specs.declared.cells.Cell.{Cell}
-use Rattle.text_model.specs.Content.{Content, Slots}
-use Rattle.text_model.specs.Splices.{changed}
-use Rattle.text_model.specs.Steps.{set_slot, with_slot}
 use Rattle.text_model.proofs.CellLaws.{contains-set_slot}
-use Rattle.edit_ops.specs.declared.spans.Span.{Span}
-use Rattle.edit_ops.specs.Deletions.{in_spans, AreApart}
-use Rattle.edit_ops.specs.Tagging.{SpanFits, tagged}
 use Rattle.edit_ops.proofs.PaintLaws.{apart-fit, painted, painted-same}
 use Rattle.edit_ops.proofs.RunLaws.{in-append, inside}
 

@@ -1,26 +1,13 @@
 -- Actions are made in a text on the way by a cursor alone.
-use Rattle.std.proofs.Common.{◌≡◌, ℕ, ◌+◌, ◌-◌, ◌<◌, ◌≤◌, ◌&&◌, Bool, true, false, List, [], ◌∷◌, Option, Some, None}
-use Rattle.std.proofs.Common.{length, refl, sym, ap, ap₂, ◌∙◌, arith, subst}
-use Rattle.std.specs.Prelude.{slice_range, bytes_eq, nat_lt, nat_le, option_and_then, IsSome, if◌then◌else◌}
-use Rattle.std.specs.List.{All}
-use Rattle.std.proofs.lemmas.Bool.{false≢true, leb-true, ltb-true, and_parts}
-use Rattle.text_model.specs.declared.cells.Cell.{Cell}
-use Rattle.text_model.specs.Content.{Content, Slots, characters}
-use Rattle.text_model.specs.Splices.{inserted, removed}
-use Rattle.text_model.specs.Steps.{cells_of}
-use Rattle.text_model.proofs.SpliceLaws.{map-inserted, map-removed}
-use Rattle.text_cursor.specs.declared.cursors.Cursor.{Cursor}
-use Rattle.text_cursor.specs.declared.parts.Part.{Part}
-use Rattle.text_cursor.specs.Around.{shared_slots}
-use Rattle.text_cursor.specs.Cursors.{cursor_cells, front_cells, Moves, PartFits, Takes, Puts}
-use Rattle.text_cursor.specs.Parts.{parts_len}
-use Rattle.text_cursor.proofs.AroundLaws.{characters-of, length-characters}
-use Rattle.text_cursor.proofs.CursorLaws.{front-length, whole-is}
-use Rattle.undo_stack.specs.declared.actions.Action.{Action}
-use Rattle.undo_stack.specs.Fits.{put_in, take_out, repeated, repeated_group}
-use Rattle.edit_ops.specs.Replays.{cursor_text, IsCursorOf, MakesCells}
-use Rattle.edit_ops.specs.Reversals.{action_redone, group_redone, put_back, taken_back}
-use Rattle.edit_ops.specs.States.{State}
+use Rattle.edit_ops.proofs.Words.{◌≡◌, ℕ, ◌+◌, ◌-◌, ◌<◌, ◌≤◌, ◌&&◌, Bool, true, false, List, [], ◌∷◌, Option, Some}
+use Rattle.edit_ops.proofs.Words.{None, length, refl, sym, ap, ap₂, ◌∙◌, arith, subst, slice_range, bytes_eq, nat_lt}
+use Rattle.edit_ops.proofs.Words.{nat_le, option_and_then, IsSome, if◌then◌else◌, All, false≢true, leb-true, ltb-true}
+use Rattle.edit_ops.proofs.Words.{and_parts, Cell, Content, Slots, characters, inserted, removed, cells_of}
+use Rattle.edit_ops.proofs.Words.{map-inserted, map-removed, Cursor, Part, shared_slots, cursor_cells, front_cells}
+use Rattle.edit_ops.proofs.Words.{Moves, PartFits, Takes, Puts, parts_len, characters-of, length-characters}
+use Rattle.edit_ops.proofs.Words.{front-length, whole-is, Action, put_in, take_out, repeated, repeated_group}
+use Rattle.edit_ops.proofs.Words.{cursor_text, IsCursorOf, MakesCells, action_redone, group_redone, put_back}
+use Rattle.edit_ops.proofs.Words.{taken_back, State}
 
 -- how long the text is
 pub cursor_text-length : (content : Content) (cursor : Cursor) → IsCursorOf content cursor →

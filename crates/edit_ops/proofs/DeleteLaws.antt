@@ -1,36 +1,18 @@
 -- Spans are taken out of a text, the last first.
-use Rattle.std.proofs.Common.{◌≡◌, ℕ, zero, suc, ◌+◌, ◌-◌, ◌<◌, ◌≤◌, Bool, true, false, inl, inr, List, [], ◌∷◌, ◌++◌}
-use Rattle.std.proofs.Common.{map, length, take, drop, refl, sym, ap, ap₂, ◌∙◌, arith, subst, ne_eqb, length-take}
+use Rattle.edit_ops.proofs.Words.{◌≡◌, ℕ, zero, suc, ◌+◌, ◌-◌, ◌<◌, ◌≤◌, Bool, true, false, inl, inr, List, [], ◌∷◌}
+use Rattle.edit_ops.proofs.Words.{◌++◌, map, length, take, drop, refl, sym, ap, ap₂, ◌∙◌, arith, subst, ne_eqb}
+use Rattle.edit_ops.proofs.Words.{length-take, nat_le, slice_range, if◌then◌else◌, le-leb, lt-leb, cases_lt, length-map}
+use Rattle.edit_ops.proofs.Words.{drop-take, drop_split, drop_of_length-le, Cell, Step, Remove, ClearTags, Content}
+use Rattle.edit_ops.proofs.Words.{characters, line_of, line_start, removed, Fits, after, after_step, after_removal}
+use Rattle.edit_ops.proofs.Words.{without_slots, length-removed, map-removed, take-removed, drop-removed, map-changed}
+use Rattle.edit_ops.proofs.Words.{changed-same, Fits-append, after-append, EditKind, Delete, Anchors, Recording, Span}
+use Rattle.edit_ops.proofs.Words.{next_line, anchors_drawn, in_spans, delete_set, runs_below, AreApart, removed_spans}
+use Rattle.edit_ops.proofs.Words.{deleted, removed_span, State, Outline, Log, log_noted, all_noted, outlineed, state_of}
+use Rattle.edit_ops.proofs.Words.{length-characters, line-front, next-within, next-behind, no-next, next_line-is}
+use Rattle.edit_ops.proofs.Words.{next_line-removed}
 use Rattle.std.proofs.Common.{length-drop}
-use Rattle.std.specs.Prelude.{nat_le, slice_range, if◌then◌else◌}
-use Rattle.std.proofs.lemmas.Bool.{le-leb, lt-leb, cases_lt}
-use Rattle.std.proofs.lemmas.List.{length-map, drop-take}
-use Rattle.std.proofs.lemmas.List.Folds.{drop_split}
-use Rattle.std.proofs.Math.ListN.{drop_of_length-le}
-use Rattle.text_model.specs.declared.cells.Cell.{Cell}
-use Rattle.text_model.specs.declared.edits.Step.{Step}
-use Rattle.text_model.specs.declared.edits.Step.TheVariants.{Remove, ClearTags}
-use Rattle.text_model.specs.Content.{Content, characters}
-use Rattle.text_model.specs.Lines.{line_of, line_start}
-use Rattle.text_model.specs.Splices.{removed}
-use Rattle.text_model.specs.Steps.{Fits, after, after_step, after_removal, without_slots}
-use Rattle.text_model.proofs.SpliceLaws.{length-removed, map-removed, take-removed, drop-removed, map-changed}
-use Rattle.text_model.proofs.SpliceLaws.{changed-same}
-use Rattle.text_model.proofs.StepLaws.{Fits-append, after-append}
-use Rattle.undo_stack.specs.declared.actions.EditKind.{EditKind}
-use Rattle.undo_stack.specs.declared.actions.EditKind.TheVariants.{Delete}
-use Rattle.edit_ops.specs.declared.anchors.Anchors.{Anchors}
-use Rattle.edit_ops.specs.declared.plans.Recording.{Recording}
-use Rattle.edit_ops.specs.declared.spans.Span.{Span}
-use Rattle.text_cursor.specs.Around.{next_line}
-use Rattle.edit_ops.specs.Anchors.{anchors_drawn}
-use Rattle.edit_ops.specs.Deletions.{in_spans, delete_set, runs_below, AreApart, removed_spans, deleted}
-use Rattle.edit_ops.specs.Removals.{removed_span}
-use Rattle.edit_ops.specs.States.{State, Outline, Log, log_noted, all_noted, outlineed, state_of}
 use Rattle.edit_ops.proofs.InsertLaws.{noted-alike, noted-append}
 use Rattle.edit_ops.proofs.RunLaws.{runs-are, apart-wider}
-use Rattle.text_cursor.proofs.AroundLaws.{length-characters, line-front, next-within, next-behind, no-next}
-use Rattle.text_cursor.proofs.AroundLaws.{next_line-is, next_line-removed}
 
 take-shorter : (n border : ℕ) (xs : List ℕ) → n ≤ border → take n (take border xs) ≡ take n xs
 take-shorter zero border xs within = refl

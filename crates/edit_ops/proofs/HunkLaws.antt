@@ -1,19 +1,12 @@
 -- What hunks make of an old text.
-use Rattle.std.proofs.Common.{◌≡◌, ◌≢◌, ℕ, Bool, ◌+◌, ◌-◌, ◌<◌, ◌≤◌, true, false, List, [], ◌∷◌, ◌++◌, length, take, drop, map}
-use Rattle.std.proofs.Common.{refl, sym, ap, ap₂, ◌∙◌, arith, append-nil, append_assoc, length-append, length-take}
-use Rattle.std.proofs.Common.{subst}
-use Rattle.std.specs.Prelude.{nat_lt, reverse, slice_range, if◌then◌else◌}
-use Rattle.std.proofs.lemmas.Bool.{lt-ltb, ltb-true, ltb-false}
-use Rattle.std.proofs.lemmas.List.{drop-append-le, drop_at, drop-map, drop-take, map-append, nil_from_length, take_at}
-use Rattle.std.proofs.lemmas.List.{reverse-append}
-use Rattle.std.proofs.lemmas.List.Folds.{drop_split}
-use Rattle.text_model.specs.Splices.{inserted, removed}
-use Rattle.text_model.proofs.SpliceLaws.{length-removed, map-slice_range, take-removed}
-use Rattle.text_cursor.proofs.CursorLaws.{slice-join}
-use Rattle.edit_ops.specs.Deletions.{AreApart}
-use Rattle.edit_ops.specs.Told.{AreHunks, patched_by, putting, taking, taking_out}
-use Rattle.edit_ops.specs.declared.hunks.Hunk.{Hunk}
-use Rattle.edit_ops.specs.declared.spans.Span.{Span}
+use Rattle.edit_ops.proofs.Words.{◌≡◌, ◌≢◌, ℕ, Bool, ◌+◌, ◌-◌, ◌<◌, ◌≤◌, true, false, List, [], ◌∷◌, ◌++◌, length, take}
+use Rattle.edit_ops.proofs.Words.{drop, map, refl, sym, ap, ap₂, ◌∙◌, arith, append-nil, length-append, length-take}
+use Rattle.edit_ops.proofs.Words.{subst, nat_lt, reverse, slice_range, if◌then◌else◌, lt-ltb, ltb-true, ltb-false}
+use Rattle.edit_ops.proofs.Words.{drop-append-le, drop_at, drop-map, drop-take, map-append, nil_from_length, take_at}
+use Rattle.edit_ops.proofs.Words.{reverse-append, drop_split, inserted, removed, length-removed, map-slice_range}
+use Rattle.edit_ops.proofs.Words.{take-removed, slice-join, AreApart, AreHunks, patched_by, putting, taking, taking_out}
+use Rattle.edit_ops.proofs.Words.{Hunk, Span}
+use Rattle.std.proofs.Common.{append_assoc}
 use Rattle.edit_ops.proofs.TellLaws.{hunks-within}
 
 -- ---- parts of a list

@@ -1,40 +1,20 @@
 -- One text more is put in.
-use Rattle.std.proofs.Common.{◌≡◌, ℕ, zero, suc, ◌+◌, ◌-◌, ◌^◌, ◌<◌, ◌≤◌, Bool, true, false, List, [], ◌∷◌, ◌++◌, Option}
-use Rattle.std.proofs.Common.{Some, None, ◌==◌, ◌&&◌, map, length, get_or, refl, sym, ap, ap₂, ◌∙◌, arith, ne_eqb, eq-eqb, subst}
-use Rattle.std.specs.Prelude.{slice_get, IfSome, option_map, nat_lt, ◌||◌, if◌then◌else◌, encode_utf8_all}
-use Rattle.std.specs.Cmp.{nat_cmp_total}
+use Rattle.edit_ops.proofs.Words.{◌≡◌, ℕ, zero, suc, ◌+◌, ◌-◌, ◌^◌, ◌<◌, ◌≤◌, Bool, true, false, List, [], ◌∷◌, ◌++◌}
+use Rattle.edit_ops.proofs.Words.{Option, Some, None, ◌==◌, ◌&&◌, map, length, get_or, refl, sym, ap, ap₂, ◌∙◌, arith}
+use Rattle.edit_ops.proofs.Words.{ne_eqb, eq-eqb, subst, slice_get, IfSome, option_map, nat_lt, if◌then◌else◌}
+use Rattle.edit_ops.proofs.Words.{encode_utf8_all, nat_cmp_total, is_none, All, nat_tests, length-map, get_or-map}
+use Rattle.edit_ops.proofs.Words.{get_or_from_slice_get, length-le-encodes, sum_by-cons, All-map, Cell, Insert, Content}
+use Rattle.edit_ops.proofs.Words.{Slots, slot_sets, slots_left_of, inserted, cells_of, Fits, after, after_insertion}
+use Rattle.edit_ops.proofs.Words.{length-cells_inserted, map-inserted, map-map, get_or-inserted_within}
+use Rattle.edit_ops.proofs.Words.{get_or-inserted_behind, Fits-append, after-append, noted, counted_new, Action}
+use Rattle.edit_ops.proofs.Words.{EditKind, Anchors, SlottedText, Recording, AnchorsStand, anchor_moved, anchors_moved}
+use Rattle.edit_ops.proofs.Words.{shared_slots, slots_around, length-slot_sets, slots_or, inserted_text, inserted_texts}
+use Rattle.edit_ops.proofs.Words.{total, total_bytes, needs_shared, IsBetween, State, Log, Outline, log_noted}
+use Rattle.edit_ops.proofs.Words.{all_noted, outlineed, state_of}
+use Rattle.std.specs.Prelude.{◌||◌}
 use Rattle.std.specs.FinSet as set
-use Rattle.std.specs.Option.{is_none}
-use Rattle.std.specs.List.{All}
 use Rattle.std.specs.Ordering.{nat_cmp}
-use Rattle.std.proofs.lemmas.Bool.Decides.{nat_tests}
-use Rattle.std.proofs.lemmas.List.{length-map, get_or-map}
-use Rattle.std.proofs.lemmas.Option.{get_or_from_slice_get}
-use Rattle.std.proofs.lemmas.Str.{length-le-encodes}
-use Rattle.std.proofs.lemmas.List.Sums.{sum_by-cons}
 use Rattle.std.proofs.Math.Bool.{or-true}
-use Rattle.std.proofs.lemmas.List.Elements.{All-map}
-use Rattle.text_model.specs.declared.cells.Cell.{Cell}
-use Rattle.text_model.specs.declared.edits.Step.TheVariants.{Insert}
-use Rattle.text_model.specs.Content.{Content, Slots, slot_sets, slots_left_of}
-use Rattle.text_model.specs.Splices.{inserted}
-use Rattle.text_model.specs.Steps.{cells_of, Fits, after, after_insertion}
-use Rattle.text_model.proofs.SpliceLaws.{length-cells_inserted, map-inserted, map-map, get_or-inserted_within}
-use Rattle.text_model.proofs.SpliceLaws.{get_or-inserted_behind}
-use Rattle.text_model.proofs.StepLaws.{Fits-append, after-append}
-use Rattle.undo_stack.specs.History.{noted}
-use Rattle.undo_stack.specs.Modified.{counted_new}
-use Rattle.undo_stack.specs.declared.actions.Action.{Action}
-use Rattle.undo_stack.specs.declared.actions.EditKind.{EditKind}
-use Rattle.edit_ops.specs.declared.anchors.Anchors.{Anchors}
-use Rattle.edit_ops.specs.declared.slotted_texts.SlottedText.{SlottedText}
-use Rattle.edit_ops.specs.declared.plans.Recording.{Recording}
-use Rattle.edit_ops.specs.Anchors.{AnchorsStand, anchor_moved, anchors_moved}
-use Rattle.text_cursor.specs.Around.{shared_slots, slots_around}
-use Rattle.text_cursor.proofs.AroundLaws.{length-slot_sets}
-use Rattle.edit_ops.specs.Insertions.{slots_or, inserted_text, inserted_texts, total, total_bytes, needs_shared}
-use Rattle.edit_ops.specs.Insertions.{IsBetween}
-use Rattle.edit_ops.specs.States.{State, Log, Outline, log_noted, all_noted, outlineed, state_of}
 
 pub noted-append : (recording : Recording) (kind : EditKind) (actions others : List Action) (log : Log)
     → all_noted recording kind (actions ++ others) log

@@ -1,43 +1,24 @@
 -- The history goes on fitting the text.
-use Rattle.std.proofs.Common.{◌≡◌, ℕ, zero, suc, ◌+◌, ◌-◌, ◌<◌, ◌≤◌, ◌==◌, ◌&&◌, Bool, true, false, inl, inr, List, []}
-use Rattle.std.proofs.Common.{◌∷◌, Option, Some, None, map, length, get_or, refl, sym, ap, ap₂, ◌∙◌, arith, subst}
-use Rattle.std.specs.Prelude.{slice_range, bytes_eq, nat_lt, nat_le, min, not, ◌||◌, if◌then◌else◌, option_and_then}
+use Rattle.edit_ops.proofs.Words.{◌≡◌, ℕ, zero, suc, ◌+◌, ◌-◌, ◌<◌, ◌≤◌, ◌==◌, ◌&&◌, Bool, true, false, inl, inr, List}
+use Rattle.edit_ops.proofs.Words.{[], ◌∷◌, Option, Some, None, map, length, get_or, refl, sym, ap, ap₂, ◌∙◌, arith}
+use Rattle.edit_ops.proofs.Words.{subst, slice_range, bytes_eq, nat_lt, nat_le, min, not, if◌then◌else◌}
+use Rattle.edit_ops.proofs.Words.{option_and_then, All, eqb-false, le-leb, lt-ltb, cases_eq, or_cases, and_parts}
+use Rattle.edit_ops.proofs.Words.{eqb-true, both_ways, not-true, All-tail, Cell, ClearTags, Place, Content, Slots}
+use Rattle.edit_ops.proofs.Words.{characters, inserted, removed, changed, is_newline, cells_of, after_step}
+use Rattle.edit_ops.proofs.Words.{after_insertion, after_removal, with_slot, without_slots, length-cells_inserted}
+use Rattle.edit_ops.proofs.Words.{length-removed, length-changed, map-inserted, map-removed, map-changed, changed-same}
+use Rattle.edit_ops.proofs.Words.{Action, EditKind, Replace, Delete, FitsText, repeated, History, noted, repeat-back}
+use Rattle.edit_ops.proofs.Words.{note-fits, SlottedText, Recording, Span, anchors_moved, anchors_removed, in_spans}
+use Rattle.edit_ops.proofs.Words.{run_start, delete_set, onto_runs, runs_below, AreApart, removed_spans, deleted}
+use Rattle.edit_ops.proofs.Words.{shared_slots, slots_or, inserted_text, inserted_texts, total, IsKept, removed_span}
+use Rattle.edit_ops.proofs.Words.{clipped, with_mark, replaced, State, Log, log_noted, state_of, SpanFits, tagged}
+use Rattle.edit_ops.proofs.Words.{characters-of, length-characters}
+use Rattle.std.specs.Prelude.{◌||◌}
 use Rattle.std.specs.FinMap as finite
-use Rattle.std.specs.List.{All}
-use Rattle.std.proofs.lemmas.Bool.{true≢false, eqb-false, le-leb, lt-ltb, cases_eq, or_cases, and_parts, eqb-true}
-use Rattle.std.proofs.lemmas.Bool.{both_ways, not-true}
+use Rattle.std.proofs.lemmas.Bool.{true≢false}
 use Rattle.std.proofs.lemmas.Slice.Eq.{bytes_eq-Decides}
-use Rattle.std.proofs.lemmas.List.Elements.{All-tail}
-use Rattle.text_model.specs.declared.cells.Cell.{Cell}
-use Rattle.text_model.specs.declared.edits.Step.TheVariants.{ClearTags}
-use Rattle.text_model.specs.declared.places.Place.{Place}
-use Rattle.text_model.specs.Content.{Content, Slots, characters}
-use Rattle.text_model.specs.Splices.{inserted, removed, changed}
-use Rattle.text_model.specs.Lines.{is_newline}
-use Rattle.text_model.specs.Steps.{cells_of, after_step, after_insertion, after_removal, with_slot, without_slots}
-use Rattle.text_model.proofs.SpliceLaws.{length-cells_inserted, length-removed, length-changed, map-inserted}
-use Rattle.text_model.proofs.SpliceLaws.{map-removed, map-changed, changed-same}
-use Rattle.undo_stack.specs.declared.actions.Action.{Action}
-use Rattle.undo_stack.specs.declared.actions.EditKind.{EditKind}
-use Rattle.undo_stack.specs.declared.actions.EditKind.TheVariants.{Replace, Delete}
-use Rattle.undo_stack.specs.Fits.{FitsText, repeated}
-use Rattle.undo_stack.specs.History.{History, noted}
-use Rattle.undo_stack.proofs.FitsLaws.{repeat-back, note-fits}
-use Rattle.edit_ops.specs.declared.slotted_texts.SlottedText.{SlottedText}
-use Rattle.edit_ops.specs.declared.plans.Recording.{Recording}
-use Rattle.edit_ops.specs.declared.spans.Span.{Span}
-use Rattle.edit_ops.specs.Anchors.{anchors_moved, anchors_removed}
-use Rattle.edit_ops.specs.Deletions.{in_spans, run_start, delete_set, onto_runs, runs_below, AreApart, removed_spans}
-use Rattle.edit_ops.specs.Deletions.{deleted}
-use Rattle.text_cursor.specs.Around.{shared_slots}
-use Rattle.edit_ops.specs.Insertions.{slots_or, inserted_text, inserted_texts, total}
-use Rattle.edit_ops.specs.Keeping.{IsKept}
-use Rattle.edit_ops.specs.Removals.{removed_span, clipped, with_mark, replaced}
-use Rattle.edit_ops.specs.States.{State, Log, log_noted, state_of}
-use Rattle.edit_ops.specs.Tagging.{SpanFits, tagged}
 use Rattle.edit_ops.proofs.DeleteLaws.{length-slice}
 use Rattle.edit_ops.proofs.InsertLaws.{total-cons}
-use Rattle.text_cursor.proofs.AroundLaws.{characters-of, length-characters}
 use Rattle.edit_ops.proofs.RunLaws.{apart-wider, in-within}
 
 -- a history without groups fits

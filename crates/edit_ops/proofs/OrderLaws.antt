@@ -1,28 +1,19 @@
 -- Steps that stand apart may be made in either order.
-use Rattle.std.proofs.Common.{◌≡◌, ℕ, ◌+◌, ◌-◌, ◌<◌, ◌≤◌, ◌==◌, ◌||◌, ◌&&◌, Bool, true, false, List, [], ◌∷◌}
-use Rattle.std.proofs.Common.{◌++◌, length, take, drop, Option, Some, None, refl, sym, ap, ap₂, ◌∙◌, arith, subst, inl}
-use Rattle.std.proofs.Common.{inr, get_or, take-append-drop}
-use Rattle.std.specs.Prelude.{option_map, if◌then◌else◌, min, nat_lt, IfSome}
+use Rattle.edit_ops.proofs.Words.{◌≡◌, ℕ, ◌+◌, ◌-◌, ◌<◌, ◌≤◌, ◌==◌, ◌||◌, ◌&&◌, Bool, true, false, List, [], ◌∷◌, ◌++◌}
+use Rattle.edit_ops.proofs.Words.{length, take, drop, Option, Some, None, refl, sym, ap, ap₂, ◌∙◌, arith, subst, inl}
+use Rattle.edit_ops.proofs.Words.{inr, get_or, option_map, if◌then◌else◌, min, nat_lt, IfSome, append_assoc}
+use Rattle.edit_ops.proofs.Words.{length-take-le, cases_lt, nat_tests, Step, Remove, Insert, SetTag, ClearTags}
+use Rattle.edit_ops.proofs.Words.{ClearSlot, PutMark, TakeMark, Place, Content, Marks, Slots, map_marks, inserted}
+use Rattle.edit_ops.proofs.Words.{removed, goes_behind, is_right, moved, drawn, cells_of, Fits, after, after_step}
+use Rattle.edit_ops.proofs.Words.{inserted-append_left, inserted-append_right, removed-append_left}
+use Rattle.edit_ops.proofs.Words.{removed-append_right, length-cells_inserted, length-removed, length-inserted}
+use Rattle.edit_ops.proofs.Words.{length-cells_of, after-append, Fits-append, moved_le, Reach, Span, AreAlike, at_span}
+use Rattle.edit_ops.proofs.Words.{IsLowered, LetsPass, steps_in, AreWatched, Passes}
+use Rattle.std.proofs.Common.{take-append-drop}
 use Rattle.std.specs.FinMap as finite
-use Rattle.std.proofs.lemmas.List.{append_assoc, append-nil, length-take-le}
-use Rattle.std.proofs.lemmas.Bool.{cases_lt}
-use Rattle.std.proofs.lemmas.Bool.Decides.{nat_tests}
-use Rattle.text_model.specs.declared.edits.Step.{Step}
-use Rattle.text_model.specs.declared.edits.Step.TheVariants.{Remove, Insert, SetTag, ClearTags, ClearSlot, PutMark}
-use Rattle.text_model.specs.declared.edits.Step.TheVariants.{TakeMark}
-use Rattle.text_model.specs.declared.places.Place.{Place}
-use Rattle.text_model.specs.Content.{Content, Marks, Slots, map_marks}
-use Rattle.text_model.specs.Splices.{inserted, removed, goes_behind, is_right, moved, drawn}
-use Rattle.text_model.specs.Steps.{cells_of, Fits, after, after_step}
+use Rattle.std.proofs.lemmas.List.{append-nil}
 use Rattle.text_model.proofs.PlaceLaws.{get-map_marks, same_marks}
-use Rattle.text_model.proofs.SpliceLaws.{inserted-append_left, inserted-append_right, removed-append_left}
-use Rattle.text_model.proofs.SpliceLaws.{removed-append_right, length-cells_inserted, length-removed, length-inserted}
-use Rattle.text_model.proofs.SpliceLaws.{length-cells_of}
-use Rattle.text_model.proofs.StepLaws.{after-append, Fits-append, moved_le}
-use Rattle.edit_ops.specs.declared.orders.Reach.{Reach}
 use Rattle.edit_ops.specs.declared.orders.Watched.{Watched}
-use Rattle.edit_ops.specs.declared.spans.Span.{Span}
-use Rattle.edit_ops.specs.Orders.{AreAlike, at_span, IsLowered, LetsPass, steps_in, AreWatched, Passes}
 
 -- ---- steps that make the same
 

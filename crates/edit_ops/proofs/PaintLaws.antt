@@ -1,18 +1,11 @@
 -- Spans of a list that are changed by a function, one after the other. Where the function does no more the second time,
 -- what comes of it depends on the offsets that lie in the spans alone.
-use Rattle.std.proofs.Common.{◌≡◌, ℕ, suc, ◌+◌, ◌<◌, ◌≤◌, ◌||◌, Bool, true, false, List, [], ◌∷◌, ◌++◌, inl, inr}
-use Rattle.std.proofs.Common.{map, length, take, drop, get_or, refl, sym, ap, ap₂, ◌∙◌, arith, subst}
-use Rattle.std.specs.Prelude.{slice_range, if◌then◌else◌}
-use Rattle.std.specs.List.{All}
-use Rattle.std.proofs.lemmas.Bool.{cases_lt}
-use Rattle.std.proofs.lemmas.List.{length-append, length-take, take-append-le, take-take}
-use Rattle.std.proofs.lemmas.List.Elements.{All-cons, All-head, All-nil, All-tail}
-use Rattle.text_model.specs.Splices.{changed}
-use Rattle.text_model.proofs.SpliceLaws.{get_or-changed_before, get_or-changed_behind, get_or-changed_within}
-use Rattle.text_model.proofs.SpliceLaws.{length-changed}
-use Rattle.edit_ops.specs.Deletions.{AreApart, in_spans}
-use Rattle.edit_ops.specs.Tagging.{SpanFits}
-use Rattle.edit_ops.specs.declared.spans.Span.{Span}
+use Rattle.edit_ops.proofs.Words.{◌≡◌, ℕ, suc, ◌+◌, ◌<◌, ◌≤◌, ◌||◌, Bool, true, false, List, [], ◌∷◌, ◌++◌, inl, inr}
+use Rattle.edit_ops.proofs.Words.{map, length, take, drop, get_or, refl, sym, ap, ap₂, ◌∙◌, arith, subst, slice_range}
+use Rattle.edit_ops.proofs.Words.{if◌then◌else◌, All, cases_lt, take-append-le, take-take, All-cons, All-head, All-nil}
+use Rattle.edit_ops.proofs.Words.{All-tail, changed, get_or-changed_before, get_or-changed_behind}
+use Rattle.edit_ops.proofs.Words.{get_or-changed_within, length-changed, AreApart, in_spans, SpanFits, Span}
+use Rattle.std.proofs.lemmas.List.{length-append, length-take}
 use Rattle.edit_ops.proofs.RunLaws.{inside, inside-before, inside-behind, inside-is}
 
 -- spans that don't touch, of which the last comes first, fit a text that this one fits

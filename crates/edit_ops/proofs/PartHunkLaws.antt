@@ -1,19 +1,10 @@
 -- The hunks of an old text that make a text of parts of it and of new texts.
-use Rattle.std.proofs.Common.{◌≡◌, ◌≢◌, ℕ, ◌<◌, ◌≤◌, List, [], ◌∷◌, ◌++◌}
-use Rattle.std.proofs.Common.{Option, Some, None, length, refl, sym, ap, ap₂, ◌∙◌, arith, subst}
-use Rattle.std.specs.Prelude.{slice_range}
-use Rattle.std.specs.List.{All}
-use Rattle.std.proofs.lemmas.List.{append-nil, drop_all, map-append}
-use Rattle.std.proofs.lemmas.List.Elements.{All-head, All-tail}
-use Rattle.text_model.specs.declared.cells.Cell.{Cell}
-use Rattle.text_model.specs.Content.{Slots, characters}
-use Rattle.text_model.proofs.SpliceLaws.{map-slice_range}
-use Rattle.text_cursor.specs.declared.parts.Part.{Part}
-use Rattle.text_cursor.specs.Cursors.{cells_between, front_cells, old_place, part_cells, source_len, PartFits, Rise}
-use Rattle.text_cursor.proofs.AroundLaws.{characters-of, length-characters}
-use Rattle.edit_ops.specs.declared.hunks.Hunk.{Hunk}
-use Rattle.edit_ops.specs.PartHunks.{hunks_before, part_hunks}
-use Rattle.edit_ops.specs.Told.{AreHunks, patched, patched_by, taking_out}
+use Rattle.edit_ops.proofs.Words.{◌≡◌, ◌≢◌, ℕ, ◌<◌, ◌≤◌, List, [], ◌∷◌, ◌++◌, Option, Some, None, length, refl, sym, ap}
+use Rattle.edit_ops.proofs.Words.{ap₂, ◌∙◌, arith, subst, slice_range, All, drop_all, map-append, All-head, All-tail}
+use Rattle.edit_ops.proofs.Words.{Cell, Slots, characters, map-slice_range, Part, cells_between, front_cells, old_place}
+use Rattle.edit_ops.proofs.Words.{part_cells, source_len, PartFits, Rise, characters-of, length-characters, Hunk}
+use Rattle.edit_ops.proofs.Words.{hunks_before, part_hunks, AreHunks, patched, patched_by, taking_out}
+use Rattle.std.proofs.lemmas.List.{append-nil}
 use Rattle.edit_ops.proofs.DeleteLaws.{length-slice}
 use Rattle.edit_ops.proofs.HunkLaws.{hunks-lower, patched-lower, slice-none, taking-out-patched, taking-out-stands}
 

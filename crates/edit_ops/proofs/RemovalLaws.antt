@@ -1,27 +1,12 @@
 -- What is taken out: where lines begin around it, where anchors stand, and what stands on both sides.
-use Rattle.std.proofs.Common.{◌≡◌, ℕ, ◌+◌, ◌-◌, ◌<◌, ◌≤◌, ◌==◌, ◌&&◌, Bool, true, false, List, [], ◌∷◌, ◌++◌, Option}
-use Rattle.std.proofs.Common.{Some, None, map, length, get_or, take, drop, refl, sym, ap, ◌∙◌, arith, subst}
-use Rattle.std.specs.Prelude.{IfSome, option_map, unwrap_or, not, nat_le, slice_range, if◌then◌else◌}
-use Rattle.std.specs.List.{All}
+use Rattle.edit_ops.proofs.Words.{◌≡◌, ℕ, ◌+◌, ◌-◌, ◌<◌, ◌≤◌, ◌==◌, ◌&&◌, Bool, true, false, List, [], ◌∷◌, ◌++◌}
+use Rattle.edit_ops.proofs.Words.{Option, Some, None, map, length, get_or, take, drop, refl, sym, ap, ◌∙◌, arith, subst}
+use Rattle.edit_ops.proofs.Words.{IfSome, option_map, unwrap_or, not, nat_le, slice_range, if◌then◌else◌, All}
+use Rattle.edit_ops.proofs.Words.{nat_tests, take-append-drop, All-map, Remove, Content, characters, line_of}
+use Rattle.edit_ops.proofs.Words.{line_start, removed, after, line_start-le, length-removed, EditKind, Anchors}
+use Rattle.edit_ops.proofs.Words.{Recording, AnchorsStand, start_drawn, end_drawn, anchors_drawn, next_line}
+use Rattle.edit_ops.proofs.Words.{line-before, removed_span, Log, Outline, outlineed, state_of}
 use Rattle.std.proofs.lemmas.Bool.{eq-eqb}
-use Rattle.std.proofs.lemmas.Bool.Decides.{nat_tests}
-use Rattle.std.proofs.lemmas.List.{take-append-drop}
-use Rattle.std.proofs.lemmas.List.Elements.{All-map}
-use Rattle.text_model.specs.declared.edits.Step.TheVariants.{Remove}
-use Rattle.text_model.specs.Content.{Content, characters}
-use Rattle.text_model.specs.Lines.{line_of, line_start}
-use Rattle.text_model.specs.Splices.{removed}
-use Rattle.text_model.specs.Steps.{after}
-use Rattle.text_model.proofs.LineLaws.{line_start-le}
-use Rattle.text_model.proofs.SpliceLaws.{length-removed}
-use Rattle.undo_stack.specs.declared.actions.EditKind.{EditKind}
-use Rattle.edit_ops.specs.declared.anchors.Anchors.{Anchors}
-use Rattle.edit_ops.specs.declared.plans.Recording.{Recording}
-use Rattle.edit_ops.specs.Anchors.{AnchorsStand, start_drawn, end_drawn, anchors_drawn}
-use Rattle.text_cursor.specs.Around.{next_line}
-use Rattle.text_cursor.proofs.AroundLaws.{line-before}
-use Rattle.edit_ops.specs.Removals.{removed_span}
-use Rattle.edit_ops.specs.States.{Log, Outline, outlineed, state_of}
 use Rattle.edit_ops.proofs.DeleteLaws.{span-out}
 
 start-within : (line from to len anchor : ℕ) → anchor ≤ len → line ≤ from → from ≤ to → to ≤ len →

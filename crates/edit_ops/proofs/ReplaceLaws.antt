@@ -1,27 +1,14 @@
 -- Texts in the place of a span, and the mark that is clipped.
-use Rattle.std.proofs.Common.{◌≡◌, ℕ, ◌+◌, ◌-◌, ◌<◌, ◌≤◌, ◌==◌, ◌&&◌, Bool, true, false, List, [], ◌∷◌, ◌++◌, Option}
-use Rattle.std.proofs.Common.{Some, None, length, get_or, refl, sym, ap, ap₂, ◌∙◌, arith, subst}
-use Rattle.std.specs.Prelude.{slice_get, min, nat_le, nat_lt, option_and_then, if◌then◌else◌}
+use Rattle.edit_ops.proofs.Words.{◌≡◌, ℕ, ◌+◌, ◌-◌, ◌<◌, ◌≤◌, ◌==◌, ◌&&◌, Bool, true, false, List, [], ◌∷◌, ◌++◌}
+use Rattle.edit_ops.proofs.Words.{Option, Some, None, length, get_or, refl, sym, ap, ap₂, ◌∙◌, arith, subst, slice_get}
+use Rattle.edit_ops.proofs.Words.{min, nat_le, nat_lt, option_and_then, if◌then◌else◌, nat_tests, Cell, PutMark, Place}
+use Rattle.edit_ops.proofs.Words.{MarkNo, Content, Slots, slot_sets, slots_left_of, removed, Fits, after}
+use Rattle.edit_ops.proofs.Words.{length-removed, map-removed, get_or-removed_before, get_or-removed_behind}
+use Rattle.edit_ops.proofs.Words.{Fits-append, after-append, Replace, SlottedText, Recording, slots_around}
+use Rattle.edit_ops.proofs.Words.{inserted_texts, total, IsBetween, clipped, with_mark, removed_span, replaced_span}
+use Rattle.edit_ops.proofs.Words.{State, Outline, outlineed, length-slot_sets}
 use Rattle.std.specs.FinSet as set
 use Rattle.std.specs.FinMap as finite
-use Rattle.std.proofs.lemmas.Bool.Decides.{nat_tests}
-use Rattle.text_model.specs.declared.cells.Cell.{Cell}
-use Rattle.text_model.specs.declared.edits.Step.TheVariants.{PutMark}
-use Rattle.text_model.specs.declared.places.Place.{Place}
-use Rattle.text_model.specs.declared.places.MarkNo.{MarkNo}
-use Rattle.text_model.specs.Content.{Content, Slots, slot_sets, slots_left_of}
-use Rattle.text_model.specs.Splices.{removed}
-use Rattle.text_model.specs.Steps.{Fits, after}
-use Rattle.text_model.proofs.SpliceLaws.{length-removed, map-removed, get_or-removed_before, get_or-removed_behind}
-use Rattle.text_model.proofs.StepLaws.{Fits-append, after-append}
-use Rattle.undo_stack.specs.declared.actions.EditKind.TheVariants.{Replace}
-use Rattle.edit_ops.specs.declared.slotted_texts.SlottedText.{SlottedText}
-use Rattle.edit_ops.specs.declared.plans.Recording.{Recording}
-use Rattle.text_cursor.specs.Around.{slots_around}
-use Rattle.edit_ops.specs.Insertions.{inserted_texts, total, IsBetween}
-use Rattle.edit_ops.specs.Removals.{clipped, with_mark, removed_span, replaced_span}
-use Rattle.edit_ops.specs.States.{State, Outline, outlineed}
-use Rattle.text_cursor.proofs.AroundLaws.{length-slot_sets}
 use Rattle.edit_ops.proofs.InsertLaws.{around-is, behind-is}
 
 around-removed : (from to : ℕ) (cells : List Cell) → from ≤ to → to < length cells

@@ -1,45 +1,25 @@
 -- Actions are made once more, or reverted, in a text on the way.
-use Rattle.std.proofs.Common.{◌≡◌, ℕ, ◌+◌, ◌-◌, ◌<◌, ◌≤◌, Bool, true, false, List, [], ◌∷◌, ◌++◌, Option, Some, None}
-use Rattle.std.proofs.Common.{◌&&◌, ◌^◌, get_or, map, length, drop, refl, sym, ap, ap₂, ◌∙◌, arith, subst}
-use Rattle.std.specs.Prelude.{reverse, not, slice_get, slice_range, bytes_eq, nat_lt, nat_le, option_and_then}
-use Rattle.std.specs.Prelude.{option_map, IsSome, IfSome, if◌then◌else◌}
-use Rattle.std.specs.List.{All}
-use Rattle.std.proofs.lemmas.Bool.{false≢true, leb-true, ltb-true, and_parts}
-use Rattle.std.proofs.lemmas.List.{reverse-append, length-reverse, map-append, length-map, get_or-map, get_or-reverse}
-use Rattle.std.proofs.lemmas.List.{drop_more}
-use Rattle.std.proofs.lemmas.Option.{get_or_from_slice_get, none-some, same_Some}
-use Rattle.text_model.specs.declared.cells.Cell.{Cell}
-use Rattle.text_model.specs.declared.edits.Step.TheVariants.{Insert, Remove, PutMark}
-use Rattle.text_model.specs.Content.{Content, Slots, characters}
-use Rattle.text_model.specs.Lines.{line_of, line_start}
-use Rattle.text_model.specs.Splices.{inserted, removed}
-use Rattle.text_model.specs.Steps.{Fits, after, after_insertion, after_removal, cells_of}
-use Rattle.text_model.proofs.SpliceLaws.{map-removed, take-removed}
-use Rattle.text_model.proofs.StepLaws.{Fits-append, after-append}
-use Rattle.text_model.specs.declared.places.MarkNo.{MarkNo}
-use Rattle.text_model.specs.declared.places.Place.{Place}
-use Rattle.edit_ops.specs.declared.anchors.Anchors.{Anchors}
-use Rattle.text_cursor.specs.declared.cursors.Cursor.{Cursor}
-use Rattle.edit_ops.specs.Anchors.{AnchorsStand, anchors_moved, anchors_drawn, anchors_removed}
-use Rattle.text_cursor.specs.Cursors.{cursor_cells, Moves, Takes, Puts}
-use Rattle.text_cursor.specs.Around.{shared_slots, next_line}
-use Rattle.edit_ops.specs.Replays.{Follows, drawn_up, action_end, replayed, replays, replayed_group}
-use Rattle.edit_ops.specs.Reversals.{put_back, taken_back, action_redone, action_undone, group_redone, group_undone}
-use Rattle.edit_ops.specs.Reversals.{redo_end, undo_end, stood, log_undone, log_redone, undone_group, redone_group}
-use Rattle.edit_ops.specs.Reversals.{undone, redone}
-use Rattle.edit_ops.specs.Removals.{with_mark}
-use Rattle.edit_ops.specs.States.{State, Log, Outline, state_of}
-use Rattle.undo_stack.specs.declared.actions.Action.{Action}
-use Rattle.undo_stack.specs.Fits.{put_in, take_out, repeated, reverted, repeated_group, reverted_group}
-use Rattle.undo_stack.specs.Fits.{FitsText}
-use Rattle.undo_stack.specs.History.{History, next_undo, next_redo}
-use Rattle.undo_stack.proofs.FitsLaws.{undo-goes, redo-goes}
+use Rattle.edit_ops.proofs.Words.{◌≡◌, ℕ, ◌+◌, ◌-◌, ◌<◌, ◌≤◌, Bool, true, false, List, [], ◌∷◌, ◌++◌, Option, Some}
+use Rattle.edit_ops.proofs.Words.{None, ◌&&◌, ◌^◌, get_or, map, length, drop, refl, sym, ap, ap₂, ◌∙◌, arith, subst}
+use Rattle.edit_ops.proofs.Words.{reverse, not, slice_get, slice_range, bytes_eq, nat_lt, nat_le, option_and_then}
+use Rattle.edit_ops.proofs.Words.{option_map, IsSome, IfSome, if◌then◌else◌, All, false≢true, leb-true, ltb-true}
+use Rattle.edit_ops.proofs.Words.{and_parts, reverse-append, length-reverse, map-append, length-map, get_or-map}
+use Rattle.edit_ops.proofs.Words.{get_or-reverse, drop_more, get_or_from_slice_get, none-some, same_Some, Cell, Insert}
+use Rattle.edit_ops.proofs.Words.{Remove, PutMark, Content, Slots, characters, line_of, line_start, inserted, removed}
+use Rattle.edit_ops.proofs.Words.{Fits, after, after_insertion, after_removal, cells_of, map-removed, take-removed}
+use Rattle.edit_ops.proofs.Words.{Fits-append, after-append, MarkNo, Place, Anchors, Cursor, AnchorsStand}
+use Rattle.edit_ops.proofs.Words.{anchors_moved, anchors_drawn, anchors_removed, cursor_cells, Moves, Takes, Puts}
+use Rattle.edit_ops.proofs.Words.{shared_slots, next_line, Follows, drawn_up, action_end, replayed, replays}
+use Rattle.edit_ops.proofs.Words.{replayed_group, put_back, taken_back, action_redone, action_undone, group_redone}
+use Rattle.edit_ops.proofs.Words.{group_undone, redo_end, undo_end, stood, log_undone, log_redone, undone_group}
+use Rattle.edit_ops.proofs.Words.{redone_group, undone, redone, with_mark, State, Log, Outline, state_of, Action}
+use Rattle.edit_ops.proofs.Words.{put_in, take_out, repeated, reverted, repeated_group, reverted_group, FitsText}
+use Rattle.edit_ops.proofs.Words.{History, next_undo, next_redo, undo-goes, redo-goes, anchors_left, group_moved}
+use Rattle.edit_ops.proofs.Words.{log_after, planned, whole-is, length-characters, line-front, line-before}
+use Rattle.edit_ops.proofs.Words.{next_line-is}
 use Rattle.edit_ops.specs.declared.plans.Effects.{Effects}
 use Rattle.edit_ops.specs.declared.plans.Notes.TheVariants.{Undone, Redone}
-use Rattle.edit_ops.specs.Plans.{anchors_left, group_moved, log_after, planned}
-use Rattle.text_cursor.proofs.CursorLaws.{whole-is}
 use Rattle.edit_ops.proofs.InsertLaws.{stand-moved}
-use Rattle.text_cursor.proofs.AroundLaws.{length-characters, line-front, line-before, next_line-is}
 use Rattle.edit_ops.proofs.RemovalLaws.{stand-drawn}
 use Rattle.edit_ops.proofs.ReversalLaws.{redone-text}
 

@@ -1,26 +1,12 @@
 -- The history goes on fitting the text where a group is undone or redone.
-use Rattle.std.proofs.Common.{◌≡◌, ℕ, ◌+◌, ◌-◌, ◌&&◌, Bool, true, false, List, [], ◌∷◌, Option, Some, None, length}
-use Rattle.std.proofs.Common.{refl, sym, ap, ◌∙◌, subst}
-use Rattle.std.specs.Prelude.{slice_range, slice_get, bytes_eq, nat_lt, nat_le, if◌then◌else◌}
-use Rattle.std.proofs.lemmas.Option.{option_and_then_some}
-use Rattle.text_model.specs.declared.cells.Cell.{Cell}
-use Rattle.text_model.specs.declared.places.Place.{Place}
-use Rattle.text_model.specs.Content.{Content, characters}
-use Rattle.text_model.specs.Splices.{inserted, removed}
-use Rattle.text_model.specs.Steps.{cells_of}
-use Rattle.text_model.proofs.SpliceLaws.{map-inserted, map-removed}
-use Rattle.undo_stack.specs.declared.actions.Action.{Action}
-use Rattle.undo_stack.specs.Fits.{FitsText, put_in, take_out, repeated, reverted, repeated_group, reverted_group}
-use Rattle.undo_stack.specs.History.{next_undo, next_redo, after_undo, after_redo}
-use Rattle.undo_stack.proofs.FitsLaws.{undo-goes, undo-fits, redo-goes, redo-fits}
-use Rattle.edit_ops.specs.declared.plans.Recording.{Recording}
-use Rattle.text_cursor.specs.Around.{shared_slots}
-use Rattle.edit_ops.specs.Keeping.{IsKept}
-use Rattle.edit_ops.specs.Removals.{with_mark}
-use Rattle.edit_ops.specs.Reversals.{put_back, taken_back, action_redone, action_undone, group_redone, group_undone}
-use Rattle.edit_ops.specs.Reversals.{undone_group, redone_group, undone, redone}
-use Rattle.edit_ops.specs.States.{State}
-use Rattle.text_cursor.proofs.AroundLaws.{characters-of}
+use Rattle.edit_ops.proofs.Words.{◌≡◌, ℕ, ◌+◌, ◌-◌, ◌&&◌, Bool, true, false, List, [], ◌∷◌, Option, Some, None, length}
+use Rattle.edit_ops.proofs.Words.{refl, sym, ap, ◌∙◌, subst, slice_range, slice_get, bytes_eq, nat_lt, nat_le}
+use Rattle.edit_ops.proofs.Words.{if◌then◌else◌, option_and_then_some, Cell, Place, Content, characters, inserted}
+use Rattle.edit_ops.proofs.Words.{removed, cells_of, map-inserted, map-removed, Action, FitsText, put_in, take_out}
+use Rattle.edit_ops.proofs.Words.{repeated, reverted, repeated_group, reverted_group, next_undo, next_redo, after_undo}
+use Rattle.edit_ops.proofs.Words.{after_redo, undo-goes, undo-fits, redo-goes, redo-fits, Recording, shared_slots}
+use Rattle.edit_ops.proofs.Words.{IsKept, with_mark, put_back, taken_back, action_redone, action_undone, group_redone}
+use Rattle.edit_ops.proofs.Words.{group_undone, undone_group, redone_group, undone, redone, State, characters-of}
 
 -- what is there behind a test
 pub guarded : {A : Type 0} (test : Bool) (x y : A) → (if test then Some x else None) ≡ Some y → x ≡ y

@@ -1,19 +1,12 @@
 -- The longest runs of offsets that lie in some spans.
-use Rattle.std.proofs.Common.{◌≡◌, ℕ, zero, suc, ◌+◌, ◌-◌, ◌<◌, ◌≤◌, ◌==◌, ◌&&◌, ◌||◌, Bool, true, false, inl, inr}
-use Rattle.std.proofs.Common.{List, [], ◌∷◌, ◌++◌, length, get_or, set, take, refl, sym, ap, ap₂, ◌∙◌, arith, subst}
-use Rattle.std.proofs.Common.{eq-eqb, ne_eqb, length-append}
-use Rattle.std.specs.Prelude.{not, nat_le, nat_lt, min, Option, Some, None, IsSome, if◌then◌else◌}
-use Rattle.std.specs.List.{All, remove}
+use Rattle.edit_ops.proofs.Words.{◌≡◌, ℕ, zero, suc, ◌+◌, ◌-◌, ◌<◌, ◌≤◌, ◌==◌, ◌&&◌, ◌||◌, Bool, true, false, inl, inr}
+use Rattle.edit_ops.proofs.Words.{List, [], ◌∷◌, ◌++◌, length, get_or, set, take, refl, sym, ap, ap₂, ◌∙◌, arith, subst}
+use Rattle.edit_ops.proofs.Words.{eq-eqb, ne_eqb, length-append, not, nat_le, nat_lt, min, IsSome, if◌then◌else◌, All}
+use Rattle.edit_ops.proofs.Words.{remove, false≢true, le-leb, lt-leb, lt-ltb, le-ltb, cases_eq, cases_lt, nat_tests}
+use Rattle.edit_ops.proofs.Words.{take_more, list_any-append, get_or-append, get_or-append_seam, is_newline, Span}
+use Rattle.edit_ops.proofs.Words.{in_spans, run_start, delete_set, onto_runs, runs_below, AreApart}
+use Rattle.std.specs.Prelude.{Option, Some, None}
 use Rattle.std.specs.List.Sorted.{IsNonDecreasingBy}
-use Rattle.std.proofs.lemmas.Bool.{false≢true, le-leb, lt-leb, lt-ltb, le-ltb, cases_eq, cases_lt}
-use Rattle.std.proofs.lemmas.Bool.Decides.{nat_tests}
-use Rattle.std.proofs.lemmas.List.{take_more}
-use Rattle.std.proofs.lemmas.List.Folds.{list_any-append}
-use Rattle.std.proofs.Math.ListN.{get_or-append}
-use Rattle.std.proofs.Math.Seq.{get_or-append_seam}
-use Rattle.text_model.specs.Lines.{is_newline}
-use Rattle.edit_ops.specs.declared.spans.Span.{Span}
-use Rattle.edit_ops.specs.Deletions.{in_spans, run_start, delete_set, onto_runs, runs_below, AreApart}
 
 abbrev pub inside : Span → ℕ → Bool
 inside span offset = nat_le span.from offset && nat_lt offset span.to

@@ -1,27 +1,14 @@
 -- The runs of what parts put in give its cells their slots.
-use Rattle.std.proofs.Common.{◌≡◌, ℕ, ◌+◌, ◌-◌, ◌<◌, ◌≤◌, List, [], ◌∷◌, ◌++◌, Option, Some, None, map, length, drop}
-use Rattle.std.proofs.Common.{take, refl, sym, ap, ap₂, ◌∙◌, arith, subst, append_assoc, length-append}
-use Rattle.std.specs.Prelude.{slice_range}
+use Rattle.edit_ops.proofs.Words.{◌≡◌, ℕ, ◌+◌, ◌-◌, ◌<◌, ◌≤◌, List, [], ◌∷◌, ◌++◌, Option, Some, None, map, length}
+use Rattle.edit_ops.proofs.Words.{drop, take, refl, sym, ap, ap₂, ◌∙◌, arith, subst, length-append, slice_range, All}
+use Rattle.edit_ops.proofs.Words.{drop_at, length-map, take_at, All-cons, All-head, All-nil, All-tail, Cell, Content}
+use Rattle.edit_ops.proofs.Words.{Slots, changed, cells_of, map-map, Cursor, Part, parts_len, cells_between}
+use Rattle.edit_ops.proofs.Words.{front_cells, part_cells, source_len, PartFits, Rise, part-length, Hunk, part_hunks}
+use Rattle.edit_ops.proofs.Words.{part_runs, run_of, IsCursorOf, patched_by}
+use Rattle.std.proofs.Common.{append_assoc}
 use Rattle.std.specs.FinSet as set
-use Rattle.std.specs.List.{All}
-use Rattle.std.proofs.lemmas.List.{drop_at, length-map, take_at}
-use Rattle.std.proofs.lemmas.List.Elements.{All-cons, All-head, All-nil, All-tail}
-use Rattle.text_model.specs.declared.cells.Cell.{Cell}
-use Rattle.text_model.specs.Content.{Content, Slots}
-use Rattle.text_model.specs.Splices.{changed}
-use Rattle.text_model.specs.Steps.{cells_of}
-use Rattle.text_model.proofs.SpliceLaws.{map-map}
-use Rattle.text_cursor.specs.declared.cursors.Cursor.{Cursor}
-use Rattle.text_cursor.specs.declared.parts.Part.{Part}
-use Rattle.text_cursor.specs.Parts.{parts_len}
-use Rattle.text_cursor.specs.Cursors.{cells_between, front_cells, part_cells, source_len, PartFits, Rise}
-use Rattle.text_cursor.proofs.CursorLaws.{part-length}
-use Rattle.edit_ops.specs.declared.hunks.Hunk.{Hunk}
 use Rattle.edit_ops.specs.declared.slot_runs.SlotRun.{SlotRun}
-use Rattle.edit_ops.specs.PartHunks.{part_hunks, part_runs, run_of}
-use Rattle.edit_ops.specs.Replays.{IsCursorOf}
 use Rattle.edit_ops.specs.SlotRuns.{bare_cells, slotted, with_slots, AreBareRuns}
-use Rattle.edit_ops.specs.Told.{patched_by}
 use Rattle.edit_ops.proofs.DeleteLaws.{length-slice}
 use Rattle.edit_ops.proofs.PartHunkLaws.{front_items, items_between, parts-patched}
 

@@ -1,23 +1,15 @@
 -- Spots: where a text ends, and where a place is, by what stands before it.
-use Rattle.std.proofs.Common.{◌≡◌, ℕ, zero, suc, ◌+◌, ◌-◌, ◌*◌, ◌^◌, ◌<◌, ◌≤◌, true, false, cond, List, [], ◌∷◌, ◌++◌}
-use Rattle.std.proofs.Common.{length, take, drop, get_or, refl, sym, ap, ap₂, ◌∙◌, arith, subst, append-nil}
-use Rattle.std.specs.Prelude.{slice_range, encode_utf8_all, encode_utf8, nat_lt, sum_by, if◌then◌else◌}
-use Rattle.std.specs.Char.{len_utf8}
-use Rattle.std.proofs.lemmas.Bool.Decides.{nat_tests}
-use Rattle.std.proofs.Math.Seq.{take-add}
-use Rattle.std.proofs.lemmas.List.{take_all, take-take, length-map, length-take, length-drop, length-append}
-use Rattle.std.proofs.lemmas.List.{drop-append-le}
-use Rattle.std.proofs.lemmas.List.{append_assoc, drop_all, drop_more, length-take-le, take-append-drop, take_more}
-use Rattle.std.proofs.lemmas.List.Sums.{sum_by_push, sum_by-cons}
+use Rattle.edit_ops.proofs.Words.{◌≡◌, ℕ, zero, suc, ◌+◌, ◌-◌, ◌*◌, ◌^◌, ◌<◌, ◌≤◌, true, false, cond, List, [], ◌∷◌}
+use Rattle.edit_ops.proofs.Words.{◌++◌, length, take, drop, get_or, refl, sym, ap, ap₂, ◌∙◌, arith, subst, append-nil}
+use Rattle.edit_ops.proofs.Words.{slice_range, encode_utf8_all, encode_utf8, nat_lt, sum_by, if◌then◌else◌, len_utf8}
+use Rattle.edit_ops.proofs.Words.{nat_tests, take-add, take_all, take-take, length-map, length-drop, drop-append-le}
+use Rattle.edit_ops.proofs.Words.{append_assoc, drop_all, drop_more, length-take-le, take-append-drop, take_more}
+use Rattle.edit_ops.proofs.Words.{sum_by_push, sum_by-cons, encodes-append, length-encode, len_utf8_bounds, Cell}
+use Rattle.edit_ops.proofs.Words.{characters, is_newline, lines, line_of, line_start, lines-cons, lines-append}
+use Rattle.edit_ops.proofs.Words.{line_start-le, lines-le-length, line-append-same, line-front, Spot, units_of}
+use Rattle.edit_ops.proofs.Words.{line_front, spot_at, end_of, HasRoom}
+use Rattle.std.proofs.lemmas.List.{length-take, length-append}
 use Rattle.std.proofs.lemmas.Slice.{between_is}
-use Rattle.std.proofs.lemmas.Str.{encodes-append, length-encode, len_utf8_bounds}
-use Rattle.text_model.specs.declared.cells.Cell.{Cell}
-use Rattle.text_model.specs.Content.{characters}
-use Rattle.text_model.specs.Lines.{is_newline, lines, line_of, line_start}
-use Rattle.text_model.proofs.LineLaws.{lines-cons, lines-append, line_start-le, lines-le-length}
-use Rattle.text_cursor.proofs.AroundLaws.{line-append-same, line-front}
-use Rattle.edit_ops.specs.declared.spots.Spot.{Spot}
-use Rattle.edit_ops.specs.Told.{units_of, line_front, spot_at, end_of, HasRoom}
 use Rattle.edit_ops.proofs.StartLaws.{is-start, line-begins}
 
 -- a spot by the line's number and what stands before it there

@@ -1,17 +1,10 @@
 -- Where a line starts: at the front of a text, and behind each newline.
-use Rattle.std.proofs.Common.{◌≡◌, ℕ, zero, suc, ◌+◌, ◌-◌, ◌<◌, ◌≤◌, true, false, cond, List, [], ◌∷◌, length, take}
-use Rattle.std.proofs.Common.{drop, get_or, refl, sym, ap, ◌∙◌, arith, subst, inl, inr, true≢false}
-use Rattle.std.specs.Prelude.{⊤, if◌then◌else◌}
-use Rattle.std.proofs.lemmas.Bool.{cases_lt}
-use Rattle.std.proofs.lemmas.List.{take-append-drop}
-use Rattle.text_model.specs.Documents.{ends_in_newline}
-use Rattle.text_model.specs.Lines.{IsLineStart, is_newline, lines, line_of, line_start}
-use Rattle.text_model.specs.Splices.{inserted, removed}
-use Rattle.text_model.proofs.LineLaws.{lines-cons, lines-append, line_start-rises}
-use Rattle.text_model.proofs.SpliceLaws.{get_or-inserted_before, get_or-inserted_behind, get_or-removed_before}
-use Rattle.text_model.proofs.SpliceLaws.{get_or-removed_behind}
-use Rattle.text_cursor.specs.Around.{next_line}
-use Rattle.text_cursor.proofs.AroundLaws.{line_start-past, number-of}
+use Rattle.edit_ops.proofs.Words.{◌≡◌, ℕ, zero, suc, ◌+◌, ◌-◌, ◌<◌, ◌≤◌, true, false, cond, List, [], ◌∷◌, length, take}
+use Rattle.edit_ops.proofs.Words.{drop, get_or, refl, sym, ap, ◌∙◌, arith, subst, inl, inr, true≢false, ⊤}
+use Rattle.edit_ops.proofs.Words.{if◌then◌else◌, cases_lt, take-append-drop, ends_in_newline, IsLineStart, is_newline}
+use Rattle.edit_ops.proofs.Words.{lines, line_of, line_start, inserted, removed, lines-cons, lines-append}
+use Rattle.edit_ops.proofs.Words.{line_start-rises, get_or-inserted_before, get_or-inserted_behind}
+use Rattle.edit_ops.proofs.Words.{get_or-removed_before, get_or-removed_behind, next_line, line_start-past, number-of}
 
 -- at the front, or right behind a newline
 abbrev pub Begins : List ℕ → ℕ → Type 0

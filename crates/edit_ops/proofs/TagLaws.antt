@@ -1,17 +1,10 @@
 -- One span more is tagged.
-use Rattle.std.proofs.Common.{◌≡◌, ℕ, ◌+◌, ◌<◌, Bool, List, [], ◌∷◌, ◌++◌, false, map, length, get_or, drop, sym, ap}
-use Rattle.std.proofs.Common.{◌∙◌}
-use Rattle.std.proofs.lemmas.List.{drop_more, map-id}
-use Rattle.text_model.specs.declared.edits.Step.{Step}
-use Rattle.text_model.specs.declared.edits.Step.TheVariants.{SetTag, ClearSlot}
+use Rattle.edit_ops.proofs.Words.{◌≡◌, ℕ, ◌+◌, ◌<◌, Bool, List, [], ◌∷◌, ◌++◌, false, map, length, get_or, drop, sym}
+use Rattle.edit_ops.proofs.Words.{ap, ◌∙◌, drop_more, map-id, Step, SetTag, ClearSlot, Content, Fits, StepFits, after}
+use Rattle.edit_ops.proofs.Words.{with_slot, map-map, Fits-append, after-append, length-after_step, Span, SpanFits}
+use Rattle.edit_ops.proofs.Words.{tagged, cell_without, cleared}
 use Rattle.text_model.specs.declared.places.TagSlot.{TagSlot}
-use Rattle.text_model.specs.Content.{Content}
-use Rattle.text_model.specs.Steps.{Fits, StepFits, after, with_slot}
 use Rattle.text_model.specs.TagBits.{slot_count}
-use Rattle.text_model.proofs.SpliceLaws.{map-map}
-use Rattle.text_model.proofs.StepLaws.{Fits-append, after-append, length-after_step}
-use Rattle.edit_ops.specs.declared.spans.Span.{Span}
-use Rattle.edit_ops.specs.Tagging.{SpanFits, tagged, cell_without, cleared}
 
 -- the first of the spans are tagged, and these are left
 pub record Tagging (slot : TagSlot) (on : Bool) (spans : List Span) (steps : List Step) (rest : List Span) (len : ℕ)

@@ -1,19 +1,13 @@
 -- The changes of hunks, the last hunk's first, tell what the hunks make of a text.
-use Rattle.std.proofs.Common.{◌≡◌, ◌≢◌, ℕ, ◌+◌, ◌-◌, ◌≤◌, List, [], ◌∷◌, ◌++◌, map, reverse, inl, inr}
-use Rattle.std.proofs.Common.{length, take, drop, refl, sym, ap, ◌∙◌, arith, subst, append-nil}
-use Rattle.std.specs.Prelude.{slice_range}
-use Rattle.std.proofs.Math.Seq.{take-add}
-use Rattle.std.proofs.lemmas.Bool.{cases_lt}
-use Rattle.std.proofs.lemmas.List.{append_assoc, drop_at, length-append, length-take-le, nil_from_length}
-use Rattle.std.proofs.lemmas.List.{reverse-append}
-use Rattle.std.proofs.lemmas.List.{length-map, take_at, take-append-drop, take-append-le, take-take}
-use Rattle.text_model.specs.declared.cells.Cell.{Cell}
-use Rattle.text_model.specs.Content.{characters}
+use Rattle.edit_ops.proofs.Words.{◌≡◌, ◌≢◌, ℕ, ◌+◌, ◌-◌, ◌≤◌, List, [], ◌∷◌, ◌++◌, map, inl, inr, length, take, drop}
+use Rattle.edit_ops.proofs.Words.{refl, sym, ap, ◌∙◌, arith, subst, append-nil, slice_range, take-add, cases_lt}
+use Rattle.edit_ops.proofs.Words.{append_assoc, drop_at, length-take-le, nil_from_length, reverse-append, length-map}
+use Rattle.edit_ops.proofs.Words.{take_at, take-append-drop, take-append-le, take-take, Cell, characters, Hunk}
+use Rattle.edit_ops.proofs.Words.{SpotWalk, spot_at, end_of, after_change, after_change_by, after_changes_by}
+use Rattle.edit_ops.proofs.Words.{hunk_change, hunk_changes, patched, patched_by, AreHunks, IsChange, IsHunk, Tells}
+use Rattle.std.proofs.Common.{reverse}
+use Rattle.std.proofs.lemmas.List.{length-append}
 use Rattle.edit_ops.specs.declared.changes.TextChange.{TextChange}
-use Rattle.edit_ops.specs.declared.hunks.Hunk.{Hunk}
-use Rattle.edit_ops.specs.declared.spot_walks.SpotWalk.{SpotWalk}
-use Rattle.edit_ops.specs.Told.{spot_at, end_of, after_change, after_change_by, after_changes_by, hunk_change}
-use Rattle.edit_ops.specs.Told.{hunk_changes, patched, patched_by, AreHunks, IsChange, IsHunk, Tells}
 use Rattle.edit_ops.proofs.DeleteLaws.{length-slice}
 use Rattle.edit_ops.proofs.SpotLaws.{spot-end, spot-same}
 

@@ -1,24 +1,18 @@
 -- How long a closed front of a word may be if it is a name, from what stands behind those names that begin it.
-use Rattle.std.proofs.Common.{◌≡◌, ◌≢◌, ℕ, suc, ◌+◌, ◌-◌, ◌<◌, ◌≤◌, true, false, cond, List, [], ◌∷◌, ◌++◌, map}
-use Rattle.std.proofs.Common.{take, drop, length, get_or, refl, sym, ap, ◌∙◌, arith}
-use Rattle.std.specs.Prelude.{min, chars, IsUtf8, bytes_eq, encode_utf8_all, find, slice_get, nat_lt}
-use Rattle.std.specs.Prelude.{nat_eq, ◌==◌, Option, Some, None, option_map, if◌then◌else◌}
-use Rattle.std.specs.Prelude.{MatchOption}
+use Rattle.index_grammar.proofs.Words.{◌≡◌, ◌≢◌, ℕ, suc, ◌+◌, ◌-◌, ◌<◌, ◌≤◌, true, false, cond, List, [], ◌∷◌, ◌++◌}
+use Rattle.index_grammar.proofs.Words.{map, take, drop, length, get_or, refl, sym, ap, ◌∙◌, arith, chars, IsUtf8}
+use Rattle.index_grammar.proofs.Words.{bytes_eq, encode_utf8_all, find, slice_get, nat_lt, nat_eq, option_map}
+use Rattle.index_grammar.proofs.Words.{if◌then◌else◌, MatchOption, ends_with, nat_tests, Decides-ltb, take-append-drop}
+use Rattle.index_grammar.proofs.Words.{length-drop, length-take, length-append, append-nil, bytes_eq-Decides}
+use Rattle.index_grammar.proofs.Words.{encodes-chars, IsUtf8-take, IsCharBoundary-before_ascii, Mark, closes, IsBound}
+use Rattle.index_grammar.proofs.Words.{marked, tagged, known_marks, known_tags}
+use Rattle.std.specs.Prelude.{min, ◌==◌, Option, Some, None}
 use Rattle.std.specs.Borrow.{Bor}
-use Rattle.std.specs.List.{ends_with}
-use Rattle.std.proofs.lemmas.Bool.Decides.{nat_tests, Decides-ltb}
-use Rattle.std.proofs.lemmas.List.{take-append-drop, length-drop, length-take, length-append, append-nil, append_assoc}
+use Rattle.std.proofs.lemmas.List.{append_assoc}
 use Rattle.std.proofs.Math.Seq.{get_or-append_seam}
-use Rattle.std.proofs.lemmas.Slice.Eq.{bytes_eq-Decides}
-use Rattle.std.proofs.lemmas.Str.{encodes-chars, IsUtf8-take, IsCharBoundary-before_ascii}
 use Rattle.mark_table.specs.SharedMarks as shared_marks
-use Rattle.mark_table.specs.SharedMarks.{Mark}
 use Rattle.tag_table.specs.Tags as shared_tags
 use Rattle.tag_table.specs.Tags.{Tag}
-use Rattle.index_grammar.specs.Characters.{closes}
-use Rattle.index_grammar.specs.Fronts.{IsBound}
-use Rattle.index_grammar.specs.Grammar.{marked, tagged}
-use Rattle.index_grammar.specs.Names.{known_marks, known_tags}
 use Rattle.index_grammar.specs.declared.indices.Base.TheVariants as base
 use Rattle.index_grammar.proofs.CharLaws.{break-boundary}
 use Rattle.index_grammar.proofs.TokenLaws.{drop-front}

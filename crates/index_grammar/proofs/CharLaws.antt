@@ -1,20 +1,14 @@
 -- Where a word is cut at a blank or a sign, its characters are too.
-use Rattle.std.proofs.Common.{◌≡◌, ℕ, ◌+◌, ◌<◌, ◌≤◌, Bool, true, false, cond, not, ◌&&◌, List, [], ◌∷◌, ◌++◌, take}
-use Rattle.std.proofs.Common.{drop, length, get_or, refl, sym, ap, ◌∙◌, arith}
-use Rattle.std.specs.Prelude.{chars, IsUtf8, IsCharBoundary, encode_utf8_all, nat_lt, Option, Some, None, option_map}
+use Rattle.index_grammar.proofs.Words.{◌≡◌, ℕ, ◌+◌, ◌<◌, ◌≤◌, Bool, true, false, cond, not, ◌&&◌, List, [], ◌∷◌, ◌++◌}
+use Rattle.index_grammar.proofs.Words.{take, drop, length, get_or, refl, sym, ap, ◌∙◌, arith, chars, IsUtf8}
+use Rattle.index_grammar.proofs.Words.{IsCharBoundary, encode_utf8_all, nat_lt, option_map, list_all, prefix_len}
+use Rattle.index_grammar.proofs.Words.{nat_tests, Decides-ltb, false≢true, take-append-drop, drop_more}
+use Rattle.index_grammar.proofs.Words.{prefix_len-le-length, list_all-append, encodes-chars, encode_ascii, chars-append}
+use Rattle.index_grammar.proofs.Words.{chars-nil, chars-IsAscii, IsUtf8-take, IsUtf8-from_ascii}
+use Rattle.index_grammar.proofs.Words.{IsCharBoundary-before_ascii, is_break, closes, place_base, place_of, of_length}
+use Rattle.index_grammar.proofs.Words.{saturated_base, read_of, Base}
+use Rattle.std.specs.Prelude.{Option, Some, None}
 use lib.Utf8.{encode}
-use Rattle.std.specs.List.{list_all, prefix_len}
-use Rattle.std.proofs.lemmas.Bool.Decides.{nat_tests, Decides-ltb}
-use Rattle.std.proofs.lemmas.Bool.{false≢true}
-use Rattle.std.proofs.lemmas.List.{take-append-drop, drop_more}
-use Rattle.std.proofs.lemmas.List.Sums.{prefix_len-le-length}
-use Rattle.std.proofs.lemmas.List.Folds.{list_all-append}
-use Rattle.std.proofs.lemmas.Str.{encodes-chars, encode_ascii, chars-append, chars-nil, chars-IsAscii, IsUtf8-take}
-use Rattle.std.proofs.lemmas.Str.{IsUtf8-from_ascii, IsCharBoundary-before_ascii}
-use Rattle.index_grammar.specs.Characters.{is_break, closes}
-use Rattle.index_grammar.specs.Grammar.{place_base, place_of, of_length, saturated_base}
-use Rattle.index_grammar.specs.Reading.{read_of}
-use Rattle.index_grammar.specs.declared.indices.Base.{Base}
 use Rattle.index_grammar.proofs.LowLaws.{ascii_of}
 use Rattle.index_grammar.proofs.PlaceLaws.{place_of-chars}
 use Rattle.index_grammar.proofs.TokenLaws.{inside, prefix-append, take-front, drop-front, one}

@@ -1,15 +1,10 @@
 -- The longest closed front of a word, by its bytes.
-use Rattle.std.proofs.Common.{◌≡◌, ℕ, suc, ◌+◌, ◌<◌, ◌≤◌, true, List, [], ◌∷◌, ◌++◌, take, drop, length, get_or, refl}
-use Rattle.std.proofs.Common.{sym, ap, ◌∙◌, arith}
-use Rattle.std.specs.Prelude.{chars, IsUtf8, IsCharBoundary, Option, Some, None, slice_range, ◌-◌}
-use Rattle.std.specs.List.{list_all}
-use Rattle.std.proofs.lemmas.List.{drop_more, take-take, get_or-take, length-append, length-take}
-use Rattle.std.proofs.lemmas.Str.{IsUtf8-take, IsUtf8-drop, IsCharBoundary-after_ascii}
-use Rattle.std.proofs.lemmas.Bool.Decides.{Decides-ltb}
-use Rattle.index_grammar.specs.Characters.{is_break, closes}
-use Rattle.index_grammar.specs.Grammar.{longest, longest_front, closed_front, saturated_base}
-use Rattle.index_grammar.specs.Reading.{read_of}
-use Rattle.index_grammar.specs.declared.indices.Base.{Base}
+use Rattle.index_grammar.proofs.Words.{◌≡◌, ℕ, suc, ◌+◌, ◌<◌, ◌≤◌, true, List, [], ◌∷◌, ◌++◌, take, drop, length}
+use Rattle.index_grammar.proofs.Words.{get_or, refl, sym, ap, ◌∙◌, arith, chars, IsUtf8, IsCharBoundary, slice_range}
+use Rattle.index_grammar.proofs.Words.{list_all, drop_more, take-take, get_or-take, length-append, length-take}
+use Rattle.index_grammar.proofs.Words.{IsUtf8-take, IsUtf8-drop, IsCharBoundary-after_ascii, Decides-ltb, is_break}
+use Rattle.index_grammar.proofs.Words.{closes, longest, longest_front, closed_front, saturated_base, read_of, Base}
+use Rattle.std.specs.Prelude.{Option, Some, None, ◌-◌}
 use Rattle.index_grammar.proofs.TokenLaws.{inside}
 use Rattle.index_grammar.proofs.CharLaws.{inside-chars, chars-cut, chars-low, closes-chars, break-low, break-boundary}
 use Rattle.index_grammar.proofs.CharLaws.{take-chars, drop-chars}

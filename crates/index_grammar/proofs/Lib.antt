@@ -12,3 +12,4 @@ pub mod StepLaws
 pub mod TagLaws
 pub mod TokenLaws
 pub mod WholeLaws
+pub mod Words

@@ -1,15 +1,11 @@
 -- The longest closed front, from the last closed front on.
-use Rattle.std.proofs.Common.{◌≡◌, ℕ, zero, suc, ◌+◌, ◌-◌, ◌<◌, ◌≤◌, Bool, true, false, not, List, [], ◌∷◌, take, drop}
-use Rattle.std.proofs.Common.{length, get_or, refl, sym, ap, ◌∙◌, arith}
-use Rattle.std.specs.Prelude.{nat_lt, Option, Some, None, option_map, if◌then◌else◌}
+use Rattle.index_grammar.proofs.Words.{◌≡◌, ℕ, zero, suc, ◌+◌, ◌-◌, ◌<◌, ◌≤◌, Bool, true, false, not, List, [], ◌∷◌}
+use Rattle.index_grammar.proofs.Words.{take, drop, length, get_or, refl, sym, ap, ◌∙◌, arith, nat_lt, option_map}
+use Rattle.index_grammar.proofs.Words.{if◌then◌else◌, list_all, nat_tests, Decides-ltb, false≢true, drop_more}
+use Rattle.index_grammar.proofs.Words.{get_or-drop, get_or-take, length-take, length-drop, is_break, closes, longest}
+use Rattle.index_grammar.proofs.Words.{closed_front, of_length, Base}
+use Rattle.std.specs.Prelude.{Option, Some, None}
 use Rattle.std.specs.Option.{option_or}
-use Rattle.std.specs.List.{list_all}
-use Rattle.std.proofs.lemmas.Bool.Decides.{nat_tests, Decides-ltb}
-use Rattle.std.proofs.lemmas.Bool.{false≢true}
-use Rattle.std.proofs.lemmas.List.{drop_more, get_or-drop, get_or-take, length-take, length-drop}
-use Rattle.index_grammar.specs.Characters.{is_break, closes}
-use Rattle.index_grammar.specs.Grammar.{longest, closed_front, of_length}
-use Rattle.index_grammar.specs.declared.indices.Base.{Base}
 use Rattle.index_grammar.proofs.TokenLaws.{inside}
 use Rattle.index_grammar.proofs.CharLaws.{both}
 

@@ -1,19 +1,12 @@
 -- Modifiers have no character beyond ASCII, so the bytes of a text stand for its characters.
-use Rattle.std.proofs.Common.{◌≡◌, ℕ, Bool, true, false, ◌&&◌, ◌||◌, List, [], ◌∷◌, ◌++◌, Option, Some, None, take}
-use Rattle.std.proofs.Common.{drop, length, refl, sym, ap, ◌∙◌, arith}
-use Rattle.std.specs.Prelude.{chars, codes, IsUtf8, bytes_eq, nat_eq, nat_le, option_map, if◌then◌else◌}
-use Rattle.std.specs.List.{list_all, prefix_len, starts_with}
-use Rattle.std.specs.Char.{is_ascii_digit}
-use Rattle.std.proofs.lemmas.Bool.Decides.{nat_tests, Decides-eqb}
-use Rattle.std.proofs.lemmas.List.{take-append-drop}
-use Rattle.std.proofs.lemmas.List.Folds.{list_all-append}
-use Rattle.std.proofs.lemmas.Slice.Eq.{starts_is, bytes_eq-Decides}
-use Rattle.std.proofs.lemmas.Str.{chars-IsAscii, encodes-IsAscii, encodes-chars}
-use Rattle.index_grammar.specs.Characters.{is_blank, is_sign}
-use Rattle.index_grammar.specs.Grammar.{Token, tokens_from, tokens_of, run_tokens, parts_of, modifiers_of, before}
-use Rattle.index_grammar.specs.Grammar.{counted, by_count, number_of, keyword_of, unit_of, abbreviates}
-use Rattle.index_grammar.specs.Grammar.Token.{Sign, Digits, Word}
-use Rattle.index_grammar.specs.declared.indices.Modifier.{Modifier}
+use Rattle.index_grammar.proofs.Words.{◌≡◌, ℕ, Bool, true, false, ◌&&◌, ◌||◌, List, [], ◌∷◌, ◌++◌, Option, Some, None}
+use Rattle.index_grammar.proofs.Words.{take, drop, length, refl, sym, ap, ◌∙◌, arith, chars, codes, IsUtf8, bytes_eq}
+use Rattle.index_grammar.proofs.Words.{nat_eq, nat_le, option_map, if◌then◌else◌, list_all, prefix_len, starts_with}
+use Rattle.index_grammar.proofs.Words.{is_ascii_digit, nat_tests, Decides-eqb, take-append-drop, list_all-append}
+use Rattle.index_grammar.proofs.Words.{starts_is, bytes_eq-Decides, chars-IsAscii, encodes-IsAscii, encodes-chars}
+use Rattle.index_grammar.proofs.Words.{is_blank, is_sign, Token, tokens_from, tokens_of, run_tokens, parts_of}
+use Rattle.index_grammar.proofs.Words.{modifiers_of, before, counted, by_count, number_of, keyword_of, unit_of}
+use Rattle.index_grammar.proofs.Words.{abbreviates, Sign, Digits, Word, Modifier}
 use Rattle.index_grammar.specs.declared.indices.Modifier.TheVariants as modifier
 use Rattle.index_grammar.specs.declared.indices.Unit.{Unit}
 use Rattle.index_grammar.specs.declared.indices.Unit.TheVariants as unit

@@ -1,13 +1,10 @@
 -- Names by their bytes.
-use Rattle.std.proofs.Common.{◌≡◌, ℕ, ◌+◌, ◌*◌, Bool, true, false, List, [], ◌∷◌, Some, refl, sym, ap, ◌∙◌}
+use Rattle.index_grammar.proofs.Words.{◌≡◌, ℕ, ◌+◌, ◌*◌, Bool, true, false, List, [], ◌∷◌, Some, refl, sym, ap, ◌∙◌}
+use Rattle.index_grammar.proofs.Words.{bytes_eq, codes, IsUtf8, encode_utf8_all, same_from_decides, bytes_eq-Decides}
+use Rattle.index_grammar.proofs.Words.{encodes-chars, IsUtf8-from_ascii, Mark, known_marks}
 use Rattle.std.specs.Str.{chars}
-use Rattle.std.specs.Prelude.{bytes_eq, codes, IsUtf8, encode_utf8_all}
-use Rattle.std.proofs.lemmas.Bool.Decides.{same_from_decides}
-use Rattle.std.proofs.lemmas.Slice.Eq.{bytes_eq-Decides}
-use Rattle.std.proofs.lemmas.Str.{encodes-chars, IsUtf8-from_ascii}
-use Rattle.mark_table.specs.SharedMarks.{Mark, number_of}
+use Rattle.mark_table.specs.SharedMarks.{number_of}
 use Rattle.index_grammar.proofs.LowLaws.{ascii_of}
-use Rattle.index_grammar.specs.Names.{known_marks}
 
 abbrev pub insert_bytes : List ℕ
 insert_bytes = 105 ∷ 110 ∷ 115 ∷ 101 ∷ 114 ∷ 116 ∷ []

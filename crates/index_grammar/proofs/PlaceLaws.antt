@@ -1,22 +1,14 @@
 -- Places of bytes, and with numbers up to the greatest that a machine has.
-use Rattle.std.proofs.Common.{◌≡◌, ℕ, suc, ◌+◌, ◌≤◌, min, true, false, ◌&&◌, List, [], ◌∷◌, ◌++◌, Option, Some, None}
-use Rattle.std.proofs.Common.{take, drop, get_or, refl, sym, ap, ◌∙◌, arith}
+use Rattle.index_grammar.proofs.Words.{◌≡◌, ℕ, suc, ◌+◌, ◌≤◌, min, true, false, ◌&&◌, List, [], ◌∷◌, ◌++◌, Option, Some}
+use Rattle.index_grammar.proofs.Words.{None, take, drop, get_or, refl, sym, ap, ◌∙◌, arith, is_ascii_digit, fold}
+use Rattle.index_grammar.proofs.Words.{bytes_eq, codes, position, option_map, option_and_then, if◌then◌else◌, IsUtf8}
+use Rattle.index_grammar.proofs.Words.{nat_tests, Decides-eqb, drop_more, take-append-drop, list_all-append, list_all}
+use Rattle.index_grammar.proofs.Words.{false≢true, bytes_eq-Decides, chars-IsAscii, encodes-IsAscii, encodes-chars}
+use Rattle.index_grammar.proofs.Words.{Base, add_digit, number_of, in_line, around_dot, place_of, saturated_base}
+use Rattle.index_grammar.proofs.Words.{is_dot}
 use Rattle.std.specs.Str.{chars}
-use Rattle.std.specs.Char.{is_ascii_digit}
-use Rattle.std.specs.Prelude.{fold, bytes_eq, codes, position, option_map, option_and_then, if◌then◌else◌}
-use Rattle.std.proofs.lemmas.Bool.Decides.{nat_tests, Decides-eqb}
-use Rattle.std.proofs.lemmas.List.{drop_more, take-append-drop}
-use Rattle.std.proofs.lemmas.List.Folds.{list_all-append}
 use Rattle.std.proofs.lemmas.List.Quantifiers.{position-Some}
-use Rattle.std.specs.List.{list_all}
-use Rattle.std.specs.Prelude.{IsUtf8}
-use Rattle.std.proofs.lemmas.Bool.{false≢true}
-use Rattle.std.proofs.lemmas.Slice.Eq.{bytes_eq-Decides}
-use Rattle.std.proofs.lemmas.Str.{chars-IsAscii, encodes-IsAscii, encodes-chars}
-use Rattle.index_grammar.specs.declared.indices.Base.{Base}
 use Rattle.index_grammar.specs.declared.indices.Base.TheVariants as base
-use Rattle.index_grammar.specs.Grammar.{add_digit, number_of, in_line, around_dot, place_of, saturated_base}
-use Rattle.index_grammar.specs.Reading.{is_dot}
 use Rattle.index_grammar.proofs.LowLaws.{is_low, ascii_of}
 
 abbrev pub most : ℕ

@@ -1,15 +1,9 @@
 -- The first modifier of a list of tokens.
-use Rattle.std.proofs.Common.{◌≡◌, ℕ, Bool, true, false, List, [], ◌∷◌, ◌++◌, Option, Some, None, refl, sym, ap, ◌∙◌}
-use Rattle.std.proofs.Common.{append_assoc}
-use Rattle.std.specs.Prelude.{bytes_eq, codes, option_map, if◌then◌else◌}
-use Rattle.std.proofs.lemmas.List.{append-nil}
-use Rattle.std.proofs.lemmas.Slice.Eq.{bytes_eq-Decides}
-use Rattle.index_grammar.specs.Grammar.{Token, modifiers_of, before, counted, number_of, saturated_modifier, keyword_of}
-use Rattle.index_grammar.specs.Grammar.{abbreviates}
-use Rattle.index_grammar.specs.Grammar.Token.{Sign, Digits, Word}
-use Rattle.index_grammar.specs.LentTokens.{digits_first, unit_first}
-use Rattle.index_grammar.specs.Steps.{saturated, after}
-use Rattle.index_grammar.specs.declared.indices.Modifier.{Modifier}
+use Rattle.index_grammar.proofs.Words.{◌≡◌, ℕ, Bool, true, false, List, [], ◌∷◌, ◌++◌, Option, Some, None, refl, sym}
+use Rattle.index_grammar.proofs.Words.{ap, ◌∙◌, append_assoc, bytes_eq, codes, option_map, if◌then◌else◌, append-nil}
+use Rattle.index_grammar.proofs.Words.{bytes_eq-Decides, Token, modifiers_of, before, counted, number_of}
+use Rattle.index_grammar.proofs.Words.{saturated_modifier, keyword_of, abbreviates, Sign, Digits, Word, digits_first}
+use Rattle.index_grammar.proofs.Words.{unit_first, saturated, after, Modifier}
 use Rattle.index_grammar.specs.declared.indices.Modifier.TheVariants as modifier
 
 abbrev pub any_bytes : List ℕ

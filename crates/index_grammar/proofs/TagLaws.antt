@@ -1,15 +1,11 @@
 -- A tag's name before `.first` or `.last`, by its bytes.
-use Rattle.std.proofs.Common.{◌≡◌, ℕ, ◌-◌, true, false, List, [], ◌∷◌, ◌++◌, take, length, refl, sym, ap, ◌∙◌, arith}
-use Rattle.std.specs.Prelude.{chars, IsUtf8, IsAscii, encode_utf8_all, nat_eq, Option, Some, None, option_map}
-use Rattle.std.specs.Prelude.{if◌then◌else◌}
-use Rattle.std.specs.List.{ends_with}
-use Rattle.std.proofs.lemmas.Bool.{false≢true}
-use Rattle.std.proofs.lemmas.Bool.Decides.{Decides-eqb}
-use Rattle.std.proofs.lemmas.List.{length-append}
-use Rattle.std.proofs.lemmas.Slice.Eq.{ends_is}
-use Rattle.std.proofs.lemmas.Str.{encodes-chars, encodes-append, encodes-IsAscii, chars-append, chars-IsAscii}
+use Rattle.index_grammar.proofs.Words.{◌≡◌, ℕ, ◌-◌, true, false, List, [], ◌∷◌, ◌++◌, take, length, refl, sym, ap, ◌∙◌}
+use Rattle.index_grammar.proofs.Words.{arith, chars, IsUtf8, IsAscii, encode_utf8_all, nat_eq, option_map}
+use Rattle.index_grammar.proofs.Words.{if◌then◌else◌, ends_with, false≢true, Decides-eqb, length-append, ends_is}
+use Rattle.index_grammar.proofs.Words.{encodes-chars, encodes-append, encodes-IsAscii, chars-append, chars-IsAscii}
+use Rattle.index_grammar.proofs.Words.{tagged, without_last, first_tagged, last_tagged}
+use Rattle.std.specs.Prelude.{Option, Some, None}
 use Rattle.text_model.specs.declared.places.TagSlot.{TagSlot}
-use Rattle.index_grammar.specs.Grammar.{tagged, without_last, first_tagged, last_tagged}
 use Rattle.index_grammar.specs.declared.indices.Base.TheVariants as base
 use Rattle.index_grammar.proofs.LowLaws.{ascii_of}
 use Rattle.index_grammar.proofs.TokenLaws.{take-front}

@@ -1,17 +1,11 @@
 -- The tokens at the front of a text.
-use Rattle.std.proofs.Common.{◌≡◌, ℕ, zero, suc, ◌+◌, Bool, true, false, cond, not, ◌&&◌, ◌||◌, ◌==◌, List, [], ◌∷◌}
-use Rattle.std.proofs.Common.{◌++◌, ◌<◌, ◌≤◌, length-drop, Some, None, take, drop, length, refl, sym, ap, ◌∙◌}
-use Rattle.std.proofs.Common.{append_assoc, arith}
-use Rattle.std.specs.Prelude.{slice_get}
-use Rattle.std.specs.List.{list_all, prefix_len}
-use Rattle.std.specs.Char.{is_ascii_digit}
-use Rattle.std.proofs.lemmas.Bool.Decides.{nat_tests}
-use Rattle.std.proofs.lemmas.Bool.{false≢true}
-use Rattle.std.proofs.lemmas.List.{append-nil, length-take}
-use Rattle.std.proofs.lemmas.List.Folds.{list_all-append}
-use Rattle.index_grammar.specs.Characters.{is_blank, is_sign, is_break}
-use Rattle.index_grammar.specs.Grammar.{Token, tokens_from, tokens_of, run_tokens, parts_of}
-use Rattle.index_grammar.specs.Grammar.Token.{Sign, Digits, Word}
+use Rattle.index_grammar.proofs.Words.{◌≡◌, ℕ, zero, suc, ◌+◌, Bool, true, false, cond, not, ◌&&◌, ◌||◌, ◌==◌, List, []}
+use Rattle.index_grammar.proofs.Words.{◌∷◌, ◌++◌, ◌<◌, ◌≤◌, Some, None, take, drop, length, refl, sym, ap, ◌∙◌}
+use Rattle.index_grammar.proofs.Words.{append_assoc, arith, slice_get, list_all, prefix_len, is_ascii_digit, nat_tests}
+use Rattle.index_grammar.proofs.Words.{false≢true, append-nil, length-take, list_all-append, is_blank, is_sign}
+use Rattle.index_grammar.proofs.Words.{is_break, Token, tokens_of, run_tokens, parts_of, Sign, Digits, Word}
+use Rattle.std.proofs.Common.{length-drop}
+use Rattle.index_grammar.specs.Grammar.{tokens_from}
 
 abbrev pub inside : ℕ → Bool
 inside c = not (is_break c)

@@ -1,11 +1,7 @@
 -- An index by its base and its modifiers.
-use Rattle.std.proofs.Common.{◌≡◌, ℕ, List, Option, Some, None, drop, refl, ap, ◌∙◌}
-use Rattle.std.specs.Prelude.{option_map, option_and_then}
-use Rattle.index_grammar.specs.Grammar.{index_of, base_of, modifiers_of, tokens_of, saturated_base, WholeIndex}
-use Rattle.index_grammar.specs.Reading.{read_of}
-use Rattle.index_grammar.specs.Steps.{saturated, saturated_index}
-use Rattle.index_grammar.specs.declared.indices.Base.{Base}
-use Rattle.index_grammar.specs.declared.indices.Modifier.{Modifier}
+use Rattle.index_grammar.proofs.Words.{◌≡◌, ℕ, List, Option, Some, None, drop, refl, ap, ◌∙◌, option_map}
+use Rattle.index_grammar.proofs.Words.{option_and_then, index_of, base_of, modifiers_of, tokens_of, saturated_base}
+use Rattle.index_grammar.proofs.Words.{WholeIndex, read_of, saturated, saturated_index, Base, Modifier}
 
 with-steps : (b : Base) (found : Option (List Modifier)) (steps : List Modifier) → saturated found ≡ Some steps
     → saturated_index (option_map {U = WholeIndex} (λ ms. (b, ms)) found) ≡ Some (saturated_base b, steps)

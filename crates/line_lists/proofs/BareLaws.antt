@@ -1,21 +1,10 @@
 -- Lines in which no slot is toggled: none is on before any of their columns.
-use Rattle.std.proofs.Common.{◌≡◌, ℕ, ◌+◌, ◌<◌, List, [], ◌∷◌, Some, length, take, drop}
-use Rattle.std.proofs.Common.{refl, sym, ap, ◌∙◌, arith, take-append-drop}
-use Rattle.std.specs.Prelude.{slice_get}
-use Rattle.std.specs.Cmp.{nat_cmp_total}
+use Rattle.line_lists.proofs.Words.{◌≡◌, ℕ, ◌+◌, ◌<◌, List, [], ◌∷◌, Some, length, take, drop, refl, sym, ap, ◌∙◌}
+use Rattle.line_lists.proofs.Words.{arith, take-append-drop, slice_get, nat_cmp_total, nat_cmp, or_parts, take-map}
+use Rattle.line_lists.proofs.Words.{Slots, slot_sets, slots_left_of, differing, differing-empty, same_slots}
+use Rattle.line_lists.proofs.Words.{union-commutative, parity, presence, presence-append, Column, LineContent, toggles}
+use Rattle.line_lists.proofs.Words.{count_of, content_of, whole, tags_left_of}
 use Rattle.std.specs.FinSet as set
-use Rattle.std.specs.Ordering.{nat_cmp}
-use Rattle.std.proofs.lemmas.Bool.{or_parts}
-use Rattle.std.proofs.lemmas.List.{take-map}
-use Rattle.text_model.specs.Content.{Slots, slot_sets, slots_left_of}
-use Rattle.text_model.specs.SlotSets.{differing}
-use Rattle.toggle_sums.specs.CountLaws.{differing-empty, same_slots, union-commutative}
-use Rattle.toggle_sums.specs.Toggles.{parity, presence}
-use Rattle.toggle_sums.proofs.ToggleLaws.{presence-append}
-use Rattle.segments.specs.Columns.{Column, LineContent, toggles}
-use Rattle.line_lists.specs.Lists.{count_of}
-use Rattle.line_lists.specs.Texts.{content_of, whole}
-use Rattle.line_lists.specs.Toggling.{tags_left_of}
 use Rattle.line_lists.proofs.CountRows.{count-presence}
 use Rattle.line_lists.proofs.PlaceRows.{length-content, tags-behind, tags-column}
 

@@ -1,19 +1,10 @@
 -- Where to begin to take the toggles of a slot away from an offset on: if the kept line that holds it has none, further
 -- on. All is as if that line were copied, and cleared, which leaves the text as it is.
-use Rattle.std.proofs.Common.{◌≡◌, ℕ, ◌+◌, ◌-◌, ◌<◌, ◌≤◌, min, true, false, List, [], ◌∷◌, ◌++◌, length}
-use Rattle.std.proofs.Common.{take, drop, refl, sym, ap, subst, ◌∙◌, arith}
-use Rattle.std.specs.Prelude.{IfSome, slice_get}
-use Rattle.segments.specs.Columns.{LineContent}
-use Rattle.line_lists.specs.declared.drafts.Copied.{Copied}
-use Rattle.line_lists.specs.declared.drafts.Reached.{Reached}
-use Rattle.line_lists.specs.declared.drafts.Stop.{Stop}
-use Rattle.line_lists.specs.Clearing.{AreFree, free_end}
-use Rattle.line_lists.specs.Drafts.{IsReached, IsTaken, IsText, StandsAt, copies_of, covered, drafted_at}
-use Rattle.line_lists.specs.Drafts.{line_start, taken_lines, text_at}
-use Rattle.line_lists.specs.Drafts.{place_of}
-use Rattle.line_lists.specs.Edits.{with_cleared}
-use Rattle.line_lists.specs.Lists.{has_toggle}
-use Rattle.line_lists.specs.Texts.{whole}
+use Rattle.line_lists.proofs.Words.{◌≡◌, ℕ, ◌+◌, ◌-◌, ◌<◌, ◌≤◌, min, true, false, List, [], ◌∷◌, ◌++◌, length, take}
+use Rattle.line_lists.proofs.Words.{drop, refl, sym, ap, subst, ◌∙◌, arith, IfSome, slice_get, LineContent, Copied}
+use Rattle.line_lists.proofs.Words.{Reached, Stop, AreFree, free_end, IsReached, IsTaken, IsText, StandsAt, copies_of}
+use Rattle.line_lists.proofs.Words.{covered, drafted_at, line_start, taken_lines, text_at, place_of, with_cleared}
+use Rattle.line_lists.proofs.Words.{has_toggle, whole}
 use Rattle.line_lists.proofs.ClearingLaws.{ClearsLine, cleared-none, clears-line, clears-on, end-rest, end-within}
 use Rattle.line_lists.proofs.ClearingLaws.{line-kept, place-behind}
 use Rattle.line_lists.proofs.DraftLaws.{copies-snoc, reached-more, stop_of}

@@ -1,38 +1,24 @@
 -- The slots that are on in a draft, and its lines without the toggles of a slot.
-use Rattle.std.proofs.Common.{◌≡◌, ℕ, zero, suc, ◌+◌, ◌-◌, ◌<◌, ◌≤◌, ◌^◌, min, Bool, true, false, List, [], ◌∷◌, ◌++◌}
-use Rattle.std.proofs.Common.{Option, None, Some, length, get_or, map, take, drop, inl, inr, refl, sym, ap, ap₂, subst}
-use Rattle.std.proofs.Common.{◌∙◌, arith, append_assoc, length-append, length-drop, length-take, take-append-drop}
+use Rattle.line_lists.proofs.Words.{◌≡◌, ℕ, zero, suc, ◌+◌, ◌-◌, ◌<◌, ◌≤◌, ◌^◌, min, Bool, true, false, List, [], ◌∷◌}
+use Rattle.line_lists.proofs.Words.{◌++◌, Option, None, Some, length, get_or, map, take, drop, inl, inr, refl, sym, ap}
+use Rattle.line_lists.proofs.Words.{ap₂, subst, ◌∙◌, arith, append_assoc, length-append, length-drop, length-take}
+use Rattle.line_lists.proofs.Words.{take-append-drop, IfSome, if◌then◌else◌, reverse, slice_get, unwrap_or, cases_lt}
+use Rattle.line_lists.proofs.Words.{or_parts, append-nil, drop-drop, drop-map, get_or-drop, get_or-take, map-append}
+use Rattle.line_lists.proofs.Words.{reverse-append, take-append-le, take-map, take-take, take_all, slice_get-get_or}
+use Rattle.line_lists.proofs.Words.{take-append-add, differing, changed, changed-append_right, changed-same}
+use Rattle.line_lists.proofs.Words.{length-changed, map-changed, presence, Column, LineContent, characters, joined}
+use Rattle.line_lists.proofs.Words.{plain_line, toggles, with_toggle, Copied, Reached, Stop, AreFree, free_end}
+use Rattle.line_lists.proofs.Words.{free_length, lines_on, BeginsBehind, IsDraft, IsReached, IsTaken, IsText, StandsAt}
+use Rattle.line_lists.proofs.Words.{copies_of, covered, drafted, drafted_at, lines_before, lines_behind, made_lines}
+use Rattle.line_lists.proofs.Words.{taken_lines, text_at, tags_after, used, place_of, with_cleared, AreRows, has_toggle}
+use Rattle.line_lists.proofs.Words.{next_line, whole, cleared, tags_left_of}
 use Rattle.std.specs.FinSet as set
-use Rattle.std.specs.Prelude.{IfSome, if◌then◌else◌, reverse, slice_get, unwrap_or}
-use Rattle.std.proofs.lemmas.Bool.{cases_lt, or_parts}
-use Rattle.std.proofs.lemmas.List.{append-nil, drop-drop, drop-map, get_or-drop, get_or-take, map-append}
-use Rattle.std.proofs.lemmas.List.{reverse-append, take-append-le, take-map, take-take, take_all}
-use Rattle.std.proofs.lemmas.Option.{slice_get-get_or}
-use Rattle.std.proofs.Math.Seq.{take-append-add}
-use Rattle.text_model.specs.SlotSets.{differing}
-use Rattle.text_model.specs.Splices.{changed}
-use Rattle.text_model.proofs.SpliceLaws.{changed-append_right, changed-same, length-changed, map-changed}
-use Rattle.toggle_sums.specs.Toggles.{presence}
-use Rattle.segments.specs.Columns.{Column, LineContent, characters, joined, plain_line, toggles, with_toggle}
 use Rattle.segments.proofs.ChangeLaws.{changed-first, changed-next, slots_kept}
-use Rattle.line_lists.specs.declared.drafts.Copied.{Copied}
-use Rattle.line_lists.specs.declared.drafts.Reached.{Reached}
-use Rattle.line_lists.specs.declared.drafts.Stop.{Stop}
-use Rattle.line_lists.specs.Clearing.{AreFree, free_end, free_length, lines_on}
-use Rattle.line_lists.specs.Drafts.{BeginsBehind, IsDraft, IsReached, IsTaken, IsText, StandsAt, copies_of, covered}
-use Rattle.line_lists.specs.Drafts.{drafted, drafted_at, lines_before, lines_behind, made_lines, taken_lines, text_at}
-use Rattle.line_lists.specs.Drafts.{tags_after, used}
-use Rattle.line_lists.specs.Drafts.{place_of}
-use Rattle.line_lists.specs.Edits.{with_cleared}
-use Rattle.line_lists.specs.Lists.{AreRows, has_toggle, next_line}
-use Rattle.line_lists.specs.Texts.{whole}
-use Rattle.line_lists.specs.Toggling.{cleared, tags_left_of}
-use Rattle.line_lists.proofs.DraftLaws.{behind-whole, can-follow-next, copies-snoc, drafted-append, last_is}
-use Rattle.line_lists.proofs.DraftLaws.{last_same, length-whole, stop_of}
-use Rattle.line_lists.proofs.DraftLaws.{no_last, none_at, take-more, used-append}
+use Rattle.line_lists.proofs.DraftLaws.{behind-whole, can-follow-next, copies-snoc, drafted-append, last_is, last_same}
+use Rattle.line_lists.proofs.DraftLaws.{length-whole, stop_of, no_last, none_at, take-more, used-append}
 use Rattle.line_lists.proofs.FindLaws.{IsKept, begin-le, drop_after, kept-within, made-ends, opened, opened-before}
-use Rattle.line_lists.proofs.FindLaws.{opened-kept, opened-rest, opened-stands, put-back, rest-within}
-use Rattle.line_lists.proofs.FindLaws.{slice_get-drop, taken-is}
+use Rattle.line_lists.proofs.FindLaws.{opened-kept, opened-rest, opened-stands, put-back, rest-within, slice_get-drop}
+use Rattle.line_lists.proofs.FindLaws.{taken-is}
 use Rattle.line_lists.proofs.RowLaws.{Makes, rows-changed, whole-around}
 use Rattle.line_lists.proofs.SearchRows.{FailFrom, found-next, none-next}
 use Rattle.line_lists.proofs.TagLaws.{behind-append}

@@ -1,15 +1,9 @@
 -- What is counted of lines in a row.
-use Rattle.std.proofs.Common.{◌≡◌, ◌+◌, List, [], ◌∷◌, ◌++◌, length, refl, sym, ap, ◌∙◌, arith, length-append}
+use Rattle.line_lists.proofs.Words.{◌≡◌, ◌+◌, List, [], ◌∷◌, ◌++◌, length, refl, sym, ap, ◌∙◌, arith, length-append}
+use Rattle.line_lists.proofs.Words.{differing, no_text-plus, plus-associative, Count, CountsFit, plus, presence}
+use Rattle.line_lists.proofs.Words.{presence-append, Column, LineContent, line_count, toggles, IsCounted, count_of}
+use Rattle.line_lists.proofs.Words.{whole, tags_left_of}
 use Rattle.std.specs.FinSet as set
-use Rattle.text_model.specs.SlotSets.{differing}
-use Rattle.toggle_sums.specs.CountLaws.{no_text-plus, plus-associative}
-use Rattle.toggle_sums.specs.Counts.{Count, CountsFit, plus}
-use Rattle.toggle_sums.specs.Toggles.{presence}
-use Rattle.toggle_sums.proofs.ToggleLaws.{presence-append}
-use Rattle.segments.specs.Columns.{Column, LineContent, line_count, toggles}
-use Rattle.line_lists.specs.Lists.{IsCounted, count_of}
-use Rattle.line_lists.specs.Texts.{whole}
-use Rattle.line_lists.specs.Toggling.{tags_left_of}
 use Rattle.line_lists.proofs.TagLaws.{behind-append}
 
 pub count-append : (xs ys : List LineContent) → count_of (xs ++ ys) ≡ plus (count_of xs) (count_of ys)

@@ -1,28 +1,15 @@
 -- A line that is cut in two.
-use Rattle.std.proofs.Common.{◌≡◌, ℕ, ◌+◌, ◌-◌, ◌<◌, ◌≤◌, Bool, true, false, cond, List, [], ◌∷◌, ◌++◌, Option, None}
-use Rattle.std.proofs.Common.{Some, length, take, drop, refl, sym, ap, ap₂, subst, ◌∙◌, arith, length-append}
-use Rattle.std.proofs.Common.{length-drop, take-append-drop}
-use Rattle.std.specs.Cmp.{nat_cmp_total}
+use Rattle.line_lists.proofs.Words.{◌≡◌, ℕ, ◌+◌, ◌-◌, ◌<◌, ◌≤◌, Bool, true, false, cond, List, [], ◌∷◌, ◌++◌, Option}
+use Rattle.line_lists.proofs.Words.{None, Some, length, take, drop, refl, sym, ap, ap₂, subst, ◌∙◌, arith}
+use Rattle.line_lists.proofs.Words.{length-append, length-drop, take-append-drop, nat_cmp_total, nat_le, nat_lt}
+use Rattle.line_lists.proofs.Words.{option_map, nat_tests, drop-map, length-map, length-take-le, map-append, take-map}
+use Rattle.line_lists.proofs.Words.{option_filter, drop-append_seam, take-append_seam, Place, Marks, map_marks}
+use Rattle.line_lists.proofs.Words.{ends_in_newline, lines, inserted, moved, ends_with_rest, lines-append}
+use Rattle.line_lists.proofs.Words.{get-map_marks, same_marks, Column, LineContent, after_text, characters, earlier}
+use Rattle.line_lists.proofs.Words.{joined, later, line_before, line_behind, marks_where, plain_columns, plain_line}
+use Rattle.line_lists.proofs.Words.{get-joined_marks, or_else, characters-plain, AreApart, AreRows, GoesBefore, IsLine}
+use Rattle.line_lists.proofs.Words.{StandBefore, whole}
 use Rattle.std.specs.FinMap as finite
-use Rattle.std.specs.Prelude.{nat_le, nat_lt, option_map}
-use Rattle.std.proofs.lemmas.Bool.Decides.{nat_tests}
-use Rattle.std.proofs.lemmas.List.{drop-map, length-map, length-take-le, map-append, take-map}
-use Rattle.std.proofs.lemmas.Map.Entries.{option_filter}
-use Rattle.std.proofs.Math.Seq.{drop-append_seam, take-append_seam}
-use Rattle.text_model.specs.declared.places.Place.{Place}
-use Rattle.text_model.specs.Content.{Marks, map_marks}
-use Rattle.text_model.specs.Documents.{ends_in_newline}
-use Rattle.text_model.specs.Lines.{lines}
-use Rattle.text_model.specs.Splices.{inserted, moved}
-use Rattle.text_model.proofs.DocumentLaws.{ends_with_rest}
-use Rattle.text_model.proofs.LineLaws.{lines-append}
-use Rattle.text_model.proofs.PlaceLaws.{get-map_marks, same_marks}
-use Rattle.segments.specs.Columns.{Column, LineContent, after_text, characters, earlier, joined, later, line_before}
-use Rattle.segments.specs.Columns.{line_behind, marks_where, plain_columns, plain_line}
-use Rattle.segments.proofs.MarkLaws.{get-joined_marks, or_else}
-use Rattle.segments.proofs.PlainLaws.{characters-plain}
-use Rattle.line_lists.specs.Lists.{AreApart, AreRows, GoesBefore, IsLine, StandBefore}
-use Rattle.line_lists.specs.Texts.{whole}
 use Rattle.line_lists.proofs.EditLaws.{length-text, some-columns, text-among, text-goes, text-whole}
 use Rattle.line_lists.proofs.MarkPlaces.{apart-rest}
 use Rattle.line_lists.proofs.NewlineRows.{none_before}

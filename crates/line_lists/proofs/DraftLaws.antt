@@ -1,22 +1,13 @@
 -- Copies of lines in a row, and the lines that they make.
-use Rattle.std.proofs.Common.{◌≡◌, ℕ, zero, suc, ◌+◌, ◌-◌, ◌<◌, ◌≤◌, ◌^◌, List, [], ◌∷◌, ◌++◌, length, take, drop, refl}
-use Rattle.std.proofs.Common.{sym, ap, ap₂, ◌∙◌, subst, arith, append_assoc, length-append}
-use Rattle.std.specs.Prelude.{None, Option, Some, reverse, slice_get}
-use Rattle.std.proofs.lemmas.List.{append-nil, drop-drop, map-append, nil_from_length, reverse-append, take_all}
-use Rattle.std.proofs.lemmas.List.{take_more}
-use Rattle.std.proofs.lemmas.Option.{get_or_from_slice_get, slice_get_within}
-use Rattle.text_model.specs.SlotSets.{differing}
-use Rattle.toggle_sums.specs.Counts.{Count}
-use Rattle.segments.specs.Columns.{LineContent}
-use Rattle.line_lists.specs.declared.drafts.Copied.{Copied}
-use Rattle.line_lists.specs.declared.drafts.Reached.{Reached}
-use Rattle.line_lists.specs.declared.drafts.Stop.{Stop}
-use Rattle.line_lists.specs.Drafts.{AreStops, BeginsBehind, BeginsBy, CanFollow, IsDraft, IsReached, LastBeginsBehind}
-use Rattle.line_lists.specs.Drafts.{IsStop, copies_of, covered, drafted, in_order, line_start, lines_before, made_lines}
-use Rattle.line_lists.specs.Drafts.{used}
-use Rattle.line_lists.specs.Lists.{IsCounted, count_of}
-use Rattle.line_lists.specs.Texts.{whole}
-use Rattle.line_lists.specs.Toggling.{tags_left_of}
+use Rattle.line_lists.proofs.Words.{◌≡◌, ℕ, zero, suc, ◌+◌, ◌-◌, ◌<◌, ◌≤◌, ◌^◌, List, [], ◌∷◌, ◌++◌, length, take, drop}
+use Rattle.line_lists.proofs.Words.{refl, sym, ap, ap₂, ◌∙◌, subst, arith, append_assoc, length-append, reverse}
+use Rattle.line_lists.proofs.Words.{slice_get, append-nil, drop-drop, map-append, nil_from_length, reverse-append}
+use Rattle.line_lists.proofs.Words.{take_all, take_more, get_or_from_slice_get, slice_get_within, differing, Count}
+use Rattle.line_lists.proofs.Words.{LineContent, Copied, Reached, Stop, AreStops, BeginsBehind, BeginsBy, CanFollow}
+use Rattle.line_lists.proofs.Words.{IsDraft, IsReached, LastBeginsBehind, IsStop, copies_of, covered, drafted, in_order}
+use Rattle.line_lists.proofs.Words.{line_start, lines_before, made_lines, used, IsCounted, count_of, whole}
+use Rattle.line_lists.proofs.Words.{tags_left_of}
+use Rattle.std.specs.Prelude.{None, Option, Some}
 use Rattle.line_lists.proofs.CountRows.{count-append, count-characters, count-parity}
 use Rattle.line_lists.proofs.SlotLaws.{differing-again}
 use Rattle.line_lists.proofs.StepLaws.{take-slice}

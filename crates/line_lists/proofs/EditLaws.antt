@@ -1,29 +1,14 @@
 -- What a text that goes into a line, and a mark that is put in it, make of the lines of a text.
-use Rattle.std.proofs.Common.{◌≡◌, ◌≢◌, ℕ, ◌+◌, ◌-◌, min, IfSome, ◌<◌, ◌≤◌, Bool, true, false, List, [], ◌∷◌, ◌++◌}
-use Rattle.std.proofs.Common.{Option, None, Some, cond, length, take, refl, sym, ap, ap₂, subst, ◌∙◌, arith}
-use Rattle.std.proofs.Common.{length-append}
-use Rattle.std.specs.Cmp.{nat_cmp_total}
+use Rattle.line_lists.proofs.Words.{◌≡◌, ◌≢◌, ℕ, ◌+◌, ◌-◌, min, ◌<◌, ◌≤◌, Bool, true, false, List, [], ◌∷◌, ◌++◌}
+use Rattle.line_lists.proofs.Words.{Option, None, Some, cond, length, take, refl, sym, ap, ap₂, subst, ◌∙◌, arith}
+use Rattle.line_lists.proofs.Words.{length-append, nat_cmp_total, eq_by_cmp, nat_cmp, option_map, length-map, Place}
+use Rattle.line_lists.proofs.Words.{Marks, map_marks, ends_in_newline, lines, inserted, moved, ends_with_rest}
+use Rattle.line_lists.proofs.Words.{lines-inserted, get-map_marks, length-inserted, map-inserted, moved_le, Column}
+use Rattle.line_lists.proofs.Words.{LineContent, after_text, characters, joined, later, plain_columns, get-joined_marks}
+use Rattle.line_lists.proofs.Words.{or_else, tied_same, characters-plain, StandsBy, with_mark, without_mark, AreApart}
+use Rattle.line_lists.proofs.Words.{AreRows, GoesBefore, IsLine, StandBefore, StandWithin, whole}
+use Rattle.std.proofs.Common.{IfSome}
 use Rattle.std.specs.FinMap as finite
-use Rattle.std.specs.Ordering.{eq_by_cmp, nat_cmp}
-use Rattle.std.specs.Prelude.{option_map}
-use Rattle.std.proofs.lemmas.List.{length-map}
-use Rattle.text_model.specs.declared.places.Place.{Place}
-use Rattle.text_model.specs.Content.{Marks, map_marks}
-use Rattle.text_model.specs.Documents.{ends_in_newline}
-use Rattle.text_model.specs.Lines.{lines}
-use Rattle.text_model.specs.Splices.{inserted, moved}
-use Rattle.text_model.proofs.DocumentLaws.{ends_with_rest}
-use Rattle.text_model.proofs.LineLaws.{lines-inserted}
-use Rattle.text_model.proofs.PlaceLaws.{get-map_marks}
-use Rattle.text_model.proofs.SpliceLaws.{length-inserted, map-inserted}
-use Rattle.text_model.proofs.StepLaws.{moved_le}
-use Rattle.segments.specs.Columns.{Column, LineContent, after_text, characters, joined, later, plain_columns}
-use Rattle.segments.proofs.MarkLaws.{get-joined_marks, or_else, tied_same}
-use Rattle.segments.proofs.PlainLaws.{characters-plain}
-use Rattle.line_lists.specs.Drafts.{StandsBy}
-use Rattle.line_lists.specs.Edits.{with_mark, without_mark}
-use Rattle.line_lists.specs.Lists.{AreApart, AreRows, GoesBefore, IsLine, StandBefore, StandWithin}
-use Rattle.line_lists.specs.Texts.{whole}
 use Rattle.line_lists.proofs.MarkRows.{get-row}
 use Rattle.line_lists.proofs.RowLaws.{AreAmong, Makes, StayFree, among-first, free-joined, free-parts, rows-among}
 use Rattle.line_lists.proofs.RowLaws.{rows-before, rows-behind, whole-around}

@@ -1,21 +1,12 @@
 -- Lines of a list that copies keep, by where they stand in the text.
-use Rattle.std.proofs.Common.{◌≡◌, ℕ, zero, suc, ◌+◌, ◌-◌, ◌<◌, ◌≤◌, ◌^◌, List, [], ◌∷◌, ◌++◌, Option, None, Some}
-use Rattle.std.proofs.Common.{length, take, drop, inl, inr, refl, sym, ap, ap₂, subst, ◌∙◌, arith, append_assoc}
-use Rattle.std.proofs.Common.{length-append, take-append-drop}
-use Rattle.std.specs.Prelude.{IfSome, reverse, slice_get}
-use Rattle.std.proofs.lemmas.Bool.{cases_lt}
-use Rattle.std.proofs.lemmas.List.{drop-drop, reverse-append}
-use Rattle.std.proofs.lemmas.Option.{slice_get_within}
-use Rattle.segments.specs.Columns.{LineContent}
-use Rattle.line_lists.specs.declared.drafts.Copied.{Copied}
-use Rattle.line_lists.specs.declared.drafts.Reached.{Reached}
+use Rattle.line_lists.proofs.Words.{◌≡◌, ℕ, zero, suc, ◌+◌, ◌-◌, ◌<◌, ◌≤◌, ◌^◌, List, [], ◌∷◌, ◌++◌, Option, None, Some}
+use Rattle.line_lists.proofs.Words.{length, take, drop, inl, inr, refl, sym, ap, ap₂, subst, ◌∙◌, arith, append_assoc}
+use Rattle.line_lists.proofs.Words.{length-append, take-append-drop, IfSome, reverse, slice_get, cases_lt, drop-drop}
+use Rattle.line_lists.proofs.Words.{reverse-append, slice_get_within, LineContent, Copied, Reached, Stop, BeginsBy}
+use Rattle.line_lists.proofs.Words.{IsDraft, IsFound, IsReached, IsSeen, IsStop, IsTaken, StandsAt, copies_of, covered}
+use Rattle.line_lists.proofs.Words.{drafted, drafted_at, in_order, line_start, lines_before, made_lines, place_of}
+use Rattle.line_lists.proofs.Words.{taken_lines, used, Holds, whole}
 use Rattle.line_lists.specs.declared.drafts.Seen.{Seen}
-use Rattle.line_lists.specs.declared.drafts.Stop.{Stop}
-use Rattle.line_lists.specs.Drafts.{BeginsBy, IsDraft, IsFound, IsReached, IsSeen, IsStop, IsTaken, StandsAt, copies_of}
-use Rattle.line_lists.specs.Drafts.{covered, drafted, drafted_at, in_order, line_start, lines_before, made_lines}
-use Rattle.line_lists.specs.Drafts.{place_of, taken_lines, used}
-use Rattle.line_lists.specs.Lists.{Holds}
-use Rattle.line_lists.specs.Texts.{whole}
 use Rattle.line_lists.proofs.CountRows.{count-characters}
 use Rattle.line_lists.proofs.DraftLaws.{copies-snoc, counted-between, drafted-append, length-whole, made-snoc, none_at}
 use Rattle.line_lists.proofs.DraftLaws.{start-is, stops-end, stops-front, stops-last, stops-snoc, take-more}

@@ -1,15 +1,9 @@
 -- A mark that goes to the end of the text of a draft.
-use Rattle.std.proofs.Common.{◌≡◌, ℕ, ◌+◌, ◌-◌, ◌<◌, ◌≤◌, List, [], ◌∷◌, ◌++◌, None, length, take, drop, refl, sym, ap}
-use Rattle.std.proofs.Common.{ap₂, subst, ◌∙◌, arith, length-append}
+use Rattle.line_lists.proofs.Words.{◌≡◌, ℕ, ◌+◌, ◌-◌, ◌<◌, ◌≤◌, List, [], ◌∷◌, ◌++◌, None, length, take, drop, refl}
+use Rattle.line_lists.proofs.Words.{sym, ap, ap₂, subst, ◌∙◌, arith, length-append, Place, LineContent, later, Copied}
+use Rattle.line_lists.proofs.Words.{Stop, IsText, covered, drafted, drafted_at, in_order, text_at, with_mark, AreRows}
+use Rattle.line_lists.proofs.Words.{GoesBefore, IsLine, whole}
 use Rattle.std.specs.FinMap as finite
-use Rattle.text_model.specs.declared.places.Place.{Place}
-use Rattle.segments.specs.Columns.{LineContent, later}
-use Rattle.line_lists.specs.declared.drafts.Copied.{Copied}
-use Rattle.line_lists.specs.declared.drafts.Stop.{Stop}
-use Rattle.line_lists.specs.Drafts.{IsText, covered, drafted, drafted_at, in_order, text_at}
-use Rattle.line_lists.specs.Edits.{with_mark}
-use Rattle.line_lists.specs.Lists.{AreRows, GoesBefore, IsLine}
-use Rattle.line_lists.specs.Texts.{whole}
 use Rattle.line_lists.proofs.EditLaws.{free-around, mark-stays, mark-whole, put-stands, some-columns}
 use Rattle.line_lists.proofs.FreedLaws.{drafted-cons}
 use Rattle.line_lists.proofs.RowLaws.{Makes, rows-among, rows-behind, whole-around}

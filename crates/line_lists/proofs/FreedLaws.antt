@@ -1,26 +1,13 @@
 -- Lines from which the marks of copies are taken off.
-use Rattle.std.proofs.Common.{◌≡◌, ◌≢◌, ℕ, zero, suc, ◌+◌, ◌<◌, ◌≤◌, Bool, true, false, ◌⊎◌, inl, inr, List, [], ◌∷◌}
-use Rattle.std.proofs.Common.{◌++◌, Option, None, Some, cond, length, map, take, drop, refl, sym, ap, ap₂, subst, ◌∙◌}
-use Rattle.std.proofs.Common.{arith, append_assoc}
-use Rattle.std.specs.Prelude.{option_map, slice_get}
-use Rattle.std.specs.Option.{IsSome}
-use Rattle.std.specs.Cmp.{nat_cmp_total, unsigned_tied}
+use Rattle.line_lists.proofs.Words.{◌≡◌, ◌≢◌, ℕ, zero, suc, ◌+◌, ◌<◌, ◌≤◌, Bool, true, false, ◌⊎◌, inl, inr, List, []}
+use Rattle.line_lists.proofs.Words.{◌∷◌, ◌++◌, Option, None, Some, cond, length, map, take, drop, refl, sym, ap, ap₂}
+use Rattle.line_lists.proofs.Words.{subst, ◌∙◌, arith, append_assoc, option_map, slice_get, IsSome, nat_cmp_total}
+use Rattle.line_lists.proofs.Words.{unsigned_tied, eq_by_cmp, nat_cmp, nat_tests, drop-drop, drop-map, length-map}
+use Rattle.line_lists.proofs.Words.{take-map, take_all, MarkNo, Place, same_marks, LineContent, tied_same, Copied}
+use Rattle.line_lists.proofs.Words.{covered, drafted, made_lines, used, without_mark, AreApart, AreLines, AreRows}
+use Rattle.line_lists.proofs.Words.{GoesBefore, count_of, copied_lines, freed, numbers_in, numbers_of, whole}
 use Rattle.std.specs.FinMap as finite
 use Rattle.std.specs.FinMap.Entries.{find}
-use Rattle.std.specs.Ordering.{eq_by_cmp, nat_cmp}
-use Rattle.std.proofs.lemmas.Bool.Decides.{nat_tests}
-use Rattle.std.proofs.lemmas.List.{drop-drop, drop-map, length-map, take-map, take_all}
-use Rattle.text_model.specs.declared.places.MarkNo.{MarkNo}
-use Rattle.text_model.specs.declared.places.Place.{Place}
-use Rattle.text_model.proofs.PlaceLaws.{same_marks}
-use Rattle.segments.specs.Columns.{LineContent}
-use Rattle.segments.proofs.MarkLaws.{tied_same}
-use Rattle.line_lists.specs.declared.drafts.Copied.{Copied}
-use Rattle.line_lists.specs.Drafts.{covered, drafted, made_lines, used}
-use Rattle.line_lists.specs.Edits.{without_mark}
-use Rattle.line_lists.specs.Lists.{AreApart, AreLines, AreRows, GoesBefore, count_of}
-use Rattle.line_lists.specs.Pieces.{copied_lines, freed, numbers_in, numbers_of}
-use Rattle.line_lists.specs.Texts.{whole}
 use Rattle.line_lists.proofs.DraftLaws.{none_at}
 use Rattle.line_lists.proofs.EditLaws.{free_one, rows-apart}
 use Rattle.line_lists.proofs.RowLaws.{free-joined, free-parts, rows-behind}

@@ -1,31 +1,16 @@
 -- Copies that become pieces, one by one.
-use Rattle.std.proofs.Common.{◌≡◌, ℕ, ◌+◌, ◌-◌, ◌<◌, ◌≤◌, Bool, true, false, cond, List, [], ◌∷◌, ◌++◌, Option, None}
-use Rattle.std.proofs.Common.{Some, length, get_or, set, map, take, drop, refl, sym, ap, ap₂, subst, subst₂, ◌∙◌, arith}
-use Rattle.std.proofs.Common.{append_assoc, length-append}
-use Rattle.std.specs.Prelude.{reverse}
-use Rattle.std.specs.Cmp.{nat_cmp_total}
+use Rattle.line_lists.proofs.Words.{◌≡◌, ℕ, ◌+◌, ◌-◌, ◌<◌, ◌≤◌, Bool, true, false, cond, List, [], ◌∷◌, ◌++◌, Option}
+use Rattle.line_lists.proofs.Words.{None, Some, length, get_or, set, map, take, drop, refl, sym, ap, ap₂, subst, subst₂}
+use Rattle.line_lists.proofs.Words.{◌∙◌, arith, append_assoc, length-append, reverse, nat_cmp_total, All, eq_by_cmp}
+use Rattle.line_lists.proofs.Words.{nat_cmp, append-nil, at_drop_more, length-set, map-append, nil_from_length}
+use Rattle.line_lists.proofs.Words.{take_all, take_more, take_more_set, All-drop, All-push, All-take, All-weaker}
+use Rattle.line_lists.proofs.Words.{drop-append_seam, take-append_seam, MarkNo, Place, same_marks, plus-associative}
+use Rattle.line_lists.proofs.Words.{plus-no_text, Count, counting, no_text, plus, LineContent, line_count, Copied, Stop}
+use Rattle.line_lists.proofs.Words.{Piece, AreStops, IsText, copies_of, drafted, drafted_at, made_lines, used}
+use Rattle.line_lists.proofs.Words.{without_mark, AreApart, AreLines, AreRows, IsCounted, SameNumbers, count_of}
+use Rattle.line_lists.proofs.Words.{spliced, CanPlace, Covers, copied_lines, freed, named, numbers_in, numbers_of}
+use Rattle.line_lists.proofs.Words.{piece_lines, placed, whole}
 use Rattle.std.specs.FinMap as finite
-use Rattle.std.specs.List.{All}
-use Rattle.std.specs.Ordering.{eq_by_cmp, nat_cmp}
-use Rattle.std.proofs.lemmas.List.{append-nil, at_drop_more, length-set, map-append, nil_from_length, take_all}
-use Rattle.std.proofs.lemmas.List.{take_more, take_more_set}
-use Rattle.std.proofs.lemmas.List.Elements.{All-drop, All-push, All-take, All-weaker}
-use Rattle.std.proofs.Math.Seq.{drop-append_seam, take-append_seam}
-use Rattle.text_model.specs.declared.places.MarkNo.{MarkNo}
-use Rattle.text_model.specs.declared.places.Place.{Place}
-use Rattle.text_model.proofs.PlaceLaws.{same_marks}
-use Rattle.toggle_sums.specs.CountLaws.{plus-associative, plus-no_text}
-use Rattle.toggle_sums.specs.Counts.{Count, counting, no_text, plus}
-use Rattle.segments.specs.Columns.{LineContent, line_count}
-use Rattle.line_lists.specs.declared.drafts.Copied.{Copied}
-use Rattle.line_lists.specs.declared.drafts.Stop.{Stop}
-use Rattle.line_lists.specs.declared.pieces.Piece.{Piece}
-use Rattle.line_lists.specs.Drafts.{AreStops, IsText, copies_of, drafted, drafted_at, made_lines, used}
-use Rattle.line_lists.specs.Edits.{without_mark}
-use Rattle.line_lists.specs.Lists.{AreApart, AreLines, AreRows, IsCounted, SameNumbers, count_of, spliced}
-use Rattle.line_lists.specs.Pieces.{CanPlace, Covers, copied_lines, freed, named, numbers_in, numbers_of, piece_lines}
-use Rattle.line_lists.specs.Pieces.{placed}
-use Rattle.line_lists.specs.Texts.{whole}
 use Rattle.line_lists.proofs.CountRows.{count-append}
 use Rattle.line_lists.proofs.DraftLaws.{copies-snoc, made-snoc, used-append}
 use Rattle.line_lists.proofs.FreedLaws.{freed-apart, freed-count_characters, freed-count_lines, freed-count_marks}

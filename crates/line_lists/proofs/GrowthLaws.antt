@@ -1,10 +1,6 @@
 -- How many lines pieces bring beyond those in whose place they come, and in how many rows.
-use Rattle.std.proofs.Common.{◌≡◌, ℕ, ◌+◌, ◌-◌, ◌<◌, ◌≤◌, min, List, [], ◌∷◌, ◌++◌, length, get_or, take, subst₂, sym}
-use Rattle.std.proofs.Common.{ap, ◌∙◌, arith}
-use Rattle.std.proofs.lemmas.List.{take_more}
-use Rattle.line_lists.specs.declared.pieces.Piece.{Piece}
-use Rattle.line_lists.specs.Lists.{more_lines, row_of}
-use Rattle.line_lists.specs.Pieces.{lines_more, rows_more}
+use Rattle.line_lists.proofs.Words.{◌≡◌, ℕ, ◌+◌, ◌-◌, ◌<◌, ◌≤◌, min, List, [], ◌∷◌, ◌++◌, length, get_or, take, subst₂}
+use Rattle.line_lists.proofs.Words.{sym, ap, ◌∙◌, arith, take_more, Piece, more_lines, row_of, lines_more, rows_more}
 
 lines-snoc : (pieces : List Piece) (piece : Piece) →
     lines_more (pieces ++ piece ∷ []) ≡ more_lines piece.count piece.lines.items + lines_more pieces

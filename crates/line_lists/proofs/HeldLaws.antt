@@ -1,13 +1,8 @@
 -- Characters are taken out of a text while the copy of a line is held out of its draft.
-use Rattle.std.proofs.Common.{◌≡◌, ℕ, ◌+◌, ◌-◌, ◌<◌, ◌≤◌, List, [], ◌∷◌, ◌++◌, length, take, drop, refl, sym, ap, ap₂}
-use Rattle.std.proofs.Common.{subst, ◌∙◌, arith, length-append}
-use Rattle.segments.specs.Columns.{LineContent, after_removal, joined}
-use Rattle.line_lists.specs.declared.drafts.Copied.{Copied}
-use Rattle.line_lists.specs.declared.drafts.Stop.{Stop}
-use Rattle.line_lists.specs.Drafts.{IsTaken, copies_of, lines_before, lines_behind, made_lines, taken_lines, used}
-use Rattle.line_lists.specs.Lists.{AreRows}
-use Rattle.line_lists.specs.Removals.{HoldsMore, IsHeld, JoinsNext, held_at, held_text}
-use Rattle.line_lists.specs.Texts.{whole}
+use Rattle.line_lists.proofs.Words.{◌≡◌, ℕ, ◌+◌, ◌-◌, ◌<◌, ◌≤◌, List, [], ◌∷◌, ◌++◌, length, take, drop, refl, sym, ap}
+use Rattle.line_lists.proofs.Words.{ap₂, subst, ◌∙◌, arith, length-append, LineContent, after_removal, joined, Copied}
+use Rattle.line_lists.proofs.Words.{Stop, IsTaken, copies_of, lines_before, lines_behind, made_lines, taken_lines, used}
+use Rattle.line_lists.proofs.Words.{AreRows, HoldsMore, IsHeld, JoinsNext, held_at, held_text, whole}
 use Rattle.line_lists.proofs.DraftLaws.{length-whole}
 use Rattle.line_lists.proofs.EditLaws.{some-columns}
 use Rattle.line_lists.proofs.JoinLaws.{first-of}

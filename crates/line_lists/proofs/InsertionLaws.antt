@@ -1,23 +1,13 @@
 -- A text with newlines goes into the text of a draft line by line.
-use Rattle.std.proofs.Common.{◌≡◌, ℕ, ◌+◌, ◌<◌, ◌≤◌, Bool, true, false, ◌&&◌, ◌||◌, ◌==◌, List, [], ◌∷◌, ◌++◌, Option}
-use Rattle.std.proofs.Common.{None, Some, length, take, drop, refl, sym, ap, ap₂, subst, ◌∙◌, arith, append_assoc}
-use Rattle.std.proofs.Common.{length-append, take-append-drop}
+use Rattle.line_lists.proofs.Words.{◌≡◌, ℕ, ◌+◌, ◌<◌, ◌≤◌, Bool, true, false, ◌&&◌, ◌||◌, ◌==◌, List, [], ◌∷◌, ◌++◌}
+use Rattle.line_lists.proofs.Words.{Option, None, Some, length, take, drop, refl, sym, ap, ap₂, subst, ◌∙◌, arith}
+use Rattle.line_lists.proofs.Words.{append_assoc, length-append, take-append-drop, nat_cmp, if◌then◌else◌, nat_lt}
+use Rattle.line_lists.proofs.Words.{option_map, or_parts, nat_tests, append-nil, length-map, length-take-le, map-append}
+use Rattle.line_lists.proofs.Words.{Place, Marks, map_marks, goes_behind, inserted, is_right, moved, get-map_marks}
+use Rattle.line_lists.proofs.Words.{same_marks, inserted-append_right, LineContent, after_text, joined, joined_marks}
+use Rattle.line_lists.proofs.Words.{later, plain_columns, plain_line, get-joined_marks, or_else, StandRight, AreApart}
+use Rattle.line_lists.proofs.Words.{AreRows, GoesBefore, IsLine, StandBefore, whole}
 use Rattle.std.specs.FinMap as finite
-use Rattle.std.specs.Ordering.{nat_cmp}
-use Rattle.std.specs.Prelude.{if◌then◌else◌, nat_lt, option_map}
-use Rattle.std.proofs.lemmas.Bool.{or_parts}
-use Rattle.std.proofs.lemmas.Bool.Decides.{nat_tests}
-use Rattle.std.proofs.lemmas.List.{append-nil, length-map, length-take-le, map-append}
-use Rattle.text_model.specs.declared.places.Place.{Place}
-use Rattle.text_model.specs.Content.{Marks, map_marks}
-use Rattle.text_model.specs.Splices.{goes_behind, inserted, is_right, moved}
-use Rattle.text_model.proofs.PlaceLaws.{get-map_marks, same_marks}
-use Rattle.text_model.proofs.SpliceLaws.{inserted-append_right}
-use Rattle.segments.specs.Columns.{LineContent, after_text, joined, joined_marks, later, plain_columns, plain_line}
-use Rattle.segments.proofs.MarkLaws.{get-joined_marks, or_else}
-use Rattle.line_lists.specs.Insertions.{StandRight}
-use Rattle.line_lists.specs.Lists.{AreApart, AreRows, GoesBefore, IsLine, StandBefore}
-use Rattle.line_lists.specs.Texts.{whole}
 use Rattle.line_lists.proofs.EditLaws.{rows-stand}
 use Rattle.line_lists.proofs.MarkRows.{moved_before}
 use Rattle.line_lists.proofs.RowLaws.{AreAmong, Makes, free-joined, rows-before, rows-behind}

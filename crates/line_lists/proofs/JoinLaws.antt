@@ -1,15 +1,9 @@
 -- The next line joins that of a copy which is taken out of a draft.
-use Rattle.std.proofs.Common.{◌≡◌, ℕ, ◌+◌, ◌-◌, ◌<◌, List, [], ◌∷◌, ◌++◌, Some, Result, Ok, Err, length, take, drop}
-use Rattle.std.proofs.Common.{refl, sym, ap, ap₂, subst, ◌∙◌, arith, length-drop}
-use Rattle.std.specs.Prelude.{OnOk, reverse, slice_get}
-use Rattle.std.proofs.lemmas.List.{drop-drop, reverse-append}
-use Rattle.segments.specs.Columns.{LineContent, joined}
-use Rattle.line_lists.specs.declared.drafts.Copied.{Copied}
-use Rattle.line_lists.specs.declared.drafts.Reached.{Reached}
-use Rattle.line_lists.specs.declared.drafts.Stop.{Stop}
-use Rattle.line_lists.specs.Drafts.{IsReached, IsStop, IsTaken, copies_of, covered, drafted, lines_behind, made_lines, used}
-use Rattle.line_lists.specs.Removals.{JoinsNext}
-use Rattle.line_lists.specs.Texts.{whole}
+use Rattle.line_lists.proofs.Words.{◌≡◌, ℕ, ◌+◌, ◌-◌, ◌<◌, List, [], ◌∷◌, ◌++◌, Some, Result, Ok, Err, length, take}
+use Rattle.line_lists.proofs.Words.{drop, refl, sym, ap, ap₂, subst, ◌∙◌, arith, length-drop, OnOk, reverse, slice_get}
+use Rattle.line_lists.proofs.Words.{drop-drop, reverse-append, LineContent, joined, Copied, Reached, Stop, IsReached}
+use Rattle.line_lists.proofs.Words.{IsStop, IsTaken, copies_of, covered, drafted, lines_behind, made_lines, used}
+use Rattle.line_lists.proofs.Words.{JoinsNext, whole}
 use Rattle.line_lists.proofs.FindLaws.{drop_after, opened_next}
 use Rattle.line_lists.proofs.WholeLaws.{whole-one}
 

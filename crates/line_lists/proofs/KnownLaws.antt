@@ -1,20 +1,11 @@
 -- The slots that are on behind copies, by one copy more or less.
-use Rattle.std.proofs.Common.{◌≡◌, ℕ, zero, suc, ◌+◌, ◌≤◌, List, [], ◌∷◌, ◌++◌, length, take, drop, sym, ap}
-use Rattle.std.proofs.Common.{◌∙◌, subst, arith, append_assoc}
-use Rattle.std.specs.Prelude.{None, Option, Some, reverse, slice_get}
-use Rattle.std.proofs.lemmas.List.{append-nil}
-use Rattle.std.proofs.lemmas.Option.{slice_get_within}
-use Rattle.text_model.specs.Content.{Slots}
-use Rattle.text_model.specs.SlotSets.{differing}
-use Rattle.toggle_sums.specs.CountLaws.{differing-commutative}
-use Rattle.segments.specs.Columns.{LineContent}
-use Rattle.line_lists.specs.declared.drafts.Copied.{Copied}
+use Rattle.line_lists.proofs.Words.{◌≡◌, ℕ, zero, suc, ◌+◌, ◌≤◌, List, [], ◌∷◌, ◌++◌, length, take, drop, sym, ap, ◌∙◌}
+use Rattle.line_lists.proofs.Words.{subst, arith, append_assoc, reverse, slice_get, append-nil, slice_get_within, Slots}
+use Rattle.line_lists.proofs.Words.{differing, differing-commutative, LineContent, Copied, Stop, AreStops, IsBefore}
+use Rattle.line_lists.proofs.Words.{IsDraft, IsKnown, IsReached, copies_of, copy_tags, covered, made_lines, tags_after}
+use Rattle.line_lists.proofs.Words.{used, whole, tags_left_of}
+use Rattle.std.specs.Prelude.{None, Option, Some}
 use Rattle.line_lists.specs.declared.drafts.Known.{Known}
-use Rattle.line_lists.specs.declared.drafts.Stop.{Stop}
-use Rattle.line_lists.specs.Drafts.{AreStops, IsBefore, IsDraft, IsKnown, IsReached, copies_of, copy_tags, covered}
-use Rattle.line_lists.specs.Drafts.{made_lines, tags_after, used}
-use Rattle.line_lists.specs.Texts.{whole}
-use Rattle.line_lists.specs.Toggling.{tags_left_of}
 use Rattle.line_lists.proofs.DraftLaws.{behind-whole, copies-snoc, made-snoc, some_same, used-append}
 use Rattle.line_lists.proofs.SlotLaws.{differing-back}
 use Rattle.line_lists.proofs.WholeLaws.{whole-one}

@@ -45,3 +45,4 @@ pub mod TextRows
 pub mod ToggleColumns
 pub mod VecLaws
 pub mod WholeLaws
+pub mod Words

@@ -1,14 +1,9 @@
 -- The line that an offset stands in, of lines in a row.
-use Rattle.std.proofs.Common.{◌≡◌, ℕ, suc, ◌+◌, ◌-◌, List, Some, length, sym, ap, ◌∙◌, arith}
-use Rattle.std.specs.Prelude.{slice_get}
-use Rattle.std.proofs.lemmas.List.{length-map}
-use Rattle.text_model.specs.declared.cells.Cell.{Cell}
+use Rattle.line_lists.proofs.Words.{◌≡◌, ℕ, suc, ◌+◌, ◌-◌, List, Some, length, sym, ap, ◌∙◌, arith, slice_get}
+use Rattle.line_lists.proofs.Words.{length-map, Cell, IsLineOf, line_start-later, line_start-le, LineContent, AreRows}
+use Rattle.line_lists.proofs.Words.{Holds, content_of}
 use Rattle.text_model.specs.Content.{characters}
-use Rattle.text_model.specs.Lines.{IsLineOf, line_start}
-use Rattle.text_model.proofs.LineLaws.{line_start-later, line_start-le}
-use Rattle.segments.specs.Columns.{LineContent}
-use Rattle.line_lists.specs.Lists.{AreRows, Holds}
-use Rattle.line_lists.specs.Texts.{content_of}
+use Rattle.text_model.specs.Lines.{line_start}
 use Rattle.line_lists.proofs.LineStarts.{lent-length, start-all, start-next, start_of}
 use Rattle.line_lists.proofs.NewlineRows.{line_of-end, line_of-located, start-content}
 use Rattle.line_lists.proofs.PlaceRows.{length-content}

@@ -1,14 +1,8 @@
 -- Where the lines in a row begin.
-use Rattle.std.proofs.Common.{◌≡◌, ℕ, zero, suc, ◌+◌, ◌-◌, ◌<◌, ◌≤◌, List, [], ◌∷◌, None, Some, length, take, sym, ap}
-use Rattle.std.proofs.Common.{subst, ◌∙◌, inl, inr, arith, length-append}
-use Rattle.std.specs.Prelude.{IfSome, slice_get}
-use Rattle.std.proofs.lemmas.Bool.{cases_lt}
-use Rattle.std.proofs.lemmas.List.{take_all}
-use Rattle.std.proofs.lemmas.Option.{get_or_from_slice_get, slice_get-get_or}
-use Rattle.segments.specs.Columns.{LineContent, plain_line}
-use Rattle.line_lists.specs.Lists.{Holds}
-use Rattle.line_lists.specs.Places.{IsAt}
-use Rattle.line_lists.specs.Texts.{whole}
+use Rattle.line_lists.proofs.Words.{◌≡◌, ℕ, zero, suc, ◌+◌, ◌-◌, ◌<◌, ◌≤◌, List, [], ◌∷◌, None, Some, length, take, sym}
+use Rattle.line_lists.proofs.Words.{ap, subst, ◌∙◌, inl, inr, arith, length-append, IfSome, slice_get, cases_lt}
+use Rattle.line_lists.proofs.Words.{take_all, get_or_from_slice_get, slice_get-get_or, LineContent, plain_line, Holds}
+use Rattle.line_lists.proofs.Words.{IsAt, whole}
 use Rattle.line_lists.proofs.SearchRows.{line_at}
 
 abbrev pub start_of : List LineContent → ℕ → ℕ

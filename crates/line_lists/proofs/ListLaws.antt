@@ -1,18 +1,11 @@
 -- Lines that are looked through one by one, from the first on or from the last back.
-use Rattle.std.proofs.Common.{◌≡◌, ℕ, ◌+◌, ◌-◌, ◌<◌, ◌≤◌, Bool, true, false, cond, List, [], ◌∷◌, ◌++◌, None, Some}
-use Rattle.std.proofs.Common.{length, get_or, take, drop, sym, ap, subst, ◌∙◌, arith, length-append, take-append-drop}
-use Rattle.std.specs.Prelude.{IfSome, nat_lt, not}
-use Rattle.std.specs.List.{position, prefix_len, suffix_len}
-use Rattle.std.proofs.lemmas.Bool.Decides.{nat_tests}
-use Rattle.std.proofs.lemmas.List.{drop_more, take_more}
-use Rattle.std.proofs.lemmas.List.Sums.{prefix_len-drop_all, prefix_len-drop_no, prefix_len-drop_yes}
-use Rattle.std.proofs.lemmas.List.Sums.{suffix_len-take_no, suffix_len-take_yes}
-use Rattle.std.proofs.lemmas.Option.{slice_get-get_or}
-use Rattle.toggle_sums.specs.CountLaws.{plus-no_text}
-use Rattle.toggle_sums.specs.Counts.{CountsFit, plus}
-use Rattle.segments.specs.Columns.{LineContent, joined, line_count}
-use Rattle.line_lists.specs.Lists.{Holds, IsCounted, count_of}
-use Rattle.line_lists.specs.Texts.{whole}
+use Rattle.line_lists.proofs.Words.{◌≡◌, ℕ, ◌+◌, ◌-◌, ◌<◌, ◌≤◌, Bool, true, false, cond, List, [], ◌∷◌, ◌++◌, None}
+use Rattle.line_lists.proofs.Words.{Some, length, get_or, take, drop, sym, ap, subst, ◌∙◌, arith, length-append}
+use Rattle.line_lists.proofs.Words.{take-append-drop, IfSome, nat_lt, position, prefix_len, suffix_len, nat_tests}
+use Rattle.line_lists.proofs.Words.{drop_more, take_more, prefix_len-drop_all, prefix_len-drop_no, prefix_len-drop_yes}
+use Rattle.line_lists.proofs.Words.{suffix_len-take_no, suffix_len-take_yes, slice_get-get_or, plus-no_text, CountsFit}
+use Rattle.line_lists.proofs.Words.{plus, LineContent, joined, line_count, Holds, IsCounted, count_of, whole}
+use Rattle.std.specs.Prelude.{not}
 use Rattle.line_lists.proofs.CountRows.{count-append, counted-more}
 use Rattle.line_lists.proofs.WholeLaws.{whole-append, whole-one}
 

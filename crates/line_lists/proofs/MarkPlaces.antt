@@ -1,18 +1,10 @@
 -- Where the marks of lines in a row stand in the text.
-use Rattle.std.proofs.Common.{◌≡◌, ℕ, suc, ◌+◌, ◌<◌, true, false, cond, ◌==◌, List, [], ◌∷◌, Option, None, Some, length}
-use Rattle.std.proofs.Common.{take, drop, refl, sym, ap, ap₂, ◌∙◌, arith, length-drop}
+use Rattle.line_lists.proofs.Words.{◌≡◌, ℕ, suc, ◌+◌, ◌<◌, true, false, cond, ◌==◌, List, [], ◌∷◌, Option, None, Some}
+use Rattle.line_lists.proofs.Words.{length, take, drop, refl, sym, ap, ap₂, ◌∙◌, arith, length-drop, find, eq_by_cmp}
+use Rattle.line_lists.proofs.Words.{nat_cmp, is_some, option_map, nat_tests, unsigned_tied, Place, Marks, LineContent}
+use Rattle.line_lists.proofs.Words.{later, get-joined_marks, or_else, AreApart, AreRows, GoesBefore, StandBefore}
+use Rattle.line_lists.proofs.Words.{StandWithin, has_mark, has_marks, whole}
 use Rattle.std.specs.FinMap as finite
-use Rattle.std.specs.FinMap.{find}
-use Rattle.std.specs.Ordering.{eq_by_cmp, nat_cmp}
-use Rattle.std.specs.Prelude.{is_some, option_map}
-use Rattle.std.proofs.lemmas.Bool.Decides.{nat_tests}
-use Rattle.std.specs.Cmp.{unsigned_tied}
-use Rattle.text_model.specs.declared.places.Place.{Place}
-use Rattle.text_model.specs.Content.{Marks}
-use Rattle.segments.specs.Columns.{LineContent, later}
-use Rattle.segments.proofs.MarkLaws.{get-joined_marks, or_else}
-use Rattle.line_lists.specs.Lists.{AreApart, AreRows, GoesBefore, StandBefore, StandWithin, has_mark, has_marks}
-use Rattle.line_lists.specs.Texts.{whole}
 use Rattle.line_lists.proofs.LineStarts.{length_at, start-more, start_of, there}
 use Rattle.line_lists.proofs.MarkRows.{get-row}
 use Rattle.line_lists.proofs.NewlineRows.{row-at}

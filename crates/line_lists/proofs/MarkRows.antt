@@ -1,16 +1,9 @@
 -- The marks of lines in a row.
-use Rattle.std.proofs.Common.{◌≡◌, ℕ, ◌+◌, ◌-◌, ◌<◌, ◌≤◌, Bool, true, false, ◌&&◌, ◌||◌, ◌==◌, Option, None, Some, refl}
-use Rattle.std.proofs.Common.{sym, ap, ap₂, ◌∙◌, arith}
+use Rattle.line_lists.proofs.Words.{◌≡◌, ℕ, ◌+◌, ◌-◌, ◌<◌, ◌≤◌, Bool, true, false, ◌&&◌, ◌||◌, ◌==◌, Option, None, Some}
+use Rattle.line_lists.proofs.Words.{refl, sym, ap, ap₂, ◌∙◌, arith, nat_cmp, if◌then◌else◌, nat_lt, option_map}
+use Rattle.line_lists.proofs.Words.{nat_tests, Place, Marks, map_marks, drawn, goes_behind, is_right, moved}
+use Rattle.line_lists.proofs.Words.{get-map_marks, same_marks, joined_marks, later, get-joined_marks, or_else}
 use Rattle.std.specs.FinMap as finite
-use Rattle.std.specs.Ordering.{nat_cmp}
-use Rattle.std.specs.Prelude.{if◌then◌else◌, nat_lt, option_map}
-use Rattle.std.proofs.lemmas.Bool.Decides.{nat_tests}
-use Rattle.text_model.specs.declared.places.Place.{Place}
-use Rattle.text_model.specs.Content.{Marks, map_marks}
-use Rattle.text_model.specs.Splices.{drawn, goes_behind, is_right, moved}
-use Rattle.text_model.proofs.PlaceLaws.{get-map_marks, same_marks}
-use Rattle.segments.specs.Columns.{joined_marks, later}
-use Rattle.segments.proofs.MarkLaws.{get-joined_marks, or_else}
 
 -- ---- three in a row
 later_twice : (one two : ℕ) (place : Place) → later one (later two place) ≡ later (one + two) place

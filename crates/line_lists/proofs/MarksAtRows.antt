@@ -1,21 +1,9 @@
 -- The marks at an offset of lines in a row are those at its column in its line.
-use Rattle.std.proofs.Common.{◌≡◌, ℕ, ◌+◌, Bool, true, false, cond, ◌==◌, List, [], ◌∷◌, Option, None, Some}
-use Rattle.std.proofs.Common.{map, refl, sym, ap, ◌∙◌, arith}
-use Rattle.std.specs.Cmp.{nat_cmp_total}
+use Rattle.line_lists.proofs.Words.{◌≡◌, ℕ, ◌+◌, Bool, true, false, cond, ◌==◌, List, [], ◌∷◌, Option, None, Some, map}
+use Rattle.line_lists.proofs.Words.{refl, sym, ap, ◌∙◌, arith, nat_cmp_total, nat_cmp-IsAntisymmetric, same_entries}
+use Rattle.line_lists.proofs.Words.{nat_cmp, option_map, nat_tests, option_filter, MarkNo, Place, marks_at, LineContent}
+use Rattle.line_lists.proofs.Words.{later, AreRows, IsAt, whole}
 use Rattle.std.specs.FinMap as finite
-use Rattle.std.specs.FinMap.{nat_cmp-IsAntisymmetric}
-use Rattle.std.specs.FinMap.Entries.{same_entries}
-use Rattle.std.specs.Ordering.{nat_cmp}
-use Rattle.std.specs.Prelude.{option_map}
-use Rattle.std.proofs.lemmas.Bool.Decides.{nat_tests}
-use Rattle.std.proofs.lemmas.Map.Entries.{option_filter}
-use Rattle.text_model.specs.declared.places.MarkNo.{MarkNo}
-use Rattle.text_model.specs.declared.places.Place.{Place}
-use Rattle.text_model.specs.MarkOrder.{marks_at}
-use Rattle.segments.specs.Columns.{LineContent, later}
-use Rattle.line_lists.specs.Lists.{AreRows}
-use Rattle.line_lists.specs.Places.{IsAt}
-use Rattle.line_lists.specs.Texts.{whole}
 use Rattle.line_lists.proofs.LineStarts.{start_of}
 use Rattle.line_lists.proofs.MarkPlaces.{mark-in, mark-out}
 use Rattle.line_lists.proofs.NearMarks.{by_line, inside}

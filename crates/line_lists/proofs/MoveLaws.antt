@@ -1,36 +1,21 @@
 -- A mark that goes to one of the lines of a list, wherever it stood.
-use Rattle.std.proofs.Common.{◌≡◌, ℕ, suc, ◌+◌, ◌-◌, ◌<◌, ◌≤◌, List, [], ◌∷◌, ◌++◌, Some, length, map, None, take, drop}
-use Rattle.std.proofs.Common.{inl, inr, refl, sym, ap, ap₂, subst, subst₂, ◌∙◌, arith, append_assoc, length-append}
-use Rattle.std.proofs.Common.{take-append-drop}
+use Rattle.line_lists.proofs.Words.{◌≡◌, ℕ, suc, ◌+◌, ◌-◌, ◌<◌, ◌≤◌, List, [], ◌∷◌, ◌++◌, Some, length, map, None, take}
+use Rattle.line_lists.proofs.Words.{drop, inl, inr, refl, sym, ap, ap₂, subst, subst₂, ◌∙◌, arith, append_assoc}
+use Rattle.line_lists.proofs.Words.{length-append, take-append-drop, All, slice_get, cases_lt, append-nil, drop-map}
+use Rattle.line_lists.proofs.Words.{drop_more, length-map, map-append, take-map, PutMark, TakeMark, MarkNo, Place}
+use Rattle.line_lists.proofs.Words.{after, Count, plus, LineContent, plain_line, Copied, Piece, Change, with_mark}
+use Rattle.line_lists.proofs.Words.{without_mark, AreLines, AreRows, IsCounted, count_of, spliced, MovesTo, CanMake}
+use Rattle.line_lists.proofs.Words.{CanPlace, FitsIn, content_made, freed, named, numbers_in, numbers_of, lines_more}
+use Rattle.line_lists.proofs.Words.{piece_lines, placed, rows_more, IsAt, content_of, text_of, whole}
 use Rattle.std.specs.FinMap as finite
-use Rattle.std.specs.List.{All}
-use Rattle.std.specs.Prelude.{slice_get}
-use Rattle.std.proofs.lemmas.Bool.{cases_lt}
-use Rattle.std.proofs.lemmas.List.{append-nil, drop-map, drop_more, length-map, map-append, take-map}
-use Rattle.text_model.specs.declared.edits.Step.TheVariants.{PutMark, TakeMark}
-use Rattle.text_model.specs.declared.places.MarkNo.{MarkNo}
-use Rattle.text_model.specs.declared.places.Place.{Place}
-use Rattle.text_model.specs.Steps.{after}
-use Rattle.toggle_sums.specs.Counts.{Count, plus}
-use Rattle.segments.specs.Columns.{LineContent, plain_line}
-use Rattle.line_lists.specs.declared.drafts.Copied.{Copied}
 use Rattle.line_lists.specs.declared.pieces.Growth.{Growth}
-use Rattle.line_lists.specs.declared.pieces.Piece.{Piece}
-use Rattle.line_lists.specs.declared.store.Change.{Change}
-use Rattle.line_lists.specs.Edits.{with_mark, without_mark}
-use Rattle.line_lists.specs.Lists.{AreLines, AreRows, IsCounted, count_of, spliced}
-use Rattle.line_lists.specs.Marking.{MovesTo}
-use Rattle.line_lists.specs.Pieces.{CanMake, CanPlace, FitsIn, content_made, freed, named, numbers_in, numbers_of}
-use Rattle.line_lists.specs.Pieces.{lines_more, piece_lines, placed, rows_more}
-use Rattle.line_lists.specs.Places.{IsAt}
-use Rattle.line_lists.specs.Texts.{content_of, text_of, whole}
 use Rattle.line_lists.proofs.CountRows.{count-append}
 use Rattle.line_lists.proofs.DraftLaws.{take-more}
 use Rattle.line_lists.proofs.EditLaws.{marked-makes}
 use Rattle.line_lists.proofs.FoundMarks.{last-makes}
 use Rattle.line_lists.proofs.FreedLaws.{gone-without}
-use Rattle.line_lists.proofs.LineStarts.{at-inside, at-within, length_at, lent, lent-length, lent-there}
-use Rattle.line_lists.proofs.LineStarts.{start-all, start-next, start_of}
+use Rattle.line_lists.proofs.LineStarts.{at-inside, at-within, length_at, lent, lent-length, lent-there, start-all}
+use Rattle.line_lists.proofs.LineStarts.{start-next, start_of}
 use Rattle.line_lists.proofs.RowLaws.{Makes}
 use Rattle.line_lists.proofs.StandLaws.{line-some}
 use Rattle.line_lists.proofs.StepTexts.{mark-moved}

@@ -1,16 +1,10 @@
 -- The nearest change of a tag in lines in a row: in the line of the offset, else in the nearest line where its slot is
 -- toggled.
-use Rattle.std.proofs.Common.{◌≡◌, ℕ, suc, ◌+◌, ◌-◌, ◌<◌, ◌≤◌, Bool, true, false, List, [], ◌∷◌, Option, None, Some}
-use Rattle.std.proofs.Common.{length, get_or, refl, sym, ap, ap₂, subst, ◌∙◌, inl, inr, arith, length-append}
-use Rattle.std.specs.Prelude.{IfSome, slice_get}
-use Rattle.std.proofs.lemmas.Bool.{cases_lt}
-use Rattle.std.proofs.lemmas.Option.{slice_get-get_or, get_or_from_slice_get}
-use Rattle.text_model.specs.Changes.{next_change, previous_change}
-use Rattle.text_model.specs.Content.{flags}
-use Rattle.segments.specs.Columns.{Column, LineContent, next_toggle, previous_toggle}
-use Rattle.line_lists.specs.Lists.{Holds, has_toggle}
-use Rattle.line_lists.specs.Places.{IsAt}
-use Rattle.line_lists.specs.Texts.{content_of, whole}
+use Rattle.line_lists.proofs.Words.{◌≡◌, ℕ, suc, ◌+◌, ◌-◌, ◌<◌, ◌≤◌, Bool, true, false, List, [], ◌∷◌, Option, None}
+use Rattle.line_lists.proofs.Words.{Some, length, get_or, refl, sym, ap, ap₂, subst, ◌∙◌, inl, inr, arith}
+use Rattle.line_lists.proofs.Words.{length-append, IfSome, slice_get, cases_lt, slice_get-get_or, get_or_from_slice_get}
+use Rattle.line_lists.proofs.Words.{next_change, previous_change, flags, Column, LineContent, next_toggle}
+use Rattle.line_lists.proofs.Words.{previous_toggle, Holds, has_toggle, IsAt, content_of, whole}
 use Rattle.line_lists.proofs.LineStarts.{at-before, length_at, lent, start-all, start-before, start-more, start-next}
 use Rattle.line_lists.proofs.LineStarts.{start-rises, start_of, there}
 use Rattle.line_lists.proofs.NearMarks.{three_ways}

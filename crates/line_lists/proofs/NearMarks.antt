@@ -1,18 +1,11 @@
 -- The nearest mark of lines in a row: in the line of the offset, else in the nearest line that has one.
-use Rattle.std.proofs.Common.{◌≡◌, ℕ, suc, ◌+◌, ◌<◌, ◌≤◌, true, List, Option, None, Some, length, refl, sym, ap, subst}
-use Rattle.std.proofs.Common.{◌∙◌, inl, inr, arith}
+use Rattle.line_lists.proofs.Words.{◌≡◌, ℕ, suc, ◌+◌, ◌<◌, ◌≤◌, true, List, Option, None, Some, length, refl, sym, ap}
+use Rattle.line_lists.proofs.Words.{subst, ◌∙◌, inl, inr, arith, IfSome, slice_get, cases_lt, Place, Marks, next_mark}
+use Rattle.line_lists.proofs.Words.{previous_mark, next_mark-above, next_mark-least, next_mark-marked}
+use Rattle.line_lists.proofs.Words.{previous_mark-below, previous_mark-greatest, previous_mark-marked, LineContent}
+use Rattle.line_lists.proofs.Words.{later, AreRows, has_marks, IsAt, whole}
 use Rattle.std.specs.FinMap as finite
-use Rattle.std.specs.Prelude.{IfSome, slice_get}
-use Rattle.std.proofs.lemmas.Bool.{cases_lt}
-use Rattle.text_model.specs.declared.places.Place.{Place}
-use Rattle.text_model.specs.Content.{Marks}
-use Rattle.text_model.specs.MarkOrder.{next_mark, previous_mark}
-use Rattle.text_model.proofs.MarkOrderLaws.{IsMarked, next_mark-above, next_mark-least, next_mark-marked}
-use Rattle.text_model.proofs.MarkOrderLaws.{previous_mark-below, previous_mark-greatest, previous_mark-marked}
-use Rattle.segments.specs.Columns.{LineContent, later}
-use Rattle.line_lists.specs.Lists.{AreRows, has_marks}
-use Rattle.line_lists.specs.Places.{IsAt}
-use Rattle.line_lists.specs.Texts.{whole}
+use Rattle.text_model.proofs.MarkOrderLaws.{IsMarked}
 use Rattle.line_lists.proofs.LineStarts.{at-before, at-inside, length_at, lent, start-before, start_of}
 use Rattle.line_lists.proofs.MarkPlaces.{InLine, has-none, has-some, mark-before, mark-in, mark-out, mark-within}
 use Rattle.line_lists.proofs.SearchRows.{FailFrom, NextAt, PreviousAt, line_at, some_same}

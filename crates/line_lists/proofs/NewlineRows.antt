@@ -1,17 +1,12 @@
 -- The newlines of lines in a row: as many as the lines, each at the end of its own.
-use Rattle.std.proofs.Common.{◌≡◌, ℕ, zero, suc, ◌+◌, ◌<◌, ◌≤◌, Bool, true, false, cond, List, [], ◌∷◌, ◌++◌, get_or}
-use Rattle.std.proofs.Common.{None, Some, length, take, drop, refl, sym, ap, ap₂, subst, ◌∙◌, arith, length-append}
-use Rattle.std.specs.Prelude.{slice_get, if◌then◌else◌}
-use Rattle.std.proofs.lemmas.List.{length-map, map-append, take-append-le, take_all}
-use Rattle.std.proofs.lemmas.Option.{slice_get-get_or}
-use Rattle.std.proofs.Math.Seq.{take-append-add}
+use Rattle.line_lists.proofs.Words.{◌≡◌, ℕ, zero, suc, ◌+◌, ◌<◌, ◌≤◌, Bool, true, false, cond, List, [], ◌∷◌, ◌++◌}
+use Rattle.line_lists.proofs.Words.{get_or, None, Some, length, take, drop, refl, sym, ap, ap₂, subst, ◌∙◌, arith}
+use Rattle.line_lists.proofs.Words.{length-append, slice_get, if◌then◌else◌, length-map, map-append, take-append-le}
+use Rattle.line_lists.proofs.Words.{take_all, slice_get-get_or, take-append-add, ends_in_newline, is_newline, line_of}
+use Rattle.line_lists.proofs.Words.{lines, lines-append, lines-cons, Column, LineContent, characters, plain_line}
+use Rattle.line_lists.proofs.Words.{AreRows, GoesBefore, Holds, IsLine, content_of, whole}
 use Rattle.text_model.specs.Content.{characters as cell_characters}
-use Rattle.text_model.specs.Documents.{ends_in_newline}
-use Rattle.text_model.specs.Lines.{is_newline, line_of, line_start, lines}
-use Rattle.text_model.proofs.LineLaws.{lines-append, lines-cons}
-use Rattle.segments.specs.Columns.{Column, LineContent, characters, plain_line}
-use Rattle.line_lists.specs.Lists.{AreRows, GoesBefore, Holds, IsLine}
-use Rattle.line_lists.specs.Texts.{content_of, whole}
+use Rattle.text_model.specs.Lines.{line_start}
 use Rattle.line_lists.proofs.PlaceRows.{characters-content, inside, whole-at}
 
 -- ---- one line

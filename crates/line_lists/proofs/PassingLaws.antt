@@ -1,15 +1,7 @@
 -- Entries of a map of places that pass a test of their places, and ones whose places are mapped.
-use Rattle.std.proofs.Common.{◌≡◌, ℕ, Bool, true, false, cond, ◌&&◌, ◌==◌, T, List, [], ◌∷◌, Option, None, Some, map}
-use Rattle.std.proofs.Common.{refl, sym, ap, ◌∙◌, arith}
-use Rattle.std.specs.Cmp.{unsigned_tied}
-use Rattle.std.specs.FinMap.{find, is_sorted}
-use Rattle.std.specs.FinMap.Entries.{below_all}
-use Rattle.std.specs.List.{filter}
-use Rattle.std.specs.Ordering.{eq_by_cmp, is_lt, nat_cmp}
-use Rattle.std.specs.Prelude.{option_map}
-use Rattle.std.proofs.lemmas.Bool.Decides.{nat_tests}
-use Rattle.std.proofs.lemmas.Map.Entries.{option_filter}
-use Rattle.text_model.specs.declared.places.Place.{Place}
+use Rattle.line_lists.proofs.Words.{◌≡◌, ℕ, Bool, true, false, cond, ◌&&◌, ◌==◌, T, List, [], ◌∷◌, Option, None, Some}
+use Rattle.line_lists.proofs.Words.{map, refl, sym, ap, ◌∙◌, arith, unsigned_tied, find, is_sorted, below_all, filter}
+use Rattle.line_lists.proofs.Words.{eq_by_cmp, is_lt, nat_cmp, option_map, nat_tests, option_filter, Place}
 
 abbrev pub passing : (Place → Bool) → List (ℕ × Place) → List (ℕ × Place)
 passing test entries = filter (λ (entry : ℕ × Place). test entry.1) entries

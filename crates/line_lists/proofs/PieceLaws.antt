@@ -1,20 +1,12 @@
 -- Copies of lines as pieces of a list, which come in from the last to the first.
-use Rattle.std.proofs.Common.{◌≡◌, ◌≢◌, ℕ, zero, suc, ◌+◌, ◌-◌, ◌<◌, ◌≤◌, List, [], ◌∷◌, ◌++◌, None, Some, length, take}
-use Rattle.std.proofs.Common.{drop, inl, inr, refl, sym, ap, ap₂, subst, ◌∙◌, arith, append_assoc, length-append}
-use Rattle.std.proofs.Common.{length-drop, take-append-drop}
+use Rattle.line_lists.proofs.Words.{◌≡◌, ◌≢◌, ℕ, zero, suc, ◌+◌, ◌-◌, ◌<◌, ◌≤◌, List, [], ◌∷◌, ◌++◌, None, Some, length}
+use Rattle.line_lists.proofs.Words.{take, drop, inl, inr, refl, sym, ap, ap₂, subst, ◌∙◌, arith, append_assoc}
+use Rattle.line_lists.proofs.Words.{length-append, length-drop, take-append-drop, nat_cmp, cases_lt, append-nil}
+use Rattle.line_lists.proofs.Words.{drop-drop, length-take-le, nil_from_length, take-append-le, take-take, take_all}
+use Rattle.line_lists.proofs.Words.{drop-append_seam, Marks, Count, plus, LineContent, line_count, Piece, AreApart}
+use Rattle.line_lists.proofs.Words.{AreLines, AreRows, IsCounted, count_of, spliced, CanPlace, Covers, FitsIn, Follows}
+use Rattle.line_lists.proofs.Words.{placed, whole}
 use Rattle.std.specs.FinMap as finite
-use Rattle.std.specs.Ordering.{nat_cmp}
-use Rattle.std.proofs.lemmas.Bool.{cases_lt}
-use Rattle.std.proofs.lemmas.List.{append-nil, drop-drop, length-take-le, nil_from_length, take-append-le}
-use Rattle.std.proofs.lemmas.List.{take-take, take_all}
-use Rattle.std.proofs.Math.Seq.{drop-append_seam}
-use Rattle.text_model.specs.Content.{Marks}
-use Rattle.toggle_sums.specs.Counts.{Count, plus}
-use Rattle.segments.specs.Columns.{LineContent, line_count}
-use Rattle.line_lists.specs.declared.pieces.Piece.{Piece}
-use Rattle.line_lists.specs.Lists.{AreApart, AreLines, AreRows, IsCounted, count_of, spliced}
-use Rattle.line_lists.specs.Pieces.{CanPlace, Covers, FitsIn, Follows, placed}
-use Rattle.line_lists.specs.Texts.{whole}
 use Rattle.line_lists.proofs.CountRows.{count-append}
 use Rattle.line_lists.proofs.DraftLaws.{take-more}
 use Rattle.line_lists.proofs.EditLaws.{rows-apart}

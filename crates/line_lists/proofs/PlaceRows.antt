@@ -1,22 +1,13 @@
 -- What stands at an offset of lines in a row.
-use Rattle.std.proofs.Common.{◌≡◌, ℕ, zero, suc, ◌+◌, ◌<◌, ◌≤◌, List, [], ◌∷◌, ◌++◌, Option, None, Some, length, take}
-use Rattle.std.proofs.Common.{drop, refl, sym, ap, ap₂, subst, ◌∙◌, arith, add-one, length-append}
+use Rattle.line_lists.proofs.Words.{◌≡◌, ℕ, zero, suc, ◌+◌, ◌<◌, ◌≤◌, List, [], ◌∷◌, ◌++◌, Option, None, Some, length}
+use Rattle.line_lists.proofs.Words.{take, drop, refl, sym, ap, ap₂, subst, ◌∙◌, arith, add-one, length-append, IfSome}
+use Rattle.line_lists.proofs.Words.{option_map, slice_get, take-append-add, length-map, take-append-le, take-map}
+use Rattle.line_lists.proofs.Words.{get_or_from_slice_get, slice_get-map, Cell, Slots, flags, slot_sets, slots_left_of}
+use Rattle.line_lists.proofs.Words.{differing, empty-differing, parity, tags_from, tags_by_parity, Column, LineContent}
+use Rattle.line_lists.proofs.Words.{characters, tags_before, toggles, Holds, count_of, cells_from, cells_of_columns}
+use Rattle.line_lists.proofs.Words.{content_of, whole, tags_left_of}
 use Rattle.std.specs.FinSet as set
-use Rattle.std.specs.Prelude.{IfSome, option_map, slice_get}
-use Rattle.std.proofs.Math.Seq.{take-append-add}
-use Rattle.std.proofs.lemmas.List.{length-map, take-append-le, take-map}
-use Rattle.std.proofs.lemmas.Option.{get_or_from_slice_get, slice_get-map}
-use Rattle.text_model.specs.declared.cells.Cell.{Cell}
-use Rattle.text_model.specs.Content.{Slots, flags, slot_sets, slots_left_of}
 use Rattle.text_model.specs.Content.{characters as cell_characters}
-use Rattle.text_model.specs.SlotSets.{differing}
-use Rattle.toggle_sums.specs.CountLaws.{empty-differing}
-use Rattle.toggle_sums.specs.Toggles.{parity, tags_from}
-use Rattle.toggle_sums.proofs.ToggleLaws.{tags_by_parity}
-use Rattle.segments.specs.Columns.{Column, LineContent, characters, tags_before, toggles}
-use Rattle.line_lists.specs.Lists.{Holds, count_of}
-use Rattle.line_lists.specs.Texts.{cells_from, cells_of_columns, content_of, whole}
-use Rattle.line_lists.specs.Toggling.{tags_left_of}
 use Rattle.line_lists.proofs.CountRows.{count-characters, count-parity}
 use Rattle.line_lists.proofs.TagLaws.{behind-append}
 use Rattle.line_lists.proofs.WholeLaws.{between, whole-append}

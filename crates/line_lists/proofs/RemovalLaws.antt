@@ -1,28 +1,15 @@
 -- Characters that are taken out of a line of a text, with its newline or without, and once more.
-use Rattle.std.proofs.Common.{◌≡◌, ℕ, zero, suc, ◌+◌, ◌-◌, ◌<◌, ◌≤◌, List, [], ◌∷◌, ◌++◌, Option, None, Some, length}
-use Rattle.std.proofs.Common.{take, drop, refl, sym, ap, ap₂, subst, ◌∙◌, arith, length-append, take-append-drop}
+use Rattle.line_lists.proofs.Words.{◌≡◌, ℕ, zero, suc, ◌+◌, ◌-◌, ◌<◌, ◌≤◌, List, [], ◌∷◌, ◌++◌, Option, None, Some}
+use Rattle.line_lists.proofs.Words.{length, take, drop, refl, sym, ap, ap₂, subst, ◌∙◌, arith, length-append}
+use Rattle.line_lists.proofs.Words.{take-append-drop, option_map, slice_range, drop-drop, length-map, length-take-le}
+use Rattle.line_lists.proofs.Words.{map-append, take-append-le, drop-append-add, Place, Marks, Slots, map_marks}
+use Rattle.line_lists.proofs.Words.{ends_in_newline, lines, drawn, removed, differing, ends_with_rest, lines-append}
+use Rattle.line_lists.proofs.Words.{get-map_marks, same_marks, map-removed, differing-associative, differing-empty}
+use Rattle.line_lists.proofs.Words.{empty-differing, Column, LineContent, after_removal, characters, joined, later}
+use Rattle.line_lists.proofs.Words.{toggled_first, without_columns, get-joined_marks, or_else, AreRows, GoesBefore}
+use Rattle.line_lists.proofs.Words.{IsLine, StandBefore, whole, tags_left_of}
 use Rattle.std.specs.FinMap as finite
 use Rattle.std.specs.FinSet as set
-use Rattle.std.specs.Prelude.{option_map, slice_range}
-use Rattle.std.proofs.lemmas.List.{drop-drop, length-map, length-take-le, map-append, take-append-le}
-use Rattle.std.proofs.Math.Seq.{drop-append-add}
-use Rattle.text_model.specs.declared.places.Place.{Place}
-use Rattle.text_model.specs.Content.{Marks, Slots, map_marks}
-use Rattle.text_model.specs.Documents.{ends_in_newline}
-use Rattle.text_model.specs.Lines.{lines}
-use Rattle.text_model.specs.Splices.{drawn, removed}
-use Rattle.text_model.specs.SlotSets.{differing}
-use Rattle.text_model.proofs.DocumentLaws.{ends_with_rest}
-use Rattle.text_model.proofs.LineLaws.{lines-append}
-use Rattle.text_model.proofs.PlaceLaws.{get-map_marks, same_marks}
-use Rattle.text_model.proofs.SpliceLaws.{map-removed}
-use Rattle.toggle_sums.specs.CountLaws.{differing-associative, differing-empty, empty-differing}
-use Rattle.segments.specs.Columns.{Column, LineContent, after_removal, characters, joined, later, toggled_first}
-use Rattle.segments.specs.Columns.{without_columns}
-use Rattle.segments.proofs.MarkLaws.{get-joined_marks, or_else}
-use Rattle.line_lists.specs.Lists.{AreRows, GoesBefore, IsLine, StandBefore}
-use Rattle.line_lists.specs.Texts.{whole}
-use Rattle.line_lists.specs.Toggling.{tags_left_of}
 use Rattle.line_lists.proofs.EditLaws.{goes-changed, joined-stands, joined_one, rows-stand, some-columns, text-among}
 use Rattle.line_lists.proofs.NewlineRows.{none_before}
 use Rattle.line_lists.proofs.RowLaws.{Makes, among-first, characters-first, free-parts, rows-before, rows-behind}

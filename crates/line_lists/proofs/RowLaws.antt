@@ -1,24 +1,13 @@
 -- Lines of a text, of which one changes.
-use Rattle.std.proofs.Common.{◌≡◌, ◌≢◌, ℕ, ◌+◌, ◌<◌, List, [], ◌∷◌, ◌++◌, Option, None, Some, length, get_or, map, take}
-use Rattle.std.proofs.Common.{drop, refl, sym, ap, ap₂, subst, ◌∙◌, arith, append_assoc, take-append-drop}
+use Rattle.line_lists.proofs.Words.{◌≡◌, ◌≢◌, ℕ, ◌+◌, ◌<◌, List, [], ◌∷◌, ◌++◌, Option, None, Some, length, get_or, map}
+use Rattle.line_lists.proofs.Words.{take, drop, refl, sym, ap, ap₂, subst, ◌∙◌, arith, append_assoc, take-append-drop}
+use Rattle.line_lists.proofs.Words.{option_map, Place, drop_more, get_or_default, length-map, map-append, Marks, Slots}
+use Rattle.line_lists.proofs.Words.{ends_in_newline, lines, changed, Column, LineContent, characters, joined, later}
+use Rattle.line_lists.proofs.Words.{toggled_first, toggled_more, get-joined_marks, or_else, Copied, Stop, IsDraft}
+use Rattle.line_lists.proofs.Words.{IsText, drafted_at, with_toggled, AreApart, AreRows, GoesBefore, IsLine, whole}
+use Rattle.line_lists.proofs.Words.{toggled_before}
 use Rattle.std.specs.FinMap as finite
-use Rattle.std.specs.Prelude.{option_map}
-use Rattle.text_model.specs.declared.places.Place.{Place}
 use Rattle.std.specs.FinSet as set
-use Rattle.std.proofs.lemmas.List.{drop_more, get_or_default, length-map, map-append}
-use Rattle.text_model.specs.Content.{Marks, Slots}
-use Rattle.text_model.specs.Documents.{ends_in_newline}
-use Rattle.text_model.specs.Lines.{lines}
-use Rattle.text_model.specs.Splices.{changed}
-use Rattle.segments.specs.Columns.{Column, LineContent, characters, joined, later, toggled_first, toggled_more}
-use Rattle.segments.proofs.MarkLaws.{get-joined_marks, or_else}
-use Rattle.line_lists.specs.declared.drafts.Copied.{Copied}
-use Rattle.line_lists.specs.declared.drafts.Stop.{Stop}
-use Rattle.line_lists.specs.Drafts.{IsDraft, IsText, drafted_at}
-use Rattle.line_lists.specs.Edits.{with_toggled}
-use Rattle.line_lists.specs.Lists.{AreApart, AreRows, GoesBefore, IsLine}
-use Rattle.line_lists.specs.Texts.{whole}
-use Rattle.line_lists.specs.Toggling.{toggled_before}
 use Rattle.line_lists.proofs.StepLaws.{slice-one}
 use Rattle.line_lists.proofs.WholeLaws.{between, whole-append, with_toggled-between}
 

@@ -1,18 +1,12 @@
 -- Runs of characters that pass a test which no newline passes: each lies in one line.
-use Rattle.std.proofs.Common.{◌≡◌, ℕ, zero, suc, ◌+◌, ◌-◌, ◌<◌, ◌≤◌, Bool, true, false, cond, List, [], ◌∷◌, ◌++◌}
-use Rattle.std.proofs.Common.{length, take, drop, refl, sym, ap, ap₂, ◌∙◌, arith}
-use Rattle.std.specs.Prelude.{slice_get, reverse, Some}
-use Rattle.std.specs.List.{prefix_len, suffix_len}
-use Rattle.std.proofs.Math.Seq.{drop-append-add, take-append-add}
+use Rattle.line_lists.proofs.Words.{◌≡◌, ℕ, zero, suc, ◌+◌, ◌-◌, ◌<◌, ◌≤◌, Bool, true, false, cond, List, [], ◌∷◌, ◌++◌}
+use Rattle.line_lists.proofs.Words.{length, take, drop, refl, sym, ap, ap₂, ◌∙◌, arith, slice_get, reverse, prefix_len}
+use Rattle.line_lists.proofs.Words.{suffix_len, drop-append-add, take-append-add, drop-append-le, length-map}
+use Rattle.line_lists.proofs.Words.{length-reverse, reverse-append, take-append-le, ends_in_newline, run_start-le}
+use Rattle.line_lists.proofs.Words.{Column, LineContent, characters, AreRows, content_of, whole}
+use Rattle.std.specs.Prelude.{Some}
 use Rattle.std.proofs.lemmas.Bool.{eqb-true}
-use Rattle.std.proofs.lemmas.List.{drop-append-le, length-map, length-reverse, reverse-append}
-use Rattle.std.proofs.lemmas.List.{take-append-le}
 use Rattle.text_model.specs.Content.{characters as cell_characters}
-use Rattle.text_model.specs.Documents.{ends_in_newline}
-use Rattle.text_model.proofs.RunLaws.{run_start-le}
-use Rattle.segments.specs.Columns.{Column, LineContent, characters}
-use Rattle.line_lists.specs.Lists.{AreRows}
-use Rattle.line_lists.specs.Texts.{content_of, whole}
 use Rattle.line_lists.proofs.NewlineRows.{characters-append, row-at}
 use Rattle.line_lists.proofs.PlaceRows.{characters-content, whole-at}
 

@@ -1,16 +1,11 @@
 -- What the nearest element that passes a test tells of the elements between: of columns in a line, and of lines.
-use Rattle.std.proofs.Common.{◌≡◌, ℕ, zero, suc, ◌+◌, ◌-◌, ◌<◌, ◌≤◌, Bool, true, false, not, cond, nat_lt, List, []}
-use Rattle.std.proofs.Common.{Option, None, Some, length, take, drop, get_or, refl, sym, ap, ◌∙◌, inl, inr, arith}
-use Rattle.std.proofs.Common.{length-drop}
-use Rattle.std.specs.Prelude.{option_map, if◌then◌else◌}
-use Rattle.std.specs.List.{position, position_or_len, suffix_len}
-use Rattle.std.proofs.lemmas.Bool.{cases_lt}
-use Rattle.std.proofs.lemmas.Bool.Decides.{nat_tests}
-use Rattle.std.proofs.lemmas.List.{get_or-drop}
+use Rattle.line_lists.proofs.Words.{◌≡◌, ℕ, zero, suc, ◌+◌, ◌-◌, ◌<◌, ◌≤◌, Bool, true, false, not, cond, List, []}
+use Rattle.line_lists.proofs.Words.{Option, None, Some, length, take, drop, get_or, refl, sym, ap, ◌∙◌, inl, inr, arith}
+use Rattle.line_lists.proofs.Words.{length-drop, option_map, if◌then◌else◌, position, position_or_len, suffix_len}
+use Rattle.line_lists.proofs.Words.{cases_lt, nat_tests, get_or-drop, fails_before_first, suffix_len-take_no}
+use Rattle.line_lists.proofs.Words.{suffix_len-take_yes, LineContent, plain_line, next_line, previous_line}
+use Rattle.std.proofs.Common.{nat_lt}
 use Rattle.std.proofs.lemmas.List.Quantifiers.{position-Some}
-use Rattle.std.proofs.lemmas.List.Sums.{fails_before_first, suffix_len-take_no, suffix_len-take_yes}
-use Rattle.segments.specs.Columns.{LineContent, plain_line}
-use Rattle.line_lists.specs.Lists.{next_line, previous_line}
 
 abbrev pub line_at : List LineContent → ℕ → LineContent
 line_at lines k = get_or lines k (plain_line [])

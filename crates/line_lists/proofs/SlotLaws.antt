@@ -1,12 +1,8 @@
 -- Sets of slots that differ.
-use Rattle.std.proofs.Common.{◌≡◌, ℕ, Bool, true, false, cond, ◌==◌, refl, sym, ap, ap₂, ◌∙◌}
+use Rattle.line_lists.proofs.Words.{◌≡◌, ℕ, Bool, true, false, cond, ◌==◌, refl, sym, ap, ap₂, ◌∙◌, nat_cmp, Slots}
+use Rattle.line_lists.proofs.Words.{differing, set_slot, contains-set_slot, contains-differing, differing-commutative}
+use Rattle.line_lists.proofs.Words.{either, same_slots}
 use Rattle.std.specs.FinSet as set
-use Rattle.std.specs.Ordering.{nat_cmp}
-use Rattle.text_model.specs.Content.{Slots}
-use Rattle.text_model.specs.SlotSets.{differing}
-use Rattle.text_model.specs.Steps.{set_slot}
-use Rattle.text_model.proofs.CellLaws.{contains-set_slot}
-use Rattle.toggle_sums.specs.CountLaws.{contains-differing, differing-commutative, either, same_slots}
 
 either-again : (a b : Bool) → either a (either a b) ≡ b
 either-again true true = refl

@@ -1,24 +1,15 @@
 -- Where the mark of a number stands in the lines of a draft.
-use Rattle.std.proofs.Common.{◌≡◌, ◌≢◌, ℕ, suc, ◌+◌, ◌-◌, min, ◌<◌, ◌≤◌, true, false, List, [], ◌∷◌, ◌++◌, Option, None}
-use Rattle.std.proofs.Common.{Some, IfSome, length, take, drop, get_or, inl, inr, refl, sym, ap, ap₂, subst, ◌∙◌, arith}
-use Rattle.std.proofs.Common.{append_assoc, length-append, take-append-drop, length-drop}
+use Rattle.line_lists.proofs.Words.{◌≡◌, ◌≢◌, ℕ, suc, ◌+◌, ◌-◌, min, ◌<◌, ◌≤◌, true, false, List, [], ◌∷◌, ◌++◌, Option}
+use Rattle.line_lists.proofs.Words.{None, Some, length, take, drop, get_or, inl, inr, refl, sym, ap, ap₂, subst, ◌∙◌}
+use Rattle.line_lists.proofs.Words.{arith, append_assoc, length-append, take-append-drop, length-drop, nat_cmp, is_some}
+use Rattle.line_lists.proofs.Words.{option_map, reverse, slice_get, cases_lt, append-nil, drop-drop, drop-take}
+use Rattle.line_lists.proofs.Words.{drop_more, get_or-take, length-take-le, map-append, reverse-append, take_all}
+use Rattle.line_lists.proofs.Words.{take_more, Place, LineContent, later, or_else, Copied, Reached, Stop, AreStops}
+use Rattle.line_lists.proofs.Words.{CanFollow, IsReached, IsText, StandsBy, copies_of, covered, drafted, drafted_at}
+use Rattle.line_lists.proofs.Words.{in_order, made_lines, text_at, used, AreRows, GoesBefore, IsMarked, StandBefore}
+use Rattle.line_lists.proofs.Words.{has_mark, next_line, StandsIn, lines_with, whole}
+use Rattle.std.proofs.Common.{IfSome}
 use Rattle.std.specs.FinMap as finite
-use Rattle.std.specs.Ordering.{nat_cmp}
-use Rattle.std.specs.Prelude.{is_some, option_map, reverse, slice_get}
-use Rattle.std.proofs.lemmas.Bool.{cases_lt}
-use Rattle.std.proofs.lemmas.List.{append-nil, drop-drop, drop-take, drop_more, get_or-take, length-take-le, map-append}
-use Rattle.std.proofs.lemmas.List.{reverse-append, take_all, take_more}
-use Rattle.text_model.specs.declared.places.Place.{Place}
-use Rattle.segments.specs.Columns.{LineContent, later}
-use Rattle.segments.proofs.MarkLaws.{or_else}
-use Rattle.line_lists.specs.declared.drafts.Copied.{Copied}
-use Rattle.line_lists.specs.declared.drafts.Reached.{Reached}
-use Rattle.line_lists.specs.declared.drafts.Stop.{Stop}
-use Rattle.line_lists.specs.Drafts.{AreStops, CanFollow, IsReached, IsText, StandsBy, copies_of, covered, drafted}
-use Rattle.line_lists.specs.Drafts.{drafted_at, in_order, made_lines, text_at, used}
-use Rattle.line_lists.specs.Lists.{AreRows, GoesBefore, IsMarked, StandBefore, has_mark, next_line}
-use Rattle.line_lists.specs.Marking.{StandsIn, lines_with}
-use Rattle.line_lists.specs.Texts.{whole}
 use Rattle.line_lists.proofs.DraftLaws.{copies-snoc, drafted-append, length-whole, made-snoc, stops-last, take-more}
 use Rattle.line_lists.proofs.DraftLaws.{add_groups, used-append}
 use Rattle.line_lists.proofs.EditLaws.{some-columns}

@@ -1,24 +1,15 @@
 -- Each step on columns is that step on the cells.
-use Rattle.std.proofs.Common.{◌≡◌, ℕ, zero, suc, ◌+◌, ◌-◌, ◌<◌, ◌≤◌, ◌==◌, Bool, true, false, cond, get_or, List, []}
-use Rattle.std.proofs.Common.{◌∷◌, ◌++◌, length, map, take, drop, refl, sym, ap, ap₂, ◌∙◌, arith, length-drop}
-use Rattle.std.proofs.Common.{append_assoc, length-append}
-use Rattle.std.specs.Prelude.{slice_range}
+use Rattle.line_lists.proofs.Words.{◌≡◌, ℕ, zero, suc, ◌+◌, ◌-◌, ◌<◌, ◌≤◌, ◌==◌, Bool, true, false, cond, get_or, List}
+use Rattle.line_lists.proofs.Words.{[], ◌∷◌, ◌++◌, length, map, take, drop, refl, sym, ap, ap₂, ◌∙◌, arith, length-drop}
+use Rattle.line_lists.proofs.Words.{append_assoc, length-append, slice_range, nat_cmp, take-append_seam, take-nil}
+use Rattle.line_lists.proofs.Words.{drop-append_seam, drop_more, get_or_default, length-map, length-take-le}
+use Rattle.line_lists.proofs.Words.{split_between, Cell, Slots, differing, changed, inserted, removed, cells_of}
+use Rattle.line_lists.proofs.Words.{set_slot, with_slot, without_slots, contains-set_slot, differing-associative}
+use Rattle.line_lists.proofs.Words.{differing-empty, empty-differing, same_slots, Column, plain_columns, tags_before}
+use Rattle.line_lists.proofs.Words.{toggled_first, without_columns, with_toggle, cells_from, cells_of_columns}
+use Rattle.line_lists.proofs.Words.{columns_bare, columns_inserted, columns_tagged, switched, tags_left_of}
+use Rattle.line_lists.proofs.Words.{toggled_before}
 use Rattle.std.specs.FinSet as set
-use Rattle.std.specs.Ordering.{nat_cmp}
-use Rattle.std.proofs.Math.Seq.{take-append_seam, take-nil, drop-append_seam}
-use Rattle.std.proofs.lemmas.List.{drop_more, get_or_default, length-map, length-take-le}
-use Rattle.std.proofs.lemmas.List.Edits.{split_between}
-use Rattle.text_model.specs.declared.cells.Cell.{Cell}
-use Rattle.text_model.specs.Content.{Slots}
-use Rattle.text_model.specs.SlotSets.{differing}
-use Rattle.text_model.specs.Splices.{changed, inserted, removed}
-use Rattle.text_model.specs.Steps.{cells_of, set_slot, with_slot, without_slots}
-use Rattle.text_model.proofs.CellLaws.{contains-set_slot}
-use Rattle.toggle_sums.specs.CountLaws.{differing-associative, differing-empty, empty-differing, same_slots}
-use Rattle.segments.specs.Columns.{Column, plain_columns, tags_before, toggled_first, without_columns, with_toggle}
-use Rattle.line_lists.specs.Texts.{cells_from, cells_of_columns}
-use Rattle.line_lists.specs.Toggling.{columns_bare, columns_inserted, columns_tagged, switched, tags_left_of}
-use Rattle.line_lists.specs.Toggling.{toggled_before}
 use Rattle.line_lists.proofs.SlotLaws.{differing-again, differing-back, differing-self}
 use Rattle.line_lists.proofs.TagLaws.{behind-append, behind-cleared, behind-plain, cells-append, cells-cleared}
 use Rattle.line_lists.proofs.TagLaws.{cells-plain, cells-toggled}

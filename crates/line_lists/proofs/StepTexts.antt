@@ -1,34 +1,18 @@
 -- What the steps of an edit make of the text of a draft.
-use Rattle.std.proofs.Common.{◌≡◌, ℕ, zero, suc, ◌+◌, ◌-◌, ◌<◌, ◌≤◌, Bool, true, false, cond, List, [], ◌∷◌, ◌++◌}
-use Rattle.std.proofs.Common.{Option, None, Some, Result, Err, Ok, get_or, length, map, take, drop, inl, inr, refl, sym}
-use Rattle.std.proofs.Common.{ap, ap₂, subst, ◌∙◌, arith}
-use Rattle.std.specs.Cmp.{nat_cmp_total}
+use Rattle.line_lists.proofs.Words.{◌≡◌, ℕ, zero, suc, ◌+◌, ◌-◌, ◌<◌, ◌≤◌, Bool, true, false, cond, List, [], ◌∷◌, ◌++◌}
+use Rattle.line_lists.proofs.Words.{Option, None, Some, Result, Err, Ok, get_or, length, map, take, drop, inl, inr}
+use Rattle.line_lists.proofs.Words.{refl, sym, ap, ap₂, subst, ◌∙◌, arith, take-append-drop, nat_cmp_total, SomeIff}
+use Rattle.line_lists.proofs.Words.{ok_or, eq_by_cmp, nat_cmp, cases_lt, append-nil, drop_all, drop_more, take_all}
+use Rattle.line_lists.proofs.Words.{Step, ClearTags, Insert, SetTag, Place, Content, Slots, differing, changed, Fits}
+use Rattle.line_lists.proofs.Words.{StepFitsIn, after, after_step, length_after, set_slot, same_marks, length-changed}
+use Rattle.line_lists.proofs.Words.{length-after_step, differing-associative, differing-commutative, Column}
+use Rattle.line_lists.proofs.Words.{LineContent, after_text, tags_before, toggled_first, with_toggle, Copied, Stop}
+use Rattle.line_lists.proofs.Words.{StandsAt, copies_of, lines_before, lines_behind, taken_lines, made, with_cleared}
+use Rattle.line_lists.proofs.Words.{with_mark, with_toggled, without_mark, text_of, whole, switched, tags_left_of}
+use Rattle.line_lists.proofs.Words.{toggled_before}
 use Rattle.std.specs.FinMap as finite
 use Rattle.std.specs.FinSet as set
-use Rattle.std.specs.Option.{SomeIff, ok_or}
-use Rattle.std.specs.Ordering.{eq_by_cmp, nat_cmp}
-use Rattle.std.proofs.lemmas.Bool.{cases_lt}
-use Rattle.std.proofs.lemmas.List.{append-nil, drop_all, drop_more, take_all}
-use Rattle.std.proofs.Common.{take-append-drop}
-use Rattle.text_model.specs.declared.edits.Step.{Step}
-use Rattle.text_model.specs.declared.edits.Step.TheVariants.{ClearTags, Insert, SetTag}
 use Rattle.text_model.specs.declared.places.TagSlot.{TagSlot}
-use Rattle.text_model.specs.declared.places.Place.{Place}
-use Rattle.text_model.specs.Content.{Content, Slots}
-use Rattle.text_model.specs.SlotSets.{differing}
-use Rattle.text_model.specs.Splices.{changed}
-use Rattle.text_model.specs.Steps.{Fits, StepFitsIn, after, after_step, length_after, set_slot}
-use Rattle.text_model.proofs.PlaceLaws.{same_marks}
-use Rattle.text_model.proofs.SpliceLaws.{length-changed}
-use Rattle.text_model.proofs.StepLaws.{length-after_step}
-use Rattle.toggle_sums.specs.CountLaws.{differing-associative, differing-commutative}
-use Rattle.segments.specs.Columns.{Column, LineContent, after_text, tags_before, toggled_first, with_toggle}
-use Rattle.line_lists.specs.declared.drafts.Copied.{Copied}
-use Rattle.line_lists.specs.declared.drafts.Stop.{Stop}
-use Rattle.line_lists.specs.Drafts.{StandsAt, copies_of, lines_before, lines_behind, taken_lines}
-use Rattle.line_lists.specs.Edits.{made, with_cleared, with_mark, with_toggled, without_mark}
-use Rattle.line_lists.specs.Texts.{text_of, whole}
-use Rattle.line_lists.specs.Toggling.{switched, tags_left_of, toggled_before}
 use Rattle.line_lists.proofs.ClearingLaws.{tags-around}
 use Rattle.line_lists.proofs.EditLaws.{length-text}
 use Rattle.line_lists.proofs.FreedLaws.{eq_self}

@@ -1,14 +1,9 @@
 -- What a store over lines asks of its list.
-use Rattle.std.proofs.Common.{◌≡◌, ℕ, ◌<◌, ◌≤◌, inl, inr, List, [], ◌∷◌, length, sym, ap, subst, ◌∙◌, arith}
+use Rattle.line_lists.proofs.Words.{◌≡◌, ℕ, ◌<◌, ◌≤◌, inl, inr, List, [], ◌∷◌, length, sym, ap, subst, ◌∙◌, arith, All}
+use Rattle.line_lists.proofs.Words.{All-cons, All-head, All-nil, All-tail, new_content, LineContent, plain_line}
+use Rattle.line_lists.proofs.Words.{AreLines, NumbersBelow, numbers_in, numbers_of, content_of, text_of, whole}
 use Rattle.std.specs.FinMap as finite
 use Rattle.std.specs.FinSet as set
-use Rattle.std.specs.List.{All}
-use Rattle.std.proofs.lemmas.List.Elements.{All-cons, All-head, All-nil, All-tail}
-use Rattle.text_model.specs.Content.{new_content}
-use Rattle.segments.specs.Columns.{LineContent, plain_line}
-use Rattle.line_lists.specs.Lists.{AreLines, NumbersBelow}
-use Rattle.line_lists.specs.Pieces.{numbers_in, numbers_of}
-use Rattle.line_lists.specs.Texts.{content_of, text_of, whole}
 use Rattle.line_lists.proofs.FoundMarks.{rows-some}
 use Rattle.line_lists.proofs.FreedLaws.{Names, names-left, names-right, names_of}
 use Rattle.line_lists.proofs.TagLaws.{cells-plain}

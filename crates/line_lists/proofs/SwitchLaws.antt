@@ -1,16 +1,10 @@
 -- Which slots change where one is put in a set, or taken out of it: none, or that one.
-use Rattle.std.proofs.Common.{◌≡◌, ℕ, Bool, true, false, not, ◌&&◌, ◌||◌, ◌==◌, refl, sym, ap, ◌∙◌, arith}
-use Rattle.std.proofs.lemmas.Bool.{false≢true}
-use Rattle.std.proofs.lemmas.Bool.Decides.{nat_tests}
+use Rattle.line_lists.proofs.Words.{◌≡◌, ℕ, Bool, true, false, not, ◌&&◌, ◌||◌, ◌==◌, refl, sym, ap, ◌∙◌, arith}
+use Rattle.line_lists.proofs.Words.{false≢true, nat_tests, nat_cmp_total, unsigned_tied, nat_cmp, Slots, differing}
+use Rattle.line_lists.proofs.Words.{set_slot, contains-differing, either, same_slots}
 use Rattle.std.specs.Bool.{beq}
-use Rattle.std.specs.Cmp.{nat_cmp_total, unsigned_tied}
 use Rattle.std.specs.FinSet as set
-use Rattle.std.specs.Ordering.{nat_cmp}
-use Rattle.text_model.specs.Content.{Slots}
-use Rattle.text_model.specs.SlotSets.{differing}
-use Rattle.text_model.specs.Steps.{set_slot}
 use Rattle.text_model.specs.TagBitLaws.{contains_inserted}
-use Rattle.toggle_sums.specs.CountLaws.{contains-differing, either, same_slots}
 
 stays_on : (k q : ℕ) (c : Bool) → (q ≡ k → c ≡ true) → false ≡ either c (q == k || c)
 stays_on k q true is = grind (arith, nat_tests)

@@ -1,14 +1,9 @@
 -- What the steps of an edit make of columns is what they make of the cells.
-use Rattle.std.proofs.Common.{◌≡◌, ℕ, Bool, false, List, [], ◌∷◌, ◌++◌, map, refl, sym, ap, ◌∙◌}
+use Rattle.line_lists.proofs.Words.{◌≡◌, ℕ, Bool, false, List, [], ◌∷◌, ◌++◌, map, refl, sym, ap, ◌∙◌, Cell, Slots}
+use Rattle.line_lists.proofs.Words.{differing, cells_of, set_slot, with_slot, differing-associative, differing-empty}
+use Rattle.line_lists.proofs.Words.{empty-differing, Column, plain_columns, toggled_first, with_toggle, cells_from}
+use Rattle.line_lists.proofs.Words.{tags_left_of}
 use Rattle.std.specs.FinSet as set
-use Rattle.text_model.specs.declared.cells.Cell.{Cell}
-use Rattle.text_model.specs.Content.{Slots}
-use Rattle.text_model.specs.SlotSets.{differing}
-use Rattle.text_model.specs.Steps.{cells_of, set_slot, with_slot}
-use Rattle.toggle_sums.specs.CountLaws.{differing-associative, differing-empty, empty-differing}
-use Rattle.segments.specs.Columns.{Column, plain_columns, toggled_first, with_toggle}
-use Rattle.line_lists.specs.Texts.{cells_from}
-use Rattle.line_lists.specs.Toggling.{tags_left_of}
 use Rattle.line_lists.proofs.SlotLaws.{differing-set}
 
 -- the cell of a column, where some slots are on before it

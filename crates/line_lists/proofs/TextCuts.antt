@@ -1,20 +1,13 @@
 -- A text is cut behind its first newline.
-use Rattle.std.proofs.Common.{◌≡◌, ℕ, zero, suc, ◌+◌, cond, ◌==◌, List, [], ◌∷◌, ◌++◌, take, drop, chars, refl}
-use Rattle.std.proofs.Common.{sym, ap, ap₂, subst, ◌∙◌, arith, append_assoc, take-append-drop}
+use Rattle.line_lists.proofs.Words.{◌≡◌, ℕ, zero, suc, ◌+◌, cond, ◌==◌, List, [], ◌∷◌, ◌++◌, take, drop, chars, refl}
+use Rattle.line_lists.proofs.Words.{sym, ap, ap₂, subst, ◌∙◌, arith, append_assoc, take-append-drop, length-take-le}
+use Rattle.line_lists.proofs.Words.{take-append-add, ends_in_newline, lines, ends_with_rest, lines-append, lines-cons}
+use Rattle.line_lists.proofs.Words.{plain_line, characters-plain, IsLine}
 use Rattle.std.specs.Str.{IsAscii, IsCharBoundary, IsUtf8, NoCharPasses, NonePass}
 use Rattle.std.specs.Str.Pattern.{HasCharAt}
-use Rattle.std.proofs.lemmas.List.{length-take-le}
 use Rattle.std.proofs.lemmas.Str.{IsUtf8-drop, IsUtf8-take, IsUtf8-from_ascii, chars-append, chars-nil}
 use Rattle.std.proofs.lemmas.Str.{chars_from_encodes, chars_past_char, encode_ascii}
 use Rattle.std.proofs.lemmas.Str.Pattern.{drop_at_char}
-use Rattle.std.proofs.Math.Seq.{take-append-add}
-use Rattle.text_model.specs.Documents.{ends_in_newline}
-use Rattle.text_model.specs.Lines.{lines}
-use Rattle.text_model.proofs.DocumentLaws.{ends_with_rest}
-use Rattle.text_model.proofs.LineLaws.{lines-append, lines-cons}
-use Rattle.segments.specs.Columns.{plain_line}
-use Rattle.segments.proofs.PlainLaws.{characters-plain}
-use Rattle.line_lists.specs.Lists.{IsLine}
 
 none-lines : (text : List ℕ) → NonePass (λ d. d == 10) text → lines text ≡ 0
 none-lines [] none = refl

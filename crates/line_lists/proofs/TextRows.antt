@@ -1,20 +1,14 @@
 -- The characters of lines in a row, from one offset to another.
-use Rattle.std.proofs.Common.{◌≡◌, ℕ, zero, suc, ◌+◌, ◌-◌, ◌<◌, ◌≤◌, List, [], ◌∷◌, ◌++◌, length, take, drop, sym}
-use Rattle.std.proofs.Common.{ap, ap₂, ◌∙◌, arith, add-one, append_assoc, inl, inr, length-append, length-drop}
-use Rattle.std.proofs.Common.{take-append-drop}
-use Rattle.std.specs.Prelude.{slice_get, slice_range, Some}
-use Rattle.std.proofs.lemmas.Bool.{cases_lt}
-use Rattle.std.proofs.lemmas.List.{append-nil, drop-append-le, length-map, map-append, take-append-le, take_all}
-use Rattle.std.proofs.lemmas.List.{drop-drop}
-use Rattle.std.proofs.lemmas.Option.{none-some, same_Some}
-use Rattle.std.proofs.Math.Seq.{drop-append-add}
-use Rattle.segments.specs.Columns.{Column, LineContent, characters}
+use Rattle.line_lists.proofs.Words.{◌≡◌, ℕ, zero, suc, ◌+◌, ◌-◌, ◌<◌, ◌≤◌, List, [], ◌∷◌, ◌++◌, length, take, drop, sym}
+use Rattle.line_lists.proofs.Words.{ap, ap₂, ◌∙◌, arith, add-one, append_assoc, inl, inr, length-append, length-drop}
+use Rattle.line_lists.proofs.Words.{take-append-drop, slice_get, slice_range, cases_lt, append-nil, drop-append-le}
+use Rattle.line_lists.proofs.Words.{length-map, map-append, take-append-le, take_all, drop-drop, none-some, same_Some}
+use Rattle.line_lists.proofs.Words.{drop-append-add, Column, LineContent, characters, IsAt, content_of, whole}
+use Rattle.std.specs.Prelude.{Some}
 use Rattle.text_model.specs.Content.{characters as cell_characters}
-use Rattle.line_lists.specs.Places.{IsAt}
-use Rattle.line_lists.specs.Texts.{content_of, whole}
 use Rattle.line_lists.proofs.DraftLaws.{take-more}
-use Rattle.line_lists.proofs.LineStarts.{at-before, at-within, length_at, lent, lent-length, start-next}
-use Rattle.line_lists.proofs.LineStarts.{start-rises, start_of, there}
+use Rattle.line_lists.proofs.LineStarts.{at-before, at-within, length_at, lent, lent-length, start-next, start-rises}
+use Rattle.line_lists.proofs.LineStarts.{start_of, there}
 use Rattle.line_lists.proofs.PlaceRows.{characters-content, whole-at}
 use Rattle.line_lists.proofs.SearchRows.{line_at}
 use Rattle.line_lists.proofs.WholeLaws.{whole-append, whole-one}

@@ -1,24 +1,11 @@
 -- Where a tag changes is where its slot is toggled: over the columns of a text.
-use Rattle.std.proofs.Common.{◌≡◌, ℕ, zero, suc, ◌+◌, ◌-◌, ◌<◌, ◌≤◌, Bool, true, false, ◌||◌, List, [], ◌∷◌, length}
-use Rattle.std.proofs.Common.{take, get_or, refl, sym, ap, ap₂, ◌∙◌, arith}
+use Rattle.line_lists.proofs.Words.{◌≡◌, ℕ, zero, suc, ◌+◌, ◌-◌, ◌<◌, ◌≤◌, Bool, true, false, ◌||◌, List, [], ◌∷◌}
+use Rattle.line_lists.proofs.Words.{length, take, get_or, refl, sym, ap, ap₂, ◌∙◌, arith, nat_cmp_total, nat_cmp}
+use Rattle.line_lists.proofs.Words.{take-suc, or_parts, length-map, get_or_from_slice_get, Cell, flag_at, is_alike}
+use Rattle.line_lists.proofs.Words.{next_change, previous_change, flags, differing, next_change_is, previous_change_is}
+use Rattle.line_lists.proofs.Words.{contains-differing, differing-empty, either, presence, Column, LineContent}
+use Rattle.line_lists.proofs.Words.{tags_before, toggles, has_toggle, cells_of_columns, tags_left_of}
 use Rattle.std.specs.FinSet as set
-use Rattle.std.specs.Cmp.{nat_cmp_total}
-use Rattle.std.specs.Ordering.{nat_cmp}
-use Rattle.std.proofs.Math.Seq.{take-suc}
-use Rattle.std.proofs.lemmas.Bool.{or_parts}
-use Rattle.std.proofs.lemmas.List.{length-map}
-use Rattle.std.proofs.lemmas.Option.{get_or_from_slice_get}
-use Rattle.text_model.specs.declared.cells.Cell.{Cell}
-use Rattle.text_model.specs.Changes.{flag_at, is_alike, next_change, previous_change}
-use Rattle.text_model.specs.Content.{flags}
-use Rattle.text_model.specs.SlotSets.{differing}
-use Rattle.text_model.proofs.ChangeLaws.{next_change_is, previous_change_is}
-use Rattle.toggle_sums.specs.CountLaws.{contains-differing, differing-empty, either}
-use Rattle.toggle_sums.specs.Toggles.{presence}
-use Rattle.segments.specs.Columns.{Column, LineContent, tags_before, toggles}
-use Rattle.line_lists.specs.Lists.{has_toggle}
-use Rattle.line_lists.specs.Texts.{cells_of_columns}
-use Rattle.line_lists.specs.Toggling.{tags_left_of}
 use Rattle.line_lists.proofs.PlaceRows.{flag-at, length-cells, tags-column}
 use Rattle.line_lists.proofs.SearchRows.{FailIn}
 use Rattle.line_lists.proofs.TagLaws.{behind-append}

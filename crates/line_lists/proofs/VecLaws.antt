@@ -1,23 +1,13 @@
 -- What the list over a `Vec` makes of its lines is what a text may be.
-use Rattle.std.proofs.Common.{◌≡◌, ℕ, ◌+◌, ◌-◌, ◌<◌, ◌≤◌, Bool, true, false, cond, List, [], ◌∷◌, ◌++◌, Option, None}
-use Rattle.std.proofs.Common.{Some, get_or, length, map, take, drop, refl, set, sym, ap, ap₂, subst, ◌∙◌, arith}
-use Rattle.std.proofs.Common.{take-append-drop}
-use Rattle.std.specs.Cmp.{nat_cmp_total}
+use Rattle.line_lists.proofs.Words.{◌≡◌, ℕ, ◌+◌, ◌-◌, ◌<◌, ◌≤◌, Bool, true, false, cond, List, [], ◌∷◌, ◌++◌, Option}
+use Rattle.line_lists.proofs.Words.{None, Some, get_or, length, map, take, drop, refl, set, sym, ap, ap₂, subst, ◌∙◌}
+use Rattle.line_lists.proofs.Words.{arith, take-append-drop, nat_cmp_total, eq_by_cmp, nat_cmp, option_map, drop_at}
+use Rattle.line_lists.proofs.Words.{length-map, length-take-le, take_at, map_over_more, Place, Marks, inserted, removed}
+use Rattle.line_lists.proofs.Words.{same_marks, LineContent, joined, joined_marks, later, plain_line, get-joined_marks}
+use Rattle.line_lists.proofs.Words.{or_else, without_mark, AreApart, AreLines, AreRows, GoesBefore, IsCounted, count_of}
+use Rattle.line_lists.proofs.Words.{spliced, whole}
 use Rattle.std.specs.FinMap as finite
-use Rattle.std.specs.Ordering.{eq_by_cmp, nat_cmp}
-use Rattle.std.specs.Prelude.{option_map}
 use Rattle.std.specs.Str.{chars}
-use Rattle.std.proofs.lemmas.List.{drop_at, length-map, length-take-le, take_at}
-use Rattle.std.proofs.lemmas.List.Edits.{map_over_more}
-use Rattle.text_model.specs.declared.places.Place.{Place}
-use Rattle.text_model.specs.Content.{Marks}
-use Rattle.text_model.specs.Splices.{inserted, removed}
-use Rattle.text_model.proofs.PlaceLaws.{same_marks}
-use Rattle.segments.specs.Columns.{LineContent, joined, joined_marks, later, plain_line}
-use Rattle.segments.proofs.MarkLaws.{get-joined_marks, or_else}
-use Rattle.line_lists.specs.Edits.{without_mark}
-use Rattle.line_lists.specs.Lists.{AreApart, AreLines, AreRows, GoesBefore, IsCounted, count_of, spliced}
-use Rattle.line_lists.specs.Texts.{whole}
 use Rattle.line_lists.proofs.CountRows.{counted-part}
 use Rattle.line_lists.proofs.EditLaws.{free_one, take-kept}
 

@@ -1,26 +1,16 @@
 -- Lines in a row, and what a change of one of them makes of the row.
-use Rattle.std.proofs.Common.{◌≡◌, ℕ, Bool, true, false, ◌+◌, ◌-◌, ◌<◌, ◌≤◌, List, [], ◌∷◌, ◌++◌, Option, None, Some}
-use Rattle.std.proofs.Common.{cond, length, take, drop, refl, sym, ap, ap₂, ◌∙◌, arith, append_assoc, length-append}
-use Rattle.std.proofs.Common.{length-drop, take-append-drop}
-use Rattle.std.specs.Cmp.{nat_cmp_total}
+use Rattle.line_lists.proofs.Words.{◌≡◌, ℕ, Bool, true, false, ◌+◌, ◌-◌, ◌<◌, ◌≤◌, List, [], ◌∷◌, ◌++◌, Option, None}
+use Rattle.line_lists.proofs.Words.{Some, cond, length, take, drop, refl, sym, ap, ap₂, ◌∙◌, arith, append_assoc}
+use Rattle.line_lists.proofs.Words.{length-append, length-drop, take-append-drop, nat_cmp_total, eq_by_cmp, nat_cmp}
+use Rattle.line_lists.proofs.Words.{option_map, slice_range, append-nil, length-map, length-take-le, drop-append-le}
+use Rattle.line_lists.proofs.Words.{take-append-le, drop-append-add, take-append-add, Place, Slots, map_marks, drawn}
+use Rattle.line_lists.proofs.Words.{inserted, moved, same_marks, changed-append_left, changed-append_right}
+use Rattle.line_lists.proofs.Words.{inserted-append_left, inserted-append_right, length-changed, length-inserted}
+use Rattle.line_lists.proofs.Words.{Column, LineContent, after_removal, after_text, joined, joined_marks, later}
+use Rattle.line_lists.proofs.Words.{plain_columns, plain_line, toggled_first, toggles, with_toggle, without_columns}
+use Rattle.line_lists.proofs.Words.{parity, joined_none, or_else, tied_same, with_cleared, with_mark, with_toggled}
+use Rattle.line_lists.proofs.Words.{without_mark, whole, toggled_before}
 use Rattle.std.specs.FinMap as finite
-use Rattle.std.specs.Ordering.{eq_by_cmp, nat_cmp}
-use Rattle.std.specs.Prelude.{option_map, slice_range}
-use Rattle.std.proofs.lemmas.List.{append-nil, length-map, length-take-le, drop-append-le, take-append-le}
-use Rattle.std.proofs.Math.Seq.{drop-append-add, take-append-add}
-use Rattle.text_model.specs.declared.places.Place.{Place}
-use Rattle.text_model.specs.Content.{Slots, map_marks}
-use Rattle.text_model.specs.Splices.{drawn, inserted, moved}
-use Rattle.text_model.proofs.PlaceLaws.{same_marks}
-use Rattle.text_model.proofs.SpliceLaws.{changed-append_left, changed-append_right, inserted-append_left}
-use Rattle.text_model.proofs.SpliceLaws.{inserted-append_right, length-changed, length-inserted}
-use Rattle.segments.specs.Columns.{Column, LineContent, after_removal, after_text, joined, joined_marks, later}
-use Rattle.segments.specs.Columns.{plain_columns, plain_line, toggled_first, toggles, with_toggle, without_columns}
-use Rattle.toggle_sums.specs.Toggles.{parity}
-use Rattle.segments.proofs.MarkLaws.{joined_none, or_else, tied_same}
-use Rattle.line_lists.specs.Edits.{with_cleared, with_mark, with_toggled, without_mark}
-use Rattle.line_lists.specs.Texts.{whole}
-use Rattle.line_lists.specs.Toggling.{toggled_before}
 use Rattle.line_lists.proofs.MarkRows.{StandBefore, StandWithin, drawn-Lifts, get-row, joined_marks-associative}
 use Rattle.line_lists.proofs.MarkRows.{map_marks-row, moved-Lifts, none-joined_marks, row}
 

@@ -1,15 +1,10 @@
 -- Trees in the place of records.
-use Rattle.std.proofs.Common.{◌≡◌, ℕ, suc, ◌≤◌, inl, inr, List, [], ◌∷◌, ◌++◌, length, refl, sym, ap, ◌∙◌, subst, ◌≢◌}
-use Rattle.std.proofs.Common.{IsSome, Option, None, Some}
+use Rattle.line_tree.proofs.Words.{◌≡◌, ℕ, suc, ◌≤◌, inl, inr, List, [], ◌∷◌, ◌++◌, length, refl, sym, ap, ◌∙◌, subst}
+use Rattle.line_tree.proofs.Words.{◌≢◌, IsSome, Option, None, Some, AllByRecursion, append-nil, Among, Distinct}
+use Rattle.line_tree.proofs.Words.{FitsSum, relinked, sum_all, sums, Holds, tree_at, LineContent, NodePtr, Records}
+use Rattle.line_tree.proofs.Words.{blank, with_sum, Tree, tops, row, get_inserted, get_other, get_unmoved, insert-named}
+use Rattle.line_tree.proofs.Words.{remove-named, HasNoParent, NewLine, NewRoot, names_of, Becomes}
 use Rattle.std.specs.FinMap as finite
-use Rattle.std.specs.List.{AllByRecursion}
-use Rattle.std.proofs.lemmas.List.{append-nil}
-use Rattle.line_tree.proofs.Words.{Among, Distinct, FitsSum, Holds, LineContent, NodePtr, Records, Tree, blank}
-use Rattle.line_tree.proofs.Words.{relinked, row, sum_all, sums, tops, tree_at, with_sum}
-use Rattle.raw_nodes.proofs.MapLaws.{get_inserted, get_other, get_unmoved}
-use Rattle.raw_nodes.proofs.UpdateLaws.{insert-named, remove-named}
-use Rattle.line_tree.specs.Growth.{HasNoParent, NewLine, NewRoot, names_of}
-use Rattle.line_tree.specs.Raising.{Becomes}
 use Rattle.line_tree.proofs.AmongLaws.{among-cases, among-left, among-right}
 use Rattle.line_tree.proofs.BuildLaws.{built}
 use Rattle.line_tree.proofs.DistinctLaws.{distinct-append, distinct-apart, distinct-left, distinct-right}

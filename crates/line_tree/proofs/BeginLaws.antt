@@ -1,14 +1,10 @@
 -- How many characters stand before a line, from its name up to the root.
-use Rattle.std.proofs.Common.{◌≡◌, ℕ, zero, suc, ◌+◌, ◌-◌, ◌<◌, ◌≤◌, List, take, drop, refl, sym, ap, ◌∙◌, subst, arith}
-use Rattle.std.proofs.Common.{IfSome, Option, Some}
+use Rattle.line_tree.proofs.Words.{◌≡◌, ℕ, zero, suc, ◌+◌, ◌-◌, ◌<◌, ◌≤◌, List, take, drop, refl, sym, ap, ◌∙◌, subst}
+use Rattle.line_tree.proofs.Words.{arith, IfSome, Option, Some, option_map, take-append-drop, same_Some}
+use Rattle.line_tree.proofs.Words.{slice_get_within, IsTree, lines_in, Named, total, NodePtr, Records, kids, sum_all}
+use Rattle.line_tree.proofs.Words.{characters-add, characters_behind, lines-add, nothing-adds, Begins, IsChild}
+use Rattle.line_tree.proofs.Words.{IsLineAt, characters_before, CharactersBefore}
 use Rattle.std.specs.FinMap as finite
-use Rattle.std.specs.Option.{option_map}
-use Rattle.std.proofs.lemmas.List.{take-append-drop}
-use Rattle.std.proofs.lemmas.Option.{same_Some, slice_get_within}
-use Rattle.line_tree.proofs.Words.{IsTree, Named, NodePtr, Records, kids, lines_in, sum_all, total}
-use Rattle.line_tree.specs.Aims.{characters-add, characters_behind, lines-add, nothing-adds}
-use Rattle.line_tree.specs.Places.{Begins, IsChild, IsLineAt, characters_before}
-use Rattle.line_tree.specs.declared.aims.CharactersBefore.{CharactersBefore}
 use Rattle.line_tree.proofs.PlaceLaws.{child-parent, child-slot, line-within, named_line, through}
 use Rattle.line_tree.proofs.SearchLaws.{Passes, arrives-before, passes-line, passes-start, passes-step, wide-all}
 use Rattle.line_tree.proofs.SumLaws.{total-append}

@@ -1,17 +1,10 @@
 -- A line put in behind another, from there up to the root.
-use Rattle.std.proofs.Common.{◌≡◌, ℕ, zero, suc, ◌+◌, ◌-◌, ◌<◌, ◌≤◌, take, refl, sym, ap, ◌∙◌, subst, arith, drop}
-use Rattle.std.proofs.Common.{IfSome, IsSome, Option, None, Some}
+use Rattle.line_tree.proofs.Words.{◌≡◌, ℕ, zero, suc, ◌+◌, ◌-◌, ◌<◌, ◌≤◌, take, refl, sym, ap, ◌∙◌, subst, arith, drop}
+use Rattle.line_tree.proofs.Words.{IfSome, IsSome, Option, None, Some, sum_by, take-append-drop, sum_by-append}
+use Rattle.line_tree.proofs.Words.{same_Some, slice_get_within, IsTree, lines_at, lines_in, NodePtr, Record, Records}
+use Rattle.line_tree.proofs.Words.{kids, at_some, Leads, CanInsert, Inserts, IsChild, IsLineAt, Sits, lines_before}
+use Rattle.line_tree.proofs.Words.{Found}
 use Rattle.std.specs.FinMap as finite
-use Rattle.std.specs.List.{sum_by}
-use Rattle.std.proofs.lemmas.List.{take-append-drop}
-use Rattle.std.proofs.lemmas.List.Sums.{sum_by-append}
-use Rattle.std.proofs.lemmas.Option.{same_Some, slice_get_within}
-use Rattle.line_tree.proofs.Words.{IsTree, NodePtr, Record, Records, kids, lines_at, lines_in}
-use Rattle.raw_nodes.proofs.MapLaws.{at_some}
-use Rattle.line_tree.specs.Finds.{Leads}
-use Rattle.line_tree.specs.Growth.{CanInsert, Inserts}
-use Rattle.line_tree.specs.Places.{IsChild, IsLineAt, Sits, lines_before}
-use Rattle.line_tree.specs.declared.find.Found.{Found}
 use Rattle.line_tree.proofs.InsertLaws.{can-child}
 use Rattle.line_tree.proofs.LowestLaws.{lowest-before}
 use Rattle.line_tree.proofs.PlaceLaws.{child-named, child-parent, level, linked, sits, up_from}

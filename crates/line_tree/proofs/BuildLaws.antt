@@ -1,17 +1,12 @@
 -- A node that was given children is a tree of theirs.
-use Rattle.std.proofs.Common.{◌≡◌, ℕ, zero, suc, ◌-◌, inl, inr, List, [], ◌∷◌, ◌++◌, length, map, replicate, refl, sym}
-use Rattle.std.proofs.Common.{ap, ◌∙◌, subst, ◌≢◌, IsSome, Option, None, Some}
+use Rattle.line_tree.proofs.Words.{◌≡◌, ℕ, zero, suc, ◌-◌, inl, inr, List, [], ◌∷◌, ◌++◌, length, map, replicate, refl}
+use Rattle.line_tree.proofs.Words.{sym, ap, ◌∙◌, subst, ◌≢◌, IsSome, Option, None, Some, AllByRecursion, filter_map}
+use Rattle.line_tree.proofs.Words.{Among, CanFill, Distinct, link_one, refilled, relinked, sum_all, sums, Holds, IsNode}
+use Rattle.line_tree.proofs.Words.{IsTree, Links, line_of, sum_at, tree_at, NodePtr, Record, Records, update}
+use Rattle.line_tree.proofs.Words.{with_child, with_parent, with_sum, Tree, inner, lines, names, tops, total, kids}
+use Rattle.line_tree.proofs.Words.{kids_of, row, plus, some_of, same_or_other, somes, somes-row, get-update-other}
+use Rattle.line_tree.proofs.Words.{lines_of, names_of}
 use Rattle.std.specs.FinMap as finite
-use Rattle.std.specs.List.{AllByRecursion, filter_map}
-use Rattle.line_tree.proofs.Words.{Among, CanFill, Distinct, Holds, IsNode, IsTree, Links, NodePtr, Record, Records}
-use Rattle.line_tree.proofs.Words.{Tree, inner, kids, kids_of, line_of, lines, link_one, names, plus, refilled}
-use Rattle.line_tree.proofs.Words.{relinked, row, sum_all, sum_at, sums, tops, total, tree_at, update, with_child}
-use Rattle.line_tree.proofs.Words.{with_parent, with_sum}
-use Rattle.raw_nodes.proofs.MapLaws.{some_of}
-use Rattle.raw_nodes.proofs.PlaceLaws.{same_or_other}
-use Rattle.raw_nodes.proofs.RowLaws.{somes, somes-row}
-use Rattle.raw_nodes.proofs.UpdateLaws.{get-update-other}
-use Rattle.line_tree.specs.Growth.{lines_of, names_of}
 use Rattle.line_tree.proofs.AmongLaws.{among-left, among-right}
 use Rattle.line_tree.proofs.DistinctLaws.{distinct-right}
 use Rattle.line_tree.proofs.FillLaws.{at-update, refilled-other, relinked-other, relinked-row, relinked-sums}

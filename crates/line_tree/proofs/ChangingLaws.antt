@@ -1,23 +1,17 @@
 -- What one line that is changed leaves of trees.
-use Rattle.std.proofs.Common.{◌≡◌, ℕ, zero, suc, ◌+◌, ◌<◌, ◌≤◌, inl, inr, List, [], ◌∷◌, ◌++◌, length, take, drop, map}
-use Rattle.std.proofs.Common.{refl, sym, ap, ◌∙◌, subst, arith, IsSome, is_some, option_map, slice_get, Option, None}
-use Rattle.std.proofs.Common.{Some}
+use Rattle.line_tree.proofs.Words.{◌≡◌, ℕ, zero, suc, ◌+◌, ◌<◌, ◌≤◌, inl, inr, List, [], ◌∷◌, ◌++◌, length, take, drop}
+use Rattle.raw_nodes.specs.Records.{with_line}
+use Rattle.line_tree.proofs.Words.{map, refl, sym, ap, ◌∙◌, subst, arith, IsSome, is_some, slice_get, Option, None}
+use Rattle.line_tree.proofs.Words.{Some, AllByRecursion, filter_map, length-map, map-append, flat_map-append, none-some}
+use Rattle.line_tree.proofs.Words.{same_Some, plus-associative, plus-commutative, plus-no_text, Among, Distinct}
+use Rattle.line_tree.proofs.Words.{FitsSum, sums, Count, plus, Holds, Links, line_of, lines_in, sum_at, sum_of, tree_at}
+use Rattle.line_tree.proofs.Words.{IsBalanced, IsBalancedRoot, Named, Tree, least_below_root, lines, names, tops, total}
+use Rattle.line_tree.proofs.Words.{LineContent, line_count, NodePtr, Record, Records, update, with_sum, kids, kids_of}
+use Rattle.line_tree.proofs.Words.{row, same_or_other, get-update, get-update-other, len-update, Finds, HasRow}
+use Rattle.line_tree.proofs.Words.{HasNoParent, StandsAlone, lines_of, names_of, CanChange, Changes, Linked, SameLinks}
+use Rattle.line_tree.proofs.Words.{changed, linked, Found}
+use Rattle.std.proofs.Common.{option_map}
 use Rattle.std.specs.FinMap as finite
-use Rattle.std.specs.List.{AllByRecursion, filter_map}
-use Rattle.std.proofs.lemmas.List.{length-map, map-append}
-use Rattle.std.proofs.lemmas.List.Concat.{flat_map-append}
-use Rattle.std.proofs.lemmas.Option.{none-some, same_Some}
-use Rattle.toggle_sums.specs.CountLaws.{plus-associative, plus-commutative, plus-no_text}
-use Rattle.line_tree.proofs.Words.{Among, Count, Distinct, FitsSum, Holds, IsBalanced, IsBalancedRoot, LineContent}
-use Rattle.line_tree.proofs.Words.{Links, Named, NodePtr, Record, Records, Tree, kids, kids_of, least_below_root}
-use Rattle.line_tree.proofs.Words.{line_count, line_of, lines, lines_in, names, plus, row, sum_at, sum_of, sums, tops}
-use Rattle.line_tree.proofs.Words.{total, tree_at, update, with_line, with_sum}
-use Rattle.raw_nodes.proofs.PlaceLaws.{same_or_other}
-use Rattle.raw_nodes.proofs.UpdateLaws.{get-update, get-update-other, len-update}
-use Rattle.line_tree.specs.Finds.{Finds, HasRow}
-use Rattle.line_tree.specs.Growth.{HasNoParent, StandsAlone, lines_of, names_of}
-use Rattle.line_tree.specs.Taking.{CanChange, Changes, Linked, SameLinks, changed, linked}
-use Rattle.line_tree.specs.declared.find.Found.{Found}
 use Rattle.line_tree.proofs.AmongLaws.{among-left}
 use Rattle.line_tree.proofs.BuildLaws.{sum-trees, tree-is}
 use Rattle.line_tree.proofs.DistinctLaws.{distinct-apart, distinct-left, distinct-right}

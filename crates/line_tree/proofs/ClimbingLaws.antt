@@ -5,17 +5,11 @@
 --     Above, above-of one level up, where it isn't counted yet
 --     next            where it is
 --     climbed         at the root
-use Rattle.std.proofs.Common.{◌≡◌, ℕ, zero, suc, ◌+◌, ◌-◌, ◌<◌, ◌≤◌, refl, sym, ap, ◌∙◌, subst, arith, IfSome, IsSome}
-use Rattle.std.proofs.Common.{Option, Some}
+use Rattle.line_tree.proofs.Words.{◌≡◌, ℕ, zero, suc, ◌+◌, ◌-◌, ◌<◌, ◌≤◌, refl, sym, ap, ◌∙◌, subst, arith, IfSome}
+use Rattle.line_tree.proofs.Words.{IsSome, Option, Some, same_Some, Count, Distinct, IsTree, lines_at, lines_in}
+use Rattle.line_tree.proofs.Words.{tree_at, LineContent, NodePtr, Records, names, at_some, Finds, IsChild, IsLineAt}
+use Rattle.line_tree.proofs.Words.{Sits, lines_before, CanChange, Changes, Found}
 use Rattle.std.specs.FinMap as finite
-use Rattle.std.proofs.lemmas.Option.{same_Some}
-use Rattle.line_tree.proofs.Words.{Count, Distinct, IsTree, LineContent, NodePtr, Records, lines_at, lines_in, names}
-use Rattle.line_tree.proofs.Words.{tree_at}
-use Rattle.raw_nodes.proofs.MapLaws.{at_some}
-use Rattle.line_tree.specs.Finds.{Finds}
-use Rattle.line_tree.specs.Places.{IsChild, IsLineAt, Sits, lines_before}
-use Rattle.line_tree.specs.Taking.{CanChange, Changes}
-use Rattle.line_tree.specs.declared.find.Found.{Found}
 use Rattle.line_tree.proofs.BehindLaws.{at-root, child-within, led}
 use Rattle.line_tree.proofs.ChangingLaws.{named-as-linked, record-linked}
 use Rattle.line_tree.proofs.LowestLaws.{one-line}

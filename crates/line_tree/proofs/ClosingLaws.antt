@@ -1,18 +1,11 @@
 -- One child less for a node: each behind its slot goes one slot back.
-use Rattle.std.proofs.Common.{◌≡◌, ℕ, suc, ◌+◌, ◌-◌, ◌<◌, ◌≤◌, List, ◌∷◌, length, get_or, drop, replicate, sym, ap, ◌∙◌}
-use Rattle.std.proofs.Common.{subst, arith, length-set, ◌≢◌, IfSome, IsSome, slice_get, Option, None, Some}
+use Rattle.line_tree.proofs.Words.{◌≡◌, ℕ, suc, ◌+◌, ◌-◌, ◌<◌, ◌≤◌, List, ◌∷◌, length, get_or, drop, replicate, sym, ap}
+use Rattle.line_tree.proofs.Words.{◌∙◌, subst, arith, length-set, ◌≢◌, IfSome, IsSome, slice_get, Option, None, Some}
+use Rattle.line_tree.proofs.Words.{remove, option_map, at_drop_more, get_or-set_other, length-remove, slice_get-get_or}
+use Rattle.line_tree.proofs.Words.{slice_get_past, slice_get_within, Among, CanFill, link_one, relinked, Links, NodePtr}
+use Rattle.line_tree.proofs.Words.{Record, Records, update, with_child, with_parent, kids, row, at_some, get_or-row}
+use Rattle.line_tree.proofs.Words.{length-row, get-update, get-update-other, HasRow}
 use Rattle.std.specs.FinMap as finite
-use Rattle.std.specs.List.{remove}
-use Rattle.std.specs.Option.{option_map}
-use Rattle.std.proofs.lemmas.List.{at_drop_more, get_or-set_other}
-use Rattle.std.proofs.lemmas.List.Edits.{length-remove}
-use Rattle.std.proofs.lemmas.Option.{slice_get-get_or, slice_get_past, slice_get_within}
-use Rattle.line_tree.proofs.Words.{Among, CanFill, Links, NodePtr, Record, Records, kids, link_one, relinked, row}
-use Rattle.line_tree.proofs.Words.{update, with_child, with_parent}
-use Rattle.raw_nodes.proofs.MapLaws.{at_some}
-use Rattle.raw_nodes.proofs.RowLaws.{get_or-row, length-row}
-use Rattle.raw_nodes.proofs.UpdateLaws.{get-update, get-update-other}
-use Rattle.line_tree.specs.Finds.{HasRow}
 use Rattle.line_tree.proofs.AmongLaws.{get-among}
 use Rattle.line_tree.proofs.EvenLaws.{kept-remove, remove-above}
 use Rattle.line_tree.proofs.KeptLaws.{drop-front, empty-same}

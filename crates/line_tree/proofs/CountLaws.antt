@@ -1,11 +1,9 @@
 -- How many lines a balanced tree has.
-use Rattle.std.proofs.Common.{◌≡◌, ℕ, zero, suc, ◌+◌, ◌*◌, ◌^◌, ◌<◌, ◌≤◌, List, [], ◌∷◌, length, refl, arith}
-use Rattle.std.proofs.Common.{length-append, IsSome, Option, None, Some}
-use Rattle.std.specs.List.{AllByRecursion}
-use Rattle.std.proofs.Math.Nat.{mul-le-mul_right, pow-succ'}
+use Rattle.line_tree.proofs.Words.{◌≡◌, ℕ, zero, suc, ◌+◌, ◌*◌, ◌^◌, ◌<◌, ◌≤◌, List, [], ◌∷◌, length, refl, arith}
+use Rattle.line_tree.proofs.Words.{length-append, IsSome, Option, None, Some, AllByRecursion, mul-le-mul_right}
+use Rattle.line_tree.proofs.Words.{pow-succ', Holds, IsBalanced, IsBalancedRoot, Tree, lines, names, LineContent}
+use Rattle.line_tree.proofs.Words.{NodePtr, Records, lines_of, names_of}
 use mathlib.Core.Bool.{false≢true}
-use Rattle.line_tree.proofs.Words.{Holds, IsBalanced, IsBalancedRoot, LineContent, NodePtr, Records, Tree, lines, names}
-use Rattle.line_tree.specs.Growth.{lines_of, names_of}
 
 pub one-line : (p : NodePtr) (o : Option LineContent) → IsSome o → length (lines zero (p, o)) ≡ 1
 one-line p None s = absurd (false≢true s)

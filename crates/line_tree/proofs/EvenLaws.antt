@@ -1,15 +1,10 @@
 -- The children of a node without one of them, and those of two nodes.
-use Rattle.std.proofs.Common.{◌≡◌, ℕ, zero, suc, ◌+◌, ◌<◌, ◌≤◌, inl, inr, List, [], ◌∷◌, ◌++◌, length, take, drop, refl}
-use Rattle.std.proofs.Common.{sym, ap, ◌∙◌, subst, arith, length-append, length-take, length-drop, IsSome, slice_get}
-use Rattle.std.proofs.Common.{Option, None, Some}
+use Rattle.line_tree.proofs.Words.{◌≡◌, ℕ, zero, suc, ◌+◌, ◌<◌, ◌≤◌, inl, inr, List, [], ◌∷◌, ◌++◌, length, take, drop}
+use Rattle.line_tree.proofs.Words.{refl, sym, ap, ◌∙◌, subst, arith, length-append, length-take, length-drop, IsSome}
+use Rattle.line_tree.proofs.Words.{slice_get, Option, None, Some, remove, append-nil, take-append-drop, slice_get_past}
+use Rattle.line_tree.proofs.Words.{Among, CanEven, CanFill, FitsSum, Stay, refilled, relinked, sum_all, sums, Links}
+use Rattle.line_tree.proofs.Words.{sum_at, NodePtr, Records, kids, row, plus, length-row, HasRow}
 use Rattle.std.specs.FinMap as finite
-use Rattle.std.specs.List.{remove}
-use Rattle.std.proofs.lemmas.List.{append-nil, take-append-drop}
-use Rattle.std.proofs.lemmas.Option.{slice_get_past}
-use Rattle.line_tree.proofs.Words.{Among, CanEven, CanFill, FitsSum, Links, NodePtr, Records, Stay, kids, plus}
-use Rattle.line_tree.proofs.Words.{refilled, relinked, row, sum_all, sum_at, sums}
-use Rattle.raw_nodes.proofs.RowLaws.{length-row}
-use Rattle.line_tree.specs.Finds.{HasRow}
 use Rattle.line_tree.proofs.AmongLaws.{among-cases, among-drop, among-get, among-take, get-among}
 use Rattle.line_tree.proofs.FillLaws.{refilled-other, refilled-sum, row-some, sum_all-append, sum_all-same, sums-row}
 use Rattle.line_tree.proofs.KeptLaws.{kept-front, kept-row}

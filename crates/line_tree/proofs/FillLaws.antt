@@ -1,20 +1,13 @@
 -- What new children of a node leave at each name.
-use Rattle.std.proofs.Common.{◌≡◌, ℕ, zero, suc, ◌+◌, ◌-◌, ◌<◌, ◌≤◌, inl, inr, List, [], ◌∷◌, ◌++◌, length, get_or, map}
-use Rattle.std.proofs.Common.{replicate, refl, sym, ap, ◌∙◌, subst, arith, ◌≢◌, slice_get, Option, None, Some}
+use Rattle.line_tree.proofs.Words.{◌≡◌, ℕ, zero, suc, ◌+◌, ◌-◌, ◌<◌, ◌≤◌, inl, inr, List, [], ◌∷◌, ◌++◌, length, get_or}
+use Rattle.line_tree.proofs.Words.{map, replicate, refl, sym, ap, ◌∙◌, subst, arith, ◌≢◌, slice_get, Option, None, Some}
+use Rattle.line_tree.proofs.Words.{filter_map, insert, option_map, append-nil, ext_get_or, drop_all, sets, sets-eq}
+use Rattle.line_tree.proofs.Words.{get_or_from_slice_get, no_text-plus, plus-associative, plus-commutative, Among}
+use Rattle.line_tree.proofs.Words.{CanFill, link_one, refilled, relinked, sum_all, sums, NodePtr, Record, Records}
+use Rattle.line_tree.proofs.Words.{update, with_child, with_parent, with_sum, kids, kids_of, row, no_text, plus, sum_at}
+use Rattle.line_tree.proofs.Words.{sum_of, same_or_other, get_or-row, length-row, somes-row, get-update}
+use Rattle.line_tree.proofs.Words.{get-update-other, HasRow}
 use Rattle.std.specs.FinMap as finite
-use Rattle.std.specs.List.{filter_map, insert}
-use Rattle.std.specs.Option.{option_map}
-use Rattle.std.proofs.lemmas.List.{append-nil, ext_get_or, drop_all}
-use Rattle.std.proofs.lemmas.List.Edits.{sets, sets-eq}
-use Rattle.std.proofs.lemmas.Option.{get_or_from_slice_get}
-use Rattle.toggle_sums.specs.CountLaws.{no_text-plus, plus-associative, plus-commutative}
-use Rattle.line_tree.proofs.Words.{Among, CanFill, NodePtr, Record, Records, kids, kids_of, link_one, no_text, plus}
-use Rattle.line_tree.proofs.Words.{refilled, relinked, row, sum_all, sum_at, sum_of, sums, update, with_child}
-use Rattle.line_tree.proofs.Words.{with_parent, with_sum}
-use Rattle.raw_nodes.proofs.PlaceLaws.{same_or_other}
-use Rattle.raw_nodes.proofs.RowLaws.{get_or-row, length-row, somes-row}
-use Rattle.raw_nodes.proofs.UpdateLaws.{get-update, get-update-other}
-use Rattle.line_tree.specs.Finds.{HasRow}
 use Rattle.line_tree.proofs.AmongLaws.{get-among}
 use Rattle.line_tree.proofs.UpdateLaws.{named-relinked}
 

@@ -1,18 +1,11 @@
 -- A lowest node and its lines are given back.
-use Rattle.std.proofs.Common.{◌≡◌, ℕ, zero, suc, ◌+◌, ◌-◌, ◌<◌, ◌⊎◌, ◌++◌, inl, inr, List, [], ◌∷◌, get_or, length, map}
-use Rattle.std.proofs.Common.{take, refl, sym, ap, ◌∙◌, subst, arith, IfSome, IsSome, slice_get, Option, None, Some}
+use Rattle.line_tree.proofs.Words.{◌≡◌, ℕ, zero, suc, ◌+◌, ◌-◌, ◌<◌, ◌⊎◌, ◌++◌, inl, inr, List, [], ◌∷◌, get_or, length}
+use Rattle.line_tree.proofs.Words.{map, take, refl, sym, ap, ◌∙◌, subst, arith, IfSome, IsSome, slice_get, Option, None}
+use Rattle.line_tree.proofs.Words.{Some, take_more, get_or_from_slice_get, none-some, same_Some, slice_get_within}
+use Rattle.line_tree.proofs.Words.{removed, rooms_for, Among, IsTree, lines_in, tree_at, NodePtr, Record, Records, kids}
+use Rattle.line_tree.proofs.Words.{lines, names, at_some, get_removed, get_unmoved, some_of, same_or_other, Without}
+use Rattle.line_tree.proofs.Words.{StandsAlone, names_of, IsLineAt, Sits, Cleans, Lowers, Removes}
 use Rattle.std.specs.FinMap as finite
-use Rattle.std.proofs.lemmas.List.{take_more}
-use Rattle.std.proofs.lemmas.Option.{get_or_from_slice_get, none-some, same_Some, slice_get_within}
-use Rattle.text_model.specs.Splices.{removed}
-use Rattle.raw_nodes.specs.Chain.{rooms_for}
-use Rattle.line_tree.proofs.Words.{Among, IsTree, NodePtr, Record, Records, kids, lines, lines_in, names, tree_at}
-use Rattle.raw_nodes.proofs.MapLaws.{at_some, get_removed, get_unmoved, some_of}
-use Rattle.raw_nodes.proofs.PlaceLaws.{same_or_other}
-use Rattle.line_tree.specs.Giving.{Without}
-use Rattle.line_tree.specs.Growth.{StandsAlone, names_of}
-use Rattle.line_tree.specs.Places.{IsLineAt, Sits}
-use Rattle.line_tree.specs.Shrinking.{Cleans, Lowers, Removes}
 use Rattle.line_tree.proofs.AmongLaws.{among-cases, among-get, among-left, among-right, among-take}
 use Rattle.line_tree.proofs.LowerLaws.{branch-after, gone-of, taken-out}
 use Rattle.line_tree.proofs.PlaceLaws.{linked, sits}

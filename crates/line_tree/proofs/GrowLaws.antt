@@ -1,15 +1,11 @@
 -- Trees with one more line.
-use Rattle.std.proofs.Common.{◌≡◌, ℕ, zero, suc, ◌+◌, ◌≤◌, ◌⊎◌, inl, inr, List, [], ◌∷◌, ◌++◌, length, take, drop, refl}
-use Rattle.std.proofs.Common.{sym, ap, ◌∙◌, subst, arith, append_assoc, ◌≢◌, IsSome, Option, None, Some}
+use Rattle.line_tree.proofs.Words.{◌≡◌, ℕ, zero, suc, ◌+◌, ◌≤◌, ◌⊎◌, inl, inr, List, [], ◌∷◌, ◌++◌, length, take, drop}
+use Rattle.line_tree.proofs.Words.{refl, sym, ap, ◌∙◌, subst, arith, append_assoc, ◌≢◌, IsSome, Option, None, Some}
+use Rattle.line_tree.proofs.Words.{AllByRecursion, insert, append-nil, drop-append-le, take-append-drop, take-append-le}
+use Rattle.line_tree.proofs.Words.{flat_map-append, none-some, Among, Distinct, Holds, LineContent, NodePtr, Records}
+use Rattle.line_tree.proofs.Words.{Tree, lines, names, tops, some_of, Grows, lines_of, names_of, with_line}
 use Rattle.std.specs.FinMap as finite
-use Rattle.std.specs.List.{AllByRecursion, insert}
-use Rattle.std.proofs.lemmas.List.{append-nil, drop-append-le, take-append-drop, take-append-le}
-use Rattle.std.proofs.lemmas.List.Concat.{flat_map-append}
-use Rattle.std.proofs.lemmas.Option.{none-some}
 use mathlib.Core.Bool.{false≢true}
-use Rattle.line_tree.proofs.Words.{Among, Distinct, Holds, LineContent, NodePtr, Records, Tree, lines, names, tops}
-use Rattle.raw_nodes.proofs.MapLaws.{some_of}
-use Rattle.line_tree.specs.Growth.{Grows, lines_of, names_of, with_line}
 use Rattle.line_tree.proofs.AmongLaws.{among-cases, among-left, among-right}
 use Rattle.line_tree.proofs.DistinctLaws.{distinct-apart, distinct-more, distinct-replace, distinct-right}
 use Rattle.line_tree.proofs.FrameLaws.{all-same, names-all-held, tops-among}

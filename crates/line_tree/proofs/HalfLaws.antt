@@ -1,9 +1,8 @@
 -- The sums of the first children of two nodes, and of the others, by those that change sides.
-use Rattle.std.proofs.Common.{◌≡◌, ℕ, ◌+◌, ◌-◌, ◌≤◌, List, ◌++◌, length, take, drop, sym, ap, ◌∙◌, arith, length-drop}
-use Rattle.std.proofs.Math.Seq.{drop-append-add, drop-append_seam, take-append-add, take-append_seam}
-use Rattle.std.proofs.lemmas.List.{drop-append-le, take-append-drop, take-append-le}
-use Rattle.toggle_sums.specs.CountLaws.{plus-commutative}
-use Rattle.line_tree.proofs.Words.{NodePtr, Records, plus, sum_all}
+use Rattle.line_tree.proofs.Words.{◌≡◌, ℕ, ◌+◌, ◌-◌, ◌≤◌, List, ◌++◌, length, take, drop, sym, ap, ◌∙◌, arith}
+use Rattle.line_tree.proofs.Words.{length-drop, drop-append-add, drop-append_seam, take-append-add, take-append_seam}
+use Rattle.line_tree.proofs.Words.{drop-append-le, take-append-drop, take-append-le, plus-commutative, NodePtr, Records}
+use Rattle.line_tree.proofs.Words.{plus, sum_all}
 use Rattle.line_tree.proofs.FillLaws.{sum_all-append}
 
 -- ---- some of the right one's children go to the left one

@@ -1,20 +1,13 @@
 -- Which of some lines has the mark of a number.
-use Rattle.std.proofs.Common.{◌≡◌, ℕ, zero, suc, ◌-◌, ◌<◌, ◌≤◌, Bool, true, false, cond, List, [], ◌∷◌, ◌++◌, length}
-use Rattle.std.proofs.Common.{take, drop, refl, sym, ap, ap₂, ◌∙◌, arith, is_some, slice_get, slice_range, Option, None}
-use Rattle.std.proofs.Common.{Some}
+use Rattle.line_tree.proofs.Words.{◌≡◌, ℕ, zero, suc, ◌-◌, ◌<◌, ◌≤◌, Bool, true, false, cond, List, [], ◌∷◌, ◌++◌}
+use Rattle.line_tree.proofs.Words.{length, take, drop, refl, sym, ap, ap₂, ◌∙◌, arith, is_some, slice_get, slice_range}
+use Rattle.line_tree.proofs.Words.{Option, None, Some, none-some, same_Some, Place, LineContent, Named, contents}
+use Rattle.line_tree.proofs.Words.{NodePtr, AreRows, has_mark, has_marks, next_line, whole, drop_after, FailFrom}
+use Rattle.line_tree.proofs.Words.{next-found, next-none, AreBare, IsMarkedBelow, holder, lines_without, IsLineAt}
 use Rattle.std.specs.FinMap as finite
-use Rattle.std.proofs.lemmas.Option.{none-some, same_Some}
 use mathlib.Core.Bool.{false≢true}
-use Rattle.text_model.specs.declared.places.Place.{Place}
-use Rattle.line_tree.proofs.Words.{LineContent, Named, NodePtr, contents}
-use Rattle.line_lists.specs.Lists.{AreRows, has_mark, has_marks, next_line}
-use Rattle.line_lists.specs.Texts.{whole}
-use Rattle.line_lists.proofs.FindLaws.{drop_after}
 use Rattle.line_lists.proofs.MarkPlaces.{has-none}
 use Rattle.line_lists.proofs.RowLaws.{free-parts}
-use Rattle.line_lists.proofs.SearchRows.{FailFrom, next-found, next-none}
-use Rattle.line_tree.specs.MarkTable.{AreBare, IsMarkedBelow, holder, lines_without}
-use Rattle.line_tree.specs.Places.{IsLineAt}
 use Rattle.line_tree.proofs.NearestLaws.{long}
 
 -- ---- the first of two

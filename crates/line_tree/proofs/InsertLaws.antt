@@ -1,21 +1,15 @@
 -- An insertion at a node, from the insertion at its child.
-use Rattle.std.proofs.Common.{◌≡◌, ℕ, zero, suc, ◌+◌, ◌<◌, ◌≤◌, inl, inr, List, [], ◌∷◌, ◌++◌, length, take, drop, map}
-use Rattle.std.proofs.Common.{refl, sym, ap, ◌∙◌, subst, arith, ◌≢◌, IsSome, option_to_list, slice_get, Option, None}
-use Rattle.std.proofs.Common.{Some}
+use Rattle.line_tree.proofs.Words.{◌≡◌, ℕ, zero, suc, ◌+◌, ◌<◌, ◌≤◌, inl, inr, List, [], ◌∷◌, ◌++◌, length, take, drop}
+use Rattle.line_tree.proofs.Words.{map, refl, sym, ap, ◌∙◌, subst, arith, ◌≢◌, IsSome, option_to_list, slice_get}
+use Rattle.line_tree.proofs.Words.{Option, None, Some, AllByRecursion, insert, drop-map, length-map, map-append}
+use Rattle.line_tree.proofs.Words.{take-map, flat_map-append, length-insert, none-some, same_Some, slice_get_within}
+use Rattle.line_tree.proofs.Words.{Among, CanPut, Distinct, FitsSum, Puts, resummed, sum_all, sums, Count, plus, Holds}
+use Rattle.line_tree.proofs.Words.{IsTree, Links, lines_in, sum_at, sum_of, tree_at, IsBalanced, Tree, inner, lines}
+use Rattle.line_tree.proofs.Words.{names, tops, total, LineContent, NodePtr, Records, with_sum, kids, kids_of, row}
+use Rattle.line_tree.proofs.Words.{same_or_other, HasRow, Leads, lines_below, CanInsert, Grows, Inserts, KeepsLink}
+use Rattle.line_tree.proofs.Words.{KeepsWide, lines_of, names_of, trees, Found}
 use Rattle.std.specs.FinMap as finite
-use Rattle.std.specs.List.{AllByRecursion, insert}
-use Rattle.std.proofs.lemmas.List.{drop-map, length-map, map-append, take-map}
-use Rattle.std.proofs.lemmas.List.Concat.{flat_map-append}
-use Rattle.std.proofs.lemmas.List.Edits.{length-insert}
-use Rattle.std.proofs.lemmas.Option.{none-some, same_Some, slice_get_within}
 use mathlib.Core.Bool.{false≢true}
-use Rattle.line_tree.proofs.Words.{Among, CanPut, Count, Distinct, FitsSum, Holds, IsBalanced, IsTree, LineContent}
-use Rattle.line_tree.proofs.Words.{Links, NodePtr, Puts, Records, Tree, inner, kids, kids_of, lines, lines_in, names}
-use Rattle.line_tree.proofs.Words.{plus, resummed, row, sum_all, sum_at, sum_of, sums, tops, total, tree_at, with_sum}
-use Rattle.raw_nodes.proofs.PlaceLaws.{same_or_other}
-use Rattle.line_tree.specs.Finds.{HasRow, Leads, lines_below}
-use Rattle.line_tree.specs.Growth.{CanInsert, Grows, Inserts, KeepsLink, KeepsWide, lines_of, names_of, trees}
-use Rattle.line_tree.specs.declared.find.Found.{Found}
 use Rattle.line_tree.proofs.AmongLaws.{among-get, among-left, among-right}
 use Rattle.line_tree.proofs.BuildLaws.{sum-kids, sum-trees}
 use Rattle.line_tree.proofs.DistinctLaws.{distinct-left, distinct-right}

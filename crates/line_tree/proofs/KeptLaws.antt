@@ -2,18 +2,15 @@
 --     kept-row      the first children of a row are as they were
 --     kept-front    as many of them as are the same
 --     kept-whole    all of them
-use Rattle.std.proofs.Common.{◌≡◌, ℕ, zero, suc, ◌+◌, ◌-◌, inl, inr, List, [], ◌∷◌, ◌++◌, ◌<◌, ◌≤◌, append_assoc, drop}
-use Rattle.std.proofs.Common.{length, length-take, map, refl, replicate, set, sym, ap, take, ◌∙◌, subst, arith}
+use Rattle.line_tree.proofs.Words.{◌≡◌, ℕ, zero, suc, ◌+◌, ◌-◌, inl, inr, List, [], ◌∷◌, ◌++◌, ◌<◌, ◌≤◌, append_assoc}
+use Rattle.line_tree.proofs.Words.{drop, length, length-take, map, refl, replicate, set, sym, ap, take, ◌∙◌, subst}
+use Rattle.line_tree.proofs.Words.{arith, same_map, append-nil, map-append, take-append-drop, none-some, same_Some}
+use Rattle.line_tree.proofs.Words.{Record, Records, updated, with_child, with_parent, IsLinked, Links, NodePtr, Stay}
+use Rattle.line_tree.proofs.Words.{link_one, relinked, kids, row, get_inserted, get_other, name_antisym, name_total}
+use Rattle.line_tree.proofs.Words.{same_or_other, HasRow}
 use Rattle.std.specs.Prelude.{Option, None, Some, slice_get}
 use Rattle.std.specs.FinMap as finite
-use Rattle.std.specs.FinMap.{same_map}
-use Rattle.std.proofs.lemmas.List.{append-nil, map-append, take-append-drop}
-use Rattle.std.proofs.lemmas.Option.{none-some, same_Some}
-use Rattle.raw_nodes.specs.Records.{Record, Records, update, updated, with_child, with_parent}
-use Rattle.line_tree.proofs.Words.{IsLinked, Links, NodePtr, Stay, kids, link_one, relinked, row}
-use Rattle.raw_nodes.proofs.MapLaws.{get_inserted, get_other}
-use Rattle.raw_nodes.proofs.PlaceLaws.{name_antisym, name_total, same_or_other}
-use Rattle.line_tree.specs.Finds.{HasRow}
+use Rattle.raw_nodes.specs.Records.{update}
 
 -- ---- one record
 insert-same : (m : Records) (p : NodePtr) (r : Record) → finite.get m p ≡ Some r → finite.insert m p r ≡ m

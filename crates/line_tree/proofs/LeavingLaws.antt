@@ -1,13 +1,9 @@
 -- Some of the lines in a row are taken out, and then the others.
-use Rattle.std.proofs.Common.{◌≡◌, ℕ, zero, suc, ◌+◌, ◌-◌, ◌≤◌, List, [], ◌∷◌, ◌++◌, length, take, drop, refl}
-use Rattle.std.proofs.Common.{sym, ap, ◌∙◌, arith, append_assoc, length-append}
-use Rattle.std.proofs.lemmas.List.{append-nil, drop-append-le, drop-drop, drop_all, length-drop, length-take-le}
-use Rattle.std.proofs.lemmas.List.{take-append-drop, take-append-le}
-use Rattle.text_model.specs.Splices.{removed}
-use Rattle.line_tree.specs.Leaving.{Leaves}
-use Rattle.line_tree.specs.Room.{KeepsRoom}
-use Rattle.line_tree.specs.TreeState.{TreeState}
-use Rattle.line_tree.specs.Trees.{Named}
+use Rattle.line_tree.proofs.Words.{◌≡◌, ℕ, zero, suc, ◌+◌, ◌-◌, ◌≤◌, List, [], ◌∷◌, ◌++◌, length, take, drop, refl, sym}
+use Rattle.line_tree.proofs.Words.{ap, ◌∙◌, arith, append_assoc, length-append, append-nil, drop-append-le, drop-drop}
+use Rattle.line_tree.proofs.Words.{drop_all, length-take-le, take-append-drop, take-append-le, removed, Leaves}
+use Rattle.line_tree.proofs.Words.{KeepsRoom, TreeState, Named}
+use Rattle.std.proofs.lemmas.List.{length-drop}
 use Rattle.line_tree.proofs.LineRoomLaws.{length-removed}
 use Rattle.line_tree.proofs.SpendingLaws.{keeps-on, keeps-self}
 

@@ -3,17 +3,12 @@
 --     without-plus     a part whose toggled slots are toggled in the rest too
 --     sum_all-remove   a child
 --     total-gone       some lines
-use Rattle.std.proofs.Common.{◌≡◌, ℕ, zero, suc, ◌+◌, ◌-◌, ◌≤◌, List, [], ◌∷◌, ◌++◌, take, drop, sym, ap, ◌∙◌, arith}
+use Rattle.line_tree.proofs.Words.{◌≡◌, ℕ, zero, suc, ◌+◌, ◌-◌, ◌≤◌, List, [], ◌∷◌, ◌++◌, take, drop, sym, ap, ◌∙◌}
+use Rattle.line_tree.proofs.Words.{arith, remove, split_between, none-some, same_Some, differing, removed}
+use Rattle.line_tree.proofs.Words.{differing-associative, differing-empty, differing-self, plus-associative}
+use Rattle.line_tree.proofs.Words.{plus-commutative, union-empty, Count, IsBare, IsWithin, less, plus, without, Named}
+use Rattle.line_tree.proofs.Words.{total, NodePtr, Records, sum_all, sum_at}
 use Rattle.std.specs.Prelude.{Some, slice_get, slice_range}
-use Rattle.std.specs.List.{remove}
-use Rattle.std.proofs.lemmas.List.Edits.{split_between}
-use Rattle.std.proofs.lemmas.Option.{none-some, same_Some}
-use Rattle.text_model.specs.SlotSets.{differing}
-use Rattle.text_model.specs.Splices.{removed}
-use Rattle.toggle_sums.specs.CountLaws.{differing-associative, differing-empty, differing-self, plus-associative}
-use Rattle.toggle_sums.specs.CountLaws.{plus-commutative, union-empty}
-use Rattle.line_tree.proofs.Words.{Count, IsBare, IsWithin, Named, NodePtr, Records, less, plus, sum_all, sum_at, total}
-use Rattle.line_tree.proofs.Words.{without}
 use Rattle.line_tree.proofs.SumLaws.{total-append}
 use Rattle.std.specs.FinSet as set
 

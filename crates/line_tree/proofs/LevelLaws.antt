@@ -1,12 +1,10 @@
 -- How many levels a tree of so many lines has at most.
-use Rattle.std.proofs.Common.{◌≡◌, ℕ, zero, suc, ◌+◌, ◌-◌, ◌*◌, ◌/◌, ◌^◌, ◌<◌, ◌≤◌, max, inl, inr, ap, subst, arith}
-use Rattle.std.proofs.Common.{lit≤, lit<, length, nat_le}
+use Rattle.line_tree.proofs.Words.{◌≡◌, ℕ, zero, suc, ◌+◌, ◌-◌, ◌*◌, ◌/◌, ◌^◌, ◌<◌, ◌≤◌, max, inl, inr, ap, subst}
+use Rattle.line_tree.proofs.Words.{arith, lit≤, lit<, length, nat_le, pow-le-pow_right, pow-succ', cases_lt, cond-false}
+use Rattle.line_tree.proofs.Words.{cond-true, le-leb, lt-leb, NodePtr, Records, lines_in, tree_at, names, Stands}
+use Rattle.line_tree.proofs.Words.{levels_up_to}
 use Rattle.std.specs.FinMap as finite
-use Rattle.std.proofs.Math.Nat.{pow-le-pow_right, pow-succ'}
-use Rattle.std.proofs.lemmas.Bool.{cases_lt, cond-false, cond-true, le-leb, lt-leb}
-use Rattle.line_tree.proofs.Words.{NodePtr, Records, lines_in, names, tree_at}
-use Rattle.line_tree.specs.Growth.{Stands}
-use Rattle.line_tree.specs.Room.{levels_at_most, levels_up_to}
+use Rattle.line_tree.specs.Room.{levels_at_most}
 use Rattle.line_tree.proofs.CountLaws.{names-many-root}
 use Rattle.line_tree.proofs.FrameLaws.{names-held}
 use Rattle.line_tree.proofs.RoomLaws.{len-many}

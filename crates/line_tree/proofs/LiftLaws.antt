@@ -1,15 +1,10 @@
 -- One more level, up to the root.
-use Rattle.std.proofs.Common.{◌≡◌, ℕ, zero, suc, ◌+◌, ◌-◌, ◌*◌, ◌^◌, ◌≤◌, List, [], ◌∷◌, length, sym, ap, ◌∙◌}
-use Rattle.std.proofs.Common.{subst, arith}
+use Rattle.line_tree.proofs.Words.{◌≡◌, ℕ, zero, suc, ◌+◌, ◌-◌, ◌*◌, ◌^◌, ◌≤◌, List, [], ◌∷◌, length, sym, ap, ◌∙◌}
+use Rattle.line_tree.proofs.Words.{subst, arith, AllByRecursion, mul-le-mul_right, length-map, FitsSum, sum_all}
+use Rattle.line_tree.proofs.Words.{IsBalanced, IsBalancedRoot, Tree, least_below_root, total, NodePtr, Records, tree_at}
+use Rattle.line_tree.proofs.Words.{IsWide, lines_of, names_of, CanLift, CanRaise, Lifted, Raises, trees_at}
+use Rattle.line_tree.proofs.Words.{levels_at_most}
 use Rattle.std.specs.FinMap as finite
-use Rattle.std.specs.List.{AllByRecursion}
-use Rattle.std.proofs.Math.Nat.{mul-le-mul_right}
-use Rattle.std.proofs.lemmas.List.{length-map}
-use Rattle.line_tree.proofs.Words.{FitsSum, IsBalanced, IsBalancedRoot, NodePtr, Records, Tree, least_below_root}
-use Rattle.line_tree.proofs.Words.{sum_all, total, tree_at}
-use Rattle.line_tree.specs.Growth.{IsWide, lines_of, names_of}
-use Rattle.line_tree.specs.Raising.{CanLift, CanRaise, Lifted, Raises, trees_at}
-use Rattle.line_tree.specs.Room.{levels_at_most}
 use Rattle.line_tree.proofs.BecomeLaws.{and-then}
 use Rattle.line_tree.proofs.BuildLaws.{sum-trees}
 use Rattle.line_tree.proofs.CountLaws.{least-lines, lines-sum, lines-within, many-lines}

@@ -1,10 +1,8 @@
 -- A line by its name.
-use Rattle.std.proofs.Common.{◌≡◌, ℕ, zero, suc, List, refl, sym, ap, ◌∙◌, subst, IsSome, slice_get, Option, None, Some}
+use Rattle.line_tree.proofs.Words.{◌≡◌, ℕ, zero, suc, List, refl, sym, ap, ◌∙◌, subst, IsSome, slice_get, Option, None}
+use Rattle.line_tree.proofs.Words.{Some, option_map, none-some, same_Some, IsTree, line_of, lines_in, LineContent}
+use Rattle.line_tree.proofs.Words.{Named, lines, NodePtr, Record, Records, kids, IsLineAt}
 use Rattle.std.specs.FinMap as finite
-use Rattle.std.specs.Option.{option_map}
-use Rattle.std.proofs.lemmas.Option.{none-some, same_Some}
-use Rattle.line_tree.proofs.Words.{IsTree, LineContent, Named, NodePtr, Record, Records, kids, line_of, lines, lines_in}
-use Rattle.line_tree.specs.Places.{IsLineAt}
 use Rattle.line_tree.proofs.PlaceLaws.{named_line, through}
 use Rattle.line_tree.proofs.TreeLaws.{child-tree}
 

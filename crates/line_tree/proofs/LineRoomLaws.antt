@@ -1,15 +1,11 @@
 -- How many lines there are, and how many can be put in.
-use Rattle.std.proofs.Common.{◌≡◌, ℕ, zero, suc, ◌+◌, ◌-◌, ◌*◌, ◌/◌, ◌<◌, ◌≤◌, min, max, inl, inr, List, length, sym}
-use Rattle.std.proofs.Common.{ap, subst, arith, lit<, ◌⊎◌, ◌++◌, OnOk, Result, Ok, Err, take, drop, length-append}
-use Rattle.std.specs.List.{insert, remove}
-use Rattle.std.proofs.Math.Nat.{div-mul-le_self, le-max_left, le-max_right, le-min, mul-le-mul_left}
-use Rattle.std.proofs.lemmas.Nat.{le-div}
-use Rattle.std.proofs.lemmas.List.{length-drop, length-take-le}
-use Rattle.std.proofs.lemmas.List.Edits.{length-insert}
-use Rattle.text_model.specs.Splices.{removed}
-use Rattle.line_tree.specs.Room.{levels_at_most, line_room, room_by_height, room_by_width}
-use Rattle.line_tree.specs.TreeState.{TreeState}
-use Rattle.line_tree.specs.Trees.{Named}
+use Rattle.line_tree.proofs.Words.{◌≡◌, ℕ, zero, suc, ◌+◌, ◌-◌, ◌*◌, ◌/◌, ◌<◌, ◌≤◌, min, max, inl, inr, List, length}
+use Rattle.line_tree.proofs.Words.{sym, ap, subst, arith, lit<, ◌⊎◌, ◌++◌, OnOk, Result, Ok, Err, take, drop}
+use Rattle.line_tree.proofs.Words.{length-append, insert, remove, div-mul-le_self, le-max_left, le-max_right, le-min}
+use Rattle.line_tree.proofs.Words.{mul-le-mul_left, le-div, length-take-le, length-insert, removed, levels_at_most}
+use Rattle.line_tree.proofs.Words.{room_by_height, room_by_width, TreeState, Named}
+use Rattle.std.proofs.lemmas.List.{length-drop}
+use Rattle.line_tree.specs.Room.{line_room}
 use Rattle.line_tree.proofs.LevelLaws.{low-levels}
 
 -- ---- the number of lines is kept

@@ -1,22 +1,17 @@
 -- A tree with a table of names as a list of lines.
-use Rattle.std.proofs.Common.{◌≡◌, ℕ, zero, suc, ◌+◌, ◌-◌, ◌^◌, ◌<◌, ◌≤◌, Bool, true, false, cond, List, [], ◌∷◌, ◌++◌}
-use Rattle.std.proofs.Common.{length, take, drop, refl, sym, ap, ap₂, ◌∙◌, subst, arith, length-append, IfSome, is_some}
-use Rattle.std.proofs.Common.{option_map, slice_get, slice_range, Option, None, Some}
+use Rattle.line_tree.proofs.Words.{◌≡◌, ℕ, zero, suc, ◌+◌, ◌-◌, ◌^◌, ◌<◌, ◌≤◌, Bool, true, false, cond, List, [], ◌∷◌}
+use Rattle.line_tree.proofs.Words.{◌++◌, length, take, drop, refl, sym, ap, ap₂, ◌∙◌, subst, arith, length-append}
+use Rattle.line_tree.proofs.Words.{IfSome, is_some, slice_get, slice_range, Option, None, Some, All, nat_cmp}
+use Rattle.line_tree.proofs.Words.{drop-append_seam, take-append_seam, drop-map, length-take-le, map-append, take-map}
+use Rattle.line_tree.proofs.Words.{none-some, same_Some, slice_get-map, slice_get_within, Count, plus, FitsSum}
+use Rattle.line_tree.proofs.Words.{LineContent, plain_line, Named, contents, total, NodePtr, AreLines, IsCounted}
+use Rattle.line_tree.proofs.Words.{NumbersBelow, count_of, has_mark, next_line, spliced, whole, count-characters}
+use Rattle.line_tree.proofs.Words.{count-lines, FailFrom, NextAt, new-lines, IsPlaceAt, IsTable, holder, lines_without}
+use Rattle.line_tree.proofs.Words.{noted, IsLineAt}
+use Rattle.std.proofs.Common.{option_map}
 use Rattle.std.specs.FinMap as finite
-use Rattle.std.specs.List.{All}
-use Rattle.std.specs.Ordering.{nat_cmp}
-use Rattle.std.proofs.Math.Seq.{drop-append_seam, take-append_seam}
-use Rattle.std.proofs.lemmas.List.{append_assoc, drop-map, length-drop, length-take-le, map-append, take-map}
-use Rattle.std.proofs.lemmas.Option.{none-some, same_Some, slice_get-map, slice_get_within}
-use Rattle.line_tree.proofs.Words.{Count, FitsSum, LineContent, Named, NodePtr, contents, plain_line, plus, total}
-use Rattle.line_lists.specs.Lists.{AreLines, Holds, IsCounted, NumbersBelow, count_of, has_mark, next_line, spliced}
-use Rattle.line_lists.specs.Texts.{whole}
-use Rattle.line_lists.proofs.CountRows.{count-characters, count-lines}
-use Rattle.line_lists.proofs.SearchRows.{FailFrom, NextAt}
-use Rattle.line_lists.proofs.VecLaws.{new-lines}
-use Rattle.line_tree.specs.Locating.{IsPlaceAt}
-use Rattle.line_tree.specs.MarkTable.{IsTable, holder, lines_without, noted}
-use Rattle.line_tree.specs.Places.{IsLineAt}
+use Rattle.std.proofs.lemmas.List.{append_assoc, length-drop}
+use Rattle.line_lists.specs.Lists.{Holds}
 use Rattle.line_tree.proofs.HolderLaws.{not-first}
 use Rattle.line_tree.proofs.NearestLaws.{long, next-is, next-no}
 use Rattle.line_tree.proofs.PrefixLaws.{count-contents, count-first}

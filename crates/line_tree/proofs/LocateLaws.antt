@@ -1,10 +1,7 @@
 -- Ways down by characters.
-use Rattle.std.proofs.Common.{◌≡◌, ℕ, suc, List, [], ◌∷◌, map, refl, sym, ap, ◌∙◌, arith}
-use Rattle.std.specs.List.{AllByRecursion, flat_map, sum_by}
-use Rattle.std.proofs.lemmas.List.Sums.{sum_by-cons}
-use Rattle.line_tree.proofs.Words.{Holds, IsTree, NodePtr, Records, kids, lines, lines_at, lines_in, total, tree_at}
-use Rattle.line_tree.specs.Finds.{lines_below}
-use Rattle.line_tree.specs.Locating.{characters_at, characters_below}
+use Rattle.line_tree.proofs.Words.{◌≡◌, ℕ, suc, List, [], ◌∷◌, map, refl, sym, ap, ◌∙◌, arith, AllByRecursion, flat_map}
+use Rattle.line_tree.proofs.Words.{sum_by, sum_by-cons, Holds, IsTree, lines_at, lines_in, tree_at, NodePtr, Records}
+use Rattle.line_tree.proofs.Words.{kids, lines, total, lines_below, characters_at, characters_below}
 use Rattle.line_tree.proofs.SumLaws.{total-append}
 use Rattle.line_tree.proofs.TreeLaws.{sum-tree, whole-below}
 

@@ -1,20 +1,14 @@
 -- A root with one child, and what was taken out of a tree: given back, and the lines that are left.
-use Rattle.std.proofs.Common.{◌≡◌, ℕ, zero, suc, ◌+◌, ◌-◌, ◌<◌, ◌≤◌, inl, inr, List, [], ◌∷◌, ◌++◌, length, map, take}
-use Rattle.std.proofs.Common.{drop, refl, sym, ap, ◌∙◌, subst, arith, ◌≢◌, IsSome, slice_get, Option, None, Some}
+use Rattle.line_tree.proofs.Words.{◌≡◌, ℕ, zero, suc, ◌+◌, ◌-◌, ◌<◌, ◌≤◌, inl, inr, List, [], ◌∷◌, ◌++◌, length, map}
+use Rattle.line_tree.proofs.Words.{take, drop, refl, sym, ap, ◌∙◌, subst, arith, ◌≢◌, IsSome, slice_get, Option, None}
+use Rattle.line_tree.proofs.Words.{Some, AllByRecursion, append-nil, none-some, same_Some, removed, Among, Distinct}
+use Rattle.line_tree.proofs.Words.{FitsSum, Holds, IsTree, line_of, lines_in, tree_at, IsBalanced, IsBalancedRoot}
+use Rattle.line_tree.proofs.Words.{Named, Tree, inner, lines, names, total, LineContent, NodePtr, Record, Records}
+use Rattle.line_tree.proofs.Words.{update, with_parent, kids, get_unmoved, some_of, get-update-other, remove-named}
+use Rattle.line_tree.proofs.Words.{update-named, Without, IsWide, Stands, StandsAlone, lines_of, names_of, CanLower}
+use Rattle.line_tree.proofs.Words.{CanRemove, Cleans, Lowers, Removes}
 use Rattle.std.specs.FinMap as finite
-use Rattle.std.specs.List.{AllByRecursion}
-use Rattle.std.proofs.lemmas.List.{append-nil}
-use Rattle.std.proofs.lemmas.Option.{none-some, same_Some}
 use mathlib.Core.Bool.{false≢true}
-use Rattle.text_model.specs.Splices.{removed}
-use Rattle.line_tree.proofs.Words.{Among, Distinct, FitsSum, Holds, IsBalanced, IsBalancedRoot, IsTree, LineContent}
-use Rattle.line_tree.proofs.Words.{Named, NodePtr, Record, Records, Tree, inner, kids, line_of, lines, lines_in, names}
-use Rattle.line_tree.proofs.Words.{total, tree_at, update, with_parent}
-use Rattle.raw_nodes.proofs.MapLaws.{get_unmoved, some_of}
-use Rattle.raw_nodes.proofs.UpdateLaws.{get-update-other, remove-named, update-named}
-use Rattle.line_tree.specs.Giving.{Without}
-use Rattle.line_tree.specs.Growth.{IsWide, Stands, StandsAlone, lines_of, names_of}
-use Rattle.line_tree.specs.Shrinking.{CanLower, CanRemove, Cleans, Lowers, Removes}
 use Rattle.line_tree.proofs.AmongLaws.{among-left, among-or}
 use Rattle.line_tree.proofs.BuildLaws.{tree-is}
 use Rattle.line_tree.proofs.DistinctLaws.{distinct-left}

@@ -1,14 +1,10 @@
 -- The lowest level of a tree, where each child is a line.
-use Rattle.std.proofs.Common.{◌≡◌, ℕ, zero, suc, ◌<◌, ◌≤◌, List, [], ◌∷◌, length, take, map, refl, ◌∙◌, arith, IsSome}
-use Rattle.std.proofs.Common.{slice_get, Option, None, Some}
+use Rattle.line_tree.proofs.Words.{◌≡◌, ℕ, zero, suc, ◌<◌, ◌≤◌, List, [], ◌∷◌, length, take, map, refl, ◌∙◌, arith}
+use Rattle.line_tree.proofs.Words.{IsSome, slice_get, Option, None, Some, AllByRecursion, sum_by, sum_by-cons, Holds}
+use Rattle.line_tree.proofs.Words.{IsTree, line_of, lines_at, tree_at, LineContent, NodePtr, Records, kids, lines}
+use Rattle.line_tree.proofs.Words.{lines_below, lines_before}
 use Rattle.std.specs.FinMap as finite
-use Rattle.std.specs.List.{AllByRecursion, sum_by}
-use Rattle.std.proofs.lemmas.List.Sums.{sum_by-cons}
 use mathlib.Core.Bool.{false≢true}
-use Rattle.line_tree.proofs.Words.{Holds, IsTree, LineContent, NodePtr, Records, kids, line_of, lines, lines_at}
-use Rattle.line_tree.proofs.Words.{tree_at}
-use Rattle.line_tree.specs.Finds.{lines_below}
-use Rattle.line_tree.specs.Places.{lines_before}
 use Rattle.line_tree.proofs.TreeLaws.{child-tree, count-tree}
 
 -- a line is one line

@@ -1,26 +1,16 @@
 -- Ways down to the nearest line that has what is wanted.
-use Rattle.std.proofs.Common.{◌≡◌, ℕ, zero, suc, ◌+◌, ◌-◌, ◌<◌, ◌≤◌, ◌⊎◌, inl, inr, Bool, true, false, ◌||◌, min}
-use Rattle.std.proofs.Common.{nat_lt, List, [], ◌∷◌, length, refl, sym, ap, ◌∙◌, subst, arith, slice_get, Option, None}
-use Rattle.std.proofs.Common.{Some}
-use Rattle.std.specs.Cmp.{nat_cmp_total}
+use Rattle.line_tree.proofs.Words.{◌≡◌, ℕ, zero, suc, ◌+◌, ◌-◌, ◌<◌, ◌≤◌, ◌⊎◌, inl, inr, Bool, true, false, ◌||◌, min}
+use Rattle.line_tree.proofs.Words.{nat_lt, List, [], ◌∷◌, length, refl, sym, ap, ◌∙◌, subst, arith, slice_get, Option}
+use Rattle.line_tree.proofs.Words.{None, Some, nat_cmp_total, sum_by, le-min, min-le_left, min-le_right, cases_lt}
+use Rattle.line_tree.proofs.Words.{length-map, take_all, sum_by-take-le, plus-no_text, Count, plus, IsTree, line_of}
+use Rattle.line_tree.proofs.Words.{lines_at, lines_in, LineContent, line_count, plain_line, Named, contents, lines}
+use Rattle.line_tree.proofs.Words.{total, NodePtr, Records, kids, next_line, previous_line, FailFrom, NextAt}
+use Rattle.line_tree.proofs.Words.{PreviousAt, line_at, next-found, next-none, previous-found, previous-none, passes}
+use Rattle.line_tree.proofs.Words.{shows, lines_before, Wanted}
 use Rattle.std.specs.FinMap as finite
 use Rattle.std.specs.FinSet as set
-use Rattle.std.specs.List.{sum_by}
-use Rattle.std.proofs.Math.Nat.{le-min, min-le_left, min-le_right}
-use Rattle.std.proofs.lemmas.Bool.{cases_lt}
-use Rattle.std.proofs.lemmas.List.{length-map, take_all}
-use Rattle.std.proofs.lemmas.List.Sums.{sum_by-take-le}
 use mathlib.Core.Bool.{false≢true}
-use Rattle.toggle_sums.specs.CountLaws.{plus-no_text}
-use Rattle.line_tree.proofs.Words.{Count, IsTree, LineContent, Named, NodePtr, Records, contents, kids, line_count}
-use Rattle.line_tree.proofs.Words.{line_of, lines, lines_at, lines_in, plain_line, plus, total}
-use Rattle.line_lists.specs.Lists.{next_line, previous_line}
 use Rattle.line_lists.proofs.ListLaws.{no-marks, some-marks}
-use Rattle.line_lists.proofs.SearchRows.{FailFrom, NextAt, PreviousAt, line_at, next-found, next-none, previous-found}
-use Rattle.line_lists.proofs.SearchRows.{previous-none}
-use Rattle.line_tree.specs.Nearest.{passes, shows}
-use Rattle.line_tree.specs.Places.{lines_before}
-use Rattle.line_tree.specs.declared.nearest.Wanted.{Wanted}
 use Rattle.line_tree.specs.declared.nearest.Wanted.TheVariants.{Toggle, Mark}
 use Rattle.line_tree.proofs.RowLaws.{step_yes}
 use Rattle.line_tree.proofs.TreeLaws.{below-tree, child-tree, count-tree, line-found, row-tree}

@@ -1,16 +1,11 @@
 -- Two neighbours among the trees below a node, which share their children or become one.
-use Rattle.std.proofs.Common.{◌≡◌, ℕ, suc, inl, inr, List, [], ◌∷◌, ◌++◌, length, take, drop, map, sym, ap, ◌∙◌, subst}
-use Rattle.std.proofs.Common.{arith, length-take, length-drop, ◌≢◌, IsSome, slice_get, Some}
+use Rattle.line_tree.proofs.Words.{◌≡◌, ℕ, suc, inl, inr, List, [], ◌∷◌, ◌++◌, length, take, drop, map, sym, ap, ◌∙◌}
+use Rattle.line_tree.proofs.Words.{subst, arith, length-take, length-drop, ◌≢◌, IsSome, slice_get, Some, AllByRecursion}
+use Rattle.line_tree.proofs.Words.{length-map, map-append, flat_map-append, Among, CanEven, Distinct, FitsSum, Merges}
+use Rattle.line_tree.proofs.Words.{Shares, refilled, sum_all, Holds, Links, tree_at, IsBalanced, Tree, inner, lines}
+use Rattle.line_tree.proofs.Words.{names, tops, total, NodePtr, Records, kids, row, same_or_other, KeepsLink, lines_of}
+use Rattle.line_tree.proofs.Words.{names_of, Turns}
 use Rattle.std.specs.FinMap as finite
-use Rattle.std.specs.List.{AllByRecursion}
-use Rattle.std.proofs.lemmas.List.{length-map, map-append}
-use Rattle.std.proofs.lemmas.List.Concat.{flat_map-append}
-use Rattle.line_tree.proofs.Words.{Among, CanEven, Distinct, FitsSum, Holds, IsBalanced, Links, Merges, NodePtr}
-use Rattle.line_tree.proofs.Words.{Records, Shares, Tree, inner, kids, lines, names, refilled, row, sum_all, tops}
-use Rattle.line_tree.proofs.Words.{total, tree_at}
-use Rattle.raw_nodes.proofs.PlaceLaws.{same_or_other}
-use Rattle.line_tree.specs.Growth.{KeepsLink, lines_of, names_of}
-use Rattle.line_tree.specs.Shrinking.{Turns}
 use Rattle.line_tree.proofs.AmongLaws.{among-drop, among-get, among-take}
 use Rattle.line_tree.proofs.BuildLaws.{sum-kids, sum-trees}
 use Rattle.line_tree.proofs.DistinctLaws.{distinct-left, distinct-right}

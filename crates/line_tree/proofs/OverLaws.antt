@@ -1,11 +1,10 @@
 -- A line in another one's place, under its name, and what a table of names says then.
-use Rattle.std.proofs.Common.{◌≡◌, ℕ, suc, [], ◌∷◌, ◌+◌, ◌-◌, ◌≤◌, ◌++◌, cond, List, length, take, drop, refl, sym, ap}
-use Rattle.std.proofs.Common.{◌∙◌, subst, arith, append_assoc, option_map, slice_get, Option, None, Some}
-use Rattle.toggle_sums.specs.CountLaws.{plus-no_text}
-use Rattle.line_tree.proofs.Words.{FitsSum, LineContent, Named, NodePtr, contents, line_count, plus, total}
-use Rattle.line_lists.specs.Lists.{AreLines, IsCounted, NumbersBelow, count_of, has_mark, spliced}
-use Rattle.line_tree.specs.MarkTable.{AreBare, IsTable, holder, lines_without, noted}
-use Rattle.line_tree.specs.Taking.{changed}
+use Rattle.line_tree.proofs.Words.{◌≡◌, ℕ, suc, [], ◌∷◌, ◌+◌, ◌-◌, ◌≤◌, ◌++◌, cond, List, length, take, drop, refl, sym}
+use Rattle.line_tree.proofs.Words.{ap, ◌∙◌, subst, arith, append_assoc, slice_get, Option, None, Some, plus-no_text}
+use Rattle.line_tree.proofs.Words.{FitsSum, LineContent, line_count, Named, contents, total, NodePtr, plus, AreLines}
+use Rattle.line_tree.proofs.Words.{IsCounted, NumbersBelow, count_of, has_mark, spliced, AreBare, IsTable, holder}
+use Rattle.line_tree.proofs.Words.{lines_without, noted, changed}
+use Rattle.std.proofs.Common.{option_map}
 use Rattle.line_tree.proofs.ChangingLaws.{changed-at}
 use Rattle.line_tree.proofs.HolderLaws.{none-out}
 use Rattle.line_tree.proofs.ListedLaws.{Comes, comes-contents, comes-others, fits-counted}

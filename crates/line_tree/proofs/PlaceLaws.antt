@@ -1,16 +1,11 @@
 -- Where names stand in a tree.
-use Rattle.std.proofs.Common.{◌≡◌, ℕ, zero, suc, ◌+◌, ◌-◌, ◌<◌, inl, inr, List, [], ◌∷◌, length, take, map, refl, sym}
-use Rattle.std.proofs.Common.{ap, ◌∙◌, subst, arith, IfSome, IsSome, slice_get, Option, None, Some}
+use Rattle.line_tree.proofs.Words.{◌≡◌, ℕ, zero, suc, ◌+◌, ◌-◌, ◌<◌, inl, inr, List, [], ◌∷◌, length, take, map, refl}
+use Rattle.line_tree.proofs.Words.{sym, ap, ◌∙◌, subst, arith, IfSome, IsSome, slice_get, Option, None, Some}
+use Rattle.line_tree.proofs.Words.{AllByRecursion, flat_map, sum_by, option_map, cases_lt, sum_by-cons, none-some}
+use Rattle.line_tree.proofs.Words.{same_Some, slice_get_within, Holds, IsLinked, IsTree, Links, line_of, lines_at}
+use Rattle.line_tree.proofs.Words.{lines_in, tree_at, LineContent, Named, lines, NodePtr, Records, kids, at_some}
+use Rattle.line_tree.proofs.Words.{IsChild, IsLineAt, Sits, lines_before}
 use Rattle.std.specs.FinMap as finite
-use Rattle.std.specs.List.{AllByRecursion, flat_map, sum_by}
-use Rattle.std.specs.Option.{option_map}
-use Rattle.std.proofs.lemmas.Bool.{cases_lt}
-use Rattle.std.proofs.lemmas.List.Sums.{sum_by-cons}
-use Rattle.std.proofs.lemmas.Option.{none-some, same_Some, slice_get_within}
-use Rattle.line_tree.proofs.Words.{Holds, IsLinked, IsTree, LineContent, Links, Named, NodePtr, Records, kids, line_of}
-use Rattle.line_tree.proofs.Words.{lines, lines_at, lines_in, tree_at}
-use Rattle.raw_nodes.proofs.MapLaws.{at_some}
-use Rattle.line_tree.specs.Places.{IsChild, IsLineAt, Sits, lines_before}
 use Rattle.line_tree.proofs.TreeLaws.{child-tree, count-tree, get-left, get-right, tops-tree_at}
 
 -- ---- links

@@ -1,13 +1,9 @@
 -- Ways down with the sum of the lines before.
-use Rattle.std.proofs.Common.{◌≡◌, ℕ, suc, ◌+◌, ◌<◌, ◌≤◌, List, [], ◌∷◌, ◌++◌, length, take, map, refl, sym, ap, ◌∙◌}
-use Rattle.std.proofs.Common.{arith, slice_get, None, Some}
-use Rattle.std.specs.List.{AllByRecursion, flat_map}
-use Rattle.std.proofs.lemmas.List.{take-map, take_all, take_more}
-use Rattle.std.proofs.lemmas.Option.{get_or_from_slice_get, slice_get_within}
-use Rattle.toggle_sums.specs.CountLaws.{plus-no_text}
-use Rattle.line_tree.proofs.Words.{Count, Holds, IsTree, Named, NodePtr, Records, contents, kids, line_count, lines}
-use Rattle.line_tree.proofs.Words.{lines_in, plus, sum_all, sum_at, total, tree_at}
-use Rattle.line_lists.specs.Lists.{count_of}
+use Rattle.line_tree.proofs.Words.{◌≡◌, ℕ, suc, ◌+◌, ◌<◌, ◌≤◌, List, [], ◌∷◌, ◌++◌, length, take, map, refl, sym, ap}
+use Rattle.line_tree.proofs.Words.{◌∙◌, arith, slice_get, None, Some, AllByRecursion, flat_map, take-map, take_all}
+use Rattle.line_tree.proofs.Words.{take_more, get_or_from_slice_get, slice_get_within, plus-no_text, Count, plus, Holds}
+use Rattle.line_tree.proofs.Words.{IsTree, lines_in, sum_at, tree_at, Named, contents, lines, total, NodePtr, Records}
+use Rattle.line_tree.proofs.Words.{kids, line_count, sum_all, count_of}
 use Rattle.line_tree.proofs.BuildLaws.{sum-trees}
 use Rattle.line_tree.proofs.FillLaws.{sum_all-append}
 use Rattle.line_tree.proofs.RowLaws.{past}

@@ -1,17 +1,12 @@
 -- One more child for a node, with room and without.
-use Rattle.std.proofs.Common.{◌≡◌, ℕ, zero, suc, ◌+◌, ◌-◌, ◌≤◌, inl, inr, List, [], ◌∷◌, ◌++◌, length, take, drop, map}
-use Rattle.std.proofs.Common.{replicate, cond, refl, sym, ap, ◌∙◌, subst, arith, length-drop, length-take, ◌≢◌, IfSome}
-use Rattle.std.proofs.Common.{IsSome, is_some, slice_get, Option, None, Some}
+use Rattle.line_tree.proofs.Words.{◌≡◌, ℕ, zero, suc, ◌+◌, ◌-◌, ◌≤◌, inl, inr, List, [], ◌∷◌, ◌++◌, length, take, drop}
+use Rattle.line_tree.proofs.Words.{map, replicate, cond, refl, sym, ap, ◌∙◌, subst, arith, length-drop, length-take}
+use Rattle.line_tree.proofs.Words.{◌≢◌, IfSome, IsSome, is_some, slice_get, Option, None, Some, count_by, insert}
+use Rattle.line_tree.proofs.Words.{take-append-drop, take-append-le, sum_by-cons, none-some, Among, CanFill, CanPut}
+use Rattle.line_tree.proofs.Words.{FitsSum, Puts, Stay, refilled, relinked, sum_all, sums, Links, sum_at, sum_of}
+use Rattle.line_tree.proofs.Words.{NodePtr, Records, blank, kids, kids_of, row, plus, at_some, get_inserted, get_other}
+use Rattle.line_tree.proofs.Words.{kept_insert, some_of, length-row, HasRow}
 use Rattle.std.specs.FinMap as finite
-use Rattle.std.specs.List.{count_by, insert}
-use Rattle.std.proofs.lemmas.List.{take-append-drop, take-append-le}
-use Rattle.std.proofs.lemmas.List.Sums.{sum_by-cons}
-use Rattle.std.proofs.lemmas.Option.{none-some}
-use Rattle.line_tree.proofs.Words.{Among, CanFill, CanPut, FitsSum, Links, NodePtr, Puts, Records, Stay, blank, kids}
-use Rattle.line_tree.proofs.Words.{kids_of, plus, refilled, relinked, row, sum_all, sum_at, sum_of, sums}
-use Rattle.raw_nodes.proofs.MapLaws.{at_some, get_inserted, get_other, kept_insert, some_of}
-use Rattle.raw_nodes.proofs.RowLaws.{length-row}
-use Rattle.line_tree.specs.Finds.{HasRow}
 use Rattle.line_tree.proofs.AmongLaws.{among-drop, among-get, among-insert, among-take}
 use Rattle.line_tree.proofs.FillLaws.{refilled-other, refilled-sum, sum_all-append, sum_all-same, sums-row}
 use Rattle.line_tree.proofs.FrameLaws.{links-same}

@@ -1,14 +1,11 @@
 -- One more node above the trees of a level.
-use Rattle.std.proofs.Common.{◌≡◌, ℕ, zero, suc, ◌+◌, ◌-◌, ◌≤◌, inl, inr, List, [], ◌∷◌, ◌++◌, length, refl, sym, ap}
-use Rattle.std.proofs.Common.{◌∙◌, subst, append_assoc, arith, take, drop, IsSome, slice_get, option_to_list}
+use Rattle.line_tree.proofs.Words.{◌≡◌, ℕ, zero, suc, ◌+◌, ◌-◌, ◌≤◌, inl, inr, List, [], ◌∷◌, ◌++◌, length, refl, sym}
+use Rattle.line_tree.proofs.Words.{ap, ◌∙◌, subst, append_assoc, arith, take, drop, IsSome, slice_get, option_to_list}
+use Rattle.line_tree.proofs.Words.{AllByRecursion, append-nil, length-map, map-append, take-append-drop}
+use Rattle.line_tree.proofs.Words.{flat_map-append, Among, Distinct, FitsSum, sum_all, Count, plus, Holds, sum_of}
+use Rattle.line_tree.proofs.Words.{tree_at, NodePtr, Records, Tree, tops, HasNoParent, NewRoot, names_of, Becomes}
+use Rattle.line_tree.proofs.Words.{CanRaise, HasKids, Raises, below_all, trees_at}
 use Rattle.std.specs.FinMap as finite
-use Rattle.std.specs.List.{AllByRecursion}
-use Rattle.std.proofs.lemmas.List.{append-nil, length-map, map-append, take-append-drop}
-use Rattle.std.proofs.lemmas.List.Concat.{flat_map-append}
-use Rattle.line_tree.proofs.Words.{Among, Count, Distinct, FitsSum, Holds, NodePtr, Records, Tree, plus, sum_all}
-use Rattle.line_tree.proofs.Words.{sum_of, tops, tree_at}
-use Rattle.line_tree.specs.Growth.{HasNoParent, NewRoot, names_of}
-use Rattle.line_tree.specs.Raising.{Becomes, CanRaise, HasKids, Raises, below_all, trees_at}
 use Rattle.line_tree.proofs.AmongLaws.{among-cases, among-left}
 use Rattle.line_tree.proofs.BecomeLaws.{both, node-becomes, node-loose}
 use Rattle.line_tree.proofs.BuildLaws.{trees-is}

@@ -1,15 +1,12 @@
 -- A node that is made anew with other trees among its children.
-use Rattle.std.proofs.Common.{◌≡◌, ℕ, suc, ◌+◌, ◌*◌, ◌≤◌, inl, inr, List, [], ◌∷◌, ◌++◌, length, take, drop, refl, sym}
-use Rattle.std.proofs.Common.{ap, ◌∙◌, subst, arith, length-append, IsSome}
+use Rattle.line_tree.proofs.Words.{◌≡◌, ℕ, suc, ◌+◌, ◌*◌, ◌≤◌, inl, inr, List, [], ◌∷◌, ◌++◌, length, take, drop, refl}
+use Rattle.line_tree.proofs.Words.{sym, ap, ◌∙◌, subst, arith, length-append, IsSome, AllByRecursion, length-map}
+use Rattle.line_tree.proofs.Words.{map-append, take-append-drop, flat_map-append, plus-associative, plus-commutative}
+use Rattle.line_tree.proofs.Words.{Among, Distinct, FitsSum, sum_all, Holds, IsTree, lines_in, tree_at, IsBalanced}
+use Rattle.line_tree.proofs.Words.{Named, Tree, lines, names, tops, total, NodePtr, Records, kids, plus, IsWide}
+use Rattle.line_tree.proofs.Words.{lines_of, names_of, Becomes, CanRaise, HasKids, Raises, TakesRow, below_all}
+use Rattle.line_tree.proofs.Words.{trees_at, with_lines}
 use Rattle.std.specs.FinMap as finite
-use Rattle.std.specs.List.{AllByRecursion}
-use Rattle.std.proofs.lemmas.List.{length-map, map-append, take-append-drop}
-use Rattle.std.proofs.lemmas.List.Concat.{flat_map-append}
-use Rattle.toggle_sums.specs.CountLaws.{plus-associative, plus-commutative}
-use Rattle.line_tree.proofs.Words.{Among, Distinct, FitsSum, Holds, IsBalanced, IsTree, Named, NodePtr, Records, Tree}
-use Rattle.line_tree.proofs.Words.{kids, lines, lines_in, names, plus, sum_all, tops, total, tree_at}
-use Rattle.line_tree.specs.Growth.{IsWide, lines_of, names_of}
-use Rattle.line_tree.specs.Raising.{Becomes, CanRaise, HasKids, Raises, TakesRow, below_all, trees_at, with_lines}
 use Rattle.line_tree.proofs.AmongLaws.{among-cases, among-left, among-right}
 use Rattle.line_tree.proofs.BecomeLaws.{and-then, both, gone, renamed, stays}
 use Rattle.line_tree.proofs.BuildLaws.{sum-trees, trees-is}

@@ -1,17 +1,11 @@
 -- A removal at a node, from the removal at its child.
-use Rattle.std.proofs.Common.{◌≡◌, ℕ, suc, ◌+◌, ◌≤◌, List, [], ◌∷◌, ◌++◌, length, map, sym, ap, ◌∙◌, subst, arith}
+use Rattle.line_tree.proofs.Words.{◌≡◌, ℕ, suc, ◌+◌, ◌≤◌, List, [], ◌∷◌, ◌++◌, length, map, sym, ap, ◌∙◌, subst, arith}
+use Rattle.line_tree.proofs.Words.{AllByRecursion, length-map, removed, Among, CanFill, FitsSum, refilled, Count, plus}
+use Rattle.line_tree.proofs.Words.{IsBalanced, Named, Tree, names, tops, total, NodePtr, Records, kids, row, lines_in}
+use Rattle.line_tree.proofs.Words.{tree_at, get_unmoved, length-row, HasRow, IsWide, KeepsLink, lines_of, names_of}
+use Rattle.line_tree.proofs.Words.{CanRemove, Removes, Shrinks}
 use Rattle.std.specs.Prelude.{◌≢◌, slice_range}
 use Rattle.std.specs.FinMap as finite
-use Rattle.std.specs.List.{AllByRecursion}
-use Rattle.std.proofs.lemmas.List.{length-map}
-use Rattle.text_model.specs.Splices.{removed}
-use Rattle.line_tree.proofs.Words.{Among, CanFill, Count, FitsSum, IsBalanced, Named, NodePtr, Records, Tree, kids}
-use Rattle.line_tree.proofs.Words.{lines_in, names, plus, refilled, row, tops, total, tree_at}
-use Rattle.raw_nodes.proofs.MapLaws.{get_unmoved}
-use Rattle.raw_nodes.proofs.RowLaws.{length-row}
-use Rattle.line_tree.specs.Finds.{HasRow}
-use Rattle.line_tree.specs.Growth.{IsWide, KeepsLink, lines_of, names_of}
-use Rattle.line_tree.specs.Shrinking.{CanRemove, Removes, Shrinks}
 use Rattle.line_tree.proofs.BuildLaws.{sum-trees, tree-is}
 use Rattle.line_tree.proofs.FrameLaws.{holds-same, names-all-held, tops-among}
 use Rattle.line_tree.proofs.GrowLaws.{to-one}

@@ -1,22 +1,13 @@
 -- A removal at a node whose child shares with a neighbour.
-use Rattle.std.proofs.Common.{◌≡◌, ℕ, suc, ◌+◌, ◌<◌, ◌≤◌, ◌⊎◌, inl, inr, List, [], ◌∷◌, ◌++◌, length, take, drop, map}
-use Rattle.std.proofs.Common.{refl, sym, ap, ◌∙◌, subst, arith, length-append, ◌≢◌, IsSome, slice_get, Option, None}
-use Rattle.std.proofs.Common.{Some}
+use Rattle.line_tree.proofs.Words.{◌≡◌, ℕ, suc, ◌+◌, ◌<◌, ◌≤◌, ◌⊎◌, inl, inr, List, [], ◌∷◌, ◌++◌, length, take, drop}
+use Rattle.line_tree.proofs.Words.{map, refl, sym, ap, ◌∙◌, subst, arith, length-append, ◌≢◌, IsSome, slice_get, Option}
+use Rattle.line_tree.proofs.Words.{None, Some, AllByRecursion, remove, cases_eq, length-map, length-remove, none-some}
+use Rattle.line_tree.proofs.Words.{same_Some, slice_get_within, Among, CanFill, Distinct, Mends, Merges, Shares}
+use Rattle.line_tree.proofs.Words.{refilled, sum_all, Holds, Links, lines_in, sum_at, sum_of, tree_at, IsBalanced, Tree}
+use Rattle.line_tree.proofs.Words.{names, tops, total, NodePtr, Records, kids, kids_of, row, plus, get_removed}
+use Rattle.line_tree.proofs.Words.{get_unmoved, same_or_other, Finds, HasRow, IsWide, lines_of, names_of, CanMend}
+use Rattle.line_tree.proofs.Words.{CanRemove, Cleans, Removes, Settles, Shrinks, Turns, Found}
 use Rattle.std.specs.FinMap as finite
-use Rattle.std.specs.List.{AllByRecursion, remove}
-use Rattle.std.proofs.lemmas.Bool.{cases_eq}
-use Rattle.std.proofs.lemmas.List.{length-map}
-use Rattle.std.proofs.lemmas.List.Edits.{length-remove}
-use Rattle.std.proofs.lemmas.Option.{none-some, same_Some, slice_get_within}
-use Rattle.line_tree.proofs.Words.{Among, CanFill, Distinct, Holds, IsBalanced, Links, Mends, Merges, NodePtr, Records}
-use Rattle.line_tree.proofs.Words.{Shares, Tree, kids, kids_of, lines_in, names, plus, refilled, row, sum_all, sum_at}
-use Rattle.line_tree.proofs.Words.{sum_of, tops, total, tree_at}
-use Rattle.raw_nodes.proofs.MapLaws.{get_removed, get_unmoved}
-use Rattle.raw_nodes.proofs.PlaceLaws.{same_or_other}
-use Rattle.line_tree.specs.Finds.{Finds, HasRow}
-use Rattle.line_tree.specs.Growth.{IsWide, lines_of, names_of}
-use Rattle.line_tree.specs.Shrinking.{CanMend, CanRemove, Cleans, Removes, Settles, Shrinks, Turns}
-use Rattle.line_tree.specs.declared.find.Found.{Found}
 use Rattle.line_tree.proofs.AmongLaws.{among-or, get-among}
 use Rattle.line_tree.proofs.BuildLaws.{built, sum-trees, tree-is}
 use Rattle.line_tree.proofs.DistinctLaws.{distinct-apart}
@@ -26,9 +17,9 @@ use Rattle.line_tree.proofs.GrowLaws.{all-append, in-cases, in-left, in-right, n
 use Rattle.line_tree.proofs.InsertLaws.{has-kept}
 use Rattle.line_tree.proofs.PairLaws.{merge-inside, share-inside, two-right}
 use Rattle.line_tree.proofs.NeighbourLaws.{Siblings, can-even, hold-left, hold-right, merge-links, merge-turns}
-use Rattle.line_tree.proofs.NeighbourLaws.{pair-apart, pair-facts, pair-long, pair-placed, pair-right-apart, pair-two-apart}
-use Rattle.line_tree.proofs.NeighbourLaws.{share-balanced, share-links, share-named, share-turns, tops-among-two}
-use Rattle.line_tree.proofs.NeighbourLaws.{turns-among}
+use Rattle.line_tree.proofs.NeighbourLaws.{pair-apart, pair-facts, pair-long, pair-placed, pair-right-apart}
+use Rattle.line_tree.proofs.NeighbourLaws.{pair-two-apart, share-balanced, share-links, share-named, share-turns}
+use Rattle.line_tree.proofs.NeighbourLaws.{tops-among-two, turns-among}
 use Rattle.line_tree.proofs.RemoveLaws.{can-fill, drop-tree, finish, removes-drop}
 use Rattle.line_tree.proofs.RemoveSteps.{all-from, balanced-but, balanced-child, fits-now, gone-same, has-now, in-drop}
 use Rattle.line_tree.proofs.RemoveSteps.{in-take, kids-same, links-now, node-same, now-lost, pair-remove, pair-same}

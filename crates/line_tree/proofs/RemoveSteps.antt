@@ -1,20 +1,13 @@
 -- One level of a removal.
-use Rattle.std.proofs.Common.{◌≡◌, ℕ, zero, suc, ◌+◌, ◌<◌, ◌≤◌, inl, inr, List, [], ◌∷◌, ◌++◌, length, take, drop, map}
-use Rattle.std.proofs.Common.{refl, sym, ap, ◌∙◌, subst, arith, length-take, ◌≢◌, IsSome, slice_get, Option, None, Some}
+use Rattle.line_tree.proofs.Words.{◌≡◌, ℕ, zero, suc, ◌+◌, ◌<◌, ◌≤◌, inl, inr, List, [], ◌∷◌, ◌++◌, length, take, drop}
+use Rattle.line_tree.proofs.Words.{map, refl, sym, ap, ◌∙◌, subst, arith, length-take, ◌≢◌, IsSome, slice_get, Option}
+use Rattle.line_tree.proofs.Words.{None, Some, AllByRecursion, remove, length-map, map-append, flat_map-append}
+use Rattle.line_tree.proofs.Words.{length-remove, none-some, same_Some, slice_get-map, slice_get_within, Among, CanFill}
+use Rattle.line_tree.proofs.Words.{Distinct, FitsSum, refilled, sum_all, Holds, IsTree, Links, lines_in, sum_at}
+use Rattle.line_tree.proofs.Words.{tree_at, IsBalanced, Tree, inner, lines, names, tops, total, LineContent, NodePtr}
+use Rattle.line_tree.proofs.Words.{Records, kids, kids_of, row, plus, same_or_other, Finds, HasRow, IsWide, KeepsLink}
+use Rattle.line_tree.proofs.Words.{lines_of, names_of, CanRemove, Cleans, Removes, Shrinks, Found}
 use Rattle.std.specs.FinMap as finite
-use Rattle.std.specs.List.{AllByRecursion, remove}
-use Rattle.std.proofs.lemmas.List.{length-map, map-append}
-use Rattle.std.proofs.lemmas.List.Concat.{flat_map-append}
-use Rattle.std.proofs.lemmas.List.Edits.{length-remove}
-use Rattle.std.proofs.lemmas.Option.{none-some, same_Some, slice_get-map, slice_get_within}
-use Rattle.line_tree.proofs.Words.{Among, CanFill, Distinct, FitsSum, Holds, IsBalanced, IsTree, LineContent, Links}
-use Rattle.line_tree.proofs.Words.{NodePtr, Records, Tree, inner, kids, kids_of, lines, lines_in, names, plus, refilled}
-use Rattle.line_tree.proofs.Words.{row, sum_all, sum_at, tops, total, tree_at}
-use Rattle.raw_nodes.proofs.PlaceLaws.{same_or_other}
-use Rattle.line_tree.specs.Finds.{Finds, HasRow}
-use Rattle.line_tree.specs.Growth.{IsWide, KeepsLink, lines_of, names_of}
-use Rattle.line_tree.specs.Shrinking.{CanRemove, Cleans, Removes, Shrinks}
-use Rattle.line_tree.specs.declared.find.Found.{Found}
 use Rattle.line_tree.proofs.AmongLaws.{among-cases, among-get, among-left, among-right}
 use Rattle.line_tree.proofs.BuildLaws.{sum-kids, tree-is, trees-is}
 use Rattle.line_tree.proofs.DistinctLaws.{distinct-left, distinct-right}

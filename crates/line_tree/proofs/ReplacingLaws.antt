@@ -8,16 +8,13 @@
 --     within-node              the slots of the line are toggled in the node above it
 --     replaces-node            the node above it
 --     row-here .. went-next    all of it one level up from where the change is counted
-use Rattle.std.proofs.Common.{◌≡◌, ℕ, zero, suc, ◌+◌, ◌-◌, ◌<◌, ◌≤◌, List, [], ◌∷◌, length, map, option_to_list, sym}
-use Rattle.std.proofs.Common.{ap, ◌∙◌, subst, arith}
+use Rattle.line_tree.proofs.Words.{◌≡◌, ℕ, zero, suc, ◌+◌, ◌-◌, ◌<◌, ◌≤◌, List, [], ◌∷◌, length, map, option_to_list}
+use Rattle.line_tree.proofs.Words.{sym, ap, ◌∙◌, subst, arith, plus-commutative, union-associative, union-commutative}
+use Rattle.line_tree.proofs.Words.{union-self, Count, IsWithin, no_text, plus, FitsSum, resummed, sums, LineContent}
+use Rattle.line_tree.proofs.Words.{line_count, Named, total, NodePtr, Records, kids, row, lines_in, sum_at, Finds}
+use Rattle.line_tree.proofs.Words.{HasRow, CanChange, Changes, changed, Found}
 use Rattle.std.specs.FinSet as set
-use Rattle.toggle_sums.specs.CountLaws.{plus-commutative, union-associative, union-commutative, union-self}
-use Rattle.line_tree.proofs.Words.{Count, FitsSum, IsWithin, LineContent, Named, NodePtr, Records, kids, line_count}
-use Rattle.line_tree.proofs.Words.{lines_in, no_text, plus, resummed, row, sum_at, sums, total}
-use Rattle.line_tree.specs.Finds.{Finds, HasRow}
 use Rattle.line_tree.specs.Replacing.{PutsOver}
-use Rattle.line_tree.specs.Taking.{CanChange, Changes, changed}
-use Rattle.line_tree.specs.declared.find.Found.{Found}
 use Rattle.line_tree.proofs.ChangingLaws.{can-child, changes-line, changes-node, lines-changed, node-row, node-sum}
 use Rattle.line_tree.proofs.ChangingLaws.{row-sum, sum-changed, was-parts}
 use Rattle.line_tree.proofs.ClimbingLaws.{Above, Climbs, down, next}

@@ -1,20 +1,13 @@
 -- How many records there are.
-use Rattle.std.proofs.Common.{◌≡◌, ℕ, suc, ◌+◌, List, [], ◌∷◌, length, take, drop, Bool, cond, true, false, inl, inr}
-use Rattle.std.proofs.Common.{◌-◌, ◌<◌, ◌≤◌, ◌++◌, refl, sym, ap, ◌∙◌, subst, arith, IsSome, is_some, option_to_list}
-use Rattle.std.proofs.Common.{Option, None, Some}
+use Rattle.line_tree.proofs.Words.{◌≡◌, ℕ, suc, ◌+◌, List, [], ◌∷◌, length, take, drop, Bool, cond, true, false, inl}
+use Rattle.line_tree.proofs.Words.{inr, ◌-◌, ◌<◌, ◌≤◌, ◌++◌, refl, sym, ap, ◌∙◌, subst, arith, IsSome, is_some}
+use Rattle.line_tree.proofs.Words.{option_to_list, Option, None, Some, empty_of_len, get-empty, len-empty, len-insert}
+use Rattle.line_tree.proofs.Words.{len-remove, same_map, cases_lt, LineContent, NodePtr, Record, Records, blank, update}
+use Rattle.line_tree.proofs.Words.{with_child, with_parent, with_sum, kids, row, name_cmp, get_unmoved, name_antisym}
+use Rattle.line_tree.proofs.Words.{name_total, len-update, remove-named, Among, Distinct, Evens, Puts, link_one}
+use Rattle.line_tree.proofs.Words.{refilled, relinked, resummed, sums, NewLine, NewRoot, Settles}
 use Rattle.std.specs.FinMap as finite
-use Rattle.std.specs.FinMap.{empty_of_len, get-empty, len-empty, len-insert, len-remove, same_map}
-use Rattle.std.proofs.lemmas.Bool.{cases_lt}
 use mathlib.Core.Bool.{false≢true}
-use Rattle.line_tree.proofs.Words.{LineContent, NodePtr, Record, Records, blank, kids, row, update, with_child}
-use Rattle.line_tree.proofs.Words.{with_parent, with_sum}
-use Rattle.raw_nodes.specs.Cells.{name_cmp}
-use Rattle.raw_nodes.proofs.MapLaws.{get_unmoved}
-use Rattle.raw_nodes.proofs.PlaceLaws.{name_antisym, name_total}
-use Rattle.raw_nodes.proofs.UpdateLaws.{len-update, remove-named}
-use Rattle.line_tree.specs.Changes.{Among, Distinct, Evens, Puts, link_one, refilled, relinked, resummed, sums}
-use Rattle.line_tree.specs.Growth.{NewLine, NewRoot}
-use Rattle.line_tree.specs.Shrinking.{Settles}
 
 len-new : (m : Records) (p : NodePtr) (r : Record) → finite.get m p ≡ None →
     finite.len (finite.insert m p r) ≡ finite.len m + 1

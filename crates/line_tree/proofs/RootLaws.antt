@@ -1,23 +1,16 @@
 -- A new line, and a new root.
-use Rattle.std.proofs.Common.{◌≡◌, ℕ, zero, suc, ◌-◌, ◌*◌, ◌^◌, ◌<◌, ◌≤◌, ◌⊎◌, inl, inr, List, [], ◌∷◌, ◌++◌, length}
-use Rattle.std.proofs.Common.{take, drop, refl, sym, ap, ◌∙◌, subst, arith, ◌≢◌, IsSome, chars, slice_index, Option}
-use Rattle.std.proofs.Common.{None, Some}
+use Rattle.line_tree.proofs.Words.{◌≡◌, ℕ, zero, suc, ◌-◌, ◌*◌, ◌^◌, ◌<◌, ◌≤◌, ◌⊎◌, inl, inr, List, [], ◌∷◌, ◌++◌}
+use Rattle.line_tree.proofs.Words.{length, take, drop, refl, sym, ap, ◌∙◌, subst, arith, ◌≢◌, IsSome, chars}
+use Rattle.line_tree.proofs.Words.{slice_index, Option, None, Some, len-empty, AllByRecursion, insert, append-nil}
+use Rattle.line_tree.proofs.Words.{same_Some, plus-no_text, LineContent, line_count, plain_line, NodePtr, Records}
+use Rattle.line_tree.proofs.Words.{blank, with_sum, plus, row, get_inserted, get_other, kept_insert, insert-named}
+use Rattle.line_tree.proofs.Words.{Among, CanFill, Distinct, FitsSum, relinked, sum_all, sums, CanInsert, HasNoParent}
+use Rattle.line_tree.proofs.Words.{Inserts, IsWide, NewLine, NewRoot, Stands, StandsAlone, lines_of, names_of, trees}
+use Rattle.line_tree.proofs.Words.{with_line, Holds, IsTree, line_of, lines_in, sum_at, sum_of, tree_at, IsBalanced}
+use Rattle.line_tree.proofs.Words.{IsBalancedRoot, Tree, inner, least_below_root, lines, names, tops, total}
 use Rattle.std.specs.FinMap as finite
-use Rattle.std.specs.FinMap.{len-empty}
-use Rattle.std.specs.List.{AllByRecursion, insert}
-use Rattle.std.proofs.lemmas.List.{append-nil}
-use Rattle.std.proofs.lemmas.Option.{same_Some}
 use Rattle.std.proofs.lemmas.Str.{chars-IsAscii}
 use mathlib.Core.Bool.{Bool, true, false, false≢true}
-use Rattle.toggle_sums.specs.CountLaws.{plus-no_text}
-use Rattle.line_tree.proofs.Words.{LineContent, NodePtr, Records, blank, line_count, plain_line, plus, row, with_sum}
-use Rattle.raw_nodes.proofs.MapLaws.{get_inserted, get_other, kept_insert}
-use Rattle.raw_nodes.proofs.UpdateLaws.{insert-named}
-use Rattle.line_tree.specs.Changes.{Among, CanFill, Distinct, FitsSum, relinked, sum_all, sums}
-use Rattle.line_tree.specs.Growth.{CanInsert, HasNoParent, Inserts, IsWide, NewLine, NewRoot, Stands, StandsAlone}
-use Rattle.line_tree.specs.Growth.{lines_of, names_of, trees, with_line}
-use Rattle.line_tree.specs.Shape.{Holds, IsTree, line_of, lines_in, sum_at, sum_of, tree_at}
-use Rattle.line_tree.specs.Trees.{IsBalanced, IsBalancedRoot, Tree, inner, least_below_root, lines, names, tops, total}
 use Rattle.line_tree.proofs.AmongLaws.{among-or}
 use Rattle.line_tree.proofs.BuildLaws.{built, sum-trees, tree-is}
 use Rattle.line_tree.proofs.CountLaws.{least-lines-root}

@@ -1,16 +1,10 @@
 -- The children of a record as a list.
-use Rattle.std.proofs.Common.{subst, ◌≡◌, ℕ, zero, suc, ◌+◌, ◌<◌, ◌≤◌, List, [], ◌∷◌, length, get_or, take, drop, refl}
-use Rattle.std.proofs.Common.{sym, ap, ◌∙◌, arith, IfSome, IsSome, slice_get, Option, None, Some}
+use Rattle.line_tree.proofs.Words.{subst, ◌≡◌, ℕ, zero, suc, ◌+◌, ◌<◌, ◌≤◌, List, [], ◌∷◌, length, get_or, take, drop}
+use Rattle.line_tree.proofs.Words.{refl, sym, ap, ◌∙◌, arith, IfSome, IsSome, slice_get, Option, None, Some, sum_by}
+use Rattle.line_tree.proofs.Words.{take_more, take_all, at_drop_more, sum_by_push, none-some, slice_get_within}
+use Rattle.line_tree.proofs.Words.{get_or_from_slice_get, Count, plus, NodePtr, Records, kids, row, lines_at, sum_at}
+use Rattle.line_tree.proofs.Words.{sum_of, sum_or_none, sums, at_some, some_of, get_or-row, length-row, HasRow}
 use Rattle.std.specs.FinMap as finite
-use Rattle.std.specs.List.{sum_by}
-use Rattle.std.proofs.lemmas.List.{take_more, take_all, at_drop_more}
-use Rattle.std.proofs.lemmas.List.Sums.{sum_by_push}
-use Rattle.std.proofs.lemmas.Option.{none-some, slice_get_within, get_or_from_slice_get}
-use Rattle.line_tree.proofs.Words.{Count, NodePtr, Records, kids, lines_at, plus, row, sum_at, sum_of, sum_or_none}
-use Rattle.line_tree.proofs.Words.{sums}
-use Rattle.raw_nodes.proofs.MapLaws.{at_some, some_of}
-use Rattle.raw_nodes.proofs.RowLaws.{get_or-row, length-row}
-use Rattle.line_tree.specs.Finds.{HasRow}
 
 -- ---- what a call answers of a row
 pub child_is : (m : Records) (p : NodePtr) → HasRow m p → (o : Option NodePtr) (i : ℕ) →

@@ -1,13 +1,11 @@
 -- A row of lines in a whole tree.
-use Rattle.std.proofs.Common.{◌≡◌, ℕ, zero, suc, ◌+◌, ◌≤◌, inl, inr, List, [], ◌∷◌, ◌++◌, length, take, drop, refl, sym}
-use Rattle.std.proofs.Common.{ap, ◌∙◌, subst, arith, length-append, length-take, length-drop, IsSome}
+use Rattle.line_tree.proofs.Words.{◌≡◌, ℕ, zero, suc, ◌+◌, ◌≤◌, inl, inr, List, [], ◌∷◌, ◌++◌, length, take, drop, refl}
+use Rattle.line_tree.proofs.Words.{sym, ap, ◌∙◌, subst, arith, length-append, length-take, length-drop, IsSome}
+use Rattle.line_tree.proofs.Words.{AllByRecursion, append-nil, Among, Distinct, FitsSum, Holds, lines_in, tree_at}
+use Rattle.line_tree.proofs.Words.{IsBalancedRoot, Named, Tree, least_below_root, lines, names, total, NodePtr, Records}
+use Rattle.line_tree.proofs.Words.{plus, IsWide, Stands, StandsAlone, lines_of, names_of, Becomes, CanLift, CanTakeRow}
+use Rattle.line_tree.proofs.Words.{Lifts, TakesRow, trees_at, with_lines}
 use Rattle.std.specs.FinMap as finite
-use Rattle.std.specs.List.{AllByRecursion}
-use Rattle.std.proofs.lemmas.List.{append-nil}
-use Rattle.line_tree.proofs.Words.{Among, Distinct, FitsSum, Holds, IsBalancedRoot, Named, NodePtr, Records, Tree}
-use Rattle.line_tree.proofs.Words.{least_below_root, lines, lines_in, names, plus, total, tree_at}
-use Rattle.line_tree.specs.Growth.{IsWide, Stands, StandsAlone, lines_of, names_of}
-use Rattle.line_tree.specs.Raising.{Becomes, CanLift, CanTakeRow, Lifts, TakesRow, trees_at, with_lines}
 use Rattle.line_tree.proofs.AmongLaws.{among-left, among-or, among-right}
 use Rattle.line_tree.proofs.DistinctLaws.{distinct-append}
 use Rattle.line_tree.proofs.FrameLaws.{holds-same, names-held}

@@ -1,11 +1,8 @@
 -- Rows that are put in one before the other.
-use Rattle.std.proofs.Common.{◌≡◌, ℕ, ◌≤◌, List, ◌++◌, length, take, drop, sym, ap}
-use Rattle.std.proofs.Common.{◌∙◌, subst, append_assoc, arith, length-take}
-use Rattle.std.proofs.lemmas.List.{drop-append-le, map-append, take-append-drop, take-append-le}
-use Rattle.line_tree.proofs.Words.{Count, FitsSum, LineContent, Named, contents, plus, total}
-use Rattle.line_lists.specs.Lists.{count_of}
-use Rattle.line_lists.proofs.CountRows.{count-append}
-use Rattle.line_tree.specs.Raising.{with_lines}
+use Rattle.line_tree.proofs.Words.{◌≡◌, ℕ, ◌≤◌, List, ◌++◌, length, take, drop, sym, ap, ◌∙◌, subst, append_assoc}
+use Rattle.line_tree.proofs.Words.{arith, length-take, drop-append-le, map-append, take-append-drop, take-append-le}
+use Rattle.line_tree.proofs.Words.{Count, plus, FitsSum, LineContent, Named, contents, total, count_of, count-append}
+use Rattle.line_tree.proofs.Words.{with_lines}
 use Rattle.line_tree.proofs.NewRowLaws.{drop-length, take-length}
 use Rattle.line_tree.proofs.PrefixLaws.{count-contents}
 use Rattle.line_tree.proofs.RemakeLaws.{total-with_lines}

@@ -1,17 +1,12 @@
 -- Places below a node, and ways down to them.
-use Rattle.std.proofs.Common.{◌≡◌, ℕ, zero, suc, ◌+◌, ◌-◌, ◌*◌, ◌<◌, ◌≤◌, List, [], ◌∷◌, ◌++◌, length, take, drop, map}
-use Rattle.std.proofs.Common.{refl, sym, ap, ◌∙◌, subst, arith, append_assoc, option_map, slice_get, Option, None, Some}
+use Rattle.line_tree.proofs.Words.{◌≡◌, ℕ, zero, suc, ◌+◌, ◌-◌, ◌*◌, ◌<◌, ◌≤◌, List, [], ◌∷◌, ◌++◌, length, take, drop}
+use Rattle.line_tree.proofs.Words.{map, refl, sym, ap, ◌∙◌, subst, arith, append_assoc, slice_get, Option, None, Some}
+use Rattle.line_tree.proofs.Words.{AllByRecursion, flat_map, sum_by, append-nil, take_at, flat_map-append, sum_by-cons}
+use Rattle.line_tree.proofs.Words.{plus-no_text, Count, plus, Holds, IsTree, line_of, lines_in, sum_at, tree_at}
+use Rattle.line_tree.proofs.Words.{LineContent, line_count, Named, lines, total, NodePtr, Records, kids, sum_all}
+use Rattle.line_tree.proofs.Words.{AddsUp, IsLineAt, Arrives}
+use Rattle.std.proofs.Common.{option_map}
 use Rattle.std.specs.FinMap as finite
-use Rattle.std.specs.List.{AllByRecursion, flat_map, sum_by}
-use Rattle.std.proofs.lemmas.List.{append-nil, take_at}
-use Rattle.std.proofs.lemmas.List.Concat.{flat_map-append}
-use Rattle.std.proofs.lemmas.List.Sums.{sum_by-cons}
-use Rattle.toggle_sums.specs.CountLaws.{plus-no_text}
-use Rattle.line_tree.proofs.Words.{Count, Holds, IsTree, LineContent, Named, NodePtr, Records, kids, line_count}
-use Rattle.line_tree.proofs.Words.{line_of, lines, lines_in, plus, sum_all, sum_at, total, tree_at}
-use Rattle.line_tree.specs.Aims.{AddsUp}
-use Rattle.line_tree.specs.Places.{IsLineAt}
-use Rattle.line_tree.specs.Searches.{Arrives}
 use Rattle.line_tree.specs.declared.search.Arrived.{Arrived}
 use Rattle.line_tree.proofs.FillLaws.{sum_all-append}
 use Rattle.line_tree.proofs.GrowLaws.{all-left}

@@ -1,21 +1,14 @@
 -- One more child for a node with room: each from its slot on goes one slot on.
-use Rattle.std.proofs.Common.{◌≡◌, ℕ, zero, suc, ◌+◌, ◌-◌, ◌<◌, ◌≤◌, List, [], ◌∷◌, length, get_or, drop, replicate}
-use Rattle.std.proofs.Common.{false, refl, sym, ap, ◌∙◌, subst, arith, length-set, ◌≢◌, IfSome, IsSome, is_some}
-use Rattle.std.proofs.Common.{slice_get, Option, None, Some}
+use Rattle.line_tree.proofs.Words.{◌≡◌, ℕ, zero, suc, ◌+◌, ◌-◌, ◌<◌, ◌≤◌, List, [], ◌∷◌, length, get_or, drop}
+use Rattle.line_tree.proofs.Words.{replicate, false, refl, sym, ap, ◌∙◌, subst, arith, length-set, ◌≢◌, IfSome, IsSome}
+use Rattle.line_tree.proofs.Words.{is_some, slice_get, Option, None, Some, insert, option_map, at_drop_more}
+use Rattle.line_tree.proofs.Words.{get_or-set_other, length-insert, slice_get-get_or, slice_get_past, slice_get_within}
+use Rattle.line_tree.proofs.Words.{Count, plus, NodePtr, Record, Records, update, with_child, with_parent, kids, row}
+use Rattle.line_tree.proofs.Words.{at_some, some_of, get_or-row, length-row, get-update, get-update-other, Among}
+use Rattle.line_tree.proofs.Words.{CanFill, CanPut, Fills, FitsSum, link_one, relinked, resummed, sum_all, sums, HasRow}
+use Rattle.line_tree.proofs.Words.{sum_at}
 use mathlib.Core.Bool.{false≢true}
 use Rattle.std.specs.FinMap as finite
-use Rattle.std.specs.List.{insert}
-use Rattle.std.specs.Option.{option_map}
-use Rattle.std.proofs.lemmas.List.{at_drop_more, get_or-set_other}
-use Rattle.std.proofs.lemmas.List.Edits.{length-insert}
-use Rattle.std.proofs.lemmas.Option.{slice_get-get_or, slice_get_past, slice_get_within}
-use Rattle.line_tree.proofs.Words.{Count, NodePtr, Record, Records, kids, plus, row, update, with_child, with_parent}
-use Rattle.raw_nodes.proofs.MapLaws.{at_some, some_of}
-use Rattle.raw_nodes.proofs.RowLaws.{get_or-row, length-row}
-use Rattle.raw_nodes.proofs.UpdateLaws.{get-update, get-update-other}
-use Rattle.line_tree.specs.Changes.{Among, CanFill, CanPut, Fills, FitsSum, link_one, relinked, resummed, sum_all, sums}
-use Rattle.line_tree.specs.Finds.{HasRow}
-use Rattle.line_tree.specs.Shape.{sum_at}
 use Rattle.line_tree.proofs.AmongLaws.{get-among}
 use Rattle.line_tree.proofs.FillLaws.{insert-above, relinked-has_row, relinked-sums, sum-relinked}
 use Rattle.line_tree.proofs.KeptLaws.{drop-front, empty-same}

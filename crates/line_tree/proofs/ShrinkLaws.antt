@@ -1,22 +1,19 @@
 -- Trees without one subtree.
-use Rattle.std.proofs.Common.{◌≡◌, ℕ, suc, ◌+◌, ◌-◌, ◌≤◌, inl, inr, List, [], ◌∷◌, ◌++◌, length, take, drop, refl, sym}
-use Rattle.std.proofs.Common.{ap, ◌∙◌, subst, arith, drop-drop, length-drop, length-take, take_all, ◌≢◌, slice_range}
-use Rattle.std.specs.List.{AllByRecursion}
-use Rattle.std.proofs.lemmas.List.{append-nil, drop-append-le, drop_all, drop_at, take-append-le}
-use Rattle.std.proofs.lemmas.List.Concat.{flat_map-append}
-use Rattle.text_model.specs.Splices.{removed}
+use Rattle.line_tree.proofs.Words.{◌≡◌, ℕ, suc, ◌+◌, ◌-◌, ◌≤◌, inl, inr, List, [], ◌∷◌, ◌++◌, length, take, drop, refl}
+use Rattle.line_tree.proofs.Words.{sym, ap, ◌∙◌, subst, arith, length-drop, length-take, ◌≢◌, slice_range}
+use Rattle.line_tree.proofs.Words.{AllByRecursion, append-nil, drop-append-le, drop_all, drop_at, take-append-le}
+use Rattle.line_tree.proofs.Words.{flat_map-append, removed, Among, CanFill, Distinct, refilled, Holds, IsTree}
+use Rattle.line_tree.proofs.Words.{lines_in, tree_at, NodePtr, Records, Tree, lines, names, tops, row, lines_of}
+use Rattle.line_tree.proofs.Words.{names_of, Shrinks, Turns}
+use Rattle.std.proofs.Common.{drop-drop, take_all}
 use Rattle.text_model.proofs.SpliceLaws.{removed-append_left, removed-append_right}
-use Rattle.line_tree.proofs.Words.{Among, CanFill, Distinct, Holds, IsTree, NodePtr, Records, Tree, lines, lines_in}
-use Rattle.line_tree.proofs.Words.{names, refilled, row, tops, tree_at}
-use Rattle.line_tree.specs.Growth.{lines_of, names_of}
-use Rattle.line_tree.specs.Shrinking.{Shrinks, Turns}
 use Rattle.line_tree.proofs.AmongLaws.{among-left, among-right}
 use Rattle.line_tree.proofs.BuildLaws.{built}
 use Rattle.line_tree.proofs.DistinctLaws.{distinct-apart, distinct-replace, distinct-right}
 use Rattle.line_tree.proofs.FillLaws.{refilled-other}
 use Rattle.line_tree.proofs.FrameLaws.{all-same, tops-among}
-use Rattle.line_tree.proofs.GrowLaws.{all-append, all-left, all-right, in-cases, in-left, in-right}
-use Rattle.line_tree.proofs.GrowLaws.{names-append, of-one, to-one}
+use Rattle.line_tree.proofs.GrowLaws.{all-append, all-left, all-right, in-cases, in-left, in-right, names-append}
+use Rattle.line_tree.proofs.GrowLaws.{of-one, to-one}
 
 -- ---- lines out of the middle
 removed-middle : {X : Type 0} (xs cs ys : List X) (r k n : ℕ) → k ≡ length xs + r → r + n ≤ length cs →

@@ -1,22 +1,13 @@
 -- Lines put in one after the other, and taken out.
-use Rattle.std.proofs.Common.{◌≡◌, ℕ, zero, suc, ◌+◌, ◌-◌, ◌^◌, ◌<◌, ◌≤◌, List, [], ◌∷◌, ◌++◌, length, map, take, drop}
-use Rattle.std.proofs.Common.{min, inl, inr, refl, sym, ap, ◌∙◌, subst, arith, append_assoc, length-append, slice_get}
-use Rattle.std.proofs.Common.{Option, Some}
-use Rattle.std.specs.List.{insert, remove}
-use Rattle.std.proofs.lemmas.Bool.{cases_lt}
-use Rattle.std.proofs.Math.Seq.{drop-append-add, take-append_seam}
-use Rattle.std.proofs.lemmas.List.{append-nil, drop-drop, length-drop, length-map, length-take-le, map-append}
-use Rattle.std.proofs.lemmas.List.{take-append-drop, take-append-le, take-take}
-use Rattle.std.proofs.lemmas.List.Edits.{insert-append_left, insert_end, remove-append_right}
-use Rattle.toggle_sums.specs.CountLaws.{no_text-plus}
-use Rattle.line_tree.proofs.Words.{Count, FitsSum, LineContent, Named, NodePtr, line_count, no_text, plus, total}
-use Rattle.line_lists.specs.Lists.{count_of}
-use Rattle.line_lists.proofs.CountRows.{count-append, count-lines}
-use Rattle.std.specs.Option.{option_map}
-use Rattle.line_tree.specs.Places.{IsLineAt}
-use Rattle.line_tree.specs.Room.{PutsRoom}
-use Rattle.line_tree.specs.Taking.{changed}
-use Rattle.line_tree.specs.TreeState.{TreeState}
+use Rattle.line_tree.proofs.Words.{◌≡◌, ℕ, zero, suc, ◌+◌, ◌-◌, ◌^◌, ◌<◌, ◌≤◌, List, [], ◌∷◌, ◌++◌, length, map, take}
+use Rattle.line_tree.proofs.Words.{drop, min, inl, inr, refl, sym, ap, ◌∙◌, subst, arith, append_assoc, length-append}
+use Rattle.line_tree.proofs.Words.{slice_get, Option, Some, insert, remove, cases_lt, drop-append-add, take-append_seam}
+use Rattle.line_tree.proofs.Words.{append-nil, drop-drop, length-map, length-take-le, map-append, take-append-drop}
+use Rattle.line_tree.proofs.Words.{take-append-le, take-take, insert-append_left, insert_end, remove-append_right}
+use Rattle.line_tree.proofs.Words.{no_text-plus, Count, no_text, plus, FitsSum, LineContent, line_count, Named, total}
+use Rattle.line_tree.proofs.Words.{NodePtr, count_of, count-append, count-lines, option_map, IsLineAt, PutsRoom}
+use Rattle.line_tree.proofs.Words.{changed, TreeState}
+use Rattle.std.proofs.lemmas.List.{length-drop}
 use Rattle.line_tree.proofs.ChangingLaws.{changed-at}
 use Rattle.line_tree.proofs.PlaceLaws.{named_line}
 use Rattle.line_tree.proofs.SumLaws.{total-append}

@@ -1,16 +1,12 @@
 -- A node with one more child, with room and without.
-use Rattle.std.proofs.Common.{◌≡◌, ℕ, suc, ◌+◌, ◌≤◌, ◌⊎◌, inl, inr, List, [], ◌∷◌, ◌++◌, length, take, drop, refl, sym}
-use Rattle.std.proofs.Common.{ap, ◌∙◌, subst, arith, ◌≢◌, IsSome, Option, None, Some}
+use Rattle.line_tree.proofs.Words.{◌≡◌, ℕ, suc, ◌+◌, ◌≤◌, ◌⊎◌, inl, inr, List, [], ◌∷◌, ◌++◌, length, take, drop, refl}
+use Rattle.line_tree.proofs.Words.{sym, ap, ◌∙◌, subst, arith, ◌≢◌, IsSome, Option, None, Some, AllByRecursion, insert}
+use Rattle.line_tree.proofs.Words.{append-nil, take-append-drop, take-map, drop-map, flat_map-append, Among, CanFill}
+use Rattle.line_tree.proofs.Words.{CanPut, Distinct, Puts, refilled, resummed, sums, Holds, Links, NodePtr, Records}
+use Rattle.line_tree.proofs.Words.{blank, with_sum, Tree, lines, tops, kids, row, get_other, kept_insert}
+use Rattle.line_tree.proofs.Words.{get-update-other, insert-named, named-update, update-named, HasRow, Grows, lines_of}
+use Rattle.line_tree.proofs.Words.{names_of, parted, trees, with_line}
 use Rattle.std.specs.FinMap as finite
-use Rattle.std.specs.List.{AllByRecursion, insert}
-use Rattle.std.proofs.lemmas.List.{append-nil, take-append-drop, take-map, drop-map}
-use Rattle.std.proofs.lemmas.List.Concat.{flat_map-append}
-use Rattle.line_tree.proofs.Words.{Among, CanFill, CanPut, Distinct, Holds, Links, NodePtr, Puts, Records, Tree, blank}
-use Rattle.line_tree.proofs.Words.{kids, lines, refilled, resummed, row, sums, tops, with_sum}
-use Rattle.raw_nodes.proofs.MapLaws.{get_other, kept_insert}
-use Rattle.raw_nodes.proofs.UpdateLaws.{get-update-other, insert-named, named-update, update-named}
-use Rattle.line_tree.specs.Finds.{HasRow}
-use Rattle.line_tree.specs.Growth.{Grows, lines_of, names_of, parted, trees, with_line}
 use Rattle.line_tree.proofs.AmongLaws.{among-cases, among-left, among-right}
 use Rattle.line_tree.proofs.BuildLaws.{built, sum-trees, tree-is}
 use Rattle.line_tree.proofs.DistinctLaws.{distinct-apart, distinct-append, distinct-left, distinct-right}

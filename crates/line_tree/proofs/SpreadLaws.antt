@@ -1,18 +1,13 @@
 -- Sharing before a line goes in.
-use Rattle.std.proofs.Common.{◌≡◌, ℕ, suc, ◌+◌, ◌-◌, ◌<◌, ◌≤◌, inl, inr, List, [], ◌∷◌, ◌++◌, length, take, drop, map}
-use Rattle.std.proofs.Common.{sym, ap, ◌∙◌, subst, arith, false, is_some, slice_get, true, Bool, Option, None, Some}
+use Rattle.line_tree.proofs.Words.{◌≡◌, ℕ, suc, ◌+◌, ◌-◌, ◌<◌, ◌≤◌, inl, inr, List, [], ◌∷◌, ◌++◌, length, take, drop}
+use Rattle.line_tree.proofs.Words.{map, sym, ap, ◌∙◌, subst, arith, false, is_some, slice_get, true, Bool, Option, None}
+use Rattle.line_tree.proofs.Words.{Some, AllByRecursion, append-nil, length-map, same_Some, slice_get_within, Among}
+use Rattle.line_tree.proofs.Words.{Distinct, FitsSum, Halves, refilled, Holds, IsTree, Links, line_of, lines_in, sum_at}
+use Rattle.line_tree.proofs.Words.{sum_of, tree_at, IsBalanced, Tree, names, tops, total, NodePtr, Records, kids}
+use Rattle.line_tree.proofs.Words.{kids_of, row, plus, CanInsert, Grows, Inserts, IsWide, lines_of, names_of, trees}
+use Rattle.line_tree.proofs.Words.{with_line, Turns, CanSpread, IsPair, Moves, Respreads, first_part, Found}
 use Rattle.std.specs.FinMap as finite
-use Rattle.std.specs.List.{AllByRecursion}
-use Rattle.std.proofs.lemmas.List.{append-nil, length-map}
-use Rattle.std.proofs.lemmas.Option.{same_Some, slice_get_within}
 use mathlib.Core.Bool.{false≢true}
-use Rattle.line_tree.proofs.Words.{Among, Distinct, FitsSum, Halves, Holds, IsBalanced, IsTree, Links, NodePtr, Records}
-use Rattle.line_tree.proofs.Words.{Tree, kids, kids_of, line_of, lines_in, names, plus, refilled, row, sum_at, sum_of}
-use Rattle.line_tree.proofs.Words.{tops, total, tree_at}
-use Rattle.line_tree.specs.Growth.{CanInsert, Grows, Inserts, IsWide, lines_of, names_of, trees, with_line}
-use Rattle.line_tree.specs.Shrinking.{Turns}
-use Rattle.line_tree.specs.Spreading.{CanSpread, IsPair, Moves, Respreads, first_part}
-use Rattle.line_tree.specs.declared.find.Found.{Found}
 use Rattle.line_tree.proofs.AmongLaws.{among-or}
 use Rattle.line_tree.proofs.BuildLaws.{trees-is}
 use Rattle.line_tree.proofs.FrameLaws.{holds-same}

@@ -1,19 +1,14 @@
 -- One level of an insertion.
-use Rattle.std.proofs.Common.{◌≡◌, ℕ, zero, suc, ◌+◌, ◌≤◌, inl, inr, List, [], ◌∷◌, ◌++◌, length, take, drop, map, refl}
-use Rattle.std.proofs.Common.{sym, ap, ◌∙◌, subst, arith, length-take, length-drop, ◌≢◌, IsSome, slice_get, Option}
-use Rattle.std.proofs.Common.{None, Some}
+use Rattle.line_tree.proofs.Words.{◌≡◌, ℕ, zero, suc, ◌+◌, ◌≤◌, inl, inr, List, [], ◌∷◌, ◌++◌, length, take, drop, map}
+use Rattle.line_tree.proofs.Words.{refl, sym, ap, ◌∙◌, subst, arith, length-take, length-drop, ◌≢◌, IsSome, slice_get}
+use Rattle.line_tree.proofs.Words.{Option, None, Some, AllByRecursion, insert, map-append, take-append-drop, none-some}
+use Rattle.line_tree.proofs.Words.{same_Some, plus-associative, plus-commutative, Among, CanFill, CanPut, FitsSum, Puts}
+use Rattle.line_tree.proofs.Words.{refilled, relinked, sum_all, sums, Count, plus, IsBalanced, Named, Tree, lines, tops}
+use Rattle.line_tree.proofs.Words.{total, Links, NodePtr, Record, Records, blank, with_sum, kids, row, get_other}
+use Rattle.line_tree.proofs.Words.{some_of, HasRow, Grows, IsWide, KeepsLink, KeepsWide, lines_of, names_of, parted}
+use Rattle.line_tree.proofs.Words.{with_line}
 use Rattle.std.specs.FinMap as finite
-use Rattle.std.specs.List.{AllByRecursion, insert}
-use Rattle.std.proofs.lemmas.List.{map-append, take-append-drop}
-use Rattle.std.proofs.lemmas.Option.{none-some, same_Some}
 use mathlib.Core.Bool.{false≢true}
-use Rattle.toggle_sums.specs.CountLaws.{plus-associative, plus-commutative}
-use Rattle.line_tree.proofs.Words.{Among, CanFill, CanPut, Count, FitsSum, IsBalanced, Links, Named, NodePtr, Puts}
-use Rattle.line_tree.proofs.Words.{Record, Records, Tree, blank, kids, lines, plus, refilled, relinked, row, sum_all}
-use Rattle.line_tree.proofs.Words.{sums, tops, total, with_sum}
-use Rattle.raw_nodes.proofs.MapLaws.{get_other, some_of}
-use Rattle.line_tree.specs.Finds.{HasRow}
-use Rattle.line_tree.specs.Growth.{Grows, IsWide, KeepsLink, KeepsWide, lines_of, names_of, parted, with_line}
 use Rattle.line_tree.proofs.AmongLaws.{among-right}
 use Rattle.line_tree.proofs.BuildLaws.{sum-trees}
 use Rattle.line_tree.proofs.FillLaws.{at-update, refilled-other, relinked-row}

@@ -4,9 +4,8 @@
 --     fits-none               the sum with nothing more fits too
 --     fits-part               a part and so much more fit where the sum and so much more do
 --     fits-both               two parts can be added where the sum fits
-use Rattle.std.proofs.Common.{◌≡◌, List, [], ◌∷◌, ◌++◌, sym, ap, ◌∙◌, subst, arith}
-use Rattle.toggle_sums.specs.CountLaws.{no_text-plus, plus-associative, plus-no_text}
-use Rattle.line_tree.proofs.Words.{Count, CountsFit, FitsSum, Named, line_count, no_text, plus, total}
+use Rattle.line_tree.proofs.Words.{◌≡◌, List, [], ◌∷◌, ◌++◌, sym, ap, ◌∙◌, subst, arith, no_text-plus, plus-associative}
+use Rattle.line_tree.proofs.Words.{plus-no_text, Count, CountsFit, no_text, plus, FitsSum, Named, total, line_count}
 
 pub total-append : (xs ys : List Named) → total (xs ++ ys) ≡ plus (total xs) (total ys)
 total-append [] ys = sym (no_text-plus (total ys))

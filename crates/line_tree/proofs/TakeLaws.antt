@@ -1,20 +1,12 @@
 -- The mark of a number is taken off its line.
-use Rattle.std.proofs.Common.{◌≡◌, ℕ, suc, ◌<◌, Bool, true, false, cond, List, [], ◌∷◌, ◌++◌, length, map, take, drop}
-use Rattle.std.proofs.Common.{set, refl, sym, ap, ap₂, ◌∙◌, subst, is_some, slice_get, Option, None, Some}
-use Rattle.std.specs.Cmp.{nat_cmp_total}
+use Rattle.line_tree.proofs.Words.{◌≡◌, ℕ, suc, ◌<◌, Bool, true, false, cond, List, [], ◌∷◌, ◌++◌, length, map, take}
+use Rattle.line_tree.proofs.Words.{drop, set, refl, sym, ap, ap₂, ◌∙◌, subst, is_some, slice_get, Option, None, Some}
+use Rattle.line_tree.proofs.Words.{nat_cmp_total, eq_by_cmp, nat_cmp, map-append, LineContent, Named, contents, NodePtr}
+use Rattle.line_tree.proofs.Words.{tied_same, without_mark, AreLines, has_mark, drop_after, same-line}
+use Rattle.line_tree.proofs.Words.{lines-are-without, IsTable, holder, noted, changed}
 use Rattle.std.specs.FinMap as finite
-use Rattle.std.specs.Ordering.{eq_by_cmp, nat_cmp}
-use Rattle.std.proofs.lemmas.List.{append_assoc, map-append}
+use Rattle.std.proofs.lemmas.List.{append_assoc}
 use mathlib.Core.Bool.{false≢true}
-use Rattle.line_tree.proofs.Words.{LineContent, Named, NodePtr, contents}
-use Rattle.segments.proofs.MarkLaws.{tied_same}
-use Rattle.line_lists.specs.Edits.{without_mark}
-use Rattle.line_lists.specs.Lists.{AreLines, has_mark}
-use Rattle.line_lists.proofs.FindLaws.{drop_after}
-use Rattle.line_lists.proofs.FreedLaws.{same-line}
-use Rattle.line_lists.proofs.VecLaws.{lines-are-without}
-use Rattle.line_tree.specs.MarkTable.{IsTable, holder, noted}
-use Rattle.line_tree.specs.Taking.{changed}
 use Rattle.line_tree.proofs.HolderLaws.{alone, first, holder-append, not-first, whole-list}
 use Rattle.line_tree.proofs.ListedLaws.{HeldAt}
 use Rattle.line_tree.proofs.TableLaws.{noted-set, noted-within}

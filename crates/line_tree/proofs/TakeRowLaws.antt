@@ -1,16 +1,11 @@
 -- A row of lines below a node, from the row below its child.
-use Rattle.std.proofs.Common.{◌≡◌, ℕ, suc, ◌+◌, ◌*◌, ◌<◌, ◌≤◌, List, [], ◌∷◌, ◌++◌, length, take, drop}
-use Rattle.std.proofs.Common.{sym, ap, ◌∙◌, subst, arith, length-take}
+use Rattle.line_tree.proofs.Words.{◌≡◌, ℕ, suc, ◌+◌, ◌*◌, ◌<◌, ◌≤◌, List, [], ◌∷◌, ◌++◌, length, take, drop, sym, ap}
+use Rattle.line_tree.proofs.Words.{◌∙◌, subst, arith, length-take, AllByRecursion, append-nil, length-map}
+use Rattle.line_tree.proofs.Words.{take-append-drop, take-map, flat_map-append, Among, Distinct, FitsSum, Count, plus}
+use Rattle.line_tree.proofs.Words.{Holds, IsTree, lines_in, tree_at, IsBalanced, Tree, lines, names, total, NodePtr}
+use Rattle.line_tree.proofs.Words.{Records, kids, kids_of, row, HasRow, Leads, lines_below, lines_of, names_of, Becomes}
+use Rattle.line_tree.proofs.Words.{CanRaise, CanTakeRow, HasSlots, Raises, TakesRow, trees_at, with_lines, Found}
 use Rattle.std.specs.FinMap as finite
-use Rattle.std.specs.List.{AllByRecursion}
-use Rattle.std.proofs.lemmas.List.{append-nil, length-map, take-append-drop, take-map}
-use Rattle.std.proofs.lemmas.List.Concat.{flat_map-append}
-use Rattle.line_tree.proofs.Words.{Among, Count, Distinct, FitsSum, Holds, IsBalanced, IsTree, NodePtr, Records, Tree}
-use Rattle.line_tree.proofs.Words.{kids, kids_of, lines, lines_in, names, plus, row, total, tree_at}
-use Rattle.line_tree.specs.Finds.{HasRow, Leads, lines_below}
-use Rattle.line_tree.specs.Growth.{lines_of, names_of}
-use Rattle.line_tree.specs.Raising.{Becomes, CanRaise, CanTakeRow, HasSlots, Raises, TakesRow, trees_at, with_lines}
-use Rattle.line_tree.specs.declared.find.Found.{Found}
 use Rattle.line_tree.proofs.AmongLaws.{among-left, among-right}
 use Rattle.line_tree.proofs.BecomeLaws.{stays}
 use Rattle.line_tree.proofs.DistinctLaws.{distinct-append, distinct-apart, distinct-left, distinct-right}

@@ -1,20 +1,12 @@
 -- A mark that is taken off a line, and its node's sum.
-use Rattle.std.proofs.Common.{◌≡◌, ℕ, zero, suc, ◌+◌, ◌-◌, ◌<◌, ◌≤◌, Bool, cond, length, refl, sym, ap, ◌∙◌, subst}
-use Rattle.std.proofs.Common.{arith, IfSome, is_some, option_to_list, Option, None, Some}
-use Rattle.std.specs.Cmp.{nat_cmp_total}
+use Rattle.line_tree.proofs.Words.{◌≡◌, ℕ, zero, suc, ◌+◌, ◌-◌, ◌<◌, ◌≤◌, Bool, cond, length, refl, sym, ap, ◌∙◌, subst}
+use Rattle.line_tree.proofs.Words.{arith, IfSome, is_some, option_to_list, Option, None, Some, nat_cmp_total, nat_cmp}
+use Rattle.line_tree.proofs.Words.{none-some, Marks, Place, differing-empty, plus-no_text, union-empty, Count}
+use Rattle.line_tree.proofs.Words.{HasCounts, counting, less, no_text, plus, LineContent, line_count, NodePtr, Records}
+use Rattle.line_tree.proofs.Words.{update, with_sum, lines_in, sum_at, sum_of, total, without_mark, Finds, HasRow}
+use Rattle.line_tree.proofs.Words.{CanChange, Changes, TakesOff, marked, Found}
 use Rattle.std.specs.FinMap as finite
-use Rattle.std.specs.Ordering.{nat_cmp}
-use Rattle.std.proofs.lemmas.Option.{none-some}
 use mir.Val.{bool_byte}
-use Rattle.text_model.specs.Content.{Marks}
-use Rattle.text_model.specs.declared.places.Place.{Place}
-use Rattle.toggle_sums.specs.CountLaws.{differing-empty, plus-no_text, union-empty}
-use Rattle.line_tree.proofs.Words.{Count, HasCounts, LineContent, NodePtr, Records, counting, less, line_count}
-use Rattle.line_tree.proofs.Words.{lines_in, no_text, plus, sum_at, sum_of, total, update, with_sum}
-use Rattle.line_lists.specs.Edits.{without_mark}
-use Rattle.line_tree.specs.Finds.{Finds, HasRow}
-use Rattle.line_tree.specs.Taking.{CanChange, Changes, TakesOff, marked}
-use Rattle.line_tree.specs.declared.find.Found.{Found}
 use Rattle.line_tree.proofs.ChangingLaws.{can-child, changes-line, changes-node, node-row, node-sum, sum-changed}
 use Rattle.line_tree.proofs.ClimbingLaws.{Above, Climbs, down, next}
 use Rattle.line_tree.proofs.KeptLaws.{update-as}

@@ -1,15 +1,11 @@
 -- What holds of a tree that stands in records.
-use Rattle.std.proofs.Common.{◌≡◌, ℕ, zero, suc, ◌+◌, ◌-◌, ◌<◌, ◌≤◌, List, [], ◌∷◌, ◌++◌, length, take, map, refl, sym}
-use Rattle.std.proofs.Common.{ap, ◌∙◌, subst, arith, length-append, IsSome, slice_get, Option, None, Some}
+use Rattle.line_tree.proofs.Words.{◌≡◌, ℕ, zero, suc, ◌+◌, ◌-◌, ◌<◌, ◌≤◌, List, [], ◌∷◌, ◌++◌, length, take, map, refl}
+use Rattle.line_tree.proofs.Words.{sym, ap, ◌∙◌, subst, arith, length-append, IsSome, slice_get, Option, None, Some}
+use Rattle.line_tree.proofs.Words.{AllByRecursion, flat_map, sum_by, option_map, sum_by-cons, none-some, same_Some}
+use Rattle.line_tree.proofs.Words.{Holds, IsTree, line_of, lines_at, lines_in, sum_at, sum_of, tree_at, LineContent}
+use Rattle.line_tree.proofs.Words.{Named, Tree, lines, tops, total, NodePtr, Records, kids, row, Finds, HasRow}
+use Rattle.line_tree.proofs.Words.{lines_below, Found}
 use Rattle.std.specs.FinMap as finite
-use Rattle.std.specs.List.{AllByRecursion, flat_map, sum_by}
-use Rattle.std.specs.Option.{option_map}
-use Rattle.std.proofs.lemmas.List.Sums.{sum_by-cons}
-use Rattle.std.proofs.lemmas.Option.{none-some, same_Some}
-use Rattle.line_tree.proofs.Words.{Holds, IsTree, LineContent, Named, NodePtr, Records, Tree, kids, line_of, lines}
-use Rattle.line_tree.proofs.Words.{lines_at, lines_in, row, sum_at, sum_of, tops, total, tree_at}
-use Rattle.line_tree.specs.Finds.{Finds, HasRow, lines_below}
-use Rattle.line_tree.specs.declared.find.Found.{Found}
 
 -- ---- lists
 pub get-left : {X : Type 0} (xs ys : List X) (i : ℕ) → i < length xs → slice_get (xs ++ ys) i ≡ slice_get xs i

@@ -1,15 +1,10 @@
 -- What new children of a node leave of the names, and of what is no line.
-use Rattle.std.proofs.Common.{◌≡◌, ℕ, suc, inl, inr, List, [], ◌∷◌, refl, sym, ap, ◌∙◌, subst, IfSome, IsSome, Option}
-use Rattle.std.proofs.Common.{None, Some}
+use Rattle.line_tree.proofs.Words.{◌≡◌, ℕ, suc, inl, inr, List, [], ◌∷◌, refl, sym, ap, ◌∙◌, subst, IfSome, IsSome}
+use Rattle.line_tree.proofs.Words.{Option, None, Some, option_map, LineContent, NodePtr, Record, Records, update}
+use Rattle.line_tree.proofs.Words.{with_child, with_parent, with_sum, rooms_for, at_some, some_of, same_or_other}
+use Rattle.line_tree.proofs.Words.{get-update, get-update-other, named-update, update-named, CanFill, link_one}
+use Rattle.line_tree.proofs.Words.{refilled, relinked, sums, HasRow}
 use Rattle.std.specs.FinMap as finite
-use Rattle.std.specs.Option.{option_map}
-use Rattle.line_tree.proofs.Words.{LineContent, NodePtr, Record, Records, update, with_child, with_parent, with_sum}
-use Rattle.raw_nodes.specs.Chain.{rooms_for}
-use Rattle.raw_nodes.proofs.MapLaws.{at_some, some_of}
-use Rattle.raw_nodes.proofs.PlaceLaws.{same_or_other}
-use Rattle.raw_nodes.proofs.UpdateLaws.{get-update, get-update-other, named-update, update-named}
-use Rattle.line_tree.specs.Changes.{CanFill, link_one, refilled, relinked, sums}
-use Rattle.line_tree.specs.Finds.{HasRow}
 
 -- ---- each name stays
 pub named-link_one : (m : Records) (p : NodePtr) (i : ℕ) (o : Option NodePtr) (q : NodePtr) → IsSome (finite.get m q) →

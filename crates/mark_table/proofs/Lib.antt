@@ -3,3 +3,4 @@ pub mod OneOffset
 pub mod OrderLaws
 pub mod SharedWalk
 pub mod StoreLaws
+pub mod Words

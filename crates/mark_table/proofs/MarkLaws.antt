@@ -1,28 +1,20 @@
 -- Marks as a list of names with numbers, and a gravity for each number.
-use Rattle.std.proofs.Common.{◌≡◌, ◌≢◌, ℕ, zero, suc, ◌+◌, ◌-◌, ◌<◌, ◌≤◌, Bool, true, false, Option, None}
-use Rattle.std.proofs.Common.{if◌then◌else◌, Some}
-use Rattle.std.proofs.Common.{List, [], ◌∷◌, ◌++◌, length, map, slice_get, slice_set, Contains, refl, sym, ap, ap₂, ◌∙◌}
-use Rattle.std.proofs.Common.{subst, inl, inr, take, arith, eq-eqb, ne_eqb, length-append, length-set}
-use Rattle.std.specs.Prelude.{position, find, remove, bytes_eq, unwrap_or}
-use Rattle.std.specs.Option.{MatchOption, SomeIff, option_map}
-use Rattle.std.proofs.lemmas.Bool.{cases_eq}
-use Rattle.std.proofs.lemmas.List.{length-map, map_push}
-use Rattle.std.proofs.lemmas.Option.{none-some, same_Some, slice_get-map}
+use Rattle.mark_table.proofs.Words.{◌≡◌, ◌≢◌, ℕ, zero, suc, ◌+◌, ◌-◌, ◌<◌, ◌≤◌, Bool, true, false, Option, None}
+use Rattle.mark_table.proofs.Words.{if◌then◌else◌, Some, List, [], ◌∷◌, ◌++◌, length, map, slice_get, slice_set}
+use Rattle.mark_table.proofs.Words.{Contains, refl, sym, ap, ap₂, ◌∙◌, subst, inl, inr, take, arith, eq-eqb, ne_eqb}
+use Rattle.mark_table.proofs.Words.{length-append, length-set, position, find, remove, bytes_eq, unwrap_or, MatchOption}
+use Rattle.mark_table.proofs.Words.{SomeIff, option_map, cases_eq, length-map, map_push, none-some, same_Some}
+use Rattle.mark_table.proofs.Words.{slice_get-map, without, Named, Names, AreNames, place_of, Stands}
+use Rattle.mark_table.proofs.Words.{stands_from_Contains, Contains-from_stands, stands_map, stood_at, map-same, map-map}
+use Rattle.mark_table.proofs.Words.{get_set, get_set_other, get_push_cases, get_remove, before_removal, Gravity, Right}
+use Rattle.mark_table.proofs.Words.{AreKept, gravity_at, mark, marks_kept, with_gravity_for, Mark, SharedMarks}
+use Rattle.mark_table.proofs.Words.{AreMarks, IsLeastFree, first_number, gravity_of, is_named, names_of, number_of}
+use Rattle.mark_table.proofs.Words.{numbers_of, turned}
 use Rattle.std.proofs.lemmas.Slice.Eq.{bytes_eq-Decides}
-use Rattle.name_list.specs.Moves.{without}
 use Rattle.name_list.specs.Names as list
-use Rattle.name_list.specs.Names.{Named, Names, AreNames, place_of}
-use Rattle.name_list.proofs.ListLaws.{Stands, stands_from_Contains, Contains-from_stands, stands_map, stood_at}
-use Rattle.name_list.proofs.ListLaws.{map-same, map-map, get_set, get_set_other, get_push_cases}
-use Rattle.name_list.proofs.ListLaws.{get_remove, before_removal}
 use Rattle.name_list.proofs.MoveLaws.{position-map, position-passes, first_is, found_at, not_found, none_found}
 use Rattle.name_list.proofs.MoveLaws.{without-push, without-remove, without_none}
 use Rattle.name_list.proofs.ViewLaws.{map-remove}
-use Rattle.text_model.specs.declared.places.Gravity.{Gravity}
-use Rattle.text_model.specs.declared.places.Gravity.TheVariants.{Right}
-use Rattle.mark_table.specs.Kept.{AreKept, gravity_at, mark, marks_kept, with_gravity_for}
-use Rattle.mark_table.specs.SharedMarks.{Mark, SharedMarks, AreMarks, IsLeastFree, first_number, gravity_of, is_named}
-use Rattle.mark_table.specs.SharedMarks.{names_of, number_of, numbers_of, turned}
 
 -- what is seen of the list
 pub place_seen : (gravities : List Gravity) (name : List ℕ) (es : List Named) →

@@ -1,12 +1,9 @@
 -- The first and the last of the shared marks at one offset, mark by mark.
-use Rattle.std.proofs.Common.{◌≡◌, ℕ, ◌+◌, ◌-◌, ◌<◌, ◌≤◌, max, min, nat_lt, Option, None, Some, List, length, slice_get}
-use Rattle.std.proofs.Common.{sym, ap, ◌∙◌, subst, inl, inr, arith, lt-ltb, le-ltb}
+use Rattle.mark_table.proofs.Words.{◌≡◌, ℕ, ◌+◌, ◌-◌, ◌<◌, ◌≤◌, max, min, nat_lt, Option, None, Some, List, length}
+use Rattle.mark_table.proofs.Words.{slice_get, sym, ap, ◌∙◌, subst, inl, inr, arith, lt-ltb, le-ltb, MatchOption}
+use Rattle.mark_table.proofs.Words.{SomeIff, cases_lt, cases_eq, none-some, same_Some, slice_get-get_or}
+use Rattle.mark_table.proofs.Words.{slice_get_within, MarkNo, IsAt, IsFirstAt, IsLastAt}
 use Rattle.std.specs.Bool.{then_some}
-use Rattle.std.specs.Option.{MatchOption, SomeIff}
-use Rattle.std.proofs.lemmas.Bool.{cases_lt, cases_eq}
-use Rattle.std.proofs.lemmas.Option.{none-some, same_Some, slice_get-get_or, slice_get_within}
-use Rattle.text_model.specs.declared.places.MarkNo.{MarkNo}
-use Rattle.mark_table.specs.Walk.{IsAt, IsFirstAt, IsLastAt}
 
 -- a place that is found so far, if it is one, and that it is the least
 abbrev pub Found : List MarkNo → List ℕ → ℕ → ℕ → ℕ → Type 0

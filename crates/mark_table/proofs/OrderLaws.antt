@@ -1,25 +1,16 @@
 -- The first and the last of marks, by their order, and the marks of a widget by their ranks.
-use Rattle.std.proofs.Common.{◌≡◌, ◌≢◌, ℕ, zero, suc, ◌+◌, ◌*◌, Bool, true, false, cond, not, nat_lt, nat_le, ◌==◌}
-use Rattle.std.proofs.Common.{if◌then◌else◌, Option, None, Some, List, [], ◌∷◌, ◌++◌, slice_get, refl, sym, ap, ap₂}
-use Rattle.std.proofs.Common.{◌∙◌, subst, inl, inr, arith, true≢false, eq-eqb}
-use Rattle.std.specs.Prelude.{find}
+use Rattle.mark_table.proofs.Words.{◌≡◌, ◌≢◌, ℕ, zero, suc, ◌+◌, ◌*◌, Bool, true, false, cond, not, nat_lt, nat_le}
+use Rattle.mark_table.proofs.Words.{◌==◌, if◌then◌else◌, Option, None, Some, List, [], ◌∷◌, ◌++◌, slice_get, refl, sym}
+use Rattle.mark_table.proofs.Words.{ap, ap₂, ◌∙◌, subst, inl, inr, arith, true≢false, eq-eqb, find, filter, reduce}
+use Rattle.mark_table.proofs.Words.{fold, MatchOption, option_map_or, option_and_then, option_to_list, nat_tests}
+use Rattle.mark_table.proofs.Words.{none-some, same_Some, Place, Marks, Stands, MarkView, Shown, earlier, first, last}
+use Rattle.mark_table.proofs.Words.{own_mark, shared_mark, shared_marks, usable, shown_mark, next_shown, previous_shown}
+use Rattle.mark_table.proofs.Words.{IsFirst, IsLast, first_of, last_of, shared_at}
 use Rattle.std.specs.FinMap as finite
-use Rattle.std.specs.List.{filter, reduce, fold}
-use Rattle.std.specs.Option.{MatchOption, option_map_or, option_and_then, option_to_list}
-use Rattle.std.proofs.lemmas.Bool.Decides.{nat_tests}
 use Rattle.std.proofs.lemmas.List.Elements.{filter_agree}
-use Rattle.std.proofs.lemmas.Option.{none-some, same_Some}
-use Rattle.text_model.specs.declared.places.Place.{Place}
-use Rattle.text_model.specs.Content.{Marks}
-use Rattle.name_list.proofs.ListLaws.{Stands}
-use Rattle.mark_table.specs.declared.order.MarkView.{MarkView}
 use Rattle.mark_table.specs.declared.order.Origin.TheVariants.{Mark, Place as Offset}
-use Rattle.mark_table.specs.declared.order.Shown.{Shown}
 use Rattle.mark_table.specs.declared.order.WidgetMark.{WidgetMark}
 use Rattle.mark_table.specs.declared.order.WidgetMark.TheVariants.{Insert, Current, Shared}
-use Rattle.mark_table.specs.Order.{earlier, first, last, own_mark, shared_mark, shared_marks, usable, shown_mark}
-use Rattle.mark_table.specs.Order.{next_shown, previous_shown}
-use Rattle.mark_table.specs.Walk.{IsFirst, IsLast, first_of, last_of, shared_at}
 use Rattle.mark_table.proofs.SharedWalk.{stands_left, stands_right, stands_either, shared-out, shared-in, one-out}
 use Rattle.mark_table.proofs.SharedWalk.{one_shared}
 use Rattle.mark_table.proofs.StoreLaws.{was_kept, kept_entry}

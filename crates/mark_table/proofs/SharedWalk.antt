@@ -1,20 +1,12 @@
 -- The shared marks in their order, from offset to offset.
-use Rattle.std.proofs.Common.{◌≡◌, ◌≢◌, ℕ, zero, suc, ◌+◌, ◌-◌, ◌<◌, ◌≤◌, ◌⊎◌, min, max, Bool, true, false, ◌&&◌}
-use Rattle.std.proofs.Common.{nat_lt, nat_le, if◌then◌else◌, Option, None, Some, List, [], ◌∷◌, ◌++◌, length, slice_get}
-use Rattle.std.proofs.Common.{refl, sym, ap, ◌∙◌, subst, inl, inr, arith}
+use Rattle.mark_table.proofs.Words.{◌≡◌, ◌≢◌, ℕ, zero, suc, ◌+◌, ◌-◌, ◌<◌, ◌≤◌, ◌⊎◌, min, max, Bool, true, false, ◌&&◌}
+use Rattle.mark_table.proofs.Words.{nat_lt, nat_le, if◌then◌else◌, Option, None, Some, List, [], ◌∷◌, ◌++◌, length}
+use Rattle.mark_table.proofs.Words.{slice_get, refl, sym, ap, ◌∙◌, subst, inl, inr, arith, cases_eq, nat_tests}
+use Rattle.mark_table.proofs.Words.{none-some, same_Some, slice_get_within, Place, Marks, marks_at, next_mark}
+use Rattle.mark_table.proofs.Words.{previous_mark, Stands, MarkView, Shown, earlier, shared_mark, shared_marks, IsAt}
+use Rattle.mark_table.proofs.Words.{IsFirstAt, IsLastAt, IsFirst, IsLast}
 use Rattle.std.specs.FinMap as finite
-use Rattle.std.proofs.lemmas.Bool.{cases_eq}
-use Rattle.std.proofs.lemmas.Bool.Decides.{nat_tests}
-use Rattle.std.proofs.lemmas.Option.{none-some, same_Some, slice_get_within}
-use Rattle.text_model.specs.declared.places.Place.{Place}
-use Rattle.text_model.specs.Content.{Marks}
-use Rattle.text_model.specs.MarkOrder.{marks_at, next_mark, previous_mark}
 use Rattle.text_model.proofs.MarkOrderLaws.{next_mark-least, previous_mark-greatest}
-use Rattle.name_list.proofs.ListLaws.{Stands}
-use Rattle.mark_table.specs.declared.order.MarkView.{MarkView}
-use Rattle.mark_table.specs.declared.order.Shown.{Shown}
-use Rattle.mark_table.specs.Order.{earlier, shared_mark, shared_marks}
-use Rattle.mark_table.specs.Walk.{IsAt, IsFirstAt, IsLastAt, IsFirst, IsLast}
 use Rattle.mark_table.proofs.StoreLaws.{place_of_mark_at, mark_told_at}
 
 -- what stands in two lists together

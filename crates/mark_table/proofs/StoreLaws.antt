@@ -1,20 +1,13 @@
 -- Which marks a store tells of at a place, and near it.
-use Rattle.std.proofs.Common.{◌≡◌, ℕ, zero, suc, ◌+◌, ◌<◌, ◌≤◌, Bool, true, false, cond, ◌&&◌, ◌==◌, Some, List, []}
-use Rattle.std.proofs.Common.{◌∷◌, slice_get, Ordering, T, refl, sym, ap, ◌∙◌, arith, eq-eqb}
+use Rattle.mark_table.proofs.Words.{◌≡◌, ℕ, zero, suc, ◌+◌, ◌<◌, ◌≤◌, Bool, true, false, cond, ◌&&◌, ◌==◌, Some, List}
+use Rattle.mark_table.proofs.Words.{[], ◌∷◌, slice_get, Ordering, T, refl, sym, ap, ◌∙◌, arith, eq-eqb, filter}
+use Rattle.mark_table.proofs.Words.{nat_tests, none-some, same_Some, Stands, stands_map, stood_at, MarkNo, Place, Marks}
+use Rattle.mark_table.proofs.Words.{marks_at, IsAt}
 use Rattle.std.specs.declared.cmp.Ordering.TheVariants.{Less, Equal, Greater}
 use Rattle.std.specs.FinMap as finite
 use Rattle.std.specs.FinMap.Entries.{is_sorted, below_all, find}
-use Rattle.std.specs.List.{filter}
 use Rattle.std.specs.Ordering.{nat_cmp, is_lt, eq_by_cmp}
 use Rattle.std.specs.Cmp.{unsigned_tied, ranked}
-use Rattle.std.proofs.lemmas.Bool.Decides.{nat_tests}
-use Rattle.std.proofs.lemmas.Option.{none-some, same_Some}
-use Rattle.name_list.proofs.ListLaws.{Stands, stands_map, stood_at}
-use Rattle.text_model.specs.declared.places.MarkNo.{MarkNo}
-use Rattle.text_model.specs.declared.places.Place.{Place}
-use Rattle.text_model.specs.Content.{Marks}
-use Rattle.text_model.specs.MarkOrder.{marks_at}
-use Rattle.mark_table.specs.Walk.{IsAt}
 
 -- keys that rise from a number on
 Rises : ℕ → List (ℕ × Place) → Type 0

@@ -1,15 +1,9 @@
 -- Elements by their places: after a push, a write, a removal, an insertion and a move.
-use Rattle.std.proofs.Common.{◌≡◌, ℕ, zero, suc, ◌+◌, ◌-◌, ◌<◌, ◌≤◌, ◌≢◌, ◌⊎◌, nat_lt, if◌then◌else◌, Some, List, []}
-use Rattle.std.proofs.Common.{◌∷◌, ◌++◌, length, map, slice_get, slice_set, Contains, refl, sym, ap, ◌∙◌, inl, inr}
-use Rattle.std.proofs.Common.{arith, lt-ltb, le-ltb}
-use Rattle.std.specs.Prelude.{insert, remove}
-use Rattle.std.specs.Option.{option_map}
-use Rattle.std.proofs.lemmas.Bool.{cases_lt, cases_eq}
-use Rattle.std.proofs.lemmas.Bool.Decides.{nat_tests}
-use Rattle.std.proofs.lemmas.Option.{none-some, same_Some, slice_get-map, slice_get-get_or, slice_get_within}
-use Rattle.std.proofs.lemmas.Option.{get_or_from_slice_get}
-use Rattle.std.proofs.lemmas.List.Edits.{length-remove}
-use Rattle.name_list.specs.Names.{AreApart}
+use Rattle.name_list.proofs.Words.{◌≡◌, ℕ, zero, suc, ◌+◌, ◌-◌, ◌<◌, ◌≤◌, ◌≢◌, ◌⊎◌, nat_lt, if◌then◌else◌, Some, List}
+use Rattle.name_list.proofs.Words.{[], ◌∷◌, ◌++◌, length, map, slice_get, slice_set, Contains, refl, sym, ap, ◌∙◌, inl}
+use Rattle.name_list.proofs.Words.{inr, arith, lt-ltb, le-ltb, insert, remove, option_map, cases_lt, cases_eq}
+use Rattle.name_list.proofs.Words.{nat_tests, none-some, same_Some, slice_get-map, slice_get-get_or, slice_get_within}
+use Rattle.name_list.proofs.Words.{get_or_from_slice_get, length-remove, AreApart}
 
 -- it stands somewhere in the list
 abbrev pub Stands : {A : Type 0} → List A → A → Type 0

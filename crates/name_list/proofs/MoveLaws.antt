@@ -1,16 +1,10 @@
 -- First elements that pass a test, and moves by their places.
-use Rattle.std.proofs.Common.{◌≡◌, ◌≢◌, ℕ, zero, suc, ◌+◌, ◌-◌, ◌<◌, ◌⊎◌, Bool, true, false, cond, not, nat_lt}
-use Rattle.std.proofs.Common.{if◌then◌else◌, Option, None, Some, List, [], ◌∷◌, ◌++◌, length, map, slice_get, refl, sym}
-use Rattle.std.proofs.Common.{ap, ◌∙◌, inl, inr, arith, lt-ltb, le-ltb}
-use Rattle.std.specs.Prelude.{position, find, insert, remove}
-use Rattle.std.specs.List.{position_or_len}
-use Rattle.std.specs.Option.{option_map, option_and_then, option_map_or}
-use Rattle.std.proofs.lemmas.Bool.{cases_lt}
-use Rattle.std.proofs.lemmas.Bool.Decides.{nat_tests}
-use Rattle.std.proofs.lemmas.List.Edits.{insert_end, length-remove}
-use Rattle.std.proofs.lemmas.Option.{none-some, same_Some, slice_get_within}
-use Rattle.name_list.specs.Moves.{move_index}
-use Rattle.name_list.specs.Moves.{without, put_behind, put_before}
+use Rattle.name_list.proofs.Words.{◌≡◌, ◌≢◌, ℕ, zero, suc, ◌+◌, ◌-◌, ◌<◌, ◌⊎◌, Bool, true, false, cond, not, nat_lt}
+use Rattle.name_list.proofs.Words.{if◌then◌else◌, Option, None, Some, List, [], ◌∷◌, ◌++◌, length, map, slice_get, refl}
+use Rattle.name_list.proofs.Words.{sym, ap, ◌∙◌, inl, inr, arith, lt-ltb, le-ltb, position, find, insert, remove}
+use Rattle.name_list.proofs.Words.{position_or_len, option_map, option_and_then, option_map_or, cases_lt, nat_tests}
+use Rattle.name_list.proofs.Words.{insert_end, length-remove, none-some, same_Some, slice_get_within, move_index}
+use Rattle.name_list.proofs.Words.{without, put_behind, put_before}
 
 one_more : (n len : ℕ) → cond (nat_lt (1 + n) (suc len)) (Some (1 + n)) None
     ≡ option_map (λ i. suc i) (cond (nat_lt n len) (Some n) None)

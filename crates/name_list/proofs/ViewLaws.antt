@@ -1,24 +1,19 @@
 -- What is seen of a map of names: its names as characters, its numbers and its places.
-use Rattle.std.proofs.Common.{◌≡◌, ℕ, zero, suc, ◌+◌, ◌<◌, true, cond, not, nat_lt, Option, None, Some, List, [], ◌∷◌}
-use Rattle.std.proofs.Common.{◌++◌, length, map, take, drop, get_or, slice_get, refl, sym, subst, ap, ap₂, ◌∙◌, arith}
-use Rattle.std.proofs.Common.{true≢false}
-use Rattle.std.specs.Prelude.{chars, string_bytes, String, bytes_eq, IsUtf8, encode_utf8_all, position, insert, remove}
-use Rattle.std.specs.List.{position_or_len, IsDistinct}
-use Rattle.std.specs.Map.{keys_of, values_of, lookup}
-use Rattle.std.specs.Option.{option_map, option_map_or}
+use Rattle.name_list.proofs.Words.{◌≡◌, ℕ, zero, suc, ◌+◌, ◌<◌, true, cond, not, nat_lt, Option, None, Some, List, []}
+use Rattle.name_list.proofs.Words.{◌∷◌, ◌++◌, length, map, take, drop, get_or, slice_get, refl, sym, subst, ap, ap₂}
+use Rattle.name_list.proofs.Words.{◌∙◌, arith, true≢false, chars, string_bytes, String, bytes_eq, IsUtf8}
+use Rattle.name_list.proofs.Words.{encode_utf8_all, position, insert, remove, position_or_len, IsDistinct, keys_of}
+use Rattle.name_list.proofs.Words.{values_of, lookup, option_map, option_map_or, same_from_decides, length-map}
+use Rattle.name_list.proofs.Words.{map-append, take-map, drop-map, none-some, slice_get-map, slice_get-get_or}
+use Rattle.name_list.proofs.Words.{slice_get_within, get_or_from_slice_get, Named, Names, names_of, numbers_of}
+use Rattle.name_list.proofs.Words.{place_of, AreApart, AreNames, AreKept, named, names_kept}
 use Rattle.std.specs.String.{string_eq}
-use Rattle.std.proofs.lemmas.Bool.Decides.{same_from_decides}
-use Rattle.std.proofs.lemmas.List.{length-map, map-append, take-map, drop-map}
 use Rattle.std.proofs.lemmas.Map.Keys.{apart_from_distinct}
-use Rattle.std.proofs.lemmas.Option.{none-some, slice_get-map, slice_get-get_or, slice_get_within}
-use Rattle.std.proofs.lemmas.Option.{get_or_from_slice_get}
 use Rattle.std.proofs.lemmas.Slice.Eq.{bytes_eq-Decides}
 use Rattle.std.proofs.lemmas.Str.{encodes-chars, IsUtf8-string_bytes}
 use Rattle.indexmap.specs.IndexMap.{IndexMap, move_index, insert_entry}
 use Rattle.indexmap.proofs.CallerLemmas.{insert_entry-new}
 use Rattle.indexmap.proofs.MapLemmas.{Missing-position}
-use Rattle.name_list.specs.Names.{Named, Names, names_of, numbers_of, place_of, AreApart, AreNames}
-use Rattle.name_list.specs.Places.{AreKept, named, names_kept}
 use Rattle.name_list.proofs.PlaceLaws.{AreApart-index, within_index}
 
 -- two texts are the same exactly where their characters are

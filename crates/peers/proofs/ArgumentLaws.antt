@@ -1,11 +1,8 @@
 -- The arguments of a command among its words.
-use Rattle.std.proofs.Common.{◌≡◌, ◌-◌, List, take, drop, length, sym, ap, ◌∙◌}
-use Rattle.std.proofs.lemmas.List.{drop-map, take_rest}
+use Rattle.peers.proofs.Words.{◌≡◌, ◌-◌, List, take, drop, length, sym, ap, ◌∙◌, drop-map, take_rest, Shape, texts_of}
+use Rattle.peers.proofs.Words.{arguments_of, switches_of}
 use Rattle.std.specs.List.{take-map}
 use Rattle.std.specs.Prelude.{String, chars, string_bytes}
-use Rattle.command_table.specs.declared.shapes.Shape.{Shape}
-use Rattle.tcl_words.specs.Unread.{texts_of}
-use Rattle.peers.specs.Commands.{arguments_of, switches_of}
 
 pub arguments-part : {Z : Type 0} (words : List (String Z)) (shape : Shape)
     → texts_of (take (length words - shape.arguments) (drop shape.arguments words))

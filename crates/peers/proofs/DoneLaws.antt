@@ -1,54 +1,26 @@
 -- What holds of a document before a command of a widget, and after each edit of it, holds after the command.
-use Rattle.std.proofs.Common.{◌≡◌, ℕ, suc, ◌+◌, ◌≤◌, true, false, List, [], ◌∷◌, Option, Some, None, Ok, Err, length}
-use Rattle.std.proofs.Common.{refl, ap, ◌∙◌}
-use Rattle.std.specs.Prelude.{Result, nat_le, nat_lt, ok_or, ⊤, if◌then◌else◌}
-use Rattle.std.specs.List.{All}
-use Rattle.std.proofs.lemmas.Bool.{ltb-false}
-use Rattle.std.proofs.lemmas.List.Elements.{All-cons, All-nil}
-use Rattle.text_model.specs.LimitTable.{LimitTable}
+use Rattle.peers.proofs.Words.{◌≡◌, ℕ, suc, ◌+◌, ◌≤◌, true, false, List, [], ◌∷◌, Option, Some, None, Ok, Err, length}
+use Rattle.peers.proofs.Words.{refl, ap, ◌∙◌, ok_or, ⊤, All, ltb-false, All-cons, All-nil, LimitTable, boolean_of}
+use Rattle.peers.proofs.Words.{Command, Insert, Delete, Replace, MarkGravity, MarkSet, MarkUnset, TagAdd, TagRemove}
+use Rattle.peers.proofs.Words.{TagDelete, TagRaise, TagLower, Configure, EditUndo, EditRedo, EditModified, EditReset}
+use Rattle.peers.proofs.Words.{EditSeparator, PeerCreate, first_of, first_two_of, none_or_one_of, one_or_two_of, two_of}
+use Rattle.peers.proofs.Words.{with_value, Pair, pairs_at, is_among, Empty, Word, Fault, BadBoolean, IndexOrder}
+use Rattle.peers.proofs.Words.{InvalidCommandName, TooManyWidgets, WindowExists, Settings, delete_places, replace_span}
+use Rattle.peers.proofs.Words.{Document, Widget, edit_reset, modified_set, place_at, mark_offset, place_named}
+use Rattle.peers.proofs.Words.{is_window_name, settings_of, with_settings, Change, answered, change_with, refused}
+use Rattle.peers.proofs.Words.{unless_idle, add_spans, lowered, raised, remove_spans, reordered, insert_at}
+use Rattle.peers.proofs.Words.{insertion_offset, shown, view_end, with_peer, Call, done, delete, replace}
+use Rattle.peers.proofs.Words.{replace_places, replace_words, gravity_asked, gravity_given, gravity_words, mark_gravity}
+use Rattle.peers.proofs.Words.{mark_set, set_at, set_words, configure, settings_given, places_at, add_words}
+use Rattle.peers.proofs.Words.{remove_words, tag_add, tag_lower, tag_raise, tag_remove, insert, insert_pairs}
+use Rattle.peers.proofs.Words.{insert_words, peer_create, peer_settings, peer_with}
+use Rattle.std.specs.Prelude.{Result, nat_le, nat_lt, if◌then◌else◌}
 use Rattle.text_model.specs.declared.places.Gravity.{Gravity}
 use Rattle.text_model.specs.declared.places.Place.{Place}
-use Rattle.command_table.specs.Numbers.{boolean_of}
-use Rattle.command_table.specs.declared.commands.Command.{Command}
-use Rattle.command_table.specs.declared.commands.Command.TheVariants.{Insert, Delete, Replace}
-use Rattle.command_table.specs.declared.commands.Command.TheVariants.{MarkGravity}
-use Rattle.command_table.specs.declared.commands.Command.TheVariants.{MarkSet, MarkUnset, TagAdd, TagRemove, TagDelete}
-use Rattle.command_table.specs.declared.commands.Command.TheVariants.{TagRaise, TagLower, Configure}
-use Rattle.command_table.specs.declared.commands.Command.TheVariants.{EditUndo, EditRedo, EditModified, EditReset}
-use Rattle.command_table.specs.declared.commands.Command.TheVariants.{EditSeparator, PeerCreate}
-use Rattle.command_effects.specs.Arguments.{first_of, first_two_of, none_or_one_of, one_or_two_of, two_of}
-use Rattle.command_effects.specs.Faults.{with_value}
-use Rattle.command_effects.specs.Lists.{Pair, pairs_at}
 use Rattle.command_effects.specs.Marking.{gravity_of}
-use Rattle.command_effects.specs.Words.{is_among}
-use Rattle.command_effects.specs.declared.answers.Answer.TheVariants.{Empty, Word}
-use Rattle.command_effects.specs.declared.answers.Fault.{Fault}
-use Rattle.command_effects.specs.declared.answers.Fault.TheVariants.{BadBoolean, IndexOrder, InvalidCommandName}
-use Rattle.command_effects.specs.declared.answers.Fault.TheVariants.{TooManyWidgets, WindowExists}
-use Rattle.command_effects.specs.declared.settings.Settings.{Settings}
-use Rattle.documents.specs.Deletions.{delete_places, replace_span}
-use Rattle.documents.specs.Documents.{Document, Widget}
-use Rattle.documents.specs.History.{edit_reset, modified_set}
-use Rattle.documents.specs.Indices.{place_at}
-use Rattle.documents.specs.Marks.{mark_offset, place_named}
-use Rattle.documents.specs.Kept.{is_window_name}
-use Rattle.documents.specs.Options.{settings_of, with_settings}
-use Rattle.documents.specs.Promise.{Change, answered, change_with, refused, unless_idle}
-use Rattle.documents.specs.Tags.{add_spans, lowered, raised, remove_spans, reordered}
-use Rattle.documents.specs.Texts.{insert_at, insertion_offset}
-use Rattle.documents.specs.Views.{shown, view_end}
-use Rattle.documents.specs.Widgets.{with_peer}
 use Rattle.documents.proofs.CarriedLaws.{IsCarried, IsMarked, IsQuiet, IsTagged, carried-active, carried-with}
 use Rattle.documents.proofs.IndexPlaceLaws.{place-within}
-use Rattle.peers.specs.Commands.{Call, done}
-use Rattle.peers.specs.Deletions.{delete, replace, replace_places, replace_words}
 use Rattle.peers.specs.History.{edit_modified, modified_word}
-use Rattle.peers.specs.Marks.{gravity_asked, gravity_given, gravity_words, mark_gravity, mark_set, set_at, set_words}
-use Rattle.peers.specs.Options.{configure, settings_given}
-use Rattle.peers.specs.Ranges.{places_at}
-use Rattle.peers.specs.Tags.{add_words, remove_words, tag_add, tag_lower, tag_raise, tag_remove}
-use Rattle.peers.specs.Texts.{insert, insert_pairs, insert_words}
-use Rattle.peers.specs.Widgets.{peer_create, peer_settings, peer_with}
 
 -- ---- places of indices
 

@@ -1,46 +1,23 @@
 -- A document that keeps all its actions leads back to the text from the start, through commands that spare it.
-use Rattle.std.proofs.Common.{◌≡◌, ℕ, zero, suc, ◌<◌, ◌==◌, ◌||◌, Bool, true, false, not, List, [], ◌∷◌, ◌++◌, Option}
-use Rattle.std.proofs.Common.{Some, None, Ok, Err, filter, length, take, refl, sym, ap, ◌∙◌, arith, subst, true≢false}
-use Rattle.std.proofs.Common.{inl, inr, Result, ◌&&◌, is_ok, is_some, nat_le, slice_set, if◌then◌else◌}
-use Rattle.std.specs.List.{AllByRecursion, IsDistinct}
+use Rattle.peers.proofs.Words.{◌≡◌, ℕ, zero, suc, ◌<◌, ◌==◌, ◌||◌, Bool, true, false, not, List, [], ◌∷◌, ◌++◌, Option}
+use Rattle.peers.proofs.Words.{Some, None, Ok, Err, filter, length, take, refl, sym, ap, ◌∙◌, arith, subst, true≢false}
+use Rattle.peers.proofs.Words.{inl, inr, Result, ◌&&◌, is_ok, is_some, nat_le, slice_set, if◌then◌else◌, AllByRecursion}
+use Rattle.peers.proofs.Words.{IsDistinct, and_parts, eqb-true, false_from_ne_true, Decides-eqb, length-append}
+use Rattle.peers.proofs.Words.{take-append-le, bytes_eq-Decides, LimitTable, reading, Command, Configure, EditReset}
+use Rattle.peers.proofs.Words.{PeerCreate, Shape, ShapeFault, among-append, Word, Fault, InvalidCommandName}
+use Rattle.peers.proofs.Words.{TooManyWidgets, WindowExists, Settings, first_settings, is_among, is_same, literal}
+use Rattle.peers.proofs.Words.{Document, Widget, characters, edit_reset, is_window_name, Change, IsWellFormedDocument}
+use Rattle.peers.proofs.Words.{window_names, bare_document, keeps_some, new_document, widget_named, Leads, AreNamed}
+use Rattle.peers.proofs.Words.{named-carried, named-same, leads-first, leads-left, arguments_of, command, done, shaped}
+use Rattle.peers.proofs.Words.{switches_of, settings_given, Outcome, changed, create, create_new, create_shaped}
+use Rattle.peers.proofs.Words.{create_with, destroy, destroy_shaped, on_found, on_home, on_widget, refuses, step}
+use Rattle.peers.proofs.Words.{AreSpared, BeginsToKeep, after_all, forgets, forgets_read, is_forgotten, is_spared}
+use Rattle.peers.proofs.Words.{names_dropped, names_read, place_after, place_after_all, text_at, IsWellFormed, World}
+use Rattle.peers.proofs.Words.{all_windows, document_at, home, windows_of}
 use Rattle.std.specs.Str.{chars}
-use Rattle.std.proofs.lemmas.Bool.{and_parts, eqb-true, false_from_ne_true}
-use Rattle.std.proofs.lemmas.Bool.Decides.{Decides-eqb}
-use Rattle.std.proofs.lemmas.List.{length-append, take-append-le}
 use Rattle.std.proofs.lemmas.Map.Keys.{IsDistinct-head, IsDistinct-tail}
-use Rattle.std.proofs.lemmas.Slice.Eq.{bytes_eq-Decides}
-use Rattle.text_model.specs.LimitTable.{LimitTable}
-use Rattle.command_table.specs.Reading.{reading}
-use Rattle.command_table.specs.declared.commands.Command.{Command}
-use Rattle.command_table.specs.declared.commands.Command.TheVariants.{Configure, EditReset, PeerCreate}
-use Rattle.command_table.specs.declared.shapes.Shape.{Shape}
-use Rattle.command_table.specs.declared.shapes.ShapeFault.{ShapeFault}
-use Rattle.command_effects.proofs.CountLaws.{among-append}
-use Rattle.command_effects.specs.declared.answers.Answer.TheVariants.{Word}
-use Rattle.command_effects.specs.declared.answers.Fault.{Fault}
-use Rattle.command_effects.specs.declared.answers.Fault.TheVariants.{InvalidCommandName, TooManyWidgets, WindowExists}
-use Rattle.command_effects.specs.declared.settings.Settings.{Settings}
-use Rattle.command_effects.specs.Settings.{first_settings}
-use Rattle.command_effects.specs.Words.{is_among, is_same, literal}
-use Rattle.documents.specs.Documents.{Document, Widget, characters}
-use Rattle.documents.specs.History.{edit_reset}
-use Rattle.documents.specs.Kept.{is_window_name}
-use Rattle.documents.specs.Promise.{Change}
-use Rattle.documents.specs.WellFormed.{IsWellFormedDocument, window_names}
-use Rattle.documents.specs.Widgets.{bare_document, keeps_some, new_document, widget_named}
 use Rattle.documents.proofs.EditLeadLaws.{found-anchored}
-use Rattle.documents.proofs.LeadLaws.{Leads}
-use Rattle.documents.proofs.NewNameLaws.{AreNamed, named-carried, named-same}
-use Rattle.documents.proofs.OptionLeadLaws.{leads-first, leads-left}
 use Rattle.documents.proofs.WidgetLeadLaws.{leads-carried}
-use Rattle.peers.specs.Commands.{arguments_of, command, done, shaped, switches_of}
-use Rattle.peers.specs.Options.{settings_given}
-use Rattle.peers.specs.Step.{Outcome, changed, create, create_new, create_shaped, create_with, destroy, destroy_shaped}
-use Rattle.peers.specs.Step.{on_found, on_home, on_widget, refuses, step}
-use Rattle.peers.specs.Laws.{AreSpared, BeginsToKeep, after_all, forgets, forgets_read, is_forgotten, is_spared}
-use Rattle.peers.specs.Laws.{names_dropped, names_read, place_after, place_after_all, text_at}
-use Rattle.peers.specs.WellFormed.{IsWellFormed}
-use Rattle.peers.specs.World.{World, all_windows, document_at, home, windows_of}
 use Rattle.peers.proofs.DoneLaws.{IsOther, calling, carried-done}
 use Rattle.peers.proofs.FrontLaws.{IsBefore, before-grown, front-changed, front-stays, left-among, left-at, left-front}
 use Rattle.peers.proofs.FrontLaws.{neither, set-at, set-length, set-other}

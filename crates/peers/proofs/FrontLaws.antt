@@ -1,17 +1,11 @@
 -- A document among others, by those before it: as one of them changes, one is added, and some end.
-use Rattle.std.proofs.Common.{◌≡◌, ℕ, zero, suc, ◌<◌, ◌≤◌, ◌||◌, Bool, true, false, cond, not, List, [], ◌∷◌, Some}
-use Rattle.std.proofs.Common.{None, filter, length, map, take, option_map, refl, sym, ap, ◌∙◌, arith, subst, true≢false}
-use Rattle.std.proofs.Common.{◌⊎◌, inl, inr, find, nat_lt, slice_set, if◌then◌else◌}
-use Rattle.std.specs.List.{AllByRecursion}
-use Rattle.std.proofs.lemmas.Bool.{lt-ltb, ltb-true}
-use Rattle.std.proofs.lemmas.Slice.Eq.{bytes_eq-Decides}
-use Rattle.command_effects.specs.Words.{is_among, is_same}
-use Rattle.documents.specs.Documents.{Document, Widget}
-use Rattle.documents.specs.WellFormed.{window_names}
-use Rattle.documents.specs.Widgets.{is_kept, keeps_some, widget_named, without_widgets}
-use Rattle.command_effects.proofs.CountLaws.{among-append}
-use Rattle.peers.specs.Step.{has_widgets}
-use Rattle.peers.specs.World.{document_at, home, windows_of}
+use Rattle.peers.proofs.Words.{◌≡◌, ℕ, zero, suc, ◌<◌, ◌≤◌, ◌||◌, Bool, true, false, cond, not, List, [], ◌∷◌, Some}
+use Rattle.peers.proofs.Words.{None, filter, length, map, take, option_map, refl, sym, ap, ◌∙◌, arith, subst}
+use Rattle.peers.proofs.Words.{true≢false, ◌⊎◌, inl, inr, nat_lt, slice_set, if◌then◌else◌, AllByRecursion, lt-ltb}
+use Rattle.peers.proofs.Words.{ltb-true, bytes_eq-Decides, is_among, is_same, Document, Widget, window_names, is_kept}
+use Rattle.peers.proofs.Words.{keeps_some, widget_named, without_widgets, among-append, has_widgets, document_at, home}
+use Rattle.peers.proofs.Words.{windows_of}
+use Rattle.std.proofs.Common.{find}
 use Rattle.peers.proofs.WorldLaws.{left-names}
 
 -- ---- a document is set

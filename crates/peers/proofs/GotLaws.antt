@@ -1,12 +1,9 @@
 -- The texts of ranges, as a list of those that aren't empty.
-use Rattle.std.proofs.Common.{◌≡◌, ◌≢◌, ℕ, zero, suc, true≢false, ◌-◌, ◌<◌, ◌≤◌, ◌==◌, true, false, cond, List, [], ◌∷◌}
-use Rattle.std.proofs.Common.{◌++◌, length, take, drop, get_or, refl, sym, ap, subst, ◌∙◌, arith, filter, if◌then◌else◌}
-use Rattle.std.proofs.lemmas.List.{take_rest, append_assoc, append-nil}
-use Rattle.tcl_words.specs.ListGrowth.{Goes}
-use Rattle.peers.specs.Texts.{text_of, texts_of_places, got}
-use Rattle.command_effects.specs.Listing.{is_filled}
-use Rattle.command_effects.specs.declared.answers.Answer.TheVariants.{Text}
-use Rattle.documents.specs.Documents.{Document, Widget}
+use Rattle.peers.proofs.Words.{◌≡◌, ◌≢◌, ℕ, zero, suc, true≢false, ◌-◌, ◌<◌, ◌≤◌, ◌==◌, true, false, cond, List, []}
+use Rattle.peers.proofs.Words.{◌∷◌, ◌++◌, length, take, drop, get_or, refl, sym, ap, subst, ◌∙◌, arith, filter}
+use Rattle.peers.proofs.Words.{if◌then◌else◌, take_rest, Goes, text_of, texts_of_places, got, is_filled, Text, Document}
+use Rattle.peers.proofs.Words.{Widget}
+use Rattle.std.proofs.lemmas.List.{append_assoc, append-nil}
 use Rattle.tcl_words.proofs.ListGrowth.{goes_on}
 use Rattle.command_effects.proofs.WrittenLaws.{filter-append}
 

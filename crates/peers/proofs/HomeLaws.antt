@@ -1,14 +1,12 @@
 -- Where widgets are found, as documents and widgets come and go. A document is known by the names of its widgets here.
-use Rattle.std.proofs.Common.{◌≡◌, ℕ, zero, suc, ◌+◌, ◌-◌, ◌<◌, ◌≤◌, Bool, true, false, cond, List, [], ◌∷◌, ◌++◌}
-use Rattle.std.proofs.Common.{length, map, take, drop, get_or, replicate, insert, slice_set, filter, flat_map}
-use Rattle.std.proofs.Common.{option_map, is_some, Option, Some, None, if◌then◌else◌, refl, sym, ap, ap₂, ◌∙◌}
-use Rattle.std.proofs.Common.{append_assoc, append-nil, arith, ◌||◌}
-use Rattle.std.proofs.lemmas.List.{map-append, length-append, length-map, length-replicate, length-take, take-append-le}
-use Rattle.std.proofs.lemmas.List.{take_all, take_more}
+use Rattle.peers.proofs.Words.{◌≡◌, ℕ, zero, suc, ◌+◌, ◌-◌, ◌<◌, ◌≤◌, Bool, true, false, cond, List, [], ◌∷◌, ◌++◌}
+use Rattle.peers.proofs.Words.{length, map, take, drop, get_or, replicate, slice_set, filter, flat_map, option_map}
+use Rattle.peers.proofs.Words.{is_some, Option, Some, None, if◌then◌else◌, refl, sym, ap, ap₂, ◌∙◌, append_assoc}
+use Rattle.peers.proofs.Words.{append-nil, arith, ◌||◌, map-append, length-append, length-map, length-replicate}
+use Rattle.peers.proofs.Words.{length-take, take-append-le, take_all, take_more, insert_end, insert-append_left}
+use Rattle.peers.proofs.Words.{insert-append_right, is_among, is_same, Homes, homes_from, home_in, names_in, places_in}
+use Rattle.std.proofs.Common.{insert}
 use lib.Seq.{take-append-add}
-use Rattle.std.proofs.lemmas.List.Edits.{insert_end, insert-append_left, insert-append_right}
-use Rattle.command_effects.specs.Words.{is_among, is_same}
-use Rattle.peers.specs.Windows.{Homes, homes_from, home_in, names_in, places_in}
 
 -- the widgets of one document at a place
 abbrev pub placed_at : ℕ → List (List ℕ) → Homes

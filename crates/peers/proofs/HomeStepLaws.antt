@@ -1,30 +1,13 @@
 -- What a change of one document makes of a world.
-use Rattle.std.proofs.Common.{◌≡◌, ◌≢◌, ℕ, suc, ◌<◌, true, false, cond, List, [], ◌∷◌, length, slice_set}
-use Rattle.std.proofs.Common.{option_map, Option, Some, None, refl, sym, ap, subst, ◌∙◌, arith}
+use Rattle.peers.proofs.Words.{◌≡◌, ◌≢◌, ℕ, suc, ◌<◌, true, false, cond, List, [], ◌∷◌, length, slice_set, option_map}
+use Rattle.peers.proofs.Words.{Option, Some, None, refl, sym, ap, subst, ◌∙◌, arith, IsDistinct, length-map, LimitTable}
+use Rattle.peers.proofs.Words.{is_among, is_same, Answer, Fault, Memory, Document, Widget, Change, Does, refused}
+use Rattle.peers.proofs.Words.{widget_named, shape_fault, reading, PeerCreate, Shape, ShapeFault, arguments_of, call_of}
+use Rattle.peers.proofs.Words.{command, done, shaped, peer_create, IsWellFormedDocument, window_names, changed}
+use Rattle.peers.proofs.Words.{on_found, IsWellFormed, homes_of, names_in, World, all_windows, document_at, home}
+use Rattle.peers.proofs.Words.{windows_of}
 use Rattle.std.specs.Prelude.{Ok, Err, Result, IfErr, find, map, ◌||◌}
-use Rattle.std.specs.List.{IsDistinct}
-use Rattle.std.proofs.lemmas.List.{length-map}
-use Rattle.text_model.specs.LimitTable.{LimitTable}
-use Rattle.command_effects.specs.Words.{is_among, is_same}
-use Rattle.command_effects.specs.declared.answers.Answer.{Answer}
-use Rattle.command_effects.specs.declared.answers.Fault.{Fault}
-use Rattle.command_effects.specs.declared.answers.Fault.TheVariants.{Memory}
-use Rattle.documents.specs.Documents.{Document, Widget}
-use Rattle.documents.specs.Promise.{Change, Does, refused}
-use Rattle.documents.specs.Widgets.{widget_named}
 use Rattle.documents.proofs.FindLaws.{bytes_eq-turned}
-use Rattle.command_effects.specs.Faults.{shape_fault}
-use Rattle.command_table.specs.Reading.{reading}
-use Rattle.command_table.specs.declared.commands.Command.TheVariants.{PeerCreate}
-use Rattle.command_table.specs.declared.shapes.Shape.{Shape}
-use Rattle.command_table.specs.declared.shapes.ShapeFault.{ShapeFault}
-use Rattle.peers.specs.Commands.{arguments_of, call_of, command, done, shaped}
-use Rattle.peers.specs.Widgets.{peer_create}
-use Rattle.documents.specs.WellFormed.{IsWellFormedDocument, window_names}
-use Rattle.peers.specs.Step.{changed, on_found}
-use Rattle.peers.specs.WellFormed.{IsWellFormed}
-use Rattle.peers.specs.Windows.{homes_of, names_in}
-use Rattle.peers.specs.World.{World, all_windows, document_at, home, windows_of}
 use Rattle.peers.proofs.WorldLaws.{all-at, all-changed, homes-windows, same-homes, set-same, with_all}
 
 -- ---- where a widget is found

@@ -1,32 +1,17 @@
 -- Options of which none says what is kept leave that, and so do the commands that take options.
-use Rattle.std.proofs.Common.{◌≡◌, ℕ, ◌+◌, Bool, true, false, List, [], ◌∷◌, Ok, Err, refl, sym, ap, ◌∙◌, subst}
-use Rattle.std.proofs.Common.{true≢false, ◌&&◌, ◌||◌, IfOk, Result, drop, is_ok, nat_le, ok_or, length, if◌then◌else◌}
+use Rattle.peers.proofs.Words.{◌≡◌, ℕ, ◌+◌, Bool, true, false, List, [], ◌∷◌, Ok, Err, refl, sym, ap, ◌∙◌, subst}
+use Rattle.peers.proofs.Words.{true≢false, ◌&&◌, ◌||◌, IfOk, Result, drop, is_ok, nat_le, length, if◌then◌else◌}
+use Rattle.peers.proofs.Words.{LimitTable, boolean_of, integer_of, Empty, Word, Fault, BadBoolean, BadInteger}
+use Rattle.peers.proofs.Words.{BadOption, InvalidCommandName, StartLineAfterEndLine, TooManyWidgets, WindowExists}
+use Rattle.peers.proofs.Words.{Settings, with_value, end_bound, is_behind, line_of_word, setting_read, settings_checked}
+use Rattle.peers.proofs.Words.{settings_read, start_bound, state_of, is_among, is_same, literal, Document, Widget}
+use Rattle.peers.proofs.Words.{characters, is_window_name, AreLines, settings_of, with_settings, Change, answered}
+use Rattle.peers.proofs.Words.{change_with, refused, with_peer, Leads, settings-kept, AreNamed, named-peer, named-same}
+use Rattle.peers.proofs.Words.{leads-peer, leads-settings, own-lines, configure, settings_given, peer_create}
+use Rattle.peers.proofs.Words.{peer_settings, peer_with, sets_keeping}
+use Rattle.std.proofs.Common.{ok_or}
 use Rattle.text_model.specs.Lines.{lines}
-use Rattle.text_model.specs.LimitTable.{LimitTable}
 use Rattle.undo_stack.specs.History.{limit_of}
-use Rattle.command_table.specs.Numbers.{boolean_of, integer_of}
-use Rattle.command_effects.specs.declared.answers.Answer.TheVariants.{Empty, Word}
-use Rattle.command_effects.specs.declared.answers.Fault.{Fault}
-use Rattle.command_effects.specs.declared.answers.Fault.TheVariants.{BadBoolean, BadInteger, BadOption}
-use Rattle.command_effects.specs.declared.answers.Fault.TheVariants.{InvalidCommandName, StartLineAfterEndLine}
-use Rattle.command_effects.specs.declared.answers.Fault.TheVariants.{TooManyWidgets, WindowExists}
-use Rattle.command_effects.specs.declared.settings.Settings.{Settings}
-use Rattle.command_effects.specs.Faults.{with_value}
-use Rattle.command_effects.specs.Settings.{end_bound, is_behind, line_of_word, setting_read, settings_checked}
-use Rattle.command_effects.specs.Settings.{settings_read, start_bound, state_of}
-use Rattle.command_effects.specs.Words.{is_among, is_same, literal}
-use Rattle.documents.specs.Documents.{Document, Widget, characters}
-use Rattle.documents.specs.Kept.{is_window_name}
-use Rattle.documents.specs.Options.{AreLines, settings_of, with_settings}
-use Rattle.documents.specs.Promise.{Change, answered, change_with, refused}
-use Rattle.documents.specs.Widgets.{with_peer}
-use Rattle.documents.proofs.LeadLaws.{Leads}
-use Rattle.documents.proofs.NamesKeptLaws.{settings-kept}
-use Rattle.documents.proofs.NewNameLaws.{AreNamed, named-peer, named-same}
-use Rattle.documents.proofs.OptionLeadLaws.{leads-peer, leads-settings, own-lines}
-use Rattle.peers.specs.Options.{configure, settings_given}
-use Rattle.peers.specs.Widgets.{peer_create, peer_settings, peer_with}
-use Rattle.peers.specs.Laws.{sets_keeping}
 use Rattle.peers.proofs.OptionLaws.{given-lines}
 
 -- ---- options

@@ -19,4 +19,5 @@ pub mod ToldStepLaws
 pub mod UndoBackLaws
 pub mod UndoStepLaws
 pub mod WindowLaws
+pub mod Words
 pub mod WorldLaws

@@ -1,12 +1,6 @@
 -- What a command makes of a world, where it is refused.
-use Rattle.std.proofs.Common.{◌≡◌, ℕ, refl, sym, ap, subst, Err, Result}
-use Rattle.command_effects.specs.declared.answers.Answer.{Answer}
-use Rattle.command_effects.specs.declared.answers.Fault.{Fault}
-use Rattle.command_effects.specs.declared.answers.Fault.TheVariants.{Memory}
-use Rattle.documents.specs.Promise.{refused}
-use Rattle.peers.specs.Step.{Makes, Outcome, changed, refuses}
-use Rattle.peers.specs.WellFormed.{IsWellFormed}
-use Rattle.peers.specs.World.{World, document_at}
+use Rattle.peers.proofs.Words.{◌≡◌, ℕ, refl, sym, ap, subst, Err, Result, Answer, Fault, Memory, refused, Makes}
+use Rattle.peers.proofs.Words.{Outcome, changed, refuses, IsWellFormed, World, document_at}
 use Rattle.peers.proofs.WorldLaws.{changed-refused}
 
 -- a command is refused with the fault that its definition has

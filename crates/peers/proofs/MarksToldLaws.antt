@@ -1,29 +1,17 @@
 -- What is told of the marks that a command moves.
-use Rattle.std.proofs.Common.{◌≡◌, ◌≢◌, ℕ, ◌<◌, true, false, List, [], ◌∷◌, Option, Some, None, Ok, arith, get_or}
-use Rattle.std.proofs.Common.{length, refl, sym, ap, subst, true≢false}
+use Rattle.peers.proofs.Words.{◌≡◌, ◌≢◌, ℕ, ◌<◌, true, false, List, [], ◌∷◌, Option, Some, None, Ok, arith, get_or}
+use Rattle.peers.proofs.Words.{length, refl, sym, ap, subst, true≢false, texts_of, LimitTable, reading, Command, Delete}
+use Rattle.peers.proofs.Words.{EditRedo, EditUndo, Insert, MarkSet, MarkUnset, Replace, Shape, Answer, Fault, Document}
+use Rattle.peers.proofs.Words.{Widget, ForetellsMarks, MarksTold, Change, change_with, widget_named, arguments_of}
+use Rattle.peers.proofs.Words.{call_of, done, shaped, switches_of, MarksTellAt, MarksTellOf, edits_reading, edits_text}
+use Rattle.peers.proofs.Words.{Makes, changed, on_found, on_home, on_widget, step, IsWellFormed, World, all_windows}
+use Rattle.peers.proofs.Words.{document_at, home}
 use Rattle.std.specs.Prelude.{Bool, Err, IfOk, Result, String, is_ok, string_bytes}
 use Rattle.std.specs.Bool.{MatchBool}
 use Rattle.std.specs.Str.{chars}
-use Rattle.tcl_words.specs.Unread.{texts_of}
-use Rattle.text_model.specs.LimitTable.{LimitTable}
-use Rattle.command_table.specs.Reading.{reading}
-use Rattle.command_table.specs.declared.commands.Command.{Command}
-use Rattle.command_table.specs.declared.commands.Command.TheVariants.{Delete, EditRedo, EditUndo, Insert, MarkSet}
-use Rattle.command_table.specs.declared.commands.Command.TheVariants.{MarkUnset, Replace}
-use Rattle.command_table.specs.declared.shapes.Shape.{Shape}
-use Rattle.command_effects.specs.declared.answers.Answer.{Answer}
-use Rattle.command_effects.specs.declared.answers.Fault.{Fault}
-use Rattle.documents.specs.Documents.{Document, Widget}
-use Rattle.documents.specs.MarksTold.{ForetellsMarks, MarksTold}
-use Rattle.documents.specs.Promise.{Change, change_with}
-use Rattle.documents.specs.Widgets.{widget_named}
 use Rattle.documents.proofs.StillMarksLaws.{HasMarksOf, marks-configured, marks-peered, marks-quiet, marks-tagged}
 use Rattle.documents.proofs.StillMarksLaws.{told-still}
-use Rattle.peers.specs.Commands.{arguments_of, call_of, command as command_of, done, shaped, switches_of}
-use Rattle.peers.specs.MarksTold.{MarksTellAt, MarksTellOf, edits_reading, edits_text}
-use Rattle.peers.specs.Step.{Makes, changed, on_found, on_home, on_widget, step}
-use Rattle.peers.specs.WellFormed.{IsWellFormed}
-use Rattle.peers.specs.World.{World, all_windows, document_at, home}
+use Rattle.peers.specs.Commands.{command as command_of}
 use Rattle.peers.proofs.DoneLaws.{IsMarkMove, IsTextEdit, calling, other-done, quiet-done, tags-done}
 use Rattle.peers.proofs.FrontLaws.{set-at}
 use Rattle.peers.proofs.HomeStepLaws.{home-is}

@@ -1,15 +1,9 @@
 -- The names of widgets, by their bytes.
-use Rattle.std.proofs.Common.{◌≡◌, ℕ, ◌<◌, ◌≤◌, Bool, true, false, List, [], ◌∷◌, ◌++◌, length, get_or, refl, sym, ap}
-use Rattle.std.proofs.Common.{◌∙◌, arith, map, true≢false, chars, IsUtf8, encode_utf8, encode_utf8_all, ◌==◌, ◌||◌}
-use Rattle.std.specs.List.{AllByRecursion}
-use Rattle.std.proofs.lemmas.Bool.{false≢true}
-use Rattle.std.proofs.lemmas.Bool.Decides.{Decides-eqb}
-use Rattle.std.proofs.lemmas.Str.{chars-nil, chars_past_char, encodes-chars, encode_ascii, IsUtf8-past_char}
-use Rattle.std.proofs.lemmas.Slice.Eq.{bytes_eq-Decides}
-use Rattle.command_effects.specs.Words.{is_among, is_same}
-use Rattle.documents.specs.Documents.{Document, Widget}
-use Rattle.documents.specs.Kept.{is_window_name}
-use Rattle.documents.specs.WellFormed.{IsPlaced}
+use Rattle.peers.proofs.Words.{◌≡◌, ℕ, ◌<◌, ◌≤◌, Bool, true, false, List, [], ◌∷◌, ◌++◌, length, get_or, refl, sym, ap}
+use Rattle.peers.proofs.Words.{◌∙◌, arith, map, true≢false, chars, encode_utf8, ◌==◌, ◌||◌, AllByRecursion, false≢true}
+use Rattle.peers.proofs.Words.{Decides-eqb, chars-nil, chars_past_char, encodes-chars, encode_ascii, IsUtf8-past_char}
+use Rattle.peers.proofs.Words.{bytes_eq-Decides, is_among, is_same, Document, Widget, is_window_name, IsPlaced}
+use Rattle.std.proofs.Common.{IsUtf8, encode_utf8_all}
 
 -- a character, and more
 abbrev begins : Bool → List ℕ → Bool

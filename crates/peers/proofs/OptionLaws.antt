@@ -1,18 +1,10 @@
 -- The lines of a view, as options give them.
-use Rattle.std.proofs.Common.{◌≡◌, ℕ, ◌+◌, ◌<◌, ◌≤◌, true, false, List, [], ◌∷◌, refl, subst, arith}
-use Rattle.std.specs.Prelude.{ℤ, pos, negsuc, ok_or, option_and_then, option_map, nat_lt, nat_le, IfOk, IfSome, Option}
-use Rattle.std.specs.Prelude.{None, Some, Result, Ok, Err, if◌then◌else◌}
-use Rattle.std.proofs.lemmas.Bool.Decides.{nat_tests}
-use Rattle.command_table.specs.Numbers.{boolean_of, integer_of}
-use Rattle.command_effects.specs.declared.answers.Fault.{Fault}
-use Rattle.command_effects.specs.declared.answers.Fault.TheVariants.{BadBoolean, BadInteger, BadOption}
-use Rattle.command_effects.specs.declared.answers.Fault.TheVariants.{StartLineAfterEndLine}
-use Rattle.command_effects.specs.declared.settings.Settings.{Settings}
-use Rattle.command_effects.specs.Faults.{with_value}
-use Rattle.command_effects.specs.Settings.{end_bound, is_behind, line_numbered, line_of_word, setting_read}
-use Rattle.command_effects.specs.Settings.{settings_checked, settings_read, start_bound, state_of}
-use Rattle.command_effects.specs.Words.{is_same, literal}
-use Rattle.documents.specs.Options.{AreLines, IsLine}
+use Rattle.peers.proofs.Words.{◌≡◌, ℕ, ◌+◌, ◌<◌, ◌≤◌, true, false, List, [], ◌∷◌, refl, subst, arith, ℤ, pos, negsuc}
+use Rattle.peers.proofs.Words.{ok_or, option_and_then, IfSome, nat_tests, boolean_of, integer_of, Fault, BadBoolean}
+use Rattle.peers.proofs.Words.{BadInteger, BadOption, StartLineAfterEndLine, Settings, with_value, end_bound, is_behind}
+use Rattle.peers.proofs.Words.{line_numbered, line_of_word, setting_read, settings_checked, settings_read, start_bound}
+use Rattle.peers.proofs.Words.{state_of, is_same, literal, AreLines, IsLine}
+use Rattle.std.specs.Prelude.{option_map, nat_lt, nat_le, IfOk, Option, None, Some, Result, Ok, Err, if◌then◌else◌}
 
 -- ---- values that are found
 

@@ -1,15 +1,8 @@
 -- What `peer create` makes, as its words are read one after the other.
-use Rattle.std.proofs.Common.{◌≡◌, ℕ, ◌+◌, Bool, true, false, List, ap, ◌∙◌, Ok, Err, Result, if◌then◌else◌}
-use Rattle.text_model.specs.LimitTable.{LimitTable}
-use Rattle.command_effects.specs.Arguments.{first_of}
-use Rattle.command_effects.specs.declared.answers.Fault.{Fault}
-use Rattle.command_effects.specs.declared.answers.Fault.TheVariants.{InvalidCommandName}
-use Rattle.command_effects.specs.declared.settings.Settings.{Settings}
-use Rattle.documents.specs.Documents.{Document, Widget}
-use Rattle.documents.specs.Kept.{is_window_name}
-use Rattle.documents.specs.Promise.{Change, change_with, refused}
-use Rattle.peers.specs.Options.{settings_given}
-use Rattle.peers.specs.Widgets.{peer_create, peer_settings, peer_with, peer_words}
+use Rattle.peers.proofs.Words.{◌≡◌, ℕ, ◌+◌, Bool, true, false, List, ap, ◌∙◌, Ok, Err, Result, if◌then◌else◌}
+use Rattle.peers.proofs.Words.{LimitTable, first_of, Fault, InvalidCommandName, Settings, Document, Widget}
+use Rattle.peers.proofs.Words.{is_window_name, Change, change_with, refused, settings_given, peer_create, peer_settings}
+use Rattle.peers.proofs.Words.{peer_with, peer_words}
 
 -- ---- the words of `peer create`
 

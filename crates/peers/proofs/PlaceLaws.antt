@@ -1,13 +1,8 @@
 -- The places of indices, one after the other.
-use Rattle.std.proofs.Common.{◌≡◌, ℕ, zero, suc, ◌+◌, ◌<◌, List, [], ◌∷◌, ◌++◌, length, drop, get_or, refl, sym, ap}
-use Rattle.std.proofs.Common.{◌∙◌, arith, Result, Ok, Err, String, chars, string_bytes}
+use Rattle.peers.proofs.Words.{◌≡◌, ℕ, zero, suc, ◌+◌, ◌<◌, List, [], ◌∷◌, ◌++◌, length, drop, get_or, refl, sym, ap}
+use Rattle.peers.proofs.Words.{◌∙◌, arith, Result, Ok, Err, String, chars, string_bytes, texts_of, Fault, with_value}
+use Rattle.peers.proofs.Words.{place_at, and_place, places_at, Document, Widget}
 use Rattle.std.proofs.lemmas.List.{append_assoc}
-use Rattle.tcl_words.specs.Unread.{texts_of}
-use Rattle.command_effects.specs.declared.answers.Fault.{Fault}
-use Rattle.command_effects.specs.Faults.{with_value}
-use Rattle.documents.specs.Indices.{place_at}
-use Rattle.peers.specs.Ranges.{and_place, places_at}
-use Rattle.documents.specs.Documents.{Document, Widget}
 
 drop-at : {A : Type 0} (xs : List A) (at : ℕ) (x : A) → at < length xs → x ≡ get_or xs at x →
     drop at xs ≡ x ∷ drop (at + 1) xs

@@ -1,12 +1,6 @@
 -- How a promise goes through a command, word by word.
-use Rattle.std.proofs.Common.{◌≡◌, ◌≢◌, refl, sym, ap, ◌∙◌, Result, Ok, Err, IfErr}
-use Rattle.text_model.specs.LimitTable.{LimitTable}
-use Rattle.command_effects.specs.declared.answers.Answer.{Answer}
-use Rattle.command_effects.specs.declared.answers.Fault.{Fault}
-use Rattle.command_effects.specs.declared.answers.Fault.TheVariants.{Memory}
-use Rattle.documents.specs.Documents.{Document}
-use Rattle.command_effects.specs.Faults.{with_value}
-use Rattle.documents.specs.Promise.{Change, Gives, Does, change_with}
+use Rattle.peers.proofs.Words.{◌≡◌, ◌≢◌, refl, sym, ap, ◌∙◌, Result, Ok, Err, IfErr, LimitTable, Answer, Fault, Memory}
+use Rattle.peers.proofs.Words.{Document, with_value, Change, Gives, Does, change_with}
 
 -- what is refused for memory is refused for memory
 abbrev pub refusal : (A : Type 0) → Fault → Result A Fault

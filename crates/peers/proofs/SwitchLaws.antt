@@ -1,14 +1,11 @@
 -- The switches of a command, one word after the other.
-use Rattle.std.proofs.Common.{◌≡◌, ℕ, ◌+◌, ◌<◌, true, false, cond, List, [], ◌∷◌, ◌++◌, length, take, refl, sym, ap}
-use Rattle.std.proofs.Common.{◌∙◌, Some, String, ◌||◌, chars, get_or, if◌then◌else◌, reverse, string_bytes}
-use Rattle.std.specs.List.{find}
-use Rattle.std.proofs.lemmas.List.{reverse-append}
+use Rattle.peers.proofs.Words.{◌≡◌, ℕ, ◌+◌, ◌<◌, true, false, cond, List, [], ◌∷◌, ◌++◌, length, take, refl, sym, ap}
+use Rattle.peers.proofs.Words.{◌∙◌, Some, String, ◌||◌, chars, get_or, if◌then◌else◌, reverse, string_bytes, find}
+use Rattle.peers.proofs.Words.{reverse-append, texts_of, literal, direction_by, direction_of, is_direction, stands_for}
+use Rattle.peers.proofs.Words.{turned}
 use Rattle.command_effects.proofs.SlotLaws.{texts-more}
 use Rattle.index_grammar.specs.declared.indices.Direction.{Direction}
 use Rattle.index_grammar.specs.declared.indices.Direction.TheVariants.{Back, Forward}
-use Rattle.tcl_words.specs.Unread.{texts_of}
-use Rattle.command_effects.specs.Words.{literal}
-use Rattle.peers.specs.Queries.{direction_by, direction_of, is_direction, stands_for, turned}
 
 -- a word is for one direction, for the other, or for none
 turned-is : (words : List (List ℕ)) (word : List ℕ) → turned (direction_of words) word

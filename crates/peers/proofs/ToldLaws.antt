@@ -1,21 +1,12 @@
 -- What is told of a command of a widget, by its words; and one that is no edit of the text or of tags leaves the
 -- characters with their tags.
-use Rattle.std.proofs.Common.{◌≡◌, ◌≢◌, ℕ, List, Ok, Err, refl, sym, subst, IfOk, Result}
-use Rattle.text_model.specs.LimitTable.{LimitTable}
-use Rattle.command_table.specs.Reading.{reading}
-use Rattle.command_table.specs.declared.commands.Command.{Command}
-use Rattle.command_table.specs.declared.commands.Command.TheVariants.{Delete, EditRedo, EditUndo, Insert, Replace}
-use Rattle.command_table.specs.declared.commands.Command.TheVariants.{TagAdd, TagDelete, TagRemove}
-use Rattle.command_table.specs.declared.shapes.Shape.{Shape}
-use Rattle.command_effects.specs.declared.answers.Fault.{Fault}
-use Rattle.documents.specs.Documents.{Document, Widget}
-use Rattle.documents.specs.Promise.{Change, change_with}
-use Rattle.documents.specs.Told.{Foretells}
-use Rattle.documents.specs.declared.told.EditTold.{EditTold}
+use Rattle.peers.proofs.Words.{◌≡◌, ◌≢◌, ℕ, List, Ok, Err, refl, sym, subst, IfOk, Result, LimitTable, reading, Command}
+use Rattle.peers.proofs.Words.{Delete, EditRedo, EditUndo, Insert, Replace, TagAdd, TagDelete, TagRemove, Shape, Fault}
+use Rattle.peers.proofs.Words.{Document, Widget, Change, change_with, Foretells, EditTold, arguments_of, call_of, done}
+use Rattle.peers.proofs.Words.{shaped, switches_of, no_edit}
 use Rattle.documents.proofs.StillCellLaws.{HasCellsOf, cells-marked, cells-quiet}
 use Rattle.documents.proofs.ToldLaws.{told-nothing}
-use Rattle.peers.specs.Commands.{arguments_of, call_of, command as command_of, done, shaped, switches_of}
-use Rattle.peers.specs.Told.{no_edit}
+use Rattle.peers.specs.Commands.{command as command_of}
 use Rattle.peers.proofs.DoneLaws.{IsTagEdit, IsTextEdit, calling, marks-done, other-done, quiet-done}
 
 -- ---- commands that leave the characters with their tags

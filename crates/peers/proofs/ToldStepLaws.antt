@@ -1,24 +1,12 @@
 -- What is told of a command of a world.
-use Rattle.std.proofs.Common.{◌≡◌, ℕ, ◌<◌, true, false, List, [], ◌∷◌, Option, Some, None, Ok, refl, sym, ap, ◌∙◌}
-use Rattle.std.proofs.Common.{arith, get_or, length, subst, true≢false, String, is_ok, string_bytes, if◌then◌else◌}
+use Rattle.peers.proofs.Words.{◌≡◌, ℕ, ◌<◌, true, false, List, [], ◌∷◌, Option, Some, None, Ok, refl, sym, ap, ◌∙◌}
+use Rattle.peers.proofs.Words.{arith, get_or, length, subst, true≢false, String, is_ok, string_bytes, if◌then◌else◌}
+use Rattle.peers.proofs.Words.{bytes_eq-Decides, texts_of, reading, Answer, is_same, literal, Document, Widget}
+use Rattle.peers.proofs.Words.{is_window_name, Change, Foretells, TellsCells, IsWellFormedDocument, widget_named}
+use Rattle.peers.proofs.Words.{EditTold, command, Makes, changed, create_shaped, destroy_shaped, on_found, on_home}
+use Rattle.peers.proofs.Words.{on_widget, step, TellsAt, TellsOf, cells_at, no_edit, IsWellFormed, World, all_windows}
+use Rattle.peers.proofs.Words.{document_at, home}
 use Rattle.std.specs.Str.{chars}
-use Rattle.std.proofs.lemmas.Slice.Eq.{bytes_eq-Decides}
-use Rattle.tcl_words.specs.Unread.{texts_of}
-use Rattle.command_table.specs.Reading.{reading}
-use Rattle.command_effects.specs.declared.answers.Answer.{Answer}
-use Rattle.command_effects.specs.Words.{is_same, literal}
-use Rattle.documents.specs.Documents.{Document, Widget}
-use Rattle.documents.specs.Kept.{is_window_name}
-use Rattle.documents.specs.Promise.{Change}
-use Rattle.documents.specs.Told.{Foretells, TellsCells}
-use Rattle.documents.specs.WellFormed.{IsWellFormedDocument}
-use Rattle.documents.specs.Widgets.{widget_named}
-use Rattle.documents.specs.declared.told.EditTold.{EditTold}
-use Rattle.peers.specs.Commands.{command}
-use Rattle.peers.specs.Step.{Makes, changed, create_shaped, destroy_shaped, on_found, on_home, on_widget, step}
-use Rattle.peers.specs.Told.{TellsAt, TellsOf, cells_at, no_edit}
-use Rattle.peers.specs.WellFormed.{IsWellFormed}
-use Rattle.peers.specs.World.{World, all_windows, document_at, home}
 use Rattle.peers.proofs.FrontLaws.{set-at}
 use Rattle.peers.proofs.HomeStepLaws.{home-is}
 use Rattle.peers.proofs.NameLaws.{placed-window}

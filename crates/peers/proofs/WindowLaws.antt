@@ -1,24 +1,19 @@
 -- What is seen of a map of names: each with the place of its document.
-use Rattle.std.proofs.Common.{◌≡◌, ℕ, zero, suc, ◌+◌, ◌-◌, ◌<◌, ◌≤◌, true, false, cond, Bool, None, Some, List, [], ◌∷◌}
-use Rattle.std.proofs.Common.{◌++◌, length, map, take, drop, get_or, slice_get, slice_set, replicate, filter, refl, sym}
-use Rattle.std.proofs.Common.{ap, ap₂, ◌∙◌, arith, true≢false, append_assoc, append-nil}
-use Rattle.std.specs.Prelude.{chars, string_bytes, String, bytes_eq, IsUtf8, encode_utf8_all, insert, position, remove}
-use Rattle.std.specs.List.{AllByRecursion, IsDistinct}
-use Rattle.std.specs.Map.{keys_of, lookup, values_of}
+use Rattle.peers.proofs.Words.{◌≡◌, ℕ, zero, suc, ◌+◌, ◌-◌, ◌<◌, ◌≤◌, true, false, cond, Bool, None, Some, List, []}
+use Rattle.peers.proofs.Words.{◌∷◌, ◌++◌, length, map, take, drop, get_or, slice_get, slice_set, replicate, filter}
+use Rattle.peers.proofs.Words.{refl, sym, ap, ap₂, ◌∙◌, arith, true≢false, append_assoc, append-nil, bytes_eq, IsUtf8}
+use Rattle.peers.proofs.Words.{encode_utf8_all, position, remove, AllByRecursion, keys_of, lookup, values_of}
+use Rattle.peers.proofs.Words.{same_from_decides, length-map, map-append, take-map, drop-map, length-append}
+use Rattle.peers.proofs.Words.{length-take, take_all, drop_all, drop_more, length-replicate, none-some}
+use Rattle.peers.proofs.Words.{bytes_eq-Decides, encodes-chars, IsUtf8-string_bytes, option_map_or, is_same, Homes}
+use Rattle.peers.proofs.Words.{home_in, home_kept, names_in, places_in}
+use Rattle.std.specs.Prelude.{chars, string_bytes, String, insert}
+use Rattle.std.specs.List.{IsDistinct}
 use Rattle.std.specs.String.{string_eq}
-use Rattle.std.proofs.lemmas.Bool.Decides.{same_from_decides}
-use Rattle.std.proofs.lemmas.List.{length-map, map-append, take-map, drop-map}
-use Rattle.std.proofs.lemmas.Option.{none-some}
-use Rattle.std.proofs.lemmas.Slice.Eq.{bytes_eq-Decides}
-use Rattle.std.proofs.lemmas.Str.{encodes-chars, IsUtf8-string_bytes}
 use Rattle.indexmap.specs.IndexMap.{IndexMap, move_index, insert_entry, insert_index, set_value_at}
-use Rattle.std.specs.Option.{option_map_or}
 use Rattle.std.specs.HashMap.{ContainsKey}
-use Rattle.std.proofs.lemmas.List.{length-append, length-take, take_all, drop_all, drop_more, length-replicate}
 use Rattle.indexmap.proofs.CallerLemmas.{insert_entry-new}
 use Rattle.indexmap.proofs.MapLemmas.{Found-position, Missing-position, absent_from_lookup, or_len-absent}
-use Rattle.command_effects.specs.Words.{is_same}
-use Rattle.peers.specs.Windows.{Homes, home_in, home_kept, names_in, places_in}
 
 -- two texts are the same exactly where their characters are
 pub bytes_eq-chars : (a b : List ℕ) → IsUtf8 a → IsUtf8 b → bytes_eq a b ≡ bytes_eq (chars a) (chars b)

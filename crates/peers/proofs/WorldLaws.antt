@@ -1,33 +1,20 @@
 -- Documents in a world: where their widgets are found, as they come and go.
-use Rattle.std.proofs.Common.{◌≡◌, ℕ, zero, suc, ◌+◌, ◌<◌, ◌≤◌, Bool, true, false, cond, not, List, [], ◌∷◌, ◌++◌}
-use Rattle.std.proofs.Common.{length, map, get_or, filter, slice_set, insert, option_map, Option, Some, None}
-use Rattle.std.proofs.Common.{is_some, take, refl, sym, ap, subst, ◌∙◌, nat_lt, arith}
-use Rattle.std.specs.List.{AllByRecursion, IsDistinct}
-use Rattle.std.proofs.lemmas.List.{append-nil, length-append}
-use Rattle.std.specs.Prelude.{◌||◌, remove}
-use Rattle.std.proofs.lemmas.Bool.Decides.{nat_tests}
-use Rattle.std.proofs.lemmas.List.{get_or_read, length-map, map-append}
-use Rattle.command_effects.proofs.CountLaws.{among-append}
-use Rattle.command_effects.specs.Words.{is_among, is_same}
-use Rattle.command_effects.specs.declared.settings.Settings.{Settings}
-use Rattle.documents.specs.Documents.{Document, Widget}
-use Rattle.documents.specs.WellFormed.{window_names}
-use Rattle.documents.specs.Widgets.{is_kept, keeps_some, new_document, new_widget, thinned, with_peer, without_widgets}
-use Rattle.peers.specs.Step.{changed, create_named, create_new, has_widgets, refuses}
-use Rattle.peers.specs.Widgets.{peer_with}
-use Rattle.command_effects.specs.declared.answers.Answer.TheVariants.{Word}
-use Rattle.command_effects.specs.declared.answers.Fault.TheVariants.{TooManyWidgets, WindowExists}
-use Rattle.documents.specs.Promise.{Change, answered, refused}
-use Rattle.text_model.specs.LimitTable.{AreLimits, LimitTable}
-use Rattle.std.specs.Prelude.{Ok, Err, OnErr, OnOk, Result, if◌then◌else◌, nat_le}
-use Rattle.peers.specs.WellFormed.{IsWellFormed}
-use Rattle.documents.specs.WellFormed.{IsWellFormedDocument}
-use Rattle.peers.specs.Windows.{Homes, home_in, homes_of, names_in}
-use Rattle.peers.specs.World.{World, all_windows, document_at, home, windows_of}
+use Rattle.peers.proofs.Words.{◌≡◌, ℕ, zero, suc, ◌+◌, ◌<◌, ◌≤◌, Bool, true, false, cond, not, List, [], ◌∷◌, ◌++◌}
+use Rattle.peers.proofs.Words.{length, map, get_or, filter, slice_set, option_map, Option, Some, None, is_some, take}
+use Rattle.peers.proofs.Words.{refl, sym, ap, subst, ◌∙◌, nat_lt, arith, AllByRecursion, length-append, get_or_read}
+use Rattle.peers.proofs.Words.{length-map, map-append, remove, OnErr, OnOk, nat_tests, among-append, is_among, is_same}
+use Rattle.peers.proofs.Words.{Settings, Document, Widget, window_names, IsWellFormedDocument, is_kept, keeps_some}
+use Rattle.peers.proofs.Words.{new_document, new_widget, thinned, with_peer, without_widgets, changed, create_named}
+use Rattle.peers.proofs.Words.{create_new, has_widgets, refuses, peer_with, Word, TooManyWidgets, WindowExists, Change}
+use Rattle.peers.proofs.Words.{answered, refused, AreLimits, LimitTable, IsWellFormed, Homes, home_in, homes_of}
+use Rattle.peers.proofs.Words.{names_in, World, all_windows, document_at, home, windows_of, insert_end, length-insert}
+use Rattle.std.proofs.Common.{insert}
+use Rattle.std.specs.List.{IsDistinct}
+use Rattle.std.proofs.lemmas.List.{append-nil}
+use Rattle.std.specs.Prelude.{◌||◌, Ok, Err, Result, if◌then◌else◌, nat_le}
 use Rattle.peers.proofs.HomeLaws.{names-filtered, filter-changed, filter-twice, first_with, found-some, front-count}
 use Rattle.peers.proofs.HomeLaws.{homes-added, homes-count, homes-found, homes-names, homes-peer, names-left}
 use Rattle.peers.proofs.HomeLaws.{names-same, next-count}
-use Rattle.std.proofs.lemmas.List.Edits.{insert_end, length-insert}
 use Rattle.documents.specs.Widgets as widgets
 
 -- ---- a look-up

@@ -1,23 +1,18 @@
 -- What a change of one node does to the spares and to the counts.
-use Rattle.std.proofs.Common.{◌≡◌, ℕ, ◌<◌, ◌≤◌, ◌+◌, Bool, true, false, List, [], ◌∷◌, ◌++◌, length, get_or, set, map}
-use Rattle.std.proofs.Common.{drop, refl, sym, ap, ◌∙◌, subst, arith, length-append}
+use Rattle.raw_nodes.proofs.Words.{◌≡◌, ℕ, ◌<◌, ◌≤◌, ◌+◌, Bool, true, false, List, [], ◌∷◌, ◌++◌, length, get_or, set}
+use Rattle.raw_nodes.proofs.Words.{map, drop, refl, sym, ap, ◌∙◌, subst, arith, length-append, IsSome, ◌≢◌, Option}
+use Rattle.raw_nodes.proofs.Words.{None, Some, is_some, unwrap_or, sum_by, get_or-set_same, get_or-set_other, map-set}
+use Rattle.raw_nodes.proofs.Words.{map-append, length-map, get_or-map, get_or_append_left, set-get_or, sum_by-set}
+use Rattle.raw_nodes.proofs.Words.{sum_by-cons, sum_by_push, IsPlace, NotIn, ats, number_in, after_of, afters_of}
+use Rattle.raw_nodes.proofs.Words.{before_of, befores_of, behind, if_spare, if_free, flag_of, mark_of, marks_of}
+use Rattle.raw_nodes.proofs.Words.{next_of, nexts_of, room_of, IsChain, Record, record_of, if_used, is_used, cell_of}
+use Rattle.raw_nodes.proofs.Words.{cells_of, slot_in, NodePtr, Node}
 use Prim.Native.Nat.{zero, suc, ◌-◌}
 use lib.ListN.{length-set}
 use mathlib.Core.Bool.{false≢true}
 use mathlib.Core.Logic.{∥∥₁_map, ∥∥₁_elim}
 use base.Stored.{Coded-set, coded_ℕ}
 use Rattle.std.proofs.Math.Bridge.{le_prop}
-use Rattle.std.specs.Prelude.{IsSome, ◌≢◌, Option, None, Some, is_some, unwrap_or}
-use Rattle.std.specs.List.{sum_by}
-use Rattle.std.proofs.lemmas.List.{get_or-set_same, get_or-set_other, map-set, map-append, length-map, get_or-map}
-use Rattle.std.proofs.lemmas.List.{get_or_append_left, set-get_or}
-use Rattle.std.proofs.lemmas.List.Sums.{sum_by-set, sum_by-cons, sum_by_push}
-use Rattle.raw_nodes.specs.Cells.{IsPlace, NotIn, ats, number_in}
-use Rattle.raw_nodes.specs.Chain.{after_of, afters_of, before_of, befores_of, behind, if_spare, if_free, flag_of}
-use Rattle.raw_nodes.specs.Chain.{mark_of, marks_of, next_of, nexts_of, room_of, IsChain}
-use Rattle.raw_nodes.specs.Records.{Record, record_of, if_used, is_used, cell_of, cells_of, slot_in}
-use Rattle.raw_nodes.specs.declared.names.NodePtr.{NodePtr}
-use Rattle.raw_nodes.specs.declared.nodes.Node.{Node}
 use Rattle.raw_nodes.proofs.HeapSteps.{unsnoc}
 use Rattle.raw_nodes.proofs.PlaceLaws.{number_new, number_stays}
 

@@ -1,10 +1,8 @@
 -- Two nodes never lie at one place. Assumes `Logic`.
+use Rattle.raw_nodes.proofs.Words.{◌≢◌, ◌⊎◌, inl, inr, eqb_tells, τ, el_room, node_owns, nodes_own, NotIn, Node}
 use mathlib.Core.List.{List, [], ◌∷◌, ◌++◌}
 use mathlib.Core.Path.{◌≡◌, refl, sym, ap, subst}
 use lib.ListN.{length}
-use Rattle.std.specs.Prelude.{◌≢◌}
-use Rattle.std.proofs.Common.{◌⊎◌, inl, inr}
-use Rattle.std.proofs.lemmas.Bool.Decides.{eqb_tells}
 use seplogic.Ra.Ura.{Ura}
 use base.Logic.{ent, sep, emp, via, never, never_e, id⊢}
 use native.Mathlib.Omega.{arith}
@@ -17,10 +15,6 @@ use mir.Raw.{raw as bare}
 use Rattle.std.proofs.GlobalToken.{dealloc_token_start}
 use Rattle.raw_nodes.specs.contracts.nodes.Node.{the_row as R}
 use denote.RawPtr.{Ptr, block_ptr, null_ptr, block_of, count_of, InBlock}
-use Rattle.std.proofs.BoxSteps.Form.{τ}
-use Rattle.std.proofs.BoxSteps.Steps.{el_room}
-use Rattle.raw_nodes.specs.Cells.{node_owns, nodes_own, NotIn}
-use Rattle.raw_nodes.specs.declared.nodes.Node.{Node}
 use Rattle.raw_nodes.proofs.AsBox.{E}
 use Rattle.raw_nodes.proofs.HeapSteps.{last_in}
 

@@ -12,3 +12,4 @@ pub mod RowLaws
 pub mod UpdateLaws
 pub mod WalkSteps
 pub mod WithoutLaws
+pub mod Words

@@ -1,9 +1,6 @@
 -- A link to a node is the name of the node.
-use Rattle.std.proofs.Common.{◌≡◌, sym, ap, ◌∙◌, subst}
-use Rattle.std.specs.Prelude.{Some}
+use Rattle.raw_nodes.proofs.Words.{◌≡◌, sym, ap, ◌∙◌, subst, Some, name_at, NodePtr}
 use denote.RawPtr.{Ptr, block_ptr, null_ptr, count_of, InBlock}
-use Rattle.raw_nodes.specs.Links.{name_at}
-use Rattle.raw_nodes.specs.declared.names.NodePtr.{NodePtr}
 use Rattle.raw_nodes.proofs.PlaceLaws.{name_is}
 
 pub named_at : (p : NodePtr) (a : Ptr) (start : count_of a ≡ 0) → p.at ≡ a → name_at a start ≡ Some p

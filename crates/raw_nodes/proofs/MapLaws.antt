@@ -1,16 +1,12 @@
 -- The map of a store, by name.
-use Rattle.std.proofs.Common.{◌≡◌, ℕ, ◌<◌, ◌+◌, Bool, true, false, cond, inl, inr, List, [], ◌∷◌, ◌++◌, length, get_or}
-use Rattle.std.proofs.Common.{set, refl, sym, ap, ◌∙◌, subst, arith}
+use Rattle.raw_nodes.proofs.Words.{◌≡◌, ℕ, ◌<◌, ◌+◌, Bool, true, false, cond, inl, inr, List, [], ◌∷◌, ◌++◌, length}
+use Rattle.raw_nodes.proofs.Words.{get_or, set, refl, sym, ap, ◌∙◌, subst, arith, ◌≢◌, IfSome, IsSome, Option, None}
+use Rattle.raw_nodes.proofs.Words.{Some, is_some, empty, get, insert, len, remove, get-empty, get-insert, get-remove}
+use Rattle.raw_nodes.proofs.Words.{len-insert, len-remove, empty_of_len, same_map, eq_by_cmp, get_or-set_same}
+use Rattle.raw_nodes.proofs.Words.{get_or-set_other, AreApart, IsPlace, NotIn, ats, name_cmp, number_in, without}
+use Rattle.raw_nodes.proofs.Words.{Record, Records, records_of, NodePtr}
 use Prim.Native.Nat.{zero, suc, ◌-◌}
 use mathlib.Core.Bool.{false≢true}
-use Rattle.std.specs.Prelude.{◌≢◌, IfSome, IsSome, Option, None, Some, is_some}
-use Rattle.std.specs.FinMap.{empty, get, insert, len, remove, get-empty, get-insert, get-remove, len-insert, len-remove}
-use Rattle.std.specs.FinMap.{empty_of_len, same_map}
-use Rattle.std.specs.Ordering.{eq_by_cmp}
-use Rattle.std.proofs.lemmas.List.{get_or-set_same, get_or-set_other}
-use Rattle.raw_nodes.specs.Cells.{AreApart, IsPlace, NotIn, ats, name_cmp, number_in, without}
-use Rattle.raw_nodes.specs.Records.{Record, Records, records_of}
-use Rattle.raw_nodes.specs.declared.names.NodePtr.{NodePtr}
 use Rattle.raw_nodes.proofs.PlaceLaws.{apart, name_antisym, name_total, same_number, same_or_other, tied}
 
 -- ---- what a change leaves at each name

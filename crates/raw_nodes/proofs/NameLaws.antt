@@ -1,31 +1,21 @@
 -- What a name says of the node that it leads to, and what a change of the node does.
-use Rattle.std.proofs.Common.{◌≡◌, ℕ, ◌<◌, ◌+◌, true, false, List, [], ◌∷◌, ◌++◌, length, get_or, set, map, refl, sym}
-use Rattle.std.proofs.Common.{ap, ap₂, ◌∙◌, subst, arith}
+use Rattle.raw_nodes.proofs.Words.{◌≡◌, ℕ, ◌<◌, ◌+◌, true, false, List, [], ◌∷◌, ◌++◌, length, get_or, set, map, refl}
+use Rattle.raw_nodes.proofs.Words.{sym, ap, ap₂, ◌∙◌, subst, arith, IfSome, IsSome, Option, None, Some, is_some, Count}
+use Rattle.raw_nodes.proofs.Words.{IsBare, get, insert, remove, sum_by, map-append, map-set, length-map, get_or-map}
+use Rattle.raw_nodes.proofs.Words.{AreApart, IsPlace, ats, node_at, number_in, without, IsChain, after_of, afters_of}
+use Rattle.raw_nodes.proofs.Words.{before_of, befores_of, behind, flag_of, marks_of, nexts_of, room_in, room_of}
+use Rattle.raw_nodes.proofs.Words.{link_name, Record, cell_of, cells_of, if_used, inner_record, is_used, nones, line_in}
+use Rattle.raw_nodes.proofs.Words.{record_in, record_of, records_in, records_of, updated, with_child, slot_in}
+use Rattle.raw_nodes.proofs.Words.{with_line, with_parent, with_slot, with_sum, branch_sum, Link, NodePtr, Held, Node}
+use Rattle.raw_nodes.proofs.Words.{Room}
 use lib.ListN.{length-set}
 use mathlib.Core.Bool.{false≢true}
-use Rattle.std.specs.Prelude.{IfSome, IsSome, Option, None, Some, is_some}
 use Rattle.segments.specs.Columns.{LineContent}
-use Rattle.toggle_sums.specs.Counts.{Count, IsBare}
 use Rattle.toggle_sums.specs.ToggleSets.{AreBare, ToggleSets}
-use Rattle.std.specs.FinMap.{get, insert, remove}
-use Rattle.std.specs.List.{sum_by}
-use Rattle.std.proofs.lemmas.List.{map-append, map-set, length-map, get_or-map}
-use Rattle.raw_nodes.specs.Cells.{AreApart, IsPlace, ats, node_at, number_in, without}
-use Rattle.raw_nodes.specs.Chain.{IsChain, after_of, afters_of, before_of, befores_of, behind, flag_of, marks_of}
-use Rattle.raw_nodes.specs.Chain.{nexts_of, room_in, room_of}
 use Rattle.raw_nodes.specs.HeldLending.{IsLine, IsRoom}
-use Rattle.raw_nodes.specs.Links.{link_name}
-use Rattle.raw_nodes.specs.Records.{Record, cell_of, cells_of, if_used, inner_record, is_used, nones, line_in}
-use Rattle.raw_nodes.specs.Records.{record_in, record_of, records_in, records_of, update, updated, with_child}
-use Rattle.raw_nodes.specs.Records.{slot_in, with_line, with_parent, with_slot, with_sum}
-use Rattle.raw_nodes.specs.Rooms.{branch_sum}
-use Rattle.raw_nodes.specs.declared.names.Link.{Link}
+use Rattle.raw_nodes.specs.Records.{update}
 use Rattle.raw_nodes.specs.declared.branch.Branch.{Branch}
-use Rattle.raw_nodes.specs.declared.names.NodePtr.{NodePtr}
-use Rattle.raw_nodes.specs.declared.nodes.Held.{Held}
 use Rattle.raw_nodes.specs.declared.nodes.Held.TheVariants.{Spare, Line, Inner}
-use Rattle.raw_nodes.specs.declared.nodes.Node.{Node}
-use Rattle.raw_nodes.specs.declared.nodes.Room.{Room}
 use Rattle.raw_nodes.proofs.ChainLaws.{cell_is, followed_set, given_cells, made_cells, is_used_at, listed_set}
 use Rattle.raw_nodes.proofs.ChainLaws.{room_moved, used_chain, used_count}
 use Rattle.raw_nodes.proofs.HeapSteps.{any_default}

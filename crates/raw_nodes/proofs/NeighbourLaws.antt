@@ -5,34 +5,25 @@
 --     relinked_less, listed_less   the links once a node has left whose neighbours were linked to each other
 --     content_ .., same_ ..        what doesn't follow the links in the row
 --     left_ ..            all that is kept of the nodes, once such a node has left
-use Rattle.std.proofs.Common.{◌≡◌, ℕ, ◌<◌, ◌≤◌, ◌+◌, Bool, true, false, cond, List, [], ◌∷◌, ◌++◌, length, get_or, set}
-use Rattle.std.proofs.Common.{map, refl, sym, ap, ◌∙◌, subst, arith}
+use Rattle.raw_nodes.proofs.Words.{◌≡◌, ℕ, ◌<◌, ◌≤◌, ◌+◌, Bool, true, false, cond, List, [], ◌∷◌, ◌++◌, length, get_or}
+use Rattle.raw_nodes.proofs.Words.{set, map, refl, sym, ap, ◌∙◌, subst, arith, IfSome, ◌≢◌, Option, None, Some, is_some}
+use Rattle.raw_nodes.proofs.Words.{sum, sum_by, get_or-map, get_or_append_left, length-map, map-append, set-append_left}
+use Rattle.raw_nodes.proofs.Words.{sum-map, AreApart, IsPlace, NotIn, ats, name_cmp, node_at, number_in, put_at}
+use Rattle.raw_nodes.proofs.Words.{without, IsChain, after_of, afters_of, before_of, befores_of, behind, content_of}
+use Rattle.raw_nodes.proofs.Words.{contents_of, flag_of, if_free, if_spare, last_left, mark_of, marks_of, next_of}
+use Rattle.raw_nodes.proofs.Words.{nexts_of, room_in, room_of, link_name, if_used, is_used, record_in, records_in}
+use Rattle.raw_nodes.proofs.Words.{records_of, slot_in, Link, NodePtr, Held, Node, eq_by_cmp}
 use Prim.Native.Nat.{zero, suc, ◌-◌}
 use lib.ListN.{length-set}
 use mathlib.Core.Bool.{false≢true}
 use mathlib.Core.HLevel.{×_prop, ¬_prop}
 use mathlib.Core.Logic.{∥∥₁_elim}
-use Rattle.std.specs.Prelude.{IfSome, ◌≢◌, Option, None, Some, is_some}
-use Rattle.std.specs.List.{sum, sum_by}
-use Rattle.std.proofs.lemmas.List.{get_or-map, get_or_append_left, length-map, map-append, set-append_left}
-use Rattle.std.proofs.lemmas.List.Sums.{sum-map}
 use Rattle.std.proofs.lemmas.Simd.{map-map}
 use denote.RawPtr.{Ptr}
-use Rattle.raw_nodes.specs.Cells.{AreApart, IsPlace, NotIn, ats, name_cmp, node_at, number_in, put_at, without}
-use Rattle.raw_nodes.specs.Chain.{IsChain, after_of, afters_of, before_of, befores_of, behind, content_of, contents_of}
-use Rattle.raw_nodes.specs.Chain.{flag_of, if_free, if_spare, last_left, mark_of, marks_of, next_of, nexts_of, room_in}
-use Rattle.raw_nodes.specs.Chain.{room_of}
-use Rattle.raw_nodes.specs.Links.{link_name}
-use Rattle.raw_nodes.specs.Records.{if_used, is_used, record_in, records_in, records_of, slot_in}
-use Rattle.raw_nodes.specs.declared.names.Link.{Link}
-use Rattle.raw_nodes.specs.declared.names.NodePtr.{NodePtr}
-use Rattle.raw_nodes.specs.declared.nodes.Held.{Held}
-use Rattle.raw_nodes.specs.declared.nodes.Node.{Node}
 use Rattle.raw_nodes.proofs.ChainLaws.{Head, last_at, listed_none, next_is, place_stays, some_same}
 use Rattle.raw_nodes.proofs.NameLaws.{fewer_records, spare_room}
 use Rattle.raw_nodes.proofs.WithoutLaws.{length-without, map-without, sum_by-without}
 use Rattle.raw_nodes.proofs.PlaceLaws.{apart, number_stays, tied}
-use Rattle.std.specs.Ordering.{eq_by_cmp}
 
 -- ---- a list but for one element
 without-append : {X : Type 0} (xs ys : List X) (i : ℕ) → i < length xs → without xs i ++ ys ≡ without (xs ++ ys) i

@@ -1,21 +1,17 @@
 -- Names in order, and where one stands among others.
-use Rattle.std.proofs.Common.{◌≡◌, ℕ, ◌<◌, Bool, true, false, cond, ◌⊎◌, inl, inr, List, [], ◌∷◌, ◌++◌, length, get_or}
-use Rattle.std.proofs.Common.{refl, sym, ap, ◌∙◌, subst, arith}
+use Rattle.raw_nodes.proofs.Words.{◌≡◌, ℕ, ◌<◌, Bool, true, false, cond, ◌⊎◌, inl, inr, List, [], ◌∷◌, ◌++◌, length}
+use Rattle.raw_nodes.proofs.Words.{get_or, refl, sym, ap, ◌∙◌, subst, arith, ◌≢◌, IsAntisymmetric}
+use Rattle.raw_nodes.proofs.Words.{nat_cmp-IsAntisymmetric, eq_by_cmp, is_eq, get_or-map, length-map, IsPlace, NotIn}
+use Rattle.raw_nodes.proofs.Words.{ats, name_cmp, number_in, NodePtr}
 use Prim.Native.Nat.{suc}
 use base.Stored.{Coded-set}
 use mathlib.Core.Bool.{false≢true}
 use mathlib.Core.HLevel.{Σ_prop_path}
-use Rattle.std.specs.Prelude.{◌≢◌}
 use Rattle.std.specs.Cmp.{IsTotalOrder, on_total, eq_by_cmp_equiv, nat_cmp_total}
-use Rattle.std.specs.FinMap.{IsAntisymmetric, nat_cmp-IsAntisymmetric}
-use Rattle.std.specs.Ordering.{eq_by_cmp, is_eq}
 use Rattle.std.specs.declared.cmp.Ordering.{Ordering}
 use Rattle.std.specs.declared.cmp.Ordering.TheVariants.{Less, Equal, Greater}
 use Rattle.std.proofs.lemmas.Bool.{false_from_ne_true}
-use Rattle.std.proofs.lemmas.List.{get_or-map, length-map}
 use denote.RawPtr.{Ptr, block_ptr, block_of, coded_ptr}
-use Rattle.raw_nodes.specs.Cells.{IsPlace, NotIn, ats, name_cmp, number_in}
-use Rattle.raw_nodes.specs.declared.names.NodePtr.{NodePtr}
 
 abbrev Start : Ptr → Type 0
 Start a = a ≡ block_ptr (block_of a) 0

@@ -3,13 +3,10 @@
 --     get_or-row      what stands in a slot is the child of that number
 --     somes-row       the names in a row are the children that it was made of; somes, of any number of empty slots
 --     length-row      a row has 12 slots
-use Rattle.std.proofs.Common.{◌≡◌, ℕ, zero, suc, ◌+◌, ◌-◌, ◌≤◌, List, [], ◌∷◌, ◌++◌, length, get_or, map, replicate}
-use Rattle.std.proofs.Common.{refl, ap, ◌∙◌, arith}
-use Rattle.std.specs.Prelude.{Option, None, Some, slice_get}
-use Rattle.std.specs.List.{filter_map}
-use Rattle.std.proofs.lemmas.List.{length-replicate}
+use Rattle.raw_nodes.proofs.Words.{◌≡◌, ℕ, zero, suc, ◌+◌, ◌-◌, ◌≤◌, List, [], ◌∷◌, ◌++◌, length, get_or, map}
+use Rattle.raw_nodes.proofs.Words.{replicate, refl, ap, ◌∙◌, arith, Option, None, Some, slice_get, filter_map}
+use Rattle.raw_nodes.proofs.Words.{length-replicate, NodePtr}
 use Rattle.raw_nodes.specs.Rows.{row}
-use Rattle.raw_nodes.specs.declared.names.NodePtr.{NodePtr}
 
 pub get_or-nones : (n i : ℕ) → get_or (replicate {A = Option NodePtr} n None) i None ≡ None
 get_or-nones zero i = refl

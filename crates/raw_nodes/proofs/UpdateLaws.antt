@@ -4,12 +4,11 @@
 --     insert-named, remove-named       which names there are after one came or went
 --     len-update                       there are as many records as before
 --     .. -made, -updated, -given       the same by the equations that calls say
-use Rattle.std.proofs.Common.{◌≡◌, cond, ◌+◌, ◌⊎◌, inl, inr, refl, sym, ap, ◌∙◌, subst}
+use Rattle.raw_nodes.proofs.Words.{◌≡◌, cond, ◌+◌, ◌⊎◌, inl, inr, refl, sym, ap, ◌∙◌, subst, ◌≢◌, IfSome, IsSome}
+use Rattle.raw_nodes.proofs.Words.{Option, None, Some, is_some, option_map, get, insert, len, len-insert, remove}
+use Rattle.raw_nodes.proofs.Words.{Record, Records, blank, updated, NodePtr}
 use mathlib.Core.Bool.{false≢true}
-use Rattle.std.specs.Prelude.{◌≢◌, IfSome, IsSome, Option, None, Some, is_some, option_map}
-use Rattle.std.specs.FinMap.{get, insert, len, len-insert, remove}
-use Rattle.raw_nodes.specs.Records.{Record, Records, blank, update, updated}
-use Rattle.raw_nodes.specs.declared.names.NodePtr.{NodePtr}
+use Rattle.raw_nodes.specs.Records.{update}
 use Rattle.raw_nodes.proofs.MapLaws.{get_inserted, get_other, get_removed, get_unmoved, kept_insert}
 use Rattle.raw_nodes.proofs.PlaceLaws.{name_total, same_or_other}
 

@@ -1,9 +1,7 @@
 -- A list but for one element: how long it is, what is read of it, its sums.
-use Rattle.std.proofs.Common.{◌≡◌, ℕ, ◌<◌, ◌+◌, List, [], ◌∷◌, length, get_or, map, refl, ap, arith}
+use Rattle.raw_nodes.proofs.Words.{◌≡◌, ℕ, ◌<◌, ◌+◌, List, [], ◌∷◌, length, get_or, map, refl, ap, arith, sum_by}
+use Rattle.raw_nodes.proofs.Words.{sum_by-cons, without}
 use Prim.Native.Nat.{zero, suc}
-use Rattle.std.specs.List.{sum_by}
-use Rattle.std.proofs.lemmas.List.Sums.{sum_by-cons}
-use Rattle.raw_nodes.specs.Cells.{without}
 
 pub length-without : {X : Type 0} (xs : List X) (i : ℕ) → i < length xs → length (without xs i) + 1 ≡ length xs
 length-without [] i h = absurd (omega arith)

@@ -3,3 +3,4 @@ mod SameLaws
 pub mod SendingLaws
 pub mod ToldLaws
 pub mod TurnLaws
+pub mod Words

@@ -1,30 +1,16 @@
 -- A run so far, and whatever the rest of it prints.
-use Rattle.std.proofs.Common.{◌≡◌, ℕ, suc, ◌+◌, ◌<◌, ◌||◌, take, Bool, true, false, not, cond, List, [], ◌∷◌, ◌++◌}
-use Rattle.std.proofs.Common.{length, Option, None, Some, ◌⊎◌, inl, inr, refl, sym, ap, ◌∙◌, append_assoc, arith}
-use Rattle.std.proofs.Common.{encode_utf8_all}
-use Rattle.std.specs.Prelude.{is_some, is_err, is_ok, Result, Ok, Err, OnOk, OnErr}
-use Rattle.std.proofs.lemmas.Bool.{false≢true}
-use Rattle.std.proofs.lemmas.List.{append-nil}
-use Rattle.std.proofs.lemmas.Str.{encodes-append}
-use Rattle.text_model.specs.LimitTable.{LimitTable}
-use Rattle.tcl_words.specs.ScriptGrammar.{IsCommandBefore}
-use Rattle.tcl_words.specs.Unread.{Unread, IsNextCommand, HasNoCommand, HasFault}
-use Rattle.tcl_words.specs.declared.fault.ScriptFault.{ScriptFault}
-use Rattle.tcl_words.proofs.Readings.{a_reading}
-use Rattle.peers.specs.World.{World}
-use Rattle.peers.specs.Step.{step}
-use Rattle.script_cli.specs.declared.summary.RunSummary.{RunSummary}
+use Rattle.script_cli.proofs.Words.{◌≡◌, ℕ, suc, ◌+◌, ◌<◌, ◌||◌, take, Bool, true, false, not, cond, List, [], ◌∷◌}
+use Rattle.script_cli.proofs.Words.{◌++◌, length, Option, None, Some, ◌⊎◌, inl, inr, refl, sym, ap, ◌∙◌, append_assoc}
+use Rattle.script_cli.proofs.Words.{arith, encode_utf8_all, is_some, is_err, is_ok, Result, Ok, Err, OnOk, OnErr}
+use Rattle.script_cli.proofs.Words.{false≢true, append-nil, encodes-append, LimitTable, IsCommandBefore, Unread}
+use Rattle.script_cli.proofs.Words.{IsNextCommand, HasNoCommand, HasFault, ScriptFault, a_reading, World, step}
+use Rattle.script_cli.proofs.Words.{RunSummary, Met, ReadLog, WriteLog, HandsOut, Takes, piece, memory_line}
+use Rattle.script_cli.proofs.Words.{no_documents, run_output, refused_count, RunsTo, Holds, WritesRun, WritesFront}
+use Rattle.script_cli.proofs.Words.{Feeds, Sends, Gathers, Replies, MeetsCommand, Meets}
 use Rattle.script_cli.specs.declared.summary.RunFault.{RunFault}
-use Rattle.script_cli.specs.declared.turns.Met.{Met}
 use Rattle.script_cli.specs.declared.turns.Met.TheVariants as kinds
 use Rattle.script_cli.specs.Carrying.{RunsBytes, MayFollow, Carries, CarriesOut, Carried, Cuts}
-use Rattle.devices.specs.Devices.{ReadLog, WriteLog, HandsOut, Takes}
-use Rattle.printing.specs.Lines.{piece, memory_line}
-use Rattle.script_cli.specs.Run.{no_documents, run_output, refused_count, RunsTo, Holds, WritesRun, WritesFront}
 use Rattle.script_cli.specs.PlainRun.{IsPlain, IsPlainUpToRefusal}
-use Rattle.script_cli.specs.Reading.{Feeds}
-use Rattle.script_cli.specs.Sending.{Sends, Gathers}
-use Rattle.script_cli.specs.Turns.{Replies, MeetsCommand, Meets}
 use Rattle.script_cli.proofs.SendingLaws.{Takes-nil, Takes-then, HandsOut-nil, HandsOut-then}
 
 -- the run without refusals for memory is one of the runs

@@ -1,13 +1,8 @@
 -- Two runs of one script.
-use Rattle.std.proofs.Common.{◌≡◌, ℕ, List, [], Option, Some, ◌⊎◌, inl, inr, sym, ap, ◌∙◌, encode_utf8_all}
+use Rattle.script_cli.proofs.Words.{◌≡◌, ℕ, List, [], Option, Some, ◌⊎◌, inl, inr, sym, ap, ◌∙◌, encode_utf8_all}
+use Rattle.script_cli.proofs.Words.{LimitTable, ReadsScript, ScriptFault, one_script, RunSummary, no_documents}
+use Rattle.script_cli.proofs.Words.{run_output, WritesRunOf, WantsMemory}
 use Rattle.std.proofs.lemmas.Option.{same_Some}
-use Rattle.text_model.specs.LimitTable.{LimitTable}
-use Rattle.tcl_words.specs.ScriptGrammar.{ReadsScript}
-use Rattle.tcl_words.specs.declared.fault.ScriptFault.{ScriptFault}
-use Rattle.tcl_words.proofs.Readings.{one_script}
-use Rattle.script_cli.specs.declared.summary.RunSummary.{RunSummary}
-use Rattle.script_cli.specs.Run.{no_documents, run_output}
-use Rattle.script_cli.specs.Told.{WritesRunOf, WantsMemory}
 use Rattle.script_cli.proofs.RunLaws.{plain_up_to_refusal}
 
 -- the plain run of a script, as bytes

@@ -1,11 +1,9 @@
 -- Bytes that pass one after another, and bytes that wait.
-use Rattle.std.proofs.Common.{◌≡◌, ℕ, ◌+◌, ◌-◌, arith, Bool, true, false, cond, List, [], ◌++◌, length, take, drop}
-use Rattle.std.proofs.Common.{Option, None, Some, refl, sym, ap, ◌∙◌, append_assoc}
-use Rattle.std.proofs.lemmas.Grind.{common_steps}
-use Rattle.std.proofs.lemmas.List.{take-append-drop, append-nil, take_all}
+use Rattle.script_cli.proofs.Words.{◌≡◌, ℕ, ◌+◌, ◌-◌, arith, Bool, true, false, cond, List, [], ◌++◌, length, take}
+use Rattle.script_cli.proofs.Words.{drop, Option, None, Some, refl, sym, ap, ◌∙◌, append_assoc, common_steps}
+use Rattle.script_cli.proofs.Words.{take-append-drop, append-nil, take_all, ReadLog, WriteLog, Consumes, HandsOut}
+use Rattle.script_cli.proofs.Words.{Appends, Takes, Sends, Gathers}
 use Rattle.std.proofs.Math.Seq.{take-add}
-use Rattle.devices.specs.Devices.{ReadLog, WriteLog, Consumes, HandsOut, Appends, Takes}
-use Rattle.script_cli.specs.Sending.{Sends, Gathers}
 
 Appends-nil : (known : Option (List ℕ)) → Appends known known []
 Appends-nil None = tt

@@ -1,22 +1,11 @@
 -- A run over devices that tell their bytes.
-use Rattle.std.proofs.Common.{◌≡◌, ℕ, ◌+◌, ◌||◌, Bool, true, false, cond, List, [], ◌∷◌, ◌++◌, length, Option, None}
-use Rattle.std.proofs.Common.{Some, inl, inr, refl, ap, ◌∙◌, append_assoc, arith, encode_utf8_all}
-use Rattle.std.specs.Prelude.{is_some, is_err, IfSome, Err}
-use Rattle.std.proofs.lemmas.Bool.{false≢true}
-use Rattle.std.proofs.lemmas.List.{append-nil}
-use Rattle.std.proofs.lemmas.Str.{encodes-append}
-use Rattle.text_model.specs.LimitTable.{LimitTable}
-use Rattle.tcl_words.specs.ScriptGrammar.{ReadsScript, ReadsFront}
-use Rattle.tcl_words.specs.declared.fault.ScriptFault.{ScriptFault}
-use Rattle.tcl_words.proofs.Readings.{a_reading}
-use Rattle.peers.specs.World.{World}
-use Rattle.peers.specs.Step.{step}
-use Rattle.command_effects.specs.declared.answers.Fault.TheVariants.{Memory}
-use Rattle.script_cli.specs.declared.summary.RunSummary.{RunSummary}
-use Rattle.devices.specs.Devices.{ReadLog, WriteLog, Consumes, LeavesNone, Appends}
-use Rattle.printing.specs.Lines.{piece}
-use Rattle.script_cli.specs.Run.{no_documents, run_output, refused_count, RunsTo, Holds, WritesRun, WritesFront}
-use Rattle.script_cli.specs.Told.{WritesRunOf, WritesFrontOf, WritesFrontOfRead}
+use Rattle.script_cli.proofs.Words.{◌≡◌, ℕ, ◌+◌, ◌||◌, Bool, true, false, cond, List, [], ◌∷◌, ◌++◌, length, Option}
+use Rattle.script_cli.proofs.Words.{None, Some, inl, inr, refl, ap, ◌∙◌, append_assoc, arith, encode_utf8_all, is_some}
+use Rattle.script_cli.proofs.Words.{is_err, IfSome, Err, false≢true, append-nil, encodes-append, LimitTable}
+use Rattle.script_cli.proofs.Words.{ReadsScript, ReadsFront, ScriptFault, a_reading, World, step, Memory, RunSummary}
+use Rattle.script_cli.proofs.Words.{ReadLog, WriteLog, Consumes, LeavesNone, Appends, piece, no_documents, run_output}
+use Rattle.script_cli.proofs.Words.{refused_count, RunsTo, Holds, WritesRun, WritesFront, WritesRunOf, WritesFrontOf}
+use Rattle.script_cli.proofs.Words.{WritesFrontOfRead}
 use Rattle.script_cli.proofs.RunLaws.{plain_runs}
 
 -- a front with a fault is the script, however it goes on

@@ -1,18 +1,11 @@
 -- What a turn of a run prints, and what it leaves.
-use Rattle.std.proofs.Common.{◌≡◌, ◌≢◌, ◌<◌, length, ℕ, Bool, true, List, None, inl, inr, refl, ap, rules}
-use Rattle.std.specs.Prelude.{Result, Ok, Err, IfErr, is_err}
-use Rattle.tcl_words.specs.Unread.{Unread, TakesCommand, HasFault, StopsAt}
-use Rattle.tcl_words.specs.declared.fault.ScriptFault.{ScriptFault}
+use Rattle.script_cli.proofs.Words.{◌≡◌, ◌≢◌, ◌<◌, length, ℕ, Bool, true, List, None, inl, inr, refl, ap, rules, Result}
+use Rattle.script_cli.proofs.Words.{Ok, Err, IfErr, is_err, Unread, TakesCommand, HasFault, StopsAt, ScriptFault, World}
+use Rattle.script_cli.proofs.Words.{step, piece, Replies, MeetsCommand, Meets, goes_on, is_refusal, Met, false≢true}
 use Rattle.command_effects.specs.declared.answers.Answer.{Answer}
 use Rattle.command_effects.specs.declared.answers.Fault.{Fault}
 use Rattle.command_effects.specs.declared.answers.Fault.TheVariants as fault
-use Rattle.peers.specs.World.{World}
-use Rattle.peers.specs.Step.{step}
-use Rattle.printing.specs.Lines.{piece}
-use Rattle.script_cli.specs.Turns.{Replies, MeetsCommand, Meets, goes_on, is_refusal}
-use Rattle.script_cli.specs.declared.turns.Met.{Met}
 use Rattle.script_cli.specs.declared.turns.Met.TheVariants as met
-use Rattle.std.proofs.lemmas.Bool.{false≢true}
 
 -- a result that isn't want of memory is the step's
 by_step : (world new : World) (words : List (List ℕ)) (reply : Result Answer Fault)

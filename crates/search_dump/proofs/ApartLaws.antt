@@ -1,11 +1,8 @@
 -- Matches that share no character with one that is listed before.
-use Rattle.std.proofs.Common.{◌≡◌, ℕ, inl, inr, ◌||◌, Bool, true, false, cond, List, [], ◌∷◌, ◌++◌, refl, sym, ap, ◌∙◌}
-use Rattle.std.specs.Prelude.{not}
-use Rattle.std.specs.List.{All, filter, list_any}
-use Rattle.std.proofs.lemmas.Bool.{cases_Bool, or_left, or_right}
-use Rattle.std.proofs.lemmas.List.Folds.{list_any-append}
-use Rattle.std.proofs.lemmas.List.Elements.{All-head, All-tail, All-weaker}
-use Rattle.search_dump.specs.Matches.{apart, shares}
+use Rattle.search_dump.proofs.Words.{◌≡◌, ℕ, inl, inr, ◌||◌, Bool, true, false, cond, List, [], ◌∷◌, ◌++◌, refl, sym}
+use Rattle.search_dump.proofs.Words.{ap, ◌∙◌, not, filter, list_any, cases_Bool, or_left, or_right, list_any-append}
+use Rattle.search_dump.proofs.Words.{All-head, All-tail, All-weaker, apart, shares}
+use Rattle.std.specs.List.{All}
 
 or-false : (b : Bool) → (b || false) ≡ b
 or-false true = refl

@@ -1,21 +1,12 @@
 -- Where the tags of a view change next.
-use Rattle.std.proofs.Common.{◌≡◌, ℕ, zero, suc, inl, inr, ◌+◌, ◌-◌, ◌<◌, ◌≤◌, ◌&&◌, ◌||◌, ◌==◌, min, Bool, true, false}
-use Rattle.std.proofs.Common.{◌≢◌, List, [], ◌∷◌, length, drop, set, refl, sym, subst, ap, ap₂, ◌∙◌, arith}
-use Rattle.std.specs.Prelude.{not, replicate, slice_index_or}
-use Rattle.std.specs.List.{list_any, prefix_len}
-use Rattle.std.proofs.lemmas.Bool.{cases_Bool, cases_eq, cases_lt, cond-false, cond-true, false≢true, lt-ltb}
-use Rattle.std.proofs.lemmas.Bool.{true≢false}
-use Rattle.std.proofs.lemmas.List.{drop-drop, drop_more, get_or-replicate, get_or-set_other, get_or-set_same}
-use Rattle.std.proofs.lemmas.List.{length-replicate, length-set}
-use Rattle.text_model.specs.Changes.{flag_at, is_alike, next_change}
-use Rattle.text_model.specs.Content.{Content}
-use Rattle.tag_table.specs.Tags.{Tag, slots_of}
-use Rattle.text_index.specs.Ranges.{tag_ranges}
-use Rattle.text_index.specs.Views.{shown_flags}
-use Rattle.text_index.specs.declared.ranges.TagRange.{TagRange}
-use Rattle.text_index.proofs.FlagLaws.{next-alike, next-other}
-use Rattle.search_dump.specs.Ahead.{AreAhead, IsKnown, IsNearest, change_behind, slot_of_row}
-use Rattle.search_dump.specs.Dump.{flag_before}
+use Rattle.search_dump.proofs.Words.{◌≡◌, ℕ, zero, suc, inl, inr, ◌+◌, ◌-◌, ◌<◌, ◌≤◌, ◌&&◌, ◌||◌, ◌==◌, min, Bool, true}
+use Rattle.search_dump.proofs.Words.{false, ◌≢◌, List, [], ◌∷◌, length, drop, set, refl, sym, subst, ap, ap₂, ◌∙◌}
+use Rattle.search_dump.proofs.Words.{arith, not, replicate, slice_index_or, list_any, prefix_len, cases_Bool, cases_eq}
+use Rattle.search_dump.proofs.Words.{cases_lt, cond-false, cond-true, false≢true, lt-ltb, true≢false, drop-drop}
+use Rattle.search_dump.proofs.Words.{drop_more, get_or-replicate, get_or-set_other, get_or-set_same, length-replicate}
+use Rattle.search_dump.proofs.Words.{length-set, flag_at, is_alike, next_change, Content, Tag, slots_of, tag_ranges}
+use Rattle.search_dump.proofs.Words.{shown_flags, TagRange, next-alike, next-other, AreAhead, IsKnown, IsNearest}
+use Rattle.search_dump.proofs.Words.{change_behind, slot_of_row, flag_before}
 use Rattle.search_dump.proofs.DumpLaws.{begins-is, ends-is}
 
 -- one row more

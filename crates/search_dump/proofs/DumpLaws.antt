@@ -1,21 +1,13 @@
 -- What is listed of the tags at a place.
-use Rattle.std.proofs.Common.{◌≡◌, ℕ, zero, suc, ◌+◌, ◌-◌, ◌<◌, ◌≤◌, ◌&&◌, ◌||◌, ◌==◌, Bool, true, false, cond, List}
-use Rattle.std.proofs.Common.{[], ◌∷◌, ◌++◌, length, map, take, get_or, refl, sym, ap, subst, ◌∙◌, arith}
-use Rattle.std.specs.Prelude.{not, slice_index_or}
-use Rattle.std.specs.List.{filter, flat_map, list_any, prefix_len}
-use Rattle.std.proofs.lemmas.Bool.{eq-eqb, lt-ltb, ne_eqb, true≢false}
-use Rattle.std.proofs.lemmas.List.{flat_map_more, get_or-map, take_more}
-use Rattle.tag_table.specs.Tags.{Tag, names_of, slots_of}
-use Rattle.tcl_words.specs.ListGrowth.{Goes}
-use Rattle.tcl_words.proofs.ListGrowth.{goes_nowhere, goes_on}
-use Rattle.text_model.specs.Changes.{flag_at}
-use Rattle.text_model.specs.Content.{Slots}
-use Rattle.text_index.specs.Ranges.{is_set, ranges_behind, tag_ranges}
-use Rattle.text_index.specs.declared.ranges.TagRange.{TagRange}
+use Rattle.search_dump.proofs.Words.{◌≡◌, ℕ, zero, suc, ◌+◌, ◌-◌, ◌<◌, ◌≤◌, ◌&&◌, ◌||◌, ◌==◌, Bool, true, false, cond}
+use Rattle.search_dump.proofs.Words.{List, [], ◌∷◌, ◌++◌, length, map, take, get_or, refl, sym, ap, subst, ◌∙◌, arith}
+use Rattle.search_dump.proofs.Words.{not, slice_index_or, filter, flat_map, list_any, prefix_len, eq-eqb, lt-ltb}
+use Rattle.search_dump.proofs.Words.{ne_eqb, true≢false, flat_map_more, get_or-map, take_more, Tag, slots_of, Goes}
+use Rattle.search_dump.proofs.Words.{goes_nowhere, goes_on, flag_at, Slots, is_set, ranges_behind, tag_ranges, TagRange}
+use Rattle.search_dump.proofs.Words.{slot_of_row, element, flag_before, if_listed, only_in, own_slot}
+use Rattle.tag_table.specs.Tags.{names_of}
 use Rattle.std.specs.Cmp.{nat_cmp_total}
 use Rattle.std.specs.FinSet as set
-use Rattle.search_dump.specs.Ahead.{slot_of_row}
-use Rattle.search_dump.specs.Dump.{element, flag_before, if_listed, only_in, own_slot}
 
 -- one element more of a list that is made of several for each
 pub goes_flat : {A : Type 0} (f : A → List (List ℕ)) (old between new : List ℕ) (xs : List A) (at : ℕ) (d : A)

@@ -1,8 +1,6 @@
 -- The dumps that were worked out by hand.
-use Rattle.std.proofs.Common.{◌≡◌, ℕ, true, false, List, [], ◌∷◌, ◌++◌, refl}
-use Rattle.std.specs.Prelude.{codes}
-use Rattle.search_dump.specs.Dump.{Seen, Tagged, Marked, dump_elements, element}
-use Rattle.search_dump.specs.declared.dumping.Listed.{Listed}
+use Rattle.search_dump.proofs.Words.{◌≡◌, ℕ, true, false, List, [], ◌∷◌, ◌++◌, refl, codes, Seen, Tagged, Marked}
+use Rattle.search_dump.proofs.Words.{dump_elements, element, Listed}
 
 abbrev everything : Listed
 everything = record { tags = true; marks = true; text = true }

@@ -1,16 +1,8 @@
 -- Where a dump ends.
-use Rattle.std.proofs.Common.{◌≡◌, ◌≢◌, ℕ, ◌-◌, ◌<◌, ◌≤◌, ◌&&◌, ◌==◌, List, [], ◌++◌, length, ap, ap₂, arith, subst}
-use Rattle.std.proofs.Common.{sym, ◌∙◌}
-use Rattle.std.specs.Prelude.{if◌then◌else◌}
-use Rattle.std.specs.List.{flat_map, range_with_len}
-use Rattle.std.proofs.lemmas.Bool.{eq-eqb, le-leb, lt-leb, ne_eqb}
-use Rattle.std.proofs.lemmas.List.{append-nil}
-use Rattle.tcl_words.specs.ListGrowth.{Goes}
-use Rattle.tcl_words.proofs.ListGrowth.{goes_nowhere, goes_on}
-use Rattle.search_dump.specs.Dump.{Seen, dump_elements, elements_at, elements_at_end, if_listed, mark_elements}
-use Rattle.search_dump.specs.Dump.{tagoff_elements}
-use Rattle.search_dump.specs.Matches.{places}
-use Rattle.search_dump.specs.declared.dumping.Listed.{Listed}
+use Rattle.search_dump.proofs.Words.{◌≡◌, ◌≢◌, ℕ, ◌-◌, ◌<◌, ◌≤◌, ◌&&◌, ◌==◌, List, [], ◌++◌, length, ap, ap₂, arith}
+use Rattle.search_dump.proofs.Words.{subst, sym, ◌∙◌, if◌then◌else◌, flat_map, range_with_len, eq-eqb, le-leb, lt-leb}
+use Rattle.search_dump.proofs.Words.{ne_eqb, append-nil, Goes, goes_nowhere, goes_on, Seen, dump_elements, elements_at}
+use Rattle.search_dump.proofs.Words.{elements_at_end, if_listed, mark_elements, tagoff_elements, places, Listed}
 
 -- nothing is listed where the second place stands before the first
 pub turned-goes : (listed : Listed) (seen : Seen) (from to : ℕ) (bytes : List ℕ) → to < from →

@@ -1,11 +1,8 @@
 -- The stretch that is searched first, up to a stop.
-use Rattle.std.proofs.Common.{◌≡◌, ℕ, ◌≤◌, Bool, false, true, Some, List, ap, arith, refl}
-use Rattle.std.specs.Prelude.{filter, if◌then◌else◌}
-use Rattle.index_grammar.specs.declared.indices.Direction.{Direction}
-use Rattle.index_grammar.specs.declared.indices.Direction.TheVariants.{Forward, Back}
-use Rattle.search_dump.specs.Matches.{bound, candidates, limit, matches_at, places}
-use Rattle.search_dump.specs.Stretches.{first_high, first_low, first_stretch, matches_in, ordered}
-use Rattle.search_dump.specs.declared.searching.SearchSwitches.{SearchSwitches}
+use Rattle.search_dump.proofs.Words.{◌≡◌, ℕ, ◌≤◌, Bool, false, true, Some, List, ap, arith, refl, if◌then◌else◌}
+use Rattle.search_dump.proofs.Words.{Direction, Forward, Back, bound, candidates, limit, matches_at, places, first_high}
+use Rattle.search_dump.proofs.Words.{first_low, first_stretch, matches_in, ordered, SearchSwitches}
+use Rattle.std.specs.Prelude.{filter}
 use Rattle.search_dump.proofs.RoundLaws.{LiesIn}
 
 high-lies : (direction : Direction) (len from stop : ℕ) → from ≤ len → stop ≤ len →

@@ -25,3 +25,4 @@ pub mod TagStops
 pub mod TextLaws
 pub mod TurnLaws
 pub mod WindowLaws
+pub mod Words

@@ -1,15 +1,10 @@
 -- Where the next line begins.
-use Rattle.std.proofs.Common.{◌≡◌, ℕ, zero, suc, inl, inr, ◌+◌, ◌-◌, ◌<◌, ◌≤◌, ◌⊎◌, ◌==◌, min, true, false, cond, List}
-use Rattle.std.proofs.Common.{[], ◌∷◌, length, take, refl, sym, ap, ◌∙◌, arith}
-use Rattle.std.proofs.lemmas.Bool.{cases_Bool, cases_lt, eq-eqb, ne_eqb}
-use Rattle.text_model.specs.Lines.{is_newline, line_of, line_start, lines}
+use Rattle.search_dump.proofs.Words.{◌≡◌, ℕ, zero, suc, inl, inr, ◌+◌, ◌-◌, ◌<◌, ◌≤◌, ◌⊎◌, ◌==◌, min, true, false, cond}
+use Rattle.search_dump.proofs.Words.{List, [], ◌∷◌, length, take, refl, sym, ap, ◌∙◌, arith, cases_Bool, cases_lt}
+use Rattle.search_dump.proofs.Words.{eq-eqb, ne_eqb, is_newline, line_of, line_start, lines, column_of, IsView, shown}
+use Rattle.search_dump.proofs.Words.{Content, characters, before-end, line_start-before, lines-of-part, lines-part}
+use Rattle.search_dump.proofs.Words.{IsSpot, IsNextStop}
 use Rattle.text_model.proofs.LineLaws.{lines-cons}
-use Rattle.text_index.specs.Values.{column_of}
-use Rattle.text_index.specs.Views.{IsView, shown}
-use Rattle.text_model.specs.Content.{Content, characters}
-use Rattle.text_index.proofs.ViewLaws.{before-end, line_start-before, lines-of-part, lines-part}
-use Rattle.search_dump.specs.Spots.{IsSpot}
-use Rattle.search_dump.specs.Stops.{IsNextStop}
 use Rattle.search_dump.specs.declared.listing.Spot.{Spot}
 
 start-on : (c : ℕ) (text : List ℕ) (line : ℕ) → is_newline c ≡ true →

@@ -1,27 +1,17 @@
 -- Which matches of a search are listed.
-use Rattle.std.proofs.Common.{◌≡◌, ℕ, inl, inr, ◌+◌, ◌-◌, ◌<◌, ◌≤◌, ◌&&◌, ◌||◌, max, min, Bool, true, false, Option}
-use Rattle.std.proofs.Common.{None, Some, List, [], ◌∷◌, ◌++◌, length, map, reverse, refl, sym, ap, subst, ◌∙◌, arith}
-use Rattle.std.specs.Prelude.{IfSome, nat_le, nat_lt, not}
-use Rattle.std.proofs.lemmas.Option.{none-some}
-use Rattle.tcl_words.specs.ListGrowth.{Goes}
-use Rattle.tcl_words.proofs.ListGrowth.{goes_nowhere, goes_on}
-use Rattle.std.specs.List.{All, filter, list_any}
-use Rattle.std.proofs.lemmas.Bool.{and_from, and_left, and_parts, and_right, cases_lt, le-leb, le-ltb, lt-leb, lt-ltb}
-use Rattle.std.proofs.lemmas.Bool.{ltb-true, or_left}
-use Rattle.std.proofs.lemmas.List.{map-append, get_or-reverse, length-reverse}
-use Rattle.std.proofs.lemmas.List.Elements.{All-filter}
+use Rattle.search_dump.proofs.Words.{◌≡◌, ℕ, inl, inr, ◌+◌, ◌-◌, ◌<◌, ◌≤◌, ◌&&◌, ◌||◌, max, min, Bool, true, false}
+use Rattle.search_dump.proofs.Words.{Option, None, Some, List, [], ◌∷◌, ◌++◌, length, map, reverse, refl, sym, ap}
+use Rattle.search_dump.proofs.Words.{subst, ◌∙◌, arith, IfSome, nat_le, nat_lt, not, none-some, Goes, goes_nowhere}
+use Rattle.search_dump.proofs.Words.{goes_on, filter, list_any, and_from, and_left, and_parts, and_right, cases_lt}
+use Rattle.search_dump.proofs.Words.{le-leb, le-ltb, lt-leb, lt-ltb, ltb-true, or_left, map-append, get_or-reverse}
+use Rattle.search_dump.proofs.Words.{length-reverse, All-filter, Direction, Forward, Back, Stretch, SearchSwitches}
+use Rattle.search_dump.proofs.Words.{Wanted, First, Apart, apart, bound, candidates, compared, found_places, matches}
+use Rattle.search_dump.proofs.Words.{matches_at, places, shares, wanted_of, HasMatch, first_high, first_low}
+use Rattle.search_dump.proofs.Words.{first_stretch, left_behind, left_round, listed_from, listed_round, matches_in}
+use Rattle.search_dump.proofs.Words.{nearest, next_of, ordered, second_stretch}
+use Rattle.std.specs.List.{All}
 use Rattle.std.proofs.lemmas.List.FromFn.{get_or-range_with_len, length-range_with_len}
-use Rattle.index_grammar.specs.declared.indices.Direction.{Direction}
-use Rattle.index_grammar.specs.declared.indices.Direction.TheVariants.{Forward, Back}
-use Rattle.search_dump.specs.declared.matching.Stretch.{Stretch}
-use Rattle.search_dump.specs.declared.searching.SearchSwitches.{SearchSwitches}
-use Rattle.search_dump.specs.declared.searching.Wanted.{Wanted}
-use Rattle.search_dump.specs.declared.searching.Wanted.TheVariants.{First, Apart, All as Every}
-use Rattle.search_dump.specs.Matches.{apart, bound, candidates, compared, found_places, matches, matches_at, places}
-use Rattle.search_dump.specs.Matches.{shares, wanted_of}
-use Rattle.search_dump.specs.Stretches.{HasMatch, first_high, first_low, first_stretch, left_behind, left_round}
-use Rattle.search_dump.specs.Stretches.{listed_from, listed_round, matches_in, nearest, next_of, ordered}
-use Rattle.search_dump.specs.Stretches.{second_stretch}
+use Rattle.search_dump.specs.declared.searching.Wanted.TheVariants.{All as Every}
 use Rattle.search_dump.proofs.ApartLaws.{apart-append, apart-behind, kept_by, kept_by-any, kept_by-first}
 use Rattle.search_dump.proofs.MatchLaws.{match-fits, match-from, match-same}
 use Rattle.search_dump.proofs.OrderLaws.{behind_high, behind_low, filter-both, filter-none, filter-ordered, first-of}

@@ -1,7 +1,5 @@
 -- The names of marks by their ranks.
-use Rattle.std.proofs.Common.{◌≡◌, ℕ, suc, ◌+◌, List, [], refl, ap, arith}
-use Rattle.std.specs.Prelude.{codes, slice_index_or}
-use Rattle.search_dump.specs.Dump.{name_of_rank}
+use Rattle.search_dump.proofs.Words.{◌≡◌, ℕ, suc, ◌+◌, List, [], refl, ap, arith, codes, slice_index_or, name_of_rank}
 use Rattle.std.specs.Str.{chars}
 
 pub insert-characters : chars (codes "insert") ≡ codes "insert"

@@ -1,34 +1,24 @@
 -- The order of the marks that a widget can use.
-use Rattle.std.proofs.Common.{◌≡◌, ◌≢◌, ℕ, zero, suc, inl, inr, ◌+◌, ◌-◌, ◌*◌, ◌<◌, ◌≤◌, ◌⊎◌, ◌&&◌, ◌==◌, max, min}
-use Rattle.std.proofs.Common.{Bool, true, false, cond, Option, None, Some, List, [], ◌∷◌, ◌++◌, length, refl, sym, ap}
-use Rattle.std.proofs.Common.{ap₂, subst, ◌∙◌, arith}
-use Rattle.std.specs.Prelude.{MatchOption, codes, nat_le, nat_lt, not, slice_get}
+use Rattle.search_dump.proofs.Words.{◌≡◌, ◌≢◌, ℕ, zero, suc, inl, inr, ◌+◌, ◌-◌, ◌*◌, ◌<◌, ◌≤◌, ◌⊎◌, ◌&&◌, ◌==◌, max}
+use Rattle.search_dump.proofs.Words.{min, Bool, true, false, cond, Option, None, Some, List, [], ◌∷◌, ◌++◌, length}
+use Rattle.search_dump.proofs.Words.{refl, sym, ap, ap₂, subst, ◌∙◌, arith, MatchOption, codes, nat_le, nat_lt, not}
+use Rattle.search_dump.proofs.Words.{slice_get, filter, find, flat_map, fold, option_and_then, option_map, and_parts}
+use Rattle.search_dump.proofs.Words.{and_right, cases_Bool, cases_eq, cases_lt, cond-false, cond-true, eq-eqb}
+use Rattle.search_dump.proofs.Words.{false≢true, le-leb, leb-true, lt-ltb, ne_eqb, not-true, append-nil, append_assoc}
+use Rattle.search_dump.proofs.Words.{none-some, same_Some, slice_get_within, earlier, first, mark_of, next_mark}
+use Rattle.search_dump.proofs.Words.{next_shown, own_mark, own_place, rank_of, shared_mark, shared_marks, shown_mark}
+use Rattle.search_dump.proofs.Words.{Mark, names_of, numbers_of, Tag, Goes, goes_nowhere, goes_on, shown, Shown}
+use Rattle.search_dump.proofs.Words.{Content, Marks, element, if_listed, mark_elements, mark_seen, seen_by, stands_at}
+use Rattle.search_dump.proofs.Words.{Has, IsMarkBehind, IsMarkFrom, is_before, mark_element, own_place_in, passed}
+use Rattle.search_dump.proofs.Words.{place_in, shared_place_in, usable_by}
 use Rattle.std.specs.FinMap as finite
-use Rattle.std.specs.List.{filter, find, flat_map, fold}
-use Rattle.std.specs.Option.{option_and_then, option_map}
-use Rattle.std.proofs.lemmas.Bool.{and_parts, and_right, cases_Bool, cases_eq, cases_lt, cond-false, cond-true, eq-eqb}
-use Rattle.std.proofs.lemmas.Bool.{false≢true, le-leb, leb-true, lt-ltb, ne_eqb, not-true}
 use Rattle.std.proofs.lemmas.Bool.Decides.{nat_tests}
-use Rattle.std.proofs.lemmas.List.{append-nil, append_assoc}
-use Rattle.std.proofs.lemmas.Option.{none-some, same_Some, slice_get_within}
-use Rattle.mark_table.specs.Order.{earlier, first, mark_of, next_mark, next_shown, own_mark, own_place, rank_of}
-use Rattle.mark_table.specs.Order.{shared_mark, shared_marks, shown_mark}
-use Rattle.mark_table.specs.SharedMarks.{Mark, names_of, numbers_of}
-use Rattle.tag_table.specs.Tags.{Tag}
-use Rattle.tcl_words.specs.ListGrowth.{Goes}
-use Rattle.tcl_words.proofs.ListGrowth.{goes_nowhere, goes_on}
-use Rattle.text_index.specs.Views.{shown}
 use Rattle.mark_table.specs.declared.order.MarkView.{MarkView}
 use Rattle.mark_table.specs.declared.order.Origin.{Origin}
 use Rattle.mark_table.specs.declared.order.Origin.TheVariants.{Mark as FromMark, Place as Offset}
-use Rattle.mark_table.specs.declared.order.Shown.{Shown}
 use Rattle.mark_table.specs.declared.order.WidgetMark.{WidgetMark}
-use Rattle.text_model.specs.Content.{Content, Marks}
 use Rattle.text_model.specs.declared.places.Place.{Place}
-use Rattle.search_dump.specs.Dump.{element, if_listed, mark_elements, mark_seen, seen_by, stands_at}
 use Rattle.search_dump.proofs.DumpLaws.{flat-filter}
-use Rattle.search_dump.specs.MarksAhead.{Has, IsMarkBehind, IsMarkFrom, is_before, mark_element, own_place_in, passed}
-use Rattle.search_dump.specs.MarksAhead.{place_in, shared_place_in, usable_by}
 
 asym : (a b : Shown) → earlier a b ≡ true → earlier b a ≡ false
 asym a b is = grind (arith, nat_tests)

@@ -1,14 +1,9 @@
 -- Where the characters of a text have a pattern, by its bytes.
-use Rattle.std.proofs.Common.{◌≡◌, ℕ, ◌+◌, ◌<◌, ◌≤◌, true, false, Option, None, Some, List, ◌++◌, reverse, refl, sym}
-use Rattle.std.proofs.Common.{ap, ◌∙◌, arith, length, take, drop, chars, encode_utf8_all}
-use Rattle.std.specs.List.{find}
-use Rattle.std.specs.Str.{IsCharBoundary, IsUtf8}
-use Rattle.std.specs.Str.Pattern.{HasTextAt, LacksTextAt}
-use Rattle.std.proofs.lemmas.Bool.{and_from, and_parts, false_from_ne_true, le-leb, leb-true}
-use Rattle.std.proofs.lemmas.List.{length-append, take-append-drop, take_at}
-use Rattle.std.proofs.lemmas.Slice.Eq.{bytes_eq-Decides}
-use Rattle.std.proofs.lemmas.Str.{chars-append, encodes-append, encodes-chars}
-use Rattle.search_dump.specs.Matches.{matches_at, places}
+use Rattle.search_dump.proofs.Words.{◌≡◌, ℕ, ◌+◌, ◌<◌, ◌≤◌, true, false, Option, None, Some, List, ◌++◌, reverse, refl}
+use Rattle.search_dump.proofs.Words.{sym, ap, ◌∙◌, arith, length, take, drop, chars, encode_utf8_all, find}
+use Rattle.search_dump.proofs.Words.{IsCharBoundary, IsUtf8, HasTextAt, LacksTextAt, and_from, and_parts}
+use Rattle.search_dump.proofs.Words.{false_from_ne_true, le-leb, leb-true, length-append, take-append-drop, take_at}
+use Rattle.search_dump.proofs.Words.{bytes_eq-Decides, chars-append, encodes-append, encodes-chars, matches_at, places}
 use Rattle.search_dump.proofs.PlaceLaws.{find-greatest, find-least, find-none, find-none-back}
 use Rattle.search_dump.proofs.TextLaws.{bytes_before, bytes_before-cut, bytes_before-less, bytes_before-within}
 use Rattle.search_dump.proofs.TextLaws.{chars-front, chars-rest, drop_bytes, front-within}

@@ -1,12 +1,7 @@
 -- The searches for `aba` that were worked out by hand, in the text `ababa`.
-use Rattle.std.proofs.Common.{◌≡◌, ℕ, Bool, true, false, List, [], ◌∷◌, Some, None, refl}
-use Rattle.std.specs.Prelude.{codes, Option}
-use Rattle.index_grammar.specs.declared.indices.Direction.{Direction}
-use Rattle.index_grammar.specs.declared.indices.Direction.TheVariants.{Forward, Back}
-use Rattle.search_dump.specs.Matches.{found_places}
-use Rattle.search_dump.specs.declared.searching.SearchSwitches.{SearchSwitches}
-use Rattle.search_dump.specs.declared.searching.Wanted.{Wanted}
-use Rattle.search_dump.specs.declared.searching.Wanted.TheVariants.{First, Apart, All}
+use Rattle.search_dump.proofs.Words.{◌≡◌, ℕ, Bool, true, false, List, [], ◌∷◌, Some, None, refl, codes, Direction}
+use Rattle.search_dump.proofs.Words.{Forward, Back, found_places, SearchSwitches, Wanted, First, Apart, All}
+use Rattle.std.specs.Prelude.{Option}
 
 abbrev how : Direction → Wanted → Bool → SearchSwitches
 how direction wanted strict =

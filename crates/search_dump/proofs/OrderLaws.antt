@@ -1,16 +1,9 @@
 -- The places that pass a test, in the order of a search.
-use Rattle.std.proofs.Common.{◌≡◌, ℕ, zero, suc, inl, inr, ◌+◌, ◌-◌, ◌<◌, ◌≤◌, ◌&&◌, Bool, true, false, None, Some}
-use Rattle.std.proofs.Common.{cond, List, [], ◌∷◌, ◌++◌, reverse, refl, sym, ap, ◌∙◌, arith}
-use Rattle.std.specs.Prelude.{nat_le}
-use Rattle.std.specs.List.{filter, find, range_with_len}
-use Rattle.std.proofs.lemmas.Bool.{cases_Bool, cases_lt, cond-true, cond-false, le-leb, lt-leb}
-use Rattle.std.proofs.lemmas.List.{append-nil, reverse-append}
-use Rattle.std.proofs.lemmas.List.Elements.{filter-append}
-use Rattle.std.proofs.lemmas.Option.{none-some}
-use Rattle.index_grammar.specs.declared.indices.Direction.{Direction}
-use Rattle.index_grammar.specs.declared.indices.Direction.TheVariants.{Forward, Back}
-use Rattle.search_dump.specs.Matches.{places}
-use Rattle.search_dump.specs.Stretches.{ordered}
+use Rattle.search_dump.proofs.Words.{◌≡◌, ℕ, zero, suc, inl, inr, ◌+◌, ◌-◌, ◌<◌, ◌≤◌, ◌&&◌, Bool, true, false, None}
+use Rattle.search_dump.proofs.Words.{Some, cond, List, [], ◌∷◌, ◌++◌, reverse, refl, sym, ap, ◌∙◌, arith, nat_le}
+use Rattle.search_dump.proofs.Words.{filter, find, range_with_len, cases_Bool, cases_lt, cond-true, cond-false, le-leb}
+use Rattle.search_dump.proofs.Words.{lt-leb, append-nil, reverse-append, filter-append, none-some, Direction, Forward}
+use Rattle.search_dump.proofs.Words.{Back, places, ordered}
 use Rattle.search_dump.proofs.PlaceLaws.{NonePasses, greatest-find, least-find, places-none, places-split}
 
 pub filter-none : {A : Type 0} (test : A → Bool) (xs : List A) → find test xs ≡ None → filter test xs ≡ []

@@ -1,13 +1,9 @@
 -- The period of a pattern, by its bytes.
-use Rattle.std.proofs.Common.{◌≡◌, ◌≢◌, ℕ, ◌+◌, ◌-◌, ◌<◌, ◌≤◌, inl, inr, List, ◌++◌, refl, sym, ap, subst, ◌∙◌, arith}
-use Rattle.std.proofs.Common.{length, take, drop, chars, encode_utf8, encode_utf8_all}
-use Rattle.std.specs.Str.{IsCharBoundary, IsUtf8}
-use Rattle.std.specs.Str.Pattern.{HasTextAt, LacksTextAt}
-use Rattle.std.proofs.lemmas.Bool.{cases_eq}
-use Rattle.std.proofs.lemmas.List.{drop_at, drop-drop, length-append, length-drop, take-append-drop, take-append-le}
-use Rattle.std.proofs.lemmas.List.{take_at}
-use Rattle.std.proofs.lemmas.Str.{IsCharBoundary-from_rest, IsUtf8-drop, chars-append, encodes-append, encodes-chars}
-use Rattle.search_dump.specs.Stretches.{IsPeriod}
+use Rattle.search_dump.proofs.Words.{◌≡◌, ◌≢◌, ℕ, ◌+◌, ◌-◌, ◌<◌, ◌≤◌, inl, inr, List, ◌++◌, refl, sym, ap, subst, ◌∙◌}
+use Rattle.search_dump.proofs.Words.{arith, length, take, drop, chars, encode_utf8, encode_utf8_all, IsCharBoundary}
+use Rattle.search_dump.proofs.Words.{IsUtf8, HasTextAt, LacksTextAt, cases_eq, drop_at, drop-drop, length-append}
+use Rattle.search_dump.proofs.Words.{length-drop, take-append-drop, take-append-le, take_at, IsCharBoundary-from_rest}
+use Rattle.search_dump.proofs.Words.{IsUtf8-drop, chars-append, encodes-append, encodes-chars, IsPeriod}
 use Rattle.search_dump.proofs.TextLaws.{bytes_before, bytes_before-cut, bytes_before-least, bytes_before-less}
 use Rattle.search_dump.proofs.TextLaws.{bytes_of_first, bytes_of_none, chars-front, chars-rest, drop_bytes}
 use Rattle.search_dump.proofs.TextLaws.{front-within}

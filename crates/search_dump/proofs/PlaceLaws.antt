@@ -1,14 +1,8 @@
 -- The first of some places in the order of a search, and those that pass a test.
-use Rattle.std.proofs.Common.{◌≡◌, ℕ, zero, suc, inl, inr, ◌+◌, ◌-◌, ◌<◌, ◌≤◌, Bool, true, false, None, Some, List, []}
-use Rattle.std.proofs.Common.{◌∷◌, ◌++◌, reverse, refl, sym, ap, ◌∙◌, arith}
-use Rattle.std.specs.List.{find, range_with_len}
-use Rattle.std.proofs.lemmas.Bool.{cases_Bool, cases_eq, cond-true, cond-false}
-use Rattle.std.proofs.lemmas.List.{reverse-append}
-use Rattle.std.proofs.lemmas.Option.{none-some, same_Some}
-use Rattle.index_grammar.specs.declared.indices.Direction.{Direction}
-use Rattle.index_grammar.specs.declared.indices.Direction.TheVariants.{Forward, Back}
-use Rattle.search_dump.specs.Matches.{places}
-use Rattle.search_dump.specs.Stretches.{ordered}
+use Rattle.search_dump.proofs.Words.{◌≡◌, ℕ, zero, suc, inl, inr, ◌+◌, ◌-◌, ◌<◌, ◌≤◌, Bool, true, false, None, Some}
+use Rattle.search_dump.proofs.Words.{List, [], ◌∷◌, ◌++◌, reverse, refl, sym, ap, ◌∙◌, arith, find, range_with_len}
+use Rattle.search_dump.proofs.Words.{cases_Bool, cases_eq, cond-true, cond-false, reverse-append, none-some, same_Some}
+use Rattle.search_dump.proofs.Words.{Direction, Forward, Back, places, ordered}
 
 -- the least place that passes, of those from one to before another
 pub record IsLeast (test : ℕ → Bool) (low high at : ℕ) : Type 0 where

@@ -1,18 +1,15 @@
 -- Words that stand as they are in a list: places, and what a dump calls its elements.
-use Rattle.std.proofs.Common.{◌≡◌, ℕ, zero, suc, ◌<◌, ◌≤◌, ◌||◌, ◌==◌, ◌^◌, Bool, true, false, List, [], ◌∷◌, ◌++◌, length}
-use Rattle.std.proofs.Common.{chars, refl, sym, ap, ap₂, ◌∙◌, arith, append-nil}
-use Rattle.std.specs.Prelude.{codes, decimal, if◌then◌else◌}
-use Rattle.std.specs.Str.{IsAscii}
+use Rattle.search_dump.proofs.Words.{◌≡◌, ℕ, zero, suc, ◌<◌, ◌≤◌, ◌||◌, ◌==◌, ◌^◌, Bool, true, false, List, [], ◌∷◌}
+use Rattle.search_dump.proofs.Words.{◌++◌, length, chars, refl, sym, ap, ap₂, ◌∙◌, arith, codes, decimal, if◌then◌else◌}
+use Rattle.search_dump.proofs.Words.{IsAscii, ne_eqb, IsAscii-append, chars-IsAscii, has_special, is_special, is_white}
+use Rattle.search_dump.proofs.Words.{needs_quotes, space_behind, Goes}
+use Rattle.std.proofs.Common.{append-nil}
+use Rattle.std.specs.Prelude.{encode_utf8_all}
 use Rattle.std.specs.Str.Parse.{AllDigits}
-use Rattle.std.proofs.lemmas.Bool.{ne_eqb}
 use Rattle.std.proofs.lemmas.Fmt.{IsAscii-decimal_wide, decimal_is_IsNumeral_wide}
-use Rattle.std.proofs.lemmas.Str.{IsAscii-append, chars-IsAscii}
 use Rattle.std.proofs.lemmas.Str.Parse.{tells_digits}
-use Rattle.tcl_words.specs.ListText.{has_special, is_special, is_white, needs_quotes, space_behind}
-use Rattle.tcl_words.specs.ListGrowth.{Goes}
 use Rattle.tcl_words.proofs.ListForms.{goes_on, push_bare}
 use Rattle.search_dump.proofs.SeenLaws.{mark-characters, tagoff-characters, tagon-characters, text-characters}
-use Rattle.std.specs.Prelude.{encode_utf8_all}
 
 or-none : (a b : Bool) → a ≡ false → b ≡ false → (a || b) ≡ false
 or-none a b first second = ap₂ (λ x y. x || y) first second

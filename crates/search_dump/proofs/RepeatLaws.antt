@@ -1,17 +1,10 @@
 -- Where a pattern that repeats itself stands again.
-use Rattle.std.proofs.Common.{◌≡◌, ℕ, ◌+◌, ◌-◌, ◌<◌, ◌≤◌, Bool, true, false, Option, None, Some, List, ◌++◌, sym, ap}
-use Rattle.std.proofs.Common.{◌∙◌, arith, length, take, drop}
-use Rattle.std.specs.Prelude.{◌&&◌, min, nat_le, nat_lt, slice_range}
-use Rattle.std.specs.Option.{SomeIff}
-use Rattle.std.proofs.lemmas.Option.{none-some, same_Some}
-use Rattle.std.proofs.lemmas.Bool.{and_parts, false_from_ne_true, leb-true, ltb-true}
-use Rattle.std.proofs.lemmas.List.{drop-drop, drop-take, take-append-drop, take-take}
-use Rattle.index_grammar.specs.declared.indices.Direction.{Direction}
-use Rattle.index_grammar.specs.declared.indices.Direction.TheVariants.{Forward, Back}
-use Rattle.text_index.proofs.ViewLaws.{take-apart}
-use Rattle.search_dump.specs.declared.matching.Stretch.{Stretch}
-use Rattle.search_dump.specs.Matches.{matches_at}
-use Rattle.search_dump.specs.Stretches.{HasMatch, IsBehind, IsPeriod, beside, nearest}
+use Rattle.search_dump.proofs.Words.{◌≡◌, ℕ, ◌+◌, ◌-◌, ◌<◌, ◌≤◌, Bool, true, false, Option, None, Some, List, ◌++◌, sym}
+use Rattle.search_dump.proofs.Words.{ap, ◌∙◌, arith, length, take, drop, nat_le, nat_lt, slice_range, SomeIff}
+use Rattle.search_dump.proofs.Words.{none-some, same_Some, and_parts, false_from_ne_true, leb-true, ltb-true, drop-drop}
+use Rattle.search_dump.proofs.Words.{drop-take, take-append-drop, take-take, Direction, Forward, Back, take-apart}
+use Rattle.search_dump.proofs.Words.{Stretch, matches_at, HasMatch, IsBehind, IsPeriod, beside, nearest}
+use Rattle.std.specs.Prelude.{◌&&◌, min}
 use Rattle.search_dump.proofs.MatchLaws.{match-fits, match-from, match-same}
 use Rattle.search_dump.proofs.PlaceLaws.{find-greatest, find-least}
 use Rattle.search_dump.proofs.WindowLaws.{IsWithin}

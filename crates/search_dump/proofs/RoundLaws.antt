@@ -1,13 +1,7 @@
 -- The stretch round the end of the text.
-use Rattle.std.proofs.Common.{◌≡◌, ℕ, ◌≤◌, Option, None, Some, List, [], length, ap, arith, refl, subst, sym}
-use Rattle.std.specs.Prelude.{unwrap_or}
-use Rattle.index_grammar.specs.declared.indices.Direction.{Direction}
-use Rattle.index_grammar.specs.declared.indices.Direction.TheVariants.{Forward, Back}
-use Rattle.search_dump.specs.Matches.{wanted_of}
-use Rattle.search_dump.specs.Stretches.{left_round, left_to_list, listed_round, matches_in, second_stretch}
-use Rattle.search_dump.specs.declared.matching.Stretch.{Stretch}
-use Rattle.search_dump.specs.declared.searching.Wanted.{Wanted}
-use Rattle.search_dump.specs.declared.searching.Wanted.TheVariants.{First, Apart, All}
+use Rattle.search_dump.proofs.Words.{◌≡◌, ℕ, ◌≤◌, Option, None, Some, List, [], length, ap, arith, refl, subst, sym}
+use Rattle.search_dump.proofs.Words.{unwrap_or, Direction, Forward, Back, wanted_of, left_round, left_to_list}
+use Rattle.search_dump.proofs.Words.{listed_round, matches_in, second_stretch, Stretch, Wanted, First, Apart, All}
 
 -- a stretch lies in a text of so many characters
 pub record LiesIn (len : ℕ) (stretch : Stretch) : Type 0 where

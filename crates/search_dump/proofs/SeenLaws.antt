@@ -1,17 +1,10 @@
 -- What a widget sees at a place, as the store tells it.
-use Rattle.std.proofs.Common.{◌≡◌, ℕ, ◌<◌, ◌&&◌, Bool, List, length, get_or, refl, sym, ap, ap₂, subst, ◌∙◌}
-use Rattle.std.specs.Prelude.{codes, not}
+use Rattle.search_dump.proofs.Words.{◌≡◌, ℕ, ◌<◌, ◌&&◌, Bool, List, length, get_or, refl, sym, ap, ap₂, subst, ◌∙◌}
+use Rattle.search_dump.proofs.Words.{codes, not, flat_map, Mark, Tag, flag_at, Content, Slots, shown, shown_flags}
+use Rattle.search_dump.proofs.Words.{AreAt, AreBefore, begins_at, element, ends_at, flag_before, if_listed, only_in}
+use Rattle.search_dump.proofs.Words.{own_slot, seen_by, tag_seen, tagoff_elements, tagon_elements}
 use Rattle.std.specs.FinSet as set
-use Rattle.std.specs.List.{flat_map}
 use Rattle.std.specs.Str.{chars}
-use Rattle.mark_table.specs.SharedMarks.{Mark}
-use Rattle.tag_table.specs.Tags.{Tag}
-use Rattle.text_model.specs.Changes.{flag_at}
-use Rattle.text_model.specs.Content.{Content, Slots}
-use Rattle.text_index.specs.Views.{shown, shown_flags}
-use Rattle.search_dump.specs.Ahead.{AreAt, AreBefore}
-use Rattle.search_dump.specs.Dump.{begins_at, element, ends_at, flag_before, if_listed, only_in, own_slot, seen_by}
-use Rattle.search_dump.specs.Dump.{tag_seen, tagoff_elements, tagon_elements}
 use Rattle.search_dump.proofs.DumpLaws.{begins-is, ends-is, flat-filter-row, no_tag, slot-there}
 
 pub tagoff-characters : chars (codes "tagoff") ≡ codes "tagoff"

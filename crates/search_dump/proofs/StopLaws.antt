@@ -1,35 +1,20 @@
 -- The next stop of a dump, and what is listed up to it.
-use Rattle.std.proofs.Common.{◌≡◌, ℕ, zero, suc, inl, inr, ◌+◌, ◌-◌, ◌<◌, ◌≤◌, ◌⊎◌, ◌||◌, ◌==◌, Bool, true, false}
-use Rattle.std.proofs.Common.{Option, None, Some, List, [], ◌∷◌, ◌++◌, length, take, drop, refl, sym, ap, ap₂, subst}
-use Rattle.std.proofs.Common.{◌∙◌, arith, append_assoc, append-nil}
-use Rattle.std.specs.Prelude.{MatchOption, codes, not, slice_range}
-use Rattle.std.specs.List.{filter, flat_map, list_any, prefix_len, range_with_len}
-use Rattle.std.specs.Option.{option_map}
-use Rattle.std.proofs.lemmas.Bool.{and_left, cases_eq, cases_lt, cond-false, cond-true, eq-eqb, false≢true, ne_eqb}
-use Rattle.std.proofs.lemmas.Bool.{or_left, or_parts, or_right}
-use Rattle.mark_table.specs.SharedMarks.{Mark}
-use Rattle.mark_table.specs.declared.order.Shown.{Shown}
-use Rattle.tag_table.specs.Tags.{Tag}
-use Rattle.tcl_words.specs.ListGrowth.{Goes}
-use Rattle.tcl_words.proofs.ListGrowth.{goes_nowhere, goes_on}
-use Rattle.std.proofs.lemmas.Grind.{flat_map-append}
-use Rattle.std.proofs.lemmas.List.{get_or_past}
-use Rattle.text_model.specs.Changes.{flag_at}
-use Rattle.text_model.specs.Content.{Content, flags}
-use Rattle.text_index.proofs.FlagLaws.{flags-within, length-part}
-use Rattle.text_index.proofs.ViewLaws.{length-shown}
+use Rattle.search_dump.proofs.Words.{◌≡◌, ℕ, zero, suc, inl, inr, ◌+◌, ◌-◌, ◌<◌, ◌≤◌, ◌⊎◌, ◌||◌, ◌==◌, Bool, true}
+use Rattle.search_dump.proofs.Words.{false, Option, None, Some, List, [], ◌∷◌, ◌++◌, length, take, drop, refl, sym, ap}
+use Rattle.search_dump.proofs.Words.{ap₂, subst, ◌∙◌, arith, MatchOption, codes, not, slice_range, filter, flat_map}
+use Rattle.search_dump.proofs.Words.{list_any, prefix_len, range_with_len, option_map, and_left, cases_eq, cases_lt}
+use Rattle.search_dump.proofs.Words.{cond-false, cond-true, eq-eqb, false≢true, ne_eqb, or_left, or_parts, or_right}
+use Rattle.search_dump.proofs.Words.{Mark, Shown, Tag, Goes, goes_nowhere, goes_on, flat_map-append, get_or_past}
+use Rattle.search_dump.proofs.Words.{flag_at, Content, flags, flags-within, length-part, length-shown, column_of}
+use Rattle.search_dump.proofs.Words.{IsView, shown, shown_flags, Seen, begins_at, element, elements_at, ends_at}
+use Rattle.search_dump.proofs.Words.{flag_before, if_listed, is_cut, mark_elements, mark_seen, own_slot, piece, seen_by}
+use Rattle.search_dump.proofs.Words.{stands_at, tag_seen, tagoff_elements, tagon_elements, text_elements, Has}
+use Rattle.search_dump.proofs.Words.{IsMarkFrom, shown_of, usable_by, places, FailsBetween, IsNextStop, IsStop}
+use Rattle.search_dump.proofs.Words.{has_mark_at, has_tag_at, stop_at_mark, stops_at_marks, stops_at_tags, tags_at}
+use Rattle.search_dump.proofs.Words.{Listed}
+use Rattle.std.proofs.Common.{append_assoc, append-nil}
 use Rattle.search_dump.proofs.DumpLaws.{begins-is}
-use Rattle.text_index.specs.Values.{column_of}
-use Rattle.text_index.specs.Views.{IsView, shown, shown_flags}
-use Rattle.search_dump.specs.Dump.{Seen, begins_at, element, elements_at, ends_at, flag_before, if_listed, is_cut}
-use Rattle.search_dump.specs.Dump.{mark_elements, mark_seen, own_slot, piece, seen_by, stands_at, tag_seen}
-use Rattle.search_dump.specs.Dump.{tagoff_elements, tagon_elements, text_elements}
-use Rattle.search_dump.specs.MarksAhead.{Has, IsMarkFrom, shown_of, usable_by}
-use Rattle.search_dump.specs.Matches.{places}
-use Rattle.search_dump.specs.Stops.{FailsBetween, IsNextStop, IsStop, has_mark_at, has_tag_at, stop_at_mark}
-use Rattle.search_dump.specs.Stops.{stops_at_marks, stops_at_tags, tags_at}
 use Rattle.search_dump.specs.declared.dumped_marks.Marked.{Marked}
-use Rattle.search_dump.specs.declared.dumping.Listed.{Listed}
 use Rattle.search_dump.proofs.MarkOrderLaws.{earlier-place, usable-placed}
 use Rattle.search_dump.proofs.PlaceLaws.{places-none, places-split}
 use Rattle.search_dump.proofs.TagStops.{any-map}

@@ -1,13 +1,8 @@
 -- The matches of a search are those of its stretches.
-use Rattle.std.proofs.Common.{◌≡◌, ℕ, List, ◌++◌, refl, ap, ◌∙◌}
+use Rattle.search_dump.proofs.Words.{◌≡◌, ℕ, List, ◌++◌, refl, ap, ◌∙◌, filter-append, Direction, Forward, Back}
+use Rattle.search_dump.proofs.Words.{SearchSwitches, candidates, matches_at, places, first_high, first_low}
+use Rattle.search_dump.proofs.Words.{first_stretch, matches_in, ordered, second_high, second_low, second_stretch}
 use Rattle.std.specs.Prelude.{None, filter}
-use Rattle.std.proofs.lemmas.List.Elements.{filter-append}
-use Rattle.index_grammar.specs.declared.indices.Direction.{Direction}
-use Rattle.index_grammar.specs.declared.indices.Direction.TheVariants.{Forward, Back}
-use Rattle.search_dump.specs.declared.searching.SearchSwitches.{SearchSwitches}
-use Rattle.search_dump.specs.Matches.{candidates, matches_at, places}
-use Rattle.search_dump.specs.Stretches.{first_high, first_low, first_stretch, matches_in, ordered, second_high}
-use Rattle.search_dump.specs.Stretches.{second_low, second_stretch}
 
 candidates-round : (direction : Direction) (len from : ℕ) → candidates direction len from None
     ≡ ordered direction (places (first_low direction from None) (first_high direction len from None))

@@ -1,19 +1,13 @@
 -- Which tags are on the cells of a view.
-use Rattle.std.proofs.Common.{◌≡◌, ℕ, zero, suc, ◌+◌, ◌-◌, ◌<◌, ◌≤◌, ◌&&◌, Bool, false, List, [], ◌∷◌, ap, sym, ◌∙◌}
-use Rattle.std.proofs.Common.{arith, lt-ltb}
+use Rattle.search_dump.proofs.Words.{◌≡◌, ℕ, zero, suc, ◌+◌, ◌-◌, ◌<◌, ◌≤◌, ◌&&◌, Bool, false, List, [], ◌∷◌, ap, sym}
+use Rattle.search_dump.proofs.Words.{◌∙◌, arith, IsView, shown, shown_flags, length-shown, flag_before, slice_get}
+use Rattle.search_dump.proofs.Words.{get_or_past, none-some, same_Some, flag_at, Content, Slots, flags, slot_sets}
+use Rattle.search_dump.proofs.Words.{part-flag, length-part, flags-within}
+use Rattle.std.proofs.Common.{lt-ltb}
 use Rattle.std.specs.Ordering.{nat_cmp}
-use Rattle.text_index.specs.Views.{IsView, shown}
-use Rattle.text_index.proofs.ViewLaws.{length-shown}
-use Rattle.search_dump.specs.Dump.{flag_before}
-use Rattle.std.specs.Prelude.{Some, length, slice_get}
+use Rattle.std.specs.Prelude.{Some, length}
 use Rattle.std.specs.FinSet as set
-use Rattle.std.proofs.lemmas.List.{get_or_past}
-use Rattle.std.proofs.lemmas.Option.{none-some, same_Some}
 use Rattle.text_model.specs.declared.cells.Cell.{Cell}
-use Rattle.text_model.specs.Changes.{flag_at}
-use Rattle.text_model.specs.Content.{Content, Slots, flags, slot_sets}
-use Rattle.text_index.specs.Views.{shown_flags}
-use Rattle.text_index.proofs.FlagLaws.{part-flag, length-part, flags-within}
 
 slots-flag : (slot : ℕ) (cells : List Cell) (at : ℕ) (slots : Slots) → slice_get (slot_sets cells) at ≡ Some slots →
     slice_get (flags slot cells) at ≡ Some (set.contains slots slot)

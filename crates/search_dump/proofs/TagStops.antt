@@ -1,17 +1,10 @@
 -- Where a dump stops at tags.
-use Rattle.std.proofs.Common.{◌≡◌, ℕ, zero, suc, inl, inr, ◌-◌, ◌<◌, ◌≤◌, ◌||◌, Bool, true, false, List, [], ◌∷◌}
-use Rattle.std.proofs.Common.{length, map, get_or, refl, sym, ap, ◌∙◌, arith}
-use Rattle.std.specs.List.{list_any}
-use Rattle.std.proofs.lemmas.Bool.{cases_Bool, cases_lt, or_left, or_right, true≢false}
-use Rattle.std.proofs.lemmas.List.{get_or-map}
-use Rattle.mark_table.specs.SharedMarks.{Mark}
-use Rattle.tag_table.specs.Tags.{Tag, slots_of}
-use Rattle.text_model.specs.Changes.{next_change}
-use Rattle.text_model.specs.Content.{Content, Slots}
-use Rattle.text_index.specs.Views.{shown_flags}
-use Rattle.search_dump.specs.Ahead.{AreAt, AreBefore, IsKnown, IsNearest, slot_of_row}
-use Rattle.search_dump.specs.Dump.{begins_at, ends_at, own_slot, seen_by, tag_seen}
-use Rattle.search_dump.specs.Stops.{FailsBetween, IsNextStop, has_tag_at}
+use Rattle.search_dump.proofs.Words.{◌≡◌, ℕ, zero, suc, inl, inr, ◌-◌, ◌<◌, ◌≤◌, ◌||◌, Bool, true, false, List, [], ◌∷◌}
+use Rattle.search_dump.proofs.Words.{length, map, get_or, refl, sym, ap, ◌∙◌, arith, list_any, cases_Bool, cases_lt}
+use Rattle.search_dump.proofs.Words.{or_left, or_right, true≢false, get_or-map, Mark, Tag, slots_of, next_change}
+use Rattle.search_dump.proofs.Words.{Content, Slots, shown_flags, AreAt, AreBefore, IsKnown, IsNearest, slot_of_row}
+use Rattle.search_dump.proofs.Words.{begins_at, ends_at, own_slot, seen_by, tag_seen, FailsBetween, IsNextStop}
+use Rattle.search_dump.proofs.Words.{has_tag_at}
 use Rattle.search_dump.proofs.ChangeLaws.{quiet-between, quiet-upto, turns, turns-there}
 use Rattle.search_dump.proofs.DumpLaws.{no_tag, slot-there}
 

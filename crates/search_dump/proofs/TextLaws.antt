@@ -1,16 +1,13 @@
 -- The characters of a text and its bytes.
-use Rattle.std.proofs.Common.{◌≡◌, inl, inr, ℕ, ◌+◌, ◌<◌, ◌≤◌, List, [], ◌∷◌, ◌++◌, refl, sym, ap, ◌∙◌, arith, length}
-use Rattle.std.proofs.Common.{take, drop, get_or, map, chars, encode_utf8, encode_utf8_all, append-nil, ap₂, suc}
+use Rattle.search_dump.proofs.Words.{◌≡◌, inl, inr, ℕ, ◌+◌, ◌<◌, ◌≤◌, List, [], ◌∷◌, ◌++◌, refl, sym, ap, ◌∙◌, arith}
+use Rattle.search_dump.proofs.Words.{length, take, drop, get_or, map, chars, encode_utf8, encode_utf8_all, ap₂, suc}
+use Rattle.search_dump.proofs.Words.{IsAscii, IsCharBoundary, IsUtf8, cases_eq, drop_at, length-append, length-drop}
+use Rattle.search_dump.proofs.Words.{length-take, map_more, take-append-drop, take_at, take-take, IsUtf8-take}
+use Rattle.search_dump.proofs.Words.{chars-append, chars_past_char, encodes-append, encodes-chars, chars-IsAscii}
+use Rattle.search_dump.proofs.Words.{length-le-encodes, simple_fold-ascii, simple_fold}
+use Rattle.std.proofs.Common.{append-nil}
 use Rattle.std.specs.Char.{to_ascii_lowercase}
-use Rattle.std.specs.Str.{IsAscii, IsCharBoundary, IsUtf8}
-use Rattle.std.proofs.lemmas.Bool.{cases_eq}
-use Rattle.std.proofs.lemmas.List.{drop_at, length-append, length-drop, length-take, map_more, take-append-drop}
-use Rattle.std.proofs.lemmas.List.{take_at, take-take}
-use Rattle.std.proofs.lemmas.Str.{IsUtf8-take, chars-append, chars_past_char, encodes-append, encodes-chars}
-use Rattle.std.proofs.lemmas.Str.{chars-IsAscii, length-le-encodes}
 use Rattle.std.proofs.lemmas.Str.Ascii.{IsAscii-map, lowercase_ascii}
-use Rattle.ucd_case.proofs.CaseFoldingLemmas.{simple_fold-ascii}
-use Rattle.ucd_case.specs.CaseFolding.{simple_fold}
 
 -- one character more that is folded
 pub folded-more : (cs : List ℕ) (n m c fold : ℕ) (old new : List ℕ) → (n < length cs) × (c ≡ get_or cs n c) →

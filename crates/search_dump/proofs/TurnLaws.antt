@@ -1,17 +1,11 @@
 -- Tags that are turned where they change.
-use Rattle.std.proofs.Common.{◌≡◌, ◌≢◌, ℕ, inl, inr, ◌+◌, ◌<◌, ◌≤◌, ◌⊎◌, ◌==◌, Bool, cond, List, length}
-use Rattle.std.proofs.Common.{refl, sym, ap, ◌∙◌, arith}
+use Rattle.search_dump.proofs.Words.{◌≡◌, ◌≢◌, ℕ, inl, inr, ◌+◌, ◌<◌, ◌≤◌, ◌⊎◌, ◌==◌, Bool, cond, List, length, refl}
+use Rattle.search_dump.proofs.Words.{sym, ap, ◌∙◌, arith, not, if◌then◌else◌, cases_eq, eq-eqb, ne_eqb, Tag, slots_of}
+use Rattle.search_dump.proofs.Words.{flag_at, next_change, Content, Slots, shown_flags, AreAt, AreBefore, AreKept}
+use Rattle.search_dump.proofs.Words.{AreKnownTo, AreTurned, IsTurned, change_behind, slot_of_row, turned_at}
+use Rattle.search_dump.proofs.Words.{flag_before}
 use Rattle.std.specs.FinSet as set
-use Rattle.std.specs.Prelude.{not, if◌then◌else◌}
-use Rattle.std.proofs.lemmas.Bool.{cases_eq, eq-eqb, ne_eqb}
-use Rattle.tag_table.specs.Tags.{Tag, slots_of}
-use Rattle.text_model.specs.Changes.{flag_at, next_change}
-use Rattle.text_model.specs.Content.{Content, Slots}
 use Rattle.text_model.proofs.CellLaws.{contains-set_slot}
-use Rattle.text_index.specs.Views.{shown_flags}
-use Rattle.search_dump.specs.Ahead.{AreAt, AreBefore, AreKept, AreKnownTo, AreTurned, IsTurned, change_behind}
-use Rattle.search_dump.specs.Ahead.{slot_of_row, turned_at}
-use Rattle.search_dump.specs.Dump.{flag_before}
 use Rattle.search_dump.proofs.ChangeLaws.{flag-other, flag-still, flag-upto}
 
 -- what turning one slot leaves: each slot is as it was at first, or turned

@@ -1,20 +1,12 @@
 -- What is found in a part of a text, and so in the whole.
-use Rattle.std.proofs.Common.{◌≡◌, ℕ, ◌+◌, ◌-◌, ◌<◌, ◌≤◌, ◌&&◌, inl, inr, min, Bool, true, false, Option, None, Some}
-use Rattle.std.proofs.Common.{List, reverse, refl, sym, ap, subst, ◌∙◌, arith, length, take, drop}
-use Rattle.std.specs.Prelude.{bytes_eq, slice_range}
-use Rattle.std.specs.List.{find}
-use Rattle.std.specs.Option.{is_some, option_or}
-use Rattle.std.proofs.lemmas.List.Folds.{find-append}
-use Rattle.std.proofs.lemmas.Bool.{and_left, cases_lt, false≢true, le-leb, lt-leb, true≢false}
-use Rattle.std.proofs.lemmas.List.{drop-drop, drop-map, drop-take, length-drop, length-map, length-take, take-map}
-use Rattle.std.proofs.lemmas.List.{take-take}
-use Rattle.ucd_case.specs.CaseFolding.{simple_fold}
-use Rattle.search_dump.specs.Matches.{compared, matches_at, places}
+use Rattle.search_dump.proofs.Words.{◌≡◌, ℕ, ◌+◌, ◌-◌, ◌<◌, ◌≤◌, ◌&&◌, inl, inr, min, Bool, true, false, Option, None}
+use Rattle.search_dump.proofs.Words.{Some, List, reverse, refl, sym, ap, subst, ◌∙◌, arith, length, take, drop}
+use Rattle.search_dump.proofs.Words.{bytes_eq, slice_range, find, is_some, option_or, find-append, and_left, cases_lt}
+use Rattle.search_dump.proofs.Words.{false≢true, le-leb, lt-leb, true≢false, drop-drop, drop-map, drop-take}
+use Rattle.search_dump.proofs.Words.{length-drop, length-map, length-take, take-map, take-take, simple_fold, compared}
+use Rattle.search_dump.proofs.Words.{matches_at, places, behind_front, front, nearest, ordered, Stretch, Direction}
+use Rattle.search_dump.proofs.Words.{Forward, Back}
 use Rattle.search_dump.proofs.MatchLaws.{match-fits}
-use Rattle.search_dump.specs.Stretches.{behind_front, front, nearest, ordered}
-use Rattle.search_dump.specs.declared.matching.Stretch.{Stretch}
-use Rattle.index_grammar.specs.declared.indices.Direction.{Direction}
-use Rattle.index_grammar.specs.declared.indices.Direction.TheVariants.{Forward, Back}
 use Rattle.search_dump.proofs.PlaceLaws.{NonePasses, find-greatest, find-least, find-none, find-none-back}
 use Rattle.search_dump.proofs.PlaceLaws.{found-ordered, greatest-find, least-find, none-find, none-find-back}
 use Rattle.search_dump.proofs.PlaceLaws.{none-ordered, places-split, reverse-split}

@@ -1,18 +1,13 @@
 -- What the bytes at which characters begin say of the characters of a text.
-use Rattle.std.proofs.Common.{◌≡◌, ℕ, ◌+◌, ◌%◌, ◌^◌, ◌<◌, ◌≤◌, List, [], ◌∷◌, ◌++◌, Bool, true, false, cond, length, take}
-use Rattle.std.proofs.Common.{drop, get_or, map, replicate, ltb, count_by, count_ones, Fits, w8, refl, sym, ap, ap₂, ◌∙◌}
-use Rattle.std.proofs.Common.{arith, ◌-◌, ◌/◌, length-take, take-add, take-append-drop}
+use Rattle.segments.proofs.Words.{◌≡◌, ℕ, ◌+◌, ◌%◌, ◌^◌, ◌<◌, ◌≤◌, List, [], ◌∷◌, ◌++◌, Bool, true, false, cond, length}
+use Rattle.segments.proofs.Words.{take, drop, get_or, map, replicate, ltb, count_by, count_ones, Fits, w8, refl, sym}
+use Rattle.segments.proofs.Words.{ap, ap₂, ◌∙◌, arith, ◌-◌, ◌/◌, length-take, take-add, take-append-drop, chars}
+use Rattle.segments.proofs.Words.{encode_utf8, encode_utf8_all, IsUtf8, IsCharBoundary, nat_tests, length-map}
+use Rattle.segments.proofs.Words.{count_by-le-length, sum_by-append, sum_by-cons, bitmask_splat, map-map, ones-mask_l}
+use Rattle.segments.proofs.Words.{zip2_splat, chars-append, encodes-chars, IsUtf8-take, begins_character, beginnings}
 use lib.Lanes.{Each1, chunk, mask_l, top, zip2}
 use lib.Seq.{drop-append_seam}
 use lib.Utf8.{encode}
-use Rattle.std.specs.Prelude.{chars, encode_utf8, encode_utf8_all, IsUtf8}
-use Rattle.std.specs.Str.{IsCharBoundary}
-use Rattle.std.proofs.lemmas.Bool.Decides.{nat_tests}
-use Rattle.std.proofs.lemmas.List.{length-map}
-use Rattle.std.proofs.lemmas.List.Sums.{count_by-le-length, sum_by-append, sum_by-cons}
-use Rattle.std.proofs.lemmas.Simd.{bitmask_splat, map-map, ones-mask_l, zip2_splat}
-use Rattle.std.proofs.lemmas.Str.{chars-append, encodes-chars, IsUtf8-take}
-use Rattle.segments.specs.Beginnings.{begins_character, beginnings}
 
 -- 64 more make the bytes that go on with a character the greatest
 moved_test : (byte : ℕ) → byte < 256 → ltb ((byte + 64) % 256) 192 ≡ begins_character byte

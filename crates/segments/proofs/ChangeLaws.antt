@@ -1,23 +1,11 @@
 -- The columns that other toggles make.
-use Rattle.std.proofs.Common.{◌≡◌, ℕ, zero, suc, ◌+◌, ◌-◌, ◌<◌, ◌≤◌, ◌≢◌, nat_le, nat_lt, ◌&&◌, Bool, true, false, ◌==◌}
-use Rattle.std.proofs.Common.{◌||◌, List, [], ◌∷◌, ◌++◌, length, map, take, drop, inl, inr, refl, sym, ap, ap₂, subst}
-use Rattle.std.proofs.Common.{◌∙◌, arith, cond}
-use Rattle.std.specs.Prelude.{if◌then◌else◌}
-use Rattle.std.proofs.lemmas.Bool.{cases_eq}
-use Rattle.std.proofs.lemmas.Bool.Decides.{nat_tests}
-use Rattle.std.specs.Cmp.{nat_cmp_total, unsigned_tied}
-use Rattle.std.specs.Ordering.{nat_cmp}
-use Rattle.text_model.specs.Steps.{set_slot}
+use Rattle.segments.proofs.Words.{◌≡◌, ℕ, zero, suc, ◌+◌, ◌-◌, ◌<◌, ◌≤◌, ◌≢◌, nat_le, nat_lt, ◌&&◌, Bool, true, false}
+use Rattle.segments.proofs.Words.{◌==◌, ◌||◌, List, [], ◌∷◌, ◌++◌, length, map, take, drop, inl, inr, refl, sym, ap}
+use Rattle.segments.proofs.Words.{ap₂, subst, ◌∙◌, arith, cond, if◌then◌else◌, cases_eq, nat_tests, nat_cmp_total}
+use Rattle.segments.proofs.Words.{unsigned_tied, nat_cmp, set_slot, contains-differing, either, same_slots, Slots}
+use Rattle.segments.proofs.Words.{differing, changed, Toggled, Column, flipped, slots_cleared, toggled_at, columns_from}
 use Rattle.text_model.proofs.CellLaws.{contains-set_slot}
-use Rattle.toggle_sums.specs.CountLaws.{contains-differing, either, same_slots}
 use Rattle.std.specs.FinSet as finset
-use Rattle.text_model.specs.Content.{Slots}
-use Rattle.text_model.specs.SlotSets.{differing}
-use Rattle.text_model.specs.Splices.{changed}
-use Rattle.segments.specs.declared.toggles.Toggled.{Toggled}
-use Rattle.segments.specs.Columns.{Column}
-use Rattle.segments.specs.Entries.{flipped, slots_cleared, toggled_at}
-use Rattle.segments.specs.Kept.{columns_from}
 
 -- the same columns where the toggles are the same, if need be some columns on
 pub columns_same : (first second : ℕ) (text : List ℕ) (new old : List Toggled) →

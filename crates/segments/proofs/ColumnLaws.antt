@@ -1,21 +1,12 @@
 -- The columns that characters and toggles make.
-use Rattle.std.proofs.Common.{◌≡◌, ℕ, zero, suc, ◌+◌, ◌*◌, ◌<◌, ◌≤◌, min, Bool, true, false, ◌||◌, List, [], ◌∷◌}
-use Rattle.std.proofs.Common.{◌++◌, length, take, drop, inl, inr, refl, sym, ap, ap₂, ◌∙◌, arith, length-take}
-use Rattle.std.proofs.Common.{take-append-drop}
-use Rattle.std.proofs.lemmas.Bool.{cases_eq, false≢true}
-use Rattle.std.proofs.lemmas.List.{take_all}
-use Rattle.std.specs.Cmp.{nat_cmp_total}
+use Rattle.segments.proofs.Words.{◌≡◌, ℕ, zero, suc, ◌+◌, ◌*◌, ◌<◌, ◌≤◌, min, Bool, true, false, ◌||◌, List, [], ◌∷◌}
+use Rattle.segments.proofs.Words.{◌++◌, length, take, drop, inl, inr, refl, sym, ap, ap₂, ◌∙◌, arith, length-take}
+use Rattle.segments.proofs.Words.{take-append-drop, cases_eq, false≢true, take_all, nat_cmp_total, Slots, differing}
+use Rattle.segments.proofs.Words.{WORDS, parity, presence, contains-differing, differing-associative, either}
+use Rattle.segments.proofs.Words.{empty-differing, empty-union, same_slots, union-associative, Toggled, Column}
+use Rattle.segments.proofs.Words.{characters, plain_columns, tags_before, toggles, LieIn, RiseIn, any_of, odd_of}
+use Rattle.segments.proofs.Words.{place_of, toggled_at, columns_from}
 use Rattle.std.specs.FinSet as set
-use Rattle.text_model.specs.Content.{Slots}
-use Rattle.text_model.specs.SlotSets.{differing}
-use Rattle.text_model.specs.declared.tag_set.TheConstants.{WORDS}
-use Rattle.toggle_sums.specs.Toggles.{parity, presence}
-use Rattle.toggle_sums.specs.CountLaws.{contains-differing, differing-associative, either}
-use Rattle.toggle_sums.specs.CountLaws.{empty-differing, empty-union, same_slots, union-associative}
-use Rattle.segments.specs.declared.toggles.Toggled.{Toggled}
-use Rattle.segments.specs.Columns.{Column, characters, plain_columns, tags_before, toggles}
-use Rattle.segments.specs.Entries.{LieIn, RiseIn, any_of, odd_of, place_of, toggled_at}
-use Rattle.segments.specs.Kept.{columns_from}
 use Rattle.segments.proofs.EntryLaws.{LieIn-both, RiseIn-take, front_alone, met, none_before, none_below, own_slot}
 use Rattle.segments.proofs.EntryLaws.{passed}
 

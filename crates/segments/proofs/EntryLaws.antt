@@ -1,23 +1,11 @@
 -- The toggles of a line: where they lie, and what they are at a column.
-use Rattle.std.proofs.Common.{◌≡◌, ℕ, zero, suc, ◌+◌, ◌*◌, ◌/◌, ◌<◌, ◌≤◌, ◌≢◌, min, true, false, inl, inr, subst}
-use Rattle.std.proofs.Common.{◌==◌, List, [], ◌∷◌, ◌++◌, length, take, drop, get_or, refl}
-use Rattle.std.proofs.Common.{Bool, ltb, sym, ap, ap₂, ◌∙◌, arith}
-use Rattle.std.specs.Prelude.{if◌then◌else◌}
-use Rattle.std.specs.List.{All}
-use Rattle.std.specs.List.Sorted.{IsNonDecreasingBy}
-use Rattle.std.proofs.lemmas.Bool.{cases_eq}
-use Rattle.std.proofs.lemmas.Bool.Decides.{nat_tests}
-use Rattle.std.proofs.lemmas.List.{drop_more}
-use Rattle.std.proofs.lemmas.List.Elements.{All-cons, All-nil}
+use Rattle.segments.proofs.Words.{◌≡◌, ℕ, zero, suc, ◌+◌, ◌*◌, ◌/◌, ◌<◌, ◌≤◌, ◌≢◌, min, true, false, inl, inr, subst}
+use Rattle.segments.proofs.Words.{◌==◌, List, [], ◌∷◌, ◌++◌, length, take, drop, get_or, refl, Bool, ltb, sym, ap, ap₂}
+use Rattle.segments.proofs.Words.{◌∙◌, arith, if◌then◌else◌, All, IsNonDecreasingBy, cases_eq, nat_tests, drop_more}
+use Rattle.segments.proofs.Words.{All-cons, All-nil, nat_cmp, Slots, word_index, differing, WORDS, contains-differing}
+use Rattle.segments.proofs.Words.{differing-associative, either, union-associative, Toggled, HasOneWord, LieIn, RiseIn}
+use Rattle.segments.proofs.Words.{any_of, odd_of, place_of, toggled_at}
 use Rattle.std.specs.FinSet as set
-use Rattle.std.specs.Ordering.{nat_cmp}
-use Rattle.text_model.specs.Content.{Slots}
-use Rattle.text_model.specs.OneWord.{word_index}
-use Rattle.text_model.specs.SlotSets.{differing}
-use Rattle.text_model.specs.declared.tag_set.TheConstants.{WORDS}
-use Rattle.toggle_sums.specs.CountLaws.{contains-differing, differing-associative, either, union-associative}
-use Rattle.segments.specs.declared.toggles.Toggled.{Toggled}
-use Rattle.segments.specs.Entries.{HasOneWord, LieIn, RiseIn, any_of, odd_of, place_of, toggled_at}
 
 -- no entry stands below the first place
 from_low : (from to : ℕ) (entries : List Toggled) (k : ℕ) (d : Toggled) → RiseIn from to entries → k < length entries →

@@ -1,16 +1,10 @@
 -- The columns of a line after an insertion and after a removal.
-use Rattle.std.proofs.Common.{◌≡◌, ℕ, suc, ◌+◌, ◌-◌, ◌<◌, ◌≤◌, List, [], ◌∷◌, ◌++◌, length, map, take, drop, refl, sym}
-use Rattle.std.proofs.Common.{ap, ap₂, ◌∙◌, arith, length-append, length-drop}
-use Rattle.std.specs.Prelude.{slice_range}
-use Rattle.std.proofs.lemmas.List.{length-take-le}
+use Rattle.segments.proofs.Words.{◌≡◌, ℕ, suc, ◌+◌, ◌-◌, ◌<◌, ◌≤◌, List, [], ◌∷◌, ◌++◌, length, map, take, drop, refl}
+use Rattle.segments.proofs.Words.{sym, ap, ap₂, ◌∙◌, arith, length-append, length-drop, slice_range, length-take-le}
+use Rattle.segments.proofs.Words.{differing, inserted, removed, parity, Toggled, Column, plain_columns, toggled_first}
+use Rattle.segments.proofs.Words.{toggles, without_columns, LieIn, entries_in, moved_on, odd_of, toggled_at}
+use Rattle.segments.proofs.Words.{without_span, columns_from}
 use Rattle.std.specs.FinSet as finset
-use Rattle.text_model.specs.SlotSets.{differing}
-use Rattle.text_model.specs.Splices.{inserted, removed}
-use Rattle.toggle_sums.specs.Toggles.{parity}
-use Rattle.segments.specs.declared.toggles.Toggled.{Toggled}
-use Rattle.segments.specs.Columns.{Column, plain_columns, toggled_first, toggles, without_columns}
-use Rattle.segments.specs.Entries.{LieIn, entries_in, moved_on, odd_of, toggled_at, without_span}
-use Rattle.segments.specs.Kept.{columns_from}
 use Rattle.segments.proofs.ChangeLaws.{columns_same}
 use Rattle.segments.proofs.ColumnLaws.{columns-append, columns-plain, drop-columns, parity-columns, take-columns}
 use Rattle.segments.proofs.EntryLaws.{LieIn-wide, front_alone, none_before}

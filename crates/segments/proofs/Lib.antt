@@ -15,3 +15,4 @@ pub mod SpanLaws
 pub mod SumLaws
 pub mod TextLaws
 pub mod ToggleLaws
+pub mod Words

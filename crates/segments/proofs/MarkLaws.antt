@@ -1,26 +1,17 @@
 -- The marks of a line by their numbers.
-use Rattle.std.proofs.Common.{◌≡◌, ◌≢◌, ℕ, zero, suc, ◌+◌, ◌<◌, ◌≤◌, Bool, true, false, cond, ◌&&◌, not, T, List, []}
-use Rattle.std.proofs.Common.{◌∷◌, ◌++◌, Option, None, Some, length, get_or, set, take, drop, refl, sym, ap, ap₂, subst}
-use Rattle.std.proofs.Common.{subst₂, ◌∙◌, append_assoc, arith}
-use Rattle.std.proofs.lemmas.Bool.Decides.{nat_tests}
-use Rattle.std.proofs.lemmas.List.{append-nil, drop_all, drop_more}
-use Rattle.std.proofs.lemmas.List.Elements.{All-cons, All-head, All-nil, All-push, All-tail, All-weaker}
-use Rattle.std.proofs.lemmas.Option.{slice_get-map}
-use Rattle.std.specs.Cmp.{eq_by_cmp_equiv, nat_cmp_is, nat_cmp_total, unsigned_tied}
+use Rattle.segments.proofs.Words.{◌≡◌, ◌≢◌, ℕ, zero, suc, ◌+◌, ◌<◌, ◌≤◌, Bool, true, false, cond, ◌&&◌, not, T, List}
+use Rattle.segments.proofs.Words.{[], ◌∷◌, ◌++◌, Option, None, Some, length, get_or, set, take, drop, refl, sym, ap}
+use Rattle.segments.proofs.Words.{ap₂, subst, subst₂, ◌∙◌, append_assoc, arith, nat_tests, append-nil, drop_all}
+use Rattle.segments.proofs.Words.{drop_more, All-cons, All-head, All-nil, All-push, All-tail, All-weaker, slice_get-map}
+use Rattle.segments.proofs.Words.{eq_by_cmp_equiv, nat_cmp_is, nat_cmp_total, unsigned_tied, find, is_sorted}
+use Rattle.segments.proofs.Words.{nat_cmp-IsAntisymmetric, put, below_all, by_order, find-where_key, is_sorted-put}
+use Rattle.segments.proofs.Words.{is_sorted-where_key, where_key, All, insert, remove, IsNonDecreasingBy, eq_by_cmp}
+use Rattle.segments.proofs.Words.{is_eq, is_lt, nat_cmp, ⊤, option_map, slice_get, Place, Marks, map_marks}
+use Rattle.segments.proofs.Words.{get-map_marks, same_marks, Mark, joined_marks, later, Below, Rise, entries_of}
+use Rattle.segments.proofs.Words.{entry_of, marks_of}
 use Rattle.std.specs.FinMap as finite
-use Rattle.std.specs.FinMap.{find, is_sorted, nat_cmp-IsAntisymmetric, put}
-use Rattle.std.specs.FinMap.Entries.{below_all, by_order, find-where_key, is_sorted-put, is_sorted-where_key, where_key}
-use Rattle.std.specs.List.{All, insert, remove}
-use Rattle.std.specs.List.Sorted.{IsNonDecreasingBy}
-use Rattle.std.specs.Ordering.{eq_by_cmp, is_eq, is_lt, nat_cmp}
 use Rattle.std.specs.declared.cmp.Ordering.TheVariants.{Less, Equal, Greater}
-use Rattle.std.specs.Prelude.{◌==◌, ⊤, option_map, slice_get}
-use Rattle.text_model.specs.declared.places.Place.{Place}
-use Rattle.text_model.specs.Content.{Marks, map_marks}
-use Rattle.text_model.proofs.PlaceLaws.{get-map_marks, same_marks}
-use Rattle.segments.specs.declared.marks.Mark.{Mark}
-use Rattle.segments.specs.Columns.{joined_marks, later}
-use Rattle.segments.specs.Marks.{Below, Rise, entries_of, entry_of, marks_of}
+use Rattle.std.specs.Prelude.{◌==◌}
 
 pub marks_of-nil : marks_of [] ≡ finite.empty
 marks_of-nil = finite.same_map nat_cmp_total finite.nat_cmp-IsAntisymmetric _ _ (λ q.

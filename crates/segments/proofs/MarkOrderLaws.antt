@@ -1,19 +1,11 @@
 -- The marks of a line by where they stand.
-use Rattle.std.proofs.Common.{◌≡◌, ℕ, ◌≤◌, min, max, true, false, cond, nat_le, nat_lt, ◌==◌, List, [], ◌∷◌, None, Some}
-use Rattle.std.proofs.Common.{map, sym, ap, subst, ◌∙◌, arith}
-use Rattle.std.specs.Prelude.{IfSome}
+use Rattle.segments.proofs.Words.{◌≡◌, ℕ, ◌≤◌, min, max, true, false, cond, nat_le, nat_lt, ◌==◌, List, [], ◌∷◌, None}
+use Rattle.segments.proofs.Words.{Some, map, sym, ap, subst, ◌∙◌, arith, IfSome, find, eq_by_cmp, nat_cmp, All-head}
+use Rattle.segments.proofs.Words.{All-tail, IfSome_then, filter, reduce, Place, marks_at, next_mark, previous_mark}
+use Rattle.segments.proofs.Words.{IsMarked, next_mark-marked, previous_mark-marked, reduced_from, Mark, Rise, StandIn}
+use Rattle.segments.proofs.Words.{entries_of, marks_of}
 use Rattle.std.specs.FinMap as finite
-use Rattle.std.specs.FinMap.{find}
-use Rattle.std.specs.Ordering.{eq_by_cmp, nat_cmp}
-use Rattle.std.proofs.lemmas.List.Elements.{All-head, All-tail}
-use Rattle.std.proofs.lemmas.Option.{IfSome_then}
-use Rattle.std.specs.List.{filter, reduce}
 use Rattle.text_model.specs.declared.places.MarkNo.{MarkNo}
-use Rattle.text_model.specs.declared.places.Place.{Place}
-use Rattle.text_model.specs.MarkOrder.{marks_at, next_mark, previous_mark}
-use Rattle.text_model.proofs.MarkOrderLaws.{IsMarked, next_mark-marked, previous_mark-marked, reduced_from}
-use Rattle.segments.specs.declared.marks.Mark.{Mark}
-use Rattle.segments.specs.Marks.{Rise, StandIn, entries_of, marks_of}
 use Rattle.segments.proofs.MarkLaws.{entries-marks_of, get-marks_of}
 
 -- the numbers of the marks at a column

@@ -1,23 +1,13 @@
 -- The marks of a line as a map, and what moving them makes of it.
-use Rattle.std.proofs.Common.{◌≡◌, ℕ, ◌+◌, ◌<◌, ◌≤◌, T, ◌&&◌, ◌++◌, List, [], ◌∷◌, true, false, length, map, take, drop, refl}
-use Rattle.std.proofs.Common.{sym, ap, ap₂, subst, ◌∙◌, arith}
-use Rattle.std.specs.List.{All}
-use Rattle.std.specs.Prelude.{◌==◌, ◌||◌, if◌then◌else◌, nat_lt}
-use Rattle.std.proofs.lemmas.List.{length-map, take-append-le, take_all}
-use Rattle.std.proofs.lemmas.Bool.Decides.{nat_tests}
-use Rattle.std.proofs.lemmas.List.Elements.{All-head, All-map, All-tail, All-weaker}
-use Rattle.std.specs.Cmp.{nat_cmp_total}
+use Rattle.segments.proofs.Words.{◌≡◌, ℕ, ◌+◌, ◌<◌, ◌≤◌, T, ◌&&◌, ◌++◌, List, [], ◌∷◌, true, false, length, map, take}
+use Rattle.segments.proofs.Words.{drop, refl, sym, ap, ap₂, subst, ◌∙◌, arith, All, if◌then◌else◌, length-map}
+use Rattle.segments.proofs.Words.{take-append-le, take_all, nat_tests, All-head, All-map, All-tail, All-weaker}
+use Rattle.segments.proofs.Words.{nat_cmp_total, is_sorted, below_all, is_lt, nat_cmp, Place, map_marks, drawn}
+use Rattle.segments.proofs.Words.{is_right, moved, Mark, AreKept, AreMarks, Rise, StandIn, entries_of, entry_of}
+use Rattle.segments.proofs.Words.{marks_of, with_place}
+use Rattle.std.specs.Prelude.{◌==◌, ◌||◌, nat_lt}
 use Rattle.std.specs.FinMap as finite
-use Rattle.std.specs.FinMap.{is_sorted}
-use Rattle.std.specs.FinMap.Entries.{below_all}
-use Rattle.std.specs.Ordering.{is_lt, nat_cmp}
-use Rattle.text_model.specs.declared.places.Place.{Place}
-use Rattle.text_model.specs.Content.{map_marks}
-use Rattle.text_model.specs.Splices.{drawn, is_right, moved}
 use Rattle.text_model.proofs.StepLaws.{moved_le}
-use Rattle.segments.specs.declared.marks.Mark.{Mark}
-use Rattle.segments.specs.Kept.{AreKept, AreMarks}
-use Rattle.segments.specs.Marks.{Rise, StandIn, entries_of, entry_of, marks_of, with_place}
 
 pub len-marks : (marks : List Mark) → Rise marks → finite.len (marks_of marks) ≡ length marks
 len-marks marks rise = finite.len-entries (marks_of marks)

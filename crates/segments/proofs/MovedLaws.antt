@@ -1,15 +1,8 @@
 -- Toggles that move on or back by some columns.
-use Rattle.std.proofs.Common.{◌≡◌, ℕ, suc, ◌+◌, ◌-◌, ◌*◌, ◌<◌, ◌≤◌, ◌^◌, ◌==◌, Bool, List, [], ◌∷◌}
-use Rattle.std.proofs.Common.{◌++◌, map, take, drop, refl, sym, ap, ap₂, subst, ◌∙◌, arith, take-append-drop}
-use Rattle.std.specs.Prelude.{if◌then◌else◌}
-use Rattle.std.specs.List.{All}
-use Rattle.std.proofs.lemmas.Bool.Decides.{nat_tests}
-use Rattle.std.proofs.lemmas.List.Elements.{All-cons, All-nil}
-use Rattle.text_model.specs.SlotSets.{differing}
-use Rattle.text_model.specs.declared.tag_set.TheConstants.{WORDS}
-use Rattle.toggle_sums.specs.CountLaws.{empty-differing}
-use Rattle.segments.specs.declared.toggles.Toggled.{Toggled}
-use Rattle.segments.specs.Entries.{CanMoveBack, CanMoveOn, LieIn, RiseIn, moved_back, moved_on, place_of, toggled_at}
+use Rattle.segments.proofs.Words.{◌≡◌, ℕ, suc, ◌+◌, ◌-◌, ◌*◌, ◌<◌, ◌≤◌, ◌^◌, ◌==◌, Bool, List, [], ◌∷◌, ◌++◌, map, take}
+use Rattle.segments.proofs.Words.{drop, refl, sym, ap, ap₂, subst, ◌∙◌, arith, take-append-drop, if◌then◌else◌, All}
+use Rattle.segments.proofs.Words.{nat_tests, All-cons, All-nil, differing, WORDS, empty-differing, Toggled, CanMoveBack}
+use Rattle.segments.proofs.Words.{CanMoveOn, LieIn, RiseIn, moved_back, moved_on, place_of, toggled_at}
 use Rattle.segments.proofs.EntryLaws.{front_alone, none_before, none_behind}
 use Rattle.segments.proofs.ToggleLaws.{toggled-append}
 

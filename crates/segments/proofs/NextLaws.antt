@@ -1,20 +1,13 @@
 -- The next and the last column with a toggle of a slot, by the entries and by the columns.
-use Rattle.std.proofs.Common.{◌≡◌, ℕ, zero, suc, ◌+◌, ◌-◌, ◌*◌, ◌<◌, ◌≤◌, Bool, true, false, cond, not, ◌&&◌, nat_lt, Option}
-use Rattle.std.proofs.Common.{Some, None, List, [], ◌∷◌, length, get_or, take, drop, inl, inr, refl, sym, ap, ap₂}
-use Rattle.std.proofs.Common.{subst, ◌∙◌, arith, length-drop}
-use Rattle.std.specs.Prelude.{IfSome, if◌then◌else◌, nat_le, option_map}
-use Rattle.std.proofs.lemmas.Bool.{cases_order, false≢true}
-use Rattle.std.proofs.lemmas.Bool.Decides.{nat_tests}
-use Rattle.std.proofs.lemmas.List.Sums.{suffix_len-take_no, suffix_len-take_yes}
+use Rattle.segments.proofs.Words.{◌≡◌, ℕ, zero, suc, ◌+◌, ◌-◌, ◌*◌, ◌<◌, ◌≤◌, Bool, true, false, cond, not, ◌&&◌}
+use Rattle.segments.proofs.Words.{nat_lt, Option, Some, None, List, [], ◌∷◌, length, get_or, take, drop, inl, inr, refl}
+use Rattle.segments.proofs.Words.{sym, ap, ap₂, subst, ◌∙◌, arith, length-drop, IfSome, if◌then◌else◌, option_map}
+use Rattle.segments.proofs.Words.{cases_order, false≢true, nat_tests, suffix_len-take_no, suffix_len-take_yes, position}
+use Rattle.segments.proofs.Words.{prefix_len, nat_cmp, WORDS, contains-differing, either, Toggled, Column, free_behind}
+use Rattle.segments.proofs.Words.{next_toggle, previous_toggle, LieIn, RiseIn, later_of, next_entry, place_of}
+use Rattle.segments.proofs.Words.{previous_entry, toggled_at, columns_from}
+use Rattle.std.specs.Prelude.{nat_le}
 use Rattle.std.specs.FinSet as finset
-use Rattle.std.specs.List.{position, prefix_len}
-use Rattle.std.specs.Ordering.{nat_cmp}
-use Rattle.text_model.specs.declared.tag_set.TheConstants.{WORDS}
-use Rattle.toggle_sums.specs.CountLaws.{contains-differing, either}
-use Rattle.segments.specs.declared.toggles.Toggled.{Toggled}
-use Rattle.segments.specs.Columns.{Column, free_behind, next_toggle, previous_toggle}
-use Rattle.segments.specs.Entries.{LieIn, RiseIn, later_of, next_entry, place_of, previous_entry, toggled_at}
-use Rattle.segments.specs.Kept.{columns_from}
 use Rattle.segments.proofs.ColumnLaws.{drop-columns, length-columns}
 use Rattle.segments.proofs.EntryLaws.{met, none_below, own_slot, passed}
 use Rattle.segments.proofs.PreviousLaws.{behind_none, own}

@@ -1,28 +1,14 @@
 -- A line in two parts: its columns and its marks before a column and from it on, and those of two lines joined.
-use Rattle.std.proofs.Common.{◌≡◌, ℕ, ◌+◌, ◌-◌, ◌≤◌, min, Bool, true, false, cond, ◌&&◌, T, nat_le, nat_lt, List, []}
-use Rattle.std.proofs.Common.{◌∷◌, ◌++◌, length, map, take, drop, refl, sym, ap, ap₂, subst, ◌∙◌, arith, length-take}
-use Rattle.std.proofs.Common.{take-append-drop}
-use Rattle.std.proofs.Math.Seq.{drop-append_seam, take-append_seam}
-use Rattle.std.proofs.lemmas.Bool.Decides.{nat_tests}
-use Rattle.std.proofs.lemmas.List.{append-nil, take_rest}
-use Rattle.std.proofs.lemmas.List.Elements.{All-filter, All-weaker, filter_passes}
-use Rattle.std.specs.Cmp.{nat_cmp_total}
+use Rattle.segments.proofs.Words.{◌≡◌, ℕ, ◌+◌, ◌-◌, ◌≤◌, min, Bool, true, false, cond, ◌&&◌, T, nat_le, nat_lt, List}
+use Rattle.segments.proofs.Words.{[], ◌∷◌, ◌++◌, length, map, take, drop, refl, sym, ap, ap₂, subst, ◌∙◌, arith}
+use Rattle.segments.proofs.Words.{length-take, take-append-drop, drop-append_seam, take-append_seam, nat_tests}
+use Rattle.segments.proofs.Words.{append-nil, take_rest, All-filter, All-weaker, filter_passes, nat_cmp_total}
+use Rattle.segments.proofs.Words.{is_sorted, below_all, filter, nat_cmp, OnOk, Result, Ok, Err, Place, map_marks}
+use Rattle.segments.proofs.Words.{same_marks, Mark, Toggled, Column, earlier, marks_where, plain_columns, LieIn}
+use Rattle.segments.proofs.Words.{moved_back, moved_on, toggled_at, AreMarks, columns_from, Rise, entries_of, entry_of}
+use Rattle.segments.proofs.Words.{marks_of, with_place}
 use Rattle.std.specs.FinMap as finite
-use Rattle.std.specs.FinMap.{is_sorted}
-use Rattle.std.specs.FinMap.Entries.{below_all}
-use Rattle.std.specs.List.{filter}
-use Rattle.std.specs.Ordering.{nat_cmp}
-use Rattle.std.specs.Prelude.{OnOk, Result, Ok, Err}
 use Rattle.std.specs.Result.{is_err}
-use Rattle.text_model.specs.declared.places.Place.{Place}
-use Rattle.text_model.specs.Content.{map_marks}
-use Rattle.text_model.proofs.PlaceLaws.{same_marks}
-use Rattle.segments.specs.declared.marks.Mark.{Mark}
-use Rattle.segments.specs.declared.toggles.Toggled.{Toggled}
-use Rattle.segments.specs.Columns.{Column, earlier, marks_where, plain_columns}
-use Rattle.segments.specs.Entries.{LieIn, moved_back, moved_on, toggled_at}
-use Rattle.segments.specs.Kept.{AreMarks, columns_from}
-use Rattle.segments.specs.Marks.{Rise, entries_of, entry_of, marks_of, with_place}
 use Rattle.segments.proofs.ChangeLaws.{columns_same}
 use Rattle.segments.proofs.ColumnLaws.{columns-append, columns-front, columns-plain, drop-columns, take-columns}
 use Rattle.segments.proofs.MarkLaws.{entries-marks_of, get-marks_of}

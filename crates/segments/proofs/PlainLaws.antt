@@ -1,31 +1,15 @@
 -- Lines without toggles and marks.
-use Rattle.std.proofs.Common.{◌≡◌, ℕ, ◌+◌, ◌-◌, ◌<◌, ◌≤◌, ◌==◌, ◌&&◌, Bool, true, false, cond, min, max}
-use Rattle.std.proofs.Common.{nat_le, nat_lt, List, [], ◌∷◌, ◌++◌, None, length, map, take, drop, refl, sym, ap, ap₂}
-use Rattle.std.proofs.Common.{◌∙◌, arith}
-use Rattle.std.specs.Prelude.{slice_get, slice_range}
-use Rattle.std.specs.Cmp.{nat_cmp_total}
-use Rattle.std.specs.List.{filter, reduce}
+use Rattle.segments.proofs.Words.{◌≡◌, ℕ, ◌+◌, ◌-◌, ◌<◌, ◌≤◌, ◌==◌, ◌&&◌, Bool, true, false, cond, min, max, nat_le}
+use Rattle.segments.proofs.Words.{nat_lt, List, [], ◌∷◌, ◌++◌, None, length, map, take, drop, refl, sym, ap, ap₂, ◌∙◌}
+use Rattle.segments.proofs.Words.{arith, slice_get, slice_range, nat_cmp_total, filter, reduce, eq_by_cmp, nat_cmp}
+use Rattle.segments.proofs.Words.{Place, Marks, Slots, map_marks, marks_at, next_mark, previous_mark, differing}
+use Rattle.segments.proofs.Words.{changed, inserted, moved, removed, set_slot, same_marks, differing-empty, counting}
+use Rattle.segments.proofs.Words.{parity, presence, Mark, Toggled, Column, after_removal, after_text, characters}
+use Rattle.segments.proofs.Words.{joined, line_before, line_behind, line_count, marks_where, next_toggle, plain_columns}
+use Rattle.segments.proofs.Words.{plain_line, previous_toggle, toggled_first, toggled_more, toggles, with_toggle}
+use Rattle.segments.proofs.Words.{without_columns, columns_from, marks_of}
 use Rattle.std.specs.FinMap as finite
 use Rattle.std.specs.FinSet as set
-use Rattle.std.specs.Ordering.{eq_by_cmp, nat_cmp}
-use Rattle.text_model.specs.declared.places.Place.{Place}
-use Rattle.text_model.specs.Content.{Marks, Slots, map_marks}
-use Rattle.text_model.specs.MarkOrder.{marks_at, next_mark, previous_mark}
-use Rattle.text_model.specs.SlotSets.{differing}
-use Rattle.text_model.specs.Splices.{changed, inserted, moved, removed}
-use Rattle.text_model.specs.Steps.{set_slot}
-use Rattle.text_model.proofs.PlaceLaws.{same_marks}
-use Rattle.toggle_sums.specs.CountLaws.{differing-empty}
-use Rattle.toggle_sums.specs.Counts.{counting}
-use Rattle.toggle_sums.specs.Toggles.{parity, presence}
-use Rattle.segments.specs.declared.marks.Mark.{Mark}
-use Rattle.segments.specs.declared.toggles.Toggled.{Toggled}
-use Rattle.segments.specs.Columns.{Column, after_removal, after_text, characters, joined}
-use Rattle.segments.specs.Columns.{line_before, line_behind, line_count, marks_where, next_toggle, plain_columns}
-use Rattle.segments.specs.Columns.{plain_line, previous_toggle, toggled_first, toggled_more, toggles}
-use Rattle.segments.specs.Columns.{with_toggle, without_columns}
-use Rattle.segments.specs.Kept.{columns_from}
-use Rattle.segments.specs.Marks.{marks_of}
 use Rattle.segments.proofs.ChangeLaws.{columns_changed, columns_cleared, slots_kept}
 use Rattle.segments.proofs.ColumnLaws.{characters-columns, columns-plain, drop-columns, length-columns, parity-columns}
 use Rattle.segments.proofs.ColumnLaws.{presence-columns, take-columns}

@@ -1,12 +1,9 @@
 -- The last column with a toggle of a slot among the entries of a line.
-use Rattle.std.proofs.Common.{◌≡◌, ℕ, zero, suc, ◌*◌, ◌<◌, ◌≤◌, true, false, ◌&&◌, nat_lt, Option, Some, None, List, [], ◌∷◌}
-use Rattle.std.proofs.Common.{◌++◌, length, take, drop, get_or, refl, sym, ap, ◌∙◌, arith, take-append-drop}
-use Rattle.std.specs.Prelude.{if◌then◌else◌}
-use Rattle.std.proofs.lemmas.Bool.Decides.{nat_tests}
+use Rattle.segments.proofs.Words.{◌≡◌, ℕ, zero, suc, ◌*◌, ◌<◌, ◌≤◌, true, false, ◌&&◌, nat_lt, Option, Some, None, List}
+use Rattle.segments.proofs.Words.{[], ◌∷◌, ◌++◌, length, take, drop, get_or, refl, sym, ap, ◌∙◌, arith}
+use Rattle.segments.proofs.Words.{take-append-drop, if◌then◌else◌, nat_tests, Toggled, WORDS, LieIn, RiseIn, later_of}
+use Rattle.segments.proofs.Words.{place_of, previous_entry}
 use Rattle.std.specs.FinSet as set
-use Rattle.segments.specs.declared.toggles.Toggled.{Toggled}
-use Rattle.text_model.specs.declared.tag_set.TheConstants.{WORDS}
-use Rattle.segments.specs.Entries.{LieIn, RiseIn, later_of, place_of, previous_entry}
 
 abbrev pub own : ℕ → ℕ → Toggled → Option ℕ
 own slot column entry = if nat_lt entry.column column && set.contains entry.slots slot then Some entry.column else None

@@ -1,25 +1,14 @@
 -- The toggles of the columns from one to another, and what is left without these.
-use Rattle.std.proofs.Common.{◌≡◌, ℕ, zero, suc, ◌+◌, ◌-◌, ◌*◌, ◌<◌, ◌≤◌, ◌≢◌, ◌⊎◌, Bool, true, false, ◌&&◌, ◌==◌}
-use Rattle.std.proofs.Common.{nat_lt, List, [], ◌∷◌, ◌++◌, length, map, take, drop, inl, inr, refl, sym, ap, ap₂, subst}
-use Rattle.std.proofs.Common.{◌∙◌, arith}
-use Rattle.std.specs.Prelude.{if◌then◌else◌, nat_le, slice_range}
-use Rattle.std.specs.List.{All}
-use Rattle.std.proofs.lemmas.Bool.{cases_eq, cases_lt, false≢true}
-use Rattle.std.proofs.lemmas.Bool.Decides.{nat_tests}
-use Rattle.std.proofs.lemmas.List.{append-nil}
-use Rattle.std.proofs.lemmas.List.Edits.{split_between}
-use Rattle.std.proofs.lemmas.List.Elements.{All-head, All-tail, filter-append}
+use Rattle.segments.proofs.Words.{◌≡◌, ℕ, zero, suc, ◌+◌, ◌-◌, ◌*◌, ◌<◌, ◌≤◌, ◌≢◌, ◌⊎◌, Bool, true, false, ◌&&◌, ◌==◌}
+use Rattle.segments.proofs.Words.{nat_lt, List, [], ◌∷◌, ◌++◌, length, map, take, drop, inl, inr, refl, sym, ap, ap₂}
+use Rattle.segments.proofs.Words.{subst, ◌∙◌, arith, if◌then◌else◌, slice_range, All, cases_eq, cases_lt, false≢true}
+use Rattle.segments.proofs.Words.{nat_tests, append-nil, split_between, All-head, All-tail, filter-append, nat_cmp}
+use Rattle.segments.proofs.Words.{Slots, AreSlots, words_below, differing, WORDS, words_below-differing}
+use Rattle.segments.proofs.Words.{words_below-none, words_below-one, contains-differing, differing-associative}
+use Rattle.segments.proofs.Words.{differing-empty, Toggled, HasOneWord, LieIn, RiseIn, entries_in, flipped, moved_back}
+use Rattle.segments.proofs.Words.{odd_of, place_of, toggled_at, without_span}
+use Rattle.std.specs.Prelude.{nat_le}
 use Rattle.std.specs.FinSet as finset
-use Rattle.std.specs.Ordering.{nat_cmp}
-use Rattle.text_model.specs.Content.{Slots}
-use Rattle.text_model.specs.OneWord.{AreSlots, words_below}
-use Rattle.text_model.specs.SlotSets.{differing}
-use Rattle.text_model.specs.declared.tag_set.TheConstants.{WORDS}
-use Rattle.text_model.proofs.InWordLaws.{words_below-differing, words_below-none, words_below-one}
-use Rattle.toggle_sums.specs.CountLaws.{contains-differing, differing-associative, differing-empty}
-use Rattle.segments.specs.declared.toggles.Toggled.{Toggled}
-use Rattle.segments.specs.Entries.{HasOneWord, LieIn, RiseIn, entries_in, flipped, moved_back, odd_of, place_of}
-use Rattle.segments.specs.Entries.{toggled_at, without_span}
 use Rattle.segments.proofs.EntryLaws.{RiseIn-low, RiseIn-take, front_alone, met, none_before, passed}
 use Rattle.segments.proofs.MovedLaws.{LieIn-moved_back, rest_alone, toggled-moved_back, toggled_front, toggled_rest}
 use Rattle.segments.proofs.ToggleLaws.{LieIn-append, differing_first, either_of}

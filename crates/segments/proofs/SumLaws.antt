@@ -1,18 +1,10 @@
 -- What is counted of a line, from how many characters and marks it has and from its toggles.
-use Rattle.std.proofs.Common.{◌≡◌, ℕ, ◌+◌, ◌<◌, true, false, ◌||◌, List, drop, get_or, length, sym, ap, ◌∙◌}
-use Rattle.std.proofs.lemmas.List.{drop_more}
-use Rattle.std.specs.Cmp.{nat_cmp_total}
+use Rattle.segments.proofs.Words.{◌≡◌, ℕ, ◌+◌, ◌<◌, true, false, ◌||◌, List, drop, get_or, length, sym, ap, ◌∙◌}
+use Rattle.segments.proofs.Words.{drop_more, nat_cmp_total, differing, differing-empty, empty-differing, empty-union}
+use Rattle.segments.proofs.Words.{union-empty, Count, CountsFit, counting, plus, with_toggles_of, Toggled, LineContent}
+use Rattle.segments.proofs.Words.{line_count, any_of, columns_from, Rise, marks_of, Mark}
 use Rattle.std.specs.FinMap as finite
 use Rattle.std.specs.FinSet as set
-use Rattle.text_model.specs.SlotSets.{differing}
-use Rattle.toggle_sums.specs.CountLaws.{differing-empty, empty-differing, empty-union, union-empty}
-use Rattle.toggle_sums.specs.Counts.{Count, CountsFit, counting, plus, with_toggles_of}
-use Rattle.segments.specs.declared.toggles.Toggled.{Toggled}
-use Rattle.segments.specs.Columns.{LineContent, line_count}
-use Rattle.segments.specs.Entries.{any_of}
-use Rattle.segments.specs.Kept.{columns_from}
-use Rattle.segments.specs.Marks.{Rise, marks_of}
-use Rattle.segments.specs.declared.marks.Mark.{Mark}
 use Rattle.segments.proofs.ColumnLaws.{length-columns}
 use Rattle.segments.proofs.MarkPlaceLaws.{len-marks}
 

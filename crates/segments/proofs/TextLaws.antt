@@ -1,17 +1,14 @@
 -- Where the columns of a text begin in its bytes.
-use Rattle.std.proofs.Common.{◌≡◌, ℕ, zero, suc, ◌+◌, ◌-◌, ◌<◌, ◌≤◌, List, [], ◌∷◌, ◌++◌, length, take, drop, sym, ap}
-use Rattle.std.proofs.Common.{ap₂, ◌∙◌, arith, append-nil, length-append, length-drop, length-take-le, drop-drop}
-use Rattle.std.proofs.Common.{take-append-drop}
-use Rattle.std.specs.Prelude.{chars, encode_utf8, encode_utf8_all, slice_get, IsUtf8, Some}
+use Rattle.segments.proofs.Words.{◌≡◌, ℕ, zero, suc, ◌+◌, ◌-◌, ◌<◌, ◌≤◌, List, [], ◌∷◌, ◌++◌, length, take, drop, sym}
+use Rattle.segments.proofs.Words.{ap, ap₂, ◌∙◌, arith, length-append, length-drop, drop-drop, take-append-drop, chars}
+use Rattle.segments.proofs.Words.{encode_utf8, encode_utf8_all, slice_get, IsUtf8, IsAscii, IsCharBoundary, inserted}
+use Rattle.segments.proofs.Words.{removed, nat_tests, append_cancel_right, chars-append, chars_from_encodes, chars-nil}
+use Rattle.segments.proofs.Words.{chars_past_char, drop_past_char, encode_ascii, encodes-append, encodes-chars}
+use Rattle.segments.proofs.Words.{IsCharBoundary-past_char, IsUtf8-append, IsUtf8-drop, IsUtf8-nil, IsUtf8-take}
+use Rattle.segments.proofs.Words.{length-encode, length-le-encodes, len_utf8_bounds}
+use Rattle.std.proofs.Common.{append-nil, length-take-le}
+use Rattle.std.specs.Prelude.{Some}
 use Rattle.std.specs.Char.{len_utf8}
-use Rattle.std.specs.Str.{IsAscii, IsCharBoundary}
-use Rattle.text_model.specs.Splices.{inserted, removed}
-use Rattle.std.proofs.lemmas.Bool.Decides.{nat_tests}
-use Rattle.std.proofs.lemmas.List.{append_cancel_right}
-use Rattle.std.proofs.lemmas.Str.{chars-append, chars_from_encodes, chars-nil, chars_past_char, drop_past_char}
-use Rattle.std.proofs.lemmas.Str.{encode_ascii, encodes-append, encodes-chars}
-use Rattle.std.proofs.lemmas.Str.{IsCharBoundary-past_char, IsUtf8-append, IsUtf8-drop, IsUtf8-nil, IsUtf8-take}
-use Rattle.std.proofs.lemmas.Str.{length-encode, length-le-encodes, len_utf8_bounds}
 
 pub some_bytes : (bytes : List ℕ) → 0 < length (chars bytes) → 0 < length bytes
 some_bytes [] some = absurd (omega (arith, ap length chars-nil))

@@ -1,25 +1,14 @@
 -- The toggles of a column among the entries of a line.
-use Rattle.std.proofs.Common.{◌≡◌, ℕ, zero, suc, ◌+◌, ◌*◌, ◌/◌, ◌<◌, ◌≤◌, ◌≢◌, ◌⊎◌, nat_le, nat_lt, not, ◌&&◌, Bool}
-use Rattle.std.proofs.Common.{true, false, ◌==◌, List, [], ◌∷◌, ◌++◌, length, take, drop, get_or, set, inl, inr, refl, sym}
-use Rattle.std.proofs.Common.{ap, ap₂, subst, ◌∙◌, arith, take-append-drop}
-use Rattle.std.specs.Prelude.{if◌then◌else◌}
-use Rattle.std.proofs.Math.Seq.{drop-cons}
-use Rattle.std.proofs.lemmas.Bool.{cases_eq, false≢true}
-use Rattle.std.proofs.lemmas.Bool.Decides.{nat_tests}
-use Rattle.std.proofs.lemmas.List.{set_split}
+use Rattle.segments.proofs.Words.{◌≡◌, ℕ, zero, suc, ◌+◌, ◌*◌, ◌/◌, ◌<◌, ◌≤◌, ◌≢◌, ◌⊎◌, nat_le, nat_lt, not, ◌&&◌, Bool}
+use Rattle.segments.proofs.Words.{true, false, ◌==◌, List, [], ◌∷◌, ◌++◌, length, take, drop, get_or, set, inl, inr}
+use Rattle.segments.proofs.Words.{refl, sym, ap, ap₂, subst, ◌∙◌, arith, take-append-drop, if◌then◌else◌, drop-cons}
+use Rattle.segments.proofs.Words.{cases_eq, false≢true, nat_tests, set_split, nat_cmp, Slots, IsOneWord, word_index}
+use Rattle.segments.proofs.Words.{differing, WORDS, word_of, contains-differing, differing-associative}
+use Rattle.segments.proofs.Words.{differing-commutative, differing-empty, either, empty-differing, same_slots, Toggled}
+use Rattle.segments.proofs.Words.{HasOneWord, LieIn, RiseIn, flipped, place_of, slots_cleared, toggled_at}
 use Rattle.std.specs.FinSet as finset
 use Rattle.std.specs.List.Retain.{RetainsInTurn}
-use Rattle.std.specs.Ordering.{nat_cmp}
-use Rattle.text_model.specs.Content.{Slots}
-use Rattle.text_model.specs.OneWord.{IsOneWord, word_index}
-use Rattle.text_model.specs.SlotSets.{differing}
-use Rattle.text_model.specs.declared.tag_set.TheConstants.{WORDS}
-use Rattle.text_model.proofs.InWordLaws.{word_of}
 use Rattle.text_model.proofs.OneWordSteps.{contains-removed}
-use Rattle.toggle_sums.specs.CountLaws.{contains-differing, differing-associative, differing-commutative}
-use Rattle.toggle_sums.specs.CountLaws.{differing-empty, either, empty-differing, same_slots}
-use Rattle.segments.specs.declared.toggles.Toggled.{Toggled}
-use Rattle.segments.specs.Entries.{HasOneWord, LieIn, RiseIn, flipped, place_of, slots_cleared, toggled_at}
 use Rattle.segments.proofs.ChangeLaws.{slots_kept}
 use Rattle.segments.proofs.EntryLaws.{RiseIn-low, apart_from, met, passed, slot_below}
 

@@ -1,15 +1,10 @@
 -- The tags at the front of a table.
-use Rattle.std.proofs.Common.{◌≡◌, ℕ, suc, true, false, Some, List, [], ◌∷◌, map, slice_get, refl, sym, ap, ◌∙◌, arith}
-use Rattle.std.proofs.Common.{if◌then◌else◌}
-use Rattle.std.specs.Prelude.{◌+◌, ◌-◌, ◌==◌, find, bytes_eq, take}
-use Rattle.std.proofs.lemmas.Bool.Decides.{Decides-eqb}
+use Rattle.tag_table.proofs.Words.{◌≡◌, ℕ, suc, true, false, Some, List, [], ◌∷◌, map, slice_get, refl, sym, ap, ◌∙◌}
+use Rattle.tag_table.proofs.Words.{arith, if◌then◌else◌, ◌==◌, find, bytes_eq, take, Decides-eqb, option_map, none-some}
+use Rattle.tag_table.proofs.Words.{same_Some, bytes_eq-Decides, Named, Names, AreKept, tag, tags_kept, slot_of_number}
+use Rattle.tag_table.proofs.Words.{Tag, Tags, slot_of, is_named, first_slot, sel}
+use Rattle.std.specs.Prelude.{◌+◌, ◌-◌}
 use Rattle.std.specs.List.{take-map}
-use Rattle.std.specs.Option.{option_map}
-use Rattle.std.proofs.lemmas.Option.{none-some, same_Some}
-use Rattle.std.proofs.lemmas.Slice.Eq.{bytes_eq-Decides}
-use Rattle.name_list.specs.Names.{Named, Names}
-use Rattle.tag_table.specs.Kept.{AreKept, tag, tags_kept, slot_of_number}
-use Rattle.tag_table.specs.Tags.{Tag, Tags, slot_of, is_named, first_slot, sel}
 
 number_zero : (number : ℕ) → slot_of_number number ≡ 0 → number ≡ 0
 number_zero number is =

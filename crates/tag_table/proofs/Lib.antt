@@ -1,2 +1,3 @@
-pub mod TagLaws
 pub mod FrontLaws
+pub mod TagLaws
+pub mod Words

@@ -1,20 +1,18 @@
 -- Tags as a list of names with numbers, and moves in their order by places.
-use Rattle.std.proofs.Common.{◌≡◌, ◌≢◌, ℕ, zero, suc, ◌+◌, ◌-◌, ◌<◌, ◌≤◌, Bool, true, false, nat_lt, if◌then◌else◌}
-use Rattle.std.proofs.Common.{Option, None, Some, Result, Ok, Err, List, [], ◌∷◌, ◌++◌, length, map, slice_get}
-use Rattle.std.proofs.Common.{Contains, refl, sym, ap, ap₂, ◌∙◌, subst, inl, inr, arith, lit<, true≢false}
-use Rattle.std.specs.Prelude.{position, find, insert, remove, is_some, bytes_eq, chars, IsUtf8, IsAscii, IsNone, IfSome}
-use Rattle.std.specs.Option.{option_map}
+use Rattle.tag_table.proofs.Words.{◌≡◌, ◌≢◌, ℕ, zero, suc, ◌+◌, ◌-◌, ◌<◌, ◌≤◌, Bool, true, false, nat_lt, if◌then◌else◌}
+use Rattle.tag_table.proofs.Words.{Option, None, Some, Result, Ok, Err, List, [], ◌∷◌, ◌++◌, length, map, slice_get}
+use Rattle.tag_table.proofs.Words.{Contains, refl, sym, ap, ap₂, ◌∙◌, subst, inl, inr, arith, lit<, true≢false}
+use Rattle.tag_table.proofs.Words.{position, find, insert, remove, is_some, bytes_eq, chars, IsUtf8, IsAscii, IsNone}
+use Rattle.tag_table.proofs.Words.{IfSome, option_map, nat_tests, length-map, none-some, same_Some, slice_get-map}
+use Rattle.tag_table.proofs.Words.{slice_get-get_or, slice_get_within, bytes_eq-Decides, move_index, without}
+use Rattle.tag_table.proofs.Words.{put_behind, put_before, Named, Names, AreNames, AreApart, place_of, bytes_eq-chars}
+use Rattle.tag_table.proofs.Words.{AreKept, tag, tags_kept, slot_of_number, place_above, above_place, place_below}
+use Rattle.tag_table.proofs.Words.{below_place, next_to, raised, raised_tag, lowered, lowered_tag, deleted, Tag, Tags}
+use Rattle.tag_table.proofs.Words.{AreTags, IsLeastFree, names_of, slots_of, slot_of, is_named, sel}
 use Rattle.std.proofs.lemmas.Bool.{cases_eq}
-use Rattle.std.proofs.lemmas.Bool.Decides.{nat_tests}
-use Rattle.std.proofs.lemmas.List.{length-map}
-use Rattle.std.proofs.lemmas.Option.{none-some, same_Some, slice_get-map, slice_get-get_or, slice_get_within}
 use Rattle.std.proofs.lemmas.Str.{IsUtf8-from_ascii, chars-IsAscii}
-use Rattle.std.proofs.lemmas.Slice.Eq.{bytes_eq-Decides}
-use Rattle.name_list.specs.Moves.{move_index, without, put_behind, put_before}
 use Rattle.name_list.specs.Names as list
-use Rattle.name_list.specs.Names.{Named, Names, AreNames, AreApart, place_of}
 use Rattle.name_list.proofs.PlaceLaws.{stands_move}
-use Rattle.name_list.proofs.ViewLaws.{bytes_eq-chars}
 use Rattle.name_list.proofs.ListLaws.{get_push, get_remove_other, Stands, stands_map, stood_at, stands_from_Contains}
 use Rattle.name_list.proofs.ListLaws.{Contains-from_stands}
 use Rattle.name_list.proofs.MoveLaws.{position-passes, position-some, position-map, position-remove, first_is}
@@ -22,10 +20,6 @@ use Rattle.name_list.proofs.MoveLaws.{none_found, found_at, not_found, without-p
 use Rattle.name_list.proofs.MoveLaws.{put_behind-insert, put_before-insert, insert-remove, moved_at, moved_last}
 use Rattle.tag_table.specs.declared.faults.NoSuchTag.{NoSuchTag}
 use Rattle.tag_table.specs.declared.faults.NoSuchTag.TheVariants.{Moved, Neighbour}
-use Rattle.tag_table.specs.Kept.{AreKept, tag, tags_kept, slot_of_number, place_above, above_place, place_below}
-use Rattle.tag_table.specs.Kept.{below_place}
-use Rattle.tag_table.specs.Priority.{next_to, raised, raised_tag, lowered, lowered_tag, deleted}
-use Rattle.tag_table.specs.Tags.{Tag, Tags, AreTags, IsLeastFree, names_of, slots_of, slot_of, is_named, sel}
 
 -- what is seen of the list
 pub place_seen : (name : List ℕ) (es : List Named) → position (is_named name) (map tag es) ≡ place_of name es

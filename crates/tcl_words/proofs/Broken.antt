@@ -1,12 +1,9 @@
 -- Bytes at fault stay at fault, however they go on.
-use Rattle.std.proofs.Common.{◌≡◌, ℕ, ◌+◌, ◌/◌, ◌%◌, ◌<◌, ◌≤◌, ◌⊎◌, inl, inr, ⊎_elim, true, false, ltb, List, [], ◌∷◌}
-use Rattle.std.proofs.Common.{◌++◌, Some, None, refl, sym, ap, ◌∙◌, arith}
-use Rattle.std.specs.Str.{StartsWithNoChar}
-use Rattle.std.specs.Str.Lossy.{utf8_error_len, second_byte_min, second_byte_max}
-use Rattle.std.specs.Int.{is_in_range}
-use Rattle.std.specs.Char.{IsScalar}
+use Rattle.tcl_words.proofs.Words.{◌≡◌, ℕ, ◌+◌, ◌/◌, ◌%◌, ◌<◌, ◌≤◌, ◌⊎◌, inl, inr, ⊎_elim, true, false, ltb, List, []}
+use Rattle.tcl_words.proofs.Words.{◌∷◌, ◌++◌, Some, None, refl, sym, ap, ◌∙◌, arith, StartsWithNoChar, second_byte_min}
+use Rattle.tcl_words.proofs.Words.{second_byte_max, is_in_range, IsScalar, nat_tests, leb_tells}
+use Rattle.std.specs.Str.Lossy.{utf8_error_len}
 use lib.Utf8.{encode, scalar_cases}
-use Rattle.std.proofs.lemmas.Bool.Decides.{nat_tests, leb_tells}
 
 err_one : (x : ℕ) → is_in_range 194 244 x ≡ true → utf8_error_len (x ∷ []) ≡ None
 unfolding utf8_error_len

@@ -1,15 +1,11 @@
 -- Bytes that end within a character are made a character by some bytes after them.
-use Rattle.std.proofs.Common.{◌≡◌, ◌≢◌, ℕ, ◌+◌, ◌*◌, ◌-◌, ◌/◌, ◌%◌, ◌<◌, ◌≤◌, ◌==◌, ◌⊎◌, inl, inr, ⊎_elim, Bool, true}
-use Rattle.std.proofs.Common.{false, cond, List, [], ◌∷◌, ◌++◌, length, Option, Some, None, refl, sym, ap, ◌∙◌, arith}
-use Rattle.std.specs.Prelude.{nat_lt}
-use Rattle.std.specs.Str.{StartsWithNoChar}
-use Rattle.std.specs.Str.Lossy.{utf8_error_len, error_len_after_one, error_len_after_two, second_byte_min}
-use Rattle.std.specs.Str.Lossy.{second_byte_max}
-use Rattle.std.specs.Int.{is_in_range}
-use Rattle.std.specs.Char.{IsScalar}
+use Rattle.tcl_words.proofs.Words.{◌≡◌, ◌≢◌, ℕ, ◌+◌, ◌*◌, ◌-◌, ◌/◌, ◌%◌, ◌<◌, ◌≤◌, ◌==◌, ◌⊎◌, inl, inr, ⊎_elim, Bool}
+use Rattle.tcl_words.proofs.Words.{true, false, cond, List, [], ◌∷◌, ◌++◌, length, Option, Some, None, refl, sym, ap}
+use Rattle.tcl_words.proofs.Words.{◌∙◌, arith, nat_lt, StartsWithNoChar, error_len_after_one, error_len_after_two}
+use Rattle.tcl_words.proofs.Words.{second_byte_min, second_byte_max, is_in_range, IsScalar, nat_tests, leb_tells}
+use Rattle.tcl_words.proofs.Words.{BeginsOneChar}
+use Rattle.std.specs.Str.Lossy.{utf8_error_len}
 use lib.Utf8.{encode, scalar}
-use Rattle.std.proofs.lemmas.Bool.Decides.{nat_tests, leb_tells}
-use Rattle.tcl_words.specs.Encoding.{BeginsOneChar}
 use Rattle.tcl_words.proofs.Broken.{encode_two, encode_three, encode_four}
 
 -- these bytes are a character

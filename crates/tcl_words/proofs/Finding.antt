@@ -1,29 +1,17 @@
 -- What the bytes not yet given hold next, by a scan of their text.
-use Rattle.std.proofs.Common.{◌≡◌, ◌≢◌, IfOk, IfNone, Option, Some, None, encode_utf8, ℕ, zero, suc, ◌+◌, ◌-◌, ◌<◌, ◌≤◌}
-use Rattle.std.proofs.Common.{inl, inr, ⊎_elim, Bool, true, false, List, [], ◌∷◌, ◌++◌, length, take, drop, chars}
-use Rattle.std.proofs.Common.{encode_utf8_all, IsUtf8, Ok, refl, sym, ap, ◌∙◌, arith, subst, append_assoc, append-nil}
-use Rattle.std.proofs.Common.{length-append, length-take, length-drop, take-append-drop, take-add}
-use Rattle.std.specs.Str.{all_scalars, StartsWithNoChar}
-use Rattle.std.proofs.lemmas.Str.{encodes-append, chars_from_encodes, IsUtf8-append, IsUtf8-encode, length-le-encodes}
-use Rattle.std.proofs.lemmas.List.{take-take, drop-drop, take_at}
-use Rattle.tcl_words.specs.ScriptGrammar.{Ending, Ends, Breaks, Continues, Command, Nothing, Fault, Open, first}
-use Rattle.tcl_words.specs.ScriptGrammar.{Follows, MeetsFault, HoldsNoWhole, IsWholeCommand}
-use Rattle.tcl_words.specs.Scanning.{scanned, later, pieces_from}
-use Rattle.tcl_words.specs.Steps.{last_step, depth_of}
-use Rattle.tcl_words.specs.Encoding.{StopsAs, BeginsNoChar}
-use Rattle.tcl_words.specs.Unread.{IsNextCommand, HasFault, HasNoFault}
-use Rattle.tcl_words.specs.Progression.{IsProgress, IsCommandOf, IsNext, text_end, last_found, last_command}
-use Rattle.tcl_words.specs.declared.fault.ScriptFault.{ScriptFault}
-use Rattle.tcl_words.specs.declared.fault.ScriptFault.TheVariants.{NotUtf8, Memory}
-use Rattle.tcl_words.specs.declared.progress.Progress.{Progress}
+use Rattle.tcl_words.proofs.Words.{◌≡◌, ◌≢◌, IfOk, IfNone, Option, Some, None, encode_utf8, ℕ, zero, suc, ◌+◌, ◌-◌, ◌<◌}
+use Rattle.tcl_words.proofs.Words.{◌≤◌, inl, inr, ⊎_elim, Bool, true, false, List, [], ◌∷◌, ◌++◌, length, take, drop}
+use Rattle.tcl_words.proofs.Words.{chars, encode_utf8_all, IsUtf8, Ok, refl, sym, ap, ◌∙◌, arith, subst, append_assoc}
+use Rattle.tcl_words.proofs.Words.{append-nil, length-append, length-take, length-drop, take-append-drop, take-add}
+use Rattle.tcl_words.proofs.Words.{all_scalars, StartsWithNoChar, encodes-append, chars_from_encodes, IsUtf8-append}
+use Rattle.tcl_words.proofs.Words.{IsUtf8-encode, length-le-encodes, take-take, drop-drop, take_at, Ending, Ends}
+use Rattle.tcl_words.proofs.Words.{Breaks, Continues, Command, Nothing, Fault, Open, first, Follows, MeetsFault}
+use Rattle.tcl_words.proofs.Words.{HoldsNoWhole, IsWholeCommand, scanned, later, pieces_from, last_step, depth_of}
+use Rattle.tcl_words.proofs.Words.{StopsAs, BeginsNoChar, IsNextCommand, HasFault, HasNoFault, IsProgress, IsCommandOf}
+use Rattle.tcl_words.proofs.Words.{IsNext, text_end, last_found, last_command, ScriptFault, NotUtf8, Memory, Progress}
+use Rattle.tcl_words.proofs.Words.{Stage, BeforeCommand, Next, Go, End, Refuse, Scan, EndsAt, Refused, Reaches}
 use Rattle.tcl_words.specs.declared.encoding.TextStop.{TextStop}
 use Rattle.tcl_words.specs.declared.encoding.TextStop.TheVariants.{AtEnd, WithinCharacter, Broken}
-use Rattle.tcl_words.specs.declared.stage.Stage.{Stage}
-use Rattle.tcl_words.specs.declared.stage.Stage.TheVariants.{BeforeCommand}
-use Rattle.tcl_words.specs.declared.stage.Next.{Next}
-use Rattle.tcl_words.specs.declared.stage.Next.TheVariants.{Go, End, Refuse}
-use Rattle.tcl_words.specs.declared.scanner.Scan.{Scan}
-use Rattle.tcl_words.specs.declared.scanner.Scan.TheVariants.{EndsAt, Refused, Reaches}
 use Rattle.tcl_words.proofs.Verdicts.{IsMetAtEnd, met_at_end, at_last, Verdict, verdict, scanned-nil}
 use Rattle.tcl_words.proofs.Spelling.{broken_byte, widened, scan_widened, one_goes_on, no_char_nil, scalars_split}
 use Rattle.tcl_words.proofs.Spelling.{encode_not_nil}

@@ -1,15 +1,11 @@
 -- Steps of the loops that choose how an element is written, and write it.
-use Rattle.std.proofs.Common.{◌≡◌, ◌≢◌, ℕ, zero, suc, ◌+◌, ◌-◌, ◌<◌, ◌≤◌, ◌==◌, ◌||◌, Bool, true, false, cond, List, []}
-use Rattle.std.proofs.Common.{◌∷◌, ◌++◌, length, drop, get_or, chars, encode_utf8, encode_utf8_all, refl, sym, ap, ◌∙◌}
-use Rattle.std.proofs.Common.{arith, append_assoc, append-nil, true≢false, length-append}
-use Rattle.std.proofs.lemmas.Bool.Decides.{nat_tests}
-use Rattle.std.proofs.lemmas.List.{drop_more, drop_all}
-use Rattle.std.proofs.lemmas.Str.{chars-nil, encodes-append, length-le-encodes}
+use Rattle.tcl_words.proofs.Words.{◌≡◌, ◌≢◌, ℕ, zero, suc, ◌+◌, ◌-◌, ◌<◌, ◌≤◌, ◌==◌, ◌||◌, Bool, true, false, cond}
+use Rattle.tcl_words.proofs.Words.{List, [], ◌∷◌, ◌++◌, length, drop, get_or, chars, encode_utf8, encode_utf8_all, refl}
+use Rattle.tcl_words.proofs.Words.{sym, ap, ◌∙◌, arith, append_assoc, append-nil, true≢false, length-append, nat_tests}
+use Rattle.tcl_words.proofs.Words.{drop_more, drop_all, chars-nil, encodes-append, length-le-encodes, begins_with}
+use Rattle.tcl_words.proofs.Words.{pushed, Goes, is_white, is_special, has_special, needs_quotes, less, balances}
+use Rattle.tcl_words.proofs.Words.{white_letter, backslashed, with_backslashes, element_text, list_text, space_behind}
 use lib.Utf8.{encode}
-use Rattle.tcl_words.specs.Characters.{begins_with}
-use Rattle.tcl_words.specs.ListGrowth.{pushed, Goes}
-use Rattle.tcl_words.specs.ListText.{is_white, is_special, has_special, needs_quotes, less, balances, white_letter}
-use Rattle.tcl_words.specs.ListText.{backslashed, with_backslashes, element_text, list_text, space_behind}
 
 -- the character that a loop is at
 here : (cs : List ℕ) (n c : ℕ) → (n < length cs) × (c ≡ get_or cs n c) → drop n cs ≡ c ∷ drop (n + 1) cs

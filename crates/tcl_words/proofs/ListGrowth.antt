@@ -1,9 +1,8 @@
 -- A list that grows at its end.
-use Rattle.std.proofs.Common.{◌≡◌, ℕ, ◌+◌, ◌<◌, List, [], ◌∷◌, ◌++◌, sym, ap, subst, ◌∙◌}
+use Rattle.tcl_words.proofs.Words.{◌≡◌, ℕ, ◌+◌, ◌<◌, List, [], ◌∷◌, ◌++◌, sym, ap, subst, ◌∙◌, map-append, take_more}
+use Rattle.tcl_words.proofs.Words.{Goes, list_text}
 use Rattle.std.specs.Prelude.{encode_utf8_all, get_or, length, map, take}
-use Rattle.std.proofs.lemmas.List.{append_assoc, append-nil, map-append, take_more}
-use Rattle.tcl_words.specs.ListGrowth.{Goes}
-use Rattle.tcl_words.specs.ListText.{list_text}
+use Rattle.std.proofs.lemmas.List.{append_assoc, append-nil}
 
 pub goes_nowhere : (bytes : List ℕ) → Goes bytes bytes []
 goes_nowhere bytes list is = is ∙ ap (λ xs. encode_utf8_all (list_text xs)) (sym (append-nil list))

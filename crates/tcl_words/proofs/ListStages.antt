@@ -1,27 +1,19 @@
 -- What each stage of reading a list says of the list.
-use Rattle.std.proofs.Common.{◌≡◌, ℕ, zero, suc, ◌==◌, Bool, true, false, cond, Option, Some, None, List, [], ◌∷◌, refl}
-use Rattle.std.proofs.Common.{ap, ◌∙◌}
+use Rattle.tcl_words.proofs.Words.{◌≡◌, ℕ, zero, suc, ◌==◌, Bool, true, false, cond, Option, Some, None, List, [], ◌∷◌}
+use Rattle.tcl_words.proofs.Words.{refl, ap, ◌∙◌, Escape, Gives, NoCharacter, Undecided, further, escape, escape_step}
+use Rattle.tcl_words.proofs.Words.{is_white, Spot, AtElement, InElement, InBraces, Closed, onto_element, end_element}
+use Rattle.tcl_words.proofs.Words.{escaped_element, element_rule, close_element, kept_element, braced_element}
+use Rattle.tcl_words.proofs.Words.{begin_element, list_rule, list_passes, list_keeps, list_closes, no_list, list_after}
+use Rattle.tcl_words.proofs.Words.{text_element, step_in_element, step_at_element, close_brace, step_in_braces}
+use Rattle.tcl_words.proofs.Words.{element_by, list_step, last_element_by, last_list_step, onto_piece, given_onto}
+use Rattle.tcl_words.proofs.Words.{kept_onto, ended_before, written, Backslash, Letter, Digits, Gap, EscapeStep}
+use Rattle.tcl_words.proofs.Words.{TextWord, Bare, Quoted, Output, ListStage, ListNext, Bad, ListStep}
 use lib.Utf8.{scalar}
-use Rattle.tcl_words.specs.Escapes.{Escape, Gives, NoCharacter, Undecided, further, numeral, escape}
-use Rattle.tcl_words.specs.EscapeSteps.{escape_step}
-use Rattle.tcl_words.specs.ListText.{is_white, Spot, AtElement, InElement, InQuotes, InBraces, Closed, onto_element}
-use Rattle.tcl_words.specs.ListText.{end_element, escaped_element, element_rule, close_element, kept_element}
-use Rattle.tcl_words.specs.ListText.{braced_element, begin_element, list_rule, read_list}
-use Rattle.tcl_words.specs.ListSteps.{list_passes, list_keeps, list_closes, no_list, list_after, text_element}
-use Rattle.tcl_words.specs.ListSteps.{step_in_element, step_at_element, close_brace, step_in_braces, element_by}
-use Rattle.tcl_words.specs.ListSteps.{list_step, last_element_by, last_list_step}
-use Rattle.tcl_words.specs.Scanning.{onto_piece, given_onto, kept_onto, ended_before, written}
-use Rattle.tcl_words.specs.declared.escapes.EscapeStage.TheVariants.{Backslash, Letter, Digits, Gap}
-use Rattle.tcl_words.specs.declared.escapes.EscapeStep.{EscapeStep}
+use Rattle.tcl_words.specs.Escapes.{numeral}
+use Rattle.tcl_words.specs.ListText.{InQuotes, read_list}
 use Rattle.tcl_words.specs.declared.escapes.EscapeStep.TheVariants as escape_steps
-use Rattle.tcl_words.specs.declared.stage.TextWord.{TextWord}
-use Rattle.tcl_words.specs.declared.stage.TextWord.TheVariants.{Bare, Quoted}
-use Rattle.tcl_words.specs.declared.stage.Output.{Output}
-use Rattle.tcl_words.specs.declared.list_steps.ListStage.{ListStage}
 use Rattle.tcl_words.specs.declared.list_steps.ListStage.TheVariants as stages
-use Rattle.tcl_words.specs.declared.list_steps.ListNext.{ListNext}
-use Rattle.tcl_words.specs.declared.list_steps.ListNext.TheVariants.{Go, Bad}
-use Rattle.tcl_words.specs.declared.list_steps.ListStep.{ListStep}
+use Rattle.tcl_words.specs.declared.list_steps.ListNext.TheVariants.{Go}
 use Rattle.tcl_words.proofs.Stages.{escape_from, escape_by, escape-step}
 
 -- a list that may be found

@@ -1,27 +1,15 @@
 -- Steps of the loop that reads a list's elements.
-use Rattle.std.proofs.Common.{◌≡◌, ℕ, zero, suc, ◌≤◌, ◌==◌, Bool, true, false, cond, Some, None, List, [], ◌∷◌, ◌++◌}
-use Rattle.std.proofs.Common.{map, length, take, drop, chars, String, string_bytes, encode_utf8, encode_utf8_all, refl}
-use Rattle.std.proofs.Common.{sym, ap, ◌∙◌, arith, subst, append_assoc, append-nil, true≢false}
-use Rattle.std.specs.Bool.{⊤}
-use Rattle.std.proofs.lemmas.Bool.Decides.{nat_tests}
-use Rattle.std.proofs.lemmas.Str.{chars-nil}
-use Rattle.tcl_words.specs.EscapeSteps.{escape_step}
-use Rattle.tcl_words.specs.ListText.{is_white, AtElement, onto_element, read_list, ReadsList}
-use Rattle.tcl_words.specs.ListSteps.{list_keeps, text_element, step_in_element, close_brace, element_by, list_step}
-use Rattle.tcl_words.specs.ListSteps.{last_list_step, open_braces, script_stage}
-use Rattle.tcl_words.specs.Runs.{is_bare, is_quoted, is_braced, is_plain}
-use Rattle.tcl_words.specs.Scanning.{prefixed, word_with, words_after, word_after}
-use Rattle.tcl_words.specs.Unread.{texts_of}
-use Rattle.tcl_words.specs.declared.escapes.EscapeStep.{EscapeStep}
+use Rattle.tcl_words.proofs.Words.{◌≡◌, ℕ, zero, suc, ◌≤◌, ◌==◌, Bool, true, false, cond, Some, None, List, [], ◌∷◌}
+use Rattle.tcl_words.proofs.Words.{◌++◌, map, length, take, drop, chars, String, string_bytes, encode_utf8}
+use Rattle.tcl_words.proofs.Words.{encode_utf8_all, refl, sym, ap, ◌∙◌, arith, subst, append_assoc, append-nil}
+use Rattle.tcl_words.proofs.Words.{true≢false, ⊤, nat_tests, chars-nil, escape_step, is_white, AtElement, onto_element}
+use Rattle.tcl_words.proofs.Words.{read_list, ReadsList, list_keeps, text_element, step_in_element, close_brace}
+use Rattle.tcl_words.proofs.Words.{element_by, list_step, last_list_step, open_braces, script_stage, is_bare, is_quoted}
+use Rattle.tcl_words.proofs.Words.{is_braced, is_plain, prefixed, word_with, words_after, word_after, texts_of}
+use Rattle.tcl_words.proofs.Words.{EscapeStep, TextWord, Bare, Quoted, Output, ListStage, ListNext, Bad, ListStep}
 use Rattle.tcl_words.specs.declared.escapes.EscapeStep.TheVariants as escape_steps
-use Rattle.tcl_words.specs.declared.stage.TextWord.{TextWord}
-use Rattle.tcl_words.specs.declared.stage.TextWord.TheVariants.{Bare, Quoted}
-use Rattle.tcl_words.specs.declared.stage.Output.{Output}
-use Rattle.tcl_words.specs.declared.list_steps.ListStage.{ListStage}
 use Rattle.tcl_words.specs.declared.list_steps.ListStage.TheVariants as stages
-use Rattle.tcl_words.specs.declared.list_steps.ListNext.{ListNext}
-use Rattle.tcl_words.specs.declared.list_steps.ListNext.TheVariants.{Go, Bad}
-use Rattle.tcl_words.specs.declared.list_steps.ListStep.{ListStep}
+use Rattle.tcl_words.specs.declared.list_steps.ListNext.TheVariants.{Go}
 use Rattle.tcl_words.proofs.Plain.{AllPlain, RunOf}
 use Rattle.tcl_words.proofs.Writing.{spelled, prefixed_onto, prefixed_nil, written_more}
 use Rattle.tcl_words.proofs.ListStages.{Found, list_from, list_put, list_arrive, list_does, list_end, list-step}

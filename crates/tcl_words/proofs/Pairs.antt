@@ -1,21 +1,10 @@
 -- Escapes of a backslash and one character behind it.
-use Rattle.std.proofs.Common.{◌≡◌, ℕ, ◌+◌, ◌<◌, Some, List, length, drop, get_or, refl, sym, ap, ◌∙◌, arith}
-use Rattle.std.proofs.Common.{true, ◌≤◌, ◌∷◌, ◌++◌, take, chars, encode_utf8, IsUtf8, IsCharBoundary}
-use Rattle.std.proofs.lemmas.List.{drop_more}
-use Rattle.std.proofs.lemmas.Str.{IsCharBoundary-after_ascii}
-use Rattle.tcl_words.specs.EscapeSteps.{escape_step, given_at, pair_gives}
-use Rattle.tcl_words.specs.Runs.{is_plain}
-use Rattle.tcl_words.specs.Steps.{step_by, step_of}
-use Rattle.tcl_words.specs.Scanning.{later, scanned, onto_piece, written, words_next, pieces_from, prefixed, words_on}
-use Rattle.tcl_words.specs.declared.escapes.EscapeStage.TheVariants.{Backslash}
-use Rattle.tcl_words.specs.declared.escapes.EscapeStep.{EscapeStep}
+use Rattle.tcl_words.proofs.Words.{◌≡◌, ℕ, ◌+◌, ◌<◌, Some, List, length, drop, get_or, refl, sym, ap, ◌∙◌, arith, true}
+use Rattle.tcl_words.proofs.Words.{◌≤◌, ◌∷◌, ◌++◌, take, chars, encode_utf8, IsUtf8, IsCharBoundary, drop_more}
+use Rattle.tcl_words.proofs.Words.{IsCharBoundary-after_ascii, escape_step, given_at, pair_gives, is_plain, step_by}
+use Rattle.tcl_words.proofs.Words.{step_of, later, scanned, onto_piece, written, words_next, pieces_from, prefixed}
+use Rattle.tcl_words.proofs.Words.{words_on, Backslash, EscapeStep, TextWord, Quoted, Stage, Text, Escaped, Step, Go}
 use Rattle.tcl_words.specs.declared.escapes.EscapeStep.TheVariants as escapes
-use Rattle.tcl_words.specs.declared.stage.TextWord.{TextWord}
-use Rattle.tcl_words.specs.declared.stage.TextWord.TheVariants.{Quoted}
-use Rattle.tcl_words.specs.declared.stage.Stage.{Stage}
-use Rattle.tcl_words.specs.declared.stage.Stage.TheVariants.{Text, Escaped}
-use Rattle.tcl_words.specs.declared.stage.Step.{Step}
-use Rattle.tcl_words.specs.declared.stage.Next.TheVariants.{Go}
 use Rattle.tcl_words.proofs.Spelling.{later-later, later-zero}
 use Rattle.tcl_words.proofs.Scans.{scan_on}
 use Rattle.tcl_words.proofs.Plain.{plain_step, RunOf}

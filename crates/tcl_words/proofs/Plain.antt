@@ -1,27 +1,15 @@
 -- Runs of characters that go onto a word as they are.
-use Rattle.std.proofs.Common.{◌≡◌, ℕ, zero, suc, ◌+◌, ◌-◌, ◌<◌, ◌≤◌, ⊎_elim, Bool, true, false, cond, ◌||◌, ◌==◌}
-use Rattle.std.proofs.Common.{IsUtf8, IsCharBoundary, List, [], ◌∷◌, ◌++◌, length, take, drop, get_or, chars}
-use Rattle.std.proofs.Common.{encode_utf8, encode_utf8_all, refl, sym, ap, ◌∙◌, arith, subst, true≢false, length-take}
-use Rattle.std.proofs.Common.{take-append-drop}
-use Rattle.std.specs.Bool.{⊤}
-use Rattle.std.specs.Prelude.{slice_range}
-use Rattle.std.specs.Char.{len_utf8}
-use Rattle.std.proofs.lemmas.Bool.Decides.{nat_tests, leb_tells}
-use Rattle.std.proofs.lemmas.List.{drop-drop, drop_more}
-use Rattle.std.proofs.Math.Seq.{drop-append_seam}
-use Rattle.std.proofs.lemmas.Str.{IsCharBoundary-past_char, encode_ascii, length-encode, len_utf8_bounds, encodes-chars}
-use Rattle.std.proofs.lemmas.Str.{chars-append, IsUtf8-take, IsCharBoundary-end, IsCharBoundary-before_ascii}
-use Rattle.tcl_words.specs.Characters.{is_end, is_blank}
-use Rattle.tcl_words.specs.Runs.{is_ordinary, is_bare, is_quoted, is_braced, is_plain, begins_word, begins_command}
-use Rattle.tcl_words.specs.Runs.{begun}
-use Rattle.tcl_words.specs.Steps.{keeps, closes, text_step, step_of}
-use Rattle.tcl_words.specs.Scanning.{later, scan_next, scanned}
-use Rattle.tcl_words.specs.declared.stage.TextWord.{TextWord}
-use Rattle.tcl_words.specs.declared.stage.TextWord.TheVariants.{Bare, Quoted}
-use Rattle.tcl_words.specs.declared.stage.Stage.{Stage}
+use Rattle.tcl_words.proofs.Words.{◌≡◌, ℕ, zero, suc, ◌+◌, ◌-◌, ◌<◌, ◌≤◌, ⊎_elim, Bool, true, false, cond, ◌||◌, ◌==◌}
+use Rattle.tcl_words.proofs.Words.{IsUtf8, IsCharBoundary, List, [], ◌∷◌, ◌++◌, length, take, drop, get_or, chars}
+use Rattle.tcl_words.proofs.Words.{encode_utf8, encode_utf8_all, refl, sym, ap, ◌∙◌, arith, subst, true≢false}
+use Rattle.tcl_words.proofs.Words.{length-take, take-append-drop, ⊤, slice_range, len_utf8, nat_tests, leb_tells}
+use Rattle.tcl_words.proofs.Words.{drop-drop, drop_more, drop-append_seam, IsCharBoundary-past_char, encode_ascii}
+use Rattle.tcl_words.proofs.Words.{length-encode, len_utf8_bounds, encodes-chars, chars-append, IsUtf8-take}
+use Rattle.tcl_words.proofs.Words.{IsCharBoundary-end, IsCharBoundary-before_ascii, is_end, is_blank, is_ordinary}
+use Rattle.tcl_words.proofs.Words.{is_bare, is_quoted, is_braced, is_plain, begins_word, begins_command, begun, keeps}
+use Rattle.tcl_words.proofs.Words.{closes, text_step, step_of, later, scan_next, scanned, TextWord, Bare, Quoted, Stage}
+use Rattle.tcl_words.proofs.Words.{Step, Go, End}
 use Rattle.tcl_words.specs.declared.stage.Stage.TheVariants as stages
-use Rattle.tcl_words.specs.declared.stage.Step.{Step}
-use Rattle.tcl_words.specs.declared.stage.Next.TheVariants.{Go, End}
 use Rattle.tcl_words.proofs.Verdicts.{scanned-cons}
 use Rattle.tcl_words.proofs.Spelling.{below_or, later-later, later-zero}
 

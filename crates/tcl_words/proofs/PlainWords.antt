@@ -1,32 +1,20 @@
 -- Words that stand in a command as they are, step by step.
-use Rattle.std.proofs.Common.{◌≡◌, ◌+◌, ◌-◌, ◌<◌, ◌==◌, ℕ, suc, ⊎_elim, get_or, IsUtf8, Bool, true, false, Option, Some}
-use Rattle.std.proofs.Common.{None, IfSome, List, [], ◌∷◌, ◌++◌, map, length, take, drop, chars, encode_utf8}
-use Rattle.std.proofs.Common.{encode_utf8_all, refl, sym, ap, ◌∙◌, arith, subst, append-nil}
-use Rattle.std.proofs.lemmas.Bool.Decides.{nat_tests, Decides-eqb}
-use Rattle.std.specs.Prelude.{slice_range}
-use Rattle.std.proofs.lemmas.Str.{encode_ascii, encodes-chars, IsUtf8-take, IsUtf8-drop, IsCharBoundary-before_ascii}
-use Rattle.std.proofs.lemmas.Str.{IsCharBoundary-after_ascii}
-use Rattle.std.proofs.lemmas.List.{drop_more}
-use Rattle.tcl_words.specs.Characters.{is_end, is_blank}
-use Rattle.tcl_words.specs.Steps.{step_of, closes, no_output}
-use Rattle.tcl_words.specs.Scanning.{prefixed, later, scan_next, scanned, written, words_next, pieces_from}
-use Rattle.tcl_words.specs.Runs.{is_plain, is_bare, is_quoted, is_braced, begun}
-use Rattle.tcl_words.specs.PlainWords.{scan_behind, words_behind, spelled_from, EndsWord, IsPlainWord, IsClosed}
-use Rattle.tcl_words.specs.declared.stage.TextWord.TheVariants.{Bare, Quoted}
-use Rattle.tcl_words.specs.declared.stage.Closing.{Closing}
-use Rattle.tcl_words.specs.declared.stage.Closing.TheVariants.{Brace, Quote}
+use Rattle.tcl_words.proofs.Words.{◌≡◌, ◌+◌, ◌-◌, ◌<◌, ◌==◌, ℕ, suc, ⊎_elim, get_or, IsUtf8, Bool, true, false, Option}
+use Rattle.tcl_words.proofs.Words.{Some, None, IfSome, List, [], ◌∷◌, ◌++◌, map, length, take, drop, chars, encode_utf8}
+use Rattle.tcl_words.proofs.Words.{encode_utf8_all, refl, sym, ap, ◌∙◌, arith, subst, append-nil, nat_tests}
+use Rattle.tcl_words.proofs.Words.{Decides-eqb, slice_range, encode_ascii, encodes-chars, IsUtf8-take, IsUtf8-drop}
+use Rattle.tcl_words.proofs.Words.{IsCharBoundary-before_ascii, IsCharBoundary-after_ascii, drop_more, is_end, is_blank}
+use Rattle.tcl_words.proofs.Words.{step_of, closes, no_output, prefixed, later, scan_next, scanned, written, words_next}
+use Rattle.tcl_words.proofs.Words.{pieces_from, is_plain, is_bare, is_quoted, is_braced, begun, scan_behind}
+use Rattle.tcl_words.proofs.Words.{words_behind, spelled_from, EndsWord, IsPlainWord, IsClosed, Bare, Quoted, Closing}
+use Rattle.tcl_words.proofs.Words.{Brace, Quote, Stage, BeforeWord, Text, AfterOpening, Braced, Step, Next, Go, End}
 use Rattle.tcl_words.specs.declared.plain_words.PlainWord.{PlainWord}
-use Rattle.tcl_words.specs.declared.stage.Stage.{Stage}
-use Rattle.tcl_words.specs.declared.stage.Stage.TheVariants.{BeforeWord, Text, AfterOpening, Braced, Behind}
-use Rattle.tcl_words.specs.declared.stage.Step.{Step}
-use Rattle.tcl_words.specs.declared.stage.Next.{Next}
-use Rattle.tcl_words.specs.declared.stage.Next.TheVariants.{Go, End}
+use Rattle.tcl_words.specs.declared.stage.Stage.TheVariants.{Behind}
 use Rattle.tcl_words.proofs.Verdicts.{scanned-cons, pieces-cons}
 use Rattle.tcl_words.proofs.Spelling.{below_or, later-later}
 use Rattle.tcl_words.proofs.Plain.{scan_skips, scan_begun, run_of, RunOf, front_range, blank_step, end_step, by_true}
 use Rattle.tcl_words.proofs.Plain.{by_false}
-use Rattle.tcl_words.proofs.Writing.{spelled, prefixed_nil, run_written, pieces_begun, ascii_cons, low_blank}
-use Rattle.tcl_words.proofs.Writing.{low_end}
+use Rattle.tcl_words.proofs.Writing.{spelled, prefixed_nil, run_written, pieces_begun, ascii_cons, low_blank, low_end}
 
 -- what ends a word, and the command where it is the last
 abbrev pub next_of : Bool → Next

@@ -1,29 +1,18 @@
 -- A script is read in one way.
-use Rattle.std.proofs.Common.{◌≡◌, ◌≢◌, ℕ, zero, suc, ◌<◌, ◌≤◌, ◌⊎◌, inl, inr, ⊎_elim, Bool, true, false, List, [], ◌∷◌}
-use Rattle.std.proofs.Common.{◌++◌, length, take, drop, Option, Some, None, is_some, encode_utf8, encode_utf8_all}
-use Rattle.std.proofs.Common.{IsUtf8, refl, sym, ap, ◌∙◌, arith, subst, append_assoc, append-nil, true≢false}
-use Rattle.std.proofs.Common.{length-append, length-take, length-drop, take-append-drop}
-use Rattle.std.specs.Str.{all_scalars, StartsWithNoChar, IsValidUpTo, is_utf8}
-use Rattle.std.specs.Str.Lossy.{utf8_error_len}
-use Rattle.tcl_words.specs.Encoding.{BeginsNoChar, BeginsOneChar}
+use Rattle.tcl_words.proofs.Words.{◌≡◌, ◌≢◌, ℕ, zero, suc, ◌<◌, ◌≤◌, ◌⊎◌, inl, inr, ⊎_elim, Bool, true, false, List, []}
+use Rattle.tcl_words.proofs.Words.{◌∷◌, ◌++◌, length, take, drop, Option, Some, None, is_some, encode_utf8}
+use Rattle.tcl_words.proofs.Words.{encode_utf8_all, IsUtf8, refl, sym, ap, ◌∙◌, arith, subst, append_assoc, append-nil}
+use Rattle.tcl_words.proofs.Words.{true≢false, length-append, length-take, length-drop, take-append-drop, all_scalars}
+use Rattle.tcl_words.proofs.Words.{StartsWithNoChar, IsValidUpTo, is_utf8, utf8_error_len, BeginsNoChar, BeginsOneChar}
+use Rattle.tcl_words.proofs.Words.{encodes-append, IsUtf8-from_is_utf8, is_utf8-from_IsUtf8, IsUtf8-append}
+use Rattle.tcl_words.proofs.Words.{IsUtf8-encode, IsUtf8-nil, length-le-encodes, leb_tells, take_at, Ending, Ends}
+use Rattle.tcl_words.proofs.Words.{Breaks, Continues, First, Command, Nothing, Fault, Open, first, Follows, MeetsFault}
+use Rattle.tcl_words.proofs.Words.{HoldsNothing, IsWholeCommand, IsCommandBefore, ReadsScript, ReadsFront, scanned}
+use Rattle.tcl_words.proofs.Words.{pieces_from, last_step, ScriptFault, NotUtf8, BeforeCommand, Next, Go, End, Refuse}
+use Rattle.tcl_words.proofs.Words.{Scan, EndsAt, Refused, Reaches}
 use Rattle.tcl_words.proofs.Broken.{stays_broken}
 use Rattle.tcl_words.proofs.Completion.{completed}
-use Rattle.std.proofs.lemmas.Str.{encodes-append, IsUtf8-from_is_utf8, is_utf8-from_IsUtf8, IsUtf8-append}
-use Rattle.std.proofs.lemmas.Str.{IsUtf8-encode, IsUtf8-nil, length-le-encodes}
-use Rattle.std.proofs.lemmas.Bool.Decides.{leb_tells}
-use Rattle.std.proofs.lemmas.List.{take_at}
-use Rattle.tcl_words.specs.ScriptGrammar.{Ending, Ends, Breaks, Continues, First, Command, Nothing, Fault, Open, read}
-use Rattle.tcl_words.specs.ScriptGrammar.{first, Follows, MeetsFault, HoldsNothing, IsWholeCommand, IsCommandBefore}
-use Rattle.tcl_words.specs.ScriptGrammar.{ReadsScript, ReadsFront}
-use Rattle.tcl_words.specs.Scanning.{scanned, pieces_from}
-use Rattle.tcl_words.specs.Steps.{last_step}
-use Rattle.tcl_words.specs.declared.fault.ScriptFault.{ScriptFault}
-use Rattle.tcl_words.specs.declared.fault.ScriptFault.TheVariants.{NotUtf8}
-use Rattle.tcl_words.specs.declared.stage.Stage.TheVariants.{BeforeCommand}
-use Rattle.tcl_words.specs.declared.stage.Next.{Next}
-use Rattle.tcl_words.specs.declared.stage.Next.TheVariants.{Go, End, Refuse}
-use Rattle.tcl_words.specs.declared.scanner.Scan.{Scan}
-use Rattle.tcl_words.specs.declared.scanner.Scan.TheVariants.{EndsAt, Refused, Reaches}
+use Rattle.tcl_words.specs.ScriptGrammar.{read}
 use Rattle.tcl_words.proofs.Verdicts.{at_last, Verdict, verdict}
 use Rattle.tcl_words.proofs.Spelling.{one_goes_on, no_char_nil, scalars_split, encode_not_nil, encode_some}
 

@@ -1,15 +1,8 @@
 -- Steps of the loops that scan a command and write its words.
-use Rattle.std.proofs.Common.{◌≡◌, ℕ, zero, suc, ◌+◌, ◌<◌, ◌≤◌, List, [], ◌∷◌, ◌++◌, length, take, drop, get_or, refl}
-use Rattle.std.proofs.Common.{sym, ap, ◌∙◌, arith, subst}
-use Rattle.std.proofs.lemmas.List.{drop_more, drop_all}
-use Rattle.tcl_words.specs.Steps.{step_of, depth_of}
-use Rattle.tcl_words.specs.Scanning.{later, scan_next, scanned, written, words_next, pieces_from}
-use Rattle.tcl_words.specs.declared.stage.Stage.{Stage}
-use Rattle.tcl_words.specs.declared.stage.Step.{Step}
-use Rattle.tcl_words.specs.declared.stage.Next.{Next}
-use Rattle.tcl_words.specs.declared.stage.Next.TheVariants.{Go, End, Refuse}
-use Rattle.tcl_words.specs.declared.scanner.Scan.{Scan}
-use Rattle.tcl_words.specs.declared.scanner.Scan.TheVariants.{EndsAt, Refused, Reaches}
+use Rattle.tcl_words.proofs.Words.{◌≡◌, ℕ, zero, suc, ◌+◌, ◌<◌, ◌≤◌, List, [], ◌∷◌, ◌++◌, length, take, drop, get_or}
+use Rattle.tcl_words.proofs.Words.{refl, sym, ap, ◌∙◌, arith, subst, drop_more, drop_all, step_of, depth_of, later}
+use Rattle.tcl_words.proofs.Words.{scan_next, scanned, written, words_next, pieces_from, Stage, Step, Next, Go, End}
+use Rattle.tcl_words.proofs.Words.{Refuse, Scan, EndsAt, Refused, Reaches}
 use Rattle.tcl_words.proofs.Verdicts.{IsSound, sound_step, scanned-nil, scanned-cons, pieces-cons}
 use Rattle.tcl_words.proofs.Spelling.{later-later, later-zero}
 

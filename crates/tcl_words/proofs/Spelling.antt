@@ -1,34 +1,17 @@
 -- Characters and their bytes in UTF-8.
-use Rattle.std.proofs.Common.{◌≡◌, ℕ, suc, ◌+◌, ◌<◌, ◌≤◌, ◌⊎◌, inl, inr, ⊎_elim, Bool, true, false, cond, ◌==◌, ◌||◌}
-use Rattle.std.proofs.Common.{◌&&◌, ltb, List, [], ◌∷◌, ◌++◌, length, take, encode_utf8, encode_utf8_all, refl, sym, ap}
-use Rattle.std.proofs.Common.{◌∙◌, arith, append_assoc, append-nil, add_assoc, true≢false, length-append, one-add}
-use Rattle.std.specs.Bool.{⊤}
-use Rattle.std.specs.Char.{is_digit}
-use Rattle.std.specs.Str.{all_scalars, StartsWithNoChar}
+use Rattle.tcl_words.proofs.Words.{◌≡◌, ℕ, suc, ◌+◌, ◌<◌, ◌≤◌, ◌⊎◌, inl, inr, ⊎_elim, Bool, true, false, cond, ◌==◌}
+use Rattle.tcl_words.proofs.Words.{◌||◌, ◌&&◌, ltb, List, [], ◌∷◌, ◌++◌, length, take, encode_utf8, encode_utf8_all}
+use Rattle.tcl_words.proofs.Words.{refl, sym, ap, ◌∙◌, arith, append_assoc, append-nil, add_assoc, true≢false}
+use Rattle.tcl_words.proofs.Words.{length-append, one-add, ⊤, is_digit, all_scalars, StartsWithNoChar, nat_tests}
+use Rattle.tcl_words.proofs.Words.{leb_tells, encode_ascii, encode_same, length-encode, len_utf8_bounds, is_end}
+use Rattle.tcl_words.proofs.Words.{is_blank, begins_name, joins, base_of, limit_of, is_gap, is_letter, escape_step}
+use Rattle.tcl_words.proofs.Words.{fault_behind, text_step, inside_step, word_step, braced_step, step_by, step_of}
+use Rattle.tcl_words.proofs.Words.{later, scan_next, scanned, BadCharacterCode, Radix, Octal, Hexadecimal, EscapeStage}
+use Rattle.tcl_words.proofs.Words.{Backslash, Letter, Digits, Gap, EscapeStep, TextWord, Bare, Quoted, Stage, Next, Go}
+use Rattle.tcl_words.proofs.Words.{End, Refuse, Step, Scan, EndsAt, Refused, Reaches}
 use lib.Utf8.{scalar, encode}
-use Rattle.std.proofs.lemmas.Bool.Decides.{nat_tests, leb_tells}
-use Rattle.std.proofs.lemmas.Str.{encode_ascii, encode_same, length-encode, len_utf8_bounds}
-use Rattle.tcl_words.specs.Characters.{is_end, is_blank, begins_name}
-use Rattle.tcl_words.specs.Escapes.{joins}
-use Rattle.tcl_words.specs.EscapeSteps.{base_of, limit_of, is_gap, is_letter, escape_step}
-use Rattle.tcl_words.specs.Steps.{fault_behind, text_step, inside_step, word_step, braced_step, step_by, step_of}
-use Rattle.tcl_words.specs.Scanning.{later, scan_next, scanned}
-use Rattle.tcl_words.specs.declared.fault.ScriptFault.TheVariants.{BadCharacterCode}
-use Rattle.tcl_words.specs.declared.escapes.Radix.{Radix}
-use Rattle.tcl_words.specs.declared.escapes.Radix.TheVariants.{Octal, Hexadecimal}
-use Rattle.tcl_words.specs.declared.escapes.EscapeStage.{EscapeStage}
-use Rattle.tcl_words.specs.declared.escapes.EscapeStage.TheVariants.{Backslash, Letter, Digits, Gap}
-use Rattle.tcl_words.specs.declared.escapes.EscapeStep.{EscapeStep}
 use Rattle.tcl_words.specs.declared.escapes.EscapeStep.TheVariants as escape_steps
-use Rattle.tcl_words.specs.declared.stage.TextWord.{TextWord}
-use Rattle.tcl_words.specs.declared.stage.TextWord.TheVariants.{Bare, Quoted}
-use Rattle.tcl_words.specs.declared.stage.Stage.{Stage}
 use Rattle.tcl_words.specs.declared.stage.Stage.TheVariants as stages
-use Rattle.tcl_words.specs.declared.stage.Next.{Next}
-use Rattle.tcl_words.specs.declared.stage.Next.TheVariants.{Go, End, Refuse}
-use Rattle.tcl_words.specs.declared.stage.Step.{Step}
-use Rattle.tcl_words.specs.declared.scanner.Scan.{Scan}
-use Rattle.tcl_words.specs.declared.scanner.Scan.TheVariants.{EndsAt, Refused, Reaches}
 use Rattle.tcl_words.proofs.Verdicts.{scanned-nil, scanned-cons}
 
 pub both : (x y : Bool) → (x && y) ≡ true → (x ≡ true) × (y ≡ true)

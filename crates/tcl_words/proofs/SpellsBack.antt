@@ -1,12 +1,11 @@
 -- What is written spells its list.
-use Rattle.std.proofs.Common.{◌≡◌, ℕ, zero, suc, ◌==◌, ◌||◌, ◌⊎◌, inl, inr, ⊎_elim, Bool, true, false, cond, Some, List}
-use Rattle.std.proofs.Common.{[], ◌∷◌, ◌++◌, refl, sym, ap, ◌∙◌, arith, subst, append_assoc, append-nil, true≢false}
-use Rattle.std.proofs.lemmas.Bool.Decides.{nat_tests}
-use Rattle.tcl_words.specs.Escapes.{Gives, escape}
-use Rattle.tcl_words.specs.ListText.{is_white, is_special, has_special, needs_quotes, less, balances, white_letter}
-use Rattle.tcl_words.specs.ListText.{backslashed, with_backslashes, element_text, list_text, Spot, AtElement, InElement}
-use Rattle.tcl_words.specs.ListText.{InBraces, Closed, onto_element, end_element, escaped_element, close_element}
-use Rattle.tcl_words.specs.ListText.{read_list, ReadsList}
+use Rattle.tcl_words.proofs.Words.{◌≡◌, ℕ, zero, suc, ◌==◌, ◌||◌, ◌⊎◌, inl, inr, ⊎_elim, Bool, true, false, cond, Some}
+use Rattle.tcl_words.proofs.Words.{List, [], ◌∷◌, ◌++◌, refl, sym, ap, ◌∙◌, arith, subst, append_assoc, append-nil}
+use Rattle.tcl_words.proofs.Words.{true≢false, nat_tests, Gives, escape, is_white, is_special, has_special}
+use Rattle.tcl_words.proofs.Words.{needs_quotes, less, balances, white_letter, backslashed, with_backslashes}
+use Rattle.tcl_words.proofs.Words.{element_text, list_text, Spot, AtElement, InElement, InBraces, Closed, onto_element}
+use Rattle.tcl_words.proofs.Words.{end_element, escaped_element, close_element, ReadsList}
+use Rattle.tcl_words.specs.ListText.{read_list}
 use Rattle.tcl_words.proofs.ListStages.{Found}
 
 -- tests

@@ -1,28 +1,19 @@
 -- What the splitter takes from the bytes not yet given.
-use Rattle.std.proofs.Common.{◌≡◌, ℕ, zero, suc, ◌+◌, ◌-◌, ◌<◌, ◌≤◌, ◌==◌, ◌||◌, ◌&&◌, inl, inr, ⊎_elim, Bool, true}
-use Rattle.std.proofs.Common.{false, cond, List, [], ◌∷◌, map, length, take, drop, Option, Some, None, Result, Ok, Err}
-use Rattle.std.proofs.Common.{IfOk, IfSome, String, string_bytes, chars, encode_utf8_all, IsUtf8, refl, sym, ap, ◌∙◌}
-use Rattle.std.proofs.Common.{arith, subst, length-drop, length-take, take-append-drop}
-use Rattle.std.specs.Bool.{⊤}
-use Rattle.std.proofs.lemmas.Str.{IsUtf8-string_bytes, chars_from_encodes, IsUtf8-nil, IsUtf8-drop}
-use Rattle.std.proofs.lemmas.Str.{IsCharBoundary-from_take}
-use Rattle.std.proofs.lemmas.Bool.Decides.{leb_tells}
-use Rattle.std.proofs.lemmas.List.{take-take, drop-take, drop-drop, length-map}
-use Rattle.tcl_words.specs.Characters.{is_end, is_blank, is_joint, is_expansion, names_variable}
-use Rattle.tcl_words.specs.Escapes.{Escape, Gives, NoCharacter, Undecided, escape, gap}
-use Rattle.tcl_words.specs.ScriptGrammar.{Ending, Ends, Breaks, Continues, is_last, First, Command, Nothing, Fault}
-use Rattle.tcl_words.specs.ScriptGrammar.{Open, onto_word, end_word, at_stop, Where, AtCommand, InComment, AtWord}
-use Rattle.tcl_words.specs.ScriptGrammar.{InBare, InQuotes, InBraces, Behind, at_end, escaped, text_rule, close_rule}
-use Rattle.tcl_words.specs.ScriptGrammar.{kept_rule, open_rule, rule, read, first, IsCommandBefore}
-use Rattle.tcl_words.specs.Scanning.{scanned, pieces_from}
-use Rattle.tcl_words.specs.PlainWords.{IsPlainCommand}
-use Rattle.tcl_words.specs.Unread.{Unread, IsNextCommand, HasNoCommand, TakesCommand, texts_of}
-use Rattle.tcl_words.specs.Progression.{IsProgress, IsCommandOf, IsFound, starting_at}
-use Rattle.tcl_words.specs.declared.fault.ScriptFault.TheVariants.{Substitution}
+use Rattle.tcl_words.proofs.Words.{◌≡◌, ℕ, zero, suc, ◌+◌, ◌-◌, ◌<◌, ◌≤◌, ◌==◌, ◌||◌, ◌&&◌, inl, inr, ⊎_elim, Bool}
+use Rattle.tcl_words.proofs.Words.{true, false, cond, List, [], ◌∷◌, map, length, take, drop, Option, Some, None}
+use Rattle.tcl_words.proofs.Words.{Result, Ok, Err, IfOk, IfSome, String, string_bytes, chars, encode_utf8_all, IsUtf8}
+use Rattle.tcl_words.proofs.Words.{refl, sym, ap, ◌∙◌, arith, subst, length-drop, length-take, take-append-drop, ⊤}
+use Rattle.tcl_words.proofs.Words.{IsUtf8-string_bytes, chars_from_encodes, IsUtf8-nil, IsUtf8-drop}
+use Rattle.tcl_words.proofs.Words.{IsCharBoundary-from_take, leb_tells, take-take, drop-take, drop-drop, length-map}
+use Rattle.tcl_words.proofs.Words.{is_end, is_blank, is_joint, is_expansion, names_variable, Escape, Gives, NoCharacter}
+use Rattle.tcl_words.proofs.Words.{Undecided, escape, gap, Ending, Ends, Breaks, Continues, is_last, First, Command}
+use Rattle.tcl_words.proofs.Words.{Nothing, Fault, Open, onto_word, end_word, at_stop, Where, AtCommand, InComment}
+use Rattle.tcl_words.proofs.Words.{AtWord, InBare, InQuotes, Behind, at_end, escaped, text_rule, close_rule, kept_rule}
+use Rattle.tcl_words.proofs.Words.{open_rule, rule, first, IsCommandBefore, scanned, pieces_from, IsPlainCommand}
+use Rattle.tcl_words.proofs.Words.{Unread, IsNextCommand, HasNoCommand, TakesCommand, texts_of, IsProgress, IsCommandOf}
+use Rattle.tcl_words.proofs.Words.{IsFound, starting_at, Substitution, Progress, BeforeCommand, EndsAt}
+use Rattle.tcl_words.specs.ScriptGrammar.{InBraces, read}
 use Rattle.std.specs.declared.alloc.AllocError.{AllocError}
-use Rattle.tcl_words.specs.declared.progress.Progress.{Progress}
-use Rattle.tcl_words.specs.declared.stage.Stage.TheVariants.{BeforeCommand}
-use Rattle.tcl_words.specs.declared.scanner.Scan.TheVariants.{EndsAt}
 use Rattle.tcl_words.proofs.Verdicts.{scanned-nil}
 use Rattle.tcl_words.proofs.Finding.{command_of, command_words}
 use Rattle.tcl_words.proofs.Readings.{one_found, reads_nothing, reads_before}

@@ -1,38 +1,23 @@
 -- What each stage of a scan says of the grammar.
-use Rattle.std.proofs.Common.{◌≡◌, ℕ, zero, suc, ◌+◌, ◌*◌, ◌-◌, ◌==◌, Bool, true, false, cond, ◌||◌, ◌&&◌, Option, Some}
-use Rattle.std.proofs.Common.{None, List, [], ◌∷◌, refl, sym, ap, ◌∙◌, arith, true≢false}
-use Rattle.std.proofs.lemmas.Bool.Decides.{nat_tests}
-use Rattle.std.specs.Char.{is_digit, digit_value}
+use Rattle.tcl_words.proofs.Words.{◌≡◌, ℕ, zero, suc, ◌+◌, ◌*◌, ◌-◌, ◌==◌, Bool, true, false, cond, ◌||◌, ◌&&◌, Option}
+use Rattle.tcl_words.proofs.Words.{Some, None, List, [], ◌∷◌, refl, sym, ap, ◌∙◌, arith, true≢false, nat_tests}
+use Rattle.tcl_words.proofs.Words.{is_digit, digit_value, is_end, is_blank, begins_name, begins_with, names_variable}
+use Rattle.tcl_words.proofs.Words.{Escape, Gives, NoCharacter, Undecided, further, valued, joins, hexadecimal, gap}
+use Rattle.tcl_words.proofs.Words.{letter_value, escape, base_of, limit_of, given, before, is_gap, is_letter}
+use Rattle.tcl_words.proofs.Words.{plain_step, escape_step, Ending, is_last, First, Command, Fault, at_stop, onto_word}
+use Rattle.tcl_words.proofs.Words.{end_word, Where, AtCommand, InComment, AtWord, InBare, InQuotes, Behind, escaped}
+use Rattle.tcl_words.proofs.Words.{text_rule, bare_rule, quoted_rule, close_rule, kept_rule, braced_rule, open_rule}
+use Rattle.tcl_words.proofs.Words.{word_rule, behind_rule, command_rule, rule, is_nil, passes, keeps, closes, ends_here}
+use Rattle.tcl_words.proofs.Words.{refuses, after, fault_behind, text_step, bare_step, quoted_step, inside_step}
+use Rattle.tcl_words.proofs.Words.{word_step, command_step, close_step, braced_step, behind_step, step_by, opening_step}
+use Rattle.tcl_words.proofs.Words.{step_of, ScriptFault, Substitution, Radix, Octal, Hexadecimal, EscapeStage}
+use Rattle.tcl_words.proofs.Words.{Backslash, Letter, Digits, Gap, EscapeStep, TextWord, Bare, Quoted, Closing, Quote}
+use Rattle.tcl_words.proofs.Words.{Expansion, Stage, Next, Go, End, Refuse, Output, Step}
 use lib.Utf8.{scalar}
-use Rattle.tcl_words.specs.Characters.{is_end, is_blank, begins_name, begins_with, names_variable}
-use Rattle.tcl_words.specs.Escapes.{Escape, Gives, NoCharacter, Undecided, further, valued, joins, numeral, hexadecimal}
-use Rattle.tcl_words.specs.Escapes.{gap, letter_value, escape}
-use Rattle.tcl_words.specs.EscapeSteps.{base_of, limit_of, given, before, is_gap, is_letter, plain_step, escape_step}
-use Rattle.tcl_words.specs.ScriptGrammar.{Ending, is_last, First, Command, Fault, at_stop, onto_word, end_word, Where}
-use Rattle.tcl_words.specs.ScriptGrammar.{AtCommand, InComment, AtWord, InBare, InQuotes, InBraces, Behind, escaped}
-use Rattle.tcl_words.specs.ScriptGrammar.{text_rule, bare_rule, quoted_rule, close_rule, kept_rule, braced_rule}
-use Rattle.tcl_words.specs.ScriptGrammar.{open_rule, word_rule, behind_rule, command_rule, rule, read, is_nil}
-use Rattle.tcl_words.specs.Steps.{passes, keeps, closes, ends_here, refuses, after, fault_behind, text_step, bare_step}
-use Rattle.tcl_words.specs.Steps.{quoted_step, inside_step, word_step, command_step, close_step, braced_step}
-use Rattle.tcl_words.specs.Steps.{behind_step, step_by, opening_step, step_of}
-use Rattle.tcl_words.specs.declared.fault.ScriptFault.{ScriptFault}
-use Rattle.tcl_words.specs.declared.fault.ScriptFault.TheVariants.{Substitution}
-use Rattle.tcl_words.specs.declared.escapes.Radix.{Radix}
-use Rattle.tcl_words.specs.declared.escapes.Radix.TheVariants.{Octal, Hexadecimal}
-use Rattle.tcl_words.specs.declared.escapes.EscapeStage.{EscapeStage}
-use Rattle.tcl_words.specs.declared.escapes.EscapeStage.TheVariants.{Backslash, Letter, Digits, Gap}
-use Rattle.tcl_words.specs.declared.escapes.EscapeStep.{EscapeStep}
+use Rattle.tcl_words.specs.Escapes.{numeral}
+use Rattle.tcl_words.specs.ScriptGrammar.{InBraces, read}
 use Rattle.tcl_words.specs.declared.escapes.EscapeStep.TheVariants as escape_steps
-use Rattle.tcl_words.specs.declared.stage.TextWord.{TextWord}
-use Rattle.tcl_words.specs.declared.stage.TextWord.TheVariants.{Bare, Quoted}
-use Rattle.tcl_words.specs.declared.stage.Closing.{Closing}
-use Rattle.tcl_words.specs.declared.stage.Closing.TheVariants.{Quote, Expansion}
-use Rattle.tcl_words.specs.declared.stage.Stage.{Stage}
 use Rattle.tcl_words.specs.declared.stage.Stage.TheVariants as stages
-use Rattle.tcl_words.specs.declared.stage.Next.{Next}
-use Rattle.tcl_words.specs.declared.stage.Next.TheVariants.{Go, End, Refuse}
-use Rattle.tcl_words.specs.declared.stage.Output.{Output}
-use Rattle.tcl_words.specs.declared.stage.Step.{Step}
 
 -- Escapes.
 

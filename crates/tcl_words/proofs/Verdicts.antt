@@ -1,35 +1,21 @@
 -- What a scan says of the grammar, whatever follows the characters.
-use Rattle.std.proofs.Common.{◌≡◌, ◌≢◌, ℕ, zero, suc, ◌<◌, ◌≤◌, ◌==◌, Bool, true, false, cond, ◌||◌, Option, Some, None}
-use Rattle.std.proofs.Common.{List, [], ◌∷◌, ◌++◌, length, take, refl, sym, ap, ◌∙◌, arith, one-add}
-use Rattle.std.specs.Bool.{⊤}
+use Rattle.tcl_words.proofs.Words.{◌≡◌, ◌≢◌, ℕ, zero, suc, ◌<◌, ◌≤◌, ◌==◌, Bool, true, false, cond, ◌||◌, Option, Some}
+use Rattle.tcl_words.proofs.Words.{None, List, [], ◌∷◌, ◌++◌, length, take, refl, sym, ap, ◌∙◌, arith, one-add, ⊤}
+use Rattle.tcl_words.proofs.Words.{is_end, is_blank, begins_name, Gives, NoCharacter, is_gap, escape_step, last_given}
+use Rattle.tcl_words.proofs.Words.{Ending, Ends, Breaks, Continues, First, Command, Nothing, Fault, Open, onto_word}
+use Rattle.tcl_words.proofs.Words.{end_word, escaped, after, fault_behind, text_step, inside_step, word_step}
+use Rattle.tcl_words.proofs.Words.{close_step, braced_step, step_by, step_of, last_in_text, last_by, last_step}
+use Rattle.tcl_words.proofs.Words.{depth_of, later, scan_next, onto_piece, given_onto, kept_onto, ended_before, written}
+use Rattle.tcl_words.proofs.Words.{words_next, ScriptFault, MissingQuote, NotUtf8, Memory, EscapeStage, Backslash}
+use Rattle.tcl_words.proofs.Words.{Letter, Digits, Gap, EscapeStep, TextWord, Bare, Quoted, Closing, Brace, Quote}
+use Rattle.tcl_words.proofs.Words.{Expansion, Stage, Next, Go, End, Refuse, Output, Step, Scan, EndsAt, Refused}
+use Rattle.tcl_words.proofs.Words.{Reaches}
 use lib.Utf8.{scalar}
-use Rattle.tcl_words.specs.Characters.{is_end, is_blank, begins_name}
-use Rattle.tcl_words.specs.Escapes.{Gives, NoCharacter, numeral}
-use Rattle.tcl_words.specs.EscapeSteps.{is_gap, escape_step, last_given}
-use Rattle.tcl_words.specs.ScriptGrammar.{Ending, Ends, Breaks, Continues, First, Command, Nothing, Fault, Open}
-use Rattle.tcl_words.specs.ScriptGrammar.{onto_word, end_word, escaped, read}
-use Rattle.tcl_words.specs.Steps.{after, fault_behind, text_step, inside_step, word_step, close_step, braced_step}
-use Rattle.tcl_words.specs.Steps.{step_by, step_of, last_in_text, last_by, last_step, depth_of}
-use Rattle.tcl_words.specs.Scanning.{later, scan_next, scanned, onto_piece, given_onto, kept_onto, ended_before}
-use Rattle.tcl_words.specs.Scanning.{written, words_next, pieces_from}
-use Rattle.tcl_words.specs.declared.fault.ScriptFault.{ScriptFault}
-use Rattle.tcl_words.specs.declared.fault.ScriptFault.TheVariants.{MissingQuote, NotUtf8, Memory}
-use Rattle.tcl_words.specs.declared.escapes.EscapeStage.{EscapeStage}
-use Rattle.tcl_words.specs.declared.escapes.EscapeStage.TheVariants.{Backslash, Letter, Digits, Gap}
-use Rattle.tcl_words.specs.declared.escapes.EscapeStep.{EscapeStep}
+use Rattle.tcl_words.specs.Escapes.{numeral}
+use Rattle.tcl_words.specs.ScriptGrammar.{read}
+use Rattle.tcl_words.specs.Scanning.{scanned, pieces_from}
 use Rattle.tcl_words.specs.declared.escapes.EscapeStep.TheVariants as escape_steps
-use Rattle.tcl_words.specs.declared.stage.TextWord.{TextWord}
-use Rattle.tcl_words.specs.declared.stage.TextWord.TheVariants.{Bare, Quoted}
-use Rattle.tcl_words.specs.declared.stage.Closing.{Closing}
-use Rattle.tcl_words.specs.declared.stage.Closing.TheVariants.{Brace, Quote, Expansion}
-use Rattle.tcl_words.specs.declared.stage.Stage.{Stage}
 use Rattle.tcl_words.specs.declared.stage.Stage.TheVariants as stages
-use Rattle.tcl_words.specs.declared.stage.Next.{Next}
-use Rattle.tcl_words.specs.declared.stage.Next.TheVariants.{Go, End, Refuse}
-use Rattle.tcl_words.specs.declared.stage.Output.{Output}
-use Rattle.tcl_words.specs.declared.stage.Step.{Step}
-use Rattle.tcl_words.specs.declared.scanner.Scan.{Scan}
-use Rattle.tcl_words.specs.declared.scanner.Scan.TheVariants.{EndsAt, Refused, Reaches}
 use Rattle.tcl_words.proofs.Stages.{from, from-step, put, onto_given, arrive}
 
 -- Which faults a scan meets, and how deep it goes.

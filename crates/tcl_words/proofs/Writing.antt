@@ -1,23 +1,13 @@
 -- Steps of the loop that writes the words of a command.
-use Rattle.std.proofs.Common.{◌≡◌, ◌<◌, ℕ, get_or, ◌⊎◌, inl, inr, Bool, true, false}
-use Rattle.std.proofs.Common.{Option, Some, None, List, [], ◌∷◌, ◌++◌, map, length, take, drop, chars, encode_utf8}
-use Rattle.std.proofs.Common.{encode_utf8_all, refl, sym, ap, ◌∙◌, arith, subst, append_assoc, append-nil}
-use Rattle.std.proofs.lemmas.Str.{chars-nil, chars-append, chars-IsAscii, IsUtf8-from_ascii}
+use Rattle.tcl_words.proofs.Words.{◌≡◌, ◌<◌, ℕ, get_or, ◌⊎◌, inl, inr, Bool, true, false, Option, Some, None, List, []}
+use Rattle.tcl_words.proofs.Words.{◌∷◌, ◌++◌, map, length, take, drop, chars, encode_utf8, encode_utf8_all, refl, sym}
+use Rattle.tcl_words.proofs.Words.{ap, ◌∙◌, arith, subst, append_assoc, append-nil, chars-nil, chars-append}
+use Rattle.tcl_words.proofs.Words.{chars-IsAscii, IsUtf8-from_ascii, nat_tests, is_end, is_blank, step_of, last_step}
+use Rattle.tcl_words.proofs.Words.{onto_piece, given_onto, kept_onto, ended_before, written, words_next, pieces_from}
+use Rattle.tcl_words.proofs.Words.{prefixed, given_bytes, kept_bytes, word_with, words_after, word_after, ScriptFault}
+use Rattle.tcl_words.proofs.Words.{Stage, BeforeCommand, Next, Go, End, Refuse, Output, Step, begun}
 use Rattle.std.proofs.lemmas.Str.Ascii.{IsAscii-cons, IsAscii-nil}
-use Rattle.std.proofs.lemmas.Bool.Decides.{nat_tests}
-use Rattle.tcl_words.specs.Characters.{is_end, is_blank}
-use Rattle.tcl_words.specs.Steps.{step_of, last_step}
-use Rattle.tcl_words.specs.Scanning.{onto_piece, given_onto, kept_onto, ended_before, written, words_next, pieces_from}
-use Rattle.tcl_words.specs.Scanning.{prefixed, given_bytes, kept_bytes, word_with, words_after, word_after}
-use Rattle.tcl_words.specs.declared.fault.ScriptFault.{ScriptFault}
-use Rattle.tcl_words.specs.declared.stage.Stage.{Stage}
-use Rattle.tcl_words.specs.declared.stage.Stage.TheVariants.{BeforeCommand}
-use Rattle.tcl_words.specs.declared.stage.Next.{Next}
-use Rattle.tcl_words.specs.declared.stage.Next.TheVariants.{Go, End, Refuse}
-use Rattle.tcl_words.specs.declared.stage.Output.{Output}
-use Rattle.tcl_words.specs.declared.stage.Step.{Step}
 use Rattle.tcl_words.proofs.Verdicts.{pieces-nil, pieces-cons}
-use Rattle.tcl_words.specs.Runs.{begun}
 use Rattle.tcl_words.proofs.Plain.{AllPlain, plain_step, char_step, RunOf}
 
 -- words in their bytes

@@ -1,16 +1,9 @@
 -- Lists of cells, and where lines begin around a place in a text.
-use Rattle.std.proofs.Common.{◌≡◌, ℕ, zero, suc, ◌+◌, ◌-◌, ◌<◌, ◌≤◌, Bool, true, false, cond, List, [], ◌∷◌, ◌++◌}
-use Rattle.std.proofs.Common.{length, take, drop, refl, sym, ap, ◌∙◌, arith, length-take, subst}
-use Rattle.std.specs.Prelude.{if◌then◌else◌}
-use Rattle.std.proofs.lemmas.List.{length-map, map-id, take-append-drop}
-use Rattle.text_model.specs.declared.cells.Cell.{Cell}
-use Rattle.text_model.specs.Content.{Slots, characters, slot_sets}
-use Rattle.text_model.specs.Lines.{is_newline, lines, line_of, line_start}
-use Rattle.text_model.specs.Splices.{removed}
-use Rattle.text_model.specs.Steps.{cells_of}
-use Rattle.text_model.proofs.LineLaws.{lines-cons, line_of-removed_before}
-use Rattle.text_model.proofs.SpliceLaws.{map-map}
-use Rattle.text_cursor.specs.Around.{next_line}
+use Rattle.text_cursor.proofs.Words.{◌≡◌, ℕ, zero, suc, ◌+◌, ◌-◌, ◌<◌, ◌≤◌, Bool, true, false, cond, List, [], ◌∷◌}
+use Rattle.text_cursor.proofs.Words.{◌++◌, length, take, drop, refl, sym, ap, ◌∙◌, arith, length-take, subst}
+use Rattle.text_cursor.proofs.Words.{if◌then◌else◌, length-map, map-id, take-append-drop, Cell, Slots, characters}
+use Rattle.text_cursor.proofs.Words.{slot_sets, is_newline, lines, line_of, line_start, removed, cells_of, lines-cons}
+use Rattle.text_cursor.proofs.Words.{line_of-removed_before, map-map, next_line}
 
 pub length-characters : (cells : List Cell) → length (characters cells) ≡ length cells
 length-characters cells = length-map cells (λ (cell : Cell). cell.character)

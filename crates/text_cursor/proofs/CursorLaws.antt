@@ -1,29 +1,17 @@
 -- A cursor goes through the parts of a text.
-use Rattle.std.proofs.Common.{◌≡◌, ℕ, ◌+◌, ◌-◌, ◌<◌, ◌≤◌, List, [], ◌∷◌, ◌++◌, Option, Some, None, map, length, take}
-use Rattle.std.proofs.Common.{drop, refl, sym, ap, ap₂, ◌∙◌, arith, subst, append_assoc, length-append, length-drop}
-use Rattle.std.specs.Prelude.{Bool, true, false, reverse, slice_range, sum_by}
-use Rattle.std.specs.List.{All}
-use Rattle.std.proofs.lemmas.List.{append-nil, map-append, length-map, length-take-le, drop-drop, drop-append-le}
-use Rattle.std.proofs.lemmas.List.{reverse-append, reverse-reverse}
-use Rattle.std.proofs.lemmas.List.{take-append-le, take-append-drop, take_all, take_at, drop_at, nil_from_length}
-use Rattle.std.proofs.lemmas.List.Elements.{All-nil, All-cons, All-append, All-push, All-head, All-tail, All-pop}
-use Rattle.std.proofs.lemmas.List.Elements.{All-same, All-weaker}
-use Rattle.std.proofs.lemmas.List.Sums.{sum_by-append, sum_by-cons}
-use Rattle.std.proofs.Math.Seq.{take-add}
-use Rattle.text_model.specs.declared.cells.Cell.{Cell}
-use Rattle.text_model.specs.Content.{Slots}
-use Rattle.text_model.specs.Steps.{cells_of}
-use Rattle.text_model.specs.Splices.{inserted, removed}
-use Rattle.text_model.proofs.SpliceLaws.{take-removed, drop-removed}
-use Rattle.text_cursor.specs.declared.cursors.Cursor.{Cursor}
-use Rattle.text_cursor.specs.declared.parts.Part.{Part}
-use Rattle.text_cursor.specs.Parts.{parts_len, turned_if}
-use Rattle.text_cursor.specs.Sides.{side_parts}
-use Rattle.text_cursor.specs.declared.blocks.Block.{Block}
-use Rattle.text_cursor.specs.Cursors.{cells_between, part_cells, front_cells, behind_cells, source_len}
+use Rattle.text_cursor.proofs.Words.{◌≡◌, ℕ, ◌+◌, ◌-◌, ◌<◌, ◌≤◌, List, [], ◌∷◌, ◌++◌, Option, Some, None, map, length}
+use Rattle.text_cursor.proofs.Words.{take, drop, refl, sym, ap, ap₂, ◌∙◌, arith, subst, append_assoc, length-append}
+use Rattle.text_cursor.proofs.Words.{length-drop, reverse, slice_range, sum_by, All, append-nil, map-append, length-map}
+use Rattle.text_cursor.proofs.Words.{length-take-le, drop-drop, drop-append-le, reverse-append, reverse-reverse}
+use Rattle.text_cursor.proofs.Words.{take-append-le, take-append-drop, take_all, take_at, drop_at, nil_from_length}
+use Rattle.text_cursor.proofs.Words.{All-nil, All-cons, All-append, All-push, All-head, All-tail, All-pop, All-same}
+use Rattle.text_cursor.proofs.Words.{All-weaker, sum_by-append, sum_by-cons, take-add, Cell, Slots, cells_of, inserted}
+use Rattle.text_cursor.proofs.Words.{removed, take-removed, drop-removed, Cursor, Part, parts_len, turned_if}
+use Rattle.text_cursor.proofs.Words.{side_parts, Block, cells_between, part_cells, front_cells, behind_cells}
+use Rattle.text_cursor.proofs.Words.{source_len, cursor_cells, cursor_parts, PartFits, IsCursor, Moves, Takes, Puts}
+use Rattle.std.specs.Prelude.{Bool, true, false}
 use Rattle.text_cursor.proofs.RiseLaws.{rise-across, rise-along, rise-cut, rise-dropped, rise-trimmed, rise-put}
 use Rattle.text_cursor.proofs.SideLaws.{len-append, len-cons, turned-len, turned-length}
-use Rattle.text_cursor.specs.Cursors.{cursor_cells, cursor_parts, PartFits, IsCursor, Moves, Takes, Puts}
 
 slice-length : {A : Type 0} (from to : ℕ) (xs : List A) → from ≤ to → to ≤ length xs →
     length (slice_range xs from to) ≡ to - from

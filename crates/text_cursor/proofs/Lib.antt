@@ -3,3 +3,4 @@ pub mod CursorLaws
 pub mod LookLaws
 pub mod RiseLaws
 pub mod SideLaws
+pub mod Words

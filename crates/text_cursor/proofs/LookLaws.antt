@@ -1,33 +1,19 @@
 -- What a cursor sees around its place: slots, and where lines begin.
-use Rattle.std.proofs.Common.{◌≡◌, ℕ, zero, suc, ◌+◌, ◌-◌, ◌<◌, ◌≤◌, Bool, true, false, cond, List, [], ◌∷◌, ◌++◌}
-use Rattle.std.proofs.Common.{Option, Some, None, length, get_or, take, drop, refl, sym, ap, ap₂, ◌∙◌, arith, subst}
-use Rattle.std.proofs.Common.{length-append, length-drop, ne_eqb}
-use Rattle.std.proofs.Common.{append_assoc}
-use Rattle.std.specs.Prelude.{slice_range, min, reverse, if◌then◌else◌}
+use Rattle.text_cursor.proofs.Words.{◌≡◌, ℕ, zero, suc, ◌+◌, ◌-◌, ◌<◌, ◌≤◌, Bool, true, false, cond, List, [], ◌∷◌}
+use Rattle.text_cursor.proofs.Words.{◌++◌, Option, Some, None, length, get_or, take, drop, refl, sym, ap, ap₂, ◌∙◌}
+use Rattle.text_cursor.proofs.Words.{arith, subst, length-append, length-drop, ne_eqb, append_assoc, slice_range, min}
+use Rattle.text_cursor.proofs.Words.{reverse, if◌then◌else◌, All, append-nil, map-append, length-take-le}
+use Rattle.text_cursor.proofs.Words.{take-append-drop, take_all, take_at, drop_at, take_more, drop_more}
+use Rattle.text_cursor.proofs.Words.{reverse-reverse, get_or_append_left, get_or-append-add, get_or-take, get_or-drop}
+use Rattle.text_cursor.proofs.Words.{get_or-map, All-take, All-drop, All-same, All-pop, take-add, Cell, Slots}
+use Rattle.text_cursor.proofs.Words.{characters, slot_sets, is_newline, lines, line_of, line_start, lines-cons}
+use Rattle.text_cursor.proofs.Words.{lines-append, line_start-le, map-map, map-slice_range, Cursor, Part, next_line}
+use Rattle.text_cursor.proofs.Words.{shared_slots, parts_len, turned_if, block_parts, side_parts, cells_between}
+use Rattle.text_cursor.proofs.Words.{part_cells, front_cells, behind_cells, cursor_cells, source_len, slots_in}
+use Rattle.text_cursor.proofs.Words.{last_line, front_text, behind_text, PartFits, IsCursor, IsLastLine, IsSecond}
+use Rattle.text_cursor.proofs.Words.{Block}
 use Rattle.std.specs.FinSet as set
-use Rattle.std.specs.List.{All}
-use Rattle.std.proofs.lemmas.List.{append-nil, map-append, length-take-le, take-append-drop, take_all, take_at, drop_at}
-use Rattle.std.proofs.lemmas.List.{take_more, drop_more, reverse-reverse, get_or_append_left, get_or-append-add}
-use Rattle.std.proofs.lemmas.List.{get_or-take, get_or-drop}
-use Rattle.std.proofs.lemmas.List.{get_or-map}
-use Rattle.std.proofs.lemmas.List.Elements.{All-take, All-drop, All-same, All-pop}
 use Rattle.std.proofs.lemmas.List.Folds.{drop_split}
-use Rattle.std.proofs.Math.Seq.{take-add}
-use Rattle.text_model.specs.declared.cells.Cell.{Cell}
-use Rattle.text_model.specs.Content.{Slots, characters, slot_sets}
-use Rattle.text_model.specs.Lines.{is_newline, lines, line_of, line_start}
-use Rattle.text_model.proofs.LineLaws.{lines-cons, lines-append, line_start-le}
-use Rattle.text_model.proofs.SpliceLaws.{map-map, map-slice_range}
-use Rattle.text_cursor.specs.declared.cursors.Cursor.{Cursor}
-use Rattle.text_cursor.specs.declared.parts.Part.{Part}
-use Rattle.text_cursor.specs.Around.{next_line}
-use Rattle.text_cursor.specs.Parts.{parts_len, turned_if}
-use Rattle.text_cursor.specs.Sides.{block_parts, side_parts}
-use Rattle.text_cursor.specs.Cursors.{cells_between, part_cells, front_cells, behind_cells, cursor_cells, source_len}
-use Rattle.text_cursor.specs.Cursors.{slots_in, last_line, front_text, behind_text, PartFits, IsCursor}
-use Rattle.text_cursor.specs.Cursors.{IsLastLine, IsSecond}
-use Rattle.text_cursor.specs.Around.{shared_slots}
-use Rattle.text_cursor.specs.declared.blocks.Block.{Block}
 use Rattle.text_cursor.proofs.SideLaws.{len-append, len-cons, turned-len, block-push}
 use Rattle.text_cursor.proofs.CursorLaws.{part-length, front-push, behind-push, len-push, front-length, place-is}
 use Rattle.text_cursor.proofs.CursorLaws.{behind-length, front-append, behind-append, behind-reverse, split-fit}

@@ -1,11 +1,7 @@
 -- The parts of a text on the way stand in the order of the old one.
-use Rattle.std.proofs.Common.{◌≡◌, ℕ, ◌<◌, ◌≤◌, List, [], ◌∷◌, ◌++◌, Option, Some, None}
-use Rattle.std.proofs.Common.{refl, sym, ap, ◌∙◌, arith, subst, append_assoc}
-use Rattle.std.specs.Prelude.{reverse}
-use Rattle.std.proofs.lemmas.List.{reverse-append, reverse-reverse}
-use Rattle.text_model.specs.Content.{Slots}
-use Rattle.text_cursor.specs.declared.parts.Part.{Part}
-use Rattle.text_cursor.specs.Cursors.{old_place, Rise}
+use Rattle.text_cursor.proofs.Words.{◌≡◌, ℕ, ◌<◌, ◌≤◌, List, [], ◌∷◌, ◌++◌, Option, Some, None, refl, sym, ap, ◌∙◌}
+use Rattle.text_cursor.proofs.Words.{arith, subst, append_assoc, reverse, reverse-append, reverse-reverse, Slots, Part}
+use Rattle.text_cursor.proofs.Words.{old_place, Rise}
 
 -- ---- an earlier border does as well
 

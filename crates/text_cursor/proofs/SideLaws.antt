@@ -1,17 +1,10 @@
 -- The parts on one side of a place stay the same when blocks are made of them, or taken apart.
-use Rattle.std.proofs.Common.{◌≡◌, ℕ, ◌+◌, ◌-◌, ◌<◌, Bool, true, false, List, [], ◌∷◌, ◌++◌, Option}
-use Rattle.std.proofs.Common.{Some, None}
-use Rattle.std.proofs.Common.{length, take, drop, get_or, refl, sym, ap, ap₂, ◌∙◌, arith, subst, append_assoc}
-use Rattle.std.proofs.Common.{length-append}
-use Rattle.std.specs.Prelude.{reverse, option_to_list, IfSome}
-use Rattle.std.proofs.lemmas.List.{append-nil, reverse-append, reverse-reverse, length-reverse, take-append-drop}
-use Rattle.std.proofs.lemmas.List.{take_at, take_all, take_more, nil_from_length}
-use Rattle.std.proofs.lemmas.List.Sums.{sum_by-append, sum_by-cons}
-use Rattle.text_cursor.specs.declared.blocks.Block.{Block}
-use Rattle.text_cursor.specs.declared.parts.Part.{Part}
-use Rattle.text_cursor.specs.declared.sides.Side.{Side}
-use Rattle.text_cursor.specs.Parts.{parts_len, turned_if, EndsWith}
-use Rattle.text_cursor.specs.Sides.{block_parts, side_parts, StaysSide}
+use Rattle.text_cursor.proofs.Words.{◌≡◌, ℕ, ◌+◌, ◌-◌, ◌<◌, Bool, true, false, List, [], ◌∷◌, ◌++◌, Option, Some, None}
+use Rattle.text_cursor.proofs.Words.{length, take, drop, get_or, refl, sym, ap, ap₂, ◌∙◌, arith, subst, append_assoc}
+use Rattle.text_cursor.proofs.Words.{length-append, reverse, option_to_list, IfSome, append-nil, reverse-append}
+use Rattle.text_cursor.proofs.Words.{reverse-reverse, length-reverse, take-append-drop, take_at, take_all, take_more}
+use Rattle.text_cursor.proofs.Words.{nil_from_length, sum_by-append, sum_by-cons, Block, Part, Side, parts_len}
+use Rattle.text_cursor.proofs.Words.{turned_if, EndsWith, block_parts, side_parts, StaysSide}
 
 abbrev pub part_len : Part → ℕ
 part_len part = part.to - part.from

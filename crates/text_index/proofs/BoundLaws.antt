@@ -1,33 +1,24 @@
 -- No index stands for a place behind the end, and numbers up to the greatest that a machine has stand for every place.
-use Rattle.std.proofs.Common.{◌≡◌, ◌≢◌, ℕ, zero, suc, ◌+◌, ◌-◌, ◌<◌, ◌≤◌, min, Bool, true, false, not, List, [], ◌∷◌}
-use Rattle.std.proofs.Common.{length, map, take, drop, refl, sym, ap, ◌∙◌, arith, length-drop}
-use Rattle.std.specs.Prelude.{Option, Some, None, Result, Ok, Err, option_and_then, nat_lt, nat_le, ◌&&◌, ◌==◌}
-use Rattle.std.specs.Prelude.{slice_index, if◌then◌else◌}
-use Rattle.std.specs.List.{prefix_len, suffix_len}
-use Rattle.std.proofs.lemmas.Bool.{false≢true}
-use Rattle.std.proofs.lemmas.Bool.Decides.{nat_tests, Decides-eqb}
-use Rattle.std.proofs.lemmas.List.{length-take-le}
+use Rattle.text_index.proofs.Words.{◌≡◌, ◌≢◌, ℕ, zero, suc, ◌+◌, ◌-◌, ◌<◌, ◌≤◌, min, Bool, true, false, not, List, []}
+use Rattle.text_index.proofs.Words.{◌∷◌, length, map, take, drop, refl, sym, ap, ◌∙◌, arith, length-drop, Option}
+use Rattle.text_index.proofs.Words.{Result, Ok, Err, option_and_then, nat_lt, nat_le, ◌&&◌, ◌==◌, slice_index}
+use Rattle.text_index.proofs.Words.{if◌then◌else◌, prefix_len, suffix_len, false≢true, nat_tests, Decides-eqb}
+use Rattle.text_index.proofs.Words.{length-take-le, prefix_len-le-length, lines, line_of, line_start-le}
+use Rattle.text_index.proofs.Words.{lines-le-length, Content, flags, IsView, shown, own_place, shared_place, shown_mark}
+use Rattle.text_index.proofs.Words.{saturated_base, saturated_modifier, WholeIndex, newline_of, in_line, column_of}
+use Rattle.text_index.proofs.Words.{on_line, line_value, unless_end, lines_back, word_front, word_behind, word_end}
+use Rattle.text_index.proofs.Words.{modified, modified_by, or_fault, first_tagged, last_tagged, base_value}
+use Rattle.text_index.proofs.Words.{then_modified, index_value, Meanings, AreWithin, value_of, shown_meanings}
+use Rattle.text_index.proofs.Words.{IndexFault, BadIndex, Base}
+use Rattle.std.specs.Prelude.{Some, None}
 use Rattle.std.proofs.lemmas.List.Quantifiers.{position-Some}
-use Rattle.std.proofs.lemmas.List.Sums.{prefix_len-le-length}
-use Rattle.text_model.specs.Lines.{lines, line_of}
-use Rattle.text_model.proofs.LineLaws.{line_start-le, lines-le-length}
-use Rattle.text_model.specs.Content.{Content, flags}
 use Rattle.text_model.specs.declared.places.Place.{Place}
 use Rattle.mark_table.specs.SharedMarks.{Mark, first_number}
 use Rattle.tag_table.specs.Tags.{Tag}
 use Rattle.std.specs.FinMap as finite
-use Rattle.text_index.specs.Views.{IsView, shown, own_place, shared_place, shown_mark}
 use Rattle.text_index.proofs.ViewLaws.{length-shown}
 use Rattle.text_index.proofs.FlagLaws.{length-part, flags-within}
-use Rattle.index_grammar.specs.Grammar.{saturated_base, saturated_modifier, WholeIndex}
 use Rattle.index_grammar.specs.Steps.{saturated_index}
-use Rattle.text_index.specs.Values.{newline_of, in_line, column_of, on_line, line_value, unless_end, lines_back}
-use Rattle.text_index.specs.Values.{word_front, word_behind, word_end, modified, modified_by, or_fault, first_tagged}
-use Rattle.text_index.specs.Values.{last_tagged, base_value, then_modified, index_value}
-use Rattle.text_index.specs.Meanings.{Meanings, AreWithin, value_of, shown_meanings}
-use Rattle.index_grammar.specs.declared.faults.IndexFault.{IndexFault}
-use Rattle.index_grammar.specs.declared.faults.IndexFault.TheVariants.{BadIndex}
-use Rattle.index_grammar.specs.declared.indices.Base.{Base}
 use Rattle.index_grammar.specs.declared.indices.Base.TheVariants as base
 use Rattle.index_grammar.specs.declared.indices.Modifier.{Modifier}
 use Rattle.index_grammar.specs.declared.indices.Modifier.TheVariants as modifier

@@ -1,20 +1,15 @@
 -- Where flags change, and what that is in a part of a list of flags.
-use Rattle.std.proofs.Common.{◌≡◌, ℕ, zero, suc, ◌+◌, ◌-◌, ◌<◌, ◌≤◌, min, max, Bool, true, false, cond, not, List, []}
-use Rattle.std.proofs.Common.{◌∷◌, ◌++◌, length, take, drop, get_or, None, Some, refl, sym, ap, ap₂, ◌∙◌, arith, lt-ltb}
-use Rattle.std.proofs.Common.{le-ltb, length-drop}
-use Rattle.std.specs.Prelude.{reverse, slice_range, slice_get, nat_lt, if◌then◌else◌}
-use Rattle.std.specs.List.{prefix_len, suffix_len}
-use Rattle.std.proofs.lemmas.List.{take-append-drop, take-take, drop-take, drop-drop, reverse-append, length-reverse}
-use Rattle.std.proofs.lemmas.List.{length-take-le, get_or-take, get_or-drop, get_or-reverse, length-map}
-use Rattle.std.proofs.lemmas.List.Sums.{prefix_len_passes, prefix_len_stops, prefix_len-le-length, suffix_len-le-length}
-use Rattle.std.proofs.lemmas.Bool.{ltb-true, ltb-false}
+use Rattle.text_index.proofs.Words.{◌≡◌, ℕ, zero, suc, ◌+◌, ◌-◌, ◌<◌, ◌≤◌, min, max, Bool, true, false, cond, not, List}
+use Rattle.text_index.proofs.Words.{[], ◌∷◌, ◌++◌, length, take, drop, get_or, None, Some, refl, sym, ap, ap₂, ◌∙◌}
+use Rattle.text_index.proofs.Words.{arith, lt-ltb, le-ltb, length-drop, reverse, slice_range, slice_get, nat_lt}
+use Rattle.text_index.proofs.Words.{if◌then◌else◌, prefix_len, suffix_len, take-append-drop, take-take, drop-take}
+use Rattle.text_index.proofs.Words.{drop-drop, reverse-append, length-reverse, length-take-le, get_or-take, get_or-drop}
+use Rattle.text_index.proofs.Words.{get_or-reverse, length-map, prefix_len_passes, prefix_len_stops}
+use Rattle.text_index.proofs.Words.{prefix_len-le-length, suffix_len-le-length, ltb-true, ltb-false, is_alike, flag_at}
+use Rattle.text_index.proofs.Words.{next_change, previous_change, Cell, Content, flags, IsView, first_tagged}
+use Rattle.text_index.proofs.Words.{last_tagged}
 use Rattle.std.proofs.lemmas.Option.{get_or_from_slice_get}
-use Rattle.text_model.specs.Changes.{is_alike, flag_at, next_change, previous_change}
 use Rattle.std.specs.FinSet as set
-use Rattle.text_model.specs.declared.cells.Cell.{Cell}
-use Rattle.text_model.specs.Content.{Content, flags}
-use Rattle.text_index.specs.Views.{IsView}
-use Rattle.text_index.specs.Values.{first_tagged, last_tagged}
 
 -- how many pass at the front of a front
 prefix-front : (test : Bool → Bool) (xs ys : List Bool) →

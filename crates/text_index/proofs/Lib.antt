@@ -9,3 +9,4 @@ pub mod RunLaws
 pub mod StartLaws
 pub mod ViewLaws
 pub mod WalkLaws
+pub mod Words

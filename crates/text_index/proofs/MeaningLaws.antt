@@ -1,19 +1,16 @@
 -- A word's place hangs on what its names mean, not on their numbers.
-use Rattle.std.proofs.Common.{◌≡◌, ℕ, zero, suc, Bool, true, false, List, length, take, drop, refl, sym, ap, ◌∙◌}
-use Rattle.std.specs.Prelude.{Option, Some, None, Result, option_map, option_and_then, bytes_eq, codes, encode_utf8_all}
-use Rattle.std.specs.Prelude.{nat_eq, ◌==◌, position, if◌then◌else◌}
-use Rattle.std.specs.List.{ends_with}
+use Rattle.text_index.proofs.Words.{◌≡◌, ℕ, zero, suc, Bool, true, false, List, length, take, drop, refl, sym, ap, ◌∙◌}
+use Rattle.text_index.proofs.Words.{Option, Result, option_map, option_and_then, bytes_eq, codes, encode_utf8_all}
+use Rattle.text_index.proofs.Words.{nat_eq, ◌==◌, position, if◌then◌else◌, ends_with, place_of, around_dot, number_of}
+use Rattle.text_index.proofs.Words.{place_base, token, of_length, longest, closed_front, longest_front, marked, tagged}
+use Rattle.text_index.proofs.Words.{without_last, base_of, modifiers_of, tokens_of, WholeIndex, base_value, or_fault}
+use Rattle.text_index.proofs.Words.{then_modified, Meanings, MeanTheSame, value_of, word_value, IndexFault, BadIndex}
+use Rattle.text_index.proofs.Words.{NoTaggedCharacters, Base}
+use Rattle.std.specs.Prelude.{Some, None}
 use Rattle.std.specs.Option.{option_or}
 use Rattle.index_grammar.specs.Characters.{closes}
-use Rattle.index_grammar.specs.Grammar.{place_of, around_dot, in_line, number_of, place_base, token, of_length, longest}
-use Rattle.index_grammar.specs.Grammar.{closed_front, longest_front, marked, tagged, first_tagged, last_tagged}
-use Rattle.index_grammar.specs.Grammar.{without_last, base_of, modifiers_of, tokens_of, WholeIndex}
-use Rattle.text_index.specs.Values.{base_value, or_fault, then_modified}
+use Rattle.index_grammar.specs.Grammar.{in_line, first_tagged, last_tagged}
 use Rattle.text_index.specs.Values as values
-use Rattle.text_index.specs.Meanings.{Meanings, MeanTheSame, value_of, word_value}
-use Rattle.index_grammar.specs.declared.faults.IndexFault.{IndexFault}
-use Rattle.index_grammar.specs.declared.faults.IndexFault.TheVariants.{BadIndex, NoTaggedCharacters}
-use Rattle.index_grammar.specs.declared.indices.Base.{Base}
 use Rattle.index_grammar.specs.declared.indices.Base.TheVariants as base
 
 abbrev Value : Type 0

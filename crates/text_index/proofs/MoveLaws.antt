@@ -1,13 +1,10 @@
 -- What a move comes to, by the test that it takes.
-use Rattle.std.proofs.Common.{◌≡◌, ℕ, suc, ◌+◌, ◌-◌, ◌<◌, ◌≤◌, ◌==◌, Bool, true, false, List, length, take, drop, refl}
-use Rattle.std.proofs.Common.{min, max, sym, ap, ◌∙◌, arith, ne_eqb}
-use Rattle.std.specs.Prelude.{slice_index, if◌then◌else◌}
-use Rattle.std.specs.List.{prefix_len, suffix_len}
-use Rattle.std.proofs.lemmas.Bool.Decides.{nat_tests, Decides-eqb}
-use Rattle.std.proofs.lemmas.List.Sums.{prefix_len-drop_yes, prefix_len-drop_no}
-use Rattle.std.proofs.lemmas.List.Sums.{suffix_len-take_yes, suffix_len-take_no}
-use Rattle.text_model.specs.Lines.{lines, line_of}
-use Rattle.text_index.specs.Values.{in_line, column_of, lines_back, unless_end, word_front, word_behind, word_end}
+use Rattle.text_index.proofs.Words.{◌≡◌, ℕ, suc, ◌+◌, ◌-◌, ◌<◌, ◌≤◌, Bool, true, false, List, length, take, drop, refl}
+use Rattle.text_index.proofs.Words.{min, max, sym, ap, ◌∙◌, arith, ne_eqb, slice_index, if◌then◌else◌, prefix_len}
+use Rattle.text_index.proofs.Words.{suffix_len, nat_tests, Decides-eqb, prefix_len-drop_yes, prefix_len-drop_no}
+use Rattle.text_index.proofs.Words.{suffix_len-take_yes, suffix_len-take_no, lines, line_of, in_line, column_of}
+use Rattle.text_index.proofs.Words.{lines_back, unless_end, word_front, word_behind, word_end}
+use Rattle.std.proofs.Common.{◌==◌}
 use Rattle.text_index.proofs.ViewLaws.{line_of-within}
 
 -- ---- lines back

@@ -1,13 +1,10 @@
 -- The ranges of flags: what walks over them, place by place.
-use Rattle.std.proofs.Common.{◌≡◌, ℕ, zero, suc, ◌+◌, ◌-◌, ◌<◌, ◌≤◌, Bool, true, false, cond, not, ◌&&◌, List, [], ◌∷◌}
-use Rattle.std.proofs.Common.{Option, Some, None, length, drop, refl, sym, subst, ap, ap₂, ◌∙◌, arith, lt-ltb, le-ltb}
-use Rattle.std.specs.Prelude.{nat_le, filter, find, IfSome}
-use Rattle.std.specs.List.{prefix_len, last_or}
-use Rattle.std.proofs.lemmas.Bool.{le-leb, lt-leb, leb-true}
-use Rattle.text_model.specs.Changes.{is_alike, flag_at, next_change}
-use Rattle.text_index.specs.Ranges.{is_set, ranges_behind, tag_ranges, begins_from, begins_before, ranges_from}
-use Rattle.text_index.specs.Ranges.{next_range, previous_range, and_later, begins}
-use Rattle.text_index.specs.declared.ranges.TagRange.{TagRange}
+use Rattle.text_index.proofs.Words.{◌≡◌, ℕ, zero, suc, ◌+◌, ◌-◌, ◌<◌, ◌≤◌, Bool, true, false, cond, not, List, [], ◌∷◌}
+use Rattle.text_index.proofs.Words.{Some, None, length, drop, refl, sym, subst, ap, ap₂, ◌∙◌, arith, lt-ltb, le-ltb}
+use Rattle.text_index.proofs.Words.{nat_le, filter, find, IfSome, prefix_len, last_or, le-leb, lt-leb, leb-true}
+use Rattle.text_index.proofs.Words.{is_alike, flag_at, next_change, is_set, ranges_behind, tag_ranges, begins_from}
+use Rattle.text_index.proofs.Words.{begins_before, ranges_from, next_range, previous_range, and_later, begins, TagRange}
+use Rattle.std.proofs.Common.{◌&&◌, Option}
 
 -- whether a range begins at a place of flags behind another flag
 abbrev starts : Bool → List Bool → ℕ → Bool

@@ -1,8 +1,7 @@
 -- The ranges of flags that were worked out by hand: `ab`, `cd`, an empty line and `ef`, of which the first character
 -- and the second line have a tag.
-use Rattle.std.proofs.Common.{◌≡◌, ℕ, Bool, true, false, List, [], ◌∷◌, Some, None, refl}
-use Rattle.text_index.specs.Ranges.{tag_ranges, ranges_from, next_range, previous_range}
-use Rattle.text_index.specs.declared.ranges.TagRange.{TagRange}
+use Rattle.text_index.proofs.Words.{◌≡◌, ℕ, Bool, true, false, List, [], ◌∷◌, Some, None, refl, tag_ranges, ranges_from}
+use Rattle.text_index.proofs.Words.{next_range, previous_range, TagRange}
 
 abbrev tagged : List Bool
 tagged = true ∷ false ∷ false ∷ true ∷ true ∷ true ∷ false ∷ false ∷ false ∷ false ∷ []

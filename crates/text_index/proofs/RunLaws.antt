@@ -1,9 +1,8 @@
 -- Runs of characters of a text, in the part of it that a view shows.
-use Rattle.std.proofs.Common.{◌≡◌, ℕ, zero, suc, ◌+◌, ◌-◌, ◌≤◌, min, Bool, true, false, cond, List, [], ◌∷◌, ◌++◌}
-use Rattle.std.proofs.Common.{length, take, drop, refl, sym, ap, ◌∙◌, arith, drop-drop, length-drop}
-use Rattle.std.specs.Prelude.{reverse, slice_range}
-use Rattle.std.specs.List.{prefix_len, suffix_len}
-use Rattle.std.proofs.lemmas.List.{length-reverse, length-take-le, reverse-append, take-take}
+use Rattle.text_index.proofs.Words.{◌≡◌, ℕ, zero, suc, ◌+◌, ◌-◌, ◌≤◌, min, Bool, true, false, cond, List, [], ◌∷◌, ◌++◌}
+use Rattle.text_index.proofs.Words.{length, take, drop, refl, sym, ap, ◌∙◌, arith, length-drop, reverse, slice_range}
+use Rattle.text_index.proofs.Words.{prefix_len, suffix_len, length-reverse, length-take-le, reverse-append, take-take}
+use Rattle.std.proofs.Common.{drop-drop}
 use Rattle.text_index.proofs.ViewLaws.{take-apart}
 
 -- a front of a text ends its run

@@ -1,14 +1,9 @@
 -- Where the lines of a view begin, by those of the text, and which lines it has.
-use Rattle.std.proofs.Common.{◌≡◌, ℕ, suc, inl, inr, ◌+◌, ◌-◌, ◌<◌, ◌≤◌, true, false, min, List, Some, length, refl, ap}
-use Rattle.std.proofs.Common.{sym, ◌∙◌}
-use Rattle.std.proofs.Common.{arith}
-use Rattle.std.specs.Prelude.{nat_lt, slice_range, if◌then◌else◌}
-use Rattle.std.proofs.lemmas.Bool.{cases_lt}
-use Rattle.std.proofs.lemmas.Bool.Decides.{nat_tests}
-use Rattle.text_index.specs.Values.{in_line, line_value}
-use Rattle.text_model.specs.Lines.{IsLineOf, IsLineStart, lines, line_of, line_start}
+use Rattle.text_index.proofs.Words.{◌≡◌, ℕ, suc, inl, inr, ◌+◌, ◌-◌, ◌<◌, ◌≤◌, true, false, min, List, Some, length}
+use Rattle.text_index.proofs.Words.{refl, ap, sym, ◌∙◌, arith, nat_lt, slice_range, if◌then◌else◌, cases_lt, nat_tests}
+use Rattle.text_index.proofs.Words.{in_line, line_value, IsLineOf, IsLineStart, lines, line_of, line_start}
+use Rattle.text_index.proofs.Words.{line_start-le, line_start-rises}
 use Rattle.text_model.specs.declared.places.LineSpan.{LineSpan}
-use Rattle.text_model.proofs.LineLaws.{line_start-le, line_start-rises}
 use Rattle.text_index.proofs.ViewLaws.{before-end, line_of-within, line_start-add, line_start-before, lines-of-part}
 use Rattle.text_index.proofs.ViewLaws.{lines-part, start-part}
 

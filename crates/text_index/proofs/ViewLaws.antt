@@ -1,13 +1,9 @@
 -- Lines of the part of a text that a view shows, by those of the text.
-use Rattle.std.proofs.Common.{◌≡◌, ℕ, zero, suc, ◌+◌, ◌-◌, ◌<◌, ◌≤◌, min, true, false, cond, List, [], ◌∷◌, ◌++◌}
-use Rattle.std.proofs.Common.{length, take, drop, refl, sym, ap, ap₂, ◌∙◌, arith, ne_eqb, length-drop}
-use Rattle.std.specs.Prelude.{slice_range, if◌then◌else◌}
-use Rattle.std.proofs.lemmas.List.{take-take, take-append-drop, length-take-le}
-use Rattle.text_model.specs.Lines.{IsLineStart, is_newline, lines, line_of, line_start}
-use Rattle.text_model.proofs.LineLaws.{lines-cons, lines-append}
-use Rattle.text_model.specs.Content.{Content, characters}
-use Rattle.text_index.specs.Views.{IsView, shown}
-use Rattle.text_index.specs.Values.{in_line, column_of, lines_on}
+use Rattle.text_index.proofs.Words.{◌≡◌, ℕ, zero, suc, ◌+◌, ◌-◌, ◌<◌, ◌≤◌, min, true, false, cond, List, [], ◌∷◌, ◌++◌}
+use Rattle.text_index.proofs.Words.{length, take, drop, refl, sym, ap, ap₂, ◌∙◌, arith, ne_eqb, length-drop}
+use Rattle.text_index.proofs.Words.{slice_range, if◌then◌else◌, take-take, take-append-drop, length-take-le}
+use Rattle.text_index.proofs.Words.{IsLineStart, is_newline, lines, line_of, line_start, lines-cons, lines-append}
+use Rattle.text_index.proofs.Words.{Content, characters, IsView, shown, in_line, column_of, lines_on}
 
 line_start-nil : (line : ℕ) → line_start line [] ≡ 0
 line_start-nil zero = refl

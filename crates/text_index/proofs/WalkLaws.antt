@@ -1,14 +1,10 @@
 -- What a walk over the ranges of flags meets, change by change.
-use Rattle.std.proofs.Common.{◌≡◌, ℕ, ◌-◌, ◌<◌, ◌≤◌, Bool, true, false, not, List, length, Option, Some, None, refl}
-use Rattle.std.proofs.Common.{sym, ap, ◌∙◌, arith}
-use Rattle.std.specs.Prelude.{nat_lt, option_map}
-use Rattle.std.proofs.lemmas.Bool.{false≢true, ltb-true, ltb-false}
-use Rattle.std.proofs.lemmas.List.{get_or_past}
-use Rattle.text_model.specs.Changes.{is_alike, flag_at, next_change, previous_change}
+use Rattle.text_index.proofs.Words.{◌≡◌, ℕ, ◌-◌, ◌<◌, ◌≤◌, Bool, true, false, not, List, length, Some, None, refl, sym}
+use Rattle.text_index.proofs.Words.{ap, ◌∙◌, arith, nat_lt, option_map, false≢true, ltb-true, ltb-false, get_or_past}
+use Rattle.text_index.proofs.Words.{is_alike, flag_at, next_change, previous_change, begins, next_range, previous_range}
+use Rattle.text_index.proofs.Words.{first_tagged, last_tagged, TagRange}
+use Rattle.std.proofs.Common.{Option}
 use Rattle.text_model.proofs.ChangeLaws.{next_change_is, previous_change-below}
-use Rattle.text_index.specs.Ranges.{begins, next_range, previous_range}
-use Rattle.text_index.specs.Values.{first_tagged, last_tagged}
-use Rattle.text_index.specs.declared.ranges.TagRange.{TagRange}
 use Rattle.text_index.proofs.FlagLaws.{next-alike, next-other, previous-alike, previous-other, first-set, first-unset}
 use Rattle.text_index.proofs.FlagLaws.{last-set, last-unset}
 use Rattle.text_index.proofs.RangeLaws.{begin, no-begin, no-begin-behind, next-found, next-none, previous-found}

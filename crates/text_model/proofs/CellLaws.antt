@@ -1,14 +1,9 @@
 -- The characters of a text after each step, and whether its cells have a slot.
-use Rattle.std.proofs.Common.{◌≡◌, ◌≢◌, ℕ, ◌≤◌, Bool, true, false, cond, ◌&&◌, ◌||◌, ◌==◌, not, List, [], ◌∷◌, map}
-use Rattle.std.proofs.Common.{refl, ap, ◌∙◌, arith}
+use Rattle.text_model.proofs.Words.{◌≡◌, ◌≢◌, ℕ, ◌≤◌, Bool, true, false, cond, ◌&&◌, ◌||◌, ◌==◌, not, List, [], ◌∷◌}
+use Rattle.text_model.proofs.Words.{map, refl, ap, ◌∙◌, arith, nat_cmp, nat_cmp_total, unsigned_tied, nat_tests, Cell}
+use Rattle.text_model.proofs.Words.{Slots, characters, flags, inserted, removed, changed, cells_of, set_slot, with_slot}
+use Rattle.text_model.proofs.Words.{without_slots}
 use Rattle.std.specs.FinSet as set
-use Rattle.std.specs.Ordering.{nat_cmp}
-use Rattle.std.specs.Cmp.{nat_cmp_total, unsigned_tied}
-use Rattle.std.proofs.lemmas.Bool.Decides.{nat_tests}
-use Rattle.text_model.specs.declared.cells.Cell.{Cell}
-use Rattle.text_model.specs.Content.{Slots, characters, flags}
-use Rattle.text_model.specs.Splices.{inserted, removed, changed}
-use Rattle.text_model.specs.Steps.{cells_of, set_slot, with_slot, without_slots}
 use Rattle.text_model.proofs.SpliceLaws.{map-inserted, map-removed, map-changed, map-alike, map-map, changed-same}
 
 abbrev character_of : Cell → ℕ

@@ -1,16 +1,12 @@
 -- Runs of flags: where they end and begin, cell by cell, and what fixes an answer.
-use Rattle.std.proofs.Common.{◌≡◌, ℕ, ◌+◌, ◌-◌, ◌<◌, ◌≤◌, Bool, true, false, not, List, length, get_or, take, drop}
-use Rattle.std.proofs.Common.{refl, sym, ap, ap₂, ◌∙◌, arith, length-drop}
+use Rattle.text_model.proofs.Words.{◌≡◌, ℕ, ◌+◌, ◌-◌, ◌<◌, ◌≤◌, Bool, true, false, not, List, length, get_or, take}
+use Rattle.text_model.proofs.Words.{drop, refl, sym, ap, ap₂, ◌∙◌, arith, length-drop, prefix_len, suffix_len}
+use Rattle.text_model.proofs.Words.{get_or-map, get_or-drop, get_or-take, length-map, length-take-le, drop-map}
+use Rattle.text_model.proofs.Words.{take-map, take_rest, prefix_len-drop_yes, prefix_len-drop_no, prefix_len_is}
+use Rattle.text_model.proofs.Words.{prefix_len-le-length, suffix_len-take_yes, suffix_len-take_no, suffix_len_is, Cell}
+use Rattle.text_model.proofs.Words.{is_alike, flag_at, next_change, previous_change, flags}
 use Rattle.std.specs.FinSet as set
-use Rattle.std.specs.List.{prefix_len, suffix_len}
-use Rattle.std.proofs.lemmas.List.{get_or-map, get_or-drop, get_or-take, length-map, length-take-le, drop-map, take-map}
-use Rattle.std.proofs.lemmas.List.{take_rest}
-use Rattle.std.proofs.lemmas.List.Sums.{prefix_len-drop_yes, prefix_len-drop_no, prefix_len_is, prefix_len-le-length}
-use Rattle.std.proofs.lemmas.List.Sums.{suffix_len-take_yes, suffix_len-take_no, suffix_len_is}
 use mathlib.Core.Bool.{beq}
-use Rattle.text_model.specs.declared.cells.Cell.{Cell}
-use Rattle.text_model.specs.Changes.{is_alike, flag_at, next_change, previous_change}
-use Rattle.text_model.specs.Content.{flags}
 
 pub alike_same : (has on : Bool) → beq has on ≡ true → is_alike on has ≡ true
 alike_same true true is = refl

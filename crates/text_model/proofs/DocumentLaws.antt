@@ -1,18 +1,10 @@
 -- A document stays a document.
-use Rattle.std.proofs.Common.{◌≡◌, ℕ, zero, suc, ◌+◌, ◌<◌, false, List, [], ◌∷◌, ◌++◌, length, take, drop, refl, sym}
-use Rattle.std.proofs.Common.{subst, ◌∙◌, arith, length-drop}
-use Rattle.std.specs.Char.{IsScalar}
-use Rattle.std.specs.List.{All}
-use Rattle.std.proofs.lemmas.List.{length-map}
-use Rattle.std.proofs.lemmas.List.Elements.{All-append, All-cons, All-drop, All-nil, All-take}
-use Rattle.text_model.specs.declared.cells.Cell.{Cell}
-use Rattle.text_model.specs.declared.edits.Step.{Step}
-use Rattle.text_model.specs.declared.edits.Step.TheVariants.{Remove, Insert, SetTag, ClearTags, ClearSlot, PutMark}
-use Rattle.text_model.specs.declared.edits.Step.TheVariants.{TakeMark}
-use Rattle.text_model.specs.Content.{Content, characters, new_content}
-use Rattle.text_model.specs.Documents.{IsDocument, ends_in_newline}
-use Rattle.text_model.specs.Splices.{inserted, removed}
-use Rattle.text_model.specs.Steps.{StepFits, InsertsScalars, after_step}
+use Rattle.text_model.proofs.Words.{◌≡◌, ℕ, zero, suc, ◌+◌, ◌<◌, false, List, [], ◌∷◌, ◌++◌, length, take, drop, refl}
+use Rattle.text_model.proofs.Words.{sym, subst, ◌∙◌, arith, length-drop, IsScalar, All, length-map, All-append}
+use Rattle.text_model.proofs.Words.{All-cons, All-drop, All-nil, All-take, Cell, Step, Remove, Insert, SetTag}
+use Rattle.text_model.proofs.Words.{ClearTags, ClearSlot, PutMark, TakeMark, Content, characters, new_content}
+use Rattle.text_model.proofs.Words.{IsDocument, ends_in_newline, inserted, removed, StepFits, InsertsScalars}
+use Rattle.text_model.proofs.Words.{after_step}
 use Rattle.text_model.proofs.CellLaws.{characters-inserted, characters-removed, characters-with_slot}
 use Rattle.text_model.proofs.CellLaws.{characters-without_slots, characters-all_with_slot}
 

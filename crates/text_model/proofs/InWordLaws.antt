@@ -1,17 +1,12 @@
 -- The slots of sets word by word: in how many words they are, and sets whose slots are in one.
-use Rattle.std.proofs.Common.{◌≡◌, ℕ, zero, suc, ◌+◌, ◌-◌, ◌*◌, ◌/◌, ◌%◌, ◌^◌, ◌<◌, ◌≤◌, ◌≢◌, Bool, true, false, not, cond, ◌&&◌}
-use Rattle.std.proofs.Common.{◌||◌, nat_lt, ◌==◌, List, slice_index, refl, sym, ap, ap₂, subst, ◌∙◌, arith, inl, inr}
-use Rattle.std.proofs.lemmas.Bool.{cases_eq, false≢true}
-use Rattle.std.proofs.lemmas.Bool.Decides.{nat_tests}
-use Rattle.std.proofs.lemmas.Nat.{pow_pos}
+use Rattle.text_model.proofs.Words.{◌≡◌, ℕ, zero, suc, ◌+◌, ◌-◌, ◌*◌, ◌/◌, ◌%◌, ◌^◌, ◌<◌, ◌≤◌, ◌≢◌, Bool, true, false}
+use Rattle.text_model.proofs.Words.{not, cond, ◌&&◌, ◌||◌, nat_lt, ◌==◌, List, slice_index, refl, sym, ap, ap₂, subst}
+use Rattle.text_model.proofs.Words.{◌∙◌, arith, inl, inr, cases_eq, false≢true, nat_tests, pow_pos, nat_cmp, AreSlots}
+use Rattle.text_model.proofs.Words.{IsOneWord, has_word, in_word, word_bits, word_index, word_count, differing}
+use Rattle.text_model.proofs.Words.{contains-slots_below, word_of_slots, AreWords, has_bit, slot_count, slots_of, WORDS}
 use Rattle.std.specs.FinSet as set
-use Rattle.std.specs.Ordering.{nat_cmp}
-use Rattle.text_model.specs.OneWord.{AreSlots, IsOneWord, has_word, in_word, word_bits, word_index}
-use Rattle.text_model.specs.OneWord.{word_count, words_below}
-use Rattle.text_model.specs.SlotSets.{differing}
-use Rattle.text_model.specs.TagBitLaws.{contains-slots_below, word_of_slots}
-use Rattle.text_model.specs.TagBits.{AreWords, has_bit, slot_count, slots_of, word_below}
-use Rattle.text_model.specs.declared.tag_set.TheConstants.{WORDS}
+use Rattle.text_model.specs.OneWord.{words_below}
+use Rattle.text_model.specs.TagBits.{word_below}
 use Rattle.text_model.proofs.OneWordSteps.{contains-in_word, no_word_bits, same_slots}
 use Rattle.text_model.proofs.TagSteps.{contains-differing}
 

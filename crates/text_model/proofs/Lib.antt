@@ -12,3 +12,4 @@ pub mod SpliceLaws
 pub mod StepLaws
 pub mod TagSteps
 pub mod TextLaws
+pub mod Words

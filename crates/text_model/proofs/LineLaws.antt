@@ -1,16 +1,11 @@
 -- Where the lines of a text begin, and the lines before an offset after an insertion and a removal.
-use Rattle.std.proofs.Common.{◌≡◌, ◌≢◌, ℕ, zero, suc, ◌+◌, ◌-◌, ◌<◌, ◌≤◌, true, false, cond, List, [], ◌∷◌, ◌++◌}
-use Rattle.std.proofs.Common.{length, take, drop, get_or, refl, sym, ap, ◌∙◌, arith, add_assoc}
-use Rattle.std.specs.Prelude.{slice_range, if◌then◌else◌}
+use Rattle.text_model.proofs.Words.{◌≡◌, ◌≢◌, ℕ, zero, suc, ◌+◌, ◌-◌, ◌<◌, ◌≤◌, true, false, cond, List, [], ◌∷◌, ◌++◌}
+use Rattle.text_model.proofs.Words.{length, take, drop, get_or, refl, sym, ap, ◌∙◌, arith, add_assoc, slice_range}
+use Rattle.text_model.proofs.Words.{if◌then◌else◌, drop_more, get_or-map, sum_by-append, sum_by-cons, sum_by-take-drop}
+use Rattle.text_model.proofs.Words.{count_by-le-length, split_between, Cell, characters, inserted, removed, is_newline}
+use Rattle.text_model.proofs.Words.{lines, line_of, line_start}
 use Rattle.std.proofs.lemmas.Grind.{common_steps}
-use Rattle.std.proofs.lemmas.List.{drop_more, get_or-map}
-use Rattle.std.proofs.lemmas.List.Sums.{sum_by-append, sum_by-cons, sum_by-take-drop, count_by-le-length}
-use Rattle.std.proofs.lemmas.List.Edits.{split_between}
-use Rattle.text_model.specs.declared.cells.Cell.{Cell}
-use Rattle.text_model.specs.Content.{characters}
-use Rattle.text_model.specs.Splices.{inserted, removed}
 use Rattle.text_model.proofs.SpliceLaws.{take-inserted, drop-inserted, take-removed, drop-removed}
-use Rattle.text_model.specs.Lines.{is_newline, lines, line_of, line_start}
 
 -- past a character, one newline fewer is to be passed if it is one
 line_start-drop : (text : List ℕ) (at left c : ℕ) → at < length text → c ≡ get_or text at c →

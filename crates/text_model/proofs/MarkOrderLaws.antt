@@ -1,22 +1,13 @@
 -- The marks of a list of places, one place after another.
-use Rattle.std.proofs.Common.{◌≡◌, ℕ, ◌+◌, ◌<◌, ◌≤◌, min, max, Bool, true, false, cond, nat_lt, nat_le, ◌==◌, List, []}
-use Rattle.std.proofs.Common.{◌∷◌, length, drop, get_or, map, Option, Some, None, refl, sym, ap, subst, ◌∙◌, inl, inr}
-use Rattle.std.proofs.Common.{arith}
-use Rattle.std.specs.Prelude.{◌⊎◌, IfSome, if◌then◌else◌}
-use Rattle.std.specs.List.{All, filter, fold, reduce}
+use Rattle.text_model.proofs.Words.{◌≡◌, ℕ, ◌+◌, ◌<◌, ◌≤◌, min, max, Bool, true, false, cond, nat_lt, nat_le, ◌==◌}
+use Rattle.text_model.proofs.Words.{List, [], ◌∷◌, length, drop, get_or, map, Option, Some, None, refl, sym, ap, subst}
+use Rattle.text_model.proofs.Words.{◌∙◌, inl, inr, arith, ◌⊎◌, IfSome, if◌then◌else◌, All, filter, fold, reduce, find}
+use Rattle.text_model.proofs.Words.{nat_cmp, eq_by_cmp, cases_lt, drop_more, drop_all, All-head, All-tail, All-map}
+use Rattle.text_model.proofs.Words.{All-weaker, All-filter, filter_passes, nat_tests, Place, Content, Marks, MarksStand}
+use Rattle.text_model.proofs.Words.{next_mark, offsets, previous_mark, marks_at, places_from, plain_marks, stands_at}
+use Rattle.text_model.proofs.Words.{with_next, with_previous}
 use Rattle.std.specs.FinMap as finite
-use Rattle.std.specs.FinMap.{find}
-use Rattle.std.specs.Ordering.{nat_cmp, eq_by_cmp}
-use Rattle.std.proofs.lemmas.Bool.{cases_lt}
-use Rattle.std.proofs.lemmas.List.{drop_more, drop_all}
-use Rattle.std.proofs.lemmas.List.Elements.{All-head, All-tail, All-map, All-weaker, All-filter, filter_passes}
-use Rattle.std.proofs.lemmas.Bool.Decides.{nat_tests}
 use Rattle.text_model.specs.declared.places.MarkNo.{MarkNo}
-use Rattle.text_model.specs.declared.places.Place.{Place}
-use Rattle.text_model.specs.Content.{Content, Marks}
-use Rattle.text_model.specs.Documents.{MarksStand}
-use Rattle.text_model.specs.MarkOrder.{next_mark, offsets, previous_mark, marks_at}
-use Rattle.text_model.specs.Plain.{places_from, plain_marks, stands_at, with_next, with_previous}
 use Rattle.text_model.proofs.PlaceLaws.{All-entries, entries-plain_marks}
 
 -- f over offsets, from one if there is one

@@ -1,24 +1,15 @@
 -- What the operations do to the slots of one word.
-use Rattle.std.proofs.Common.{◌≡◌, ℕ, ◌+◌, ◌*◌, ◌/◌, ◌%◌, ◌^◌, ◌<◌, ◌≢◌, Bool, true, false, not, ◌&&◌}
-use Rattle.std.proofs.Common.{◌||◌, nat_lt, nat_eq, ◌==◌, List, length, slice_index, slice_set, bit_and, bit_xor, refl, sym}
-use Rattle.std.proofs.Common.{ap, ap₂, ◌∙◌, arith, w64, inl, inr, get_or-set_same, get_or-set_other}
-use Rattle.std.proofs.lemmas.Bool.{cases_eq}
-use Rattle.std.proofs.lemmas.Bool.Decides.{nat_tests}
-use Rattle.std.proofs.lemmas.Nat.{one_shl}
-use Rattle.std.proofs.lemmas.Nat.Bits.{bit_at-zero, bit_at_clear_same, bit_at_clear_other, bit_at-pow_same}
-use Rattle.std.proofs.lemmas.Nat.Bits.{bit_at-pow_other, shr_and_one}
-use Rattle.std.specs.Cmp.{nat_cmp_total, unsigned_tied}
+use Rattle.text_model.proofs.Words.{◌≡◌, ℕ, ◌+◌, ◌*◌, ◌/◌, ◌%◌, ◌^◌, ◌<◌, ◌≢◌, Bool, true, false, not, ◌&&◌, ◌||◌}
+use Rattle.text_model.proofs.Words.{nat_lt, nat_eq, ◌==◌, List, length, slice_index, slice_set, bit_and, bit_xor, refl}
+use Rattle.text_model.proofs.Words.{sym, ap, ap₂, ◌∙◌, arith, w64, inl, inr, get_or-set_same, get_or-set_other}
+use Rattle.text_model.proofs.Words.{cases_eq, nat_tests, one_shl, bit_at-zero, bit_at_clear_same, bit_at_clear_other}
+use Rattle.text_model.proofs.Words.{bit_at-pow_same, bit_at-pow_other, shr_and_one, nat_cmp_total, unsigned_tied}
+use Rattle.text_model.proofs.Words.{bit_at, bit_not, nat_cmp, AreBits, IsOneWord, alone, in_word, slots_in, word_bits}
+use Rattle.text_model.proofs.Words.{word_index, alone-other, alone-same, contains-slots_in, word_bits-slots_in}
+use Rattle.text_model.proofs.Words.{word_index-slots_in, differing, contains_inserted, contains-slots_below}
+use Rattle.text_model.proofs.Words.{word_of_bits, has_bit, slot_count, slots_of, WORDS}
 use Rattle.std.specs.FinSet as set
-use Rattle.std.specs.Int.{bit_at, bit_not}
 use Rattle.std.specs.Int.Bits.{xor_zero_r}
-use Rattle.std.specs.Ordering.{nat_cmp}
-use Rattle.text_model.specs.OneWord.{AreBits, IsOneWord, alone, in_word, slots_in, word_bits, word_index}
-use Rattle.text_model.specs.OneWordLaws.{alone-other, alone-same, contains-slots_in, word_bits-slots_in}
-use Rattle.text_model.specs.OneWordLaws.{word_index-slots_in}
-use Rattle.text_model.specs.SlotSets.{differing}
-use Rattle.text_model.specs.TagBitLaws.{contains_inserted, contains-slots_below, word_of_bits}
-use Rattle.text_model.specs.TagBits.{has_bit, slot_count, slots_of}
-use Rattle.text_model.specs.declared.tag_set.TheConstants.{WORDS}
 use Rattle.text_model.proofs.TagSteps.{slots_of-differing}
 
 pub same_slots : (s t : set.FinSet nat_cmp) → ((q : ℕ) → set.contains s q ≡ set.contains t q) → s ≡ t

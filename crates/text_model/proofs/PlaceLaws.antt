@@ -1,21 +1,11 @@
 -- Marks that are kept as a list of places by their numbers, and what becomes of each mark.
-use Rattle.std.proofs.Common.{◌≡◌, ◌≢◌, ℕ, zero, suc, ◌+◌, ◌<◌, ◌≤◌, Bool, true, false, cond, ◌&&◌, ◌==◌, T, List, []}
-use Rattle.std.proofs.Common.{◌∷◌, ◌++◌, Option, Some, None, map, length, get_or, set, take, drop, replicate, refl, sym}
-use Rattle.std.proofs.Common.{ap, ◌∙◌, inl, inr, arith, get_or-set_same, get_or-set_other}
-use Rattle.std.specs.Prelude.{option_map, IfSome}
+use Rattle.text_model.proofs.Words.{◌≡◌, ◌≢◌, ℕ, zero, suc, ◌+◌, ◌<◌, ◌≤◌, Bool, true, false, cond, ◌&&◌, ◌==◌, T, List}
+use Rattle.text_model.proofs.Words.{[], ◌∷◌, ◌++◌, Option, Some, None, map, length, get_or, set, take, drop, replicate}
+use Rattle.text_model.proofs.Words.{refl, sym, ap, ◌∙◌, inl, inr, arith, get_or-set_same, get_or-set_other, option_map}
+use Rattle.text_model.proofs.Words.{IfSome, find, is_sorted, nat_cmp-IsAntisymmetric, All, nat_cmp, eq_by_cmp, is_lt}
+use Rattle.text_model.proofs.Words.{nat_cmp_total, unsigned_tied, cases_eq, nat_tests, get_or_default, get_or_past}
+use Rattle.text_model.proofs.Words.{map_over_more, All-cons, All-nil, Place, Marks, map_marks, places_from, plain_marks}
 use Rattle.std.specs.FinMap as finite
-use Rattle.std.specs.FinMap.{find, is_sorted, nat_cmp-IsAntisymmetric}
-use Rattle.std.specs.List.{All}
-use Rattle.std.specs.Ordering.{nat_cmp, eq_by_cmp, is_lt}
-use Rattle.std.specs.Cmp.{nat_cmp_total, unsigned_tied}
-use Rattle.std.proofs.lemmas.Bool.{cases_eq}
-use Rattle.std.proofs.lemmas.Bool.Decides.{nat_tests}
-use Rattle.std.proofs.lemmas.List.{get_or_default, get_or_past}
-use Rattle.std.proofs.lemmas.List.Edits.{map_over_more}
-use Rattle.std.proofs.lemmas.List.Elements.{All-cons, All-nil}
-use Rattle.text_model.specs.declared.places.Place.{Place}
-use Rattle.text_model.specs.Content.{Marks, map_marks}
-use Rattle.text_model.specs.Plain.{places_from, plain_marks}
 
 abbrev entry_at : (Place → Place) → ℕ × Place → ℕ × Place
 entry_at f entry = (entry.0, f entry.1)

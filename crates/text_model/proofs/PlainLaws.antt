@@ -1,20 +1,12 @@
 -- What a plain store contains: at first, and after each step.
-use Rattle.std.proofs.Common.{◌≡◌, ℕ, ◌+◌, ◌^◌, ◌<◌, ◌≤◌, Bool, true, false, List, [], ◌++◌, length, map, take, drop}
-use Rattle.std.proofs.Common.{set as set_at, Option, Some, None, get_or, sym, ap, subst, ◌∙◌, arith}
-use Rattle.std.specs.Prelude.{option_map}
+use Rattle.text_model.proofs.Words.{◌≡◌, ℕ, ◌+◌, ◌^◌, ◌<◌, ◌≤◌, Bool, true, false, List, [], ◌++◌, length, map, take}
+use Rattle.text_model.proofs.Words.{drop, Option, Some, None, get_or, sym, ap, subst, ◌∙◌, arith, option_map, nat_cmp}
+use Rattle.text_model.proofs.Words.{take_at, map_over_more, Cell, Step, Place, Slots, map_marks, new_content}
+use Rattle.text_model.proofs.Words.{MarksStand, cells_of, after_removal, after_insertion, with_slot, set_slot, StepFits}
+use Rattle.text_model.proofs.Words.{after_step, inserted, removed, moved, drawn, plain_content, plain_marks, IsPlain}
+use Rattle.std.proofs.Common.{set as set_at}
 use Rattle.std.specs.FinMap as finite
 use Rattle.std.specs.FinSet as set
-use Rattle.std.specs.Ordering.{nat_cmp}
-use Rattle.std.proofs.lemmas.List.{take_at}
-use Rattle.std.proofs.lemmas.List.Edits.{map_over_more}
-use Rattle.text_model.specs.declared.cells.Cell.{Cell}
-use Rattle.text_model.specs.declared.edits.Step.{Step}
-use Rattle.text_model.specs.declared.places.Place.{Place}
-use Rattle.text_model.specs.Content.{Slots, map_marks, new_content}
-use Rattle.text_model.specs.Documents.{MarksStand}
-use Rattle.text_model.specs.Steps.{cells_of, after_removal, after_insertion, with_slot, set_slot, StepFits, after_step}
-use Rattle.text_model.specs.Splices.{inserted, removed, moved, drawn}
-use Rattle.text_model.specs.Plain.{plain_content, plain_marks, IsPlain}
 use Rattle.text_model.proofs.PlaceLaws.{get-plain_marks, plain_marks-map, same_marks}
 use Rattle.text_model.proofs.StepLaws.{MarksStand-after_step}
 

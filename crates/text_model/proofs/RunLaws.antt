@@ -1,12 +1,9 @@
 -- Runs of characters that pass a test: how they go on over cells, and in a part of a text.
-use Rattle.std.proofs.Common.{◌≡◌, ℕ, ◌+◌, ◌-◌, ◌<◌, ◌≤◌, Bool, true, false, List, length, get_or}
-use Rattle.std.proofs.Common.{take, drop, sym, ap, ◌∙◌, arith, length-drop, length-take}
-use Rattle.std.specs.List.{prefix_len, suffix_len}
-use Rattle.std.proofs.lemmas.List.{drop-map, get_or-map, length-map, take-map, take_rest}
-use Rattle.std.proofs.lemmas.List.Sums.{prefix_len-drop_yes, prefix_len-drop_no, prefix_len-le-length}
-use Rattle.std.proofs.lemmas.List.Sums.{suffix_len-le-length, suffix_len-take_yes, suffix_len-take_no}
-use Rattle.text_model.specs.declared.cells.Cell.{Cell}
-use Rattle.text_model.specs.Content.{characters}
+use Rattle.text_model.proofs.Words.{◌≡◌, ℕ, ◌+◌, ◌-◌, ◌<◌, ◌≤◌, Bool, true, false, List, length, get_or, take, drop}
+use Rattle.text_model.proofs.Words.{sym, ap, ◌∙◌, arith, length-drop, length-take, prefix_len, suffix_len, drop-map}
+use Rattle.text_model.proofs.Words.{get_or-map, length-map, take-map, take_rest, prefix_len-drop_yes}
+use Rattle.text_model.proofs.Words.{prefix_len-drop_no, prefix_len-le-length, suffix_len-le-length, suffix_len-take_yes}
+use Rattle.text_model.proofs.Words.{suffix_len-take_no, Cell, characters}
 
 pub long : (cells : List Cell) → length (characters cells) ≡ length cells
 long cells = length-map cells (λ (cell : Cell). cell.character)

@@ -1,17 +1,12 @@
 -- What an insertion, a removal and a change leave of a list: its length, its elements, its parts, and what a function
 -- makes of each element.
-use Rattle.std.proofs.Common.{◌≡◌, ℕ, zero, suc, ◌+◌, ◌-◌, ◌<◌, ◌≤◌, List, [], ◌∷◌, ◌++◌, length, get_or, set, take}
-use Rattle.std.proofs.Common.{drop, map, refl, sym, ap, ap₂, ◌∙◌, arith, rules, length-append, length-drop}
-use Rattle.std.specs.Prelude.{slice_range}
-use Rattle.std.proofs.lemmas.List.{places, length-take-le, length-map, map-append, map-id, take-map, drop-map}
-use Rattle.std.proofs.lemmas.List.{get_or_append_left, get_or-append_right, get_or-take, get_or-drop, get_or-map}
-use Rattle.std.proofs.lemmas.List.{take-append-le, take-take, drop-append-le, drop_at, drop-drop, drop_more, set_split}
-use Rattle.std.proofs.lemmas.List.{append_assoc}
-use Rattle.std.proofs.lemmas.List.Edits.{split_between}
-use Rattle.text_model.specs.Content.{Slots}
-use Rattle.text_model.specs.Steps.{cells_of}
-use Rattle.text_model.specs.Splices.{inserted, removed, changed}
-use Rattle.text_model.specs.declared.cells.Cell.{Cell}
+use Rattle.text_model.proofs.Words.{◌≡◌, ℕ, zero, suc, ◌+◌, ◌-◌, ◌<◌, ◌≤◌, List, [], ◌∷◌, ◌++◌, length, get_or, set}
+use Rattle.text_model.proofs.Words.{take, drop, map, refl, sym, ap, ap₂, ◌∙◌, arith, rules, length-append, length-drop}
+use Rattle.text_model.proofs.Words.{slice_range, places, length-take-le, length-map, map-append, map-id, take-map}
+use Rattle.text_model.proofs.Words.{drop-map, get_or_append_left, get_or-append_right, get_or-take, get_or-drop}
+use Rattle.text_model.proofs.Words.{get_or-map, take-append-le, take-take, drop-append-le, drop_at, drop-drop}
+use Rattle.text_model.proofs.Words.{drop_more, set_split, append_assoc, split_between, Slots, cells_of, inserted}
+use Rattle.text_model.proofs.Words.{removed, changed, Cell}
 
 pub length-inserted : {A : Type 0} (at : ℕ) (new xs : List A) → at ≤ length xs →
     length (inserted at new xs) ≡ length xs + length new

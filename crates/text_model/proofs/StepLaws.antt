@@ -1,21 +1,11 @@
 -- How long a text is after each step, that marks stand in it, and steps behind others.
-use Rattle.std.proofs.Common.{◌≡◌, ℕ, ◌+◌, ◌≤◌, Bool, true, false, cond, List, [], ◌∷◌, ◌++◌, length, Option, Some}
-use Rattle.std.proofs.Common.{None, refl, sym, subst, ◌∙◌, arith}
-use Rattle.std.specs.Prelude.{option_map, if◌then◌else◌}
+use Rattle.text_model.proofs.Words.{◌≡◌, ℕ, ◌+◌, ◌≤◌, Bool, true, false, cond, List, [], ◌∷◌, ◌++◌, length, Option}
+use Rattle.text_model.proofs.Words.{Some, None, refl, sym, subst, ◌∙◌, arith, option_map, if◌then◌else◌, nat_cmp}
+use Rattle.text_model.proofs.Words.{eq_by_cmp, nat_cmp_total, length-map, Cell, Step, Remove, Insert, SetTag, ClearTags}
+use Rattle.text_model.proofs.Words.{ClearSlot, PutMark, TakeMark, Place, Content, Marks, map_marks, MarksStand}
+use Rattle.text_model.proofs.Words.{inserted, goes_behind, moved, drawn, cells_of, with_slot, without_slots, StepFits}
+use Rattle.text_model.proofs.Words.{Fits, FitsIn, length_after, after_step, after}
 use Rattle.std.specs.FinMap as finite
-use Rattle.std.specs.Ordering.{nat_cmp, eq_by_cmp}
-use Rattle.std.specs.Cmp.{nat_cmp_total}
-use Rattle.std.proofs.lemmas.List.{length-map}
-use Rattle.text_model.specs.declared.cells.Cell.{Cell}
-use Rattle.text_model.specs.declared.edits.Step.{Step}
-use Rattle.text_model.specs.declared.edits.Step.TheVariants.{Remove, Insert, SetTag, ClearTags, ClearSlot, PutMark}
-use Rattle.text_model.specs.declared.edits.Step.TheVariants.{TakeMark}
-use Rattle.text_model.specs.declared.places.Place.{Place}
-use Rattle.text_model.specs.Content.{Content, Marks, map_marks}
-use Rattle.text_model.specs.Documents.{MarksStand}
-use Rattle.text_model.specs.Splices.{inserted, goes_behind, moved, drawn}
-use Rattle.text_model.specs.Steps.{cells_of, with_slot, without_slots, StepFits, Fits, FitsIn, length_after, after_step}
-use Rattle.text_model.specs.Steps.{after}
 use Rattle.text_model.proofs.PlaceLaws.{get-map_marks}
 use Rattle.text_model.proofs.SpliceLaws.{length-cells_inserted, length-removed, length-changed}
 

@@ -1,22 +1,14 @@
 -- What the operations do to the words, and so to the slots: zeros, a bit that is set, and bits in common.
-use Rattle.std.proofs.Common.{◌≡◌, ℕ, zero, suc, ◌+◌, ◌*◌, ◌/◌, ◌%◌, ◌^◌, ◌<◌, ◌≢◌, min, Bool, true, false, ◌&&◌, ◌||◌}
-use Rattle.std.proofs.Common.{not, cond, nat_lt, nat_eq, ◌==◌, List, length, replicate, slice_index, slice_set, bit_and}
-use Rattle.std.proofs.Common.{bit_or, bit_xor, refl, sym, ap, ap₂, ◌∙◌, arith, w64, inl, inr, lt-ltb, length-set}
-use Rattle.std.proofs.Common.{get_or-set_same, get_or-set_other}
-use Rattle.std.proofs.lemmas.Bool.{cases_eq}
-use Rattle.std.proofs.lemmas.Bool.Decides.{nat_tests}
-use Rattle.std.proofs.lemmas.List.{length-replicate}
-use Rattle.std.proofs.lemmas.Nat.{or_lt, xor_lt, and_le_l}
-use Rattle.std.proofs.lemmas.Nat.Bits.{bit_at-lt, bit_at-zero, bit_at_and, bit_at_xor, bit_at_set_same}
-use Rattle.std.proofs.lemmas.Nat.Bits.{bit_at_set_other, bit_at_clear_same, bit_at_clear_other, shr_and_one}
-use Rattle.std.specs.Cmp.{nat_cmp_total, unsigned_tied}
+use Rattle.text_model.proofs.Words.{◌≡◌, ℕ, zero, suc, ◌+◌, ◌*◌, ◌/◌, ◌%◌, ◌^◌, ◌<◌, ◌≢◌, min, Bool, true, false, ◌&&◌}
+use Rattle.text_model.proofs.Words.{◌||◌, not, cond, nat_lt, nat_eq, ◌==◌, List, length, replicate, slice_index}
+use Rattle.text_model.proofs.Words.{slice_set, bit_and, bit_or, bit_xor, refl, sym, ap, ap₂, ◌∙◌, arith, w64, inl, inr}
+use Rattle.text_model.proofs.Words.{lt-ltb, length-set, get_or-set_same, get_or-set_other, cases_eq, nat_tests}
+use Rattle.text_model.proofs.Words.{length-replicate, or_lt, xor_lt, and_le_l, bit_at-lt, bit_at-zero, bit_at_and}
+use Rattle.text_model.proofs.Words.{bit_at_xor, bit_at_set_same, bit_at_set_other, bit_at_clear_same}
+use Rattle.text_model.proofs.Words.{bit_at_clear_other, shr_and_one, nat_cmp_total, unsigned_tied, bit_at, bit_not}
+use Rattle.text_model.proofs.Words.{nat_cmp, contains_inserted, contains-slots_below, words_of-slots_of, differing}
+use Rattle.text_model.proofs.Words.{WORDS, AreWords, has_bit, slot_count, slots_below, slots_of, words_of}
 use Rattle.std.specs.FinSet as set
-use Rattle.std.specs.Int.{bit_at, bit_not}
-use Rattle.std.specs.Ordering.{nat_cmp}
-use Rattle.text_model.specs.TagBitLaws.{contains_inserted, contains-slots_below, words_of-slots_of}
-use Rattle.text_model.specs.SlotSets.{differing}
-use Rattle.text_model.specs.declared.tag_set.TheConstants.{WORDS}
-use Rattle.text_model.specs.TagBits.{AreWords, has_bit, slot_count, slots_below, slots_of, words_of}
 
 not_one : (x : ℕ) (b : Bool) → x ≡ 0 → (b && (x == 1)) ≡ false
 not_one x true e = grind (arith, nat_tests)

@@ -1,12 +1,8 @@
 -- A text with one character more, and that characters are Unicode scalar values.
-use Rattle.std.proofs.Common.{◌≡◌, ℕ, Bool, true, false, ◌&&◌, List, [], ◌∷◌, ◌++◌, refl, sym, ap, subst, ◌∙◌}
-use Rattle.std.specs.Prelude.{chars, IsUtf8, encode_utf8}
-use Rattle.std.specs.Char.{IsScalar}
-use Rattle.std.specs.List.{All}
+use Rattle.text_model.proofs.Words.{◌≡◌, ℕ, Bool, true, false, ◌&&◌, List, [], ◌∷◌, ◌++◌, refl, sym, ap, subst, ◌∙◌}
+use Rattle.text_model.proofs.Words.{chars, IsUtf8, encode_utf8, IsScalar, All, All-cons, All-nil, append-nil}
+use Rattle.text_model.proofs.Words.{chars-append, chars_past_char, chars-encodes, chars-nil, IsUtf8-encode}
 use Rattle.std.specs.Str.{all_scalars}
-use Rattle.std.proofs.lemmas.List.Elements.{All-cons, All-nil}
-use Rattle.std.proofs.lemmas.List.{append-nil}
-use Rattle.std.proofs.lemmas.Str.{chars-append, chars_past_char, chars-encodes, chars-nil, IsUtf8-encode}
 
 pub chars-push : (bytes : List ℕ) (c : ℕ) → IsUtf8 bytes → IsScalar c →
     chars (bytes ++ encode_utf8 c) ≡ chars bytes ++ c ∷ []

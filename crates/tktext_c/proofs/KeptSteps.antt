@@ -1,5 +1,6 @@
 -- The machine values of a `Kept`. Assumes `Logic`.
-use Rattle.std.proofs.Common.{◌≡◌, ℕ, Option, Some, None, List, [], ◌∷◌, ◌++◌, refl, sym, subst, true≢false, IsSome}
+use Rattle.tktext_c.proofs.Words.{◌≡◌, ℕ, Option, Some, None, List, [], ◌∷◌, ◌++◌, refl, sym, subst, true≢false, IsSome}
+use Rattle.tktext_c.proofs.Words.{box_owns, Session}
 use seplogic.Ra.Ura.{Ura}
 use mir.Raw.{raw as bare}
 use mir.Val.{Val, vstruct, vcons, vnil, of_list}
@@ -13,8 +14,6 @@ use denote.RawPtr.{Ptr, block_ptr, null_ptr, ptr_val, in_a_block}
 use denote.Steps.{nothing}
 use denote.Struct.Struct.{within}
 use denote.Struct.Owning.{shape}
-use Rattle.std_alloc.specs.Box.Ownership.{box_owns}
-use Rattle.tktext_c.specs.declared.session.Session.{Session}
 use Rattle.tktext_c.specs.contracts.session.Session as session
 use Rattle.tktext_c.specs.Held.{frees, held_session}
 use Rattle.tktext_c.specs.contracts.handle.Kept as kept

@@ -5,3 +5,4 @@ mod RoomLaws
 mod ToldLaws
 mod Values
 mod WordLaws
+pub mod Words

@@ -1,10 +1,9 @@
 -- What C reads of words, of changes and of names.
-use Rattle.std.proofs.Common.{◌≡◌, ℕ, ◌<◌, ◌≤◌, List, [], length, get_or, refl, sym, ap, subst, ◌∙◌}
-use Rattle.std.specs.Prelude.{Option, Some, None, chars, encode_utf8_all, option_map, slice_get, IsUtf8, String, string_bytes}
+use Rattle.tktext_c.proofs.Words.{◌≡◌, ℕ, ◌<◌, ◌≤◌, List, [], length, get_or, refl, sym, ap, subst, ◌∙◌}
+use Rattle.tktext_c.proofs.Words.{encode_utf8_all, option_map, slice_get, encodes-chars, texts_of, bytes_of, mark_told}
+use Rattle.tktext_c.proofs.Words.{word_given}
+use Rattle.std.specs.Prelude.{Option, Some, None, chars, IsUtf8, String, string_bytes}
 use Rattle.std.proofs.lemmas.Option.{slice_get-map, slice_get_past, slice_get_read}
-use Rattle.std.proofs.lemmas.Str.{encodes-chars}
-use Rattle.tcl_words.specs.Unread.{texts_of}
-use Rattle.tktext_c.specs.Told.{bytes_of, mark_told, word_given}
 
 -- the element at a place of a list, which is another one's
 element : {A : Type 0} (shown all : List A) (index : ℕ) (x : A) → shown ≡ all → index < length shown

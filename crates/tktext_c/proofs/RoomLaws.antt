@@ -1,8 +1,6 @@
 -- Texts that are copied one behind the other.
-use Rattle.std.proofs.Common.{◌≡◌, ℕ, suc, zero, ◌+◌, ◌≤◌, min, arith, List, [], ◌∷◌, ◌++◌, length, take, drop, refl}
-use Rattle.std.proofs.Common.{sym, ap, subst, ◌∙◌, append_assoc}
-use Rattle.std.proofs.lemmas.List.{length-append}
-use Rattle.tktext_c.specs.Room.{over, Copied}
+use Rattle.tktext_c.proofs.Words.{◌≡◌, ℕ, suc, zero, ◌+◌, ◌≤◌, min, arith, List, [], ◌∷◌, ◌++◌, length, take, drop}
+use Rattle.tktext_c.proofs.Words.{refl, sym, ap, subst, ◌∙◌, append_assoc, length-append, over, Copied}
 
 pub over-none : (room : List ℕ) → room ≡ over [] room
 over-none [] = refl

@@ -1,7 +1,10 @@
 -- What a command makes of a session, where it tells and where it doesn't.
-use Rattle.std.proofs.Common.{◌≡◌, ◌≢◌, Bool, true, false, ◌⊎◌, inl, inr, List, ℕ, refl, sym, subst, ap, true≢false}
-use Rattle.std.specs.Prelude.{[], None, Ok, Err, Result, is_ok, is_err, encode_utf8_all, if◌then◌else◌}
-use Rattle.tcl_words.specs.Unread.{Unread, TakesCommand, StopsAt, HasNoCommand}
+use Rattle.tktext_c.proofs.Words.{◌≡◌, ◌≢◌, Bool, true, false, ◌⊎◌, inl, inr, List, ℕ, refl, sym, subst, ap, true≢false}
+use Rattle.tktext_c.proofs.Words.{Ok, Result, is_ok, is_err, encode_utf8_all, if◌then◌else◌, Unread, TakesCommand}
+use Rattle.tktext_c.proofs.Words.{StopsAt, HasNoCommand, Given, TurnEnd, CallEnd, Gives, Called, Turns, given_of}
+use Rattle.tktext_c.proofs.Words.{status_after, State, Telling, memory_said, said_text, untold, GivesTold, CalledTold}
+use Rattle.tktext_c.proofs.Words.{IsTold, TurnsTold, cut, words_at, AreLengths, AreTexts}
+use Rattle.std.specs.Prelude.{[], None, Err}
 use Rattle.tcl_words.specs.declared.fault.ScriptFault.{ScriptFault}
 use Rattle.command_effects.specs.declared.answers.Answer.{Answer}
 use Rattle.command_effects.specs.declared.answers.Fault.{Fault}
@@ -9,17 +12,10 @@ use Rattle.command_effects.specs.declared.answers.Fault.TheVariants as fault
 use Rattle.peers.specs.Step.{step, Makes}
 use Rattle.peers.specs.World.{World}
 use Rattle.printing.specs.Lines.{piece}
-use Rattle.tktext_c.specs.declared.ends.Given.{Given}
 use Rattle.tktext_c.specs.declared.ends.Given.TheVariants as given
-use Rattle.tktext_c.specs.declared.ends.TurnEnd.{TurnEnd}
 use Rattle.tktext_c.specs.declared.ends.TurnEnd.TheVariants as turn
-use Rattle.tktext_c.specs.declared.ends.CallEnd.{CallEnd}
 use Rattle.tktext_c.specs.declared.ends.CallEnd.TheVariants as call
 use Rattle.tktext_c.specs.declared.session.Said.TheVariants as says
-use Rattle.tktext_c.specs.Calls.{Gives, Called, Turns, given_of, status_after}
-use Rattle.tktext_c.specs.State.{State, Telling, memory_said, said_text}
-use Rattle.tktext_c.specs.Told.{untold, GivesTold, CalledTold, IsTold, TurnsTold}
-use Rattle.tktext_c.specs.Words.{cut, words_at, AreLengths, AreTexts}
 use Rattle.tktext_c.proofs.CallLaws.{turns-on}
 
 -- ---- a command of the world

@@ -1,9 +1,7 @@
 -- Words that are read one after another.
-use Rattle.std.proofs.Common.{◌≡◌, ℕ, ◌+◌, ◌<◌, ◌≤◌, arith, List, [], ◌∷◌, ◌++◌, length, take, drop, refl, sym, ap, ◌∙◌}
-use Rattle.std.proofs.Common.{append_assoc, chars, IsUtf8, String, string_bytes}
-use Rattle.std.proofs.lemmas.List.{length-drop, append-nil, map-append}
-use Rattle.tcl_words.specs.Unread.{texts_of}
-use Rattle.tktext_c.specs.Words.{cut, total, words_at, AreLengths, AreTexts}
+use Rattle.tktext_c.proofs.Words.{◌≡◌, ℕ, ◌+◌, ◌<◌, ◌≤◌, arith, List, [], ◌∷◌, ◌++◌, length, take, drop, refl, sym, ap}
+use Rattle.tktext_c.proofs.Words.{◌∙◌, append_assoc, chars, IsUtf8, String, string_bytes, length-drop, append-nil}
+use Rattle.tktext_c.proofs.Words.{map-append, texts_of, cut, total, words_at, AreLengths, AreTexts}
 
 -- Of bytes and lengths these are left, and these words were made.
 pub record Reading (lengths bytes left rest : List ℕ) (made : List (List ℕ)) : Type 0 where

@@ -1,10 +1,7 @@
 -- What goes and what comes in its place, where the toggles of both are the same or those of the one are in the other.
-use Rattle.std.proofs.Common.{◌≡◌, Bool, true, false, ◌||◌, refl, sym, ap, ◌∙◌}
-use Rattle.std.specs.Cmp.{nat_cmp_total}
+use Rattle.toggle_sums.proofs.Words.{◌≡◌, Bool, true, false, ◌||◌, refl, sym, ap, ◌∙◌, nat_cmp_total, Slots, differing}
+use Rattle.toggle_sums.proofs.Words.{differing-associative, differing-empty, differing-self, same_slots, union-empty}
 use Rattle.std.specs.FinSet as set
-use Rattle.text_model.specs.Content.{Slots}
-use Rattle.text_model.specs.SlotSets.{differing}
-use Rattle.toggle_sums.specs.CountLaws.{differing-associative, differing-empty, differing-self, same_slots, union-empty}
 use Rattle.toggle_sums.specs.Counts.{ArePart, AreSame, Count, IsWithin, counting, less, plus, without}
 
 or_true : (b : Bool) → (b || true) ≡ true

@@ -1,15 +1,11 @@
 -- What lists of toggles add up to.
-use Rattle.std.proofs.Common.{◌≡◌, ℕ, zero, suc, ◌+◌, ◌%◌, ◌<◌, Bool, true, false, cond, ◌==◌, List, [], ◌∷◌, ◌++◌}
-use Rattle.std.proofs.Common.{length, take, sym, ap, ◌∙◌, arith, add-one}
-use Rattle.std.proofs.lemmas.Bool.Decides.{nat_tests}
+use Rattle.toggle_sums.proofs.Words.{◌≡◌, ℕ, zero, suc, ◌+◌, ◌%◌, ◌<◌, Bool, true, false, cond, ◌==◌, List, [], ◌∷◌}
+use Rattle.toggle_sums.proofs.Words.{◌++◌, length, take, sym, ap, ◌∙◌, arith, add-one, nat_tests, nat_cmp, Slots}
+use Rattle.toggle_sums.proofs.Words.{differing, contains-differing, differing-associative, differing-empty, either}
+use Rattle.toggle_sums.proofs.Words.{empty-differing, empty-union, union-associative}
 use Rattle.std.proofs.lemmas.List.Sums.{sum_by-cons}
 use Rattle.std.specs.FinSet as set
-use Rattle.std.specs.Ordering.{nat_cmp}
 use Rattle.std.specs.Prelude.{slice_get, Some}
-use Rattle.text_model.specs.Content.{Slots}
-use Rattle.text_model.specs.SlotSets.{differing}
-use Rattle.toggle_sums.specs.CountLaws.{contains-differing, differing-associative, differing-empty, either}
-use Rattle.toggle_sums.specs.CountLaws.{empty-differing, empty-union, union-associative}
 use Rattle.toggle_sums.specs.Toggles.{parity, presence, tags_from, toggle_count}
 
 pub parity-append : (first second : List Slots) → parity (first ++ second) ≡ differing (parity first) (parity second)

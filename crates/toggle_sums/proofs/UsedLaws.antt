@@ -1,16 +1,11 @@
 -- How many words of two lists are used, and that no bit is set behind them.
-use Rattle.std.proofs.Common.{◌≡◌, ◌≢◌, ℕ, zero, suc, ◌+◌, ◌<◌, ◌-◌, ◌≤◌, max, true, false, ◌&&◌, ◌==◌}
-use Rattle.std.proofs.Common.{if◌then◌else◌, bit_and, bit_or, List, length, replicate, slice_index, slice_set, refl}
-use Rattle.std.proofs.Common.{sym, ap, ap₂, ◌∙◌, arith, inl, inr, get_or-set_same, get_or-set_other}
-use Rattle.std.proofs.lemmas.Bool.{cases_eq, cases_lt}
-use Rattle.std.proofs.lemmas.Bool.Decides.{nat_tests}
-use Rattle.std.proofs.lemmas.List.{get_or_past}
-use Rattle.std.proofs.lemmas.Nat.{and_or_self}
+use Rattle.toggle_sums.proofs.Words.{◌≡◌, ◌≢◌, ℕ, zero, suc, ◌+◌, ◌<◌, ◌-◌, ◌≤◌, max, true, false, ◌&&◌, ◌==◌}
+use Rattle.toggle_sums.proofs.Words.{if◌then◌else◌, bit_and, bit_or, List, length, replicate, slice_index, slice_set}
+use Rattle.toggle_sums.proofs.Words.{refl, sym, ap, ap₂, ◌∙◌, arith, inl, inr, get_or-set_same, get_or-set_other}
+use Rattle.toggle_sums.proofs.Words.{cases_eq, cases_lt, nat_tests, get_or_past, and_or_self, EndBy, AreUsed, slots_of}
 use Rattle.std.specs.FinSet as set
-use Rattle.text_model.specs.TagBits.{EndBy}
-use Rattle.toggle_sums.specs.SlotWords.{AreUsed, last_used, slots_of}
-use Rattle.toggle_sums.proofs.WordSteps.{AreWords-zeros, same_words, slots_of-none, zeros_at}
-use Rattle.toggle_sums.proofs.WordSteps.{zeros_of-slots_of}
+use Rattle.toggle_sums.specs.SlotWords.{last_used}
+use Rattle.toggle_sums.proofs.WordSteps.{AreWords-zeros, same_words, slots_of-none, zeros_at, zeros_of-slots_of}
 
 -- ---- one word more
 both_zero : (x y : ℕ) → x ≡ 0 → y ≡ 0 → (x == 0 && y == 0) ≡ true

@@ -1,30 +1,19 @@
 -- What the operations do to words, and so to the slots: zeros, one bit, and two lists of words bit by bit.
-use Rattle.std.proofs.Common.{◌≡◌, ◌≢◌, ℕ, zero, suc, ◌+◌, ◌*◌, ◌/◌, ◌%◌, ◌^◌, ◌<◌, ◌≤◌, max, Bool, true, false, ◌&&◌}
-use Rattle.std.proofs.Common.{◌||◌, not, cond, nat_lt, nat_eq, ◌==◌, List, length, replicate, slice_index, slice_set}
-use Rattle.std.proofs.Common.{bit_and, bit_or, bit_xor, refl, sym, ap, ap₂, ◌∙◌, arith, w64, inl, inr, lt-ltb}
-use Rattle.std.proofs.Common.{mod-eq_of_lt, length-set, get_or-set_same, get_or-set_other}
-use Rattle.std.proofs.lemmas.Bool.{cases_eq, cases_lt}
-use Rattle.std.proofs.lemmas.Bool.Decides.{nat_tests}
-use Rattle.std.proofs.lemmas.List.{length-replicate}
-use Rattle.std.proofs.lemmas.Nat.{or_lt, xor_lt}
+use Rattle.toggle_sums.proofs.Words.{◌≡◌, ◌≢◌, ℕ, zero, suc, ◌+◌, ◌*◌, ◌/◌, ◌%◌, ◌^◌, ◌<◌, ◌≤◌, max, Bool, true, false}
+use Rattle.toggle_sums.proofs.Words.{◌&&◌, ◌||◌, not, cond, nat_lt, nat_eq, ◌==◌, List, length, replicate, slice_index}
+use Rattle.toggle_sums.proofs.Words.{slice_set, bit_and, bit_or, bit_xor, refl, sym, ap, ap₂, ◌∙◌, arith, w64, inl, inr}
+use Rattle.toggle_sums.proofs.Words.{lt-ltb, mod-eq_of_lt, length-set, get_or-set_same, get_or-set_other, cases_eq}
+use Rattle.toggle_sums.proofs.Words.{cases_lt, nat_tests, length-replicate, or_lt, xor_lt, nat_cmp_total, nat_cmp}
+use Rattle.toggle_sums.proofs.Words.{or_zero_r, alone, slots_in, alone-other, alone-same, differing, EndBy, has_bit}
+use Rattle.toggle_sums.proofs.Words.{WORDS, contains-differing, either, same_slots, AreWords, slots_of, words_of}
+use Rattle.toggle_sums.proofs.Words.{words_of-slots_of}
 use Rattle.std.proofs.lemmas.Nat.Bits.{bit_at-lt, bit_at-zero, bit_at_or, bit_at_xor, bit_at_set_same, bit_at_set_other}
 use Rattle.std.proofs.lemmas.Nat.Bits.{bit_at-pow_same, bit_at-pow_other, shr_and_one}
 use Rattle.std.proofs.Math.Pow.{pow-lt}
-use Rattle.std.specs.Cmp.{nat_cmp_total}
 use Rattle.std.specs.FinSet as set
 use Rattle.std.specs.Int.{bit_at}
-use Rattle.std.specs.Ordering.{nat_cmp}
-use Rattle.std.specs.Int.Bits.{or_zero_r}
-use Rattle.text_model.specs.OneWord.{alone, slots_in}
-use Rattle.text_model.specs.OneWordLaws.{alone-other, alone-same}
-use Rattle.text_model.specs.SlotSets.{differing}
-use Rattle.text_model.specs.TagBits.{EndBy, has_bit}
 use Rattle.text_model.specs.TagBitLaws.{contains_inserted, contains-slots_below}
-use Rattle.text_model.specs.declared.tag_set.TheConstants.{WORDS}
 use Rattle.text_model.proofs.TagSteps.{has_bit-with_word, with_word}
-use Rattle.toggle_sums.specs.CountLaws.{contains-differing, either, same_slots}
-use Rattle.toggle_sums.specs.SlotWords.{AreWords, slots_of, words_of}
-use Rattle.toggle_sums.specs.SlotWordLaws.{words_of-slots_of}
 
 -- ---- zeros
 pub zeros_at : (count i : ℕ) → slice_index (replicate count 0) i ≡ 0

@@ -1,7 +1,5 @@
 -- The counts that were worked out by hand: at both ends of their type, and below 0.
-use Rattle.std.proofs.Common.{◌≡◌, true, false, refl}
-use Rattle.std.specs.Prelude.{pos, negsuc}
-use Rattle.undo_stack.specs.Modified.{counted_up, counted_down, counted_new, times}
+use Rattle.undo_stack.proofs.Words.{◌≡◌, true, false, refl, pos, negsuc, counted_up, counted_down, counted_new, times}
 
 at-the-greatest : times 1 counted_up (record { count = pos 9223372036854775807; fixed = false })
     ≡ record { count = pos 9223372036854775807; fixed = true }

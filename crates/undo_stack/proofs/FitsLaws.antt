@@ -1,25 +1,20 @@
 -- What fits a text is reverted and repeated to and fro, and goes on fitting as the history changes.
-use Rattle.std.proofs.Common.{◌≡◌, ℕ, zero, suc, ◌+◌, ◌-◌, ◌<◌, ◌≤◌, Bool, true, false, ◌&&◌, List, [], ◌∷◌, ◌++◌}
-use Rattle.std.proofs.Common.{length, take, drop, Option, Some, None, refl, sym, ap, ap₂, ◌∙◌, arith, le-leb, lt-ltb}
-use Rattle.std.proofs.Common.{length-take, length-append, append_assoc}
-use Rattle.std.specs.Prelude.{slice_range, slice_get, bytes_eq, not, nat_lt, nat_le, ◌==◌, option_and_then, IsSome}
-use Rattle.std.specs.Prelude.{if◌then◌else◌}
+use Rattle.undo_stack.proofs.Words.{◌≡◌, ℕ, zero, suc, ◌+◌, ◌-◌, ◌<◌, ◌≤◌, Bool, true, false, ◌&&◌, List, [], ◌∷◌, ◌++◌}
+use Rattle.undo_stack.proofs.Words.{length, take, drop, Option, Some, None, refl, sym, ap, ap₂, ◌∙◌, arith, le-leb}
+use Rattle.undo_stack.proofs.Words.{lt-ltb, length-take, length-append, append_assoc, slice_range, slice_get, bytes_eq}
+use Rattle.undo_stack.proofs.Words.{not, nat_lt, nat_le, ◌==◌, option_and_then, IsSome, if◌then◌else◌}
+use Rattle.undo_stack.proofs.Words.{option_and_then_some, take-append-drop, Action, EditKind, History, no_history}
+use Rattle.undo_stack.proofs.Words.{changes_kind, joined, onto_last, newest, noted, separated, next_undo, next_redo}
+use Rattle.undo_stack.proofs.Words.{after_undo, after_redo, limited, put_in, take_out, repeated, reverted}
+use Rattle.undo_stack.proofs.Words.{repeated_group, reverted_group, repeated_groups, reverted_groups, FitsText}
 use Rattle.std.specs.List.{AllByRecursion}
 use Rattle.std.proofs.lemmas.Bool.{false≢true, leb-true, ltb-true}
-use Rattle.std.proofs.lemmas.Option.{option_and_then_some}
 use Rattle.std.proofs.lemmas.Slice.Eq.{bytes_eq-Decides}
-use Rattle.std.proofs.lemmas.List.{take-append-drop}
 use Rattle.std.proofs.lemmas.List.Folds.{drop_split}
 use Rattle.std.proofs.Math.Seq.{take-append_seam, drop-append_seam}
 use Rattle.text_model.specs.Splices.{inserted, removed}
 use Rattle.text_model.proofs.SpliceLaws.{length-inserted, length-removed, take-inserted, drop-inserted, take-removed}
 use Rattle.text_model.proofs.SpliceLaws.{drop-removed}
-use Rattle.undo_stack.specs.declared.actions.Action.{Action}
-use Rattle.undo_stack.specs.declared.actions.EditKind.{EditKind}
-use Rattle.undo_stack.specs.History.{History, no_history, changes_kind, joined, onto_last, newest, noted, separated}
-use Rattle.undo_stack.specs.History.{next_undo, next_redo, after_undo, after_redo, limited}
-use Rattle.undo_stack.specs.Fits.{put_in, take_out, repeated, reverted, repeated_group, reverted_group, repeated_groups}
-use Rattle.undo_stack.specs.Fits.{reverted_groups, FitsText}
 
 -- ---- one action
 

@@ -1,13 +1,9 @@
 -- What a row in groups is, as the row or the lengths change at an end, or the border between two groups moves.
-use Rattle.std.proofs.Common.{◌≡◌, take_all, ℕ, zero, suc, ◌+◌, ◌<◌, ◌≤◌, List, [], ◌∷◌, ◌++◌, length, take, drop}
-use Rattle.std.proofs.Common.{get_or, Some, refl, sym, ap, ap₂, ◌∙◌, arith, length-append, length-drop, length-take}
-use Rattle.std.specs.Prelude.{sum, slice_get}
-use Rattle.std.proofs.lemmas.List.{drop-drop, take-append-le, drop-append-le, take-append-drop}
+use Rattle.undo_stack.proofs.Words.{◌≡◌, take_all, ℕ, zero, suc, ◌+◌, ◌<◌, ◌≤◌, List, [], ◌∷◌, ◌++◌, length, take, drop}
+use Rattle.undo_stack.proofs.Words.{get_or, Some, refl, sym, ap, ap₂, ◌∙◌, arith, length-append, length-drop}
+use Rattle.undo_stack.proofs.Words.{length-take, sum, slice_get, drop-drop, take-append-le, drop-append-le}
+use Rattle.undo_stack.proofs.Words.{take-append-drop, drop_of_length-le, Action, onto_last, grouped}
 use Rattle.std.proofs.lemmas.List.Sums.{sum_by-cons, sum_by-append}
-use Rattle.std.proofs.Math.ListN.{drop_of_length-le}
-use Rattle.undo_stack.specs.declared.actions.Action.{Action}
-use Rattle.undo_stack.specs.History.{onto_last}
-use Rattle.undo_stack.specs.Rings.{grouped}
 
 pub sum-cons : (n : ℕ) (ns : List ℕ) → sum (n ∷ ns) ≡ n + sum ns
 sum-cons n ns = sum_by-cons (λ x. x) n ns

@@ -5,3 +5,4 @@ pub mod FitsLaws
 pub mod GroupLaws
 pub mod OriginLaws
 pub mod RingLaws
+pub mod Words

@@ -1,14 +1,9 @@
 -- What a history is, as its rows change.
-use Rattle.std.proofs.Common.{◌≡◌, take_all, ℕ, suc, ◌+◌, ◌-◌, ◌<◌, ◌≤◌, Bool, true, false, List, [], ◌∷◌, ◌++◌, length}
-use Rattle.std.proofs.Common.{take, drop, get_or, Option, Some, sym, ap, ap₂, ◌∙◌, ne_eqb, arith, length-append}
-use Rattle.std.proofs.Common.{length-drop, length-take}
-use Rattle.std.specs.Prelude.{sum, slice_index_or, unwrap_or, option_to_list, if◌then◌else◌}
-use Rattle.std.proofs.lemmas.List.{drop-drop, take-append-drop}
-use Rattle.std.proofs.Math.ListN.{drop_of_length-le}
-use Rattle.undo_stack.specs.declared.actions.Action.{Action}
-use Rattle.undo_stack.specs.declared.actions.EditKind.{EditKind}
-use Rattle.undo_stack.specs.History.{joined, newest}
-use Rattle.undo_stack.specs.Rings.{grouped, history_of, AreGroups}
+use Rattle.undo_stack.proofs.Words.{◌≡◌, take_all, ℕ, suc, ◌+◌, ◌-◌, ◌<◌, ◌≤◌, Bool, true, false, List, [], ◌∷◌, ◌++◌}
+use Rattle.undo_stack.proofs.Words.{length, take, drop, get_or, Option, Some, sym, ap, ap₂, ◌∙◌, ne_eqb, arith}
+use Rattle.undo_stack.proofs.Words.{length-append, length-drop, length-take, sum, slice_index_or, unwrap_or}
+use Rattle.undo_stack.proofs.Words.{option_to_list, if◌then◌else◌, drop-drop, take-append-drop, drop_of_length-le}
+use Rattle.undo_stack.proofs.Words.{Action, EditKind, joined, newest, grouped, history_of, AreGroups}
 use Rattle.undo_stack.proofs.GroupLaws.{sum-cons, sum-append, sum-one, length-grouped, grouped-take, grouped-new}
 use Rattle.undo_stack.proofs.GroupLaws.{grouped-join}
 

@@ -1,13 +1,7 @@
-use Rattle.std.proofs.Common.{Result, Ok, Err, OnErr, List, map, ◌∷◌, sym, ap, subst, ◌∙◌, if◌then◌else◌}
-use Rattle.std.specs.List.{AllByRecursion}
-use Rattle.text_model.specs.Content.{Content}
-use Rattle.text_model.specs.declared.places.TagSlot.{TagSlot}
-use Rattle.tcl_words.specs.Unread.{texts_of}
-use Rattle.command_effects.specs.Edits.{without_widgets}
-use Rattle.documents.specs.Documents.{Document, document_of}
-use Rattle.documents.specs.Inside.{parts_of}
-use Rattle.documents.specs.Kept.{Stands}
-use Rattle.documents.specs.WellFormed.{IsWellFormedDocument}
+use Rattle.documents.proofs.Words.{Result, Ok, Err, OnErr, List, map, ◌∷◌, sym, ap, subst, ◌∙◌, AllByRecursion, Content}
+use Rattle.documents.proofs.Words.{TagSlot, texts_of, without_widgets, Document, document_of, parts_of, Stands}
+use Rattle.documents.proofs.Words.{IsWellFormedDocument}
+use Rattle.std.proofs.Common.{if◌then◌else◌}
 use Rattle.documents.specs.Widgets as widgets
 use Rattle.documents.proofs.UnseatedLaws.{leaves-others}
 use Rattle.documents.proofs.+drop.Goals as goal

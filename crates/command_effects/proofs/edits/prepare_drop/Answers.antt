@@ -1,8 +1,5 @@
-use Rattle.std.proofs.Common.{◌≡◌, sym, ap, subst, ◌∙◌}
-use Rattle.std.specs.Prelude.{IfOk, get_or, ◌+◌, ◌*◌, ◌++◌, ◌∷◌, []}
-use Rattle.text_model.specs.declared.edits.Step.TheVariants.{TakeMark}
-use Rattle.std.proofs.lemmas.List.{take_all}
-use Rattle.text_model.specs.Steps.{Fits, after}
+use Rattle.command_effects.proofs.Words.{◌≡◌, sym, ap, subst, ◌∙◌, IfOk, get_or, ◌*◌, TakeMark, take_all, Fits, after}
+use Rattle.std.specs.Prelude.{◌+◌, ◌++◌, ◌∷◌, []}
 use Rattle.command_effects.proofs.TakeLaws.{drops, drops-fit, drops-after, drops-more}
 use Rattle.command_effects.proofs.edits.prepare_drop.Goals as goal
 

@@ -1,7 +1,4 @@
-use Rattle.std.proofs.Common.{◌≡◌, sym, ap, subst, ◌∙◌}
-use Rattle.std.specs.Prelude.{OnOk}
-use Rattle.std.proofs.lemmas.List.{take_all}
-use Rattle.text_model.specs.Steps.{Fits, after}
+use Rattle.command_effects.proofs.Words.{◌≡◌, sym, ap, subst, ◌∙◌, OnOk, take_all, Fits, after}
 use Rattle.command_effects.proofs.TakeLaws.{takes, takes-fit, takes-after, takes-more}
 use Rattle.command_effects.proofs.edits.take_marks.Goals as goal
 

@@ -1,7 +1,5 @@
-use Rattle.std.proofs.Common.{◌≡◌, length, ap, sym, ◌∙◌, arith}
-use Rattle.std.specs.Prelude.{chars, string_bytes}
-use Rattle.std.proofs.lemmas.List.{length-map}
-use Rattle.command_effects.specs.Lists.{listed_names}
+use Rattle.command_effects.proofs.Words.{◌≡◌, length, ap, sym, ◌∙◌, arith, chars, string_bytes, length-map}
+use Rattle.command_effects.proofs.Words.{listed_names}
 use Rattle.command_effects.proofs.MadeLaws.{names-step}
 use Rattle.command_effects.proofs.excess.count_names.Goals as goal
 

@@ -1,6 +1,4 @@
-use Rattle.std.proofs.Common.{◌≡◌, ◌-◌, ◌^◌, length, take}
-use Rattle.std.specs.Prelude.{min}
-use Rattle.command_effects.specs.Lists.{all_names}
+use Rattle.command_effects.proofs.Words.{◌≡◌, ◌-◌, ◌^◌, length, take, min, all_names}
 use Rattle.command_effects.proofs.excess.count_names.Given as goal
 
 abbrev pub invariant-loop-pair : goal.invariant-loop-pair

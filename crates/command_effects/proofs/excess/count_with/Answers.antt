@@ -1,8 +1,5 @@
-use Rattle.std.proofs.Common.{◌+◌, length, take, sym, ap, ◌∙◌, arith}
-use Rattle.std.specs.Prelude.{chars}
-use Rattle.tag_table.specs.Tags.{names_of}
-use Rattle.tcl_words.specs.Unread.{texts_of}
-use Rattle.command_effects.specs.Lists.{all_names, with_names}
+use Rattle.command_effects.proofs.Words.{◌+◌, length, take, sym, ap, ◌∙◌, arith, chars, names_of, texts_of, all_names}
+use Rattle.command_effects.proofs.Words.{with_names}
 use Rattle.command_effects.proofs.CountLaws.{count-known, count-new}
 use Rattle.command_effects.proofs.MadeLaws.{too_many, with_names-step}
 use Rattle.command_effects.proofs.excess.count_with.Goals as goal

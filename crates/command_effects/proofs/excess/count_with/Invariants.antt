@@ -1,7 +1,4 @@
-use Rattle.std.proofs.Common.{◌≡◌, ◌≤◌, length, take}
-use Rattle.tag_table.specs.Tags.{names_of}
-use Rattle.tcl_words.specs.Unread.{texts_of}
-use Rattle.command_effects.specs.Lists.{all_names, with_names}
+use Rattle.command_effects.proofs.Words.{◌≡◌, ◌≤◌, length, take, names_of, texts_of, all_names, with_names}
 use Rattle.command_effects.proofs.excess.count_with.Given as goal
 
 abbrev pub invariant-loop-place : goal.invariant-loop-place

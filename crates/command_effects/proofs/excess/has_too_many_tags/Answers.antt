@@ -1,8 +1,5 @@
-use Rattle.std.proofs.Common.{◌+◌, ◌<◌, ◌≤◌, length, take, refl, ap, ◌∙◌, arith}
-use Rattle.std.proofs.lemmas.Bool.Decides.{nat_tests}
-use Rattle.std.proofs.lemmas.List.{length-map}
-use Rattle.tag_table.specs.Tags.{Tag, names_of}
-use Rattle.command_effects.specs.Lists.{all_names, with_names}
+use Rattle.command_effects.proofs.Words.{◌+◌, ◌<◌, ◌≤◌, length, take, refl, ap, ◌∙◌, arith, nat_tests, length-map, Tag}
+use Rattle.command_effects.proofs.Words.{names_of, all_names, with_names}
 use Rattle.command_effects.proofs.MadeLaws.{listed-step, too_many_listed, with_names-longer, with_names-within}
 use Rattle.command_effects.proofs.excess.has_too_many_tags.Goals as goal
 

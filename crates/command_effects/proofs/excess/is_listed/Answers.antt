@@ -1,7 +1,5 @@
-use Rattle.std.proofs.Common.{◌≡◌, ◌-◌, true, false, take, sym, ap, ◌∙◌, arith}
-use Rattle.std.specs.Prelude.{chars}
-use Rattle.command_effects.specs.Lists.{all_names, listed_names}
-use Rattle.command_effects.specs.Words.{is_among}
+use Rattle.command_effects.proofs.Words.{◌≡◌, ◌-◌, true, false, take, sym, ap, ◌∙◌, arith, chars, all_names}
+use Rattle.command_effects.proofs.Words.{listed_names, is_among}
 use Rattle.command_effects.proofs.CountLaws.{listed-back, or-true, or-false}
 use Rattle.command_effects.proofs.excess.is_listed.Goals as goal
 

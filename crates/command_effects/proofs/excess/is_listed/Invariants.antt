@@ -1,6 +1,5 @@
-use Rattle.std.proofs.Common.{◌≡◌, ◌≤◌, chars, length, take}
-use Rattle.command_effects.specs.Lists.{all_names}
-use Rattle.command_effects.specs.Words.{is_among}
+use Rattle.command_effects.proofs.Words.{◌≡◌, ◌≤◌, length, take, all_names, is_among}
+use Rattle.std.proofs.Common.{chars}
 use Rattle.command_effects.proofs.excess.is_listed.Given as goal
 
 abbrev pub invariant-loop-left : goal.invariant-loop-left

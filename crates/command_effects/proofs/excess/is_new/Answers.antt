@@ -1,8 +1,4 @@
-use Rattle.std.proofs.Common.{true, false, not, sym, ap, ◌∙◌}
-use Rattle.std.specs.Prelude.{chars}
-use Rattle.tag_table.specs.Tags.{names_of}
-use Rattle.tcl_words.specs.Unread.{texts_of}
-use Rattle.command_effects.specs.Lists.{all_names}
+use Rattle.command_effects.proofs.Words.{true, false, not, sym, ap, ◌∙◌, chars, names_of, texts_of, all_names}
 use Rattle.command_effects.proofs.CountLaws.{new-known, new-listed, new-repeated, tag-known}
 use Rattle.command_effects.proofs.excess.is_new.Goals as goal
 

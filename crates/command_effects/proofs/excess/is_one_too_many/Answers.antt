@@ -1,8 +1,5 @@
-use Rattle.std.proofs.Common.{◌+◌, not, sym, ap, ap₂, ◌∙◌, arith}
-use Rattle.std.specs.Prelude.{chars, nat_lt}
-use Rattle.std.proofs.lemmas.Bool.Decides.{nat_tests}
-use Rattle.std.proofs.lemmas.List.{length-map}
-use Rattle.tag_table.specs.Tags.{Tag, names_of}
+use Rattle.command_effects.proofs.Words.{◌+◌, not, sym, ap, ap₂, ◌∙◌, arith, chars, nat_lt, nat_tests, length-map, Tag}
+use Rattle.command_effects.proofs.Words.{names_of}
 use Rattle.command_effects.proofs.CountLaws.{count-known, count-new, tag-known}
 use Rattle.command_effects.proofs.excess.is_one_too_many.Goals as goal
 

@@ -1,6 +1,5 @@
-use Rattle.std.proofs.Common.{◌≡◌, ◌≤◌, chars, length, take}
-use Rattle.tcl_words.specs.Unread.{texts_of}
-use Rattle.command_effects.specs.Words.{is_among}
+use Rattle.command_effects.proofs.Words.{◌≡◌, ◌≤◌, length, take, texts_of, is_among}
+use Rattle.std.proofs.Common.{chars}
 use Rattle.command_effects.proofs.excess.is_repeated.Given as goal
 
 abbrev pub invariant-loop-left : goal.invariant-loop-left

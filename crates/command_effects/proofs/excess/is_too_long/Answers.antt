@@ -1,6 +1,4 @@
-use Rattle.std.proofs.Common.{◌+◌, ◌≤◌, arith}
-use Rattle.std.proofs.lemmas.Bool.Decides.{nat_tests}
-use Rattle.command_effects.specs.Lists.{total}
+use Rattle.command_effects.proofs.Words.{◌+◌, ◌≤◌, arith, nat_tests, total}
 use Rattle.command_effects.proofs.ExcessLaws.{total-in-bytes}
 use Rattle.command_effects.proofs.excess.is_too_long.Goals as goal
 

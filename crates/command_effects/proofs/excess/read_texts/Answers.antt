@@ -1,9 +1,4 @@
-use Rattle.std.proofs.Common.{subst, ap, ◌∙◌}
-use Rattle.std.specs.Char.{IsScalar}
-use Rattle.std.specs.List.{All}
-use Rattle.std.proofs.lemmas.List.Elements.{All-more}
-use Rattle.text_model.proofs.TextLaws.{chars-scalars}
-use Rattle.command_effects.specs.Lists.{Pair}
+use Rattle.command_effects.proofs.Words.{subst, ap, ◌∙◌, IsScalar, All, All-more, chars-scalars, Pair}
 use Rattle.command_effects.proofs.excess.read_texts.Goals as goal
 
 pub loop-pair-preserved : goal.loop-pair-preserved

@@ -1,7 +1,4 @@
-use Rattle.std.proofs.Common.{take}
-use Rattle.std.specs.Char.{IsScalar}
-use Rattle.std.specs.List.{All}
-use Rattle.command_effects.specs.Lists.{Pair}
+use Rattle.command_effects.proofs.Words.{take, IsScalar, All, Pair}
 use Rattle.command_effects.proofs.excess.read_texts.Given as goal
 
 abbrev pub invariant-loop-pair : goal.invariant-loop-pair

@@ -1,6 +1,4 @@
-use Rattle.std.proofs.Common.{◌≡◌, ◌-◌, ◌^◌, take}
-use Rattle.std.specs.Prelude.{min}
-use Rattle.command_effects.specs.Lists.{total}
+use Rattle.command_effects.proofs.Words.{◌≡◌, ◌-◌, ◌^◌, take, min, total}
 use Rattle.command_effects.proofs.excess.total_of.Given as goal
 
 abbrev pub invariant-loop-pair : goal.invariant-loop-pair

@@ -1,7 +1,5 @@
-use Rattle.std.proofs.Common.{sym, subst, eqb-true, length, ◌∷◌, []}
-use Rattle.std.specs.Prelude.{string_bytes, if◌then◌else◌}
-use Rattle.tcl_words.specs.ListGrowth.{Goes}
-use Rattle.tcl_words.proofs.ListGrowth.{goes_nowhere}
+use Rattle.command_effects.proofs.Words.{sym, subst, eqb-true, length, ◌∷◌, [], string_bytes, if◌then◌else◌, Goes}
+use Rattle.command_effects.proofs.Words.{goes_nowhere}
 use Rattle.command_effects.proofs.ListingLaws.{unfilled}
 use Rattle.command_effects.proofs.listing.push_filled.Goals as goal
 

@@ -1,8 +1,5 @@
-use Rattle.std.proofs.Common.{◌∷◌, []}
-use Rattle.std.specs.Prelude.{string_bytes}
+use Rattle.command_effects.proofs.Words.{◌∷◌, [], string_bytes, literal, goes_on}
 use Rattle.mark_table.specs.SharedMarks.{names_of}
-use Rattle.command_effects.specs.Words.{literal}
-use Rattle.tcl_words.proofs.ListGrowth.{goes_on}
 use Rattle.command_effects.proofs.listing.push_mark_names.Goals as goal
 
 pub returns : goal.returns

@@ -1,6 +1,5 @@
-use Rattle.std.specs.Prelude.{string_bytes, take}
-use Rattle.tag_table.specs.Tags.{names_of}
-use Rattle.tcl_words.specs.ListGrowth.{Goes}
+use Rattle.command_effects.proofs.Words.{string_bytes, names_of, Goes}
+use Rattle.std.specs.Prelude.{take}
 use Rattle.command_effects.proofs.listing.push_names.Given as goal
 
 abbrev pub invariant-loop-place : goal.invariant-loop-place

@@ -1,9 +1,6 @@
 use Rattle.std.specs.FinSet as set
-use Rattle.std.proofs.Common.{subst, ap, ◌∙◌}
-use Rattle.std.specs.Prelude.{chars, string_bytes, ◌∷◌, [], if◌then◌else◌}
-use Rattle.tcl_words.specs.ListGrowth.{Goes}
-use Rattle.tag_table.specs.Tags.{Tag}
-use Rattle.command_effects.specs.Tagging.{own_slot}
+use Rattle.command_effects.proofs.Words.{subst, ap, ◌∙◌, chars, string_bytes, if◌then◌else◌, Goes, Tag, own_slot}
+use Rattle.std.specs.Prelude.{◌∷◌, []}
 use Rattle.command_effects.proofs.ListingLaws.{goes_wanted}
 use Rattle.command_effects.proofs.listing.push_names_in.Goals as goal
 

@@ -1,8 +1,6 @@
 use Rattle.std.specs.FinSet as set
-use Rattle.std.specs.Prelude.{string_bytes, take, filter}
-use Rattle.tag_table.specs.Tags.{Tag, names_of}
-use Rattle.tcl_words.specs.ListGrowth.{Goes}
-use Rattle.command_effects.specs.Tagging.{own_slot}
+use Rattle.command_effects.proofs.Words.{string_bytes, filter, Tag, names_of, Goes, own_slot}
+use Rattle.std.specs.Prelude.{take}
 use Rattle.command_effects.proofs.listing.push_names_in.Given as goal
 
 abbrev pub invariant-loop-place : goal.invariant-loop-place

@@ -1,9 +1,5 @@
-use Rattle.std.proofs.Common.{◌++◌, ◌∷◌, [], ap, subst, ◌∙◌}
-use Rattle.std.specs.Prelude.{chars, string_bytes, OnOk}
-use Rattle.text_index.specs.Positions.{position_text}
-use Rattle.text_index.specs.Views.{shown}
-use Rattle.tcl_words.specs.ListGrowth.{Goes}
-use Rattle.std.proofs.lemmas.Str.{chars-nil}
+use Rattle.command_effects.proofs.Words.{◌++◌, ◌∷◌, [], ap, subst, ◌∙◌, chars, string_bytes, OnOk, position_text, shown}
+use Rattle.command_effects.proofs.Words.{Goes, chars-nil}
 use Rattle.command_effects.proofs.listing.push_place.Goals as goal
 
 pub returns : goal.returns

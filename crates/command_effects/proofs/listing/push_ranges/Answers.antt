@@ -1,6 +1,4 @@
-use Rattle.std.specs.Prelude.{string_bytes}
-use Rattle.text_index.specs.Views.{shown, shown_flags}
-use Rattle.text_index.proofs.RangeLaws.{range-unset}
+use Rattle.command_effects.proofs.Words.{string_bytes, shown, shown_flags, range-unset}
 use Rattle.command_effects.proofs.ListingLaws.{listed-none, listed-more}
 use Rattle.command_effects.proofs.listing.push_ranges.Goals as goal
 

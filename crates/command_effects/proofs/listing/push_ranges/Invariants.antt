@@ -1,7 +1,5 @@
-use Rattle.std.proofs.Common.{◌≡◌, ◌<◌, ◌≤◌, ◌+◌, false}
-use Rattle.std.specs.Prelude.{string_bytes, IfSome}
+use Rattle.command_effects.proofs.Words.{◌≡◌, ◌<◌, ◌≤◌, ◌+◌, false, string_bytes, IfSome, shown, shown_flags}
 use Rattle.text_model.specs.Changes.{flag_at}
-use Rattle.text_index.specs.Views.{shown, shown_flags}
 use Rattle.command_effects.proofs.ListingLaws.{IsListed, left_of}
 use Rattle.command_effects.proofs.listing.push_ranges.Given as goal
 

@@ -1,6 +1,6 @@
-use Rattle.std.specs.Prelude.{string_bytes, take}
+use Rattle.command_effects.proofs.Words.{string_bytes, Goes}
+use Rattle.std.specs.Prelude.{take}
 use Rattle.mark_table.specs.SharedMarks.{names_of}
-use Rattle.tcl_words.specs.ListGrowth.{Goes}
 use Rattle.command_effects.proofs.listing.push_shared_names.Given as goal
 
 abbrev pub invariant-loop-place : goal.invariant-loop-place

@@ -1,7 +1,4 @@
-use Rattle.std.proofs.Common.{arith, ap₂, sym, ◌∙◌, length-drop}
-use Rattle.std.specs.Prelude.{Some}
-use Rattle.std.proofs.lemmas.List.{take_rest}
-use Rattle.command_effects.specs.Lists.{pair_at}
+use Rattle.command_effects.proofs.Words.{arith, ap₂, sym, ◌∙◌, length-drop, Some, take_rest, pair_at}
 use Rattle.command_effects.proofs.PairLaws.{word_read, pairs_at-more}
 use Rattle.command_effects.proofs.lists.pairs_at.Goals as goal
 

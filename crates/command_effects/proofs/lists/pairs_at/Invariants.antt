@@ -1,7 +1,5 @@
-use Rattle.std.proofs.Common.{◌≡◌, ◌++◌, ◌≤◌, ◌+◌, length, Ok}
-use Rattle.tcl_words.specs.Unread.{texts_of}
-use Rattle.command_effects.specs.Faults.{with_value}
-use Rattle.command_effects.specs.Lists.{pairs_at}
+use Rattle.command_effects.proofs.Words.{◌≡◌, ◌++◌, ◌≤◌, ◌+◌, length, texts_of, with_value, pairs_at}
+use Rattle.std.proofs.Common.{Ok}
 use Rattle.command_effects.proofs.lists.pairs_at.Given as goal
 
 abbrev pub invariant-loop-rest : goal.invariant-loop-rest

@@ -1,5 +1,4 @@
-use Rattle.std.proofs.Common.{Vec, Global, ◌≡◌, ◌∷◌, ◌++◌, [], map, ap, ◌∙◌}
-use Rattle.text_model.specs.declared.places.MarkNo.{MarkNo}
+use Rattle.command_effects.proofs.Words.{Vec, Global, ◌≡◌, ◌∷◌, ◌++◌, [], map, ap, ◌∙◌, MarkNo}
 use Rattle.command_effects.proofs.SlotLaws.{numbers_named-kept, numbers_named-pushed}
 use Rattle.command_effects.proofs.marking.numbers_named.Goals as goal
 use Rattle.command_effects.proofs.marking.numbers_named.Goals.{in-Some+in_ok-push, in_default}

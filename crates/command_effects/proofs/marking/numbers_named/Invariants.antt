@@ -1,7 +1,4 @@
-use Rattle.std.proofs.Common.{◌≡◌, map, take}
-use Rattle.tcl_words.specs.Unread.{texts_of}
-use Rattle.text_model.specs.declared.places.MarkNo.{MarkNo}
-use Rattle.command_effects.specs.Marking.{numbers_named}
+use Rattle.command_effects.proofs.Words.{◌≡◌, map, take, texts_of, MarkNo, numbers_named}
 use Rattle.command_effects.proofs.marking.numbers_named.Given as goal
 
 abbrev pub invariant-loop-name : goal.invariant-loop-name

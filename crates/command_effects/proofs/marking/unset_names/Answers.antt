@@ -1,9 +1,5 @@
-use Rattle.std.proofs.Common.{take, sym, ap, ◌∙◌}
-use Rattle.std.specs.Prelude.{chars}
-use Rattle.mark_table.specs.SharedMarks.{SharedMarks, is_named}
-use Rattle.name_list.specs.Moves.{without}
-use Rattle.tcl_words.specs.Unread.{texts_of}
-use Rattle.command_effects.specs.Marking.{marks_left}
+use Rattle.command_effects.proofs.Words.{take, sym, ap, ◌∙◌, chars, SharedMarks, without, texts_of, marks_left}
+use Rattle.mark_table.specs.SharedMarks.{is_named}
 use Rattle.command_effects.proofs.LeftLaws.{marks_left-more, marks_left-none}
 use Rattle.command_effects.proofs.SlotLaws.{texts-more}
 use Rattle.command_effects.proofs.marking.unset_names.Goals as goal

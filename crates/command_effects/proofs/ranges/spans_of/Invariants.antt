@@ -1,6 +1,4 @@
-use Rattle.std.proofs.Common.{◌≡◌, ◌++◌, ◌≤◌, length}
-use Rattle.std.specs.List.{All}
-use Rattle.command_effects.specs.Ranges.{spans_of}
+use Rattle.command_effects.proofs.Words.{◌≡◌, ◌++◌, ◌≤◌, length, All, spans_of}
 use Rattle.command_effects.proofs.ranges.spans_of.Given as goal
 
 abbrev pub invariant-loop-rest : goal.invariant-loop-rest

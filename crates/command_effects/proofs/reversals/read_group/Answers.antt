@@ -1,11 +1,5 @@
-use Rattle.std.proofs.Common.{sym, subst, arith}
-use Rattle.std.specs.Char.{IsScalar}
-use Rattle.std.specs.List.{All}
-use Rattle.std.proofs.lemmas.List.{take_all}
-use Rattle.std.proofs.lemmas.List.Elements.{All-more}
-use Rattle.std.proofs.lemmas.Option.{get_or_from_slice_get}
-use Rattle.text_model.proofs.TextLaws.{chars-scalars}
-use Rattle.undo_stack.specs.declared.actions.Action.{Action}
+use Rattle.command_effects.proofs.Words.{sym, subst, arith, IsScalar, All, take_all, All-more, get_or_from_slice_get}
+use Rattle.command_effects.proofs.Words.{chars-scalars, Action}
 use Rattle.command_effects.proofs.reversals.read_group.Goals as goal
 
 pub loop-index-preserved : goal.loop-index-preserved

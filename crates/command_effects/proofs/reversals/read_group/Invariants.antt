@@ -1,7 +1,4 @@
-use Rattle.std.proofs.Common.{take}
-use Rattle.std.specs.Char.{IsScalar}
-use Rattle.std.specs.List.{All}
-use Rattle.undo_stack.specs.declared.actions.Action.{Action}
+use Rattle.command_effects.proofs.Words.{take, IsScalar, All, Action}
 use Rattle.command_effects.proofs.reversals.read_group.Given as goal
 
 abbrev pub invariant-loop-index : goal.invariant-loop-index

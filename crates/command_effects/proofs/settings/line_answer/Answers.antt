@@ -1,8 +1,5 @@
-use Rattle.std.proofs.Common.{sym, ap, ◌∙◌}
-use Rattle.std.specs.Prelude.{chars}
-use Rattle.std.proofs.lemmas.Str.{chars-IsAscii}
+use Rattle.command_effects.proofs.Words.{sym, ap, ◌∙◌, chars, chars-IsAscii, line_answer}
 use Rattle.command_effects.specs.declared.answers.Answer.TheVariants.{Text}
-use Rattle.command_effects.specs.Settings.{line_answer}
 use Rattle.command_effects.proofs.settings.line_answer.Goals as goal
 
 pub returns-in_ok-from_str-in-Some : goal.returns-in_ok-from_str-in-Some

@@ -1,9 +1,6 @@
-use Rattle.std.proofs.Common.{sym, ap, ◌∙◌}
-use Rattle.std.specs.Prelude.{chars, ok_or}
-use Rattle.std.proofs.lemmas.Str.{encodes-chars}
+use Rattle.command_effects.proofs.Words.{sym, ap, ◌∙◌, chars, ok_or, encodes-chars, BadInteger}
 use Rattle.tcl_words.proofs.ListForms.{some_chars}
 use Rattle.tcl_words.proofs.Plain.{none_left}
-use Rattle.command_effects.specs.declared.answers.Fault.TheVariants.{BadInteger}
 use Rattle.command_effects.proofs.SettingLaws.{line_of_word-none, line_of_word-fault}
 use Rattle.command_effects.proofs.settings.line_at.Goals as goal
 

@@ -1,8 +1,6 @@
-use Rattle.std.proofs.Common.{ap, ◌∙◌, w32}
-use Rattle.std.specs.Prelude.{chars}
+use Rattle.command_effects.proofs.Words.{ap, ◌∙◌, w32, chars, chars-IsAscii}
 use Rattle.std.specs.Fmt.{signed_decimal}
 use Rattle.std.proofs.lemmas.Int.{to_z-of_z}
-use Rattle.std.proofs.lemmas.Str.{chars-IsAscii}
 use Rattle.command_effects.proofs.settings.number_text.Goals as goal
 
 pub returns : goal.returns

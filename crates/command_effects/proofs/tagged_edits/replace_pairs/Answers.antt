@@ -1,12 +1,9 @@
-use Rattle.std.proofs.Common.{◌≡◌, ◌≢◌, ◌+◌, ◌<◌, ◌≤◌, List, Some, sym, ap, length, subst, ◌∙◌}
-use Rattle.std.proofs.lemmas.Result.{IfErr-weaker, on_ok_weaker}
+use Rattle.command_effects.proofs.Words.{◌≡◌, ◌≢◌, ◌+◌, ◌<◌, ◌≤◌, List, sym, ap, length, subst, ◌∙◌, IfErr-weaker}
+use Rattle.command_effects.proofs.Words.{on_ok_weaker, state_in, names_of, Memory, TextTooLong, excess, length_replaced}
+use Rattle.command_effects.proofs.Words.{Pair, all_names, total, with_names}
+use Rattle.std.proofs.Common.{Some}
 use Rattle.edit_ops.specs.Insertions as pieces
 use Rattle.edit_ops.specs.Removals.{replaced}
-use Rattle.edit_ops.specs.States.{state_in}
-use Rattle.tag_table.specs.Tags.{names_of}
-use Rattle.command_effects.specs.declared.answers.Fault.TheVariants.{Memory, TextTooLong}
-use Rattle.command_effects.specs.Edits.{excess, length_replaced}
-use Rattle.command_effects.specs.Lists.{Pair, all_names, total, with_names}
 use Rattle.command_effects.proofs.ExcessLaws.{excess-chars, excess-few, excess-none, total-pieces}
 use Rattle.command_effects.proofs.tagged_edits.replace_pairs.Goals as goal
 

@@ -1,9 +1,4 @@
-use Rattle.std.proofs.Common.{take, sym, ap, ◌∙◌}
-use Rattle.std.specs.Prelude.{chars}
-use Rattle.tag_table.specs.Priority.{deleted}
-use Rattle.tag_table.specs.Tags.{Tags}
-use Rattle.tcl_words.specs.Unread.{texts_of}
-use Rattle.command_effects.specs.Tagging.{tags_left}
+use Rattle.command_effects.proofs.Words.{take, sym, ap, ◌∙◌, chars, deleted, Tags, texts_of, tags_left}
 use Rattle.command_effects.proofs.LeftLaws.{tags_left-more, tags_left-none}
 use Rattle.command_effects.proofs.SlotLaws.{texts-more}
 use Rattle.command_effects.proofs.tagging.delete_names.Goals as goal

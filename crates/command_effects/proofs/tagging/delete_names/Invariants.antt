@@ -1,6 +1,4 @@
-use Rattle.std.proofs.Common.{◌≡◌, take}
-use Rattle.tcl_words.specs.Unread.{texts_of}
-use Rattle.command_effects.specs.Tagging.{tags_left}
+use Rattle.command_effects.proofs.Words.{◌≡◌, take, texts_of, tags_left}
 use Rattle.command_effects.proofs.tagging.delete_names.Given as goal
 
 abbrev pub invariant-loop-name : goal.invariant-loop-name

@@ -1,8 +1,5 @@
-use Rattle.std.proofs.Common.{Vec, Global, ◌≡◌, ◌<◌, ◌∷◌, ◌++◌, [], map, sym, subst, ap, ◌∙◌}
-use Rattle.std.specs.List.{All}
-use Rattle.std.proofs.lemmas.List.Elements.{All-push}
-use Rattle.text_model.specs.TagBits.{slot_count}
-use Rattle.text_model.specs.declared.places.TagSlot.{TagSlot}
+use Rattle.command_effects.proofs.Words.{Vec, Global, ◌≡◌, ◌<◌, ◌∷◌, ◌++◌, [], map, sym, subst, ap, ◌∙◌, All, All-push}
+use Rattle.command_effects.proofs.Words.{slot_count, TagSlot}
 use Rattle.command_effects.proofs.SlotLaws.{slots_deleted-kept, slots_deleted-pushed}
 use Rattle.command_effects.proofs.tagging.deleted_slots.Goals as goal
 use Rattle.command_effects.proofs.tagging.deleted_slots.Goals.{in-Some+in_ok-push, in_default}

@@ -1,9 +1,4 @@
-use Rattle.std.proofs.Common.{◌≡◌, ◌<◌, map, take}
-use Rattle.std.specs.List.{All}
-use Rattle.tcl_words.specs.Unread.{texts_of}
-use Rattle.text_model.specs.TagBits.{slot_count}
-use Rattle.text_model.specs.declared.places.TagSlot.{TagSlot}
-use Rattle.command_effects.specs.Tagging.{slots_deleted}
+use Rattle.command_effects.proofs.Words.{◌≡◌, ◌<◌, map, take, All, texts_of, slot_count, TagSlot, slots_deleted}
 use Rattle.command_effects.proofs.tagging.deleted_slots.Given as goal
 
 abbrev pub invariant-loop-name : goal.invariant-loop-name

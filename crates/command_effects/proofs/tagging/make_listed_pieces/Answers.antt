@@ -1,8 +1,6 @@
-use Rattle.std.proofs.Common.{ap, sym, ◌∙◌, subst, arith, ◌+◌, ◌<◌, ◌++◌, ◌∷◌, [], length, map, append_assoc}
-use Rattle.std.proofs.lemmas.List.{map-append}
-use Rattle.tag_table.specs.Tags.{names_of}
-use Rattle.command_effects.specs.Lists.{all_names, listed_names, with_names}
-use Rattle.command_effects.specs.Tagging.{piece_of}
+use Rattle.command_effects.proofs.Words.{ap, sym, ◌∙◌, subst, arith, ◌+◌, ◌<◌, ◌++◌, ◌∷◌, [], length, map, map-append}
+use Rattle.command_effects.proofs.Words.{names_of, all_names, listed_names, with_names, piece_of}
+use Rattle.std.proofs.Common.{append_assoc}
 use Rattle.command_effects.proofs.MadeLaws.{front_on, listed-push, too_many_before}
 use Rattle.command_effects.proofs.tagging.make_listed_pieces.Goals as goal
 

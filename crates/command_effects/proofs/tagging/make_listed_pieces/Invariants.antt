@@ -1,7 +1,4 @@
-use Rattle.std.proofs.Common.{◌≡◌, ◌++◌, map}
-use Rattle.tag_table.specs.Tags.{Tags, names_of}
-use Rattle.command_effects.specs.Lists.{with_names, all_names}
-use Rattle.command_effects.specs.Tagging.{IsFront, piece_of}
+use Rattle.command_effects.proofs.Words.{◌≡◌, ◌++◌, map, Tags, names_of, with_names, all_names, IsFront, piece_of}
 use Rattle.command_effects.proofs.tagging.make_listed_pieces.Given as goal
 
 abbrev pub invariant-loop-pair : goal.invariant-loop-pair

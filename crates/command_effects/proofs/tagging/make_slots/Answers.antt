@@ -1,11 +1,7 @@
-use Rattle.std.proofs.Common.{ap, sym, ◌∙◌, arith, ◌+◌, length, take}
-use Rattle.std.specs.Prelude.{chars}
+use Rattle.command_effects.proofs.Words.{ap, sym, ◌∙◌, arith, ◌+◌, length, take, chars, names_of, texts_of, with_name}
+use Rattle.command_effects.proofs.Words.{own_slot, slots_named, with_found}
 use Rattle.std.specs.FinSet as set
 use Rattle.std.specs.Option.{option_map}
-use Rattle.tag_table.specs.Tags.{names_of}
-use Rattle.tcl_words.specs.Unread.{texts_of}
-use Rattle.command_effects.specs.Lists.{with_name}
-use Rattle.command_effects.specs.Tagging.{own_slot, slots_named, with_found}
 use Rattle.command_effects.proofs.MadeLaws.{front_on, slot_of-front, too_many, with_names-step}
 use Rattle.command_effects.proofs.SlotLaws.{slots_named-step}
 use Rattle.command_effects.proofs.tagging.make_slots.Goals as goal

@@ -1,8 +1,4 @@
-use Rattle.std.proofs.Common.{◌≡◌, take}
-use Rattle.tag_table.specs.Tags.{Tags, names_of}
-use Rattle.tcl_words.specs.Unread.{texts_of}
-use Rattle.command_effects.specs.Lists.{with_names}
-use Rattle.command_effects.specs.Tagging.{IsFront, slots_named}
+use Rattle.command_effects.proofs.Words.{◌≡◌, take, Tags, names_of, texts_of, with_names, IsFront, slots_named}
 use Rattle.command_effects.proofs.tagging.make_slots.Given as goal
 
 abbrev pub invariant-loop-name : goal.invariant-loop-name

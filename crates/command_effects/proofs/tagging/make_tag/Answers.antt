@@ -1,11 +1,9 @@
-use Rattle.std.proofs.Common.{◌≡◌, ap, sym, ◌∙◌, subst, refl}
-use Rattle.std.specs.Prelude.{chars, string_bytes, ◌++◌, ◌∷◌, [], None, IsNone}
+use Rattle.command_effects.proofs.Words.{◌≡◌, ap, sym, ◌∙◌, subst, refl, chars, string_bytes, None, IsNone, Tags}
+use Rattle.command_effects.proofs.Words.{names_of, slot_of, IsFull, TagSlot, IsFront}
+use Rattle.std.specs.Prelude.{◌++◌, ◌∷◌, []}
 use Rattle.std.specs.Option.{option_map}
-use Rattle.tag_table.specs.Tags.{Tags, names_of, slot_of, IsFull}
-use Rattle.text_model.specs.declared.places.TagSlot.{TagSlot}
 use Rattle.command_effects.proofs.MadeLaws.{with_name-known, with_name-full, with_name-made, slot_made, front_more}
 use Rattle.command_effects.proofs.MadeLaws.{front_same, of_some}
-use Rattle.command_effects.specs.Tagging.{IsFront}
 use Rattle.command_effects.proofs.tagging.make_tag.Goals as goal
 
 pub create-requires : goal.create-requires

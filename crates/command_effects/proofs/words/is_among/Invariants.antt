@@ -1,6 +1,5 @@
-use Rattle.std.proofs.Common.{◌≡◌, drop, chars}
-use Rattle.tcl_words.specs.Unread.{texts_of}
-use Rattle.command_effects.specs.Words.{is_among}
+use Rattle.command_effects.proofs.Words.{◌≡◌, drop, texts_of, is_among}
+use Rattle.std.proofs.Common.{chars}
 use Rattle.command_effects.proofs.words.is_among.Given as goal
 
 abbrev pub invariant-loop-other : goal.invariant-loop-other

@@ -1,8 +1,5 @@
-use Rattle.std.proofs.Common.{subst}
-use Rattle.std.specs.Prelude.{IfSome}
+use Rattle.command_table.proofs.Words.{subst, IfSome, IsPlaceOf, texts_of}
 use Rattle.command_table.proofs.PlaceLaws.{entry_at, entry-short}
-use Rattle.command_table.specs.Table.{IsPlaceOf}
-use Rattle.command_table.specs.Words.{texts_of}
 use Rattle.command_table.proofs.entries.find_entry.Goals as goal
 
 pub returns-in-Some-clause-first : goal.returns-in-Some-clause-first

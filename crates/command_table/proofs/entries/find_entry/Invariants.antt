@@ -1,10 +1,4 @@
-use Rattle.std.proofs.Common.{◌≡◌, drop}
-use Rattle.std.specs.Prelude.{map}
-use Rattle.std.specs.List.{find}
-use Rattle.command_table.specs.Words.{texts_of}
-use Rattle.command_table.specs.Entries.{begins}
-use Rattle.command_table.specs.Table.{table}
-use Rattle.command_table.specs.Spelled.{entry_rule}
+use Rattle.command_table.proofs.Words.{◌≡◌, drop, map, find, texts_of, begins, table, entry_rule}
 use Rattle.command_table.proofs.entries.find_entry.Given as goal
 
 abbrev pub invariant-loop-entry : goal.invariant-loop-entry

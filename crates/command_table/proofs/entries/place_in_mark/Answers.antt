@@ -1,6 +1,5 @@
-use Rattle.std.proofs.Common.{[], ◌∷◌, refl, ap, arith}
+use Rattle.command_table.proofs.Words.{[], ◌∷◌, refl, ap, arith, literal}
 use Rattle.std.specs.Str.{chars}
-use Rattle.command_table.specs.Words.{literal}
 use Rattle.command_table.proofs.PlaceLaws.{by_name}
 use Rattle.command_table.proofs.entries.place_in_mark.Goals as goal
 

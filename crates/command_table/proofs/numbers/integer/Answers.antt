@@ -1,6 +1,5 @@
-use Rattle.std.proofs.Common.{ap, ◌∙◌}
+use Rattle.command_table.proofs.Words.{ap, ◌∙◌, integer_of}
 use Rattle.std.specs.Option.{ok_or}
-use Rattle.command_table.specs.Numbers.{integer_of}
 use Rattle.command_table.specs.declared.numbers.ValueFault.TheVariants.{ExpectedInteger}
 use Rattle.command_table.proofs.NumberLaws.{integer_of-chars}
 use Rattle.command_table.proofs.numbers.integer.Goals as goal

@@ -1,8 +1,4 @@
-use Rattle.std.proofs.Common.{◌≡◌, ◌<◌, ◌^◌, take, true}
-use Rattle.std.specs.Prelude.{fold}
-use Rattle.std.specs.List.{list_all}
-use Rattle.std.specs.Char.{is_ascii_digit}
-use Rattle.command_table.specs.Numbers.{add_digit}
+use Rattle.command_table.proofs.Words.{◌≡◌, ◌<◌, ◌^◌, take, true, fold, list_all, is_ascii_digit, add_digit}
 use Rattle.command_table.proofs.numbers.read_digits.Given as goal
 
 abbrev pub invariant-loop-digit : goal.invariant-loop-digit

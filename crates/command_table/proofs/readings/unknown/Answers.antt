@@ -1,7 +1,4 @@
-use Rattle.std.proofs.Common.{sym, ◌∙◌, arith}
-use Rattle.std.proofs.lemmas.List.{length-map}
-use Rattle.std.specs.Prelude.{chars, string_bytes}
-use Rattle.command_table.specs.Words.{texts_of}
+use Rattle.command_table.proofs.Words.{sym, ◌∙◌, arith, length-map, chars, string_bytes, texts_of}
 use Rattle.command_table.proofs.EntryLaws.{unknown-short}
 use Rattle.command_table.proofs.readings.unknown.Goals as goal
 

@@ -1,6 +1,5 @@
-use Rattle.std.proofs.Common.{◌≡◌, ◌≤◌, ◌+◌, length, filter, drop, chars}
-use Rattle.std.specs.List.{starts_with}
-use Rattle.command_table.specs.Words.{lent, is_character}
+use Rattle.command_table.proofs.Words.{◌≡◌, ◌≤◌, ◌+◌, length, filter, drop, starts_with, lent, is_character}
+use Rattle.std.proofs.Common.{chars}
 use Rattle.command_table.proofs.switches.count_abbreviated.Given as goal
 
 abbrev pub invariant-loop-name : goal.invariant-loop-name

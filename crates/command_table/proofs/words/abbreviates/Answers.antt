@@ -1,6 +1,4 @@
-use Rattle.std.proofs.Common.{◌∙◌, ap₂}
-use Rattle.std.specs.Prelude.{nat_eq}
-use Rattle.std.specs.List.{starts_with}
+use Rattle.command_table.proofs.Words.{◌∙◌, ap₂, nat_eq, starts_with}
 use Rattle.command_table.proofs.WordLaws.{starts_with-chars}
 use Rattle.command_table.proofs.words.abbreviates.Goals as goal
 

@@ -1,5 +1,4 @@
-use Rattle.std.proofs.Common.{sym, ap, ◌∙◌}
-use Rattle.command_table.specs.Words.{is_dashed}
+use Rattle.command_table.proofs.Words.{sym, ap, ◌∙◌, is_dashed}
 use Rattle.command_table.proofs.WordLaws.{is_dashed-chars, is_dashed-none, is_dashed-some}
 use Rattle.command_table.proofs.words.is_dashed.Goals as goal
 

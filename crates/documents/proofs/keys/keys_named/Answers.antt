@@ -1,9 +1,6 @@
-use Rattle.std.proofs.Common.{◌≡◌, ◌+◌, sym, subst, ap, ◌∙◌, chars, string_bytes, take, true}
-use Rattle.std.specs.BTreeSet.{contains_text}
+use Rattle.documents.proofs.Words.{◌≡◌, ◌+◌, sym, subst, ap, ◌∙◌, chars, string_bytes, take, true, contains_text}
+use Rattle.documents.proofs.Words.{texts_of, key_named, keys_named, AreKeysOf}
 use Rattle.std.proofs.lemmas.Map.Text.{btree_set_updates_text}
-use Rattle.tcl_words.specs.Unread.{texts_of}
-use Rattle.documents.specs.Keys.{key_named, keys_named}
-use Rattle.documents.specs.TagsTold.{AreKeysOf}
 use Rattle.documents.proofs.KeyListLaws.{keys-in, keys-out, spelled-more}
 use Rattle.documents.proofs.MarksToldLaws.{not-false, not-true}
 use Rattle.documents.proofs.keys.keys_named.Goals as goal

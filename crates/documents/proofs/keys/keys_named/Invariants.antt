@@ -1,8 +1,4 @@
-use Rattle.std.proofs.Common.{◌≡◌, ℕ, List, chars, take}
-use Rattle.std.specs.BTreeSet.{contains_text}
-use Rattle.tcl_words.specs.Unread.{texts_of}
-use Rattle.documents.specs.Keys.{keys_named}
-use Rattle.documents.specs.TagsTold.{AreKeysOf}
+use Rattle.documents.proofs.Words.{◌≡◌, ℕ, List, chars, take, contains_text, texts_of, keys_named, AreKeysOf}
 use Rattle.documents.proofs.KeyListLaws.{is_spelled}
 use Rattle.documents.proofs.keys.keys_named.Given as goal
 

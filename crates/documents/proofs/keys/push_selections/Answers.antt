@@ -1,4 +1,4 @@
-use Rattle.std.proofs.Common.{ap, ◌∙◌, chars}
+use Rattle.documents.proofs.Words.{ap, ◌∙◌, chars}
 use Rattle.documents.proofs.KeyListLaws.{selection-in, selection-out}
 use Rattle.documents.proofs.keys.push_selections.Goals as goal
 use Rattle.documents.proofs.keys.push_selections.Goals.{then-has+in_ok-new+in_ok-push, else-has}

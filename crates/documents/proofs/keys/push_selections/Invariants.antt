@@ -1,5 +1,4 @@
-use Rattle.std.proofs.Common.{◌≡◌, ◌++◌, map, take}
-use Rattle.documents.specs.Keys.{keys_listed, seat_pair}
+use Rattle.documents.proofs.Words.{◌≡◌, ◌++◌, map, take, keys_listed, seat_pair}
 use Rattle.documents.proofs.keys.push_selections.Given as goal
 
 abbrev pub invariant-loop-place : goal.invariant-loop-place

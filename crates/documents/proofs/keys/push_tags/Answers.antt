@@ -1,5 +1,4 @@
-use Rattle.std.proofs.Common.{ap, ◌∙◌, chars}
-use Rattle.command_effects.specs.Words.{is_same}
+use Rattle.documents.proofs.Words.{ap, ◌∙◌, chars, is_same}
 use Rattle.documents.proofs.KeyListLaws.{own-out, sel-is, shared-in, shared-out}
 use Rattle.documents.proofs.keys.push_tags.Goals as goal
 use Rattle.documents.proofs.keys.push_tags.Goals.{then-not-is_word+then-has+in_ok-new+in_ok-push, else-not-is_word}

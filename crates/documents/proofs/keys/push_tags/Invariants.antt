@@ -1,5 +1,4 @@
-use Rattle.std.proofs.Common.{◌≡◌, ◌++◌, filter, map, take}
-use Rattle.documents.specs.Keys.{is_shared, keys_listed, tag_pair}
+use Rattle.documents.proofs.Words.{◌≡◌, ◌++◌, filter, map, take, is_shared, keys_listed, tag_pair}
 use Rattle.documents.proofs.keys.push_tags.Given as goal
 
 abbrev pub invariant-loop-place : goal.invariant-loop-place

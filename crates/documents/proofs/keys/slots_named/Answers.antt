@@ -1,5 +1,4 @@
-use Rattle.std.proofs.Common.{ap₂, ◌∙◌}
-use Rattle.command_effects.specs.Tagging.{with_found}
+use Rattle.documents.proofs.Words.{ap₂, ◌∙◌, with_found}
 use Rattle.command_effects.proofs.SlotLaws.{slots_named-step}
 use Rattle.documents.proofs.keys.slots_named.Goals as goal
 use Rattle.documents.proofs.keys.slots_named.Goals.{in-Some, in_default}

@@ -1,6 +1,4 @@
-use Rattle.std.proofs.Common.{◌≡◌, take}
-use Rattle.tcl_words.specs.Unread.{texts_of}
-use Rattle.command_effects.specs.Tagging.{slots_named}
+use Rattle.documents.proofs.Words.{◌≡◌, take, texts_of, slots_named}
 use Rattle.documents.proofs.keys.slots_named.Given as goal
 
 abbrev pub invariant-loop-name : goal.invariant-loop-name

@@ -1,6 +1,4 @@
-use Rattle.std.proofs.Common.{arith}
-use Rattle.std.proofs.lemmas.List.{length-map}
-use Rattle.text_model.specs.declared.cells.Cell.{Cell}
+use Rattle.documents.proofs.Words.{arith, length-map, Cell}
 use Rattle.text_model.specs.Content.{characters}
 use Rattle.documents.proofs.WidgetLaws.{line-short}
 use Rattle.documents.proofs.options.line_at.Goals as goal

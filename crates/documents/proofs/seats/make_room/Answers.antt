@@ -1,6 +1,5 @@
-use Rattle.std.proofs.Common.{◌+◌, ◌++◌, ◌∷◌, [], length, ap, ◌∙◌, arith}
-use Rattle.std.proofs.Math.ListN.{replicate}
-use Rattle.std.proofs.lemmas.List.{append_assoc, length-append, replicate_more}
+use Rattle.documents.proofs.Words.{◌+◌, ◌++◌, ◌∷◌, [], length, ap, ◌∙◌, arith, replicate, length-append, replicate_more}
+use Rattle.std.proofs.lemmas.List.{append_assoc}
 use Rattle.documents.proofs.seats.make_room.Goals as goal
 
 pub loop-preserved : goal.loop-preserved

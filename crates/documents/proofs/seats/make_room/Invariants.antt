@@ -1,5 +1,4 @@
-use Rattle.std.proofs.Common.{◌≤◌, length}
-use Rattle.documents.specs.Seats.{IsLonger}
+use Rattle.documents.proofs.Words.{◌≤◌, length, IsLonger}
 use Rattle.documents.proofs.seats.make_room.Given as goal
 
 abbrev pub invariant-loop : goal.invariant-loop

@@ -1,7 +1,6 @@
+use Rattle.documents.proofs.Words.{is_same, Goes}
 use Rattle.std.specs.Prelude.{chars, filter, not, string_bytes, take}
 use Rattle.name_list.specs.Names.{names_of}
-use Rattle.command_effects.specs.Words.{is_same}
-use Rattle.tcl_words.specs.ListGrowth.{Goes}
 use Rattle.documents.proofs.seats.push_other_seats.Given as goal
 
 abbrev pub invariant-loop-place : goal.invariant-loop-place

@@ -1,6 +1,4 @@
-use Rattle.std.proofs.Common.{sym, ap, ◌∙◌, chars}
-use Rattle.name_list.specs.Names.{Names}
-use Rattle.tcl_words.specs.Unread.{texts_of}
+use Rattle.documents.proofs.Words.{sym, ap, ◌∙◌, chars, Names, texts_of}
 use Rattle.documents.proofs.SeatLaws.{left_from, left-kept, left-removed}
 use Rattle.documents.proofs.seats.remove_seats.Goals as goal
 

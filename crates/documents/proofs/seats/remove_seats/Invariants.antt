@@ -1,6 +1,4 @@
-use Rattle.std.proofs.Common.{◌≡◌, ◌-◌, length}
-use Rattle.tcl_words.specs.Unread.{texts_of}
-use Rattle.documents.specs.Keys.{seats_left}
+use Rattle.documents.proofs.Words.{◌≡◌, ◌-◌, length, texts_of, seats_left}
 use Rattle.documents.proofs.SeatLaws.{left_from}
 use Rattle.documents.proofs.seats.remove_seats.Given as goal
 

@@ -1,11 +1,6 @@
-use Rattle.std.proofs.Common.{◌≡◌, ◌+◌, ◌++◌, ◌∷◌, ◌<◌, List, [], arith, map, take, subst, sym, ap, ◌∙◌, chars}
-use Rattle.std.specs.List.{All}
-use Rattle.std.proofs.lemmas.List.{map-append}
-use Rattle.std.proofs.lemmas.List.Elements.{All-append, All-cons, All-nil}
-use Rattle.tcl_words.specs.Unread.{texts_of}
-use Rattle.text_model.specs.declared.places.TagSlot.{TagSlot}
-use Rattle.text_model.specs.declared.limits.TheConstants.Limits.{MOST_WIDGETS}
-use Rattle.documents.specs.Keys.{numbers_gone}
+use Rattle.documents.proofs.Words.{◌≡◌, ◌+◌, ◌++◌, ◌∷◌, ◌<◌, List, [], arith, map, take, subst, sym, ap, ◌∙◌, chars}
+use Rattle.documents.proofs.Words.{All, map-append, All-append, All-cons, All-nil, texts_of, TagSlot, MOST_WIDGETS}
+use Rattle.documents.proofs.Words.{numbers_gone}
 use Rattle.documents.proofs.SeatLaws.{gone-in, gone-out}
 use Rattle.documents.proofs.seats.slots_named.Goals as goal
 use Rattle.documents.proofs.seats.slots_named.Goals.{then-is_among+in_ok-push, else-is_among}

@@ -1,7 +1,4 @@
-use Rattle.std.proofs.Common.{◌<◌, length, sym, ◌∙◌, arith, chars}
-use Rattle.std.proofs.lemmas.Bool.Decides.{nat_tests}
-use Rattle.tcl_words.specs.Unread.{texts_of}
-use Rattle.documents.specs.Keys.{seats_left}
+use Rattle.documents.proofs.Words.{◌<◌, length, sym, ◌∙◌, arith, chars, nat_tests, texts_of, seats_left}
 use Rattle.documents.proofs.SeatLaws.{left-out, left-some}
 use Rattle.documents.proofs.seats.some_left.Goals as goal
 

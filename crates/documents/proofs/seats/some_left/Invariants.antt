@@ -1,6 +1,4 @@
-use Rattle.std.proofs.Common.{◌≡◌, take, []}
-use Rattle.tcl_words.specs.Unread.{texts_of}
-use Rattle.documents.specs.Keys.{seats_left}
+use Rattle.documents.proofs.Words.{◌≡◌, take, [], texts_of, seats_left}
 use Rattle.documents.proofs.seats.some_left.Given as goal
 
 abbrev pub invariant-loop-place : goal.invariant-loop-place

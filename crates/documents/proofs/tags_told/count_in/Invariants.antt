@@ -1,5 +1,4 @@
-use Rattle.std.proofs.Common.{◌≡◌, take}
-use Rattle.std.specs.Prelude.{sum_by}
+use Rattle.documents.proofs.Words.{◌≡◌, take, sum_by}
 use Rattle.documents.proofs.SpanToldLaws.{long}
 use Rattle.documents.proofs.tags_told.count_in.Given as goal
 

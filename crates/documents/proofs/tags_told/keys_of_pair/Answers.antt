@@ -1,10 +1,5 @@
-use Rattle.std.proofs.Common.{◌≡◌, None, sym, subst, ap, ◌∙◌, chars, option_map}
-use Rattle.std.proofs.lemmas.Result.{IfOk-weaker}
-use Rattle.tcl_words.specs.Unread.{texts_of}
-use Rattle.command_effects.specs.Lists.{Pair}
-use Rattle.documents.specs.Edits.{keys_or}
-use Rattle.documents.specs.Keys.{keys_named, keys_of, key_pairs}
-use Rattle.documents.specs.TagsTold.{AreKeysOf}
+use Rattle.documents.proofs.Words.{◌≡◌, None, sym, subst, ap, ◌∙◌, chars, option_map, IfOk-weaker, texts_of, Pair}
+use Rattle.documents.proofs.Words.{keys_or, keys_named, keys_of, key_pairs, AreKeysOf}
 use Rattle.documents.proofs.TagsToldLaws.{keys-listed}
 use Rattle.documents.proofs.tags_told.keys_of_pair.Goals as goal
 

@@ -1,7 +1,4 @@
-use Rattle.std.proofs.Common.{◌≡◌, None, Some, false, sym, subst, ◌∙◌, chars}
-use Rattle.std.proofs.lemmas.Result.{on_ok_weaker}
-use Rattle.text_model.specs.Content.{flags}
-use Rattle.documents.specs.TagsTold.{TellsSpan}
+use Rattle.documents.proofs.Words.{◌≡◌, None, Some, false, sym, subst, ◌∙◌, chars, on_ok_weaker, flags, TellsSpan}
 use Rattle.documents.proofs.GoneLaws.{found-as, gone-more, gone-seen, gone-selection, gone-unknown}
 use Rattle.documents.proofs.tags_told.push_gone.Goals as goal
 use Rattle.documents.proofs.tags_told.push_gone.Goals.{then-slot-eq0-via-then-slot-eq0}

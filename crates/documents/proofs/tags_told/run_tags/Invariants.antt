@@ -1,6 +1,4 @@
-use Rattle.std.proofs.Common.{◌≡◌, take}
-use Rattle.documents.specs.Keys.{key_pairs}
-use Rattle.documents.specs.TagsTold.{slot_changes}
+use Rattle.documents.proofs.Words.{◌≡◌, take, key_pairs, slot_changes}
 use Rattle.documents.proofs.tags_told.run_tags.Given as goal
 
 abbrev pub invariant-loop-run : goal.invariant-loop-run

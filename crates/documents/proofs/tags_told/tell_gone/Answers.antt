@@ -1,7 +1,4 @@
-use Rattle.std.proofs.Common.{subst, take}
-use Rattle.std.proofs.lemmas.List.{take_all}
-use Rattle.tcl_words.specs.Unread.{texts_of}
-use Rattle.documents.specs.TagsGone.{AreGone}
+use Rattle.documents.proofs.Words.{subst, take, take_all, texts_of, AreGone}
 use Rattle.documents.proofs.GoneLaws.{gone-none, names-more}
 use Rattle.documents.proofs.tags_told.tell_gone.Goals as goal
 

@@ -1,8 +1,4 @@
-use Rattle.std.proofs.Common.{List, take}
-use Rattle.name_list.specs.Names.{Named}
-use Rattle.tcl_words.specs.Unread.{texts_of}
-use Rattle.documents.specs.Kept.{AreSeats}
-use Rattle.documents.specs.TagsGone.{AreGone}
+use Rattle.documents.proofs.Words.{List, take, Named, texts_of, AreSeats, AreGone}
 use Rattle.documents.proofs.tags_told.tell_gone.Given as goal
 
 abbrev pub invariant-loop-name : goal.invariant-loop-name

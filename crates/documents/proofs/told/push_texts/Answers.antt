@@ -1,5 +1,4 @@
-use Rattle.std.proofs.Common.{ap}
-use Rattle.command_effects.specs.Lists.{Pair}
+use Rattle.documents.proofs.Words.{ap, Pair}
 use Rattle.documents.proofs.ToldLaws.{texts-more}
 use Rattle.documents.proofs.told.push_texts.Goals as goal
 

@@ -1,5 +1,4 @@
-use Rattle.std.proofs.Common.{◌≡◌, ◌++◌}
-use Rattle.edit_ops.specs.Told.{putting}
+use Rattle.documents.proofs.Words.{◌≡◌, ◌++◌, putting}
 use Rattle.documents.proofs.PairTagLaws.{texts_of}
 use Rattle.documents.proofs.told.push_texts.Given as goal
 

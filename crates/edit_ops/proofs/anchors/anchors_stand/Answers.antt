@@ -1,7 +1,5 @@
-use Rattle.std.proofs.Common.{take_all, rules, subst}
-use Rattle.std.specs.List.{All}
-use Rattle.std.proofs.lemmas.List.Elements.{All-more}
-use Rattle.edit_ops.specs.Anchors.{AnchorsStand}
+use Rattle.edit_ops.proofs.Words.{rules, subst, All, All-more, AnchorsStand}
+use Rattle.std.proofs.Common.{take_all}
 use Rattle.edit_ops.proofs.anchors.anchors_stand.Goals as goal
 
 pub loop-anchors-preserved : goal.loop-anchors-preserved

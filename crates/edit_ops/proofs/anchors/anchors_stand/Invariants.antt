@@ -1,6 +1,4 @@
-use Rattle.std.proofs.Common.{take}
-use Rattle.std.specs.List.{All}
-use Rattle.edit_ops.specs.Anchors.{AnchorsStand}
+use Rattle.edit_ops.proofs.Words.{take, All, AnchorsStand}
 use Rattle.edit_ops.proofs.anchors.anchors_stand.Given as goal
 
 abbrev pub invariant-loop-anchors : goal.invariant-loop-anchors

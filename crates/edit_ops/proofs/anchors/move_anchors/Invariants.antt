@@ -1,5 +1,4 @@
-use Rattle.std.proofs.Common.{◌≡◌, ◌++◌, map, take, drop}
-use Rattle.edit_ops.specs.Anchors.{anchors_moved}
+use Rattle.edit_ops.proofs.Words.{◌≡◌, ◌++◌, map, take, drop, anchors_moved}
 use Rattle.edit_ops.proofs.anchors.move_anchors.Given as goal
 
 abbrev pub invariant-loop-anchors : goal.invariant-loop-anchors

@@ -1,7 +1,4 @@
-use Rattle.std.proofs.Common.{ap, arith}
-use Rattle.std.proofs.lemmas.List.{nil_from_length}
-use Rattle.text_model.specs.Content.{characters}
-use Rattle.edit_ops.specs.declared.spot_walks.SpotWalk.{SpotWalk}
+use Rattle.edit_ops.proofs.Words.{ap, arith, nil_from_length, characters, SpotWalk}
 use Rattle.edit_ops.proofs.SpotLaws.{room-at}
 use Rattle.edit_ops.proofs.TellLaws.{next-told, more-told, all-changes, all-told, start-before}
 use Rattle.edit_ops.proofs.changes.tell.Goals as goal

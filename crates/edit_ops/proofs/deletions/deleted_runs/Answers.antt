@@ -1,5 +1,4 @@
-use Rattle.std.proofs.Common.{length}
-use Rattle.text_model.specs.Content.{characters}
+use Rattle.edit_ops.proofs.Words.{length, characters}
 use Rattle.edit_ops.proofs.RunLaws.{apart-wider}
 use Rattle.edit_ops.proofs.DeleteLaws.{runs-left}
 use Rattle.edit_ops.proofs.deletions.deleted_runs.Goals as goal

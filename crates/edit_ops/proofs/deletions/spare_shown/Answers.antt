@@ -1,11 +1,6 @@
-use Rattle.std.proofs.Common.{◌-◌, ◌<◌, length, get_or, ap, sym, ◌∙◌, arith}
-use Rattle.std.specs.Prelude.{nat_lt, ◌&&◌}
-use Rattle.std.proofs.lemmas.Bool.{eqb-true, eqb-false}
-use Rattle.std.proofs.lemmas.List.{get_or_default}
-use Rattle.text_model.specs.Content.{characters}
-use Rattle.text_model.specs.Lines.{is_newline}
-use Rattle.edit_ops.specs.declared.spans.Span.{Span}
-use Rattle.edit_ops.specs.Deletions.{AreApart}
+use Rattle.edit_ops.proofs.Words.{◌-◌, ◌<◌, length, get_or, ap, sym, ◌∙◌, arith, nat_lt, eqb-true, eqb-false}
+use Rattle.edit_ops.proofs.Words.{get_or_default, characters, is_newline, Span, AreApart}
+use Rattle.std.specs.Prelude.{◌&&◌}
 use Rattle.edit_ops.proofs.RunLaws.{apart-short, last-out, none-spared, spared-is}
 use Rattle.edit_ops.proofs.deletions.spare_shown.Goals as goal
 use Rattle.edit_ops.proofs.deletions.spare_shown.Given as given

@@ -1,6 +1,4 @@
-use Rattle.std.proofs.Common.{◌≡◌, ◌<◌, [], arith, ap, ◌∙◌}
-use Rattle.std.specs.Prelude.{chars}
-use Rattle.std.proofs.lemmas.Str.{chars-nil}
+use Rattle.edit_ops.proofs.Words.{◌≡◌, ◌<◌, [], arith, ap, ◌∙◌, chars, chars-nil}
 use Rattle.edit_ops.proofs.HunkLaws.{one-removal-more}
 use Rattle.edit_ops.proofs.hunks.push_removal.Goals as goal
 

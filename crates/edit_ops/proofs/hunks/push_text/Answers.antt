@@ -1,8 +1,5 @@
-use Rattle.std.proofs.Common.{◌≡◌, ◌≢◌, [], length, ap, sym, ◌∙◌}
-use Rattle.std.specs.Prelude.{chars, encode_utf8_all}
-use Rattle.std.proofs.lemmas.Bool.{eqb-true, eqb-false}
-use Rattle.std.proofs.lemmas.List.{nil_from_length}
-use Rattle.std.proofs.lemmas.Str.{chars-nil}
+use Rattle.edit_ops.proofs.Words.{◌≡◌, ◌≢◌, [], length, ap, sym, ◌∙◌, chars, encode_utf8_all, eqb-true, eqb-false}
+use Rattle.edit_ops.proofs.Words.{nil_from_length, chars-nil}
 use Rattle.edit_ops.proofs.HunkLaws.{none-more, one-more}
 use Rattle.edit_ops.proofs.hunks.push_text.Goals as goal
 

@@ -1,8 +1,4 @@
-use Rattle.std.proofs.Common.{◌≡◌, [], ◌∷◌, ◌++◌, ap, ap₂, sym, ◌∙◌}
-use Rattle.std.specs.Prelude.{chars}
-use Rattle.std.proofs.lemmas.List.{map-append}
-use Rattle.std.proofs.lemmas.Str.{chars-nil}
-use Rattle.edit_ops.specs.declared.spans.Span.{Span}
+use Rattle.edit_ops.proofs.Words.{◌≡◌, [], ◌∷◌, ◌++◌, ap, ap₂, sym, ◌∙◌, chars, map-append, chars-nil, Span}
 use Rattle.edit_ops.proofs.HunkLaws.{taken}
 use Rattle.edit_ops.proofs.hunks.take_spans.Goals as goal
 

@@ -1,5 +1,4 @@
-use Rattle.std.proofs.Common.{◌≡◌, [], map}
-use Rattle.edit_ops.specs.declared.spans.Span.{Span}
+use Rattle.edit_ops.proofs.Words.{◌≡◌, [], map, Span}
 use Rattle.edit_ops.proofs.hunks.take_spans.Given as goal
 
 abbrev pub invariant-loop-span : goal.invariant-loop-span

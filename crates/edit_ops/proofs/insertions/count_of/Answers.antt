@@ -1,5 +1,4 @@
-use Rattle.std.proofs.Common.{rules}
-use Rattle.std.proofs.lemmas.Str.{chars_from_encodes}
+use Rattle.edit_ops.proofs.Words.{rules, chars_from_encodes}
 use Rattle.edit_ops.proofs.insertions.count_of.Goals as goal
 
 pub returns : goal.returns

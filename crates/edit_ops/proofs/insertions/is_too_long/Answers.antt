@@ -1,6 +1,4 @@
-use Rattle.std.proofs.Common.{◌+◌, ◌≤◌, arith}
-use Rattle.std.proofs.lemmas.Bool.Decides.{nat_tests}
-use Rattle.edit_ops.specs.Insertions.{total}
+use Rattle.edit_ops.proofs.Words.{◌+◌, ◌≤◌, arith, nat_tests, total}
 use Rattle.edit_ops.proofs.InsertLaws.{total-in-bytes}
 use Rattle.edit_ops.proofs.insertions.is_too_long.Goals as goal
 

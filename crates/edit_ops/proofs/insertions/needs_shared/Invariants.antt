@@ -1,5 +1,4 @@
-use Rattle.std.proofs.Common.{◌≡◌, false, take}
-use Rattle.edit_ops.specs.Insertions.{needs_shared}
+use Rattle.edit_ops.proofs.Words.{◌≡◌, false, take, needs_shared}
 use Rattle.edit_ops.proofs.insertions.needs_shared.Given as goal
 
 abbrev pub invariant-loop-piece : goal.invariant-loop-piece

@@ -1,6 +1,5 @@
-use Rattle.std.proofs.Common.{◌≡◌, true, arith, ap, sym, ◌∙◌}
+use Rattle.edit_ops.proofs.Words.{◌≡◌, true, arith, ap, sym, ◌∙◌, needs_shared}
 use Rattle.std.specs.FinSet as set
-use Rattle.edit_ops.specs.Insertions.{needs_shared}
 use Rattle.edit_ops.proofs.InsertLaws.{put-in, around-is, behind-is}
 use Rattle.edit_ops.proofs.insertions.outline_insert.Goals as goal
 

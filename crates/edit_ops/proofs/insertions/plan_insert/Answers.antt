@@ -1,8 +1,5 @@
-use Rattle.std.proofs.Common.{◌+◌, ◌<◌, ◌^◌, refl, subst, sym, ◌∙◌}
-use Rattle.std.proofs.lemmas.Bool.{ltb-false, ltb-true}
+use Rattle.edit_ops.proofs.Words.{◌+◌, ◌<◌, ◌^◌, refl, subst, sym, ◌∙◌, ltb-false, ltb-true, total, log_of}
 use Rattle.undo_stack.specs.declared.actions.EditKind.TheVariants.{Insert}
-use Rattle.edit_ops.specs.Insertions.{total}
-use Rattle.edit_ops.specs.States.{log_of}
 use Rattle.edit_ops.proofs.ReplaceLaws.{no-longer}
 use Rattle.edit_ops.proofs.insertions.plan_insert.Goals as goal
 

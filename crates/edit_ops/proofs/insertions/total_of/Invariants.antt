@@ -1,6 +1,4 @@
-use Rattle.std.proofs.Common.{◌≡◌, ◌-◌, ◌^◌, take}
-use Rattle.std.specs.Prelude.{min}
-use Rattle.edit_ops.specs.Insertions.{total}
+use Rattle.edit_ops.proofs.Words.{◌≡◌, ◌-◌, ◌^◌, take, min, total}
 use Rattle.edit_ops.proofs.insertions.total_of.Given as goal
 
 abbrev pub invariant-loop-piece : goal.invariant-loop-piece

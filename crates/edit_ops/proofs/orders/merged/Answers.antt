@@ -1,5 +1,4 @@
-use Rattle.std.proofs.Common.{◌++◌, refl}
-use Rattle.edit_ops.specs.Orders.{steps_in}
+use Rattle.edit_ops.proofs.Words.{◌++◌, refl, steps_in}
 use Rattle.edit_ops.proofs.OrderLaws.{one-more, no-more}
 use Rattle.edit_ops.proofs.orders.merged.Goals as goal
 

@@ -1,5 +1,4 @@
-use Rattle.std.proofs.Common.{◌+◌, ◌++◌, length}
-use Rattle.edit_ops.specs.Orders.{AreAlike, AreWatched, steps_in}
+use Rattle.edit_ops.proofs.Words.{◌+◌, ◌++◌, length, AreAlike, AreWatched, steps_in}
 use Rattle.edit_ops.proofs.orders.merged.Given as goal
 
 abbrev pub invariant-loop-step : goal.invariant-loop-step

@@ -1,5 +1,4 @@
-use Rattle.std.proofs.Common.{◌≡◌, ◌++◌, length}
-use Rattle.edit_ops.specs.Orders.{AreWatched, steps_in}
+use Rattle.edit_ops.proofs.Words.{◌≡◌, ◌++◌, length, AreWatched, steps_in}
 use Rattle.edit_ops.proofs.orders.watch.Given as goal
 
 abbrev pub invariant-loop-step : goal.invariant-loop-step

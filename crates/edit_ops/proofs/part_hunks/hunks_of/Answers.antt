@@ -1,7 +1,4 @@
-use Rattle.std.proofs.Common.{drop, sym, arith, subst}
-use Rattle.std.proofs.lemmas.List.{drop_all}
-use Rattle.edit_ops.specs.PartHunks.{part_hunks}
-use Rattle.edit_ops.specs.Told.{AreHunks}
+use Rattle.edit_ops.proofs.Words.{drop, sym, arith, subst, drop_all, part_hunks, AreHunks}
 use Rattle.edit_ops.proofs.PartHunkLaws.{hunks-end, parts-stand, parts-written}
 use Rattle.edit_ops.proofs.part_hunks.hunks_of.Goals as goal
 

@@ -1,5 +1,4 @@
-use Rattle.std.proofs.Common.{◌≡◌, ◌++◌, drop}
-use Rattle.edit_ops.specs.PartHunks.{part_hunks}
+use Rattle.edit_ops.proofs.Words.{◌≡◌, ◌++◌, drop, part_hunks}
 use Rattle.edit_ops.proofs.part_hunks.hunks_of.Given as goal
 
 abbrev pub invariant-loop-part : goal.invariant-loop-part

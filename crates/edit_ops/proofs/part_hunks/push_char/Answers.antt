@@ -1,6 +1,4 @@
-use Rattle.std.proofs.Common.{ap, ◌∙◌}
-use Rattle.std.specs.Prelude.{chars}
-use Rattle.std.proofs.lemmas.Str.{IsUtf8-string_bytes}
+use Rattle.edit_ops.proofs.Words.{ap, ◌∙◌, chars, IsUtf8-string_bytes}
 use Rattle.text_model.proofs.TextLaws.{chars-push}
 use Rattle.edit_ops.proofs.part_hunks.push_char.Goals as goal
 

@@ -1,6 +1,4 @@
-use Rattle.std.proofs.Common.{ap, ◌∙◌}
-use Rattle.std.specs.Prelude.{chars}
-use Rattle.std.proofs.lemmas.Str.{chars-nil}
+use Rattle.edit_ops.proofs.Words.{ap, ◌∙◌, chars, chars-nil}
 use Rattle.edit_ops.proofs.part_hunks.text_of.Goals as goal
 
 pub loop-character-init : goal.loop-character-init

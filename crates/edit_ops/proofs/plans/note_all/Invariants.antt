@@ -1,5 +1,4 @@
-use Rattle.std.proofs.Common.{◌≡◌, ◌+◌, ◌≤◌, true, length}
-use Rattle.edit_ops.specs.States.{all_noted, log_of}
+use Rattle.edit_ops.proofs.Words.{◌≡◌, ◌+◌, ◌≤◌, true, length, all_noted, log_of}
 use Rattle.edit_ops.proofs.plans.note_all.Given as goal
 
 abbrev pub invariant-loop : goal.invariant-loop

@@ -1,6 +1,4 @@
-use Rattle.std.proofs.Common.{◌-◌, length, ap, ◌∙◌, arith}
-use Rattle.text_model.specs.Content.{characters}
-use Rattle.text_cursor.proofs.AroundLaws.{length-characters, next_line-drawn}
+use Rattle.edit_ops.proofs.Words.{◌-◌, length, ap, ◌∙◌, arith, characters, length-characters, next_line-drawn}
 use Rattle.edit_ops.proofs.RemovalLaws.{none-cells, none-out, none-stand, stand-out, taken-out}
 use Rattle.edit_ops.proofs.replacements.outline_removal.Goals as goal
 

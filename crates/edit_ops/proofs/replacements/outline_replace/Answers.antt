@@ -1,15 +1,7 @@
-use Rattle.std.proofs.Common.{◌≡◌, ◌-◌, true, false, sym, ap, subst, ◌∙◌, arith}
-use Rattle.std.specs.Prelude.{option_and_then}
+use Rattle.edit_ops.proofs.Words.{◌≡◌, ◌-◌, true, false, sym, ap, subst, ◌∙◌, arith, option_and_then, Fits, no_history}
+use Rattle.edit_ops.proofs.Words.{unmodified, Replace, needs_shared, total, clipped, Outline, state_of}
 use Rattle.std.specs.FinMap as finite
-use Rattle.text_model.specs.Steps.{Fits}
-use Rattle.undo_stack.specs.History.{no_history}
-use Rattle.undo_stack.specs.Modified.{unmodified}
-use Rattle.undo_stack.specs.declared.actions.EditKind.TheVariants.{Replace}
-use Rattle.edit_ops.specs.Insertions.{needs_shared, total}
-use Rattle.edit_ops.specs.Removals.{clipped}
-use Rattle.edit_ops.specs.States.{Outline, state_of}
-use Rattle.edit_ops.proofs.ReplaceLaws.{between-removed, found-within, mark-fits, mark-put, mark-none}
-use Rattle.edit_ops.proofs.ReplaceLaws.{replaced-is}
+use Rattle.edit_ops.proofs.ReplaceLaws.{between-removed, found-within, mark-fits, mark-put, mark-none, replaced-is}
 use Rattle.edit_ops.proofs.replacements.outline_replace.Goals as goal
 use Rattle.edit_ops.proofs.replacements.outline_replace.Goals.{in-Some+in_ok-put_mark-in-Some, in-None}
 

@@ -1,8 +1,6 @@
-use Rattle.std.proofs.Common.{◌≡◌, ◌+◌, ◌-◌, ◌<◌, ◌^◌, length, min, ap, ap₂, refl, subst, sym, ◌∙◌}
-use Rattle.std.proofs.lemmas.Bool.{ltb-false, ltb-true}
-use Rattle.edit_ops.specs.Insertions.{total}
-use Rattle.edit_ops.specs.Removals.{replaced_span}
-use Rattle.edit_ops.specs.States.{log_of, state_of}
+use Rattle.edit_ops.proofs.Words.{◌≡◌, ◌+◌, ◌-◌, ◌<◌, ◌^◌, length, ap, ap₂, refl, subst, sym, ◌∙◌, ltb-false, ltb-true}
+use Rattle.edit_ops.proofs.Words.{total, replaced_span, log_of, state_of}
+use Rattle.std.proofs.Common.{min}
 use Rattle.edit_ops.proofs.ReplaceLaws.{no-longer}
 use Rattle.edit_ops.proofs.replacements.plan_replace.Goals as goal
 

@@ -1,4 +1,4 @@
-use Rattle.std.proofs.Common.{arith}
+use Rattle.edit_ops.proofs.Words.{arith}
 use Rattle.edit_ops.proofs.CursorTextLaws.{put-cells, put-fits, put-makes}
 use Rattle.edit_ops.proofs.replaying.put_text.Goals as goal
 

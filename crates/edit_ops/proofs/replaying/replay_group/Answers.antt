@@ -1,7 +1,4 @@
-use Rattle.std.proofs.Common.{◌+◌, drop, arith}
-use Rattle.std.proofs.lemmas.List.{drop_all}
-use Rattle.undo_stack.specs.declared.actions.Action.{Action}
-use Rattle.edit_ops.specs.Replays.{replays}
+use Rattle.edit_ops.proofs.Words.{◌+◌, drop, arith, drop_all, Action, replays}
 use Rattle.edit_ops.proofs.CursorTextLaws.{all-cells, all-made, next-fits, next-made, none-made}
 use Rattle.edit_ops.proofs.ReplayLaws.{next-replayed, replays-length}
 use Rattle.edit_ops.proofs.replaying.replay_group.Goals as goal

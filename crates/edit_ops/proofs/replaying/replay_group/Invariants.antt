@@ -1,5 +1,4 @@
-use Rattle.std.proofs.Common.{drop}
-use Rattle.edit_ops.specs.Replays.{replays}
+use Rattle.edit_ops.proofs.Words.{drop, replays}
 use Rattle.edit_ops.proofs.CursorTextLaws.{MadeSoFar}
 use Rattle.edit_ops.proofs.replaying.replay_group.Given as goal
 

@@ -1,4 +1,4 @@
-use Rattle.std.proofs.Common.{sym, ◌∙◌, arith}
+use Rattle.edit_ops.proofs.Words.{sym, ◌∙◌, arith}
 use Rattle.edit_ops.proofs.CursorTextLaws.{parts-long}
 use Rattle.edit_ops.proofs.SlotRunLaws.{made-bare, made-slotted, of-parts}
 use Rattle.edit_ops.proofs.replaying.reversal_of.Goals as goal

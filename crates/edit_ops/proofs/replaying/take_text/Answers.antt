@@ -1,4 +1,4 @@
-use Rattle.std.proofs.Common.{arith}
+use Rattle.edit_ops.proofs.Words.{arith}
 use Rattle.edit_ops.proofs.CursorTextLaws.{take-cells, take-fits, take-makes}
 use Rattle.edit_ops.proofs.replaying.take_text.Goals as goal
 

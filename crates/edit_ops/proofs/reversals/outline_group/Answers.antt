@@ -1,8 +1,5 @@
-use Rattle.std.proofs.Common.{◌≡◌, ◌≤◌, sym, ap, ap₂, subst, ◌∙◌}
-use Rattle.std.specs.Prelude.{IfSome}
-use Rattle.edit_ops.specs.Replays.{drawn_up, replays}
-use Rattle.edit_ops.specs.Reversals.{group_redone, stood}
-use Rattle.edit_ops.specs.States.{State, Outline, state_of}
+use Rattle.edit_ops.proofs.Words.{◌≡◌, ◌≤◌, sym, ap, ap₂, subst, ◌∙◌, IfSome, drawn_up, replays, group_redone, stood}
+use Rattle.edit_ops.proofs.Words.{State, Outline, state_of}
 use Rattle.edit_ops.proofs.ReplayLaws.{follows-length}
 use Rattle.edit_ops.proofs.reversals.outline_group.Goals as goal
 

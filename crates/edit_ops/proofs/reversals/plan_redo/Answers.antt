@@ -1,7 +1,4 @@
-use Rattle.std.proofs.Common.{false, ◌∙◌}
-use Rattle.text_model.specs.Content.{characters}
-use Rattle.edit_ops.specs.Plans.{anchors_left}
-use Rattle.edit_ops.specs.States.{log_of}
+use Rattle.edit_ops.proofs.Words.{false, ◌∙◌, characters, anchors_left, log_of}
 use Rattle.edit_ops.proofs.ReplayLaws.{redo-fits-replay, redo-planned, plan-widgets}
 use Rattle.edit_ops.proofs.reversals.plan_redo.Goals as goal
 

@@ -1,7 +1,4 @@
-use Rattle.std.proofs.Common.{true, ◌∙◌}
-use Rattle.text_model.specs.Content.{characters}
-use Rattle.edit_ops.specs.Plans.{anchors_left}
-use Rattle.edit_ops.specs.States.{log_of}
+use Rattle.edit_ops.proofs.Words.{true, ◌∙◌, characters, anchors_left, log_of}
 use Rattle.edit_ops.proofs.ReplayLaws.{undo-fits-replay, undo-planned, plan-widgets}
 use Rattle.edit_ops.proofs.reversals.plan_undo.Goals as goal
 

@@ -1,8 +1,7 @@
-use Rattle.std.proofs.Common.{◌<◌, ◌∙◌, rules}
-use Rattle.std.specs.Prelude.{nat_le, nat_lt, ◌&&◌}
+use Rattle.edit_ops.proofs.Words.{◌<◌, ◌∙◌, rules, nat_le, nat_lt, Span}
+use Rattle.std.specs.Prelude.{◌&&◌}
 use Rattle.std.proofs.lemmas.List.Sorted.{All-permutation, list_any-IsPermutation, IsNonDecreasingBy-from_sort_by_key}
 use Rattle.std.proofs.lemmas.List.Sorted.{IsPermutation-sym}
-use Rattle.edit_ops.specs.declared.spans.Span.{Span}
 use Rattle.edit_ops.proofs.runs.by_end.Goals as goal
 
 pub returns : goal.returns

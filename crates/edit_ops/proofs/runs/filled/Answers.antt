@@ -1,7 +1,5 @@
-use Rattle.std.proofs.Common.{◌<◌, ap, ◌∙◌, take_all}
-use Rattle.std.proofs.lemmas.List.Elements.{All-push}
-use Rattle.edit_ops.specs.declared.spans.Span.{Span}
-use Rattle.edit_ops.specs.Deletions.{in_spans}
+use Rattle.edit_ops.proofs.Words.{◌<◌, ap, ◌∙◌, All-push, Span, in_spans}
+use Rattle.std.proofs.Common.{take_all}
 use Rattle.edit_ops.proofs.RunLaws.{in-more, in-more-none}
 use Rattle.edit_ops.proofs.runs.filled.Goals as goal
 use Rattle.edit_ops.proofs.runs.filled.Goals.{then-span+in_ok-push, else-span}

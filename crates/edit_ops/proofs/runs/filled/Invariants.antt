@@ -1,7 +1,4 @@
-use Rattle.std.proofs.Common.{◌≡◌, ℕ, ◌<◌, take}
-use Rattle.std.specs.List.{All}
-use Rattle.edit_ops.specs.Deletions.{in_spans}
-use Rattle.edit_ops.specs.declared.spans.Span.{Span}
+use Rattle.edit_ops.proofs.Words.{◌≡◌, ℕ, ◌<◌, take, All, in_spans, Span}
 use Rattle.edit_ops.proofs.runs.filled.Given as goal
 
 abbrev pub invariant-loop-span : goal.invariant-loop-span

@@ -1,6 +1,4 @@
-use Rattle.std.proofs.Common.{◌≡◌, ◌+◌, ◌-◌, ◌<◌, length, get_or, sym, ap, ◌∙◌, arith}
-use Rattle.std.proofs.lemmas.List.{get_or_default}
-use Rattle.edit_ops.specs.declared.spans.Span.{Span}
+use Rattle.edit_ops.proofs.Words.{◌≡◌, ◌+◌, ◌-◌, ◌<◌, length, get_or, sym, ap, ◌∙◌, arith, get_or_default, Span}
 use Rattle.edit_ops.proofs.RunLaws.{spare-alone, spare-only, spare-joined, spare-both, first-some, second-some}
 use Rattle.edit_ops.proofs.runs.spare_last.Goals as goal
 use Rattle.edit_ops.proofs.runs.spare_last.Goals.{then-joins+then-len-gt1+then-index-from, then-joins+else-len-gt1}

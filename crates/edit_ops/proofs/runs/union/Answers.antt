@@ -1,8 +1,5 @@
-use Rattle.std.proofs.Common.{◌≡◌, ℕ, ◌+◌, ◌++◌, [], ◌∷◌, length, ap, sym, ◌∙◌, arith}
-use Rattle.std.specs.Prelude.{IsSome}
-use Rattle.std.specs.Option.{option_to_list}
-use Rattle.std.proofs.lemmas.List.{nil_from_length, length_push}
-use Rattle.edit_ops.specs.Deletions.{in_spans}
+use Rattle.edit_ops.proofs.Words.{◌≡◌, ℕ, ◌+◌, ◌++◌, [], ◌∷◌, length, ap, sym, ◌∙◌, arith, IsSome, option_to_list}
+use Rattle.edit_ops.proofs.Words.{nil_from_length, length_push, in_spans}
 use Rattle.edit_ops.proofs.RunLaws.{merging-first, merging-joined, merging-next, some_is, merged-in, apart-below}
 use Rattle.edit_ops.proofs.RunLaws.{few-apart, in-within}
 use Rattle.edit_ops.proofs.runs.union.Goals as goal

@@ -1,4 +1,4 @@
-use Rattle.std.proofs.Common.{◌≡◌, ◌+◌, length}
+use Rattle.edit_ops.proofs.Words.{◌≡◌, ◌+◌, length}
 use Rattle.edit_ops.proofs.RunLaws.{Merging}
 use Rattle.edit_ops.proofs.runs.union.Given as goal
 

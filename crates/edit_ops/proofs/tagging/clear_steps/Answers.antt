@@ -1,6 +1,4 @@
-use Rattle.std.proofs.Common.{◌≡◌, [], drop, sym, ◌∙◌}
-use Rattle.std.proofs.Math.ListN.{drop_of_length-le}
-use Rattle.text_model.specs.Steps.{after}
+use Rattle.edit_ops.proofs.Words.{◌≡◌, [], drop, sym, ◌∙◌, drop_of_length-le, after}
 use Rattle.edit_ops.proofs.TagLaws.{clearing-more, cleared-none}
 use Rattle.edit_ops.proofs.tagging.clear_steps.Goals as goal
 

@@ -1,5 +1,4 @@
-use Rattle.std.proofs.Common.{drop}
-use Rattle.text_model.specs.Content.{Content}
+use Rattle.edit_ops.proofs.Words.{drop, Content}
 use Rattle.edit_ops.proofs.TagLaws.{Clearing}
 use Rattle.edit_ops.proofs.tagging.clear_steps.Given as goal
 

@@ -1,7 +1,4 @@
-use Rattle.std.proofs.Common.{◌≡◌, [], drop, ap, sym, ◌∙◌}
-use Rattle.std.proofs.Math.ListN.{drop_of_length-le}
-use Rattle.text_model.specs.Steps.{after}
-use Rattle.edit_ops.specs.Tagging.{tagged}
+use Rattle.edit_ops.proofs.Words.{◌≡◌, [], drop, ap, sym, ◌∙◌, drop_of_length-le, after, tagged}
 use Rattle.edit_ops.proofs.TagLaws.{tagging-more}
 use Rattle.edit_ops.proofs.tagging.span_steps.Goals as goal
 

@@ -1,5 +1,4 @@
-use Rattle.std.proofs.Common.{◌≡◌, drop, length}
-use Rattle.text_model.specs.Content.{Content}
+use Rattle.edit_ops.proofs.Words.{◌≡◌, drop, length, Content}
 use Rattle.edit_ops.proofs.TagLaws.{Tagging}
 use Rattle.edit_ops.proofs.tagging.span_steps.Given as goal
 

@@ -1,8 +1,5 @@
-use Rattle.std.proofs.Common.{◌≡◌, sym, ap, ◌∙◌, subst}
-use Rattle.std.specs.List.{All}
+use Rattle.edit_ops.proofs.Words.{◌≡◌, sym, ap, ◌∙◌, subst, All, in_spans, SpanFits}
 use Rattle.std.proofs.lemmas.Result.{IfOk-weaker}
-use Rattle.edit_ops.specs.Deletions.{in_spans}
-use Rattle.edit_ops.specs.Tagging.{SpanFits}
 use Rattle.edit_ops.proofs.CoverLaws.{in-reversed, runs-fit, tagged-same}
 use Rattle.edit_ops.proofs.tagging.tag_steps.Goals as goal
 

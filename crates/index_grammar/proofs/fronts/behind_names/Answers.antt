@@ -1,6 +1,5 @@
-use Rattle.std.proofs.Common.{◌++◌, sym, ap, ◌∙◌, arith}
+use Rattle.index_grammar.proofs.Words.{◌++◌, sym, ap, ◌∙◌, arith, names_in}
 use Rattle.std.proofs.lemmas.Option.{slice_get_within}
-use Rattle.index_grammar.specs.Fronts.{names_in}
 use Rattle.index_grammar.proofs.BoundLaws.{next-behind}
 use Rattle.index_grammar.proofs.fronts.behind_names.Goals as goal
 

@@ -1,7 +1,6 @@
-use Rattle.std.proofs.Common.{◌≡◌, ℕ, ◌<◌, ◌≤◌, true, List, ◌++◌, length}
-use Rattle.std.specs.Prelude.{slice_get, Some, encode_utf8_all}
-use Rattle.index_grammar.specs.Characters.{closes}
-use Rattle.index_grammar.specs.Fronts.{names_in}
+use Rattle.index_grammar.proofs.Words.{◌≡◌, ℕ, ◌<◌, ◌≤◌, true, List, ◌++◌, length, slice_get, encode_utf8_all, closes}
+use Rattle.index_grammar.proofs.Words.{names_in}
+use Rattle.std.specs.Prelude.{Some}
 use Rattle.index_grammar.proofs.fronts.behind_names.Given as goal
 
 abbrev pub invariant-loop-place : goal.invariant-loop-place

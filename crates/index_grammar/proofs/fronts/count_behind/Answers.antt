@@ -1,6 +1,4 @@
-use Rattle.std.proofs.Common.{true, ◌++◌, sym, ap, ◌∙◌}
-use Rattle.std.proofs.lemmas.Bool.{false≢true}
-use Rattle.index_grammar.specs.Characters.{closes}
+use Rattle.index_grammar.proofs.Words.{true, ◌++◌, sym, ap, ◌∙◌, false≢true, closes}
 use Rattle.index_grammar.proofs.BoundLaws.{cancel}
 use Rattle.index_grammar.proofs.fronts.count_behind.Goals as goal
 

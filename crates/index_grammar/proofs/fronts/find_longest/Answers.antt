@@ -1,10 +1,5 @@
-use Rattle.std.proofs.Common.{◌≡◌, Some, take, length, get_or, sym, ap, ◌∙◌, arith}
-use Rattle.std.specs.Prelude.{chars}
-use Rattle.std.specs.List.{list_all}
-use Rattle.index_grammar.specs.Characters.{is_break}
-use Rattle.index_grammar.specs.Fronts.{named}
-use Rattle.index_grammar.specs.Grammar.{saturated_base}
-use Rattle.std.proofs.Common.{drop, ◌+◌}
+use Rattle.index_grammar.proofs.Words.{◌≡◌, Some, take, length, get_or, sym, ap, ◌∙◌, arith, drop, ◌+◌, chars, list_all}
+use Rattle.index_grammar.proofs.Words.{is_break, named, saturated_base}
 use Rattle.index_grammar.proofs.TokenLaws.{inside}
 use Rattle.index_grammar.proofs.FindLaws.{step-front, no-front, this-front, range-front}
 use Rattle.index_grammar.proofs.fronts.find_longest.Goals as goal

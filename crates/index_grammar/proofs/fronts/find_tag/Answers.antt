@@ -1,7 +1,4 @@
-use Rattle.std.proofs.Common.{None, Some, length, sym, ap, ◌∙◌, ◌-◌}
-use Rattle.std.specs.Prelude.{nat_eq}
-use Rattle.std.specs.List.{ends_with}
-use Rattle.index_grammar.specs.Names.{known_tags}
+use Rattle.index_grammar.proofs.Words.{None, Some, length, sym, ap, ◌∙◌, ◌-◌, nat_eq, ends_with, known_tags}
 use Rattle.index_grammar.proofs.FindLaws.{range-front}
 use Rattle.index_grammar.proofs.TagLaws.{first_bytes, last_bytes, tagged-first, tagged-last, tagged-none}
 use Rattle.index_grammar.proofs.fronts.find_tag.Goals as goal

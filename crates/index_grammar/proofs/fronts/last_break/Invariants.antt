@@ -1,5 +1,4 @@
-use Rattle.std.proofs.Common.{◌≡◌, ◌≤◌, true, length, drop}
-use Rattle.std.specs.List.{list_all}
+use Rattle.index_grammar.proofs.Words.{◌≡◌, ◌≤◌, true, length, drop, list_all}
 use Rattle.index_grammar.proofs.TokenLaws.{inside}
 use Rattle.index_grammar.proofs.fronts.last_break.Given as goal
 

@@ -1,7 +1,5 @@
-use Rattle.std.proofs.Common.{◌++◌, None, Some, ◌∙◌}
+use Rattle.index_grammar.proofs.Words.{◌++◌, None, Some, ◌∙◌, Decides-eqb, strip_prefix_is}
 use Rattle.std.proofs.lemmas.List.{append_assoc}
-use Rattle.std.proofs.lemmas.Bool.Decides.{Decides-eqb}
-use Rattle.std.proofs.lemmas.Slice.Eq.{strip_prefix_is}
 use Rattle.index_grammar.proofs.BoundLaws.{stripped}
 use Rattle.index_grammar.proofs.fronts.strip.Goals as goal
 

@@ -1,8 +1,4 @@
-use Rattle.std.proofs.Common.{◌≡◌, min, take, true}
-use Rattle.std.specs.Prelude.{fold}
-use Rattle.std.specs.List.{list_all}
-use Rattle.std.specs.Char.{is_ascii_digit}
-use Rattle.index_grammar.specs.Grammar.{add_digit}
+use Rattle.index_grammar.proofs.Words.{◌≡◌, min, take, true, fold, list_all, is_ascii_digit, add_digit}
 use Rattle.index_grammar.proofs.numbers.read_number.Given as goal
 
 abbrev pub invariant-loop-digit : goal.invariant-loop-digit

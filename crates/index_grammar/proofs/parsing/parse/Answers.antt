@@ -1,9 +1,5 @@
-use Rattle.std.proofs.Common.{sym, ap, ◌∙◌}
-use Rattle.std.specs.Prelude.{chars}
-use Rattle.index_grammar.specs.Grammar.{modifiers_of, tokens_of}
-use Rattle.index_grammar.specs.Names.{known_marks, known_tags}
-use Rattle.index_grammar.specs.Reading.{found_of}
-use Rattle.index_grammar.specs.Steps.{saturated}
+use Rattle.index_grammar.proofs.Words.{sym, ap, ◌∙◌, chars, modifiers_of, tokens_of, known_marks, known_tags, found_of}
+use Rattle.index_grammar.proofs.Words.{saturated}
 use Rattle.index_grammar.proofs.LowModifierLaws.{modifiers-chars}
 use Rattle.index_grammar.proofs.WholeLaws.{whole-ok, whole-bad}
 use Rattle.index_grammar.proofs.parsing.parse.Goals as goal

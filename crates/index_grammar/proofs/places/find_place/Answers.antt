@@ -1,8 +1,5 @@
-use Rattle.std.proofs.Common.{take, None, Some, sym, ap, ◌∙◌, arith}
-use Rattle.std.specs.Prelude.{chars, option_map}
-use Rattle.std.specs.List.{prefix_len}
-use Rattle.index_grammar.specs.Grammar.{place_of, saturated_base}
-use Rattle.std.proofs.lemmas.List.Sums.{prefix_len-le-length}
+use Rattle.index_grammar.proofs.Words.{take, None, Some, sym, ap, ◌∙◌, arith, chars, option_map, prefix_len, place_of}
+use Rattle.index_grammar.proofs.Words.{saturated_base, prefix_len-le-length}
 use Rattle.index_grammar.proofs.TokenLaws.{inside}
 use Rattle.index_grammar.proofs.CharLaws.{front-boundary, place-read}
 use Rattle.index_grammar.proofs.places.find_place.Goals as goal

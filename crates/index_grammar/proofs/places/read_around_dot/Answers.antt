@@ -1,8 +1,5 @@
-use Rattle.std.proofs.Common.{◌+◌, sym, ap, ◌∙◌}
-use Rattle.std.proofs.lemmas.List.{take_rest}
-use Rattle.index_grammar.specs.Grammar.{in_line, around_dot, saturated_base}
-use Rattle.index_grammar.specs.Reading.{is_dot}
-use Rattle.std.specs.Prelude.{position, option_map}
+use Rattle.index_grammar.proofs.Words.{◌+◌, sym, ap, ◌∙◌, take_rest, in_line, around_dot, saturated_base, is_dot}
+use Rattle.index_grammar.proofs.Words.{position, option_map}
 use Rattle.index_grammar.proofs.PlaceLaws.{around_dot-none, around_dot-some}
 use Rattle.index_grammar.proofs.places.read_around_dot.Goals as goal
 

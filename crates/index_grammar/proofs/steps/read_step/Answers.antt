@@ -1,7 +1,4 @@
-use Rattle.std.proofs.Common.{◌∷◌, Some, sym, ap, ◌∙◌}
-use Rattle.index_grammar.specs.Grammar.{tokens_of, modifiers_of}
-use Rattle.index_grammar.specs.LentTokens.{token_of}
-use Rattle.index_grammar.specs.Steps.{saturated}
+use Rattle.index_grammar.proofs.Words.{◌∷◌, Some, sym, ap, ◌∙◌, tokens_of, modifiers_of, token_of, saturated}
 use Rattle.index_grammar.proofs.StepLaws.{keyword-found}
 use Rattle.index_grammar.proofs.steps.read_step.Goals as goal
 

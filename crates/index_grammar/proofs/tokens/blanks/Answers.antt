@@ -1,5 +1,4 @@
-use Rattle.std.proofs.Common.{not, ◌∙◌}
-use Rattle.index_grammar.specs.Characters.{is_blank}
+use Rattle.index_grammar.proofs.Words.{not, ◌∙◌, is_blank}
 use Rattle.index_grammar.proofs.FrontLaws.{front-some, front-none, twice}
 use Rattle.index_grammar.proofs.tokens.blanks.Goals as goal
 

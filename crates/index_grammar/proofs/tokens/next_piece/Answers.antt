@@ -1,12 +1,6 @@
-use Rattle.std.proofs.Common.{◌<◌, ◌∷◌, ◌==◌, take, length, sym, ap, ◌∙◌, arith}
-use Rattle.std.specs.Prelude.{slice_get}
-use Rattle.std.specs.Char.{is_ascii_digit}
-use Rattle.std.specs.List.{prefix_len}
-use Rattle.index_grammar.specs.Characters.{is_blank}
-use Rattle.std.proofs.lemmas.List.Sums.{prefix_len-le-length}
-use Rattle.index_grammar.specs.Grammar.{tokens_of}
-use Rattle.index_grammar.specs.Grammar.Token.{Sign, Digits, Word}
-use Rattle.index_grammar.specs.LentTokens.{before_rest}
+use Rattle.index_grammar.proofs.Words.{◌<◌, ◌∷◌, ◌==◌, take, length, sym, ap, ◌∙◌, arith, slice_get, is_ascii_digit}
+use Rattle.index_grammar.proofs.Words.{prefix_len, is_blank, prefix_len-le-length, tokens_of, Sign, Digits, Word}
+use Rattle.index_grammar.proofs.Words.{before_rest}
 use Rattle.index_grammar.proofs.TokenLaws.{tokens-blanks, piece-none, piece-sign, piece-digits, piece-word, not-blank}
 use Rattle.index_grammar.proofs.TokenLaws.{inside, piece-bound, word-inside, behind-bound, taken-bound}
 use Rattle.index_grammar.proofs.tokens.next_piece.Goals as goal

@@ -1,6 +1,4 @@
-use Rattle.std.proofs.Common.{arith}
-use Rattle.std.proofs.lemmas.List.Sums.{prefix_len-le-length}
-use Rattle.index_grammar.specs.Characters.{is_blank}
+use Rattle.index_grammar.proofs.Words.{arith, prefix_len-le-length, is_blank}
 use Rattle.index_grammar.proofs.tokens.skip_blanks.Goals as goal
 
 pub split_at-requires : goal.split_at-requires

@@ -1,8 +1,5 @@
-use Rattle.std.proofs.Common.{◌≡◌, ◌-◌, ◌<◌, true, drop, min, subst, sym, take, ap, ◌∙◌}
-use Rattle.std.specs.Prelude.{IfSome, slice_get}
-use Rattle.segments.specs.Columns.{LineContent}
-use Rattle.line_lists.specs.Clearing.{AreFree}
-use Rattle.line_lists.specs.Lists.{has_toggle}
+use Rattle.line_lists.proofs.Words.{◌≡◌, ◌-◌, ◌<◌, true, drop, min, subst, sym, take, ap, ◌∙◌, IfSome, slice_get}
+use Rattle.line_lists.proofs.Words.{LineContent, AreFree, has_toggle}
 use Rattle.line_lists.proofs.ClearingLaws.{below-free, below-stops}
 use Rattle.line_lists.proofs.clearing.next_below.Goals as goal
 

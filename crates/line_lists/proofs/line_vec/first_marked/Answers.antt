@@ -1,7 +1,5 @@
-use Rattle.std.proofs.Common.{ap, ◌∙◌}
+use Rattle.line_lists.proofs.Words.{ap, ◌∙◌, Count, has_marks}
 use Rattle.std.specs.FinMap as finite
-use Rattle.toggle_sums.specs.Counts.{Count}
-use Rattle.line_lists.specs.Lists.{has_marks}
 use Rattle.line_lists.proofs.ListLaws.{no-marks, passed-all, passed-more, passed-stops, some-marks}
 use Rattle.line_lists.proofs.line_vec.first_marked.Goals as goal
 

@@ -1,7 +1,5 @@
-use Rattle.std.proofs.Common.{sym, ap, ◌∙◌}
+use Rattle.line_lists.proofs.Words.{sym, ap, ◌∙◌, Count, has_toggle}
 use Rattle.std.specs.FinSet as set
-use Rattle.toggle_sums.specs.Counts.{Count}
-use Rattle.line_lists.specs.Lists.{has_toggle}
 use Rattle.line_lists.proofs.ListLaws.{passed-all, passed-more, passed-stops}
 use Rattle.line_lists.proofs.line_vec.first_with.Goals as goal
 

@@ -1,6 +1,4 @@
-use Rattle.std.proofs.Common.{sym, ap, ◌∙◌}
-use Rattle.std.specs.Prelude.{is_some}
-use Rattle.line_lists.specs.Lists.{has_mark}
+use Rattle.line_lists.proofs.Words.{sym, ap, ◌∙◌, is_some, has_mark}
 use Rattle.line_lists.proofs.ListLaws.{passed-all, passed-more, passed-stops}
 use Rattle.line_lists.proofs.line_vec.first_with_mark.Goals as goal
 

@@ -1,7 +1,5 @@
-use Rattle.std.proofs.Common.{ap, ◌∙◌, arith}
+use Rattle.line_lists.proofs.Words.{ap, ◌∙◌, arith, Count, has_marks}
 use Rattle.std.specs.FinMap as finite
-use Rattle.toggle_sums.specs.Counts.{Count}
-use Rattle.line_lists.specs.Lists.{has_marks}
 use Rattle.line_lists.proofs.ListLaws.{left-more, left-none, left-stops, no-marks, some-marks}
 use Rattle.line_lists.proofs.line_vec.free_of_marks.Goals as goal
 use Rattle.line_lists.proofs.line_vec.free_of_marks.Goals.{then-loop-start-test+else-marks-eq0, else-loop-start-test}

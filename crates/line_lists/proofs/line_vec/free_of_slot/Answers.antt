@@ -1,7 +1,5 @@
-use Rattle.std.proofs.Common.{sym, ap, ◌∙◌, arith}
+use Rattle.line_lists.proofs.Words.{sym, ap, ◌∙◌, arith, Count, has_toggle}
 use Rattle.std.specs.FinSet as set
-use Rattle.toggle_sums.specs.Counts.{Count}
-use Rattle.line_lists.specs.Lists.{has_toggle}
 use Rattle.line_lists.proofs.ListLaws.{left-more, left-none, left-stops}
 use Rattle.line_lists.proofs.line_vec.free_of_slot.Goals as goal
 use Rattle.line_lists.proofs.line_vec.free_of_slot.Goals.{then-loop-start-test+else-not-has, else-loop-start-test}

@@ -1,5 +1,4 @@
-use Rattle.std.proofs.Common.{◌≤◌, length}
-use Rattle.line_lists.specs.Lists.{has_toggle}
+use Rattle.line_lists.proofs.Words.{◌≤◌, length, has_toggle}
 use Rattle.line_lists.proofs.ListLaws.{Left}
 use Rattle.line_lists.proofs.line_vec.free_of_slot.Given as goal
 

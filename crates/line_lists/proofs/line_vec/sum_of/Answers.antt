@@ -1,5 +1,4 @@
-use Rattle.std.proofs.Common.{subst₂, sym, ap₂, ◌∙◌, arith}
-use Rattle.toggle_sums.specs.Counts.{CountsFit, plus}
+use Rattle.line_lists.proofs.Words.{subst₂, sym, ap₂, ◌∙◌, arith, CountsFit, plus}
 use Rattle.line_lists.proofs.ListLaws.{sum-fits, sum-more}
 use Rattle.line_lists.proofs.line_vec.sum_of.Goals as goal
 

@@ -1,5 +1,4 @@
-use Rattle.std.proofs.Common.{◌≡◌, take}
-use Rattle.line_lists.specs.Lists.{count_of}
+use Rattle.line_lists.proofs.Words.{◌≡◌, take, count_of}
 use Rattle.line_lists.proofs.line_vec.sum_of.Given as goal
 
 abbrev pub invariant-loop-line : goal.invariant-loop-line

@@ -1,5 +1,4 @@
-use Rattle.std.proofs.Common.{◌≡◌, ◌++◌, map, take, drop}
-use Rattle.line_lists.specs.Edits.{without_mark}
+use Rattle.line_lists.proofs.Words.{◌≡◌, ◌++◌, map, take, drop, without_mark}
 use Rattle.line_lists.proofs.line_vec.take_marks.Given as goal
 
 abbrev pub invariant-loop-line : goal.invariant-loop-line

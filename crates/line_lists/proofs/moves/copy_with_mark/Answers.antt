@@ -1,8 +1,4 @@
-use Rattle.std.proofs.Common.{◌≡◌, ◌≤◌, length, ap, refl, ◌∙◌, arith}
-use Rattle.text_model.specs.declared.places.Place.{Place}
-use Rattle.segments.specs.Columns.{LineContent}
-use Rattle.line_lists.specs.Edits.{with_mark}
-use Rattle.line_lists.specs.Texts.{whole}
+use Rattle.line_lists.proofs.Words.{◌≡◌, ◌≤◌, length, ap, refl, ◌∙◌, arith, Place, LineContent, with_mark, whole}
 use Rattle.line_lists.proofs.LineStarts.{at-within, lent-length}
 use Rattle.line_lists.proofs.MoveLaws.{moves-to}
 use Rattle.line_lists.proofs.PlaceRows.{length-content}

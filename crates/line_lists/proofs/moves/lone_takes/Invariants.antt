@@ -1,5 +1,4 @@
-use Rattle.std.proofs.Common.{◌≡◌, map, take}
-use Rattle.text_model.specs.declared.edits.Step.TheVariants.{TakeMark}
+use Rattle.line_lists.proofs.Words.{◌≡◌, map, take, TakeMark}
 use Rattle.line_lists.proofs.moves.lone_takes.Given as goal
 
 abbrev pub invariant-loop-step : goal.invariant-loop-step

@@ -1,9 +1,5 @@
-use Rattle.std.proofs.Common.{◌<◌, subst, arith}
-use Rattle.std.specs.List.{All}
-use Rattle.std.proofs.lemmas.List.{take_all}
-use Rattle.std.proofs.lemmas.List.Elements.{All-append, All-weaker}
-use Rattle.line_lists.specs.Drafts.{copies_of}
-use Rattle.line_lists.specs.Pieces.{copied_lines, numbers_in, numbers_of}
+use Rattle.line_lists.proofs.Words.{◌<◌, subst, arith, All, take_all, All-append, All-weaker, copies_of, copied_lines}
+use Rattle.line_lists.proofs.Words.{numbers_in, numbers_of}
 use Rattle.line_lists.proofs.GatherLaws.{numbers-stop}
 use Rattle.line_lists.proofs.pieces.bound_of.Goals as goal
 

@@ -1,7 +1,4 @@
-use Rattle.std.proofs.Common.{◌<◌, take}
-use Rattle.std.specs.List.{All}
-use Rattle.line_lists.specs.Drafts.{copies_of}
-use Rattle.line_lists.specs.Pieces.{copied_lines, numbers_in}
+use Rattle.line_lists.proofs.Words.{◌<◌, take, All, copies_of, copied_lines, numbers_in}
 use Rattle.line_lists.proofs.pieces.bound_of.Given as goal
 
 abbrev pub invariant-loop-stop : goal.invariant-loop-stop

@@ -1,9 +1,6 @@
-use Rattle.std.proofs.Common.{◌≡◌, ◌<◌, ◌≤◌, [], Some, ap, subst, sym, ◌∙◌, arith}
+use Rattle.line_lists.proofs.Words.{◌≡◌, ◌<◌, ◌≤◌, [], Some, ap, subst, sym, ◌∙◌, arith, All, MarkNo, Place}
 use Rattle.std.specs.FinMap as finite
-use Rattle.std.specs.List.{All}
 use Rattle.std.specs.Option.{option_map}
-use Rattle.text_model.specs.declared.places.MarkNo.{MarkNo}
-use Rattle.text_model.specs.declared.places.Place.{Place}
 use Rattle.line_lists.proofs.FreedLaws.{all-numbers, number-there, numbers-more}
 use Rattle.line_lists.proofs.GatherLaws.{bound-more}
 use Rattle.line_lists.proofs.pieces.bound_with.Goals as goal

@@ -1,6 +1,4 @@
-use Rattle.std.proofs.Common.{◌≤◌, ◌<◌, take}
-use Rattle.std.specs.List.{All}
-use Rattle.line_lists.specs.Pieces.{numbers_of}
+use Rattle.line_lists.proofs.Words.{◌≤◌, ◌<◌, take, All, numbers_of}
 use Rattle.line_lists.proofs.pieces.bound_with.Given as goal
 
 abbrev pub invariant-loop-index : goal.invariant-loop-index

@@ -1,10 +1,5 @@
-use Rattle.std.proofs.Common.{subst, arith}
-use Rattle.std.proofs.lemmas.List.{take_all}
-use Rattle.toggle_sums.specs.Counts.{plus}
-use Rattle.segments.specs.Columns.{line_count}
-use Rattle.line_lists.specs.Drafts.{copies_of}
-use Rattle.line_lists.specs.Lists.{IsCounted, count_of}
-use Rattle.line_lists.specs.Pieces.{copied_lines}
+use Rattle.line_lists.proofs.Words.{subst, arith, take_all, plus, line_count, copies_of, IsCounted, count_of}
+use Rattle.line_lists.proofs.Words.{copied_lines}
 use Rattle.line_lists.proofs.GatherLaws.{count-stop, counted-none, counted-same, numbers-line, numbers-more}
 use Rattle.line_lists.proofs.GatherLaws.{numbers-none}
 use Rattle.line_lists.proofs.pieces.count.Goals as goal

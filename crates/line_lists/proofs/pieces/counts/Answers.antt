@@ -1,7 +1,4 @@
-use Rattle.std.proofs.Common.{length, sym, ap, ◌∙◌, arith}
-use Rattle.std.proofs.lemmas.List.{take_all}
-use Rattle.toggle_sums.specs.Counts.{Count}
-use Rattle.line_lists.specs.Texts.{whole}
+use Rattle.line_lists.proofs.Words.{length, sym, ap, ◌∙◌, arith, take_all, Count, whole}
 use Rattle.line_lists.proofs.CountRows.{count-characters, count-lines}
 use Rattle.line_lists.proofs.pieces.counts.Goals as goal
 

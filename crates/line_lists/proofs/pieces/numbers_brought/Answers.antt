@@ -1,5 +1,4 @@
-use Rattle.std.proofs.Common.{◌++◌, ◌∙◌}
-use Rattle.line_lists.specs.Pieces.{numbers_in}
+use Rattle.line_lists.proofs.Words.{◌++◌, ◌∙◌, numbers_in}
 use Rattle.line_lists.proofs.GatherLaws.{numbers-piece}
 use Rattle.line_lists.proofs.pieces.numbers_brought.Goals as goal
 

@@ -1,19 +1,13 @@
-use Rattle.std.proofs.Common.{◌≡◌, ◌-◌, ◌<◌, ◌++◌, ◌∷◌, [], length, take, sym, ap, subst, ◌∙◌, arith, append_assoc}
-use Rattle.std.proofs.Common.{vec_len}
-use Rattle.std.proofs.lemmas.Bool.Decides.{nat_tests}
-use Rattle.std.proofs.lemmas.List.{nil_from_length}
-use Rattle.toggle_sums.specs.Counts.{plus}
-use Rattle.line_lists.specs.Drafts.{copies_of}
-use Rattle.line_lists.specs.Lists.{IsCounted, count_of}
-use Rattle.line_lists.specs.Pieces.{copied_lines}
+use Rattle.line_lists.proofs.Words.{◌≡◌, ◌-◌, ◌<◌, ◌++◌, ◌∷◌, [], length, take, sym, ap, subst, ◌∙◌, arith}
+use Rattle.line_lists.proofs.Words.{append_assoc, vec_len, nat_tests, nil_from_length, plus, copies_of, IsCounted}
+use Rattle.line_lists.proofs.Words.{count_of, copied_lines}
 use Rattle.line_lists.proofs.CountRows.{count-lines}
 use Rattle.line_lists.proofs.GatherLaws.{Gathers, Goes, Makes, gather-more, gather-new, gathered-all, goes-of}
 use Rattle.line_lists.proofs.GatherLaws.{last-fits, last-of, last-set, next-fits}
 use Rattle.line_lists.proofs.pieces.pieces_of.Goals.{else-stop-eq0-via-then-stop-eq0+else-not-is_empty}
-use Rattle.line_lists.proofs.pieces.pieces_of.Goals.{else-stop-eq0-via-else-stop-eq0}
+use Rattle.line_lists.proofs.pieces.pieces_of.Goals.{else-stop-eq0-via-else-stop-eq0, In-None, In-Some}
 use Rattle.line_lists.proofs.pieces.pieces_of.Given.{Over}
 use Rattle.line_lists.proofs.pieces.pieces_of.Goals as goal
-use Rattle.line_lists.proofs.pieces.pieces_of.Goals.{In-None, In-Some}
 
 -- the next stop
 goes : (g : Over) (c : In-Some g)

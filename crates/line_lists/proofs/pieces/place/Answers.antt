@@ -1,9 +1,5 @@
-use Rattle.std.proofs.Common.{subst, sym, ap, ◌∙◌, arith}
-use Rattle.std.specs.List.{All}
-use Rattle.std.proofs.lemmas.List.Elements.{All-weaker}
-use Rattle.segments.specs.Columns.{LineContent}
-use Rattle.line_lists.specs.Lists.{NumbersBelow}
-use Rattle.line_lists.specs.Pieces.{CanPlace, lines_more, piece_lines, placed, rows_more}
+use Rattle.line_lists.proofs.Words.{subst, sym, ap, ◌∙◌, arith, All, All-weaker, LineContent, NumbersBelow, CanPlace}
+use Rattle.line_lists.proofs.Words.{lines_more, piece_lines, placed, rows_more}
 use Rattle.line_lists.proofs.GatherLaws.{all-pieces}
 use Rattle.line_lists.proofs.GrowthLaws.{room_first}
 use Rattle.line_lists.proofs.PieceLaws.{can-split, placed-snoc}

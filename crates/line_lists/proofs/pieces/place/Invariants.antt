@@ -1,8 +1,5 @@
-use Rattle.std.proofs.Common.{◌≡◌}
-use Rattle.std.specs.List.{All}
-use Rattle.segments.specs.Columns.{LineContent}
-use Rattle.line_lists.specs.Lists.{NumbersBelow}
-use Rattle.line_lists.specs.Pieces.{CanPlace, lines_more, piece_lines, placed, rows_more}
+use Rattle.line_lists.proofs.Words.{◌≡◌, All, LineContent, NumbersBelow, CanPlace, lines_more, piece_lines, placed}
+use Rattle.line_lists.proofs.Words.{rows_more}
 use Rattle.line_lists.proofs.pieces.place.Given as goal
 
 abbrev pub invariant-loop-piece : goal.invariant-loop-piece

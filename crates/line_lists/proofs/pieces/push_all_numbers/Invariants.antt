@@ -1,5 +1,4 @@
-use Rattle.std.proofs.Common.{◌≡◌, ◌++◌, take}
-use Rattle.line_lists.specs.Pieces.{named, numbers_in}
+use Rattle.line_lists.proofs.Words.{◌≡◌, ◌++◌, take, named, numbers_in}
 use Rattle.line_lists.proofs.pieces.push_all_numbers.Given as goal
 
 abbrev pub invariant-loop-line : goal.invariant-loop-line

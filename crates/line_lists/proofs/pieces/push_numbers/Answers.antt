@@ -1,7 +1,4 @@
-use Rattle.std.proofs.Common.{◌++◌, ◌∷◌, [], sym, ap, ◌∙◌}
-use Rattle.std.proofs.lemmas.List.{map-append}
-use Rattle.text_model.specs.declared.places.MarkNo.{MarkNo}
-use Rattle.line_lists.specs.Pieces.{named}
+use Rattle.line_lists.proofs.Words.{◌++◌, ◌∷◌, [], sym, ap, ◌∙◌, map-append, MarkNo, named}
 use Rattle.line_lists.proofs.FreedLaws.{numbers-all, numbers-more}
 use Rattle.line_lists.proofs.pieces.push_numbers.Goals as goal
 

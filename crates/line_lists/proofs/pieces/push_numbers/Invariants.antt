@@ -1,6 +1,5 @@
-use Rattle.std.proofs.Common.{◌≡◌, ◌-◌, ◌++◌, length, take}
+use Rattle.line_lists.proofs.Words.{◌≡◌, ◌-◌, ◌++◌, length, take, named, numbers_of}
 use Rattle.std.specs.FinMap as finite
-use Rattle.line_lists.specs.Pieces.{named, numbers_of}
 use Rattle.line_lists.proofs.pieces.push_numbers.Given as goal
 
 abbrev pub invariant-loop-number : goal.invariant-loop-number

@@ -1,5 +1,4 @@
-use Rattle.std.proofs.Common.{map, ap, ◌∙◌, arith}
-use Rattle.line_lists.specs.Edits.{without_mark}
+use Rattle.line_lists.proofs.Words.{map, ap, ◌∙◌, arith, without_mark}
 use Rattle.line_lists.proofs.GatherLaws.{freed-before}
 use Rattle.line_lists.proofs.pieces.take_marks.Goals as goal
 

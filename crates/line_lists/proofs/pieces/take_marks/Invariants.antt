@@ -1,5 +1,4 @@
-use Rattle.std.proofs.Common.{◌≡◌, ℕ, ◌≤◌, drop}
-use Rattle.line_lists.specs.Pieces.{freed, named}
+use Rattle.line_lists.proofs.Words.{◌≡◌, ℕ, ◌≤◌, drop, freed, named}
 use Rattle.line_lists.proofs.pieces.take_marks.Given as goal
 
 abbrev pub invariant-loop-index : goal.invariant-loop-index

@@ -1,8 +1,6 @@
-use Rattle.std.proofs.Common.{◌+◌, ◌-◌, ◌<◌, ◌≤◌, ◌++◌, ◌∙◌, ap, ap₂, refl, sym, arith, length}
-use Rattle.std.specs.Prelude.{chars, slice_range, string_bytes}
-use Rattle.std.proofs.lemmas.Result.{IfOk-weaker}
-use Rattle.segments.specs.Columns.{LineContent, characters}
-use Rattle.line_lists.specs.Texts.{whole}
+use Rattle.line_lists.proofs.Words.{◌+◌, ◌-◌, ◌<◌, ◌≤◌, ◌++◌, ◌∙◌, ap, ap₂, refl, sym, arith, length, slice_range}
+use Rattle.line_lists.proofs.Words.{string_bytes, IfOk-weaker, LineContent, characters, whole}
+use Rattle.std.specs.Prelude.{chars}
 use Rattle.line_lists.proofs.CountRows.{count-lines}
 use Rattle.line_lists.proofs.LineStarts.{at-within, length_at, lent, lent-length}
 use Rattle.line_lists.proofs.PlaceRows.{length-content}

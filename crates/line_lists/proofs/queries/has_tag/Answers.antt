@@ -1,6 +1,5 @@
-use Rattle.std.proofs.Common.{◌∙◌, ap, sym}
+use Rattle.line_lists.proofs.Words.{◌∙◌, ap, sym, content_of}
 use Rattle.std.specs.Prelude.{Some}
-use Rattle.line_lists.specs.Texts.{content_of}
 use Rattle.line_lists.proofs.PlaceRows.{flag-at}
 use Rattle.line_lists.proofs.queries.has_tag.Goals as goal
 

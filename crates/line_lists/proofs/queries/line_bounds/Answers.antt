@@ -1,7 +1,6 @@
-use Rattle.std.proofs.Common.{◌<◌, ◌∙◌, ap, sym, suc, arith, length, add-one}
+use Rattle.line_lists.proofs.Words.{◌<◌, ◌∙◌, ap, sym, suc, arith, length, add-one, content_of}
 use Rattle.text_model.specs.Content.{characters}
 use Rattle.text_model.specs.Lines.{line_start}
-use Rattle.line_lists.specs.Texts.{content_of}
 use Rattle.line_lists.proofs.CountRows.{count-characters}
 use Rattle.line_lists.proofs.LineStarts.{start-behind, start-most}
 use Rattle.line_lists.proofs.NewlineRows.{newlines-content, start-content}

@@ -1,7 +1,4 @@
-use Rattle.std.proofs.Common.{◌∙◌, ap, sym}
-use Rattle.std.specs.Prelude.{slice_get}
-use Rattle.text_model.specs.MarkOrder.{marks_at}
-use Rattle.segments.specs.Columns.{LineContent}
+use Rattle.line_lists.proofs.Words.{◌∙◌, ap, sym, slice_get, marks_at, LineContent}
 use Rattle.line_lists.proofs.LineStarts.{lent}
 use Rattle.line_lists.proofs.MarksAtRows.{marks-at}
 use Rattle.line_lists.proofs.queries.mark_at.Goals as goal

@@ -1,9 +1,6 @@
-use Rattle.std.proofs.Common.{◌≡◌, ◌+◌, ◌≤◌, ◌∙◌, length, ap, sym, true, false, arith}
-use Rattle.std.specs.Prelude.{is_some}
+use Rattle.line_lists.proofs.Words.{◌≡◌, ◌+◌, ◌≤◌, ◌∙◌, length, ap, sym, true, false, arith, is_some, Place}
+use Rattle.line_lists.proofs.Words.{LineContent, has_mark}
 use Rattle.std.specs.FinMap as finite
-use Rattle.text_model.specs.declared.places.Place.{Place}
-use Rattle.segments.specs.Columns.{LineContent}
-use Rattle.line_lists.specs.Lists.{has_mark}
 use Rattle.line_lists.proofs.CountRows.{count-characters}
 use Rattle.line_lists.proofs.LineStarts.{lent, placed-most, start_of}
 use Rattle.line_lists.proofs.MarkPlaces.{mark-nowhere, mark-out}

@@ -1,11 +1,6 @@
-use Rattle.std.proofs.Common.{ℕ, ◌+◌, ◌<◌, length, ◌∙◌, ap, sym, subst, suc, arith, refl, add-one}
+use Rattle.line_lists.proofs.Words.{ℕ, ◌+◌, ◌<◌, length, ◌∙◌, ap, sym, subst, suc, arith, refl, add-one, length-map}
+use Rattle.line_lists.proofs.Words.{Cell, flags, next_change-above, has_toggle, next_line, content_of}
 use Rattle.std.specs.FinSet as set
-use Rattle.std.proofs.lemmas.List.{length-map}
-use Rattle.text_model.specs.declared.cells.Cell.{Cell}
-use Rattle.text_model.specs.Content.{flags}
-use Rattle.text_model.proofs.ChangeLaws.{next_change-above}
-use Rattle.line_lists.specs.Lists.{has_toggle, next_line}
-use Rattle.line_lists.specs.Texts.{content_of}
 use Rattle.line_lists.proofs.CountRows.{count-characters, count-lines}
 use Rattle.line_lists.proofs.LineStarts.{lent-inner, near-column, near-most, placed-most}
 use Rattle.line_lists.proofs.NearChanges.{change-here, change-later, change-nowhere, lent-next, lent-none-next}

@@ -1,11 +1,6 @@
-use Rattle.std.proofs.Common.{ℕ, ◌+◌, ◌<◌, ◌≤◌, ◌∙◌, ap, sym, subst, arith, length, refl}
+use Rattle.line_lists.proofs.Words.{ℕ, ◌+◌, ◌<◌, ◌≤◌, ◌∙◌, ap, sym, subst, arith, length, refl, length-map, Cell, flags}
+use Rattle.line_lists.proofs.Words.{previous_change-below, has_toggle, content_of, whole}
 use Rattle.std.specs.FinSet as set
-use Rattle.std.proofs.lemmas.List.{length-map}
-use Rattle.text_model.specs.declared.cells.Cell.{Cell}
-use Rattle.text_model.specs.Content.{flags}
-use Rattle.text_model.proofs.ChangeLaws.{previous_change-below}
-use Rattle.line_lists.specs.Lists.{has_toggle}
-use Rattle.line_lists.specs.Texts.{content_of, whole}
 use Rattle.line_lists.proofs.CountRows.{count-characters}
 use Rattle.line_lists.proofs.LineStarts.{at-within, length_at, lent-length, near-column, placed-most}
 use Rattle.line_lists.proofs.NearChanges.{change-back, change-earlier, change-first, lent-none-previous, lent-previous}

@@ -1,9 +1,5 @@
-use Rattle.std.proofs.Common.{ℕ, ◌+◌, ◌<◌, ◌≤◌, ◌∙◌, ap, sym, Some, None, suc, arith, length}
-use Rattle.text_model.specs.MarkOrder.{previous_mark}
-use Rattle.text_model.proofs.MarkOrderLaws.{previous_mark-below}
-use Rattle.segments.specs.Columns.{LineContent}
-use Rattle.line_lists.specs.Lists.{has_marks}
-use Rattle.line_lists.specs.Texts.{whole}
+use Rattle.line_lists.proofs.Words.{ℕ, ◌+◌, ◌<◌, ◌≤◌, ◌∙◌, ap, sym, Some, None, suc, arith, length, previous_mark}
+use Rattle.line_lists.proofs.Words.{previous_mark-below, LineContent, has_marks, whole}
 use Rattle.line_lists.proofs.CountRows.{count-characters}
 use Rattle.line_lists.proofs.LineStarts.{length_at, lent, near-column, near-most, placed-most}
 use Rattle.line_lists.proofs.NearMarks.{if_some, lent-found, previous-earlier, previous-here, previous-nowhere}

@@ -1,7 +1,5 @@
-use Rattle.std.proofs.Common.{◌<◌, arith, subst}
+use Rattle.line_lists.proofs.Words.{◌<◌, arith, subst, long, run_end-le, content_of}
 use Rattle.text_model.specs.Content.{characters}
-use Rattle.text_model.proofs.RunLaws.{long, run_end-le}
-use Rattle.line_lists.specs.Texts.{content_of}
 use Rattle.line_lists.proofs.PlaceRows.{inside, length-content, length-counted}
 use Rattle.line_lists.proofs.RunRows.{run-end}
 use Rattle.line_lists.proofs.queries.run_end.Goals as goal

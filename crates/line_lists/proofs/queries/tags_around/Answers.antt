@@ -1,7 +1,5 @@
-use Rattle.std.proofs.Common.{◌<◌, ◌∙◌, ap, ap₂, sym, subst}
+use Rattle.line_lists.proofs.Words.{◌<◌, ◌∙◌, ap, ap₂, sym, subst, differing, tags_before}
 use Rattle.std.specs.Prelude.{Some}
-use Rattle.text_model.specs.SlotSets.{differing}
-use Rattle.segments.specs.Columns.{tags_before}
 use Rattle.line_lists.proofs.BareLaws.{bare-at, bare-before}
 use Rattle.line_lists.proofs.PlaceRows.{length-content, tags-at, tags-before}
 use Rattle.line_lists.proofs.queries.tags_around.Goals as goal

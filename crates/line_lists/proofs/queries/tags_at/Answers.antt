@@ -1,7 +1,5 @@
-use Rattle.std.proofs.Common.{◌<◌, ◌∙◌, sym, ap, subst}
+use Rattle.line_lists.proofs.Words.{◌<◌, ◌∙◌, sym, ap, subst, differing, tags_before}
 use Rattle.std.specs.Prelude.{Some}
-use Rattle.text_model.specs.SlotSets.{differing}
-use Rattle.segments.specs.Columns.{tags_before}
 use Rattle.line_lists.proofs.BareLaws.{bare-at}
 use Rattle.line_lists.proofs.PlaceRows.{length-content, tags-at}
 use Rattle.line_lists.proofs.queries.tags_at.Goals as goal

@@ -1,6 +1,5 @@
-use Rattle.std.proofs.Common.{◌∙◌, ap, sym}
+use Rattle.line_lists.proofs.Words.{◌∙◌, ap, sym, Slots}
 use Rattle.std.specs.FinSet as set
-use Rattle.text_model.specs.Content.{Slots}
 use Rattle.line_lists.proofs.SwitchLaws.{opposite, same_flag, switched_one, unswitched}
 use Rattle.line_lists.proofs.steps.switched_slots.Goals as goal
 

@@ -1,7 +1,5 @@
-use Rattle.std.proofs.Common.{length, sym, ap, ◌∙◌, arith}
+use Rattle.line_lists.proofs.Words.{length, sym, ap, ◌∙◌, arith, drafted_at, whole}
 use Rattle.std.specs.FinSet as set
-use Rattle.line_lists.specs.Drafts.{drafted_at}
-use Rattle.line_lists.specs.Texts.{whole}
 use Rattle.line_lists.proofs.PlaceRows.{length-cells}
 use Rattle.line_lists.proofs.StoreLaws.{some-text}
 use Rattle.line_lists.proofs.store.change_by.Goals as goal

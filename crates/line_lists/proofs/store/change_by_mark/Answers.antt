@@ -1,5 +1,4 @@
-use Rattle.std.proofs.Common.{refl}
-use Rattle.line_lists.specs.declared.store.Change.{Change}
+use Rattle.line_lists.proofs.Words.{refl, Change}
 use Rattle.line_lists.proofs.MoveLaws.{Brings, moved-can, moved-new}
 use Rattle.line_lists.proofs.store.change_by_mark.Given.{Over}
 use Rattle.line_lists.proofs.store.change_by_mark.Goals as goal

@@ -1,5 +1,4 @@
-use Rattle.std.proofs.Common.{refl}
-use Rattle.line_lists.specs.declared.store.Change.{Change}
+use Rattle.line_lists.proofs.Words.{refl, Change}
 use Rattle.line_lists.proofs.MoveLaws.{taken-can, taken-new}
 use Rattle.line_lists.proofs.store.change_by_taking.Goals as goal
 

@@ -1,8 +1,8 @@
-use Rattle.std.proofs.Common.{◌≡◌, ◌+◌, ◌-◌, suc, sym, ap, ◌∙◌, subst, arith, None}
+use Rattle.line_tree.proofs.Words.{◌≡◌, ◌+◌, ◌-◌, suc, sym, ap, ◌∙◌, subst, arith, None, insert, CanPut, Fills, sum_all}
+use Rattle.line_tree.proofs.Words.{kids, row, plus, records, sum_at}
 use Rattle.std.specs.FinMap as finite
-use Rattle.std.specs.List.{insert}
-use Rattle.line_tree.proofs.Words.{CanPut, Fills, kids, plus, records, row, sum_all, sum_at}
-use Rattle.line_tree.proofs.BehindLaws.{Base, Climbs, above-of, base-of, climbed, named-behind, parent-behind, some-parent}
+use Rattle.line_tree.proofs.BehindLaws.{Base, Climbs, above-of, base-of, climbed, named-behind, parent-behind}
+use Rattle.line_tree.proofs.BehindLaws.{some-parent}
 use Rattle.line_tree.proofs.InsertLaws.{has-now, low-can_put, low-inserts, low-sum, one-fits, one-inserts, one-sum}
 use Rattle.line_tree.proofs.RoomLaws.{len-puts, len-resummed}
 use Rattle.line_tree.proofs.ShiftLaws.{has-room, shifted-fills, shifted-fits, shifted-row, shifted-sum}

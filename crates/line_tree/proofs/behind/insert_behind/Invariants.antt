@@ -1,6 +1,5 @@
-use Rattle.std.proofs.Common.{◌≡◌, ◌≤◌}
+use Rattle.line_tree.proofs.Words.{◌≡◌, ◌≤◌, records, rooms, spares}
 use Rattle.std.specs.FinMap as finite
-use Rattle.raw_nodes.specs.Names.{records, rooms, spares}
 use Rattle.line_tree.proofs.BehindLaws.{Climbs}
 use Rattle.line_tree.proofs.behind.insert_behind.Given as goal
 

@@ -1,6 +1,4 @@
-use Rattle.std.proofs.Common.{◌+◌, sym, ap, ◌∙◌, subst, IsSome}
-use Rattle.line_tree.proofs.Words.{names, records, tree_at}
-use Rattle.line_tree.specs.Giving.{Without}
+use Rattle.line_tree.proofs.Words.{◌+◌, sym, ap, ◌∙◌, subst, IsSome, names, records, tree_at, Without}
 use Rattle.line_tree.proofs.GivingLaws.{no-line, node-room, without-node}
 use Rattle.line_tree.proofs.LowestLaws.{lowest-below}
 use Rattle.line_tree.proofs.RowLaws.{lines_is}

@@ -1,6 +1,4 @@
-use Rattle.std.proofs.Common.{◌≡◌, ◌+◌, take}
-use Rattle.line_tree.proofs.Words.{kids, nodes, records, rooms, spares}
-use Rattle.line_tree.specs.Giving.{Without}
+use Rattle.line_tree.proofs.Words.{◌≡◌, ◌+◌, take, kids, nodes, records, rooms, spares, Without}
 use Rattle.line_tree.proofs.branches.give_back_lines.Given as goal
 
 abbrev pub invariant-loop-slot : goal.invariant-loop-slot

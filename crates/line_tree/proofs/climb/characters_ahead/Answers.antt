@@ -1,10 +1,5 @@
-use Rattle.std.proofs.Common.{◌≡◌, ℕ, ap, sym, ◌∙◌, arith}
-use Rattle.std.specs.List.{sum_by}
-use Rattle.std.proofs.lemmas.List.{take_all}
-use Rattle.line_tree.proofs.Words.{NodePtr, Records, kids, lines_at, records}
-use Rattle.line_tree.specs.Finds.{HasRow}
-use Rattle.line_tree.specs.Locating.{characters_at, characters_below}
-use Rattle.line_tree.specs.Places.{characters_before}
+use Rattle.line_tree.proofs.Words.{◌≡◌, ℕ, ap, sym, ◌∙◌, arith, sum_by, take_all, NodePtr, Records, kids, lines_at}
+use Rattle.line_tree.proofs.Words.{records, HasRow, characters_at, characters_below, characters_before}
 use Rattle.line_tree.proofs.RowLaws.{size_is}
 use Rattle.line_tree.proofs.TreeLaws.{named-row}
 use Rattle.line_tree.proofs.climb.characters_ahead.Goals as goal

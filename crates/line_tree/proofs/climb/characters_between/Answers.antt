@@ -1,9 +1,5 @@
-use Rattle.std.proofs.Common.{◌+◌, ◌≤◌, take, sym, ap, ◌∙◌, arith}
-use Rattle.std.specs.List.{sum_by}
-use Rattle.std.proofs.lemmas.List.{take-take}
-use Rattle.std.proofs.lemmas.List.Sums.{sum_by-take-le}
-use Rattle.line_tree.proofs.Words.{kids, records}
-use Rattle.line_tree.specs.Locating.{characters_at}
+use Rattle.line_tree.proofs.Words.{◌+◌, ◌≤◌, take, sym, ap, ◌∙◌, arith, sum_by, take-take, sum_by-take-le, kids}
+use Rattle.line_tree.proofs.Words.{records, characters_at}
 use Rattle.line_tree.proofs.RowLaws.{child_is, none_of, size_is, step_no, step_yes}
 use Rattle.line_tree.proofs.climb.characters_between.Goals as goal
 use Rattle.line_tree.proofs.climb.characters_between.Goals.{in-Some, in_default}

@@ -1,6 +1,4 @@
-use Rattle.std.proofs.Common.{◌≡◌, ◌+◌}
-use Rattle.raw_nodes.specs.Names.{records}
-use Rattle.line_tree.specs.Places.{characters_before}
+use Rattle.line_tree.proofs.Words.{◌≡◌, ◌+◌, records, characters_before}
 use Rattle.line_tree.proofs.climb.characters_between.Given as goal
 
 abbrev pub invariant-loop-i : goal.invariant-loop-i

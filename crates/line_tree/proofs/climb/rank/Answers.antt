@@ -1,7 +1,5 @@
-use Rattle.std.proofs.Common.{◌≡◌, ℕ, ◌+◌, ◌-◌, suc, subst, arith}
-use Rattle.std.proofs.lemmas.Option.{slice_get_within}
-use Rattle.line_tree.proofs.Words.{NodePtr, Records, kids, lines_in, records}
-use Rattle.line_tree.specs.Places.{IsLineAt, Sits}
+use Rattle.line_tree.proofs.Words.{◌≡◌, ℕ, ◌+◌, ◌-◌, suc, subst, arith, slice_get_within, NodePtr, Records, kids}
+use Rattle.line_tree.proofs.Words.{lines_in, records, IsLineAt, Sits}
 use Rattle.line_tree.proofs.PlaceLaws.{Up, child-named, child-parent, level, line-within, sits, up_from}
 use Rattle.line_tree.proofs.TreeLaws.{row-tree}
 use Rattle.line_tree.proofs.climb.rank.Given.{Over}

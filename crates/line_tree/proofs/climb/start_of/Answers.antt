@@ -1,7 +1,5 @@
-use Rattle.std.proofs.Common.{◌≡◌, ℕ, ◌+◌, ◌-◌, suc, ap, subst, arith}
-use Rattle.std.proofs.lemmas.Option.{slice_get_within}
-use Rattle.line_tree.proofs.Words.{NodePtr, Records, kids, lines_in, records}
-use Rattle.line_tree.specs.Places.{Begins, IsLineAt}
+use Rattle.line_tree.proofs.Words.{◌≡◌, ℕ, ◌+◌, ◌-◌, suc, ap, subst, arith, slice_get_within, NodePtr, Records, kids}
+use Rattle.line_tree.proofs.Words.{lines_in, records, Begins, IsLineAt}
 use Rattle.line_tree.proofs.BeginLaws.{BeginsUp, begins-level, begins-named, begins-up, first-characters}
 use Rattle.line_tree.proofs.LocateLaws.{size-below}
 use Rattle.line_tree.proofs.PlaceLaws.{child-named, child-parent}

@@ -1,6 +1,4 @@
-use Rattle.std.proofs.Common.{◌≡◌, ℕ, ◌+◌, ◌-◌, take}
-use Rattle.line_tree.proofs.Words.{lines_in, records, total}
-use Rattle.line_tree.specs.Places.{Begins, IsLineAt}
+use Rattle.line_tree.proofs.Words.{◌≡◌, ℕ, ◌+◌, ◌-◌, take, lines_in, records, total, Begins, IsLineAt}
 use Rattle.line_tree.proofs.climb.start_of.Given as goal
 
 abbrev pub invariant-loop-level : goal.invariant-loop-level

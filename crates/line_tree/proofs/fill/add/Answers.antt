@@ -1,6 +1,5 @@
-use Rattle.std.proofs.Common.{◌≡◌, sym, ap, ◌∙◌, subst, IfSome}
-use Rattle.line_tree.proofs.Words.{Count, CountsFit, FitsSum, NodePtr, Records, plus, records, sum_at, sum_of, with_sum}
-use Rattle.line_tree.specs.Finds.{HasRow}
+use Rattle.line_tree.proofs.Words.{◌≡◌, sym, ap, ◌∙◌, subst, IfSome, Count, CountsFit, plus, FitsSum, NodePtr, Records}
+use Rattle.line_tree.proofs.Words.{with_sum, records, sum_at, sum_of, HasRow}
 use Rattle.line_tree.proofs.KeptLaws.{update-as}
 use Rattle.line_tree.proofs.SumLaws.{fits-both}
 use Rattle.line_tree.proofs.UpdateLaws.{inner-row}

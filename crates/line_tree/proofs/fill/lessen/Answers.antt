@@ -1,5 +1,5 @@
-use Rattle.std.proofs.Common.{sym, ap, ◌∙◌, subst, arith, IfSome}
-use Rattle.line_tree.proofs.Words.{Count, HasCounts, counting, kids, less, records, row, sum_of, sums, with_sum}
+use Rattle.line_tree.proofs.Words.{sym, ap, ◌∙◌, subst, arith, IfSome, Count, HasCounts, counting, less, kids, row}
+use Rattle.line_tree.proofs.Words.{records, sum_of, sums, with_sum}
 use Rattle.line_tree.proofs.KeptLaws.{update-as}
 use Rattle.line_tree.proofs.LessLaws.{less-plus}
 use Rattle.line_tree.proofs.UpdateLaws.{inner-row}

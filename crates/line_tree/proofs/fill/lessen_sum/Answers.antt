@@ -1,5 +1,4 @@
-use Rattle.std.proofs.Common.{sym, ap, ◌∙◌, arith}
-use Rattle.line_tree.proofs.Words.{Count, less, records, sums}
+use Rattle.line_tree.proofs.Words.{sym, ap, ◌∙◌, arith, Count, less, records, sums}
 use Rattle.line_tree.proofs.LessLaws.{less-plus}
 use Rattle.line_tree.proofs.fill.lessen_sum.Goals as goal
 

@@ -1,7 +1,6 @@
-use Rattle.std.proofs.Common.{sym, ap, ◌∙◌, subst, Some, IsSome}
+use Rattle.line_tree.proofs.Words.{sym, ap, ◌∙◌, subst, Some, IsSome, link_one, records, update, with_child}
+use Rattle.line_tree.proofs.Words.{with_parent, named-update}
 use Rattle.std.specs.FinMap as finite
-use Rattle.line_tree.proofs.Words.{link_one, records, update, with_child, with_parent}
-use Rattle.raw_nodes.proofs.UpdateLaws.{named-update}
 use Rattle.line_tree.proofs.RowLaws.{none_of}
 use Rattle.line_tree.proofs.fill.link.Goals as goal
 

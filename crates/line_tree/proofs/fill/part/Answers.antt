@@ -1,6 +1,4 @@
-use Rattle.std.proofs.Common.{◌≤◌, length, take, drop, arith, length-take}
-use Rattle.std.specs.List.{insert}
-use Rattle.line_tree.proofs.Words.{kids, records}
+use Rattle.line_tree.proofs.Words.{◌≤◌, length, take, drop, arith, length-take, insert, kids, records}
 use Rattle.line_tree.proofs.FillLaws.{same_row}
 use Rattle.line_tree.proofs.fill.part.Goals as goal
 

@@ -1,6 +1,4 @@
-use Rattle.std.proofs.Common.{◌≡◌, ℕ, ◌<◌, length, get_or, take, drop, None, slice_get}
-use Rattle.std.specs.List.{insert}
-use Rattle.line_tree.proofs.Words.{kids, records}
+use Rattle.line_tree.proofs.Words.{◌≡◌, ℕ, ◌<◌, length, get_or, take, drop, None, slice_get, insert, kids, records}
 use Rattle.line_tree.proofs.fill.part.Given as goal
 
 abbrev pub invariant-loop-i : goal.invariant-loop-i

@@ -1,19 +1,15 @@
-use Rattle.std.proofs.Common.{◌≡◌, ◌-◌, ◌≤◌, ℕ, List, Some, length, take, drop, ap, refl, sym, ◌∙◌, subst, arith}
-use Rattle.std.proofs.Common.{length-drop, None, not, IfSome, IsSome, slice_get, Option}
+use Rattle.line_tree.proofs.Words.{◌≡◌, ◌-◌, ◌≤◌, ℕ, List, Some, length, take, drop, ap, refl, sym, ◌∙◌, subst, arith}
+use Rattle.line_tree.proofs.Words.{length-drop, None, not, IfSome, IsSome, slice_get, Option, insert, take_all}
+use Rattle.line_tree.proofs.Words.{length-insert, Among, CanFill, CanPut, FitsSum, Stay, refilled, sum_all, sums, Count}
+use Rattle.line_tree.proofs.Words.{plus, NodePtr, Records, blank, kids, row, records, sum_at, HasRow}
 use Rattle.std.specs.FinMap as finite
-use Rattle.std.specs.List.{insert}
-use Rattle.std.proofs.lemmas.List.{take_all}
-use Rattle.std.proofs.lemmas.List.Edits.{length-insert}
-use Rattle.line_tree.proofs.Words.{Among, CanFill, CanPut, Count, FitsSum, NodePtr, Records, Stay, blank, kids, plus}
-use Rattle.line_tree.proofs.Words.{records, refilled, row, sum_all, sum_at, sums}
-use Rattle.line_tree.specs.Finds.{HasRow}
 use Rattle.line_tree.proofs.AmongLaws.{among-drop, among-take, get-among}
 use Rattle.line_tree.proofs.FillLaws.{row-some, sums-row}
 use Rattle.line_tree.proofs.RowLaws.{sum_is}
 use Rattle.line_tree.proofs.SumLaws.{fits-both}
 use Rattle.line_tree.proofs.TreeLaws.{named-row}
-use Rattle.line_tree.proofs.PutLaws.{fill-left, fill-right, first-fits, halves-sum, kept-left}
-use Rattle.line_tree.proofs.PutLaws.{last-fits, left-sums, named-all, right-sums}
+use Rattle.line_tree.proofs.PutLaws.{fill-left, fill-right, first-fits, halves-sum, kept-left, last-fits, left-sums}
+use Rattle.line_tree.proofs.PutLaws.{named-all, right-sums}
 use Rattle.line_tree.proofs.ShiftLaws.{has-none, has-room, shifted-fills, shifted-fits, shifted-row, shifted-sum}
 use Rattle.line_tree.proofs.fill.put.Goals as goal
 

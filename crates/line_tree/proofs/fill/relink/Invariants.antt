@@ -1,5 +1,4 @@
-use Rattle.std.proofs.Common.{◌≡◌, drop}
-use Rattle.line_tree.proofs.Words.{IsInner, IsName, NodePtr, records, relinked, rooms, spares}
+use Rattle.line_tree.proofs.Words.{◌≡◌, drop, IsInner, IsName, records, rooms, spares, NodePtr, relinked}
 use Rattle.line_tree.proofs.fill.relink.Given as goal
 
 abbrev pub invariant-loop-slot : goal.invariant-loop-slot

@@ -1,7 +1,5 @@
-use Rattle.std.proofs.Common.{◌+◌, sym, ◌∙◌, subst, arith, refl, IsSome}
+use Rattle.line_tree.proofs.Words.{◌+◌, sym, ◌∙◌, subst, arith, refl, IsSome, same_Some, records}
 use Rattle.std.specs.FinMap as finite
-use Rattle.std.proofs.lemmas.Option.{same_Some}
-use Rattle.raw_nodes.specs.Names.{records}
 use Rattle.line_tree.proofs.RowLaws.{none_of}
 use Rattle.line_tree.proofs.ShiftLaws.{Shifting, shift-child, shift-first, shift-last, shift-named, shift-next}
 use Rattle.line_tree.proofs.ShiftLaws.{shift-within}

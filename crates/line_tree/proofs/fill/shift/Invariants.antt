@@ -1,5 +1,4 @@
-use Rattle.std.proofs.Common.{◌≡◌, ◌-◌}
-use Rattle.raw_nodes.specs.Names.{records, rooms, spares}
+use Rattle.line_tree.proofs.Words.{◌≡◌, ◌-◌, records, rooms, spares}
 use Rattle.line_tree.proofs.ShiftLaws.{Shifting}
 use Rattle.line_tree.proofs.fill.shift.Given as goal
 

@@ -1,11 +1,7 @@
-use Rattle.std.proofs.Common.{◌≡◌, ◌+◌, ◌≤◌, ◌<◌, ℕ, drop, length, sym, ap, ◌∙◌, subst, Some, None, arith, slice_get}
-use Rattle.std.proofs.Common.{Option}
-use Rattle.std.proofs.lemmas.List.{drop_all}
-use Rattle.toggle_sums.specs.CountLaws.{no_text-plus, plus-associative, plus-no_text}
-use Rattle.line_tree.proofs.Words.{CountsFit, FitsSum, NodePtr, Records, kids, plus, records, row, sum_at, sum_or_none}
-use Rattle.line_tree.proofs.Words.{sums}
-use Rattle.raw_nodes.proofs.RowLaws.{length-row}
-use Rattle.line_tree.specs.Finds.{HasRow}
+use Rattle.line_tree.proofs.Words.{◌≡◌, ◌+◌, ◌≤◌, ◌<◌, ℕ, drop, length, sym, ap, ◌∙◌, subst, Some, None, arith}
+use Rattle.line_tree.proofs.Words.{slice_get, Option, drop_all, no_text-plus, plus-associative, plus-no_text, CountsFit}
+use Rattle.line_tree.proofs.Words.{plus, FitsSum, sum_or_none, sums, NodePtr, Records, kids, row, records, sum_at}
+use Rattle.line_tree.proofs.Words.{length-row, HasRow}
 use Rattle.line_tree.proofs.RowLaws.{added_is, asks, child_is, none_of, sums-step}
 use Rattle.line_tree.proofs.SumLaws.{fits-both, fits-left}
 use Rattle.line_tree.proofs.fill.sum_below.Goals as goal

@@ -1,5 +1,4 @@
-use Rattle.std.proofs.Common.{◌≡◌, drop}
-use Rattle.line_tree.proofs.Words.{kids, plus, records, row, sums}
+use Rattle.line_tree.proofs.Words.{◌≡◌, drop, kids, row, plus, records, sums}
 use Rattle.line_tree.proofs.fill.sum_below.Given as goal
 
 abbrev pub invariant-loop-slot : goal.invariant-loop-slot

@@ -1,9 +1,7 @@
-use Rattle.std.proofs.Common.{◌≡◌, ◌+◌, ◌≤◌, ◌<◌, ℕ, List, drop, length, get_or, sym, ap, ◌∙◌, subst, Some, None, arith}
-use Rattle.std.proofs.Common.{slice_get, Option}
-use Rattle.std.proofs.lemmas.List.{at_drop_more, drop_all}
-use Rattle.std.proofs.lemmas.Option.{slice_get-get_or}
-use Rattle.toggle_sums.specs.CountLaws.{no_text-plus, plus-associative, plus-no_text}
-use Rattle.line_tree.proofs.Words.{CountsFit, FitsSum, NodePtr, Records, plus, records, sum_at, sum_or_none, sums}
+use Rattle.line_tree.proofs.Words.{◌≡◌, ◌+◌, ◌≤◌, ◌<◌, ℕ, List, drop, length, get_or, sym, ap, ◌∙◌, subst, Some, None}
+use Rattle.line_tree.proofs.Words.{arith, slice_get, Option, at_drop_more, drop_all, slice_get-get_or, no_text-plus}
+use Rattle.line_tree.proofs.Words.{plus-associative, plus-no_text, CountsFit, plus, FitsSum, sum_or_none, sums, NodePtr}
+use Rattle.line_tree.proofs.Words.{Records, records, sum_at}
 use Rattle.line_tree.proofs.RowLaws.{added_is, asks, none_of}
 use Rattle.line_tree.proofs.SumLaws.{fits-both, fits-left}
 use Rattle.line_tree.proofs.fill.sum_of.Goals as goal

@@ -1,5 +1,4 @@
-use Rattle.std.proofs.Common.{◌≡◌, drop}
-use Rattle.line_tree.proofs.Words.{plus, records, sums}
+use Rattle.line_tree.proofs.Words.{◌≡◌, drop, plus, records, sums}
 use Rattle.line_tree.proofs.fill.sum_of.Given as goal
 
 abbrev pub invariant-loop-slot : goal.invariant-loop-slot

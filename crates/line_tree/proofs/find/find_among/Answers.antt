@@ -1,8 +1,5 @@
-use Rattle.std.proofs.Common.{◌≡◌, ℕ, ◌-◌, take, sym, ap, subst, arith}
-use Rattle.line_tree.proofs.Words.{NodePtr, Records, kids, records}
-use Rattle.line_tree.specs.Aims.{nothing-adds}
-use Rattle.line_tree.specs.Finds.{Finds}
-use Rattle.line_tree.specs.Searches.{Reaches, sum_below}
+use Rattle.line_tree.proofs.Words.{◌≡◌, ℕ, ◌-◌, take, sym, ap, subst, arith, NodePtr, Records, kids, records}
+use Rattle.line_tree.proofs.Words.{nothing-adds, Finds, Reaches, sum_below}
 use Rattle.line_tree.specs.declared.search.Reached.{Reached}
 use Rattle.line_tree.proofs.SearchLaws.{wide-all}
 use Rattle.line_tree.proofs.find.find_among.Goals as goal

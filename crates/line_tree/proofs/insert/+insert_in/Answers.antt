@@ -1,13 +1,7 @@
-use Rattle.std.proofs.Common.{◌≡◌, ℕ, ◌-◌, ◌<◌, ◌≤◌, suc, sym, subst, arith, None, Some, ◌+◌, ap, ◌∙◌, Option, length}
-use Rattle.std.proofs.Common.{option_to_list}
+use Rattle.line_tree.proofs.Words.{◌≡◌, ℕ, ◌-◌, ◌<◌, ◌≤◌, suc, sym, subst, arith, None, Some, ◌+◌, ap, ◌∙◌, Option}
+use Rattle.line_tree.proofs.Words.{length, option_to_list, insert, slice_get_within, Count, plus, NodePtr, Records}
+use Rattle.line_tree.proofs.Words.{kids, row, records, sum_all, sum_at, Leads, CanInsert, Inserts, Respreads, Found}
 use Rattle.std.specs.FinMap as finite
-use Rattle.std.specs.List.{insert}
-use Rattle.std.proofs.lemmas.Option.{slice_get_within}
-use Rattle.line_tree.proofs.Words.{Count, NodePtr, Records, kids, plus, records, row, sum_all, sum_at}
-use Rattle.line_tree.specs.Finds.{Leads}
-use Rattle.line_tree.specs.Growth.{CanInsert, Inserts}
-use Rattle.line_tree.specs.Spreading.{Respreads}
-use Rattle.line_tree.specs.declared.find.Found.{Found}
 use Rattle.line_tree.proofs.InsertLaws.{can-child, has-node, has-now, low-can_put, low-inserts, low-sum, one-fits}
 use Rattle.line_tree.proofs.InsertLaws.{one-inserts, one-sum, two-can_put, two-inserts, two-sum}
 use Rattle.line_tree.proofs.RoomLaws.{len-puts, len-resummed}

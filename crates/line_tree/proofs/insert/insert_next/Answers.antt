@@ -1,6 +1,4 @@
-use Rattle.std.proofs.Common.{sym, ap, ◌∙◌, subst, arith}
-use Rattle.line_tree.proofs.Words.{records, sum_at}
-use Rattle.line_tree.specs.Growth.{CanInsert, Inserts}
+use Rattle.line_tree.proofs.Words.{sym, ap, ◌∙◌, subst, arith, records, sum_at, CanInsert, Inserts}
 use Rattle.line_tree.proofs.insert.insert_next.Goals as goal
 
 pub insert_in-requires : goal.insert_in-requires

@@ -1,6 +1,4 @@
-use Rattle.std.proofs.Common.{refl, sym, ◌∙◌, subst, IsSome}
-use Rattle.std.proofs.lemmas.Option.{slice_get-get_or}
-use Rattle.line_tree.proofs.Words.{kids, records}
+use Rattle.line_tree.proofs.Words.{refl, sym, ◌∙◌, subst, IsSome, slice_get-get_or, kids, records}
 use Rattle.line_tree.proofs.RowLaws.{child_is}
 use Rattle.line_tree.proofs.insert.lead.Goals as goal
 

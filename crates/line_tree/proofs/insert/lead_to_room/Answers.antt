@@ -1,8 +1,5 @@
-use Rattle.std.proofs.Common.{◌≡◌, ℕ, ◌-◌, ◌<◌, sym, suc, arith, subst, Bool}
-use Rattle.line_tree.proofs.Words.{NodePtr, Records, records}
-use Rattle.line_tree.specs.declared.find.Found.{Found}
-use Rattle.line_tree.specs.Growth.{CanInsert}
-use Rattle.line_tree.specs.Spreading.{Moves, Respreads}
+use Rattle.line_tree.proofs.Words.{◌≡◌, ℕ, ◌-◌, ◌<◌, sym, suc, arith, subst, Bool, NodePtr, Records, records, Found}
+use Rattle.line_tree.proofs.Words.{CanInsert, Moves, Respreads}
 use Rattle.line_tree.proofs.InsertLaws.{has-node, some-kids, within-kids}
 use Rattle.line_tree.proofs.SpreadLaws.{can-spread, can-yet, len-moves, moved, unmoved}
 use Rattle.line_tree.proofs.TreeLaws.{whole-below}

@@ -1,5 +1,4 @@
-use Rattle.std.proofs.Common.{◌≡◌, length, subst, vec_len, arith}
-use Rattle.line_lists.specs.Lists.{NumbersBelow}
+use Rattle.line_tree.proofs.Words.{◌≡◌, length, subst, vec_len, arith, NumbersBelow}
 use Rattle.line_tree.proofs.WalkLaws.{Passes, all-forgotten, forgets, forgets-within}
 use Rattle.line_tree.proofs.mark_names.forget.Goals as goal
 

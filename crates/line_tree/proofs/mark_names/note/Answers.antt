@@ -1,5 +1,4 @@
-use Rattle.std.proofs.Common.{sym, subst, arith}
-use Rattle.line_lists.specs.Lists.{NumbersBelow}
+use Rattle.line_tree.proofs.Words.{sym, subst, arith, NumbersBelow}
 use Rattle.line_tree.proofs.WalkLaws.{Passes, all-known, notes, notes-within}
 use Rattle.line_tree.proofs.mark_names.note.Goals as goal
 

@@ -1,5 +1,4 @@
-use Rattle.std.proofs.Common.{sym, subst, vec_len, arith}
-use Rattle.line_lists.specs.Lists.{NumbersBelow}
+use Rattle.line_tree.proofs.Words.{sym, subst, vec_len, arith, NumbersBelow}
 use Rattle.line_tree.proofs.TableLaws.{index-below, index-within, number-below, written-all, written-more}
 use Rattle.line_tree.proofs.mark_names.write.Goals as goal
 

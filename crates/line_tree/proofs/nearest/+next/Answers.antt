@@ -1,14 +1,12 @@
-use Rattle.std.proofs.Common.{◌≡◌, ◌+◌, ◌-◌, suc, sym, ap, ◌∙◌, subst, arith, None}
-use Rattle.line_tree.proofs.Words.{contents, kids, lines_at, lines_in, records}
-use Rattle.line_lists.specs.Lists.{next_line}
-use Rattle.line_lists.proofs.SearchRows.{FailFrom}
-use Rattle.line_tree.specs.Nearest.{passes, shows}
+use Rattle.line_tree.proofs.Words.{◌≡◌, ◌+◌, ◌-◌, suc, sym, ap, ◌∙◌, subst, arith, None, contents, kids, lines_at}
+use Rattle.line_tree.proofs.Words.{lines_in, records, next_line, FailFrom, passes, shows}
 use Rattle.line_tree.proofs.NearestLaws.{child-is, child-within, found-within, line-next, long, next-end, next-hit}
 use Rattle.line_tree.proofs.NearestLaws.{next-missed, none-next, past-next}
 use Rattle.line_tree.proofs.RowLaws.{child_is, lines_is, none_of, said, step_no, step_yes}
 use Rattle.line_tree.proofs.TreeLaws.{count-tree, named-tree, row-above, sum-tree}
 use Rattle.line_tree.proofs.nearest.+next.Goals as goal
-use Rattle.line_tree.proofs.nearest.+next.Goals.{else-rest-lines, in-Some, in_default, then-rest-lines+then-is_in+in_default-next}
+use Rattle.line_tree.proofs.nearest.+next.Goals.{else-rest-lines, in-Some, in_default}
+use Rattle.line_tree.proofs.nearest.+next.Goals.{then-rest-lines+then-is_in+in_default-next}
 use Rattle.line_tree.proofs.nearest.+next.Goals.{else-rest-lines-via-else-rest-lines}
 use Rattle.line_tree.proofs.nearest.+next.Goals.{else-rest-lines-via-then-rest-lines+else-is_in}
 use Rattle.line_tree.proofs.nearest.+next.Goals.{then-from-lines-via-then-from-lines}

@@ -1,10 +1,6 @@
-use Rattle.std.proofs.Common.{◌≡◌, ℕ, ◌+◌, ◌-◌, suc, min, sym, ap, ◌∙◌, subst, arith, slice_get, None, Some}
-use Rattle.line_tree.proofs.Words.{IsTree, NodePtr, Records, contents, kids, lines_at, lines_in, records}
-use Rattle.line_lists.specs.Lists.{previous_line}
-use Rattle.line_lists.proofs.SearchRows.{FailFrom}
-use Rattle.line_tree.specs.Nearest.{passes, shows}
-use Rattle.line_tree.specs.Places.{lines_before}
-use Rattle.line_tree.specs.declared.nearest.Wanted.{Wanted}
+use Rattle.line_tree.proofs.Words.{◌≡◌, ℕ, ◌+◌, ◌-◌, suc, min, sym, ap, ◌∙◌, subst, arith, slice_get, None, Some}
+use Rattle.line_tree.proofs.Words.{IsTree, lines_at, lines_in, NodePtr, Records, contents, kids, records, previous_line}
+use Rattle.line_tree.proofs.Words.{FailFrom, passes, shows, lines_before, Wanted}
 use Rattle.line_tree.proofs.NearestLaws.{Reaches, child-is, first-previous, last-before, line-previous, none-previous}
 use Rattle.line_tree.proofs.NearestLaws.{previous-end, previous-hit, previous-missed, reaches}
 use Rattle.line_tree.proofs.RowLaws.{child_is, lines_is, none_of, said, step_no, step_yes}

@@ -1,8 +1,4 @@
-use Rattle.std.proofs.Common.{◌≡◌, ◌≤◌}
-use Rattle.line_tree.proofs.Words.{contents, lines_in, records}
-use Rattle.line_lists.proofs.SearchRows.{FailFrom}
-use Rattle.line_tree.specs.Nearest.{passes}
-use Rattle.line_tree.specs.Places.{lines_before}
+use Rattle.line_tree.proofs.Words.{◌≡◌, ◌≤◌, contents, lines_in, records, FailFrom, passes, lines_before}
 use Rattle.line_tree.proofs.nearest.+previous.Given as goal
 
 abbrev pub invariant-loop-slot : goal.invariant-loop-slot

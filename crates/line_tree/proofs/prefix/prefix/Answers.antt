@@ -1,7 +1,5 @@
-use Rattle.std.proofs.Common.{◌≡◌, ◌-◌, suc, take, sym, ap, ◌∙◌, subst, arith}
-use Rattle.toggle_sums.specs.CountLaws.{no_text-plus}
-use Rattle.line_tree.proofs.Words.{Count, FitsSum, IsTree, lines_in, no_text, records, total}
-use Rattle.line_tree.specs.Aims.{sum-adds, sum_behind}
+use Rattle.line_tree.proofs.Words.{◌≡◌, ◌-◌, suc, take, sym, ap, ◌∙◌, subst, arith, no_text-plus, Count, no_text}
+use Rattle.line_tree.proofs.Words.{FitsSum, IsTree, lines_in, records, total, sum-adds, sum_behind}
 use Rattle.line_tree.specs.declared.aims.SumBefore.{SumBefore}
 use Rattle.line_tree.proofs.PrefixLaws.{all-lines, some-left}
 use Rattle.line_tree.proofs.RowLaws.{sum_is}

@@ -1,8 +1,5 @@
-use Rattle.std.proofs.Common.{◌≡◌, ℕ, suc, ◌+◌, ◌-◌, ◌*◌, ◌≤◌, ◌++◌, inl, inr, length, sym, ap, ◌∙◌, subst, arith}
-use Rattle.std.proofs.lemmas.Bool.{cases_lt}
-use Rattle.raw_nodes.specs.Names.{nodes, records, rooms, spares}
-use Rattle.line_tree.specs.Raising.{CanRaise, Lifted, Raises}
-use Rattle.line_tree.specs.Room.{levels_at_most}
+use Rattle.line_tree.proofs.Words.{◌≡◌, ℕ, suc, ◌+◌, ◌-◌, ◌*◌, ◌≤◌, ◌++◌, inl, inr, length, sym, ap, ◌∙◌, subst, arith}
+use Rattle.line_tree.proofs.Words.{cases_lt, nodes, records, rooms, spares, CanRaise, Lifted, Raises, levels_at_most}
 use Rattle.line_tree.proofs.LevelLaws.{low-levels}
 use Rattle.line_tree.proofs.LiftLaws.{lift-can, lift-levels, lift-more}
 use Rattle.line_tree.proofs.put_row.lift.Goals as goal

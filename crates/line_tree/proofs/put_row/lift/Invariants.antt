@@ -1,7 +1,5 @@
-use Rattle.std.proofs.Common.{◌≡◌, ◌+◌, ◌-◌, ◌*◌, ◌<◌, ◌≤◌, length, vec_capacity}
-use Rattle.raw_nodes.specs.Names.{nodes, records, rooms, spares}
-use Rattle.line_tree.specs.Raising.{Lifted}
-use Rattle.line_tree.specs.Room.{levels_at_most}
+use Rattle.line_tree.proofs.Words.{◌≡◌, ◌+◌, ◌-◌, ◌*◌, ◌<◌, ◌≤◌, length, vec_capacity, nodes, records, rooms, spares}
+use Rattle.line_tree.proofs.Words.{Lifted, levels_at_most}
 use Rattle.line_tree.proofs.put_row.lift.Given as goal
 
 abbrev pub invariant-loop-below : goal.invariant-loop-below

@@ -1,7 +1,5 @@
-use Rattle.std.proofs.Common.{◌≡◌, ◌+◌, ◌≤◌, [], length, reverse, take, drop, vec_capacity}
-use Rattle.line_tree.proofs.Words.{contents, nodes, records, rooms, spares}
-use Rattle.line_tree.specs.Growth.{lines_of}
-use Rattle.line_tree.specs.Raising.{Becomes, trees_at}
+use Rattle.line_tree.proofs.Words.{◌≡◌, ◌+◌, ◌≤◌, [], length, reverse, take, drop, vec_capacity, contents, nodes}
+use Rattle.line_tree.proofs.Words.{records, rooms, spares, lines_of, Becomes, trees_at}
 use Rattle.line_tree.proofs.put_row.make_row.Given as goal
 
 abbrev pub invariant-loop-lines : goal.invariant-loop-lines

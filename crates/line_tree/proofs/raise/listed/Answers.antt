@@ -1,8 +1,5 @@
-use Rattle.std.proofs.Common.{◌≡◌, get_or, None, ap, ◌∙◌}
+use Rattle.line_tree.proofs.Words.{◌≡◌, get_or, None, ap, ◌∙◌, kids, records, at_some, get_or-row}
 use Rattle.std.specs.FinMap as finite
-use Rattle.line_tree.proofs.Words.{kids, records}
-use Rattle.raw_nodes.proofs.MapLaws.{at_some}
-use Rattle.raw_nodes.proofs.RowLaws.{get_or-row}
 use Rattle.line_tree.proofs.raise.listed.Goals as goal
 
 pub returns : goal.returns

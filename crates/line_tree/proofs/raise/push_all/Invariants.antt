@@ -1,4 +1,4 @@
-use Rattle.std.proofs.Common.{◌≡◌, ◌++◌, take, vec_capacity}
+use Rattle.line_tree.proofs.Words.{◌≡◌, ◌++◌, take, vec_capacity}
 use Rattle.line_tree.proofs.raise.push_all.Given as goal
 
 abbrev pub invariant-loop-i : goal.invariant-loop-i

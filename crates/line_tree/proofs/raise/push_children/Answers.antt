@@ -1,7 +1,6 @@
-use Rattle.std.proofs.Common.{◌++◌, sym, ap, ◌∙◌, arith, vec_capacity, Vec, option_to_list}
+use Rattle.line_tree.proofs.Words.{◌++◌, sym, ap, ◌∙◌, arith, vec_capacity, Vec, option_to_list, append-nil, NodePtr}
+use Rattle.line_tree.proofs.Words.{kids, records}
 use Rattle.std.specs.Global.{Global}
-use Rattle.std.proofs.lemmas.List.{append-nil}
-use Rattle.line_tree.proofs.Words.{NodePtr, kids, records}
 use Rattle.line_tree.proofs.RaiseLaws.{grown}
 use Rattle.line_tree.proofs.raise.push_children.Goals as goal
 use Rattle.line_tree.proofs.raise.push_children.Goals.{in-Some, in_default}

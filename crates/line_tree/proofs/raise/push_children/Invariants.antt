@@ -1,5 +1,4 @@
-use Rattle.std.proofs.Common.{◌≡◌, ◌-◌, ◌≤◌, ◌++◌, take, drop, vec_capacity}
-use Rattle.line_tree.proofs.Words.{kids, records}
+use Rattle.line_tree.proofs.Words.{◌≡◌, ◌-◌, ◌≤◌, ◌++◌, take, drop, vec_capacity, kids, records}
 use Rattle.line_tree.proofs.raise.push_children.Given as goal
 
 abbrev pub invariant-loop-slot : goal.invariant-loop-slot

@@ -1,9 +1,6 @@
-use Rattle.std.proofs.Common.{◌≡◌, ℕ, ◌+◌, ◌-◌, ◌*◌, ◌<◌, ◌≤◌, inl, inr, List, [], ◌∷◌, ◌++◌, length, take, drop, sym}
-use Rattle.std.proofs.Common.{ap, ◌∙◌, subst, arith, length-take, length-drop}
-use Rattle.std.proofs.lemmas.Bool.{cases_lt}
-use Rattle.std.proofs.lemmas.List.{length_push, take_all}
-use Rattle.line_tree.proofs.Words.{NodePtr, records}
-use Rattle.line_tree.specs.Raising.{CanRaise, Raises}
+use Rattle.line_tree.proofs.Words.{◌≡◌, ℕ, ◌+◌, ◌-◌, ◌*◌, ◌<◌, ◌≤◌, inl, inr, List, [], ◌∷◌, ◌++◌, length, take, drop}
+use Rattle.line_tree.proofs.Words.{sym, ap, ◌∙◌, subst, arith, length-take, length-drop, cases_lt, length_push}
+use Rattle.line_tree.proofs.Words.{take_all, NodePtr, records, CanRaise, Raises}
 use Rattle.line_tree.proofs.RaiseLaws.{next-fits, next-there, raises-more, three-parts, two-parts}
 use Rattle.line_tree.proofs.raise.raise.Goals as goal
 

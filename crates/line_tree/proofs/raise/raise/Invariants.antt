@@ -1,6 +1,5 @@
-use Rattle.std.proofs.Common.{◌≡◌, ℕ, ◌+◌, ◌-◌, ◌*◌, ◌≤◌, ◌<◌, length, take, vec_capacity}
-use Rattle.raw_nodes.specs.Names.{nodes, records, rooms, spares}
-use Rattle.line_tree.specs.Raising.{CanRaise, Raises}
+use Rattle.line_tree.proofs.Words.{◌≡◌, ℕ, ◌+◌, ◌-◌, ◌*◌, ◌≤◌, ◌<◌, length, take, vec_capacity, nodes, records, rooms}
+use Rattle.line_tree.proofs.Words.{spares, CanRaise, Raises}
 use Rattle.line_tree.proofs.raise.raise.Given as goal
 
 abbrev pub invariant-loop-from : goal.invariant-loop-from

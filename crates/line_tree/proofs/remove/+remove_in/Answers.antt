@@ -1,19 +1,15 @@
-use Rattle.std.proofs.Common.{◌≡◌, ℕ, zero, suc, ◌+◌, ◌-◌, ◌<◌, ◌≤◌, ◌⊎◌, inl, inr, length, refl, sym, subst, arith}
-use Rattle.std.proofs.Common.{Some, None, ap, ◌∙◌, IsSome}
+use Rattle.line_tree.proofs.Words.{◌≡◌, ℕ, zero, suc, ◌+◌, ◌-◌, ◌<◌, ◌≤◌, ◌⊎◌, inl, inr, length, refl, sym, subst}
+use Rattle.line_tree.proofs.Words.{arith, Some, None, ap, ◌∙◌, IsSome, remove, FitsSum, resummed, sum_all, IsTree}
+use Rattle.line_tree.proofs.Words.{Links, lines_in, sum_at, sum_of, NodePtr, Records, kids, row, plus, records}
+use Rattle.line_tree.proofs.Words.{same_Some, Found, CanRemove, Cleans, Removes, Settles}
 use Rattle.std.specs.FinMap as finite
-use Rattle.std.specs.List.{remove}
-use Rattle.line_tree.proofs.Words.{FitsSum, IsTree, Links, NodePtr, Records, kids, lines_in, plus, records, resummed}
-use Rattle.line_tree.proofs.Words.{row, sum_all, sum_at, sum_of}
 use Rattle.line_tree.proofs.FillLaws.{sums-row}
 use Rattle.line_tree.proofs.KeptLaws.{kept-whole}
 use Rattle.line_tree.proofs.RowLaws.{lines_is, sum_is}
-use Rattle.std.proofs.lemmas.Option.{same_Some}
-use Rattle.line_tree.specs.declared.find.Found.{Found}
-use Rattle.line_tree.specs.Shrinking.{CanRemove, Cleans, Removes, Settles}
 use Rattle.line_tree.proofs.RemovePairs.{sum-ready, below-now, can-mend, cleans-gone, cleans-ready, fill-ready}
 use Rattle.line_tree.proofs.RemovePairs.{has-ready, inner-ready, links-ready, removes-gone, removes-ready, slot-ready}
-use Rattle.line_tree.proofs.RemoveSteps.{can-below, child-named, child-now, gone-same, has-now, line-alone}
-use Rattle.line_tree.proofs.RemoveSteps.{one-cleans, one-fill, one-long, one-removes, one-sum, two-kids, within-slot}
+use Rattle.line_tree.proofs.RemoveSteps.{can-below, child-named, child-now, gone-same, has-now, line-alone, one-cleans}
+use Rattle.line_tree.proofs.RemoveSteps.{one-fill, one-long, one-removes, one-sum, two-kids, within-slot}
 use Rattle.line_tree.proofs.RoomLaws.{len-gone, len-refilled, len-resummed, len-settles}
 use Rattle.line_tree.proofs.TreeLaws.{below-tree, named-tree, row-tree, tops-tree_at, whole-below}
 use Rattle.line_tree.proofs.UpdateLaws.{InnerIn, inner-refilled, named-refilled, room-given}

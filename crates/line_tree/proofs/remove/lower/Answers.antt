@@ -1,11 +1,8 @@
-use Rattle.std.proofs.Common.{◌≡◌, ℕ, ◌-◌, ◌<◌, suc, length, [], ◌∷◌, refl, sym, ap, ◌∙◌, subst, arith, None, IsSome}
+use Rattle.line_tree.proofs.Words.{◌≡◌, ℕ, ◌-◌, ◌<◌, suc, length, [], ◌∷◌, refl, sym, ap, ◌∙◌, subst, arith, None}
+use Rattle.line_tree.proofs.Words.{IsSome, length-map, slice_get-get_or, IsBalancedRoot, NodePtr, Records, update}
+use Rattle.line_tree.proofs.Words.{with_parent, kids, records, tree_at, len-update, named-update, HasRow, CanLower}
+use Rattle.line_tree.proofs.Words.{Lowers}
 use Rattle.std.specs.FinMap as finite
-use Rattle.std.proofs.lemmas.List.{length-map}
-use Rattle.std.proofs.lemmas.Option.{slice_get-get_or}
-use Rattle.line_tree.proofs.Words.{IsBalancedRoot, NodePtr, Records, kids, records, tree_at, update, with_parent}
-use Rattle.raw_nodes.proofs.UpdateLaws.{len-update, named-update}
-use Rattle.line_tree.specs.Finds.{HasRow}
-use Rattle.line_tree.specs.Shrinking.{CanLower, Lowers}
 use Rattle.line_tree.proofs.LowerLaws.{lowers-child, lowers-same, only-child}
 use Rattle.line_tree.proofs.PutLaws.{count-row}
 use Rattle.line_tree.proofs.RoomLaws.{len-gone}

@@ -1,8 +1,6 @@
-use Rattle.std.proofs.Common.{◌≡◌, sym, ap, ◌∙◌, subst, arith, IfSome}
+use Rattle.line_tree.proofs.Words.{◌≡◌, sym, ap, ◌∙◌, subst, arith, IfSome, CanExchange, Count, IsWithin, exchanged}
+use Rattle.line_tree.proofs.Words.{plus, without, FitsSum, sums, kids, row, records, sum_of, with_sum, same_slots}
 use Rattle.std.specs.FinSet as set
-use Rattle.line_tree.proofs.Words.{CanExchange, Count, FitsSum, IsWithin, exchanged, kids, plus, records, row, sum_of}
-use Rattle.line_tree.proofs.Words.{sums, with_sum, without}
-use Rattle.toggle_sums.specs.CountLaws.{same_slots}
 use Rattle.toggle_sums.proofs.ExchangeLaws.{union-part}
 use Rattle.line_tree.proofs.KeptLaws.{update-as}
 use Rattle.line_tree.proofs.LessLaws.{without-plus}

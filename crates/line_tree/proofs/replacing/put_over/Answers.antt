@@ -1,7 +1,5 @@
-use Rattle.std.proofs.Common.{◌≡◌, ap, sym, ◌∙◌, subst, OnSome, option_map}
-use Rattle.raw_nodes.specs.LineLending.{WroteLine}
-use Rattle.raw_nodes.proofs.MapLaws.{at_some}
-use Rattle.line_tree.specs.Shape.{line_of}
+use Rattle.line_tree.proofs.Words.{◌≡◌, ap, sym, ◌∙◌, subst, OnSome, WroteLine, at_some, line_of}
+use Rattle.std.proofs.Common.{option_map}
 use Rattle.line_tree.proofs.replacing.put_over.Goals as goal
 
 pub returns : goal.returns

@@ -1,9 +1,8 @@
-use Rattle.std.proofs.Common.{◌∙◌, subst, arith}
-use Rattle.raw_nodes.specs.Names.{records}
-use Rattle.line_tree.specs.Taking.{Changes}
-use Rattle.line_tree.proofs.ClimbingLaws.{above-of, climbed, has-parent, line-can, line-tree, root-can, starts, still-named}
-use Rattle.line_tree.proofs.ReplacingLaws.{came-here, fits-here, puts-line, replaces-here, row-here, sum-here, went-here}
-use Rattle.line_tree.proofs.ReplacingLaws.{went-next, within-line}
+use Rattle.line_tree.proofs.Words.{◌∙◌, subst, arith, records, Changes}
+use Rattle.line_tree.proofs.ClimbingLaws.{above-of, climbed, has-parent, line-can, line-tree, root-can, starts}
+use Rattle.line_tree.proofs.ClimbingLaws.{still-named}
+use Rattle.line_tree.proofs.ReplacingLaws.{came-here, fits-here, puts-line, replaces-here, row-here, sum-here}
+use Rattle.line_tree.proofs.ReplacingLaws.{went-here, went-next, within-line}
 use Rattle.line_tree.proofs.replacing.replace_up.Goals as goal
 
 pub put_over-requires : goal.put_over-requires

@@ -1,6 +1,4 @@
-use Rattle.std.proofs.Common.{◌≡◌, ℕ, ◌≤◌}
-use Rattle.line_tree.proofs.Words.{IsWithin, lines_in, records, rooms, spares, total}
-use Rattle.line_tree.specs.Places.{IsLineAt}
+use Rattle.line_tree.proofs.Words.{◌≡◌, ℕ, ◌≤◌, IsWithin, lines_in, records, rooms, spares, total, IsLineAt}
 use Rattle.line_tree.proofs.ClimbingLaws.{Climbs}
 use Rattle.line_tree.proofs.replacing.replace_up.Given as goal
 

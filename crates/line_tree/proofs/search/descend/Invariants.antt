@@ -1,5 +1,4 @@
-use Rattle.std.proofs.Common.{◌≡◌, ◌+◌, ◌-◌, ◌*◌, ◌≤◌, IfSome}
-use Rattle.line_tree.proofs.Words.{IsTree, lines_in, records, sum_at}
+use Rattle.line_tree.proofs.Words.{◌≡◌, ◌+◌, ◌-◌, ◌*◌, ◌≤◌, IfSome, IsTree, lines_in, sum_at, records}
 use Rattle.line_tree.proofs.SearchLaws.{Passes}
 use Rattle.line_tree.proofs.search.descend.Given as goal
 

@@ -1,6 +1,4 @@
-use Rattle.std.proofs.Common.{◌≡◌, ◌+◌, ◌*◌, ◌≤◌}
-use Rattle.raw_nodes.specs.Names.{records}
-use Rattle.line_tree.specs.Searches.{sum_before}
+use Rattle.line_tree.proofs.Words.{◌≡◌, ◌+◌, ◌*◌, ◌≤◌, records, sum_before}
 use Rattle.line_tree.proofs.search.search.Given as goal
 
 abbrev pub invariant-loop-slot : goal.invariant-loop-slot

@@ -1,6 +1,4 @@
-use Rattle.std.proofs.Common.{◌≡◌, ◌+◌, ◌-◌, ◌*◌, ◌<◌, ◌≤◌}
-use Rattle.raw_nodes.specs.Names.{records}
-use Rattle.line_tree.specs.Searches.{sum_before, sum_below}
+use Rattle.line_tree.proofs.Words.{◌≡◌, ◌+◌, ◌-◌, ◌*◌, ◌<◌, ◌≤◌, records, sum_before, sum_below}
 use Rattle.line_tree.proofs.search.search_back.Given as goal
 
 abbrev pub invariant-loop-back : goal.invariant-loop-back

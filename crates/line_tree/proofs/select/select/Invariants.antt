@@ -1,5 +1,4 @@
-use Rattle.std.proofs.Common.{◌≡◌, ◌+◌, ◌*◌, ◌≤◌, ◌<◌, length, slice_get}
-use Rattle.line_tree.proofs.Words.{IsTree, lines_in, records}
+use Rattle.line_tree.proofs.Words.{◌≡◌, ◌+◌, ◌*◌, ◌≤◌, ◌<◌, length, slice_get, IsTree, lines_in, records}
 use Rattle.line_tree.proofs.select.select.Given as goal
 
 abbrev pub invariant-loop-level : goal.invariant-loop-level

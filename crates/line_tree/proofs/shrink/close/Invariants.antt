@@ -1,5 +1,4 @@
-use Rattle.std.proofs.Common.{◌≡◌, ◌-◌, suc, slice_get}
-use Rattle.line_tree.proofs.Words.{kids, records, rooms, spares}
+use Rattle.line_tree.proofs.Words.{◌≡◌, ◌-◌, suc, slice_get, kids, records, rooms, spares}
 use Rattle.line_tree.proofs.ClosingLaws.{Closing}
 use Rattle.line_tree.proofs.shrink.close.Given as goal
 

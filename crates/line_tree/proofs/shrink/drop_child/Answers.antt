@@ -1,9 +1,6 @@
-use Rattle.std.proofs.Common.{◌≡◌, List, refl, sym, ap, subst, ◌∙◌, IsSome}
-use Rattle.std.specs.List.{remove}
-use Rattle.std.proofs.lemmas.Option.{slice_get-get_or}
-use Rattle.line_tree.proofs.Words.{CanFill, FitsSum, NodePtr, Records, kids, plus, records, relinked, resummed, row}
-use Rattle.line_tree.proofs.Words.{sum_all, sum_at, sums}
-use Rattle.line_tree.specs.Finds.{HasRow}
+use Rattle.line_tree.proofs.Words.{◌≡◌, List, refl, sym, ap, subst, ◌∙◌, IsSome, remove, slice_get-get_or, CanFill}
+use Rattle.line_tree.proofs.Words.{FitsSum, relinked, resummed, sum_all, sums, NodePtr, Records, kids, row, plus}
+use Rattle.line_tree.proofs.Words.{records, sum_at, HasRow}
 use Rattle.line_tree.proofs.FillLaws.{relinked-has_row, relinked-sums, sum-relinked}
 use Rattle.line_tree.proofs.shrink.drop_child.Goals as goal
 

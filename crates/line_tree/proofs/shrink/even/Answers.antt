@@ -1,9 +1,7 @@
-use Rattle.std.proofs.Common.{◌≡◌, ◌+◌, ◌/◌, ◌≤◌, ◌++◌, ℕ, List, length, take, drop, sym, ap, subst, ◌∙◌, arith}
-use Rattle.std.proofs.Common.{length-append, IfSome}
+use Rattle.line_tree.proofs.Words.{◌≡◌, ◌+◌, ◌/◌, ◌≤◌, ◌++◌, ℕ, List, length, take, drop, sym, ap, subst, ◌∙◌, arith}
+use Rattle.line_tree.proofs.Words.{length-append, IfSome, take-append-le, take_all, CanEven, FitsSum, Halves, refilled}
+use Rattle.line_tree.proofs.Words.{sum_all, sums, Count, CountsFit, plus, NodePtr, Records, kids, row, records, sum_at}
 use Rattle.std.specs.FinMap as finite
-use Rattle.std.proofs.lemmas.List.{take-append-le, take_all}
-use Rattle.line_tree.proofs.Words.{CanEven, Count, CountsFit, FitsSum, Halves, NodePtr, Records, kids, plus, records}
-use Rattle.line_tree.proofs.Words.{refilled, row, sum_all, sum_at, sums}
 use Rattle.line_tree.proofs.EvenLaws.{fill-whole, kept-part, whole-sum}
 use Rattle.line_tree.proofs.FillLaws.{sums-row}
 use Rattle.line_tree.proofs.PutLaws.{count-row}

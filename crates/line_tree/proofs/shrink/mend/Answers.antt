@@ -1,7 +1,6 @@
-use Rattle.std.proofs.Common.{◌≡◌, ◌<◌, ◌+◌, ◌-◌, length, refl, sym, ap, subst, ◌∙◌, arith, suc, inl, inr, ℕ, zero, ◌⊎◌}
-use Rattle.std.proofs.Common.{List, IsSome, slice_get, Option}
-use Rattle.std.proofs.lemmas.Option.{slice_get-get_or}
-use Rattle.line_tree.proofs.Words.{Evens, NodePtr, kids, records}
+use Rattle.line_tree.proofs.Words.{◌≡◌, ◌<◌, ◌+◌, ◌-◌, length, refl, sym, ap, subst, ◌∙◌, arith, suc, inl, inr, ℕ, zero}
+use Rattle.line_tree.proofs.Words.{◌⊎◌, List, IsSome, slice_get, Option, slice_get-get_or, Evens, NodePtr, kids}
+use Rattle.line_tree.proofs.Words.{records}
 use Rattle.line_tree.proofs.shrink.mend.Goals as goal
 
 some-at : (cs : List NodePtr) (o : Option NodePtr) (i : ℕ) (d : NodePtr) → o ≡ slice_get cs i → i < length cs → IsSome o

@@ -1,5 +1,4 @@
-use Rattle.std.proofs.Common.{◌≤◌, ◌++◌, length, take, drop, arith, length-take}
-use Rattle.line_tree.proofs.Words.{kids, records}
+use Rattle.line_tree.proofs.Words.{◌≤◌, ◌++◌, length, take, drop, arith, length-take, kids, records}
 use Rattle.line_tree.proofs.FillLaws.{same_row}
 use Rattle.line_tree.proofs.PutLaws.{count-row}
 use Rattle.line_tree.proofs.shrink.part_pair.Goals as goal

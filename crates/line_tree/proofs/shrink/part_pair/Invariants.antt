@@ -1,5 +1,4 @@
-use Rattle.std.proofs.Common.{◌≡◌, ℕ, ◌<◌, ◌++◌, length, get_or, take, drop, None, slice_get}
-use Rattle.line_tree.proofs.Words.{kids, records}
+use Rattle.line_tree.proofs.Words.{◌≡◌, ℕ, ◌<◌, ◌++◌, length, get_or, take, drop, None, slice_get, kids, records}
 use Rattle.line_tree.proofs.shrink.part_pair.Given as goal
 
 abbrev pub invariant-loop-i : goal.invariant-loop-i

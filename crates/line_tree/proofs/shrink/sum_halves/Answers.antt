@@ -1,9 +1,7 @@
-use Rattle.std.proofs.Common.{◌≡◌, ◌-◌, ◌<◌, ◌≤◌, ◌++◌, ℕ, List, length, take, drop, sym, ap, subst, ◌∙◌, arith, IfSome}
-use Rattle.std.proofs.Common.{Option}
+use Rattle.line_tree.proofs.Words.{◌≡◌, ◌-◌, ◌<◌, ◌≤◌, ◌++◌, ℕ, List, length, take, drop, sym, ap, subst, ◌∙◌, arith}
+use Rattle.line_tree.proofs.Words.{IfSome, Option, take-append-drop, plus-commutative, CanEven, FitsSum, sum_all, sums}
+use Rattle.line_tree.proofs.Words.{Count, plus, NodePtr, Records, kids, row, records}
 use Rattle.std.specs.FinMap as finite
-use Rattle.std.proofs.lemmas.List.{take-append-drop}
-use Rattle.toggle_sums.specs.CountLaws.{plus-commutative}
-use Rattle.line_tree.proofs.Words.{CanEven, Count, FitsSum, NodePtr, Records, kids, plus, records, row, sum_all, sums}
 use Rattle.line_tree.proofs.AmongLaws.{among-drop, among-take}
 use Rattle.line_tree.proofs.EvenLaws.{halves, named-part}
 use Rattle.line_tree.proofs.FillLaws.{sum_all-append, sums-row}

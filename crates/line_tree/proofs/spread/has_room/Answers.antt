@@ -1,6 +1,5 @@
-use Rattle.std.proofs.Common.{◌∙◌, ap}
+use Rattle.line_tree.proofs.Words.{◌∙◌, ap, kids, records}
 use mathlib.Core.Bool.{not}
-use Rattle.line_tree.proofs.Words.{kids, records}
 use Rattle.line_tree.proofs.SpreadLaws.{room-none, room-some}
 use Rattle.line_tree.proofs.spread.has_room.Goals as goal
 

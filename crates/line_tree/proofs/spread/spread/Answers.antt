@@ -1,8 +1,6 @@
-use Rattle.std.proofs.Common.{◌≡◌, ◌+◌, ℕ, ◌++◌, ◌∙◌, ◌≤◌, Bool, inl, inr, refl, sym, ap, suc, arith, subst, length, length-append}
-use Rattle.std.proofs.Common.{IsSome, List, Some, slice_get}
-use Rattle.std.proofs.lemmas.Option.{slice_get-get_or, slice_get_within}
-use Rattle.line_tree.proofs.Words.{Halves, NodePtr, Records, kids, records}
-use Rattle.line_tree.specs.Spreading.{first_part}
+use Rattle.line_tree.proofs.Words.{◌≡◌, ◌+◌, ℕ, ◌++◌, ◌∙◌, ◌≤◌, Bool, inl, inr, refl, sym, ap, suc, arith, subst}
+use Rattle.line_tree.proofs.Words.{length, length-append, IsSome, List, Some, slice_get, slice_get-get_or}
+use Rattle.line_tree.proofs.Words.{slice_get_within, Halves, NodePtr, Records, kids, records, first_part}
 use Rattle.line_tree.proofs.PutLaws.{count-row}
 use Rattle.line_tree.proofs.SpreadLaws.{enough, halves-first, not-more}
 use Rattle.line_tree.proofs.spread.spread.Given.{Over}

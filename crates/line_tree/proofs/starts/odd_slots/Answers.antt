@@ -1,8 +1,5 @@
-use Rattle.std.proofs.Common.{true, ◌≡◌, take, refl, sym, ap, ◌∙◌, arith}
-use Rattle.text_model.specs.SlotSets.{differing}
-use Rattle.toggle_sums.specs.CountLaws.{empty-differing}
-use Rattle.line_tree.proofs.Words.{Count, IsBare, lines_in, records, sum_at, total}
-use Rattle.line_tree.specs.declared.aims.SlotsBefore.{SlotsBefore}
+use Rattle.line_tree.proofs.Words.{true, ◌≡◌, take, refl, sym, ap, ◌∙◌, arith, differing, empty-differing, Count}
+use Rattle.line_tree.proofs.Words.{IsBare, lines_in, sum_at, records, total, SlotsBefore}
 use Rattle.line_tree.proofs.BareLaws.{bare-front}
 use Rattle.line_tree.proofs.PrefixLaws.{all-lines, some-left}
 use Rattle.line_tree.proofs.RowLaws.{lines_is, said, tells}

@@ -1,7 +1,4 @@
-use Rattle.std.proofs.Common.{ap, subst, arith}
-use Rattle.line_tree.proofs.Words.{lines_in, records}
-use Rattle.line_tree.specs.Places.{IsLineAt}
-use Rattle.line_tree.specs.declared.aims.CharactersBefore.{CharactersBefore}
+use Rattle.line_tree.proofs.Words.{ap, subst, arith, lines_in, records, IsLineAt, CharactersBefore}
 use Rattle.line_tree.proofs.SearchLaws.{arrives-at, arrives-before, arrives-named}
 use Rattle.line_tree.proofs.TreeLaws.{total-lines}
 use Rattle.line_tree.proofs.starts.place.Goals as goal

@@ -1,8 +1,7 @@
-use Rattle.std.proofs.Common.{◌≡◌, ap, sym, ◌∙◌, subst, OnSome, length, option_map, option_to_list}
-use Rattle.line_lists.specs.Edits.{without_mark}
-use Rattle.line_tree.proofs.Words.{LineContent, line_of, records, update, with_line}
-use Rattle.raw_nodes.specs.LineLending.{WroteLine}
-use Rattle.raw_nodes.proofs.MapLaws.{at_some}
+use Rattle.line_tree.proofs.Words.{◌≡◌, ap, sym, ◌∙◌, subst, OnSome, length, option_to_list, without_mark, LineContent}
+use Rattle.raw_nodes.specs.Records.{with_line}
+use Rattle.line_tree.proofs.Words.{line_of, records, update, WroteLine, at_some}
+use Rattle.std.proofs.Common.{option_map}
 use Rattle.line_tree.proofs.TakingLaws.{how-many}
 use Rattle.line_tree.proofs.taking.take_off.Goals as goal
 

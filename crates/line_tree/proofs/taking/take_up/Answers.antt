@@ -1,7 +1,6 @@
-use Rattle.std.proofs.Common.{◌∙◌, arith}
-use Rattle.line_tree.proofs.Words.{counting, no_text, records}
-use Rattle.line_lists.specs.Edits.{without_mark}
-use Rattle.line_tree.proofs.ClimbingLaws.{above-of, climbed, has-parent, line-can, line-tree, root-can, starts, still-named}
+use Rattle.line_tree.proofs.Words.{◌∙◌, arith, counting, no_text, records, without_mark}
+use Rattle.line_tree.proofs.ClimbingLaws.{above-of, climbed, has-parent, line-can, line-tree, root-can, starts}
+use Rattle.line_tree.proofs.ClimbingLaws.{still-named}
 use Rattle.line_tree.proofs.TakingLaws.{inner-here, marks-here, takes-here, takes-line}
 use Rattle.line_tree.proofs.taking.take_up.Goals as goal
 

@@ -1,7 +1,5 @@
-use Rattle.std.proofs.Common.{◌≡◌, ℕ, ◌≤◌}
-use Rattle.line_tree.proofs.Words.{counting, lines_in, no_text, records, rooms, spares}
-use Rattle.line_lists.specs.Edits.{without_mark}
-use Rattle.line_tree.specs.Places.{IsLineAt}
+use Rattle.line_tree.proofs.Words.{◌≡◌, ℕ, ◌≤◌, counting, no_text, lines_in, records, rooms, spares, without_mark}
+use Rattle.line_tree.proofs.Words.{IsLineAt}
 use Rattle.line_tree.proofs.ClimbingLaws.{Climbs}
 use Rattle.line_tree.proofs.taking.take_up.Given as goal
 

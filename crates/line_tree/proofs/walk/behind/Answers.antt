@@ -1,7 +1,5 @@
-use Rattle.std.proofs.Common.{◌+◌, sym, ap, ◌∙◌, arith}
-use Rattle.std.specs.Option.{option_map}
-use Rattle.std.proofs.lemmas.Option.{slice_get_past}
-use Rattle.line_tree.proofs.Words.{Named, lines_in, records, tree_at}
+use Rattle.line_tree.proofs.Words.{◌+◌, sym, ap, ◌∙◌, arith, option_map, slice_get_past, Named, lines_in, tree_at}
+use Rattle.line_tree.proofs.Words.{records}
 use Rattle.line_tree.proofs.NextLaws.{balanced-high}
 use Rattle.line_tree.proofs.walk.behind.Goals as goal
 

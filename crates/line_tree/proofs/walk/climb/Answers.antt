@@ -1,8 +1,5 @@
-use Rattle.std.proofs.Common.{ℕ, ◌+◌, ◌-◌, suc, refl, sym, ◌∙◌, arith}
-use Rattle.std.proofs.lemmas.Option.{none-some, slice_get_within}
-use Rattle.line_tree.proofs.Words.{kids, lines_in, records}
-use Rattle.line_tree.specs.Finds.{HasRow}
-use Rattle.line_tree.specs.Places.{IsLineAt}
+use Rattle.line_tree.proofs.Words.{ℕ, ◌+◌, ◌-◌, suc, refl, sym, ◌∙◌, arith, none-some, slice_get_within, kids, lines_in}
+use Rattle.line_tree.proofs.Words.{records, HasRow, IsLineAt}
 use Rattle.line_tree.proofs.PlaceLaws.{child-named, child-parent}
 use Rattle.line_tree.proofs.PutLaws.{count-row}
 use Rattle.line_tree.proofs.RowLaws.{child_is, past}

@@ -1,6 +1,4 @@
-use Rattle.std.proofs.Common.{ℕ, ◌+◌, ◌-◌, ◌≤◌}
-use Rattle.line_tree.proofs.Words.{lines_in, records}
-use Rattle.line_tree.specs.Places.{IsLineAt}
+use Rattle.line_tree.proofs.Words.{ℕ, ◌+◌, ◌-◌, ◌≤◌, lines_in, records, IsLineAt}
 use Rattle.line_tree.proofs.NextLaws.{Ends}
 use Rattle.line_tree.proofs.walk.climb.Given as goal
 

@@ -1,5 +1,4 @@
-use Rattle.std.proofs.Common.{◌≡◌, ℕ, ◌-◌, ◌<◌, ◌≤◌, true, length}
-use Rattle.name_list.specs.Places.{is_taken}
+use Rattle.name_list.proofs.Words.{◌≡◌, ℕ, ◌-◌, ◌<◌, ◌≤◌, true, length, is_taken}
 use Rattle.name_list.proofs.places.next_free.Given as goal
 
 abbrev pub invariant-loop-number : goal.invariant-loop-number

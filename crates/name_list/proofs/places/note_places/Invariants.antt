@@ -1,5 +1,5 @@
+use Rattle.name_list.proofs.Words.{IsIndexTo}
 use Rattle.std.specs.HashMap.{values}
-use Rattle.name_list.specs.Places.{IsIndexTo}
 use Rattle.name_list.proofs.places.note_places.Given as goal
 
 abbrev pub invariant-loop-place : goal.invariant-loop-place

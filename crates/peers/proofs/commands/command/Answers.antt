@@ -1,7 +1,4 @@
-use Rattle.std.proofs.Common.{sym, ap, ap₂, ◌∙◌}
-use Rattle.tcl_words.specs.Unread.{texts_of}
-use Rattle.peers.specs.Commands.{done, shaped}
-use Rattle.documents.specs.Documents.{widget_at}
+use Rattle.peers.proofs.Words.{sym, ap, ap₂, ◌∙◌, texts_of, done, shaped, widget_at}
 use Rattle.peers.proofs.ArgumentLaws.{arguments-part, switches-part}
 use Rattle.peers.proofs.PromiseLaws.{does-same}
 use Rattle.peers.proofs.commands.command.Goals as goal

@@ -1,11 +1,5 @@
-use Rattle.std.proofs.Common.{◌≡◌, false, sym, ap, arith, if◌then◌else◌, nat_lt}
-use Rattle.std.proofs.lemmas.Bool.Decides.{nat_tests}
-use Rattle.command_effects.specs.declared.answers.Fault.TheVariants.{IndexOrder}
-use Rattle.documents.specs.Deletions.{replace_span}
-use Rattle.peers.specs.Deletions.{replace_places}
-use Rattle.documents.specs.Promise.{refused, unless_idle}
-use Rattle.documents.specs.Texts.{insertion_offset}
-use Rattle.documents.specs.Documents.{widget_at}
+use Rattle.peers.proofs.Words.{◌≡◌, false, sym, ap, arith, if◌then◌else◌, nat_lt, nat_tests, IndexOrder, replace_span}
+use Rattle.peers.proofs.Words.{replace_places, refused, unless_idle, insertion_offset, widget_at}
 use Rattle.peers.proofs.PromiseLaws.{does-same}
 use Rattle.peers.proofs.deletions.replace_places.Goals as goal
 

@@ -1,10 +1,5 @@
+use Rattle.peers.proofs.Words.{texts_of, pairs_at, replace_places, place_at, change_with, widget_at}
 use Rattle.std.specs.Prelude.{◌+◌, chars}
-use Rattle.tcl_words.specs.Unread.{texts_of}
-use Rattle.command_effects.specs.Lists.{pairs_at}
-use Rattle.peers.specs.Deletions.{replace_places}
-use Rattle.documents.specs.Indices.{place_at}
-use Rattle.documents.specs.Promise.{change_with}
-use Rattle.documents.specs.Documents.{widget_at}
 use Rattle.peers.proofs.PromiseLaws.{does-both}
 use Rattle.peers.proofs.deletions.replace_words.Goals as goal
 

@@ -1,5 +1,4 @@
-use Rattle.std.proofs.Common.{◌≡◌, length, take}
-use Rattle.peers.specs.World.{windows_of}
+use Rattle.peers.proofs.Words.{◌≡◌, length, take, windows_of}
 use Rattle.peers.proofs.document_list.count_to.Given as goal
 
 abbrev pub invariant-loop-index : goal.invariant-loop-index

@@ -1,6 +1,4 @@
-use Rattle.std.proofs.Common.{◌≡◌, ◌-◌, filter, length}
-use Rattle.tcl_words.specs.Unread.{texts_of}
-use Rattle.documents.specs.Widgets.{keeps_some}
+use Rattle.peers.proofs.Words.{◌≡◌, ◌-◌, filter, length, texts_of, keeps_some}
 use Rattle.peers.proofs.WindowLaws.{kept_from}
 use Rattle.peers.proofs.document_list.drop_empty.Given as goal
 

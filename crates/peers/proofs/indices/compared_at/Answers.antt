@@ -1,9 +1,6 @@
-use Rattle.std.proofs.Common.{◌+◌, Ok, ap, ◌∙◌, chars}
-use Rattle.command_effects.specs.declared.answers.Answer.TheVariants.{Flag}
-use Rattle.documents.specs.Indices.{place_at}
+use Rattle.peers.proofs.Words.{◌+◌, Ok, ap, ◌∙◌, chars, Flag, place_at, widget_at}
 use Rattle.peers.specs.Indices.{compared}
 use Rattle.command_effects.specs.Comparisons.{comparison_at, comparison_of, holds}
-use Rattle.documents.specs.Documents.{widget_at}
 use Rattle.peers.proofs.PromiseLaws.{gives-three}
 use Rattle.peers.proofs.indices.compared_at.Goals as goal
 

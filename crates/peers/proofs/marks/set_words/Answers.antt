@@ -1,7 +1,5 @@
+use Rattle.peers.proofs.Words.{place_at, set_at, widget_at}
 use Rattle.std.specs.Prelude.{◌+◌, chars}
-use Rattle.documents.specs.Indices.{place_at}
-use Rattle.peers.specs.Marks.{set_at}
-use Rattle.documents.specs.Documents.{widget_at}
 use Rattle.peers.proofs.PromiseLaws.{does-through}
 use Rattle.peers.proofs.marks.set_words.Goals as goal
 

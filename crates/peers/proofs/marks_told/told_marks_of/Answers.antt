@@ -1,12 +1,5 @@
-use Rattle.std.proofs.Common.{List, ℕ, sym, subst}
-use Rattle.tcl_words.specs.Unread.{texts_of}
-use Rattle.text_model.specs.LimitTable.{LimitTable}
-use Rattle.command_table.specs.declared.commands.Command.TheVariants.{MarkSet, MarkUnset}
-use Rattle.documents.specs.Documents.{widget_at}
-use Rattle.documents.specs.Marks.{mark_unset}
-use Rattle.documents.specs.MarksTold.{ForetellsMarks}
-use Rattle.peers.specs.Commands.{command}
-use Rattle.peers.specs.Marks.{mark_set}
+use Rattle.peers.proofs.Words.{List, ℕ, sym, subst, texts_of, LimitTable, MarkSet, MarkUnset, widget_at, mark_unset}
+use Rattle.peers.proofs.Words.{ForetellsMarks, command, mark_set}
 use Rattle.peers.proofs.ArgumentLaws.{arguments-part}
 use Rattle.peers.proofs.MarksToldLaws.{marks-command, marks-other}
 use Rattle.peers.proofs.ToldLaws.{told-through}

@@ -1,11 +1,5 @@
-use Rattle.std.proofs.Common.{chars}
-use Rattle.tcl_words.specs.Unread.{texts_of}
-use Rattle.text_model.specs.LimitTable.{LimitTable}
-use Rattle.command_effects.specs.Arguments.{two_of}
-use Rattle.documents.specs.Documents.{widget_at}
-use Rattle.documents.specs.MarksTold.{ForetellsMarks}
-use Rattle.documents.specs.Promise.{Change}
-use Rattle.peers.specs.Marks.{mark_set, set_words}
+use Rattle.peers.proofs.Words.{chars, texts_of, LimitTable, two_of, widget_at, ForetellsMarks, Change, mark_set}
+use Rattle.peers.proofs.Words.{set_words}
 use Rattle.peers.proofs.MarksToldLaws.{holds-found}
 use Rattle.peers.proofs.ToldLaws.{told-through}
 use Rattle.peers.proofs.marks_told.told_set.Goals as goal

@@ -1,10 +1,6 @@
-use Rattle.std.proofs.Common.{◌≡◌, ◌+◌, Ok, chars, subst, IfSome}
-use Rattle.text_model.specs.LimitTable.{LimitTable}
-use Rattle.documents.specs.Documents.{widget_at}
-use Rattle.documents.specs.Indices.{place_at}
-use Rattle.documents.specs.MarksTold.{ForetellsMarks}
-use Rattle.documents.specs.Promise.{Change}
-use Rattle.peers.specs.Marks.{set_at, set_words}
+use Rattle.peers.proofs.Words.{◌≡◌, ◌+◌, Ok, chars, subst, LimitTable, widget_at, place_at, ForetellsMarks, Change}
+use Rattle.peers.proofs.Words.{set_at, set_words}
+use Rattle.std.proofs.Common.{IfSome}
 use Rattle.peers.proofs.MarksToldLaws.{holds-found}
 use Rattle.peers.proofs.PromiseLaws.{value-defined}
 use Rattle.peers.proofs.ToldLaws.{told-through}

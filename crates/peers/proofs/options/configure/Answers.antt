@@ -1,12 +1,5 @@
-use Rattle.std.proofs.Common.{◌≡◌, sym, ap₂, ◌∙◌}
-use Rattle.tcl_words.specs.Unread.{texts_of}
-use Rattle.command_effects.specs.Faults.{with_value}
-use Rattle.command_effects.specs.Settings.{settings_checked, settings_read}
-use Rattle.command_effects.specs.declared.answers.Answer.TheVariants.{Empty}
-use Rattle.documents.specs.Documents.{widget_at}
-use Rattle.documents.specs.Options.{settings_of, with_settings}
-use Rattle.documents.specs.Promise.{answered}
-use Rattle.peers.specs.Options.{settings_given}
+use Rattle.peers.proofs.Words.{◌≡◌, sym, ap₂, ◌∙◌, texts_of, with_value, settings_checked, settings_read, Empty}
+use Rattle.peers.proofs.Words.{widget_at, settings_of, with_settings, answered, settings_given}
 use Rattle.peers.proofs.PromiseLaws.{does-found, does-refused}
 use Rattle.peers.proofs.options.configure.Goals as goal
 

@@ -1,8 +1,4 @@
-use Rattle.std.proofs.Common.{sym, ap, subst, ◌∙◌, IfOk}
-use Rattle.tcl_words.specs.Unread.{texts_of}
-use Rattle.command_effects.specs.Faults.{with_value}
-use Rattle.command_effects.specs.Settings.{settings_checked}
-use Rattle.documents.specs.Options.{AreLines}
+use Rattle.peers.proofs.Words.{sym, ap, subst, ◌∙◌, IfOk, texts_of, with_value, settings_checked, AreLines}
 use Rattle.peers.proofs.OptionLaws.{given-lines}
 use Rattle.peers.proofs.options.settings_given.Goals as goal
 

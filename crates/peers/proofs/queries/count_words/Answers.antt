@@ -1,7 +1,5 @@
+use Rattle.peers.proofs.Words.{place_at, count_between, widget_at}
 use Rattle.std.specs.Prelude.{◌+◌, chars}
-use Rattle.documents.specs.Indices.{place_at}
-use Rattle.peers.specs.Queries.{count_between}
-use Rattle.documents.specs.Documents.{widget_at}
 use Rattle.peers.proofs.PromiseLaws.{gives-both}
 use Rattle.peers.proofs.queries.count_words.Goals as goal
 

@@ -1,6 +1,4 @@
-use Rattle.std.proofs.Common.{◌≡◌, map, take}
-use Rattle.tcl_words.specs.Unread.{texts_of}
-use Rattle.peers.specs.Queries.{counted_as}
+use Rattle.peers.proofs.Words.{◌≡◌, map, take, texts_of, counted_as}
 use Rattle.peers.proofs.queries.counted_options.Given as goal
 
 abbrev pub invariant-loop-word : goal.invariant-loop-word

@@ -1,6 +1,4 @@
-use Rattle.std.proofs.Common.{◌≡◌, take}
-use Rattle.tcl_words.specs.Unread.{texts_of}
-use Rattle.peers.specs.Queries.{direction_of}
+use Rattle.peers.proofs.Words.{◌≡◌, take, texts_of, direction_of}
 use Rattle.peers.proofs.queries.direction_of.Given as goal
 
 abbrev pub invariant-loop-word : goal.invariant-loop-word

@@ -1,6 +1,4 @@
-use Rattle.std.proofs.Common.{◌≡◌, drop, chars}
-use Rattle.tcl_words.specs.Unread.{texts_of}
-use Rattle.peers.specs.Queries.{has_switch}
+use Rattle.peers.proofs.Words.{◌≡◌, drop, chars, texts_of, has_switch}
 use Rattle.peers.proofs.queries.has_switch.Given as goal
 
 abbrev pub invariant-loop-word : goal.invariant-loop-word

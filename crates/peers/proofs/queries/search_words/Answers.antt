@@ -1,7 +1,5 @@
+use Rattle.peers.proofs.Words.{place_at, searched, stop_at, widget_at}
 use Rattle.std.specs.Prelude.{◌+◌, chars, option_map}
-use Rattle.documents.specs.Indices.{place_at}
-use Rattle.peers.specs.Queries.{searched, stop_at}
-use Rattle.documents.specs.Documents.{widget_at}
 use Rattle.peers.proofs.PromiseLaws.{gives-both}
 use Rattle.peers.proofs.queries.search_words.Goals as goal
 

@@ -1,8 +1,5 @@
-use Rattle.std.proofs.Common.{◌≤◌, ◌∷◌, [], ℕ, length, ◌+◌, chars}
-use Rattle.std.proofs.lemmas.List.Elements.{All-append, All-cons, All-nil}
-use Rattle.documents.specs.Indices.{place_at}
-use Rattle.documents.specs.Views.{shown}
-use Rattle.documents.specs.Documents.{widget_at}
+use Rattle.peers.proofs.Words.{◌≤◌, ◌∷◌, [], ℕ, length, ◌+◌, chars, All-append, All-cons, All-nil, place_at, shown}
+use Rattle.peers.proofs.Words.{widget_at}
 use Rattle.peers.proofs.PlaceLaws.{found-more, found-fault}
 use Rattle.peers.proofs.PromiseLaws.{fault-defined, value-defined}
 use Rattle.peers.proofs.ranges.places_at.Goals as goal

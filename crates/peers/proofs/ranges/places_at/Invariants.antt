@@ -1,7 +1,4 @@
-use Rattle.std.proofs.Common.{ℕ, ◌≤◌, length}
-use Rattle.std.specs.List.{All}
-use Rattle.documents.specs.Views.{shown}
-use Rattle.documents.specs.Documents.{widget_at}
+use Rattle.peers.proofs.Words.{ℕ, ◌≤◌, length, All, shown, widget_at}
 use Rattle.peers.proofs.PlaceLaws.{Found}
 use Rattle.peers.proofs.ranges.places_at.Given as goal
 

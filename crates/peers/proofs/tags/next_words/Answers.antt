@@ -1,9 +1,5 @@
-use Rattle.std.proofs.Common.{subst, ◌+◌, chars, option_map}
-use Rattle.command_effects.specs.Faults.{with_value}
-use Rattle.documents.specs.Indices.{place_at}
-use Rattle.documents.specs.Promise.{Gives}
-use Rattle.peers.specs.Tags.{next_between, place_or}
-use Rattle.documents.specs.Documents.{widget_at}
+use Rattle.peers.proofs.Words.{subst, ◌+◌, chars, option_map, with_value, place_at, Gives, next_between, place_or}
+use Rattle.peers.proofs.Words.{widget_at}
 use Rattle.peers.proofs.PromiseLaws.{gives-both}
 use Rattle.peers.proofs.tags.next_words.Goals as goal
 

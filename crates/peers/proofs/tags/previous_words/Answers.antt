@@ -1,7 +1,5 @@
+use Rattle.peers.proofs.Words.{place_at, previous_between, place_or, widget_at}
 use Rattle.std.specs.Prelude.{◌+◌, chars, option_map}
-use Rattle.documents.specs.Indices.{place_at}
-use Rattle.peers.specs.Tags.{previous_between, place_or}
-use Rattle.documents.specs.Documents.{widget_at}
 use Rattle.peers.proofs.PromiseLaws.{gives-both}
 use Rattle.peers.proofs.tags.previous_words.Goals as goal
 

@@ -1,8 +1,4 @@
-use Rattle.std.proofs.Common.{ap, sym, ◌∙◌, ◌+◌, Ok, chars}
-use Rattle.tcl_words.specs.Unread.{texts_of}
-use Rattle.peers.specs.Ranges.{places_at}
-use Rattle.documents.specs.Tags.{remove_spans}
-use Rattle.documents.specs.Documents.{widget_at}
+use Rattle.peers.proofs.Words.{ap, sym, ◌∙◌, ◌+◌, Ok, chars, texts_of, places_at, remove_spans, widget_at}
 use Rattle.peers.proofs.PromiseLaws.{does-found, does-refused}
 use Rattle.peers.proofs.tags.remove_words.Goals as goal
 

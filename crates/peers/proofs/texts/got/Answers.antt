@@ -1,7 +1,4 @@
-use Rattle.std.proofs.Common.{length, ap, sym, ◌∙◌, arith, Ok, chars}
-use Rattle.command_effects.specs.declared.answers.Answer.TheVariants.{Text}
-use Rattle.documents.specs.Documents.{widget_at}
-use Rattle.std.proofs.lemmas.Str.{chars-nil}
+use Rattle.peers.proofs.Words.{length, ap, sym, ◌∙◌, arith, Ok, chars, Text, widget_at, chars-nil}
 use Rattle.peers.proofs.GotLaws.{got-empty, none_left}
 use Rattle.peers.proofs.texts.got.Goals as goal
 

@@ -1,11 +1,7 @@
-use Rattle.std.proofs.Common.{◌≤◌, ◌-◌, ℕ, length, drop, sym, subst, eqb-true, ◌∙◌, arith, string_bytes, filter}
-use Rattle.std.proofs.lemmas.Str.{IsUtf8-string_bytes}
-use Rattle.std.proofs.lemmas.List.Elements.{All-take, All-drop}
-use Rattle.tcl_words.specs.ListGrowth.{Goes}
-use Rattle.peers.specs.Texts.{texts_of_places}
-use Rattle.command_effects.specs.Listing.{is_filled}
-use Rattle.documents.specs.Views.{shown}
-use Rattle.documents.specs.Documents.{widget_at}
+use Rattle.peers.proofs.Words.{◌≤◌, ◌-◌, ℕ, length, drop, sym, subst, ◌∙◌, arith, string_bytes, filter}
+use Rattle.peers.proofs.Words.{IsUtf8-string_bytes, All-take, All-drop, Goes, texts_of_places, is_filled, shown}
+use Rattle.peers.proofs.Words.{widget_at}
+use Rattle.std.proofs.Common.{eqb-true}
 use Rattle.peers.proofs.GotLaws.{got-more, got-end, got-last, one_left}
 use Rattle.documents.proofs.ListedLaws.{written}
 use Rattle.peers.proofs.texts.got_list.Goals as goal

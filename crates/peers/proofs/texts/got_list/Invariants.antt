@@ -1,7 +1,4 @@
-use Rattle.std.proofs.Common.{ℕ, ◌≤◌, length, string_bytes}
-use Rattle.std.specs.List.{All}
-use Rattle.documents.specs.Views.{shown}
-use Rattle.documents.specs.Documents.{widget_at}
+use Rattle.peers.proofs.Words.{ℕ, ◌≤◌, length, string_bytes, All, shown, widget_at}
 use Rattle.peers.proofs.GotLaws.{AreGot}
 use Rattle.peers.proofs.texts.got_list.Given as goal
 

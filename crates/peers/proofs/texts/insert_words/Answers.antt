@@ -1,9 +1,5 @@
+use Rattle.peers.proofs.Words.{texts_of, place_at, pairs_at, insert_pairs, widget_at}
 use Rattle.std.specs.Prelude.{◌+◌, chars}
-use Rattle.tcl_words.specs.Unread.{texts_of}
-use Rattle.documents.specs.Indices.{place_at}
-use Rattle.command_effects.specs.Lists.{pairs_at}
-use Rattle.peers.specs.Texts.{insert_pairs}
-use Rattle.documents.specs.Documents.{widget_at}
 use Rattle.peers.proofs.PromiseLaws.{does-through}
 use Rattle.peers.proofs.texts.insert_words.Goals as goal
 

@@ -1,10 +1,5 @@
-use Rattle.std.proofs.Common.{chars}
-use Rattle.tcl_words.specs.Unread.{texts_of}
-use Rattle.text_model.specs.LimitTable.{LimitTable, AreLimits}
-use Rattle.command_effects.specs.Arguments.{first_of}
-use Rattle.documents.specs.Documents.{widget_at}
-use Rattle.documents.specs.Told.{Foretells}
-use Rattle.peers.specs.Texts.{insert, insert_words}
+use Rattle.peers.proofs.Words.{chars, texts_of, LimitTable, AreLimits, first_of, widget_at, Foretells, insert}
+use Rattle.peers.proofs.Words.{insert_words}
 use Rattle.peers.proofs.ToldLaws.{foretells-found, told-through}
 use Rattle.peers.proofs.told.told_insert.Goals as goal
 

@@ -1,14 +1,5 @@
-use Rattle.std.proofs.Common.{List, ℕ, sym, subst}
-use Rattle.tcl_words.specs.Unread.{texts_of}
-use Rattle.command_table.specs.declared.commands.Command.TheVariants.{Delete, Insert, Replace, TagAdd, TagDelete}
-use Rattle.command_table.specs.declared.commands.Command.TheVariants.{TagRemove}
-use Rattle.documents.specs.Documents.{widget_at}
-use Rattle.documents.specs.Tags.{tag_delete}
-use Rattle.documents.specs.Told.{Foretells}
-use Rattle.peers.specs.Commands.{command}
-use Rattle.peers.specs.Deletions.{delete, replace}
-use Rattle.peers.specs.Tags.{tag_add, tag_remove}
-use Rattle.peers.specs.Texts.{insert}
+use Rattle.peers.proofs.Words.{List, ℕ, sym, subst, texts_of, Delete, Insert, Replace, TagAdd, TagDelete, TagRemove}
+use Rattle.peers.proofs.Words.{widget_at, tag_delete, Foretells, command, delete, replace, tag_add, tag_remove, insert}
 use Rattle.peers.proofs.ArgumentLaws.{arguments-part}
 use Rattle.peers.proofs.ToldLaws.{foretells-command, foretells-other, told-through}
 use Rattle.peers.proofs.told.told_of.Goals as goal

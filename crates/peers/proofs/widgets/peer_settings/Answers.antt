@@ -1,8 +1,4 @@
-use Rattle.std.proofs.Common.{false, ap₂, ◌∙◌}
-use Rattle.tcl_words.specs.Unread.{texts_of}
-use Rattle.command_effects.specs.Faults.{with_value}
-use Rattle.command_effects.specs.Settings.{settings_checked, settings_read}
-use Rattle.command_effects.specs.declared.settings.Settings.{Settings}
+use Rattle.peers.proofs.Words.{false, ap₂, ◌∙◌, texts_of, with_value, settings_checked, settings_read, Settings}
 use Rattle.peers.proofs.widgets.peer_settings.Goals as goal
 
 pub returns-clause-value : goal.returns-clause-value

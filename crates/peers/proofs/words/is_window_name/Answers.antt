@@ -1,5 +1,4 @@
-use Rattle.std.proofs.Common.{sym, ap, ◌∙◌}
-use Rattle.documents.specs.Kept.{is_window_name}
+use Rattle.peers.proofs.Words.{sym, ap, ◌∙◌, is_window_name}
 use Rattle.peers.proofs.NameLaws.{is_window_name-chars, is_window_name-short, is_window_name-long}
 use Rattle.peers.proofs.words.is_window_name.Goals as goal
 

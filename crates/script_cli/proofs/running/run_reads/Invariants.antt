@@ -1,5 +1,4 @@
-use Rattle.std.proofs.Common.{◌≡◌, ◌+◌, ◌*◌, ◌≤◌, [], false, length}
-use Rattle.script_cli.specs.Reading.{unread}
+use Rattle.script_cli.proofs.Words.{◌≡◌, ◌+◌, ◌*◌, ◌≤◌, [], false, length, unread}
 use Rattle.script_cli.proofs.RunLaws.{Running}
 use Rattle.script_cli.proofs.running.run_reads.Given as goal
 

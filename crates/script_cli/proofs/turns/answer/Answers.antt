@@ -1,5 +1,4 @@
-use Rattle.tcl_words.specs.Unread.{texts_of}
-use Rattle.printing.specs.Lines.{piece}
+use Rattle.script_cli.proofs.Words.{texts_of, piece}
 use Rattle.script_cli.proofs.TurnLaws.{replies}
 use Rattle.script_cli.proofs.turns.answer.Goals as goal
 

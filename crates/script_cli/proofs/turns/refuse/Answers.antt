@@ -1,10 +1,5 @@
-use Rattle.std.proofs.Common.{true, refl, ap, [], Some, inr}
-use Rattle.std.specs.Prelude.{Err, Ok}
-use Rattle.command_effects.specs.declared.answers.Fault.TheVariants.{Memory}
+use Rattle.script_cli.proofs.Words.{true, refl, ap, [], Some, inr, Err, Ok, Memory, piece, last_piece, Meets}
 use Rattle.script_cli.specs.declared.turns.Met.TheVariants as met
-use Rattle.printing.specs.Lines.{piece}
-use Rattle.script_cli.specs.Run.{last_piece}
-use Rattle.script_cli.specs.Turns.{Meets}
 use Rattle.script_cli.proofs.TurnLaws.{meets, meets_fault}
 use Rattle.script_cli.proofs.turns.refuse.Goals as goal
 

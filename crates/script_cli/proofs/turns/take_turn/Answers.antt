@@ -1,9 +1,5 @@
-use Rattle.std.proofs.Common.{refl, ap, Some}
-use Rattle.std.specs.Prelude.{Ok, Err}
+use Rattle.script_cli.proofs.Words.{refl, ap, Some, Ok, Err, last_piece, Meets, is_refusal, texts_of}
 use Rattle.script_cli.specs.declared.turns.Met.TheVariants as met
-use Rattle.script_cli.specs.Run.{last_piece}
-use Rattle.script_cli.specs.Turns.{Meets, is_refusal}
-use Rattle.tcl_words.specs.Unread.{texts_of}
 use Rattle.script_cli.proofs.TurnLaws.{meets, meets_command, meets_fault}
 use Rattle.script_cli.proofs.turns.take_turn.Goals as goal
 

@@ -1,7 +1,5 @@
+use Rattle.search_dump.proofs.Words.{shown, distance, goes_all}
 use Rattle.std.specs.Prelude.{map, string_bytes}
-use Rattle.text_index.specs.Views.{shown}
-use Rattle.search_dump.specs.Counts.{distance}
-use Rattle.tcl_words.proofs.ListGrowth.{goes_all}
 use Rattle.search_dump.proofs.counting.list_counts.Goals as goal
 
 pub returns : goal.returns

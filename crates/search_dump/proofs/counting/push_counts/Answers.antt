@@ -1,9 +1,5 @@
-use Rattle.std.proofs.Common.{arith, map, string_bytes, subst}
-use Rattle.std.proofs.lemmas.List.{get_or_default, take_all}
-use Rattle.tcl_words.specs.ListGrowth.{Goes}
-use Rattle.tcl_words.proofs.ListGrowth.{goes_mapped, goes_nowhere}
-use Rattle.search_dump.specs.Counts.{distance}
-use Rattle.search_dump.specs.Sight.{text_in}
+use Rattle.search_dump.proofs.Words.{arith, map, string_bytes, subst, get_or_default, take_all, Goes, goes_mapped}
+use Rattle.search_dump.proofs.Words.{goes_nowhere, distance, text_in}
 use Rattle.search_dump.proofs.counting.push_counts.Goals as goal
 
 pub loop-option-init : goal.loop-option-init

@@ -1,7 +1,5 @@
+use Rattle.search_dump.proofs.Words.{shown, distance, Goes}
 use Rattle.std.specs.Prelude.{map, string_bytes, take}
-use Rattle.text_index.specs.Views.{shown}
-use Rattle.search_dump.specs.Counts.{distance}
-use Rattle.tcl_words.specs.ListGrowth.{Goes}
 use Rattle.search_dump.proofs.counting.push_counts.Given as goal
 
 abbrev pub invariant-loop-option : goal.invariant-loop-option

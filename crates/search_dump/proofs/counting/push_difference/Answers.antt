@@ -1,8 +1,5 @@
-use Rattle.std.proofs.Common.{◌∷◌, [], ap, subst, ◌∙◌}
-use Rattle.std.specs.Prelude.{chars, string_bytes, OnOk}
-use Rattle.std.proofs.lemmas.Str.{chars-IsAscii}
-use Rattle.search_dump.specs.Counts.{difference}
-use Rattle.tcl_words.specs.ListGrowth.{Goes}
+use Rattle.search_dump.proofs.Words.{◌∷◌, [], ap, subst, ◌∙◌, OnOk, chars-IsAscii, difference, Goes}
+use Rattle.std.specs.Prelude.{chars, string_bytes}
 use Rattle.search_dump.proofs.counting.push_difference.Goals as goal
 
 pub returns : goal.returns

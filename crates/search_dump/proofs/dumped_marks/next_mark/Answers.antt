@@ -1,5 +1,4 @@
-use Rattle.std.proofs.Common.{sym, ◌∙◌}
-use Rattle.std.proofs.lemmas.Option.{none-some}
+use Rattle.search_dump.proofs.Words.{sym, ◌∙◌, none-some}
 use Rattle.search_dump.proofs.MarkOrderLaws.{mark-is, mark-of}
 use Rattle.search_dump.proofs.dumped_marks.next_mark.Goals as goal
 

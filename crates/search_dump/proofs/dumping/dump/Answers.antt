@@ -1,6 +1,4 @@
-use Rattle.std.proofs.Common.{string_bytes}
-use Rattle.tcl_words.proofs.ListGrowth.{goes_all}
-use Rattle.search_dump.specs.Dump.{dump_elements, seen_by}
+use Rattle.search_dump.proofs.Words.{string_bytes, goes_all, dump_elements, seen_by}
 use Rattle.search_dump.proofs.dumping.dump.Goals as goal
 
 pub returns : goal.returns

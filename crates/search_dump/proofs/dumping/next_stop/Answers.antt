@@ -1,5 +1,4 @@
-use Rattle.std.proofs.Common.{◌≤◌, arith}
-use Rattle.std.proofs.lemmas.Bool.{or_left}
+use Rattle.search_dump.proofs.Words.{◌≤◌, arith, or_left}
 use Rattle.search_dump.proofs.ChangeLaws.{ahead-on}
 use Rattle.search_dump.proofs.StopLaws.{mark-stays, stop-is, stop-within}
 use Rattle.search_dump.proofs.dumping.next_stop.Goals as goal

@@ -1,6 +1,4 @@
-use Rattle.std.proofs.Common.{string_bytes, sym, ◌∙◌}
-use Rattle.std.proofs.lemmas.Result.{on_ok_weaker}
-use Rattle.search_dump.specs.Sight.{seen_in}
+use Rattle.search_dump.proofs.Words.{string_bytes, sym, ◌∙◌, on_ok_weaker, seen_in}
 use Rattle.search_dump.proofs.EndLaws.{turned-goes, whole-goes, within-goes}
 use Rattle.search_dump.proofs.dumping.push_dump.Goals as goal
 

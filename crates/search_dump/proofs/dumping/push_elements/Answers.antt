@@ -1,13 +1,6 @@
-use Rattle.std.proofs.Common.{◌≡◌, ℕ, ◌+◌, ◌||◌, ◌==◌, arith, inr, refl, string_bytes, subst}
-use Rattle.std.specs.Prelude.{IsTrue}
-use Rattle.std.specs.List.{flat_map}
-use Rattle.std.proofs.lemmas.Bool.{eq-eqb, or_left}
-use Rattle.tcl_words.specs.ListGrowth.{Goes}
-use Rattle.search_dump.specs.Dump.{elements_at, is_cut, seen_by}
-use Rattle.search_dump.specs.Matches.{places}
-use Rattle.search_dump.specs.Sight.{seen_in, text_in, AreTagsBefore, IsFirstMark}
-use Rattle.search_dump.specs.Spots.{IsSpot}
-use Rattle.search_dump.specs.Stops.{stops_at_marks}
+use Rattle.search_dump.proofs.Words.{◌≡◌, ℕ, ◌+◌, ◌||◌, ◌==◌, arith, inr, refl, string_bytes, subst, IsTrue, flat_map}
+use Rattle.search_dump.proofs.Words.{eq-eqb, or_left, Goes, elements_at, is_cut, seen_by, places, seen_in, text_in}
+use Rattle.search_dump.proofs.Words.{AreTagsBefore, IsFirstMark, IsSpot, stops_at_marks}
 use Rattle.search_dump.proofs.StopLaws.{cut-next, cut-there, dump-begun, dump-on}
 use Rattle.search_dump.proofs.TagStops.{before-on}
 use Rattle.search_dump.proofs.dumping.push_elements.Goals as goal

@@ -1,14 +1,6 @@
-use Rattle.std.proofs.Common.{◌≡◌, ◌+◌, ◌-◌, ◌<◌, ◌≤◌, ◌⊎◌, ◌||◌, ◌==◌, string_bytes, true}
-use Rattle.std.specs.List.{flat_map}
-use Rattle.std.specs.Option.{option_map}
-use Rattle.tcl_words.specs.ListGrowth.{Goes}
-use Rattle.text_index.specs.Views.{shown}
-use Rattle.search_dump.specs.Ahead.{AreAhead, AreAt, AreBefore}
-use Rattle.search_dump.specs.Dump.{elements_at, is_cut, seen_by}
-use Rattle.search_dump.specs.MarksAhead.{IsMarkFrom, shown_of, usable_by}
-use Rattle.search_dump.specs.Matches.{places}
-use Rattle.search_dump.specs.Spots.{IsSpot}
-use Rattle.search_dump.specs.Stops.{stops_at_marks, stops_at_tags}
+use Rattle.search_dump.proofs.Words.{◌≡◌, ◌+◌, ◌-◌, ◌<◌, ◌≤◌, ◌⊎◌, ◌||◌, ◌==◌, string_bytes, true, flat_map, option_map}
+use Rattle.search_dump.proofs.Words.{Goes, shown, AreAhead, AreAt, AreBefore, elements_at, is_cut, seen_by, IsMarkFrom}
+use Rattle.search_dump.proofs.Words.{shown_of, usable_by, places, IsSpot, stops_at_marks, stops_at_tags}
 use Rattle.search_dump.proofs.dumping.push_elements.Given as goal
 
 abbrev pub invariant-loop-place : goal.invariant-loop-place

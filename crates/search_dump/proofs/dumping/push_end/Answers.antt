@@ -1,6 +1,4 @@
-use Rattle.std.proofs.Common.{string_bytes}
-use Rattle.tag_table.specs.Tags.{slots_of}
-use Rattle.search_dump.specs.Ahead.{slot_of_row}
+use Rattle.search_dump.proofs.Words.{string_bytes, slots_of, slot_of_row}
 use Rattle.search_dump.proofs.StopLaws.{end-goes}
 use Rattle.search_dump.proofs.TagLaws.{none-behind}
 use Rattle.search_dump.proofs.dumping.push_end.Goals as goal

@@ -1,10 +1,5 @@
-use Rattle.std.proofs.Common.{◌++◌, ap, string_bytes, subst, sym, ◌∙◌}
-use Rattle.std.specs.List.{flat_map}
-use Rattle.std.proofs.lemmas.Bool.{not-false}
-use Rattle.tcl_words.specs.ListGrowth.{Goes}
-use Rattle.tcl_words.proofs.ListGrowth.{goes_on}
-use Rattle.text_index.specs.Views.{shown}
-use Rattle.search_dump.specs.Dump.{if_listed, only_in, seen_by, tagoff_elements, tagon_elements}
+use Rattle.search_dump.proofs.Words.{◌++◌, ap, string_bytes, subst, sym, ◌∙◌, flat_map, not-false, Goes, goes_on, shown}
+use Rattle.search_dump.proofs.Words.{if_listed, only_in, seen_by, tagoff_elements, tagon_elements}
 use Rattle.search_dump.proofs.PlainWords.{tagoff-plain, tagon-plain}
 use Rattle.search_dump.proofs.SeenLaws.{tagoff-characters, tagoffs-are, tagon-characters, tagons-are}
 use Rattle.search_dump.proofs.dumping.push_listed_tags.Goals as goal

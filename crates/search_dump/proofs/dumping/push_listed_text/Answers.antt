@@ -1,12 +1,5 @@
-use Rattle.std.proofs.Common.{ap, ap₂, chars, string_bytes, subst, sym, ◌∙◌}
-use Rattle.std.specs.Prelude.{OnOk, codes, slice_range}
-use Rattle.std.proofs.lemmas.Bool.{not-false}
-use Rattle.std.proofs.lemmas.Result.{on_ok_weaker}
-use Rattle.tcl_words.specs.ListGrowth.{Goes}
-use Rattle.text_model.specs.Content.{characters}
-use Rattle.text_index.specs.Views.{shown}
-use Rattle.search_dump.specs.Dump.{element, if_listed}
-use Rattle.search_dump.specs.Sight.{text_in}
+use Rattle.search_dump.proofs.Words.{ap, ap₂, chars, string_bytes, subst, sym, ◌∙◌, OnOk, codes, slice_range, not-false}
+use Rattle.search_dump.proofs.Words.{on_ok_weaker, Goes, characters, shown, element, if_listed, text_in}
 use Rattle.search_dump.proofs.PlainWords.{text-plain}
 use Rattle.search_dump.proofs.SeenLaws.{text-characters}
 use Rattle.search_dump.proofs.WindowLaws.{slice-part}

@@ -1,13 +1,5 @@
-use Rattle.std.proofs.Common.{ap, ap₂, arith, string_bytes, subst, sym, ◌∙◌}
-use Rattle.std.specs.Prelude.{OnOk}
-use Rattle.std.proofs.lemmas.List.{length-map}
-use Rattle.std.proofs.lemmas.Result.{on_ok_weaker}
-use Rattle.mark_table.specs.SharedMarks.{Mark, names_of}
-use Rattle.tcl_words.specs.ListGrowth.{Goes}
-use Rattle.text_index.specs.Views.{shown}
-use Rattle.search_dump.specs.Dump.{element, if_listed}
-use Rattle.search_dump.specs.MarksAhead.{mark_element, shown_of}
-use Rattle.search_dump.specs.Sight.{text_in}
+use Rattle.search_dump.proofs.Words.{ap, ap₂, arith, string_bytes, subst, sym, ◌∙◌, OnOk, length-map, on_ok_weaker}
+use Rattle.search_dump.proofs.Words.{Mark, names_of, Goes, shown, element, if_listed, mark_element, shown_of, text_in}
 use Rattle.search_dump.proofs.MarkOrderLaws.{usable-placed}
 use Rattle.search_dump.proofs.PlainWords.{mark-plain}
 use Rattle.search_dump.proofs.SeenLaws.{mark-characters}

@@ -1,11 +1,6 @@
-use Rattle.std.proofs.Common.{◌≡◌, ◌+◌, ◌<◌, None, Some, arith, string_bytes, subst, sym}
-use Rattle.std.specs.Prelude.{MatchOption}
-use Rattle.std.specs.Option.{option_map}
-use Rattle.mark_table.specs.SharedMarks.{names_of}
-use Rattle.tcl_words.specs.ListGrowth.{Goes}
-use Rattle.text_index.specs.Views.{shown}
-use Rattle.search_dump.specs.Dump.{if_listed}
-use Rattle.search_dump.specs.MarksAhead.{mark_element, passed, shown_of, usable_by}
+use Rattle.search_dump.proofs.Words.{◌≡◌, ◌+◌, ◌<◌, None, Some, arith, string_bytes, subst, sym, MatchOption}
+use Rattle.search_dump.proofs.Words.{option_map, names_of, Goes, shown, if_listed, mark_element, passed, shown_of}
+use Rattle.search_dump.proofs.Words.{usable_by}
 use Rattle.search_dump.proofs.MarkOrderLaws.{IsMarkOn, goes-all, left-fewer, listed-none-yet, listed-on, marks_left}
 use Rattle.search_dump.proofs.MarkOrderLaws.{on-above, on-begun, on-step, passed-none, passed-on, usable-rising}
 use Rattle.search_dump.proofs.dumping.push_marks_at.Goals as goal

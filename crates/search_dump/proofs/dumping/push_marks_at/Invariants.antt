@@ -1,10 +1,5 @@
-use Rattle.std.proofs.Common.{◌+◌, string_bytes}
-use Rattle.std.specs.Option.{option_map}
-use Rattle.mark_table.specs.SharedMarks.{names_of}
-use Rattle.tcl_words.specs.ListGrowth.{Goes}
-use Rattle.text_index.specs.Views.{shown}
-use Rattle.search_dump.specs.Dump.{if_listed}
-use Rattle.search_dump.specs.MarksAhead.{mark_element, passed, shown_of, usable_by}
+use Rattle.search_dump.proofs.Words.{◌+◌, string_bytes, option_map, names_of, Goes, shown, if_listed, mark_element}
+use Rattle.search_dump.proofs.Words.{passed, shown_of, usable_by}
 use Rattle.search_dump.proofs.MarkOrderLaws.{IsMarkOn, marks_left}
 use Rattle.search_dump.proofs.dumping.push_marks_at.Given as goal
 

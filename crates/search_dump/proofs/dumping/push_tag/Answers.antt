@@ -1,11 +1,6 @@
-use Rattle.std.proofs.Common.{ℕ, List, [], ap, get_or, chars, string_bytes, subst, sym, ◌∙◌}
-use Rattle.std.specs.Prelude.{OnOk}
-use Rattle.std.proofs.lemmas.Option.{get_or_from_slice_get}
-use Rattle.std.proofs.lemmas.Result.{on_ok_weaker}
+use Rattle.search_dump.proofs.Words.{ℕ, List, [], ap, get_or, chars, string_bytes, subst, sym, ◌∙◌, OnOk}
+use Rattle.search_dump.proofs.Words.{get_or_from_slice_get, on_ok_weaker, Goes, element, if_listed, text_in}
 use Rattle.tag_table.specs.Tags.{names_of}
-use Rattle.tcl_words.specs.ListGrowth.{Goes}
-use Rattle.search_dump.specs.Dump.{element, if_listed}
-use Rattle.search_dump.specs.Sight.{text_in}
 use Rattle.search_dump.proofs.dumping.push_tag.Goals as goal
 
 pub returns : goal.returns

@@ -1,8 +1,4 @@
-use Rattle.std.proofs.Common.{chars, string_bytes, take}
-use Rattle.std.specs.List.{flat_map}
-use Rattle.tcl_words.specs.ListGrowth.{Goes}
-use Rattle.text_index.specs.Views.{shown}
-use Rattle.search_dump.specs.Dump.{only_in}
+use Rattle.search_dump.proofs.Words.{chars, string_bytes, take, flat_map, Goes, shown, only_in}
 use Rattle.search_dump.proofs.dumping.push_tags.Given as goal
 
 abbrev pub invariant-loop-at : goal.invariant-loop-at

@@ -1,7 +1,4 @@
-use Rattle.std.proofs.Common.{◌+◌, ap, ◌∙◌, arith}
-use Rattle.text_model.specs.Lines.{line_start}
-use Rattle.text_index.specs.Views.{shown}
-use Rattle.text_index.proofs.ViewLaws.{length-shown}
+use Rattle.search_dump.proofs.Words.{◌+◌, ap, ◌∙◌, arith, line_start, shown, length-shown}
 use Rattle.search_dump.proofs.LineStops.{earlier-one, line-stop, view-line}
 use Rattle.search_dump.proofs.dumping.stop_at_line.Goals as goal
 

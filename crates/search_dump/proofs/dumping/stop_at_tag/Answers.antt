@@ -1,9 +1,5 @@
-use Rattle.std.proofs.Common.{ℕ, arith, subst}
-use Rattle.tag_table.specs.Tags.{slots_of}
-use Rattle.text_model.specs.Content.{flags}
-use Rattle.text_index.specs.Views.{shown_flags}
-use Rattle.text_index.proofs.FlagLaws.{flags-within, length-part}
-use Rattle.search_dump.specs.Ahead.{slot_of_row, IsNearest}
+use Rattle.search_dump.proofs.Words.{ℕ, arith, subst, slots_of, flags, shown_flags, flags-within, length-part}
+use Rattle.search_dump.proofs.Words.{slot_of_row, IsNearest}
 use Rattle.search_dump.proofs.ChangeLaws.{next-above}
 use Rattle.search_dump.proofs.TagStops.{tag-stop}
 use Rattle.search_dump.proofs.dumping.stop_at_tag.Goals as goal

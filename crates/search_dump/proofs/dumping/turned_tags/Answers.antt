@@ -1,6 +1,4 @@
-use Rattle.std.proofs.Common.{arith}
-use Rattle.text_model.specs.Content.{flags}
-use Rattle.text_index.proofs.FlagLaws.{flags-within, length-part}
+use Rattle.search_dump.proofs.Words.{arith, flags, flags-within, length-part}
 use Rattle.search_dump.proofs.TurnLaws.{turned-are}
 use Rattle.search_dump.proofs.dumping.turned_tags.Goals as goal
 

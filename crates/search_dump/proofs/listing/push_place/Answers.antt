@@ -1,9 +1,5 @@
-use Rattle.std.proofs.Common.{◌++◌, ◌∷◌, [], ap, subst, ◌∙◌}
-use Rattle.std.specs.Prelude.{chars, string_bytes, OnOk}
-use Rattle.text_index.specs.Positions.{position_text}
-use Rattle.text_index.specs.Views.{shown}
-use Rattle.tcl_words.specs.ListGrowth.{Goes}
-use Rattle.std.proofs.lemmas.Str.{chars-nil}
+use Rattle.search_dump.proofs.Words.{◌++◌, ◌∷◌, [], ap, subst, ◌∙◌, OnOk, position_text, shown, Goes, chars-nil}
+use Rattle.std.specs.Prelude.{chars, string_bytes}
 use Rattle.search_dump.proofs.listing.push_place.Goals as goal
 
 pub returns : goal.returns

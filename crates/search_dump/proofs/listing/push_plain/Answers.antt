@@ -1,6 +1,4 @@
-use Rattle.std.proofs.Common.{chars, string_bytes}
-use Rattle.std.proofs.lemmas.Result.{on_ok_weaker}
-use Rattle.std.proofs.lemmas.Str.{encodes-chars}
+use Rattle.search_dump.proofs.Words.{chars, string_bytes, on_ok_weaker, encodes-chars}
 use Rattle.search_dump.proofs.PlainWords.{goes-plain}
 use Rattle.search_dump.proofs.listing.push_plain.Goals as goal
 

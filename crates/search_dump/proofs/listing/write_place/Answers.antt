@@ -1,8 +1,6 @@
-use Rattle.std.proofs.Common.{◌∷◌, ◌++◌, ◌+◌, ◌-◌, ap, arith, decimal, ◌∙◌}
+use Rattle.search_dump.proofs.Words.{◌∷◌, ◌++◌, ◌+◌, ◌-◌, ap, arith, ◌∙◌, chars-nil, needs_quotes, position_text}
+use Rattle.std.proofs.Common.{decimal}
 use Rattle.std.specs.Prelude.{chars}
-use Rattle.std.proofs.lemmas.Str.{chars-nil}
-use Rattle.tcl_words.specs.ListText.{needs_quotes}
-use Rattle.text_index.specs.Positions.{position_text}
 use Rattle.search_dump.proofs.PlainWords.{chars-place, plain-place}
 use Rattle.search_dump.proofs.listing.write_place.Goals as goal
 

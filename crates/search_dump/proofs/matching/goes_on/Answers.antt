@@ -1,10 +1,5 @@
-use Rattle.std.proofs.Common.{◌≡◌, ◌+◌, ◌-◌, ◌≤◌, ap, arith, chars, length, subst, sym, ◌∙◌}
-use Rattle.std.specs.Prelude.{IsTrue, slice_range}
-use Rattle.std.proofs.lemmas.Result.{IfOk-weaker}
-use Rattle.text_index.specs.Views.{shown}
-use Rattle.text_index.proofs.ViewLaws.{length-shown}
-use Rattle.search_dump.specs.Matches.{compared}
-use Rattle.search_dump.specs.Stretches.{HasMatch, HasRoom, beside}
+use Rattle.search_dump.proofs.Words.{◌≡◌, ◌+◌, ◌-◌, ◌≤◌, ap, arith, chars, length, subst, sym, ◌∙◌, IsTrue, slice_range}
+use Rattle.search_dump.proofs.Words.{IfOk-weaker, shown, length-shown, compared, HasMatch, HasRoom, beside}
 use Rattle.search_dump.proofs.RepeatLaws.{goes-back, goes-on}
 use Rattle.search_dump.proofs.WindowLaws.{length-compared}
 use Rattle.search_dump.proofs.matching.goes_on.Goals as goal

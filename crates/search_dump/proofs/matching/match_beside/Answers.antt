@@ -1,7 +1,5 @@
-use Rattle.std.proofs.Common.{◌≡◌, ◌+◌, ◌-◌, ◌<◌, ◌≤◌, ◌^◌, Some, ap, chars, length, subst, sym, ◌∙◌}
-use Rattle.text_index.specs.Views.{shown}
-use Rattle.search_dump.specs.Matches.{compared}
-use Rattle.search_dump.specs.Stretches.{IsPeriod, beside}
+use Rattle.search_dump.proofs.Words.{◌≡◌, ◌+◌, ◌-◌, ◌<◌, ◌≤◌, ◌^◌, Some, ap, chars, length, subst, sym, ◌∙◌, shown}
+use Rattle.search_dump.proofs.Words.{compared, IsPeriod, beside}
 use Rattle.search_dump.proofs.RepeatLaws.{has-within, nearest-beside, some-given}
 use Rattle.search_dump.proofs.WindowLaws.{IsWithin}
 use Rattle.search_dump.proofs.matching.match_beside.Goals as goal

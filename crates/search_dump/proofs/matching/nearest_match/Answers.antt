@@ -1,6 +1,4 @@
-use Rattle.std.proofs.Common.{arith, chars, sym, ◌∙◌}
-use Rattle.text_index.specs.Views.{shown}
-use Rattle.search_dump.specs.Matches.{compared}
+use Rattle.search_dump.proofs.Words.{arith, chars, sym, ◌∙◌, shown, compared}
 use Rattle.search_dump.proofs.WindowLaws.{left-begun, left-found, left-on, nearest-nowhere}
 use Rattle.search_dump.proofs.matching.nearest_match.Goals as goal
 

@@ -1,6 +1,4 @@
-use Rattle.std.proofs.Common.{◌-◌, ◌<◌, chars}
-use Rattle.text_index.specs.Views.{shown}
-use Rattle.search_dump.specs.Matches.{compared}
+use Rattle.search_dump.proofs.Words.{◌-◌, ◌<◌, chars, shown, compared}
 use Rattle.search_dump.proofs.WindowLaws.{IsLeft}
 use Rattle.search_dump.proofs.matching.nearest_match.Given as goal
 

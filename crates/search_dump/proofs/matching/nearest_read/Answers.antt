@@ -1,6 +1,4 @@
-use Rattle.std.proofs.Common.{ap, arith, chars, string_bytes, sym}
-use Rattle.text_index.specs.Views.{shown}
-use Rattle.search_dump.specs.Matches.{compared}
+use Rattle.search_dump.proofs.Words.{ap, arith, chars, string_bytes, sym, shown, compared}
 use Rattle.search_dump.proofs.WindowLaws.{nearest-within, read-none, read-some, window-read}
 use Rattle.search_dump.proofs.matching.nearest_read.Goals as goal
 

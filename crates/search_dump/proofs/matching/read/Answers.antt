@@ -1,7 +1,4 @@
-use Rattle.std.proofs.Common.{◌≡◌, chars, string_bytes, subst, sym, ◌∙◌}
-use Rattle.std.specs.Prelude.{IfOk}
-use Rattle.text_model.specs.Content.{characters}
-use Rattle.search_dump.specs.Matches.{compared}
+use Rattle.search_dump.proofs.Words.{◌≡◌, chars, string_bytes, subst, sym, ◌∙◌, IfOk, characters, compared}
 use Rattle.search_dump.proofs.WindowLaws.{slice-part}
 use Rattle.search_dump.proofs.matching.read.Goals as goal
 

@@ -1,6 +1,4 @@
-use Rattle.std.proofs.Common.{ap, chars, sym, ◌∙◌}
-use Rattle.std.proofs.lemmas.Slice.Eq.{bytes_eq-Decides}
-use Rattle.text_index.specs.Views.{shown}
+use Rattle.search_dump.proofs.Words.{ap, chars, sym, ◌∙◌, bytes_eq-Decides, shown}
 use Rattle.search_dump.proofs.WindowLaws.{compared-part}
 use Rattle.search_dump.proofs.matching.stands.Goals as goal
 

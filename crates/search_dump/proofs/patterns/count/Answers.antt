@@ -1,5 +1,4 @@
-use Rattle.std.proofs.lemmas.Iterator.{YieldsList-from_chars}
-use Rattle.std.proofs.lemmas.Iterator.Consumers.{count_from_yields_List}
+use Rattle.search_dump.proofs.Words.{YieldsList-from_chars, count_from_yields_List}
 use Rattle.search_dump.proofs.patterns.count.Goals as goal
 
 pub returns : goal.returns

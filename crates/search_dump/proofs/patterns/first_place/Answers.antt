@@ -1,4 +1,4 @@
-use Rattle.std.proofs.Common.{◌≡◌, Some, chars, drop, length, take, ap, arith, ◌∙◌, sym}
+use Rattle.search_dump.proofs.Words.{◌≡◌, Some, chars, drop, length, take, ap, arith, ◌∙◌, sym}
 use Rattle.search_dump.proofs.MatchLaws.{first_place-at, first_place-none}
 use Rattle.search_dump.proofs.patterns.first_place.Goals as goal
 

@@ -1,6 +1,4 @@
-use Rattle.std.proofs.Common.{sym, ◌∙◌}
-use Rattle.std.proofs.lemmas.Bool.{ltb-true}
-use Rattle.ucd_case.proofs.CaseFoldingLemmas.{simple_fold-ascii}
+use Rattle.search_dump.proofs.Words.{sym, ◌∙◌, ltb-true, simple_fold-ascii}
 use Rattle.search_dump.proofs.patterns.fold_of.Goals as goal
 
 pub returns-then-is_ascii : goal.returns-then-is_ascii

@@ -1,9 +1,6 @@
-use Rattle.std.proofs.Common.{length, chars, string_bytes, map, sym, ap, ◌∙◌, encode_utf8_all, arith}
-use Rattle.std.proofs.lemmas.Iterator.{YieldsList-from_chars}
-use Rattle.std.proofs.lemmas.Iterator.Consumers.{YieldsList-turn, YieldsList-end}
-use Rattle.std.proofs.lemmas.List.{length_push, take_all}
-use Rattle.std.proofs.lemmas.Str.{chars_from_encodes, IsUtf8-string_bytes}
-use Rattle.ucd_case.specs.CaseFolding.{simple_fold}
+use Rattle.search_dump.proofs.Words.{length, chars, string_bytes, map, sym, ap, ◌∙◌, encode_utf8_all, arith}
+use Rattle.search_dump.proofs.Words.{YieldsList-from_chars, YieldsList-turn, YieldsList-end, length_push, take_all}
+use Rattle.search_dump.proofs.Words.{chars_from_encodes, IsUtf8-string_bytes, simple_fold}
 use Rattle.search_dump.proofs.TextLaws.{folded-more}
 use Rattle.search_dump.proofs.patterns.folded.Goals as goal
 

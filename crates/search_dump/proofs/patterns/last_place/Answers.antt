@@ -1,4 +1,4 @@
-use Rattle.std.proofs.Common.{◌≡◌, Some, chars, drop, length, take, ap, arith, ◌∙◌, sym}
+use Rattle.search_dump.proofs.Words.{◌≡◌, Some, chars, drop, length, take, ap, arith, ◌∙◌, sym}
 use Rattle.search_dump.proofs.MatchLaws.{last_place-at, last_place-none}
 use Rattle.search_dump.proofs.patterns.last_place.Goals as goal
 

@@ -1,9 +1,5 @@
-use Rattle.std.proofs.Common.{◌-◌, ◌<◌, arith, chars, length, string_bytes, subst, sym}
-use Rattle.text_index.specs.Positions.{position_text}
-use Rattle.text_index.specs.Views.{shown}
-use Rattle.text_index.proofs.ViewLaws.{length-shown}
-use Rattle.search_dump.specs.Matches.{compared, wanted_of}
-use Rattle.search_dump.specs.Stretches.{matches_in}
+use Rattle.search_dump.proofs.Words.{◌-◌, ◌<◌, arith, chars, length, string_bytes, subst, sym, position_text, shown}
+use Rattle.search_dump.proofs.Words.{length-shown, compared, wanted_of, matches_in}
 use Rattle.search_dump.proofs.ListedLaws.{left-less, listing-begun, listing-done, listing-on, next-at}
 use Rattle.search_dump.proofs.WindowLaws.{length-compared}
 use Rattle.search_dump.proofs.searching.list_from.Goals as goal

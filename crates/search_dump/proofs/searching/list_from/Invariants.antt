@@ -1,8 +1,5 @@
-use Rattle.std.proofs.Common.{◌-◌, chars, length, string_bytes}
-use Rattle.text_index.specs.Positions.{position_text}
-use Rattle.text_index.specs.Views.{shown}
-use Rattle.search_dump.specs.Matches.{compared, wanted_of}
-use Rattle.search_dump.specs.Stretches.{matches_in}
+use Rattle.search_dump.proofs.Words.{◌-◌, chars, length, string_bytes, position_text, shown, compared, wanted_of}
+use Rattle.search_dump.proofs.Words.{matches_in}
 use Rattle.search_dump.proofs.ListedLaws.{IsListing}
 use Rattle.search_dump.proofs.searching.list_from.Given as goal
 

@@ -1,12 +1,6 @@
-use Rattle.std.proofs.Common.{◌≡◌, ◌+◌, ◌≤◌, Some, ap, arith, chars, length, map, string_bytes, subst, sym, ◌∙◌}
-use Rattle.std.specs.Prelude.{IfSome, OnOk}
-use Rattle.tcl_words.specs.ListGrowth.{Goes}
-use Rattle.text_index.specs.Positions.{position_text}
-use Rattle.text_index.proofs.ViewLaws.{length-shown}
-use Rattle.search_dump.specs.Matches.{wanted_of}
-use Rattle.search_dump.specs.Searched.{listed_in, listed_whole, searched}
-use Rattle.search_dump.specs.Sight.{text_in}
-use Rattle.search_dump.specs.Stretches.{first_stretch}
+use Rattle.search_dump.proofs.Words.{◌≡◌, ◌+◌, ◌≤◌, Some, ap, arith, chars, length, map, string_bytes, subst, sym, ◌∙◌}
+use Rattle.search_dump.proofs.Words.{IfSome, OnOk, Goes, position_text, length-shown, wanted_of, listed_in}
+use Rattle.search_dump.proofs.Words.{listed_whole, searched, text_in, first_stretch}
 use Rattle.search_dump.proofs.FirstLaws.{first-lies, first-matches}
 use Rattle.search_dump.proofs.RoundLaws.{LiesIn}
 use Rattle.search_dump.proofs.searching.list_matches.Goals as goal

@@ -1,12 +1,6 @@
-use Rattle.std.proofs.Common.{◌≡◌, ◌≤◌, None, Some, ap, ap₂, arith, chars, length, map, string_bytes, subst, sym, ◌∙◌}
-use Rattle.std.specs.Prelude.{OnOk}
-use Rattle.tcl_words.specs.ListGrowth.{Goes}
-use Rattle.tcl_words.proofs.ListGrowth.{goes_nowhere}
-use Rattle.text_index.specs.Positions.{position_text}
-use Rattle.text_index.proofs.ViewLaws.{length-shown}
-use Rattle.search_dump.specs.Searched.{searched}
-use Rattle.search_dump.specs.Sight.{text_in}
-use Rattle.search_dump.specs.Stretches.{left_to_list, second_stretch}
+use Rattle.search_dump.proofs.Words.{◌≡◌, ◌≤◌, None, Some, ap, ap₂, arith, chars, length, map, string_bytes, subst, sym}
+use Rattle.search_dump.proofs.Words.{◌∙◌, OnOk, Goes, goes_nowhere, position_text, length-shown, searched, text_in}
+use Rattle.search_dump.proofs.Words.{left_to_list, second_stretch}
 use Rattle.search_dump.proofs.RoundLaws.{none-listed, rest-lies, rest-listed, round-lies}
 use Rattle.search_dump.proofs.searching.list_round.Goals as goal
 

@@ -1,9 +1,5 @@
-use Rattle.std.proofs.Common.{None, ap, arith, chars, length, string_bytes, ◌∙◌}
-use Rattle.std.proofs.lemmas.Result.{on_ok_weaker}
-use Rattle.text_index.specs.Positions.{position_text}
-use Rattle.text_index.specs.Views.{shown}
-use Rattle.search_dump.specs.Matches.{compared}
-use Rattle.search_dump.specs.Stretches.{first_stretch}
+use Rattle.search_dump.proofs.Words.{None, ap, arith, chars, length, string_bytes, ◌∙◌, on_ok_weaker, position_text}
+use Rattle.search_dump.proofs.Words.{shown, compared, first_stretch}
 use Rattle.search_dump.proofs.ListedLaws.{first-fits, round-goes}
 use Rattle.search_dump.proofs.searching.list_round_whole.Goals as goal
 

@@ -1,10 +1,6 @@
-use Rattle.std.proofs.Common.{ap, chars, encode_utf8_all, length, map, string_bytes, ◌∙◌}
+use Rattle.search_dump.proofs.Words.{ap, chars, encode_utf8_all, length, map, string_bytes, ◌∙◌, list_text, goes_all}
+use Rattle.search_dump.proofs.Words.{position_text, shown, bound, candidates, compared, matches_at, wanted_of}
 use Rattle.std.specs.Prelude.{filter}
-use Rattle.tcl_words.specs.ListText.{list_text}
-use Rattle.tcl_words.proofs.ListGrowth.{goes_all}
-use Rattle.text_index.specs.Positions.{position_text}
-use Rattle.text_index.specs.Views.{shown}
-use Rattle.search_dump.specs.Matches.{bound, candidates, compared, matches_at, wanted_of}
 use Rattle.search_dump.proofs.ListedLaws.{search-is}
 use Rattle.search_dump.proofs.searching.search.Goals as goal
 

@@ -1,6 +1,4 @@
-use Rattle.std.proofs.Common.{◌≤◌, ◌-◌, min, length, ap, ◌∙◌}
-use Rattle.text_model.specs.Content.{flags}
-use Rattle.text_index.proofs.FlagLaws.{part-next, flags-within}
+use Rattle.search_dump.proofs.Words.{◌≤◌, ◌-◌, min, length, ap, ◌∙◌, flags, part-next, flags-within}
 use Rattle.search_dump.proofs.tag_changes.change_behind.Goals as goal
 
 pub returns-clause-value : goal.returns-clause-value

@@ -1,5 +1,4 @@
-use Rattle.std.proofs.Common.{◌<◌, arith}
-use Rattle.text_index.specs.Views.{shown_flags}
+use Rattle.search_dump.proofs.Words.{◌<◌, arith, shown_flags}
 use Rattle.search_dump.proofs.TagLaws.{none-before, some-before}
 use Rattle.search_dump.proofs.tag_changes.tags_before.Goals as goal
 

@@ -1,7 +1,5 @@
-use Rattle.std.proofs.Common.{◌≡◌, ◌+◌, ◌<◌, arith}
+use Rattle.search_dump.proofs.Words.{◌≡◌, ◌+◌, ◌<◌, arith, shown, length-shown}
 use Rattle.std.specs.Prelude.{length}
-use Rattle.text_index.specs.Views.{shown}
-use Rattle.text_index.proofs.ViewLaws.{length-shown}
 use Rattle.search_dump.proofs.TagLaws.{none-behind, slots-shown}
 use Rattle.search_dump.proofs.tag_changes.tags_left_of.Goals as goal
 

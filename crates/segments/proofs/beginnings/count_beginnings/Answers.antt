@@ -1,6 +1,4 @@
-use Rattle.std.proofs.Common.{◌+◌, sym, ap, ap₂, ◌∙◌, arith}
-use Rattle.std.proofs.lemmas.List.{take_rest}
-use Rattle.segments.specs.Beginnings.{beginnings}
+use Rattle.segments.proofs.Words.{◌+◌, sym, ap, ap₂, ◌∙◌, arith, take_rest, beginnings}
 use Rattle.segments.proofs.BeginningLaws.{fewer_beginnings, more_beginnings, rest_beginnings}
 use Rattle.segments.proofs.beginnings.count_beginnings.Goals as goal
 

@@ -1,5 +1,4 @@
-use Rattle.std.proofs.Common.{◌≡◌, ◌≤◌, take}
-use Rattle.segments.specs.Beginnings.{beginnings}
+use Rattle.segments.proofs.Words.{◌≡◌, ◌≤◌, take, beginnings}
 use Rattle.segments.proofs.beginnings.count_each.Given as goal
 
 abbrev pub invariant-loop-byte : goal.invariant-loop-byte

@@ -1,5 +1,4 @@
-use Rattle.std.proofs.Common.{◌≡◌, ◌+◌, ◌≤◌, ◌-◌, length, take}
-use Rattle.segments.specs.Beginnings.{beginnings}
+use Rattle.segments.proofs.Words.{◌≡◌, ◌+◌, ◌≤◌, ◌-◌, length, take, beginnings}
 use Rattle.segments.proofs.beginnings.next_beginning.Given as goal
 
 abbrev pub invariant-loop-at : goal.invariant-loop-at

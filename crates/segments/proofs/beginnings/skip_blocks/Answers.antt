@@ -1,4 +1,4 @@
-use Rattle.std.proofs.Common.{arith}
+use Rattle.segments.proofs.Words.{arith}
 use Rattle.segments.proofs.BeginningLaws.{more_beginnings}
 use Rattle.segments.proofs.beginnings.skip_blocks.Goals as goal
 

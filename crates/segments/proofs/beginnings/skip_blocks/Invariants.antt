@@ -1,5 +1,4 @@
-use Rattle.std.proofs.Common.{◌≡◌, ◌+◌, ◌≤◌, ◌-◌, length, take}
-use Rattle.segments.specs.Beginnings.{beginnings}
+use Rattle.segments.proofs.Words.{◌≡◌, ◌+◌, ◌≤◌, ◌-◌, length, take, beginnings}
 use Rattle.segments.proofs.beginnings.skip_blocks.Given as goal
 
 abbrev pub invariant-loop-start : goal.invariant-loop-start

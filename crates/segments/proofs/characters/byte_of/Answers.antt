@@ -1,8 +1,5 @@
-use Rattle.std.proofs.Common.{◌≡◌, ◌≤◌, length, drop, sym, ap, subst, ◌∙◌, arith}
-use Rattle.std.specs.Prelude.{chars}
-use Rattle.std.specs.Str.{IsCharBoundary}
-use Rattle.std.proofs.lemmas.List.{drop_all}
-use Rattle.std.proofs.lemmas.Str.{chars-IsAscii, chars-nil, IsAscii-drop, IsCharBoundary-end, IsCharBoundary-from_ascii}
+use Rattle.segments.proofs.Words.{◌≡◌, ◌≤◌, length, drop, sym, ap, subst, ◌∙◌, arith, chars, IsCharBoundary, drop_all}
+use Rattle.segments.proofs.Words.{chars-IsAscii, chars-nil, IsAscii-drop, IsCharBoundary-end, IsCharBoundary-from_ascii}
 use Rattle.segments.proofs.TextLaws.{front_of, is_ascii}
 use Rattle.segments.proofs.characters.byte_of.Goals as goal
 

@@ -1,5 +1,4 @@
-use Rattle.std.proofs.Common.{ap, ◌∙◌}
-use Rattle.segments.specs.Beginnings.{beginnings}
+use Rattle.segments.proofs.Words.{ap, ◌∙◌, beginnings}
 use Rattle.segments.proofs.BeginningLaws.{beginnings-chars}
 use Rattle.segments.proofs.characters.count_characters.Goals as goal
 

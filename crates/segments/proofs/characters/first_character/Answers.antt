@@ -1,4 +1,4 @@
-use Rattle.std.proofs.Common.{sym, ◌∙◌}
+use Rattle.segments.proofs.Words.{sym, ◌∙◌}
 use Rattle.segments.proofs.characters.first_character.Goals as goal
 
 pub returns : goal.returns

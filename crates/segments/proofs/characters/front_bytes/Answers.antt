@@ -1,6 +1,4 @@
-use Rattle.std.proofs.Common.{◌≤◌, take, sym, ap, ◌∙◌, subst}
-use Rattle.std.specs.Str.{IsCharBoundary}
-use Rattle.segments.specs.Beginnings.{beginnings}
+use Rattle.segments.proofs.Words.{◌≤◌, take, sym, ap, ◌∙◌, subst, IsCharBoundary, beginnings}
 use Rattle.segments.proofs.BeginningLaws.{beginnings-chars, behind_beginnings, cut_at_beginning}
 use Rattle.segments.proofs.characters.front_bytes.Goals as goal
 

@@ -1,6 +1,4 @@
-use Rattle.std.proofs.Common.{arith}
-use Rattle.std.specs.Prelude.{chars}
-use Rattle.std.proofs.lemmas.List.Sums.{prefix_len-le-length}
+use Rattle.segments.proofs.Words.{arith, chars, prefix_len-le-length}
 use Rattle.segments.proofs.characters.passing_from_first.Goals as goal
 
 pub returns : goal.returns

@@ -1,6 +1,4 @@
-use Rattle.std.proofs.Common.{◌≡◌, ◌+◌}
-use Rattle.std.specs.List.{prefix_len}
-use Rattle.std.specs.Prelude.{chars}
+use Rattle.segments.proofs.Words.{◌≡◌, ◌+◌, prefix_len, chars}
 use denote.Shadow.{shadow}
 use denote.Text.{Utf8}
 use Rattle.segments.proofs.characters.passing_from_first.Given as goal

@@ -1,6 +1,4 @@
-use Rattle.std.proofs.Common.{◌∙◌, ◌++◌, ap, sym}
-use Rattle.std.specs.Prelude.{encode_utf8}
-use Rattle.std.proofs.lemmas.Str.{chars_past_char}
+use Rattle.segments.proofs.Words.{◌∙◌, ◌++◌, ap, sym, encode_utf8, chars_past_char}
 use Rattle.segments.proofs.characters.split_first.Goals as goal
 
 pub returns-clause-some : goal.returns-clause-some

@@ -1,7 +1,5 @@
-use Rattle.std.proofs.Common.{◌≡◌, true, false, ltb, ltb-true, ltb-false, arith, rules}
-use Rattle.std.proofs.lemmas.List.Sorted.{IsPartitionPoint-from_clause, IsPartitionedBy-ltb}
-use Rattle.std.specs.List.Sorted.{IsPartitionPoint}
-use Rattle.segments.specs.declared.marks.Mark.{Mark}
+use Rattle.segments.proofs.Words.{◌≡◌, true, false, ltb, ltb-true, ltb-false, arith, rules}
+use Rattle.segments.proofs.Words.{IsPartitionPoint-from_clause, IsPartitionedBy-ltb, IsPartitionPoint, Mark}
 use Rattle.segments.proofs.MarkLaws.{all_below, next_above, numbers_rise}
 use Rattle.segments.proofs.marks.count_below.Goals as goal
 use Rattle.segments.proofs.marks.count_below.Goals.{After-partition_point}

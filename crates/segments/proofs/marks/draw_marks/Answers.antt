@@ -1,11 +1,5 @@
-use Rattle.std.proofs.Common.{◌<◌, length, set, get_or, ap, ◌∙◌, arith}
-use Rattle.std.proofs.lemmas.List.{get_or_default}
-use Rattle.std.proofs.lemmas.List.Edits.{map_over_more}
-use Rattle.text_model.specs.declared.places.Gravity.TheVariants.{Left}
-use Rattle.text_model.specs.declared.places.Place.{Place}
-use Rattle.text_model.specs.Splices.{drawn}
-use Rattle.segments.specs.declared.marks.Mark.{Mark}
-use Rattle.segments.specs.Marks.{with_place}
+use Rattle.segments.proofs.Words.{◌<◌, length, set, get_or, ap, ◌∙◌, arith, get_or_default, map_over_more, Left, Place}
+use Rattle.segments.proofs.Words.{drawn, Mark, with_place}
 use Rattle.segments.proofs.MarkPlaceLaws.{none_drawn}
 use Rattle.segments.proofs.marks.draw_marks.Goals as goal
 

@@ -1,6 +1,4 @@
-use Rattle.std.proofs.Common.{◌≡◌, ◌++◌, map, take, drop}
-use Rattle.text_model.specs.Splices.{drawn}
-use Rattle.segments.specs.Marks.{with_place}
+use Rattle.segments.proofs.Words.{◌≡◌, ◌++◌, map, take, drop, drawn, with_place}
 use Rattle.segments.proofs.marks.draw_marks.Given as goal
 
 abbrev pub invariant-loop-mark : goal.invariant-loop-mark

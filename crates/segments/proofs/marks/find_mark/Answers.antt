@@ -1,7 +1,4 @@
-use Rattle.std.proofs.Common.{◌<◌, length, get_or, sym, ◌∙◌, arith}
-use Rattle.std.proofs.lemmas.List.{get_or_default}
-use Rattle.text_model.specs.declared.places.Gravity.TheVariants.{Left}
-use Rattle.segments.specs.declared.marks.Mark.{Mark}
+use Rattle.segments.proofs.Words.{◌<◌, length, get_or, sym, ◌∙◌, arith, get_or_default, Left, Mark}
 use Rattle.segments.proofs.MarkLaws.{above_end, above_other, find_here, find_none, get-marks_of}
 use Rattle.segments.proofs.marks.find_mark.Goals as goal
 use Rattle.segments.proofs.marks.find_mark.Goals.{else-index-marks-via-then-index-marks+else-marks-index}

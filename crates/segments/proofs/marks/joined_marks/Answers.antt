@@ -1,9 +1,5 @@
-use Rattle.std.proofs.Common.{◌≡◌, ◌+◌, ◌<◌, ◌≤◌, [], ◌∷◌, ◌++◌, length, get_or, drop, sym, ap, subst, ◌∙◌, arith}
-use Rattle.std.proofs.lemmas.List.{take_rest}
-use Rattle.std.proofs.lemmas.List.Elements.{All-append, All-drop, All-nil, All-push, All-weaker}
-use Rattle.text_model.specs.declared.places.Gravity.TheVariants.{Left}
-use Rattle.segments.specs.declared.marks.Mark.{Mark}
-use Rattle.segments.specs.Marks.{StandIn}
+use Rattle.segments.proofs.Words.{◌≡◌, ◌+◌, ◌<◌, ◌≤◌, [], ◌∷◌, ◌++◌, length, get_or, drop, sym, ap, subst, ◌∙◌, arith}
+use Rattle.segments.proofs.Words.{take_rest, All-append, All-drop, All-nil, All-push, All-weaker, Left, Mark, StandIn}
 use Rattle.segments.proofs.MarkLaws.{Merges, MergesAt, merge_both_at, merge_end, merge_first_at, merge_second_at}
 use Rattle.segments.proofs.MarkLaws.{merge_start, merged, moved_mark}
 use Rattle.segments.proofs.marks.joined_marks.Goals as goal

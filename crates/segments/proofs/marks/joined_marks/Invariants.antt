@@ -1,5 +1,4 @@
-use Rattle.std.proofs.Common.{ℕ, ◌+◌, ◌-◌, ◌≤◌, length}
-use Rattle.segments.specs.Marks.{StandIn}
+use Rattle.segments.proofs.Words.{ℕ, ◌+◌, ◌-◌, ◌≤◌, length, StandIn}
 use Rattle.segments.proofs.MarkLaws.{MergesAt}
 use Rattle.segments.proofs.marks.joined_marks.Given as goal
 

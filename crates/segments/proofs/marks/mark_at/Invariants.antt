@@ -1,7 +1,4 @@
-use Rattle.std.proofs.Common.{◌≡◌, drop}
-use Rattle.std.specs.Prelude.{slice_get}
-use Rattle.text_model.specs.MarkOrder.{marks_at}
-use Rattle.segments.specs.Marks.{marks_of}
+use Rattle.segments.proofs.Words.{◌≡◌, drop, slice_get, marks_at, marks_of}
 use Rattle.segments.proofs.MarkOrderLaws.{numbers_at}
 use Rattle.segments.proofs.marks.mark_at.Given as goal
 

@@ -1,8 +1,4 @@
-use Rattle.std.proofs.Common.{◌≡◌, map, take, nat_le}
-use Rattle.std.specs.List.{filter}
-use Rattle.segments.specs.declared.marks.Mark.{Mark}
-use Rattle.segments.specs.Columns.{earlier}
-use Rattle.segments.specs.Marks.{with_place}
+use Rattle.segments.proofs.Words.{◌≡◌, map, take, nat_le, filter, Mark, earlier, with_place}
 use Rattle.segments.proofs.marks.marks_behind.Given as goal
 
 abbrev pub invariant-loop-mark : goal.invariant-loop-mark

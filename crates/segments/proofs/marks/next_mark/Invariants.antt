@@ -1,7 +1,4 @@
-use Rattle.std.proofs.Common.{◌≡◌, min, drop}
-use Rattle.text_model.specs.MarkOrder.{next_mark}
-use Rattle.text_model.proofs.MarkOrderLaws.{reduced_from}
-use Rattle.segments.specs.Marks.{marks_of}
+use Rattle.segments.proofs.Words.{◌≡◌, min, drop, next_mark, reduced_from, marks_of}
 use Rattle.segments.proofs.MarkOrderLaws.{offsets_above}
 use Rattle.segments.proofs.marks.next_mark.Given as goal
 

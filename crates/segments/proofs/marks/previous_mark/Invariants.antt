@@ -1,7 +1,4 @@
-use Rattle.std.proofs.Common.{◌≡◌, max, drop}
-use Rattle.text_model.specs.MarkOrder.{previous_mark}
-use Rattle.text_model.proofs.MarkOrderLaws.{reduced_from}
-use Rattle.segments.specs.Marks.{marks_of}
+use Rattle.segments.proofs.Words.{◌≡◌, max, drop, previous_mark, reduced_from, marks_of}
 use Rattle.segments.proofs.MarkOrderLaws.{offsets_below}
 use Rattle.segments.proofs.marks.previous_mark.Given as goal
 

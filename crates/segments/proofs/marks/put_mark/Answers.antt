@@ -1,10 +1,5 @@
-use Rattle.std.proofs.Common.{◌≡◌, ◌<◌, ◌≤◌, length, set, take, drop, sym, ap, subst, ◌∙◌, arith}
-use Rattle.std.proofs.lemmas.List.{get_or_default}
-use Rattle.std.specs.List.{All}
-use Rattle.std.specs.FinMap.{put}
-use Rattle.std.specs.Ordering.{nat_cmp}
-use Rattle.segments.specs.declared.marks.Mark.{Mark}
-use Rattle.segments.specs.Marks.{Below, entries_of}
+use Rattle.segments.proofs.Words.{◌≡◌, ◌<◌, ◌≤◌, length, set, take, drop, sym, ap, subst, ◌∙◌, arith, get_or_default}
+use Rattle.segments.proofs.Words.{All, put, nat_cmp, Mark, Below, entries_of}
 use Rattle.segments.proofs.MarkLaws.{above_end, above_other, put_marks, put_new, put_rise, put_same}
 use Rattle.segments.proofs.marks.put_mark.Goals as goal
 use Rattle.segments.proofs.marks.put_mark.Goals.{After-index_mut, In_ok-insert}

@@ -1,9 +1,5 @@
-use Rattle.std.proofs.Common.{◌≡◌, ◌<◌, ◌≤◌, take, drop, ap, subst, ◌∙◌, arith}
-use Rattle.std.specs.List.{All}
-use Rattle.std.specs.FinMap.Entries.{where_key}
-use Rattle.std.specs.Ordering.{nat_cmp}
-use Rattle.segments.specs.declared.marks.Mark.{Mark}
-use Rattle.segments.specs.Marks.{Below, entries_of}
+use Rattle.segments.proofs.Words.{◌≡◌, ◌<◌, ◌≤◌, take, drop, ap, subst, ◌∙◌, arith, All, where_key, nat_cmp, Mark}
+use Rattle.segments.proofs.Words.{Below, entries_of}
 use Rattle.segments.proofs.MarkLaws.{above_end, above_other, other_than, take_marks, take_none, take_rise, take_same}
 use Rattle.segments.proofs.marks.take_mark.Goals as goal
 use Rattle.segments.proofs.marks.take_mark.Goals.{After-remove, else-index-len-via-then-index-len+else-index-number}

@@ -1,5 +1,4 @@
-use Rattle.std.proofs.Common.{◌*◌, rules}
-use Rattle.text_model.specs.declared.tag_set.TheConstants.{WORDS}
+use Rattle.segments.proofs.Words.{◌*◌, rules, WORDS}
 use Rattle.segments.proofs.ToggleLaws.{lies_cleared, slots_stay_cleared}
 use Rattle.segments.proofs.toggles.clear.Goals as goal
 

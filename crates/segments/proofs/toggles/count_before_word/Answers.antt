@@ -1,9 +1,6 @@
-use Rattle.std.proofs.Common.{◌≡◌, ℕ, ◌+◌, ◌*◌, true, false, ltb, ltb-true, ltb-false, arith, rules}
-use Rattle.std.proofs.lemmas.List.Sorted.{IsPartitionPoint-from_clause, IsPartitionedBy-ltb}
-use Rattle.std.specs.List.Sorted.{IsPartitionPoint}
-use Rattle.text_model.specs.declared.tag_set.TheConstants.{WORDS}
-use Rattle.segments.specs.declared.toggles.Toggled.{Toggled}
-use Rattle.segments.specs.Entries.{RiseIn, place_of}
+use Rattle.segments.proofs.Words.{◌≡◌, ℕ, ◌+◌, ◌*◌, true, false, ltb, ltb-true, ltb-false, arith, rules}
+use Rattle.segments.proofs.Words.{IsPartitionPoint-from_clause, IsPartitionedBy-ltb, IsPartitionPoint, WORDS, Toggled}
+use Rattle.segments.proofs.Words.{RiseIn, place_of}
 use Rattle.segments.proofs.EntryLaws.{before_point, behind_point, places_rise, told}
 use Rattle.segments.proofs.toggles.count_before_word.Goals as goal
 use Rattle.segments.proofs.toggles.count_before_word.Goals.{After-partition_point}

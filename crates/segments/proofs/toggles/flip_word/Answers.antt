@@ -1,11 +1,6 @@
-use Rattle.std.proofs.Common.{◌≡◌, ℕ, ◌+◌, ◌*◌, ◌<◌, ◌≢◌, List, length, get_or, sym, ap, ap₂, subst, ◌∙◌, arith}
-use Rattle.std.proofs.lemmas.Bool.{false≢true}
-use Rattle.std.proofs.lemmas.List.{get_or_default}
-use Rattle.text_model.specs.OneWord.{IsOneWord, word_index}
-use Rattle.text_model.specs.SlotSets.{differing}
-use Rattle.text_model.specs.declared.tag_set.TheConstants.{WORDS}
-use Rattle.segments.specs.declared.toggles.Toggled.{Toggled}
-use Rattle.segments.specs.Entries.{LieIn, place_of, toggled_at}
+use Rattle.segments.proofs.Words.{◌≡◌, ℕ, ◌+◌, ◌*◌, ◌<◌, ◌≢◌, List, length, get_or, sym, ap, ap₂, subst, ◌∙◌, arith}
+use Rattle.segments.proofs.Words.{false≢true, get_or_default, IsOneWord, word_index, differing, WORDS, Toggled, LieIn}
+use Rattle.segments.proofs.Words.{place_of, toggled_at}
 use Rattle.segments.proofs.EntryLaws.{all_words}
 use Rattle.segments.proofs.ToggleLaws.{flips_changed, flips_inserted, flips_removed, left_word, lies_changed}
 use Rattle.segments.proofs.ToggleLaws.{lies_inserted, lies_removed}

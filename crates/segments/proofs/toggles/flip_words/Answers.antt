@@ -1,13 +1,8 @@
-use Rattle.std.proofs.Common.{◌≡◌, ℕ, cond, true, sym, ap, subst, ◌∙◌, arith}
-use Rattle.std.proofs.lemmas.Bool.{false≢true}
-use Rattle.std.specs.Prelude.{vec_capacity, vec_len}
-use Rattle.text_model.specs.OneWord.{has_word, words_below}
-use Rattle.text_model.specs.SlotSets.{differing}
-use Rattle.text_model.specs.declared.tag_set.TheConstants.{WORDS}
-use Rattle.text_model.proofs.InWordLaws.{before_word, before_word-all, before_word-more, before_word-none, counts_among}
-use Rattle.text_model.proofs.InWordLaws.{word-none, word-some, words_below-more}
-use Rattle.toggle_sums.specs.CountLaws.{empty-differing}
-use Rattle.segments.specs.Entries.{LieIn, flipped, toggled_at}
+use Rattle.segments.proofs.Words.{◌≡◌, ℕ, cond, true, sym, ap, subst, ◌∙◌, arith, false≢true, vec_capacity, vec_len}
+use Rattle.segments.proofs.Words.{has_word, differing, WORDS, before_word, before_word-all, before_word-more}
+use Rattle.segments.proofs.Words.{before_word-none, counts_among, word-none, word-some, words_below-more}
+use Rattle.segments.proofs.Words.{empty-differing, LieIn, flipped, toggled_at}
+use Rattle.text_model.specs.OneWord.{words_below}
 use Rattle.segments.proofs.ToggleLaws.{flips_both, flips_none}
 use Rattle.segments.proofs.toggles.flip_words.Goals as goal
 use Rattle.segments.proofs.toggles.flip_words.Goals.{then-not-is_empty, else-not-is_empty}

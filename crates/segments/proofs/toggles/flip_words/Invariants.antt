@@ -1,8 +1,5 @@
-use Rattle.std.proofs.Common.{◌≡◌, ℕ, ◌+◌, ◌<◌, ◌≤◌}
-use Rattle.std.specs.Prelude.{vec_capacity, vec_len}
-use Rattle.text_model.specs.OneWord.{word_count, words_below}
-use Rattle.text_model.proofs.InWordLaws.{before_word}
-use Rattle.segments.specs.Entries.{LieIn, flipped, toggled_at}
+use Rattle.segments.proofs.Words.{◌≡◌, ℕ, ◌+◌, ◌<◌, ◌≤◌, vec_capacity, vec_len, word_count, words_below, before_word}
+use Rattle.segments.proofs.Words.{LieIn, flipped, toggled_at}
 use Rattle.segments.proofs.toggles.flip_words.Given as goal
 
 abbrev pub invariant-loop-index : goal.invariant-loop-index

@@ -1,8 +1,5 @@
-use Rattle.std.proofs.Common.{◌≡◌, ◌*◌, ◌<◌, get_or, length, sym, ap, ◌∙◌, arith}
-use Rattle.std.proofs.lemmas.List.{get_or_default}
+use Rattle.segments.proofs.Words.{◌≡◌, ◌*◌, ◌<◌, get_or, length, sym, ap, ◌∙◌, arith, get_or_default, WORDS, Toggled}
 use Rattle.std.specs.FinSet as set
-use Rattle.text_model.specs.declared.tag_set.TheConstants.{WORDS}
-use Rattle.segments.specs.declared.toggles.Toggled.{Toggled}
 use Rattle.segments.proofs.EntryLaws.{RiseIn-low}
 use Rattle.segments.proofs.ToggleLaws.{told_by, told_none}
 use Rattle.segments.proofs.toggles.has_toggle.Goals as goal

@@ -1,7 +1,4 @@
-use Rattle.std.proofs.Common.{set, sym, ap, ◌∙◌}
-use Rattle.std.proofs.lemmas.List.Edits.{map_over_more}
-use Rattle.segments.specs.declared.toggles.Toggled.{Toggled}
-use Rattle.segments.specs.Entries.{moved_back}
+use Rattle.segments.proofs.Words.{set, sym, ap, ◌∙◌, map_over_more, Toggled, moved_back}
 use Rattle.segments.proofs.toggles.move_back.Goals as goal
 
 pub loop-entry-preserved : goal.loop-entry-preserved

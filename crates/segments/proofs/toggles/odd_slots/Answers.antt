@@ -1,7 +1,4 @@
-use Rattle.std.proofs.Common.{◌∙◌, ap}
-use Rattle.toggle_sums.specs.CountLaws.{empty-differing}
-use Rattle.text_model.specs.SlotSets.{differing}
-use Rattle.segments.specs.Entries.{odd_of}
+use Rattle.segments.proofs.Words.{◌∙◌, ap, empty-differing, differing, odd_of}
 use Rattle.segments.proofs.toggles.odd_slots.Goals as goal
 
 pub returns : goal.returns

@@ -1,6 +1,4 @@
-use Rattle.std.proofs.Common.{◌≡◌, suc, ◌-◌, ◌*◌, take, sym, ap, subst, ◌∙◌, arith}
-use Rattle.text_model.specs.declared.tag_set.TheConstants.{WORDS}
-use Rattle.segments.specs.Entries.{LieIn, previous_entry}
+use Rattle.segments.proofs.Words.{◌≡◌, suc, ◌-◌, ◌*◌, take, sym, ap, subst, ◌∙◌, arith, WORDS, LieIn, previous_entry}
 use Rattle.segments.proofs.EntryLaws.{RiseIn-low}
 use Rattle.segments.proofs.PreviousLaws.{RiseIn-less, previous_front, previous_last, previous_less}
 use Rattle.segments.proofs.toggles.previous_toggle.Goals as goal

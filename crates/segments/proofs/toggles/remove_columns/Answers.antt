@@ -1,9 +1,6 @@
-use Rattle.std.proofs.Common.{◌≡◌, ◌+◌, ◌-◌, ◌*◌, ◌≤◌, ◌++◌, length, map, take, drop, sym, ap, ap₂, subst, ◌∙◌, arith}
-use Rattle.std.proofs.Math.Seq.{take-append_seam}
-use Rattle.std.proofs.lemmas.List.{length-take-le}
-use Rattle.std.specs.List.{All}
-use Rattle.text_model.specs.declared.tag_set.TheConstants.{WORDS}
-use Rattle.segments.specs.Entries.{CanMoveBack, LieIn, flipped, moved_back, toggled_at}
+use Rattle.segments.proofs.Words.{◌≡◌, ◌+◌, ◌-◌, ◌*◌, ◌≤◌, ◌++◌, length, map, take, drop, sym, ap, ap₂, subst, ◌∙◌}
+use Rattle.segments.proofs.Words.{arith, take-append_seam, length-take-le, All, WORDS, CanMoveBack, LieIn, flipped}
+use Rattle.segments.proofs.Words.{moved_back, toggled_at}
 use Rattle.segments.proofs.EntryLaws.{all_words}
 use Rattle.segments.proofs.MovedLaws.{can_move_back, toggled_front}
 use Rattle.segments.proofs.PartLaws.{rest_added}

@@ -1,10 +1,5 @@
-use Rattle.std.proofs.Common.{◌≡◌, ◌-◌, drop, sym, ap, subst, ◌∙◌, arith, length-take}
-use Rattle.std.specs.List.{All}
-use Rattle.std.specs.Prelude.{slice_range}
-use Rattle.std.proofs.lemmas.List.Elements.{All-drop, All-take}
-use Rattle.text_model.specs.OneWord.{AreSlots, word_count}
-use Rattle.text_model.specs.declared.tag_set.TheConstants.{WORDS}
-use Rattle.segments.specs.Entries.{HasOneWord, odd_of}
+use Rattle.segments.proofs.Words.{◌≡◌, ◌-◌, drop, sym, ap, subst, ◌∙◌, arith, length-take, All, slice_range, All-drop}
+use Rattle.segments.proofs.Words.{All-take, AreSlots, word_count, WORDS, HasOneWord, odd_of}
 use Rattle.segments.proofs.SpanLaws.{slots_of_odd, words_of_odd}
 use Rattle.segments.proofs.toggles.take_range.Goals as goal
 

@@ -1,9 +1,4 @@
-use Rattle.std.proofs.Common.{◌+◌, drop, sym, ◌∙◌, ap}
-use Rattle.std.proofs.lemmas.List.{drop_all}
-use Rattle.toggle_sums.specs.CountLaws.{differing-empty}
-use Rattle.text_model.specs.SlotSets.{differing}
-use Rattle.segments.specs.declared.toggles.Toggled.{Toggled}
-use Rattle.segments.specs.Entries.{odd_of}
+use Rattle.segments.proofs.Words.{◌+◌, drop, sym, ◌∙◌, ap, drop_all, differing-empty, differing, Toggled, odd_of}
 use Rattle.segments.proofs.EntryLaws.{odd_more}
 use Rattle.segments.proofs.toggles.turn_odd.Goals as goal
 

@@ -1,6 +1,4 @@
-use Rattle.std.proofs.Common.{◌≡◌, drop}
-use Rattle.text_model.specs.SlotSets.{differing}
-use Rattle.segments.specs.Entries.{odd_of}
+use Rattle.segments.proofs.Words.{◌≡◌, drop, differing, odd_of}
 use Rattle.segments.proofs.toggles.turn_odd.Given as goal
 
 abbrev pub invariant-loop-entry : goal.invariant-loop-entry

@@ -1,4 +1,4 @@
-use Rattle.std.specs.Str.{valid_up_to, error_len}
+use Rattle.tcl_words.proofs.Words.{valid_up_to, error_len}
 use Rattle.tcl_words.proofs.Readings.{after_cut, after_fault}
 use Rattle.tcl_words.proofs.encoding.text_front.Goals as goal
 

@@ -1,7 +1,5 @@
-use Rattle.std.proofs.Common.{length, chars, arith}
-use Rattle.std.proofs.lemmas.Iterator.{YieldsList-from_chars}
-use Rattle.std.proofs.lemmas.Iterator.Consumers.{YieldsList-turn, YieldsList-end}
-use Rattle.std.proofs.lemmas.List.{length_push}
+use Rattle.tcl_words.proofs.Words.{length, chars, arith, YieldsList-from_chars, YieldsList-turn, YieldsList-end}
+use Rattle.tcl_words.proofs.Words.{length_push}
 use Rattle.tcl_words.proofs.ListForms.{balance_backslash, balance_opens, balance_low, balance_closes, balance_passes}
 use Rattle.tcl_words.proofs.ListForms.{balance_ends}
 use Rattle.tcl_words.proofs.list_writing.balances.Goals as goal

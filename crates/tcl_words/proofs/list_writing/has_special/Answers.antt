@@ -1,7 +1,5 @@
-use Rattle.std.proofs.Common.{length, chars, arith}
-use Rattle.std.proofs.lemmas.Iterator.{YieldsList-from_chars}
-use Rattle.std.proofs.lemmas.Iterator.Consumers.{YieldsList-turn, YieldsList-end}
-use Rattle.std.proofs.lemmas.List.{length_push}
+use Rattle.tcl_words.proofs.Words.{length, chars, arith, YieldsList-from_chars, YieldsList-turn, YieldsList-end}
+use Rattle.tcl_words.proofs.Words.{length_push}
 use Rattle.tcl_words.proofs.ListForms.{special_found, special_goes, special_ends}
 use Rattle.tcl_words.proofs.list_writing.has_special.Goals as goal
 

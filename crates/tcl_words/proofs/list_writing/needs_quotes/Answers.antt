@@ -1,5 +1,4 @@
-use Rattle.std.proofs.Common.{chars, sym, ◌∙◌}
-use Rattle.std.proofs.lemmas.Str.{encodes-chars}
+use Rattle.tcl_words.proofs.Words.{chars, sym, ◌∙◌, encodes-chars}
 use Rattle.tcl_words.proofs.Plain.{none_left}
 use Rattle.tcl_words.proofs.ListForms.{quotes_none, quotes_other, some_chars}
 use Rattle.tcl_words.proofs.list_writing.needs_quotes.Goals as goal

@@ -1,7 +1,5 @@
-use Rattle.std.proofs.Common.{◌++◌, ◌∙◌, ap, length, chars, string_bytes, encode_utf8, arith}
-use Rattle.std.proofs.lemmas.Iterator.{YieldsList-from_chars}
-use Rattle.std.proofs.lemmas.Iterator.Consumers.{YieldsList-turn, YieldsList-end}
-use Rattle.std.proofs.lemmas.List.{length_push}
+use Rattle.tcl_words.proofs.Words.{◌++◌, ◌∙◌, ap, length, chars, string_bytes, encode_utf8, arith}
+use Rattle.tcl_words.proofs.Words.{YieldsList-from_chars, YieldsList-turn, YieldsList-end, length_push}
 use Rattle.tcl_words.proofs.ListForms.{back_hash, back_plain, back_special, back_other, back_ends}
 use Rattle.tcl_words.proofs.list_writing.with_backslashes.Goals as goal
 use Rattle.tcl_words.proofs.list_writing.with_backslashes.Goals.{then-begins_with_hash+in_ok-push}

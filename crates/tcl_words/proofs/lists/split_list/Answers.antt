@@ -1,9 +1,7 @@
-use Rattle.std.proofs.Common.{◌++◌, ◌∙◌, map, chars, string_bytes, sym, ap, subst, arith, IsUtf8}
-use Rattle.std.proofs.lemmas.Str.{IsUtf8-drop}
-use Rattle.tcl_words.proofs.ListWriting.{list_depth}
+use Rattle.tcl_words.proofs.Words.{◌++◌, ◌∙◌, map, chars, string_bytes, sym, ap, subst, arith, IsUtf8, IsUtf8-drop}
+use Rattle.tcl_words.proofs.ListWriting.{list_depth, reading_starts, reading_same, reading_runs, reading_goes}
+use Rattle.tcl_words.proofs.ListWriting.{reading_fails, reading_ends, reading_ends_badly}
 use Rattle.tcl_words.proofs.Plain.{run_at, front_range, char_boundary, after_char, none_left, RunOf}
-use Rattle.tcl_words.proofs.ListWriting.{reading_starts, reading_same, reading_runs, reading_goes, reading_fails}
-use Rattle.tcl_words.proofs.ListWriting.{reading_ends, reading_ends_badly}
 use Rattle.tcl_words.proofs.lists.split_list.Goals as goal
 
 pub loop-rest-init : goal.loop-rest-init

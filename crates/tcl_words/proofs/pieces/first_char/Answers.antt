@@ -1,5 +1,4 @@
-use Rattle.std.proofs.Common.{sym, ◌∙◌}
-use Rattle.std.proofs.lemmas.Str.{chars_past_char}
+use Rattle.tcl_words.proofs.Words.{sym, ◌∙◌, chars_past_char}
 use Rattle.tcl_words.proofs.pieces.first_char.Goals as goal
 
 pub returns : goal.returns

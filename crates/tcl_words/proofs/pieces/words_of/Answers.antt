@@ -1,11 +1,8 @@
-use Rattle.std.proofs.Common.{◌++◌, ◌∙◌, chars, string_bytes, sym, ap, subst}
-use Rattle.std.proofs.Common.{arith, IsUtf8}
-use Rattle.std.proofs.lemmas.Str.{IsUtf8-drop}
+use Rattle.tcl_words.proofs.Words.{◌++◌, ◌∙◌, chars, string_bytes, sym, ap, subst, arith, IsUtf8, IsUtf8-drop}
 use Rattle.tcl_words.proofs.Scans.{depth_on}
 use Rattle.tcl_words.proofs.Plain.{run_at, front_range, char_boundary, after_char, none_left}
-use Rattle.tcl_words.proofs.Writing.{writing_same, writing_runs}
+use Rattle.tcl_words.proofs.Writing.{writing_same, writing_runs, writing_goes, writing_stops, writing_ends, is_last}
 use Rattle.tcl_words.proofs.Pairs.{writing_kept}
-use Rattle.tcl_words.proofs.Writing.{writing_goes, writing_stops, writing_ends, is_last}
 use Rattle.tcl_words.proofs.pieces.words_of.Goals as goal
 
 pub loop-rest-preserved-then-run-gt0 : goal.loop-rest-preserved-then-run-gt0

@@ -1,5 +1,4 @@
-use Rattle.std.proofs.Common.{◌+◌, ◌≤◌, IsUtf8, map, length, chars, string_bytes}
-use Rattle.tcl_words.specs.Steps.{depth_of}
+use Rattle.tcl_words.proofs.Words.{◌+◌, ◌≤◌, IsUtf8, map, length, chars, string_bytes, depth_of}
 use Rattle.tcl_words.proofs.Writing.{IsWritten}
 use Rattle.tcl_words.proofs.pieces.words_of.Given as goal
 

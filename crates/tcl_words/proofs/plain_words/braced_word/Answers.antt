@@ -1,6 +1,4 @@
-use Rattle.std.proofs.lemmas.List.{take_rest}
-use Rattle.tcl_words.specs.declared.stage.Stage.TheVariants.{BeforeWord}
-use Rattle.tcl_words.specs.PlainWords.{IsPlainWord, IsClosed}
+use Rattle.tcl_words.proofs.Words.{take_rest, BeforeWord, IsPlainWord, IsClosed}
 use Rattle.tcl_words.proofs.PlainWords.{braced_is, some_left, if_word}
 use Rattle.tcl_words.proofs.plain_words.braced_word.Goals as goal
 

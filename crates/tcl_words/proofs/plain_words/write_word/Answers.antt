@@ -1,4 +1,4 @@
-use Rattle.std.proofs.Common.{◌++◌, ◌∙◌, ap, arith}
+use Rattle.tcl_words.proofs.Words.{◌++◌, ◌∙◌, ap, arith}
 use Rattle.tcl_words.proofs.WordWriting.{written_over}
 use Rattle.tcl_words.proofs.plain_words.write_word.Goals as goal
 

@@ -1,5 +1,4 @@
-use Rattle.std.proofs.Common.{◌≡◌, ℕ, ◌<◌, true, get_or}
-use Rattle.tcl_words.specs.Runs.{is_bare}
+use Rattle.tcl_words.proofs.Words.{◌≡◌, ℕ, ◌<◌, true, get_or, is_bare}
 use Rattle.tcl_words.proofs.runs.bare_run.Given as goal
 
 abbrev pub invariant-loop-index : goal.invariant-loop-index

@@ -1,7 +1,4 @@
-use Rattle.std.proofs.Common.{◌∙◌, sym, ap, arith}
-use Rattle.tcl_words.specs.EscapeSteps.{pair_gives}
-use Rattle.tcl_words.specs.declared.stage.Stage.TheVariants.{Text}
-use Rattle.tcl_words.specs.declared.stage.TextWord.TheVariants.{Quoted}
+use Rattle.tcl_words.proofs.Words.{◌∙◌, sym, ap, arith, pair_gives, Text, Quoted}
 use Rattle.tcl_words.proofs.Pairs.{scan_plain, scan_pair}
 use Rattle.tcl_words.proofs.scanner.quoted_front.Goals as goal
 

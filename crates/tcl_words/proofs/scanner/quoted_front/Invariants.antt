@@ -1,7 +1,4 @@
-use Rattle.std.proofs.Common.{◌≡◌, ◌-◌, ◌≤◌, length, drop}
-use Rattle.tcl_words.specs.Scanning.{scanned, later}
-use Rattle.tcl_words.specs.declared.stage.Stage.TheVariants.{Text}
-use Rattle.tcl_words.specs.declared.stage.TextWord.TheVariants.{Quoted}
+use Rattle.tcl_words.proofs.Words.{◌≡◌, ◌-◌, ◌≤◌, length, drop, scanned, later, Text, Quoted}
 use Rattle.tcl_words.proofs.scanner.quoted_front.Given as goal
 
 abbrev pub invariant-loop-index : goal.invariant-loop-index

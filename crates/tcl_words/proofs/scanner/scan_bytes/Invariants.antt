@@ -1,6 +1,4 @@
-use Rattle.std.proofs.Common.{◌≡◌, ◌+◌, ◌-◌, ◌≤◌, length, drop}
-use Rattle.tcl_words.specs.Scanning.{scanned, later}
-use Rattle.tcl_words.specs.Steps.{depth_of}
+use Rattle.tcl_words.proofs.Words.{◌≡◌, ◌+◌, ◌-◌, ◌≤◌, length, drop, scanned, later, depth_of}
 use Rattle.tcl_words.proofs.scanner.scan_bytes.Given as goal
 
 abbrev pub invariant-loop-index : goal.invariant-loop-index

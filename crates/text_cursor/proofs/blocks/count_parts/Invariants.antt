@@ -1,5 +1,4 @@
-use Rattle.std.proofs.Common.{◌≡◌, take}
-use Rattle.text_cursor.specs.Parts.{parts_len}
+use Rattle.text_cursor.proofs.Words.{◌≡◌, take, parts_len}
 use Rattle.text_cursor.proofs.blocks.count_parts.Given as goal
 
 abbrev pub invariant-loop-part : goal.invariant-loop-part

@@ -1,5 +1,4 @@
-use Rattle.std.proofs.Common.{◌-◌, ◌≤◌, ap, sym, subst, ◌∙◌}
-use Rattle.text_cursor.specs.Cursors.{last_line}
+use Rattle.text_cursor.proofs.Words.{◌-◌, ◌≤◌, ap, sym, subst, ◌∙◌, last_line}
 use Rattle.text_cursor.proofs.LookLaws.{old-last-in, new-text, last-bound}
 use Rattle.text_cursor.proofs.cursors.last_line_in.Goals as goal
 

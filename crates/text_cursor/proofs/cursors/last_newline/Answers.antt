@@ -1,7 +1,4 @@
-use Rattle.std.proofs.Common.{◌+◌, take, ap, sym, ◌∙◌, eq-eqb, ne_eqb}
-use Rattle.std.specs.Prelude.{if◌then◌else◌}
-use Rattle.text_model.specs.Lines.{is_newline}
-use Rattle.text_cursor.specs.Cursors.{last_line}
+use Rattle.text_cursor.proofs.Words.{◌+◌, take, ap, sym, ◌∙◌, eq-eqb, ne_eqb, if◌then◌else◌, is_newline, last_line}
 use Rattle.text_cursor.proofs.LookLaws.{last-more}
 use Rattle.text_cursor.proofs.cursors.last_newline.Goals as goal
 use Rattle.text_cursor.proofs.cursors.last_newline.Goals.{then-character-eq10, else-character-eq10}

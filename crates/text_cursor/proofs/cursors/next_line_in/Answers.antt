@@ -1,5 +1,4 @@
-use Rattle.std.proofs.Common.{◌-◌, ◌≤◌, ap, sym, subst, ◌∙◌}
-use Rattle.text_model.specs.Lines.{line_start}
+use Rattle.text_cursor.proofs.Words.{◌-◌, ◌≤◌, ap, sym, subst, ◌∙◌, line_start}
 use Rattle.text_cursor.proofs.LookLaws.{old-next-in, new-text, first-bound}
 use Rattle.text_cursor.proofs.cursors.next_line_in.Goals as goal
 

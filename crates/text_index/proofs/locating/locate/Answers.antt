@@ -1,11 +1,7 @@
-use Rattle.std.proofs.Common.{◌≡◌, ◌<◌, ◌≤◌, ◌+◌, Some, Err, Ok, refl, sym, arith, ◌∙◌}
-use Rattle.std.specs.Prelude.{chars, length, IfOk}
-use Rattle.std.proofs.lemmas.List.{length-map}
-use Rattle.text_model.specs.declared.cells.Cell.{Cell}
-use Rattle.index_grammar.specs.Grammar.{index_of}
-use Rattle.text_index.specs.Views.{shown}
-use Rattle.text_index.specs.Words.{is_word}
-use Rattle.text_index.specs.Meanings.{shown_meanings}
+use Rattle.text_index.proofs.Words.{◌≡◌, ◌<◌, ◌≤◌, ◌+◌, Some, refl, sym, arith, ◌∙◌, chars, IfOk, length-map, Cell}
+use Rattle.text_index.proofs.Words.{index_of, shown, is_word, shown_meanings}
+use Rattle.std.proofs.Common.{Err, Ok}
+use Rattle.std.specs.Prelude.{length}
 use Rattle.text_index.proofs.ViewLaws.{length-shown}
 use Rattle.text_index.proofs.BoundLaws.{shown-within, index_value-saturated, value_of-le}
 use Rattle.text_index.proofs.locating.locate.Goals as goal

@@ -1,7 +1,4 @@
-use Rattle.std.proofs.Common.{◌≡◌, ◌<◌, ◌+◌, ◌-◌, ◌^◌, min, sym, ◌∙◌, arith}
-use Rattle.text_model.specs.Content.{characters}
-use Rattle.text_model.specs.Lines.{lines, line_of}
-use Rattle.text_index.specs.Views.{shown}
+use Rattle.text_index.proofs.Words.{◌≡◌, ◌<◌, ◌+◌, ◌-◌, ◌^◌, min, sym, ◌∙◌, arith, characters, lines, line_of, shown}
 use Rattle.text_index.proofs.ViewLaws.{some-line, length-shown, lines_on-is}
 use Rattle.text_index.proofs.moves.lines_on.Goals as goal
 

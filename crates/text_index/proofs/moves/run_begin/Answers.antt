@@ -1,6 +1,4 @@
-use Rattle.std.proofs.Common.{◌∙◌}
-use Rattle.text_model.specs.Content.{characters}
-use Rattle.text_index.specs.Words.{is_word}
+use Rattle.text_index.proofs.Words.{◌∙◌, characters, is_word}
 use Rattle.text_index.proofs.RunLaws.{run_start-part}
 use Rattle.text_index.proofs.moves.run_begin.Goals as goal
 

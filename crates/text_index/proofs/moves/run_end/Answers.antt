@@ -1,6 +1,4 @@
-use Rattle.std.proofs.Common.{◌-◌, ap, ◌∙◌}
-use Rattle.text_model.specs.Content.{characters}
-use Rattle.text_index.specs.Words.{is_word}
+use Rattle.text_index.proofs.Words.{◌-◌, ap, ◌∙◌, characters, is_word}
 use Rattle.text_index.proofs.RunLaws.{run_end-part}
 use Rattle.text_index.proofs.moves.run_end.Goals as goal
 

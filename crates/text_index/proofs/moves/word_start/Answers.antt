@@ -1,7 +1,4 @@
-use Rattle.std.proofs.Common.{◌<◌, length, sym, ◌∙◌, arith}
-use Rattle.text_index.specs.Views.{shown}
-use Rattle.text_index.specs.Values.{word_front}
-use Rattle.text_index.specs.Words.{is_word}
+use Rattle.text_index.proofs.Words.{◌<◌, length, sym, ◌∙◌, arith, shown, word_front, is_word}
 use Rattle.text_index.proofs.ViewLaws.{length-shown}
 use Rattle.text_index.proofs.MoveLaws.{front-of-run, moves, stays}
 use Rattle.text_index.proofs.moves.word_start.Goals as goal

@@ -1,7 +1,4 @@
-use Rattle.std.specs.Prelude.{string_bytes}
-use Rattle.std.proofs.Common.{◌-◌, ap, ◌∙◌}
-use Rattle.std.proofs.lemmas.Str.{IsUtf8-string_bytes}
-use Rattle.text_model.specs.Lines.{line_start}
+use Rattle.text_index.proofs.Words.{string_bytes, ◌-◌, ap, ◌∙◌, IsUtf8-string_bytes, line_start}
 use Rattle.text_index.proofs.PositionLaws.{chars-behind}
 use Rattle.text_index.proofs.positions.push_index_on.Goals as goal
 

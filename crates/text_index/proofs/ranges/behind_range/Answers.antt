@@ -1,6 +1,4 @@
-use Rattle.std.proofs.Common.{◌≡◌, ◌-◌, ap, arith, true, ◌∙◌}
-use Rattle.text_model.specs.Changes.{flag_at}
-use Rattle.text_index.specs.Views.{shown_flags}
+use Rattle.text_index.proofs.Words.{◌≡◌, ◌-◌, ap, arith, true, ◌∙◌, flag_at, shown_flags}
 use Rattle.text_index.proofs.WalkLaws.{range-passed, range-ends, unset-there}
 use Rattle.text_index.proofs.ranges.behind_range.Goals as goal
 

@@ -1,5 +1,4 @@
-use Rattle.std.proofs.Common.{◌≤◌, ◌-◌, min, length, ap, ◌∙◌}
-use Rattle.text_model.specs.Content.{flags}
+use Rattle.text_index.proofs.Words.{◌≤◌, ◌-◌, min, length, ap, ◌∙◌, flags}
 use Rattle.text_index.proofs.FlagLaws.{part-next, flags-within}
 use Rattle.text_index.proofs.ranges.change_behind.Goals as goal
 

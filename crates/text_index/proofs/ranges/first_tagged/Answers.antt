@@ -1,5 +1,4 @@
-use Rattle.std.proofs.Common.{None, Some, ◌∙◌}
-use Rattle.text_index.specs.Views.{shown_flags}
+use Rattle.text_index.proofs.Words.{None, Some, ◌∙◌, shown_flags}
 use Rattle.text_index.proofs.WalkLaws.{first-start}
 use Rattle.text_index.proofs.ranges.first_tagged.Goals as goal
 

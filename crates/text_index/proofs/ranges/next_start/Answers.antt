@@ -1,7 +1,5 @@
-use Rattle.std.proofs.Common.{◌≡◌, nat_lt, true, false, refl}
-use Rattle.std.proofs.lemmas.Bool.{ltb-true, ltb-false}
-use Rattle.text_index.specs.Ranges.{begins}
-use Rattle.text_index.specs.Views.{shown_flags}
+use Rattle.text_index.proofs.Words.{◌≡◌, true, false, refl, ltb-true, ltb-false, begins, shown_flags}
+use Rattle.std.proofs.Common.{nat_lt}
 use Rattle.text_index.proofs.ranges.next_start.Goals as goal
 
 pub returns-clause-passed : goal.returns-clause-passed

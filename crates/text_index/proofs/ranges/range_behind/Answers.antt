@@ -1,6 +1,4 @@
-use Rattle.std.proofs.Common.{sym, ap, ◌∙◌}
-use Rattle.text_index.specs.Ranges.{and_later}
-use Rattle.text_index.specs.Views.{shown_flags}
+use Rattle.text_index.proofs.Words.{sym, ap, ◌∙◌, and_later, shown_flags}
 use Rattle.text_index.proofs.RangeLaws.{ranges_from-step}
 use Rattle.text_index.proofs.ranges.range_behind.Goals as goal
 

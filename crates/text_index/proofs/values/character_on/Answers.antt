@@ -1,7 +1,4 @@
-use Rattle.std.proofs.Common.{◌≡◌, ◌≤◌, length, sym, ◌∙◌}
-use Rattle.text_model.specs.Content.{characters}
-use Rattle.text_model.specs.Lines.{lines, line_start}
-use Rattle.text_index.specs.Views.{shown}
+use Rattle.text_index.proofs.Words.{◌≡◌, ◌≤◌, length, sym, ◌∙◌, characters, lines, line_start, shown}
 use Rattle.text_index.proofs.StartLaws.{none-on, past-start}
 use Rattle.text_index.proofs.ViewLaws.{length-shown}
 use Rattle.text_index.proofs.values.character_on.Goals as goal

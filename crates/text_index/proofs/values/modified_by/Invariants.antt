@@ -1,7 +1,4 @@
-use Rattle.std.proofs.Common.{◌≡◌, ◌≤◌, ◌+◌, drop}
-use Rattle.text_index.specs.Views.{shown}
-use Rattle.text_index.specs.Values.{modified_by}
-use Rattle.text_index.specs.Words.{is_word}
+use Rattle.text_index.proofs.Words.{◌≡◌, ◌≤◌, ◌+◌, drop, shown, modified_by, is_word}
 use Rattle.text_index.proofs.values.modified_by.Given as goal
 
 abbrev pub invariant-loop-modifier : goal.invariant-loop-modifier

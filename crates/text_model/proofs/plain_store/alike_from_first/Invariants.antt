@@ -1,7 +1,4 @@
-use Rattle.std.proofs.Common.{◌≡◌, ◌+◌, drop}
-use Rattle.std.specs.List.{prefix_len}
-use Rattle.text_model.specs.Changes.{is_alike}
-use Rattle.text_model.specs.Content.{flags}
+use Rattle.text_model.proofs.Words.{◌≡◌, ◌+◌, drop, prefix_len, is_alike, flags}
 use Rattle.text_model.proofs.plain_store.alike_from_first.Given as goal
 
 abbrev pub invariant-loop-count : goal.invariant-loop-count

@@ -1,9 +1,5 @@
-use Rattle.std.proofs.Common.{◌≡◌, take, sym, ap, ◌∙◌, arith}
+use Rattle.text_model.proofs.Words.{◌≡◌, take, sym, ap, ◌∙◌, arith, suffix_len, Cell, is_alike, flags}
 use Rattle.std.specs.FinSet as set
-use Rattle.std.specs.List.{suffix_len}
-use Rattle.text_model.specs.declared.cells.Cell.{Cell}
-use Rattle.text_model.specs.Changes.{is_alike}
-use Rattle.text_model.specs.Content.{flags}
 use Rattle.text_model.proofs.ChangeLaws.{last_more, last_stops}
 use Rattle.text_model.proofs.plain_store.alike_from_last.Goals as goal
 use Rattle.text_model.proofs.plain_store.alike_from_last.Goals.{then-loop-start-test+else-has-is_on}

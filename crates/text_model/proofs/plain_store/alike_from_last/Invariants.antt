@@ -1,7 +1,4 @@
-use Rattle.std.proofs.Common.{◌≡◌, ◌+◌, ◌≤◌, length, take}
-use Rattle.std.specs.List.{suffix_len}
-use Rattle.text_model.specs.Changes.{is_alike}
-use Rattle.text_model.specs.Content.{flags}
+use Rattle.text_model.proofs.Words.{◌≡◌, ◌+◌, ◌≤◌, length, take, suffix_len, is_alike, flags}
 use Rattle.text_model.proofs.plain_store.alike_from_last.Given as goal
 
 abbrev pub invariant-loop-start : goal.invariant-loop-start

@@ -1,5 +1,4 @@
-use Rattle.std.proofs.Common.{◌≢◌, arith}
-use Rattle.std.proofs.lemmas.Bool.Decides.{nat_tests}
+use Rattle.text_model.proofs.Words.{◌≢◌, arith, nat_tests}
 use Rattle.text_model.proofs.LineLaws.{line_start-next}
 use Rattle.text_model.proofs.plain_store.find_line.Goals as goal
 use Rattle.text_model.proofs.plain_store.find_line.Goals.{then-cell-eq10, else-cell-eq10}

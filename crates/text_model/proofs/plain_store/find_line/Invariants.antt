@@ -1,6 +1,4 @@
-use Rattle.std.proofs.Common.{◌≡◌, ◌+◌, drop}
-use Rattle.text_model.specs.Content.{characters}
-use Rattle.text_model.specs.Lines.{line_start}
+use Rattle.text_model.proofs.Words.{◌≡◌, ◌+◌, drop, characters, line_start}
 use Rattle.text_model.proofs.plain_store.find_line.Given as goal
 
 abbrev pub invariant-loop-offset : goal.invariant-loop-offset

@@ -1,5 +1,4 @@
-use Rattle.std.proofs.Common.{ap}
-use Rattle.std.specs.Prelude.{slice_get}
+use Rattle.text_model.proofs.Words.{ap, slice_get}
 use Rattle.text_model.proofs.MarkOrderLaws.{marks_at_from}
 use Rattle.text_model.proofs.plain_store.find_mark.Goals as goal
 

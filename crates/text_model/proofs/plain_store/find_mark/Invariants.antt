@@ -1,7 +1,4 @@
-use Rattle.std.proofs.Common.{◌≡◌, drop}
-use Rattle.std.specs.Prelude.{slice_get}
-use Rattle.text_model.specs.MarkOrder.{marks_at}
-use Rattle.text_model.specs.Plain.{plain_marks}
+use Rattle.text_model.proofs.Words.{◌≡◌, drop, slice_get, marks_at, plain_marks}
 use Rattle.text_model.proofs.MarkOrderLaws.{marks_from}
 use Rattle.text_model.proofs.plain_store.find_mark.Given as goal
 

@@ -1,6 +1,4 @@
-use Rattle.std.proofs.Common.{◌≡◌, min, drop}
-use Rattle.text_model.specs.MarkOrder.{next_mark}
-use Rattle.text_model.specs.Plain.{plain_marks}
+use Rattle.text_model.proofs.Words.{◌≡◌, min, drop, next_mark, plain_marks}
 use Rattle.text_model.proofs.MarkOrderLaws.{offsets_above, reduced_from}
 use Rattle.text_model.proofs.plain_store.find_next.Given as goal
 

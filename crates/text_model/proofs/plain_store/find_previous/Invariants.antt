@@ -1,6 +1,4 @@
-use Rattle.std.proofs.Common.{◌≡◌, max, drop}
-use Rattle.text_model.specs.MarkOrder.{previous_mark}
-use Rattle.text_model.specs.Plain.{plain_marks}
+use Rattle.text_model.proofs.Words.{◌≡◌, max, drop, previous_mark, plain_marks}
 use Rattle.text_model.proofs.MarkOrderLaws.{offsets_below, reduced_from}
 use Rattle.text_model.proofs.plain_store.find_previous.Given as goal
 

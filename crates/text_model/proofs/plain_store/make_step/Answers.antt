@@ -1,12 +1,7 @@
-use Rattle.std.proofs.Common.{◌≡◌, ◌-◌, ◌<◌, ◌++◌, length, map, take, drop, set, None, Some, get_or, subst, sym, ap}
-use Rattle.std.proofs.Common.{◌∙◌, arith}
-use Rattle.std.specs.Prelude.{option_map}
+use Rattle.text_model.proofs.Words.{◌≡◌, ◌-◌, ◌<◌, ◌++◌, length, map, take, drop, set, None, Some, get_or, subst, sym}
+use Rattle.text_model.proofs.Words.{ap, ◌∙◌, arith, option_map, length-map, PutMark, TakeMark, plain_content}
+use Rattle.text_model.proofs.Words.{plain_marks, moved, drawn, StepFits, after_step, cells_of, without_slots}
 use Rattle.std.specs.FinMap as finite
-use Rattle.std.proofs.lemmas.List.{length-map}
-use Rattle.text_model.specs.declared.edits.Step.TheVariants.{PutMark, TakeMark}
-use Rattle.text_model.specs.Plain.{plain_content, plain_marks}
-use Rattle.text_model.specs.Splices.{moved, drawn}
-use Rattle.text_model.specs.Steps.{StepFits, after_step, cells_of, without_slots}
 use Rattle.text_model.proofs.PlaceLaws.{get-plain_marks}
 use Rattle.text_model.proofs.PlainLaws.{all_written, plain_content-removed, plain_content-inserted, IsPlain-after_step}
 use Rattle.text_model.proofs.SpliceLaws.{length-inserted, length-cells_of, changed-one}

@@ -1,5 +1,4 @@
-use Rattle.std.proofs.Common.{Some, ap, ◌∙◌}
-use Rattle.text_model.specs.Splices.{moved}
+use Rattle.text_model.proofs.Words.{Some, ap, ◌∙◌, moved}
 use Rattle.text_model.proofs.PlaceLaws.{place_more}
 use Rattle.text_model.proofs.plain_store.move_places.Goals as goal
 use Rattle.text_model.proofs.plain_store.move_places.Goals.{in-None, in-Some}

@@ -1,6 +1,4 @@
-use Rattle.std.proofs.Common.{◌≡◌, ◌++◌, map, take, drop}
-use Rattle.std.specs.Prelude.{option_map}
-use Rattle.text_model.specs.Splices.{moved}
+use Rattle.text_model.proofs.Words.{◌≡◌, ◌++◌, map, take, drop, option_map, moved}
 use Rattle.text_model.proofs.plain_store.move_places.Given as goal
 
 abbrev pub invariant-loop-place : goal.invariant-loop-place

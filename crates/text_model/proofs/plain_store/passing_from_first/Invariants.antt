@@ -1,6 +1,4 @@
-use Rattle.std.proofs.Common.{◌≡◌, ◌+◌, drop}
-use Rattle.std.specs.List.{prefix_len}
-use Rattle.text_model.specs.Content.{characters}
+use Rattle.text_model.proofs.Words.{◌≡◌, ◌+◌, drop, prefix_len, characters}
 use Rattle.text_model.proofs.plain_store.passing_from_first.Given as goal
 
 abbrev pub invariant-loop-count : goal.invariant-loop-count

@@ -1,7 +1,4 @@
-use Rattle.std.proofs.Common.{◌≡◌, take, ap, arith, ◌∙◌, sym}
-use Rattle.std.specs.List.{suffix_len}
-use Rattle.text_model.specs.declared.cells.Cell.{Cell}
-use Rattle.text_model.specs.Content.{characters}
+use Rattle.text_model.proofs.Words.{◌≡◌, take, ap, arith, ◌∙◌, sym, suffix_len, Cell, characters}
 use Rattle.text_model.proofs.RunLaws.{last_more, last_stops}
 use Rattle.text_model.proofs.plain_store.passing_from_last.Goals as goal
 use Rattle.text_model.proofs.plain_store.passing_from_last.Goals.{then-loop-start-test+else-passes}

@@ -1,6 +1,4 @@
-use Rattle.std.proofs.Common.{◌≡◌, ◌+◌, ◌≤◌, length, take}
-use Rattle.std.specs.List.{suffix_len}
-use Rattle.text_model.specs.Content.{characters}
+use Rattle.text_model.proofs.Words.{◌≡◌, ◌+◌, ◌≤◌, length, take, suffix_len, characters}
 use Rattle.text_model.proofs.plain_store.passing_from_last.Given as goal
 
 abbrev pub invariant-loop-start : goal.invariant-loop-start

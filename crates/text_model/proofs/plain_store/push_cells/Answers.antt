@@ -1,8 +1,6 @@
-use Rattle.std.proofs.Common.{sym, ap, ◌∙◌, ◌++◌}
-use Rattle.std.proofs.lemmas.List.{map-id}
+use Rattle.text_model.proofs.Words.{sym, ap, ◌∙◌, ◌++◌, map-id, cells_of}
 use Rattle.std.proofs.lemmas.Iterator.{YieldsList-from_chars}
 use Rattle.std.proofs.lemmas.Iterator.Consumers.{YieldsList-end}
-use Rattle.text_model.specs.Steps.{cells_of}
 use Rattle.text_model.proofs.plain_store.push_cells.Goals as goal
 
 pub returns : goal.returns

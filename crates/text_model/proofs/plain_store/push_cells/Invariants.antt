@@ -1,5 +1,4 @@
-use Rattle.std.proofs.Common.{◌≡◌, ◌++◌}
-use Rattle.text_model.specs.Steps.{cells_of}
+use Rattle.text_model.proofs.Words.{◌≡◌, ◌++◌, cells_of}
 use Rattle.text_model.proofs.plain_store.push_cells.Given as goal
 
 abbrev pub invariant-loop-character : goal.invariant-loop-character

@@ -1,6 +1,4 @@
-use Rattle.std.proofs.Common.{ap, ◌∙◌}
-use Rattle.std.specs.Prelude.{chars}
-use Rattle.std.proofs.lemmas.Str.{IsUtf8-string_bytes}
+use Rattle.text_model.proofs.Words.{ap, ◌∙◌, chars, IsUtf8-string_bytes}
 use Rattle.text_model.proofs.TextLaws.{chars-push}
 use Rattle.text_model.proofs.plain_store.push_char.Goals as goal
 

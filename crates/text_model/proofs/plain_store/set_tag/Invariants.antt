@@ -1,5 +1,4 @@
-use Rattle.std.proofs.Common.{◌≡◌, ◌++◌, map, take, drop}
-use Rattle.text_model.specs.Steps.{with_slot}
+use Rattle.text_model.proofs.Words.{◌≡◌, ◌++◌, map, take, drop, with_slot}
 use Rattle.text_model.proofs.plain_store.set_tag.Given as goal
 
 abbrev pub invariant-loop-cell : goal.invariant-loop-cell

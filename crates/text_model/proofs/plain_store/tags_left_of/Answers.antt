@@ -1,8 +1,6 @@
-use Rattle.std.proofs.Common.{◌≡◌, ℕ, zero, suc, ◌-◌, ◌≤◌, ◌≢◌, List, get_or, length, refl, sym, ap, ◌∙◌, arith}
-use Rattle.std.proofs.lemmas.List.{get_or-map}
+use Rattle.text_model.proofs.Words.{◌≡◌, ℕ, zero, suc, ◌-◌, ◌≤◌, ◌≢◌, List, get_or, length, refl, sym, ap, ◌∙◌, arith}
+use Rattle.text_model.proofs.Words.{get_or-map, slots_left_of, Cell}
 use Rattle.std.specs.FinSet as set
-use Rattle.text_model.specs.Content.{slots_left_of}
-use Rattle.text_model.specs.declared.cells.Cell.{Cell}
 use Rattle.text_model.proofs.plain_store.tags_left_of.Goals as goal
 
 last_slots : (offset : ℕ) (cells : List Cell) (cell : Cell) → offset ≢ 0 → offset ≤ length cells →

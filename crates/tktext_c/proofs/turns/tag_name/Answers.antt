@@ -1,5 +1,4 @@
-use Rattle.std.proofs.Common.{Bool, ap, sym}
-use Rattle.std.specs.Prelude.{if◌then◌else◌}
+use Rattle.tktext_c.proofs.Words.{Bool, ap, sym, if◌then◌else◌}
 use Rattle.std.specs.Str.{chars}
 use Rattle.documents.specs.Documents.{sel}
 use Rattle.tktext_c.proofs.turns.tag_name.Goals as goal

@@ -1,6 +1,4 @@
-use Rattle.std.proofs.Common.{◌+◌, drop, rules, ◌∙◌}
-use Rattle.tcl_words.specs.Unread.{texts_of}
-use Rattle.std.proofs.lemmas.List.{drop_more}
+use Rattle.tktext_c.proofs.Words.{◌+◌, drop, rules, ◌∙◌, texts_of, drop_more}
 use Rattle.tktext_c.proofs.WordLaws.{reading-more, texts-more}
 use Rattle.tktext_c.proofs.words.read_each.Goals as goal
 

@@ -1,5 +1,4 @@
-use Rattle.std.proofs.Common.{drop}
-use Rattle.tcl_words.specs.Unread.{texts_of}
+use Rattle.tktext_c.proofs.Words.{drop, texts_of}
 use Rattle.tktext_c.proofs.WordLaws.{Reading}
 use Rattle.tktext_c.proofs.words.read_each.Given as goal
 

@@ -1,5 +1,4 @@
-use Rattle.std.proofs.Common.{◌≡◌, ◌≤◌}
-use Rattle.toggle_sums.specs.SlotWords.{last_used}
+use Rattle.toggle_sums.proofs.Words.{◌≡◌, ◌≤◌, last_used}
 use Rattle.toggle_sums.proofs.toggle_words.used_words.Given as goal
 
 abbrev pub invariant-loop-used : goal.invariant-loop-used

@@ -1,6 +1,4 @@
-use Rattle.std.proofs.Common.{◌+◌, sym, ap₂, ◌∙◌, arith, length-drop}
-use Rattle.std.proofs.lemmas.List.{take_rest}
-use Rattle.command_effects.specs.Settings.{setting_read}
+use Rattle.command_effects.proofs.Words.{◌+◌, sym, ap₂, ◌∙◌, arith, length-drop, take_rest, setting_read}
 use Rattle.command_effects.proofs.PairLaws.{word_read}
 use Rattle.command_effects.proofs.SettingLaws.{settings_read-more, settings_read-fault}
 use Rattle.command_effects.proofs.settings.Settings.read.Goals as goal

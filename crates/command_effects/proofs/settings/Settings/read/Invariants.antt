@@ -1,6 +1,4 @@
-use Rattle.std.proofs.Common.{◌≡◌, ◌≤◌, ◌+◌, length}
-use Rattle.tcl_words.specs.Unread.{texts_of}
-use Rattle.command_effects.specs.Settings.{settings_read}
+use Rattle.command_effects.proofs.Words.{◌≡◌, ◌≤◌, ◌+◌, length, texts_of, settings_read}
 use Rattle.command_effects.proofs.settings.Settings.read.Given as goal
 
 abbrev pub invariant-loop-rest : goal.invariant-loop-rest

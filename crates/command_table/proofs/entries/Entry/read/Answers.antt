@@ -1,10 +1,5 @@
-use Rattle.std.proofs.Common.{drop, sym, ap, ap₂, ◌∙◌}
-use Rattle.std.proofs.lemmas.List.{take_rest, drop-map}
-use Rattle.std.specs.List.{take-map}
-use Rattle.std.specs.Prelude.{chars, string_bytes}
-use Rattle.command_table.specs.Words.{texts_of}
-use Rattle.command_table.specs.Reading.{decided}
-use Rattle.command_table.specs.Spelled.{entry_rule}
+use Rattle.command_table.proofs.Words.{drop, sym, ap, ap₂, ◌∙◌, take_rest, drop-map, take-map, chars, string_bytes}
+use Rattle.command_table.proofs.Words.{texts_of, decided, entry_rule}
 use Rattle.command_table.proofs.entries.Entry.read.Goals as goal
 
 pub returns-clause-value : goal.returns-clause-value

@@ -1,8 +1,4 @@
-use Rattle.std.proofs.Common.{◌≡◌, drop}
-use Rattle.std.specs.List.{find, enumerate_from}
-use Rattle.command_table.specs.Words.{texts_of}
-use Rattle.command_table.specs.Entries.{is_bad_option}
-use Rattle.command_table.specs.Spelled.{option_rule}
+use Rattle.command_table.proofs.Words.{◌≡◌, drop, find, enumerate_from, texts_of, is_bad_option, option_rule}
 use Rattle.command_table.proofs.options.Options.first_bad.Given as goal
 
 abbrev pub invariant-loop-place : goal.invariant-loop-place

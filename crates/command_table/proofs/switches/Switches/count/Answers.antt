@@ -1,7 +1,5 @@
-use Rattle.std.proofs.Common.{sym, ap, ◌∙◌, chars}
-use Rattle.command_table.specs.Words.{is_dashed}
-use Rattle.command_table.specs.Entries.{ends_switches}
-use Rattle.command_table.specs.Spelled.{switch_rule}
+use Rattle.command_table.proofs.Words.{sym, ap, ◌∙◌, is_dashed, ends_switches, switch_rule}
+use Rattle.std.proofs.Common.{chars}
 use Rattle.command_table.proofs.EntryLaws.{run_goes_on, run_ends}
 use Rattle.command_table.proofs.switches.Switches.count.Goals as goal
 

@@ -1,7 +1,4 @@
-use Rattle.std.proofs.Common.{◌≡◌, ◌++◌, drop, take}
-use Rattle.command_table.specs.Words.{texts_of}
-use Rattle.command_table.specs.Entries.{dashed_words}
-use Rattle.command_table.specs.Spelled.{switch_rule}
+use Rattle.command_table.proofs.Words.{◌≡◌, ◌++◌, drop, take, texts_of, dashed_words, switch_rule}
 use Rattle.command_table.proofs.switches.Switches.count.Given as goal
 
 abbrev pub invariant-loop-index : goal.invariant-loop-index

@@ -1,8 +1,4 @@
-use Rattle.std.proofs.Common.{◌≡◌, ◌+◌, drop}
-use Rattle.std.specs.Prelude.{Some}
-use Rattle.command_table.specs.Words.{texts_of}
-use Rattle.command_table.specs.Entries.{bad_switch}
-use Rattle.command_table.specs.Spelled.{switch_rule}
+use Rattle.command_table.proofs.Words.{◌≡◌, ◌+◌, drop, Some, texts_of, bad_switch, switch_rule}
 use Rattle.command_table.proofs.switches.Switches.first_bad.Given as goal
 
 abbrev pub invariant-loop-index : goal.invariant-loop-index

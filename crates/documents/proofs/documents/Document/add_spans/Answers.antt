@@ -1,17 +1,7 @@
-use Rattle.std.proofs.Common.{◌≡◌, ℕ, ◌+◌, ◌<◌, ◌≤◌, true, false, length, refl, sym, subst, ap, ◌∙◌, arith}
-use Rattle.std.proofs.lemmas.Bool.Decides.{nat_tests}
-use Rattle.command_effects.specs.Lists.{with_name}
-use Rattle.command_effects.specs.declared.answers.Fault.TheVariants.{TooManyTags}
+use Rattle.documents.proofs.Words.{◌≡◌, ℕ, ◌+◌, ◌<◌, ◌≤◌, true, false, length, refl, sym, subst, ap, ◌∙◌, arith}
+use Rattle.documents.proofs.Words.{nat_tests, with_name, TooManyTags, All, known_tags, names_of, sel, slot_of, log_of}
+use Rattle.documents.proofs.Words.{SpanFits, tagged, document_of, widget_at, parts_of, Stands, add_spans}
 use Rattle.std.specs.Prelude.{chars, take}
-use Rattle.std.specs.List.{All}
-use Rattle.index_grammar.specs.Names.{known_tags}
-use Rattle.tag_table.specs.Tags.{names_of, sel, slot_of}
-use Rattle.edit_ops.specs.States.{log_of}
-use Rattle.edit_ops.specs.Tagging.{SpanFits, tagged}
-use Rattle.documents.specs.Documents.{document_of, widget_at}
-use Rattle.documents.specs.Inside.{parts_of}
-use Rattle.documents.specs.Kept.{Stands}
-use Rattle.documents.specs.Tags.{add_spans}
 use Rattle.documents.proofs.ChangeLaws.{does-left, stands-same, table-back}
 use Rattle.documents.proofs.PartsLaws.{cells-kept, sits}
 use Rattle.documents.proofs.SpanLaws.{IsTagged, added-left, found_by, leaves-added}

@@ -1,12 +1,6 @@
-use Rattle.std.proofs.Common.{◌≡◌, take, sym, ap, subst, ◌∙◌, arith, chars}
+use Rattle.documents.proofs.Words.{◌≡◌, take, sym, ap, subst, ◌∙◌, arith, chars, Anchors, Kept, new_mark}
+use Rattle.documents.proofs.Words.{with_own_marks, history_under, parts_of, Stands, IsWellFormedDocument}
 use Rattle.text_model.specs.Content as model
-use Rattle.edit_ops.specs.declared.anchors.Anchors.{Anchors}
-use Rattle.undo_stack.specs.Rings.{Kept}
-use Rattle.command_effects.specs.Edits.{new_mark, with_own_marks}
-use Rattle.command_effects.specs.Settings.{history_under}
-use Rattle.documents.specs.Inside.{parts_of}
-use Rattle.documents.specs.Kept.{Stands}
-use Rattle.documents.specs.WellFormed.{IsWellFormedDocument}
 use Rattle.documents.proofs.SeatedLaws.{IsSeatMade, own-within, seated-made, unnamed, unseated}
 use Rattle.documents.proofs.WidgetLaws.{line_anchor}
 use Rattle.documents.proofs.documents.Document.add_widget.Goals as goal

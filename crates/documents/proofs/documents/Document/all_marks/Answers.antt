@@ -1,11 +1,6 @@
-use Rattle.std.proofs.Common.{◌∷◌, ap, ◌∙◌, subst, string_bytes}
-use Rattle.std.proofs.lemmas.Str.{IsUtf8-string_bytes}
+use Rattle.documents.proofs.Words.{◌∷◌, ap, ◌∙◌, subst, string_bytes, IsUtf8-string_bytes, Goes, list_text, literal}
+use Rattle.documents.proofs.Words.{parts_of, Stands}
 use Rattle.mark_table.specs.SharedMarks.{names_of}
-use Rattle.tcl_words.specs.ListGrowth.{Goes}
-use Rattle.tcl_words.specs.ListText.{list_text}
-use Rattle.command_effects.specs.Words.{literal}
-use Rattle.documents.specs.Inside.{parts_of}
-use Rattle.documents.specs.Kept.{Stands}
 use Rattle.documents.proofs.ListedLaws.{marks-listed, written}
 use Rattle.documents.proofs.documents.Document.all_marks.Goals as goal
 

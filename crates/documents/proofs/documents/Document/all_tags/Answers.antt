@@ -1,10 +1,5 @@
-use Rattle.std.proofs.Common.{ap, ◌∙◌, subst, string_bytes}
-use Rattle.std.proofs.lemmas.Str.{IsUtf8-string_bytes}
-use Rattle.tag_table.specs.Tags.{names_of}
-use Rattle.tcl_words.specs.ListGrowth.{Goes}
-use Rattle.tcl_words.specs.ListText.{list_text}
-use Rattle.documents.specs.Inside.{parts_of}
-use Rattle.documents.specs.Kept.{Stands}
+use Rattle.documents.proofs.Words.{ap, ◌∙◌, subst, string_bytes, IsUtf8-string_bytes, names_of, Goes, list_text}
+use Rattle.documents.proofs.Words.{parts_of, Stands}
 use Rattle.documents.proofs.ListedLaws.{tags-listed, written}
 use Rattle.documents.proofs.documents.Document.all_tags.Goals as goal
 

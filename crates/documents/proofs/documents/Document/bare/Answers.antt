@@ -1,9 +1,5 @@
-use Rattle.std.proofs.Common.{◌≡◌, [], sym, ap, subst, ◌∙◌}
-use Rattle.text_model.specs.declared.limits.TheConstants.Limits.{MOST_MARKS, MOST_TAGS}
-use Rattle.edit_ops.specs.States.{log_of}
-use Rattle.documents.specs.Documents.{Parts, document_of}
-use Rattle.documents.specs.Kept.{IsSound}
-use Rattle.documents.specs.WellFormed.{IsWellFormedDocument}
+use Rattle.documents.proofs.Words.{◌≡◌, [], sym, ap, subst, ◌∙◌, MOST_MARKS, MOST_TAGS, log_of, Parts, document_of}
+use Rattle.documents.proofs.Words.{IsSound, IsWellFormedDocument}
 use Rattle.documents.proofs.FirstLaws.{bare_parts, formed-bare, sel_alone, sound-bare}
 use Rattle.documents.proofs.documents.Document.bare.Goals as goal
 

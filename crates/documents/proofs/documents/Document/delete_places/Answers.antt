@@ -1,9 +1,5 @@
-use Rattle.std.proofs.Common.{◌-◌, ap, ap₂, arith, length}
-use Rattle.edit_ops.specs.Deletions.{deleted}
-use Rattle.edit_ops.specs.States.{log_of, state_of}
-use Rattle.command_effects.specs.Settings.{recording_of}
-use Rattle.documents.specs.Inside.{parts_of}
-use Rattle.documents.specs.Kept.{Stands}
+use Rattle.documents.proofs.Words.{◌-◌, ap, ap₂, arith, length, deleted, log_of, state_of, recording_of, parts_of}
+use Rattle.documents.proofs.Words.{Stands}
 use Rattle.documents.proofs.ChangeLaws.{some_limits}
 use Rattle.documents.proofs.PartsLaws.{sits}
 use Rattle.documents.proofs.RemovalLaws.{leaves-places}

@@ -1,9 +1,4 @@
-use Rattle.std.proofs.Common.{map, ap, ◌∙◌}
-use Rattle.tcl_words.specs.Unread.{texts_of}
-use Rattle.text_model.specs.declared.places.TagSlot.{TagSlot}
-use Rattle.edit_ops.specs.States.{log_of}
-use Rattle.documents.specs.Inside.{parts_of}
-use Rattle.documents.specs.Kept.{Stands}
+use Rattle.documents.proofs.Words.{map, ap, ◌∙◌, texts_of, TagSlot, log_of, parts_of, Stands}
 use Rattle.documents.proofs.ChangeLaws.{some_limits}
 use Rattle.documents.proofs.TagLaws.{leaves-deleted}
 use Rattle.documents.proofs.documents.Document.delete_tags.Goals as goal

@@ -1,16 +1,6 @@
-use Rattle.std.proofs.Common.{◌≡◌, Some, sym, ap, subst, ◌∙◌, IfSome, Result}
-use Rattle.std.specs.Char.{IsScalar}
-use Rattle.std.specs.List.{All}
-use Rattle.undo_stack.specs.History.{next_undo}
-use Rattle.undo_stack.specs.declared.actions.Action.{Action}
-use Rattle.edit_ops.specs.States.{log_of, state_of}
-use Rattle.command_effects.specs.declared.answers.Answer.{Answer}
-use Rattle.command_effects.specs.declared.answers.Fault.{Fault}
-use Rattle.documents.specs.Documents.{document_of, widget_at}
-use Rattle.documents.specs.Inside.{parts_of}
-use Rattle.documents.specs.Kept.{Stands}
-use Rattle.documents.specs.Promise.{Does}
-use Rattle.documents.specs.History.{edit_undo}
+use Rattle.documents.proofs.Words.{◌≡◌, Some, sym, ap, subst, ◌∙◌, Result, IsScalar, All, next_undo, Action, log_of}
+use Rattle.documents.proofs.Words.{state_of, Answer, Fault, document_of, widget_at, parts_of, Stands, Does, edit_undo}
+use Rattle.std.proofs.Common.{IfSome}
 use Rattle.documents.proofs.ChangeLaws.{does-left, stands-same}
 use Rattle.documents.proofs.PartsLaws.{sits}
 use Rattle.documents.proofs.ReversalLaws.{CanRevert, IsReverted, leaves-undone}

@@ -1,8 +1,4 @@
-use Rattle.std.proofs.Common.{length, ap, ◌∙◌, arith}
-use Rattle.tcl_words.specs.ListText.{list_text}
-use Rattle.search_dump.specs.Dump.{dump_elements, seen_by}
-use Rattle.documents.specs.Inside.{parts_of}
-use Rattle.documents.specs.Kept.{Stands}
+use Rattle.documents.proofs.Words.{length, ap, ◌∙◌, arith, list_text, dump_elements, seen_by, parts_of, Stands}
 use Rattle.documents.proofs.PartsLaws.{sits}
 use Rattle.documents.proofs.QueryLaws.{spelled}
 use Rattle.documents.proofs.SeenLaws.{seen-found}

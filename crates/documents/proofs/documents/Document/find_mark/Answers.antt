@@ -1,10 +1,5 @@
-use Rattle.std.proofs.Common.{◌≡◌, None, Some, sym, ap, ◌∙◌, chars}
+use Rattle.documents.proofs.Words.{◌≡◌, None, Some, sym, ap, ◌∙◌, chars, rank_of, number_of, MarkNo, parts_of, Stands}
 use Rattle.std.specs.Option.{option_map}
-use Rattle.mark_table.specs.Order.{rank_of}
-use Rattle.mark_table.specs.SharedMarks.{number_of}
-use Rattle.text_model.specs.declared.places.MarkNo.{MarkNo}
-use Rattle.documents.specs.Inside.{parts_of}
-use Rattle.documents.specs.Kept.{Stands}
 use Rattle.documents.proofs.MarkQueryLaws.{IsShared, number-known, number-none, number-there}
 use Rattle.documents.proofs.documents.Document.find_mark.Goals as goal
 

@@ -1,6 +1,5 @@
+use Rattle.documents.proofs.Words.{parts_of, Stands}
 use Rattle.std.specs.Prelude.{chars}
-use Rattle.documents.specs.Inside.{parts_of}
-use Rattle.documents.specs.Kept.{Stands}
 use Rattle.documents.proofs.FindLaws.{widget-among, widget-none, widget-some}
 use Rattle.documents.proofs.documents.Document.find_widget.Goals as goal
 

@@ -1,6 +1,5 @@
-use Rattle.std.proofs.Common.{◌≡◌, true, false, length, get_or, sym, ap, ap₂, ◌∙◌, arith, ◌||◌, ◌==◌}
-use Rattle.documents.specs.Inside.{parts_of}
-use Rattle.documents.specs.Kept.{Stands}
+use Rattle.documents.proofs.Words.{◌≡◌, true, false, length, get_or, sym, ap, ap₂, ◌∙◌, arith, ◌||◌, ◌==◌, parts_of}
+use Rattle.documents.proofs.Words.{Stands}
 use Rattle.documents.proofs.PartsLaws.{sits}
 use Rattle.documents.proofs.ViewLaws.{end-found, end_in, flag-at, idle-is, start-found, start_in}
 use Rattle.documents.proofs.documents.Document.is_idle.Goals as goal

@@ -1,7 +1,4 @@
-use Rattle.std.proofs.Common.{◌∙◌}
-use Rattle.tcl_words.specs.Unread.{texts_of}
-use Rattle.documents.specs.Documents.{Parts}
-use Rattle.documents.specs.Inside.{parts_of}
+use Rattle.documents.proofs.Words.{◌∙◌, texts_of, Parts, parts_of}
 use Rattle.documents.proofs.UnseatedLaws.{some-kept}
 use Rattle.documents.proofs.documents.Document.keeps_some.Goals as goal
 

@@ -1,11 +1,5 @@
-use Rattle.std.proofs.Common.{◌<◌, ◌≤◌, None, length, sym, subst, arith, Result, chars}
-use Rattle.command_effects.specs.declared.answers.Answer.{Answer}
-use Rattle.command_effects.specs.declared.answers.Fault.{Fault}
-use Rattle.documents.specs.Documents.{Parts, document_of, widget_at}
-use Rattle.documents.specs.Inside.{parts_of}
-use Rattle.documents.specs.Kept.{Stands}
-use Rattle.documents.specs.Marks.{set_found}
-use Rattle.documents.specs.Promise.{Change, Does}
+use Rattle.documents.proofs.Words.{◌<◌, ◌≤◌, None, length, sym, subst, arith, Result, chars, Answer, Fault, Parts}
+use Rattle.documents.proofs.Words.{document_of, widget_at, parts_of, Stands, set_found, Change, Does}
 use Rattle.documents.proofs.ChangeLaws.{does-left}
 use Rattle.documents.proofs.MarkLaws.{leaves-made, new-name, stands-unmarked}
 use Rattle.documents.proofs.PartsLaws.{cells-kept}

@@ -1,9 +1,6 @@
-use Rattle.std.proofs.Common.{◌≤◌, [], length, ap, sym, ◌∙◌, arith, chars, slice_index_or}
-use Rattle.std.proofs.lemmas.Str.{chars-nil}
-use Rattle.mark_table.specs.Order.{rank_of}
-use Rattle.documents.specs.Inside.{parts_of}
-use Rattle.documents.specs.Kept.{Stands}
-use Rattle.documents.specs.Marks.{mark_names}
+use Rattle.documents.proofs.Words.{◌≤◌, [], length, ap, sym, ◌∙◌, arith, chars, chars-nil, rank_of, parts_of, Stands}
+use Rattle.documents.proofs.Words.{mark_names}
+use Rattle.std.proofs.Common.{slice_index_or}
 use Rattle.documents.proofs.ListedLaws.{name-past, name-shared}
 use Rattle.documents.proofs.documents.Document.mark_name.Goals as goal
 use Rattle.documents.proofs.documents.Document.mark_name.Goals.{in-Insert, in-Current, in-Shared, in-Shared-2}

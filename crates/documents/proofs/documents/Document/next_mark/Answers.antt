@@ -1,6 +1,4 @@
-use Rattle.std.proofs.Common.{length, ap, arith}
-use Rattle.documents.specs.Inside.{parts_of}
-use Rattle.documents.specs.Kept.{Stands}
+use Rattle.documents.proofs.Words.{length, ap, arith, parts_of, Stands}
 use Rattle.documents.proofs.MarkOrderLaws.{next-found}
 use Rattle.documents.proofs.PartsLaws.{sits}
 use Rattle.documents.proofs.documents.Document.next_mark.Goals as goal

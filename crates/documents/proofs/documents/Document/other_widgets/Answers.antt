@@ -1,11 +1,6 @@
-use Rattle.std.proofs.Common.{ap, ◌∙◌, subst, chars, filter, not, string_bytes}
-use Rattle.std.proofs.lemmas.Str.{IsUtf8-string_bytes}
+use Rattle.documents.proofs.Words.{ap, ◌∙◌, subst, chars, filter, not, string_bytes, IsUtf8-string_bytes, Goes}
+use Rattle.documents.proofs.Words.{list_text, is_same, parts_of, Stands}
 use Rattle.name_list.specs.Names.{names_of}
-use Rattle.tcl_words.specs.ListGrowth.{Goes}
-use Rattle.tcl_words.specs.ListText.{list_text}
-use Rattle.command_effects.specs.Words.{is_same}
-use Rattle.documents.specs.Inside.{parts_of}
-use Rattle.documents.specs.Kept.{Stands}
 use Rattle.documents.proofs.ListedLaws.{written}
 use Rattle.documents.proofs.WidgetLaws.{others-kept}
 use Rattle.documents.proofs.documents.Document.other_widgets.Goals as goal

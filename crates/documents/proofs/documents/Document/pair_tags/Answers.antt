@@ -1,24 +1,13 @@
-use Rattle.std.proofs.Common.{◌≡◌, ◌+◌, ◌<◌, ◌++◌, true, [], chars, drop, length, option_map, take, arith, ap, refl}
-use Rattle.std.proofs.Common.{subst, sym, ◌∙◌}
+use Rattle.documents.proofs.Words.{◌≡◌, ◌+◌, ◌<◌, ◌++◌, true, [], chars, drop, length, option_map, take, arith, ap}
+use Rattle.documents.proofs.Words.{refl, subst, sym, ◌∙◌, drop_all, take_all, same_Some, removed, Named, slots_or, Pair}
+use Rattle.documents.proofs.Words.{slots_named, Document, Widget, widget_at, keys_or, parts_of, Stands, keys_named}
+use Rattle.documents.proofs.Words.{keys_of, AreKeysOf, run_changes}
 use Rattle.std.specs.FinSet as set
-use Rattle.std.proofs.lemmas.List.{drop_all, take_all}
-use Rattle.std.proofs.lemmas.Option.{same_Some}
-use Rattle.text_model.specs.Splices.{removed}
-use Rattle.name_list.specs.Names.{Named}
-use Rattle.edit_ops.specs.Insertions.{slots_or}
-use Rattle.command_effects.specs.Lists.{Pair}
-use Rattle.command_effects.specs.Tagging.{slots_named}
-use Rattle.documents.specs.Documents.{Document, Widget, widget_at}
-use Rattle.documents.specs.Edits.{keys_or}
-use Rattle.documents.specs.Inside.{parts_of}
-use Rattle.documents.specs.Kept.{Stands}
-use Rattle.documents.specs.Keys.{keys_named, keys_of}
-use Rattle.documents.specs.TagsTold.{AreKeysOf, run_changes}
-use Rattle.documents.proofs.PairTagLaws.{PairsTold, base-within, none-goes, one-goes, pairs-told, room-for}
-use Rattle.documents.proofs.PairTagLaws.{told-start}
+use Rattle.documents.proofs.PairTagLaws.{PairsTold, base-within, none-goes, one-goes, pairs-told, room-for, told-start}
 use Rattle.documents.proofs.PartsLaws.{cells-kept, mapped-at, pairs_of, sits}
 use Rattle.documents.proofs.documents.Document.pair_tags.Goals as goal
-use Rattle.documents.proofs.documents.Document.pair_tags.Goals.{then-count-gt0+in_ok-keys+in_ok-push_run, else-count-gt0}
+use Rattle.documents.proofs.documents.Document.pair_tags.Goals.{then-count-gt0+in_ok-keys+in_ok-push_run}
+use Rattle.documents.proofs.documents.Document.pair_tags.Goals.{else-count-gt0}
 
 pub loop-pair-init : goal.loop-pair-init
 loop-pair-init g c = λ room.

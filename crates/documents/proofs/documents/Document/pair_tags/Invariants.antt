@@ -1,8 +1,4 @@
-use Rattle.std.proofs.Common.{◌+◌, ◌<◌, ◌^◌, drop, length, take}
-use Rattle.text_model.specs.Splices.{removed}
-use Rattle.command_effects.specs.Lists.{total}
-use Rattle.documents.specs.Documents.{widget_at}
-use Rattle.documents.specs.Inside.{parts_of}
+use Rattle.documents.proofs.Words.{◌+◌, ◌<◌, ◌^◌, drop, length, take, removed, total, widget_at, parts_of}
 use Rattle.documents.proofs.PairTagLaws.{PairsTold}
 use Rattle.documents.proofs.PartsLaws.{pairs_of}
 use Rattle.documents.proofs.documents.Document.pair_tags.Given as goal

@@ -1,9 +1,4 @@
-use Rattle.std.proofs.Common.{length, ap, ◌∙◌, arith, chars}
-use Rattle.documents.specs.Documents.{widget_at}
-use Rattle.documents.specs.Inside.{parts_of}
-use Rattle.documents.specs.Kept.{Stands}
-use Rattle.documents.specs.Names.{place_of}
-use Rattle.documents.specs.Views.{shown}
+use Rattle.documents.proofs.Words.{length, ap, ◌∙◌, arith, chars, widget_at, parts_of, Stands, place_of, shown}
 use Rattle.documents.proofs.MeaningLaws.{found-within, gives-place, place-found}
 use Rattle.documents.proofs.PartsLaws.{sits}
 use Rattle.documents.proofs.ViewLaws.{length-found, see, view-found}

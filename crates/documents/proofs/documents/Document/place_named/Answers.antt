@@ -1,9 +1,5 @@
-use Rattle.std.proofs.Common.{◌≡◌, None, Some, sym, ap, ◌∙◌, chars}
+use Rattle.documents.proofs.Words.{◌≡◌, None, Some, sym, ap, ◌∙◌, chars, number_of, MarkNo, parts_of, Stands}
 use Rattle.std.specs.Option.{option_map}
-use Rattle.mark_table.specs.SharedMarks.{number_of}
-use Rattle.text_model.specs.declared.places.MarkNo.{MarkNo}
-use Rattle.documents.specs.Inside.{parts_of}
-use Rattle.documents.specs.Kept.{Stands}
 use Rattle.documents.proofs.MarkQueryLaws.{IsShared, place-current, place-insert, place-known, place-none}
 use Rattle.documents.proofs.PartsLaws.{sits}
 use Rattle.documents.proofs.documents.Document.place_named.Goals as goal

@@ -1,14 +1,8 @@
-use Rattle.std.proofs.Common.{ap, ◌∙◌, subst, length, arith, string_bytes, chars, nat_le}
-use Rattle.std.proofs.lemmas.Str.{IsUtf8-string_bytes, chars-nil}
-use Rattle.tcl_words.specs.ListText.{list_text}
-use Rattle.tcl_words.specs.ListGrowth.{Goes}
+use Rattle.documents.proofs.Words.{ap, ◌∙◌, subst, length, arith, string_bytes, chars, IsUtf8-string_bytes, chars-nil}
+use Rattle.documents.proofs.Words.{list_text, Goes, previous_range, begun, range_words, widget_at, parts_of, Stands}
+use Rattle.documents.proofs.Words.{shown}
+use Rattle.std.proofs.Common.{nat_le}
 use Rattle.text_index.specs.Views as view
-use Rattle.text_index.specs.Ranges.{previous_range}
-use Rattle.command_effects.specs.Listing.{begun, range_words}
-use Rattle.documents.specs.Documents.{widget_at}
-use Rattle.documents.specs.Inside.{parts_of}
-use Rattle.documents.specs.Kept.{Stands}
-use Rattle.documents.specs.Views.{shown}
 use Rattle.documents.proofs.ListedLaws.{written}
 use Rattle.documents.proofs.PartsLaws.{sits}
 use Rattle.documents.proofs.TaggedLaws.{flags-known, flags-unknown}

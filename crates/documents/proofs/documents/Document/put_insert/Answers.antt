@@ -1,14 +1,6 @@
-use Rattle.std.proofs.Common.{◌≤◌, length, refl, sym, ap, subst, arith, Result}
-use Rattle.text_model.specs.Content.{Content}
-use Rattle.command_effects.specs.declared.answers.Answer.{Answer}
-use Rattle.command_effects.specs.declared.answers.Answer.TheVariants.{Empty}
-use Rattle.command_effects.specs.declared.answers.Fault.{Fault}
-use Rattle.command_effects.specs.declared.answers.Fault.TheVariants.{Memory}
-use Rattle.documents.specs.Documents.{Parts, document_of, widget_at}
-use Rattle.documents.specs.Inside.{parts_of}
-use Rattle.documents.specs.Kept.{Stands}
-use Rattle.documents.specs.Marks.{with_insert}
-use Rattle.documents.specs.Promise.{Change, Does, answered}
+use Rattle.documents.proofs.Words.{◌≤◌, length, refl, sym, ap, subst, arith, Result, Content, Answer, Empty, Fault}
+use Rattle.documents.proofs.Words.{Memory, Parts, document_of, widget_at, parts_of, Stands, with_insert, Change, Does}
+use Rattle.documents.proofs.Words.{answered}
 use Rattle.documents.proofs.ChangeLaws.{does-left, some_limits, stands-same}
 use Rattle.documents.proofs.MarkLaws.{leaves-insert}
 use Rattle.documents.proofs.PartsLaws.{cells-kept, sits}

@@ -1,7 +1,4 @@
-use Rattle.std.proofs.Common.{arith}
-use Rattle.edit_ops.specs.declared.anchors.Anchors.{Anchors}
-use Rattle.documents.specs.Inside.{parts_of}
-use Rattle.documents.specs.Kept.{Stands}
+use Rattle.documents.proofs.Words.{arith, Anchors, parts_of, Stands}
 use Rattle.documents.proofs.ChangeLaws.{some_limits}
 use Rattle.documents.proofs.PartsLaws.{sits}
 use Rattle.documents.proofs.WidgetLaws.{leaves-settings}

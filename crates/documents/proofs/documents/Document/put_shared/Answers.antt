@@ -1,15 +1,6 @@
-use Rattle.std.proofs.Common.{◌≡◌, ◌≤◌, None, Some, length, sym, ap, ◌∙◌, subst, refl, arith, Result, chars, option_map}
-use Rattle.mark_table.specs.SharedMarks.{number_of}
-use Rattle.text_model.specs.declared.places.MarkNo.{MarkNo}
-use Rattle.command_effects.specs.declared.answers.Answer.{Answer}
-use Rattle.command_effects.specs.declared.answers.Answer.TheVariants.{Empty}
-use Rattle.command_effects.specs.declared.answers.Fault.{Fault}
-use Rattle.command_effects.specs.declared.answers.Fault.TheVariants.{Memory}
-use Rattle.documents.specs.Documents.{Parts, document_of}
-use Rattle.documents.specs.Inside.{parts_of}
-use Rattle.documents.specs.Kept.{Stands}
-use Rattle.documents.specs.Marks.{with_shared}
-use Rattle.documents.specs.Promise.{Change, Does, answered}
+use Rattle.documents.proofs.Words.{◌≡◌, ◌≤◌, None, Some, length, sym, ap, ◌∙◌, subst, refl, arith, Result, chars}
+use Rattle.documents.proofs.Words.{option_map, number_of, MarkNo, Answer, Empty, Fault, Memory, Parts, document_of}
+use Rattle.documents.proofs.Words.{parts_of, Stands, with_shared, Change, Does, answered}
 use Rattle.documents.proofs.ChangeLaws.{does-left, some_limits}
 use Rattle.documents.proofs.MarkLaws.{does-unnamed, leaves-turned, stands-unmarked}
 use Rattle.documents.proofs.PartsLaws.{cells-kept}

@@ -1,12 +1,5 @@
-use Rattle.std.proofs.Common.{sym, subst, chars, option_map, Result}
-use Rattle.tag_table.specs.declared.faults.NoSuchTag.TheVariants.{Moved, Neighbour}
-use Rattle.command_effects.specs.declared.answers.Answer.{Answer}
-use Rattle.command_effects.specs.declared.answers.Fault.{Fault}
-use Rattle.documents.specs.Documents.{document_of}
-use Rattle.documents.specs.Inside.{parts_of}
-use Rattle.documents.specs.Kept.{Stands}
-use Rattle.documents.specs.Promise.{Does}
-use Rattle.documents.specs.Tags.{raised, reordered}
+use Rattle.documents.proofs.Words.{sym, subst, chars, option_map, Result, Moved, Neighbour, Answer, Fault, document_of}
+use Rattle.documents.proofs.Words.{parts_of, Stands, Does, raised, reordered}
 use Rattle.documents.proofs.ChangeLaws.{some_limits}
 use Rattle.documents.proofs.OrderLaws.{length-raised, raised-ordered}
 use Rattle.documents.proofs.ReorderLaws.{IsUnknown, raised-unknown}

@@ -1,10 +1,5 @@
-use Rattle.std.proofs.Common.{◌≡◌, ℕ, false, length, sym, subst, chars}
-use Rattle.std.specs.List.{All}
-use Rattle.edit_ops.specs.States.{log_of}
-use Rattle.edit_ops.specs.Tagging.{SpanFits}
-use Rattle.command_effects.proofs.MadeLaws.{front_same}
-use Rattle.documents.specs.Inside.{parts_of}
-use Rattle.documents.specs.Kept.{Stands}
+use Rattle.documents.proofs.Words.{◌≡◌, ℕ, false, length, sym, subst, chars, All, log_of, SpanFits, front_same}
+use Rattle.documents.proofs.Words.{parts_of, Stands}
 use Rattle.documents.proofs.ChangeLaws.{some_limits}
 use Rattle.documents.proofs.PartsLaws.{cells-kept, sits}
 use Rattle.documents.proofs.SpanLaws.{IsTagged, does-remove_none, leaves-removed}

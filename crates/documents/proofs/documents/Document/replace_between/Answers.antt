@@ -1,12 +1,6 @@
-use Rattle.std.proofs.Common.{◌+◌, ◌-◌, ◌*◌, ap, ap₂, ◌∙◌, arith, map, take, length}
-use Rattle.tag_table.specs.Tags.{sel, slot_of}
+use Rattle.documents.proofs.Words.{◌+◌, ◌-◌, ◌*◌, ap, ap₂, ◌∙◌, arith, map, take, length, sel, slot_of, log_of}
+use Rattle.documents.proofs.Words.{state_of, recording_of, piece_of, document_of, widget_at, parts_of, Stands}
 use Rattle.edit_ops.specs.Removals.{replaced}
-use Rattle.edit_ops.specs.States.{log_of, state_of}
-use Rattle.command_effects.specs.Settings.{recording_of}
-use Rattle.command_effects.specs.Tagging.{piece_of}
-use Rattle.documents.specs.Documents.{document_of, widget_at}
-use Rattle.documents.specs.Inside.{parts_of}
-use Rattle.documents.specs.Kept.{Stands}
 use Rattle.documents.proofs.ChangeLaws.{does-left, stands-same, table-back}
 use Rattle.documents.proofs.InsertionLaws.{with_tags}
 use Rattle.documents.proofs.PartsLaws.{sits}

@@ -1,5 +1,4 @@
-use Rattle.documents.specs.Inside.{parts_of}
-use Rattle.documents.specs.Kept.{Stands}
+use Rattle.documents.proofs.Words.{parts_of, Stands}
 use Rattle.documents.proofs.ChangeLaws.{some_limits}
 use Rattle.documents.proofs.JournalLaws.{leaves-modified}
 use Rattle.documents.proofs.documents.Document.set_modified.Goals as goal

@@ -1,13 +1,6 @@
-use Rattle.std.proofs.Common.{◌≡◌, false, subst, sym, ap, ◌∙◌, arith}
-use Rattle.std.proofs.lemmas.List.{get_or_default}
+use Rattle.documents.proofs.Words.{◌≡◌, false, subst, sym, ap, ◌∙◌, arith, get_or_default, Anchors, lines, Settings}
+use Rattle.documents.proofs.Words.{characters, parts_of, AreLines, Stands}
 use Rattle.text_model.specs.Content as model
-use Rattle.edit_ops.specs.declared.anchors.Anchors.{Anchors}
-use Rattle.text_model.specs.Lines.{lines}
-use Rattle.command_effects.specs.declared.settings.Settings.{Settings}
-use Rattle.documents.specs.Documents.{characters}
-use Rattle.documents.specs.Inside.{parts_of}
-use Rattle.documents.specs.Options.{AreLines}
-use Rattle.documents.specs.Kept.{Stands}
 use Rattle.documents.proofs.PartsLaws.{sits}
 use Rattle.documents.proofs.WidgetLaws.{anchors-within, line_numbered, settings-kept, settings-lines, settings_at}
 use Rattle.documents.proofs.documents.Document.settings.Goals as goal

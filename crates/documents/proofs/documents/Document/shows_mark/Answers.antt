@@ -1,9 +1,5 @@
-use Rattle.std.proofs.Common.{sym, ap, ◌∙◌, arith, is_some}
-use Rattle.mark_table.specs.Order.{rank_of}
-use Rattle.documents.specs.Documents.{widget_at}
-use Rattle.documents.specs.Inside.{parts_of}
-use Rattle.documents.specs.Kept.{Stands}
-use Rattle.documents.specs.Names.{mark_place}
+use Rattle.documents.proofs.Words.{sym, ap, ◌∙◌, arith, rank_of, widget_at, parts_of, Stands, mark_place}
+use Rattle.std.proofs.Common.{is_some}
 use Rattle.documents.proofs.MarkQueryLaws.{mark-before, mark-behind, mark-unknown}
 use Rattle.documents.proofs.documents.Document.shows_mark.Goals as goal
 

@@ -1,17 +1,8 @@
-use Rattle.std.proofs.Common.{◌≡◌, ◌+◌, ◌≤◌, length, refl, sym, subst, ◌∙◌, chars}
+use Rattle.documents.proofs.Words.{◌≡◌, ◌+◌, ◌≤◌, length, refl, sym, subst, ◌∙◌, chars, length-map, All-weaker, flags}
+use Rattle.documents.proofs.Words.{SpanFits, Span, KeyedCell, widget_at, with_tag, parts_of, Stands, key_of, TellsSpans}
+use Rattle.documents.proofs.Words.{TellsTags, flags_of}
 use Rattle.std.specs.FinSet as set
-use Rattle.std.proofs.lemmas.List.{length-map}
-use Rattle.std.proofs.lemmas.List.Elements.{All-weaker}
-use Rattle.text_model.specs.Content.{flags}
 use Rattle.edit_ops.specs.Deletions.{AreApart}
-use Rattle.edit_ops.specs.Tagging.{SpanFits}
-use Rattle.edit_ops.specs.declared.spans.Span.{Span}
-use Rattle.documents.specs.Documents.{KeyedCell, widget_at}
-use Rattle.documents.specs.Edits.{with_tag}
-use Rattle.documents.specs.Inside.{parts_of}
-use Rattle.documents.specs.Kept.{Stands}
-use Rattle.documents.specs.Names.{key_of}
-use Rattle.documents.specs.TagsTold.{TellsSpans, TellsTags, flags_of}
 use Rattle.documents.proofs.PartsLaws.{sits}
 use Rattle.documents.proofs.SpanToldLaws.{runs-told, seen-flags, seen-named, seen-none}
 use Rattle.documents.proofs.documents.Document.span_tags.Goals as goal

@@ -1,11 +1,5 @@
-use Rattle.std.proofs.Common.{◌≡◌, ◌<◌, ◌-◌, length, refl, sym, subst, Ok, Err, IfOk}
-use Rattle.std.specs.List.{All}
-use Rattle.edit_ops.specs.Tagging.{SpanFits}
-use Rattle.command_effects.specs.Ranges.{spans_of}
-use Rattle.documents.specs.Documents.{widget_at}
-use Rattle.documents.specs.Inside.{parts_of}
-use Rattle.documents.specs.Kept.{Stands}
-use Rattle.documents.specs.Ranges.{spans_shown}
+use Rattle.documents.proofs.Words.{◌≡◌, ◌<◌, ◌-◌, length, refl, sym, subst, Ok, Err, IfOk, All, SpanFits, spans_of}
+use Rattle.documents.proofs.Words.{widget_at, parts_of, Stands, spans_shown}
 use Rattle.documents.proofs.PartsLaws.{sits}
 use Rattle.documents.proofs.SpanLaws.{places-within, spans-found}
 use Rattle.documents.proofs.ViewLaws.{end-found, start-found}

@@ -1,14 +1,7 @@
-use Rattle.std.proofs.Common.{◌<◌, ◌+◌, ap, ◌∙◌, subst, length, arith}
+use Rattle.documents.proofs.Words.{◌<◌, ◌+◌, ap, ◌∙◌, subst, length, arith, IsUtf8-string_bytes, chars-nil, list_text}
+use Rattle.documents.proofs.Words.{Goes, Tag, names_of, own_slot, widget_at, parts_of, Stands}
 use Rattle.std.specs.FinSet as set
 use Rattle.std.specs.Prelude.{string_bytes, chars, filter}
-use Rattle.std.proofs.lemmas.Str.{IsUtf8-string_bytes, chars-nil}
-use Rattle.tcl_words.specs.ListText.{list_text}
-use Rattle.tcl_words.specs.ListGrowth.{Goes}
-use Rattle.tag_table.specs.Tags.{Tag, names_of}
-use Rattle.command_effects.specs.Tagging.{own_slot}
-use Rattle.documents.specs.Documents.{widget_at}
-use Rattle.documents.specs.Inside.{parts_of}
-use Rattle.documents.specs.Kept.{Stands}
 use Rattle.documents.proofs.ListedLaws.{written}
 use Rattle.documents.proofs.PartsLaws.{sits}
 use Rattle.documents.proofs.TaggedLaws.{tags_on-end, tags_on-known}

@@ -1,12 +1,5 @@
-use Rattle.std.proofs.Common.{List, [], ℕ, IsSome, ap, refl, subst, sym, ◌∙◌}
-use Rattle.undo_stack.specs.Fits.{repeated_group}
-use Rattle.edit_ops.specs.Replays.{replays}
-use Rattle.edit_ops.specs.States.{State, state_of}
-use Rattle.documents.specs.Documents.{Document}
-use Rattle.documents.specs.History.{group_again}
-use Rattle.documents.specs.Inside.{parts_of}
-use Rattle.documents.specs.Keys.{key_pairs}
-use Rattle.documents.specs.TagsTold.{slot_changes}
+use Rattle.documents.proofs.Words.{List, [], ℕ, IsSome, ap, refl, subst, sym, ◌∙◌, repeated_group, replays, State}
+use Rattle.documents.proofs.Words.{state_of, Document, group_again, parts_of, key_pairs, slot_changes}
 use Rattle.documents.proofs.PartsLaws.{characters-kept}
 use Rattle.documents.proofs.ToldLaws.{reversal-tells}
 use Rattle.documents.proofs.documents.Document.tell_reversal.Goals as goal

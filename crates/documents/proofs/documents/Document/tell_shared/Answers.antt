@@ -1,11 +1,7 @@
-use Rattle.std.proofs.Common.{◌++◌, ◌∷◌, [], ℕ, Bool, refl, sym, ap, subst, chars}
-use Rattle.std.specs.BTreeMap.{is_at}
-use Rattle.std.specs.List.{list_any}
-use Rattle.std.specs.BTreeSet.{IsUnchanged, contains}
-use Rattle.std.specs.Ordering.{nat_cmp}
-use Rattle.documents.specs.MarksTold.{AreGathered}
-use Rattle.documents.proofs.MarksToldLaws.{gathered-kept, gathered-more, gathered-seen, not-false, not-true}
-use Rattle.documents.proofs.MarksToldLaws.{on-false, other-number}
+use Rattle.documents.proofs.Words.{◌++◌, ◌∷◌, [], ℕ, Bool, refl, sym, ap, subst, chars, is_at, list_any, IsUnchanged}
+use Rattle.documents.proofs.Words.{contains, nat_cmp, AreGathered}
+use Rattle.documents.proofs.MarksToldLaws.{gathered-kept, gathered-more, gathered-seen, not-false, not-true, on-false}
+use Rattle.documents.proofs.MarksToldLaws.{other-number}
 use Rattle.documents.proofs.documents.Document.tell_shared.Goals as goal
 
 pub returns-in_default : goal.returns-in_default

@@ -1,11 +1,7 @@
-use Rattle.std.proofs.Common.{◌≡◌, ◌+◌, ◌-◌, ◌^◌, ℕ, ap, ap₂, arith, length, subst, sym, ◌∙◌}
+use Rattle.documents.proofs.Words.{◌≡◌, ◌+◌, ◌-◌, ◌^◌, ℕ, ap, ap₂, arith, length, subst, sym, ◌∙◌, AreHunks}
+use Rattle.documents.proofs.Words.{taking-stand, Document, parts_of, Stands}
 use Rattle.edit_ops.specs.Deletions.{AreApart}
-use Rattle.edit_ops.specs.Told.{AreHunks}
 use Rattle.edit_ops.proofs.RunLaws.{apart-wider}
-use Rattle.edit_ops.proofs.HunkLaws.{taking-stand}
-use Rattle.documents.specs.Documents.{Document}
-use Rattle.documents.specs.Inside.{parts_of}
-use Rattle.documents.specs.Kept.{Stands}
 use Rattle.documents.proofs.PartsLaws.{cells-kept, pairs_of, sits}
 use Rattle.documents.proofs.SpanLaws.{spans-in}
 use Rattle.documents.proofs.ToldLaws.{bared-kept, deletion-told, gone_in, none-bared}

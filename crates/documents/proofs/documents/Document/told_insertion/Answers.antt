@@ -1,9 +1,5 @@
-use Rattle.std.proofs.Common.{◌+◌, ◌<◌, ◌^◌, ◌++◌, List, arith, length, ap, subst, ◌∙◌}
-use Rattle.edit_ops.specs.Told.{putting}
-use Rattle.edit_ops.proofs.HunkLaws.{inserting-stand}
-use Rattle.command_effects.specs.Lists.{Pair, total}
-use Rattle.documents.specs.Documents.{Widget, widget_at}
-use Rattle.documents.specs.TagsTold.{TellsPairs}
+use Rattle.documents.proofs.Words.{◌+◌, ◌<◌, ◌^◌, ◌++◌, List, arith, length, ap, subst, ◌∙◌, putting, inserting-stand}
+use Rattle.documents.proofs.Words.{Pair, total, Widget, widget_at, TellsPairs}
 use Rattle.documents.proofs.PairTagLaws.{texts_of}
 use Rattle.documents.proofs.ToldLaws.{insertion-foretold}
 use Rattle.documents.proofs.documents.Document.told_insertion.Goals as goal

@@ -1,9 +1,6 @@
-use Rattle.std.proofs.Common.{◌≡◌, ◌++◌, ◌∷◌, [], List, ℕ, Some, refl, sym, ap, ◌∙◌, subst}
-use Rattle.std.specs.Bool.{Decides}
+use Rattle.documents.proofs.Words.{◌≡◌, ◌++◌, ◌∷◌, [], List, ℕ, Some, refl, sym, ap, ◌∙◌, subst, Decides, widget_at}
+use Rattle.documents.proofs.Words.{mark_offset, place_named, set_found, ForetellsMarks, offset_named}
 use Rattle.std.specs.Prelude.{chars}
-use Rattle.documents.specs.Documents.{widget_at}
-use Rattle.documents.specs.Marks.{mark_offset, place_named, set_found}
-use Rattle.documents.specs.MarksTold.{ForetellsMarks, offset_named}
 use Rattle.documents.proofs.MarksToldLaws.{foretells-set, told_of}
 use Rattle.documents.proofs.documents.Document.told_mark_set.Goals as goal
 use Rattle.documents.proofs.documents.Document.told_mark_set.Goals.{then-not-stands_at+in_ok-push, else-not-stands_at}

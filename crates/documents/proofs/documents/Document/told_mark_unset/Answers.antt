@@ -1,9 +1,4 @@
-use Rattle.std.proofs.Common.{ℕ, Bool, take, subst}
-use Rattle.std.specs.BTreeSet.{contains}
-use Rattle.std.specs.Ordering.{nat_cmp}
-use Rattle.std.proofs.lemmas.List.{take_all}
-use Rattle.tcl_words.specs.Unread.{texts_of}
-use Rattle.documents.specs.MarksTold.{AreGathered}
+use Rattle.documents.proofs.Words.{ℕ, Bool, take, subst, contains, nat_cmp, take_all, texts_of, AreGathered}
 use Rattle.documents.proofs.MarksToldLaws.{foretells-unset, texts-more}
 use Rattle.documents.proofs.documents.Document.told_mark_unset.Goals as goal
 

@@ -1,8 +1,4 @@
-use Rattle.std.proofs.Common.{take}
-use Rattle.std.specs.BTreeSet.{contains}
-use Rattle.std.specs.Ordering.{nat_cmp}
-use Rattle.tcl_words.specs.Unread.{texts_of}
-use Rattle.documents.specs.MarksTold.{AreGathered}
+use Rattle.documents.proofs.Words.{take, contains, nat_cmp, texts_of, AreGathered}
 use Rattle.documents.proofs.documents.Document.told_mark_unset.Given as goal
 
 abbrev pub invariant-loop-name : goal.invariant-loop-name

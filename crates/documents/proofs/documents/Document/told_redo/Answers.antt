@@ -1,10 +1,5 @@
-use Rattle.std.proofs.Common.{◌≡◌, false, IsSome, Some, ap, subst, sym, ◌∙◌}
-use Rattle.undo_stack.specs.Fits.{repeated_group}
-use Rattle.undo_stack.specs.History.{next_redo}
-use Rattle.edit_ops.specs.Replays.{replays}
-use Rattle.edit_ops.proofs.ReplayLaws.{redo-fits-replay}
-use Rattle.documents.specs.Documents.{Document, Widget, characters, widget_at}
-use Rattle.documents.specs.Views.{is_idle}
+use Rattle.documents.proofs.Words.{◌≡◌, false, IsSome, Some, ap, subst, sym, ◌∙◌, repeated_group, next_redo, replays}
+use Rattle.documents.proofs.Words.{redo-fits-replay, Document, Widget, characters, widget_at, is_idle}
 use Rattle.documents.proofs.ToldLaws.{redo-some}
 use Rattle.documents.proofs.documents.Document.told_redo.Goals as goal
 

@@ -1,11 +1,6 @@
-use Rattle.std.proofs.Common.{◌+◌, ◌<◌, ◌≤◌, ◌^◌, ◌++◌, List, arith, length, ap, subst, ◌∙◌}
-use Rattle.edit_ops.specs.Told.{putting, taking_out}
-use Rattle.edit_ops.proofs.HunkLaws.{replacing-stand}
-use Rattle.command_effects.specs.Lists.{Pair, total}
-use Rattle.documents.specs.Documents.{Widget, widget_at}
-use Rattle.documents.specs.Inside.{parts_of}
-use Rattle.documents.specs.TagsTold.{TellsPairs}
-use Rattle.documents.specs.Texts.{insertion_offset}
+use Rattle.documents.proofs.Words.{◌+◌, ◌<◌, ◌≤◌, ◌^◌, ◌++◌, List, arith, length, ap, subst, ◌∙◌, putting, taking_out}
+use Rattle.documents.proofs.Words.{replacing-stand, Pair, total, Widget, widget_at, parts_of, TellsPairs}
+use Rattle.documents.proofs.Words.{insertion_offset}
 use Rattle.documents.proofs.PairTagLaws.{texts_of}
 use Rattle.documents.proofs.PartsLaws.{cells-kept}
 use Rattle.documents.proofs.ToldLaws.{replacement-foretold}

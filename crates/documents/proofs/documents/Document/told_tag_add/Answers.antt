@@ -1,10 +1,5 @@
-use Rattle.std.proofs.Common.{chars, true, sym, subst}
-use Rattle.documents.specs.Documents.{widget_at}
-use Rattle.documents.specs.Edits.{with_tag}
-use Rattle.documents.specs.Names.{key_of}
-use Rattle.documents.specs.Tags.{add_spans}
-use Rattle.documents.specs.TagsTold.{TellsTags}
-use Rattle.documents.specs.Told.{Foretells}
+use Rattle.documents.proofs.Words.{chars, true, sym, subst, widget_at, with_tag, key_of, add_spans, TellsTags}
+use Rattle.documents.proofs.Words.{Foretells}
 use Rattle.documents.proofs.SpanToldLaws.{foretells-added}
 use Rattle.documents.proofs.documents.Document.told_tag_add.Goals as goal
 

@@ -1,9 +1,4 @@
-use Rattle.std.proofs.Common.{map, sym, subst}
-use Rattle.tcl_words.specs.Unread.{texts_of}
-use Rattle.documents.specs.Documents.{Document}
-use Rattle.documents.specs.Tags.{tag_delete, without_tags}
-use Rattle.documents.specs.TagsTold.{TellsTags}
-use Rattle.documents.specs.Told.{Foretells}
+use Rattle.documents.proofs.Words.{map, sym, subst, texts_of, Document, tag_delete, without_tags, TellsTags, Foretells}
 use Rattle.documents.proofs.SpanToldLaws.{tags-alone}
 use Rattle.documents.proofs.documents.Document.told_tag_delete.Goals as goal
 

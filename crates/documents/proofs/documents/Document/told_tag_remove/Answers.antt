@@ -1,12 +1,5 @@
-use Rattle.std.proofs.Common.{chars, false, sym, subst}
-use Rattle.documents.specs.Documents.{widget_at}
-use Rattle.documents.specs.Edits.{with_tag}
-use Rattle.documents.specs.Inside.{parts_of}
-use Rattle.documents.specs.Kept.{Stands}
-use Rattle.documents.specs.Names.{key_of}
-use Rattle.documents.specs.Tags.{remove_spans}
-use Rattle.documents.specs.TagsTold.{TellsTags}
-use Rattle.documents.specs.Told.{Foretells}
+use Rattle.documents.proofs.Words.{chars, false, sym, subst, widget_at, with_tag, parts_of, Stands, key_of}
+use Rattle.documents.proofs.Words.{remove_spans, TellsTags, Foretells}
 use Rattle.documents.proofs.PartsLaws.{sits-shown}
 use Rattle.documents.proofs.SpanToldLaws.{foretells-removed}
 use Rattle.documents.proofs.documents.Document.told_tag_remove.Goals as goal

@@ -1,10 +1,5 @@
-use Rattle.std.proofs.Common.{◌≡◌, true, false, IsSome, Some, ap, subst, sym, ◌∙◌}
-use Rattle.undo_stack.specs.Fits.{repeated_group}
-use Rattle.undo_stack.specs.History.{next_undo}
-use Rattle.edit_ops.specs.Replays.{replays}
-use Rattle.edit_ops.proofs.ReplayLaws.{undo-fits-replay}
-use Rattle.documents.specs.Documents.{Document, Widget, characters, widget_at}
-use Rattle.documents.specs.Views.{is_idle}
+use Rattle.documents.proofs.Words.{◌≡◌, true, false, IsSome, Some, ap, subst, sym, ◌∙◌, repeated_group, next_undo}
+use Rattle.documents.proofs.Words.{replays, undo-fits-replay, Document, Widget, characters, widget_at, is_idle}
 use Rattle.documents.proofs.ToldLaws.{undo-some}
 use Rattle.documents.proofs.documents.Document.told_undo.Goals as goal
 

@@ -1,9 +1,4 @@
-use Rattle.std.proofs.Common.{map, ap, ◌∙◌}
-use Rattle.tcl_words.specs.Unread.{texts_of}
-use Rattle.text_model.specs.Content.{Content}
-use Rattle.text_model.specs.declared.places.MarkNo.{MarkNo}
-use Rattle.documents.specs.Inside.{parts_of}
-use Rattle.documents.specs.Kept.{Stands}
+use Rattle.documents.proofs.Words.{map, ap, ◌∙◌, texts_of, Content, MarkNo, parts_of, Stands}
 use Rattle.documents.proofs.ChangeLaws.{some_limits, stands-same}
 use Rattle.documents.proofs.MarkLaws.{leaves-unset}
 use Rattle.documents.proofs.documents.Document.unset_marks.Goals as goal

@@ -1,6 +1,4 @@
-use Rattle.std.proofs.Common.{length, ap, arith}
-use Rattle.documents.specs.Inside.{parts_of}
-use Rattle.documents.specs.Kept.{Stands}
+use Rattle.documents.proofs.Words.{length, ap, arith, parts_of, Stands}
 use Rattle.documents.proofs.PartsLaws.{sits}
 use Rattle.documents.proofs.ViewLaws.{end-found-is, length-found, see, shown-found, start-found-is, view-found}
 use Rattle.documents.proofs.documents.Document.view_at.Goals as goal

@@ -1,7 +1,6 @@
-use Rattle.std.proofs.Common.{◌≡◌, List, Bool, ℕ, true, false, sym, subst, ap, ◌∙◌, chars, IfOk, if◌then◌else◌}
-use Rattle.tag_table.specs.Tags.{sel}
-use Rattle.command_effects.specs.Words.{is_same}
-use Rattle.documents.specs.Keys.{Key, key_named}
+use Rattle.documents.proofs.Words.{◌≡◌, List, Bool, ℕ, true, false, sym, subst, ap, ◌∙◌, chars, IfOk, sel, is_same, Key}
+use Rattle.documents.proofs.Words.{key_named}
+use Rattle.std.proofs.Common.{if◌then◌else◌}
 use Rattle.documents.proofs.KeyListLaws.{sel-is}
 use Rattle.documents.proofs.keys.Key.named.Goals as goal
 

@@ -1,5 +1,4 @@
-use Rattle.std.proofs.Common.{◌≡◌, ◌++◌, take}
-use Rattle.documents.specs.TagsTold.{run_changes}
+use Rattle.documents.proofs.Words.{◌≡◌, ◌++◌, take, run_changes}
 use Rattle.documents.proofs.tag_lists.TagList.push_run.Given as goal
 
 abbrev pub invariant-loop-key : goal.invariant-loop-key

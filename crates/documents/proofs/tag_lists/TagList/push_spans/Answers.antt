@@ -1,10 +1,6 @@
-use Rattle.std.proofs.Common.{◌+◌, length, subst, sym}
+use Rattle.documents.proofs.Words.{◌+◌, length, subst, sym, length-map, flags, Cell, Span}
 use Rattle.std.specs.FinSet as set
-use Rattle.std.proofs.lemmas.List.{length-map}
-use Rattle.text_model.specs.Content.{flags}
-use Rattle.text_model.specs.declared.cells.Cell.{Cell}
 use Rattle.edit_ops.specs.Deletions.{AreApart}
-use Rattle.edit_ops.specs.declared.spans.Span.{Span}
 use Rattle.documents.proofs.SpanToldLaws.{apart-fits, spans-then}
 use Rattle.documents.proofs.tag_lists.TagList.push_spans.Goals as goal
 

@@ -1,6 +1,4 @@
-use Rattle.std.proofs.Common.{take}
-use Rattle.text_model.specs.Content.{flags}
-use Rattle.documents.specs.TagsTold.{TellsSpans}
+use Rattle.documents.proofs.Words.{take, flags, TellsSpans}
 use Rattle.documents.proofs.tag_lists.TagList.push_spans.Given as goal
 
 abbrev pub invariant-loop-span : goal.invariant-loop-span

@@ -1,9 +1,5 @@
-use Rattle.std.proofs.Common.{◌<◌, ◌≤◌, arith}
+use Rattle.documents.proofs.Words.{◌<◌, ◌≤◌, arith, length-map, next_change, flags, Cell}
 use Rattle.std.specs.FinSet as set
-use Rattle.std.proofs.lemmas.List.{length-map}
-use Rattle.text_model.specs.Changes.{next_change}
-use Rattle.text_model.specs.Content.{flags}
-use Rattle.text_model.specs.declared.cells.Cell.{Cell}
 use Rattle.documents.proofs.SpanToldLaws.{run-passed, run-told}
 use Rattle.documents.proofs.tag_lists.TagList.push_unlike.Goals as goal
 

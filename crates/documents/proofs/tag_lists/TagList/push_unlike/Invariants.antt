@@ -1,6 +1,4 @@
-use Rattle.std.proofs.Common.{◌≤◌, ◌-◌}
-use Rattle.text_model.specs.Content.{flags}
-use Rattle.documents.specs.TagsTold.{TellsSpan}
+use Rattle.documents.proofs.Words.{◌≤◌, ◌-◌, flags, TellsSpan}
 use Rattle.documents.proofs.tag_lists.TagList.push_unlike.Given as goal
 
 abbrev pub invariant-loop-at : goal.invariant-loop-at

@@ -1,7 +1,5 @@
-use Rattle.std.proofs.Common.{◌≡◌, ◌+◌, Bool, List, length, take, false, true}
-use Rattle.std.specs.List.{All}
+use Rattle.documents.proofs.Words.{◌≡◌, ◌+◌, Bool, List, length, take, false, true, All, TellsSpans}
 use Rattle.edit_ops.specs.Deletions.{AreApart}
-use Rattle.documents.specs.TagsTold.{TellsSpans}
 use Rattle.documents.proofs.tag_lists.TagList.push_whole.Given as goal
 
 abbrev pub invariant-loop-span : goal.invariant-loop-span

@@ -1,7 +1,4 @@
-use Rattle.std.proofs.Common.{◌∷◌, refl, sym, subst, arith}
-use Rattle.text_model.specs.declared.edits.Step.{Step}
-use Rattle.edit_ops.specs.declared.orders.Reach.{Reach}
-use Rattle.edit_ops.specs.Orders.{LetsPass}
+use Rattle.edit_ops.proofs.Words.{◌∷◌, refl, sym, subst, arith, Step, Reach, LetsPass}
 use Rattle.edit_ops.proofs.OrderLaws.{over-insert, over-remove}
 use Rattle.edit_ops.proofs.orders.Reach.and_before.Goals as goal
 

@@ -1,8 +1,5 @@
-use Rattle.std.proofs.Common.{◌≡◌, [], ap, sym, ◌∙◌, arith}
+use Rattle.edit_ops.proofs.Words.{◌≡◌, [], ap, sym, ◌∙◌, arith, nil_from_length, inserted_texts, total, outlineed}
 use Rattle.std.specs.FinSet as set
-use Rattle.std.proofs.lemmas.List.{nil_from_length}
-use Rattle.edit_ops.specs.Insertions.{inserted_texts, total}
-use Rattle.edit_ops.specs.States.{outlineed}
 use Rattle.edit_ops.proofs.InsertLaws.{inserting-count, inserting-first, inserting-none, piece-fits}
 use Rattle.edit_ops.proofs.outlines.Outline.insert_pieces.Goals as goal
 

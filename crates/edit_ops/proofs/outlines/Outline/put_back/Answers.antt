@@ -1,6 +1,4 @@
-use Rattle.std.proofs.Common.{◌≡◌, ◌++◌, ◌∷◌, [], map, subst}
-use Rattle.text_model.specs.declared.edits.Step.TheVariants.{Insert}
-use Rattle.edit_ops.specs.Anchors.{anchors_moved}
+use Rattle.edit_ops.proofs.Words.{◌≡◌, ◌++◌, ◌∷◌, [], map, subst, Insert, anchors_moved}
 use Rattle.edit_ops.proofs.ReplayLaws.{put-replayed}
 use Rattle.edit_ops.proofs.outlines.Outline.put_back.Goals as goal
 

@@ -1,8 +1,4 @@
-use Rattle.std.proofs.Common.{refl, sym, ap, ◌∙◌}
-use Rattle.std.specs.Prelude.{option_and_then, option_map}
-use Rattle.text_model.specs.declared.places.Place.{Place}
-use Rattle.edit_ops.specs.Removals.{with_mark}
-use Rattle.edit_ops.specs.Replays.{drawn_up}
+use Rattle.edit_ops.proofs.Words.{refl, sym, ap, ◌∙◌, option_and_then, option_map, Place, with_mark, drawn_up}
 use Rattle.edit_ops.proofs.ReplaceLaws.{mark-fits}
 use Rattle.edit_ops.proofs.ReplayLaws.{mark-stood, mark-stays, stood-within}
 use Rattle.edit_ops.proofs.outlines.Outline.put_end.Goals as goal

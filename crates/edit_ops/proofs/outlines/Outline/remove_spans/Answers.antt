@@ -1,13 +1,6 @@
-use Rattle.std.proofs.Common.{◌≡◌, ◌+◌, [], length, get_or, drop, ap, sym, ◌∙◌, arith}
-use Rattle.std.proofs.Math.ListN.{drop_of_length-le}
-use Rattle.std.proofs.lemmas.List.{drop_more}
-use Rattle.text_model.specs.Content.{characters}
-use Rattle.text_model.specs.Lines.{line_of}
-use Rattle.text_model.proofs.LineLaws.{line_start-le}
-use Rattle.edit_ops.specs.Deletions.{removed_spans}
-use Rattle.edit_ops.specs.States.{outlineed}
+use Rattle.edit_ops.proofs.Words.{◌≡◌, ◌+◌, [], length, get_or, drop, ap, sym, ◌∙◌, arith, drop_of_length-le, drop_more}
+use Rattle.edit_ops.proofs.Words.{characters, line_of, line_start-le, removed_spans, outlineed, length-characters}
 use Rattle.edit_ops.proofs.DeleteLaws.{removing-first, removing-more, span-stands}
-use Rattle.text_cursor.proofs.AroundLaws.{length-characters}
 use Rattle.edit_ops.proofs.outlines.Outline.remove_spans.Goals as goal
 
 pub loop-span-init : goal.loop-span-init

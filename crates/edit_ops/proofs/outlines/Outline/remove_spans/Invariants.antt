@@ -1,5 +1,4 @@
-use Rattle.std.proofs.Common.{drop}
-use Rattle.text_model.specs.Content.{characters}
+use Rattle.edit_ops.proofs.Words.{drop, characters}
 use Rattle.edit_ops.proofs.DeleteLaws.{RemovingSpans}
 use Rattle.edit_ops.proofs.outlines.Outline.remove_spans.Given as goal
 

@@ -1,7 +1,4 @@
-use Rattle.std.proofs.Common.{◌+◌, length, ap, sym, ◌∙◌}
-use Rattle.std.specs.Prelude.{if◌then◌else◌}
-use Rattle.edit_ops.specs.Replays.{drawn_up}
-use Rattle.edit_ops.specs.Reversals.{put_back, taken_back}
+use Rattle.edit_ops.proofs.Words.{◌+◌, length, ap, sym, ◌∙◌, if◌then◌else◌, drawn_up, put_back, taken_back}
 use Rattle.edit_ops.proofs.outlines.Outline.replay.Goals as goal
 
 pub returns-in_ok-put_back-clause-makes : goal.returns-in_ok-put_back-clause-makes

@@ -1,8 +1,4 @@
-use Rattle.std.proofs.Common.{◌+◌, drop}
-use Rattle.undo_stack.specs.declared.actions.Action.{Action}
-use Rattle.undo_stack.specs.History.{no_history}
-use Rattle.undo_stack.specs.Modified.{unmodified}
-use Rattle.edit_ops.specs.Replays.{replays}
+use Rattle.edit_ops.proofs.Words.{◌+◌, drop, Action, no_history, unmodified, replays}
 use Rattle.edit_ops.proofs.ReplayLaws.{next-replayed, replay-first, replay-fits, replay-more}
 use Rattle.edit_ops.proofs.outlines.Outline.replay_all.Goals as goal
 

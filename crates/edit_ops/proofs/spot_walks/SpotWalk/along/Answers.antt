@@ -1,10 +1,5 @@
-use Rattle.std.proofs.Common.{◌≡◌, ap, arith, subst, sym}
-use Rattle.std.specs.Prelude.{chars, slice_range}
-use Rattle.std.proofs.lemmas.List.{length-map}
-use Rattle.text_model.specs.declared.cells.Cell.{Cell}
-use Rattle.text_model.specs.Content.{characters}
-use Rattle.edit_ops.specs.declared.spot_walks.SpotWalk.{SpotWalk}
-use Rattle.edit_ops.specs.declared.spots.Spot.{Spot}
+use Rattle.edit_ops.proofs.Words.{◌≡◌, ap, arith, subst, sym, chars, slice_range, length-map, Cell, characters}
+use Rattle.edit_ops.proofs.Words.{SpotWalk, Spot}
 use Rattle.edit_ops.proofs.SpotLaws.{room-at, spot-along}
 use Rattle.edit_ops.proofs.spot_walks.SpotWalk.along.Goals as goal
 

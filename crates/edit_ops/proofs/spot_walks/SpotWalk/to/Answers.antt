@@ -1,9 +1,4 @@
-use Rattle.std.proofs.Common.{ap, ◌∙◌, arith}
-use Rattle.std.proofs.lemmas.List.{length-map}
-use Rattle.text_model.specs.declared.cells.Cell.{Cell}
-use Rattle.text_model.specs.Content.{characters}
-use Rattle.text_model.specs.Lines.{line_start}
-use Rattle.text_cursor.proofs.AroundLaws.{line-before}
+use Rattle.edit_ops.proofs.Words.{ap, ◌∙◌, arith, length-map, Cell, characters, line_start, line-before}
 use Rattle.edit_ops.proofs.SpotLaws.{start-at}
 use Rattle.edit_ops.proofs.spot_walks.SpotWalk.to.Goals as goal
 

@@ -1,11 +1,7 @@
-use Rattle.std.proofs.Common.{◌+◌, ◌++◌, ap, length, take, drop, sym, subst, append-nil, ◌∙◌, arith}
-use Rattle.std.specs.Prelude.{chars, encode_utf8_all}
-use Rattle.std.specs.Char.{len_utf8}
+use Rattle.edit_ops.proofs.Words.{◌+◌, ◌++◌, ap, length, take, drop, sym, subst, append-nil, ◌∙◌, arith, chars}
+use Rattle.edit_ops.proofs.Words.{encode_utf8_all, len_utf8, length_push, take_all, encodes-chars, end_of, HasRoom}
 use Rattle.std.proofs.lemmas.Iterator.{YieldsList-from_chars}
 use Rattle.std.proofs.lemmas.Iterator.Consumers.{YieldsList-turn, YieldsList-end}
-use Rattle.std.proofs.lemmas.List.{length_push, take_all}
-use Rattle.std.proofs.lemmas.Str.{encodes-chars}
-use Rattle.edit_ops.specs.Told.{end_of, HasRoom}
 use Rattle.edit_ops.proofs.SpotLaws.{front-more, rest-more, room-less}
 use Rattle.edit_ops.proofs.spots.Spot.behind.Goals as goal
 

@@ -1,6 +1,4 @@
-use Rattle.std.proofs.Common.{◌+◌, sym, ap, ◌∙◌}
-use Rattle.text_model.specs.Lines.{is_newline}
-use Rattle.edit_ops.specs.declared.spots.Spot.{Spot}
+use Rattle.edit_ops.proofs.Words.{◌+◌, sym, ap, ◌∙◌, is_newline, Spot}
 use Rattle.edit_ops.proofs.SpotLaws.{end-newline, end-other, first_of, grown-is, newline-no}
 use Rattle.edit_ops.proofs.spots.Spot.past.Goals as goal
 

@@ -1,7 +1,4 @@
-use Rattle.std.proofs.Common.{take, sym, ap, ◌∙◌}
-use Rattle.text_model.specs.SlotSets.{differing}
-use Rattle.toggle_sums.specs.CountLaws.{differing-empty}
-use Rattle.line_lists.specs.Lists.{count_of}
+use Rattle.line_lists.proofs.Words.{take, sym, ap, ◌∙◌, differing, differing-empty, count_of}
 use Rattle.line_lists.proofs.drafts.Before.turn.Goals as goal
 
 pub returns-then-line-eq0-clause-turned : goal.returns-then-line-eq0-clause-turned

@@ -1,7 +1,4 @@
-use Rattle.std.proofs.Common.{subst, sym, ap, ◌∙◌, arith}
-use Rattle.line_lists.specs.DraftTexts.{text_in}
-use Rattle.line_lists.specs.Lists.{AreRows}
-use Rattle.line_lists.specs.Texts.{whole}
+use Rattle.line_lists.proofs.Words.{subst, sym, ap, ◌∙◌, arith, text_in, AreRows, whole}
 use Rattle.line_lists.proofs.ClearingLaws.{clears-on}
 use Rattle.line_lists.proofs.drafts.Draft.clear.Goals as goal
 

@@ -1,6 +1,4 @@
-use Rattle.std.proofs.Common.{◌≡◌, ◌≤◌, ◌-◌}
-use Rattle.line_lists.specs.DraftTexts.{IsTextIn, text_in}
-use Rattle.line_lists.specs.Edits.{with_cleared}
+use Rattle.line_lists.proofs.Words.{◌≡◌, ◌≤◌, ◌-◌, IsTextIn, text_in, with_cleared}
 use Rattle.line_lists.proofs.drafts.Draft.clear.Given as goal
 
 abbrev pub invariant-loop-at : goal.invariant-loop-at

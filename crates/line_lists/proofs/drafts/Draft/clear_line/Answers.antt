@@ -1,7 +1,5 @@
-use Rattle.std.proofs.Common.{◌≡◌, ◌<◌, ◌+◌, ◌-◌, ◌++◌, ◌∷◌, [], min, length, subst, sym, ap, ◌∙◌}
-use Rattle.line_lists.specs.DraftTexts.{lines_in, text_in}
-use Rattle.line_lists.specs.Drafts.{IsText, place_of, text_at}
-use Rattle.line_lists.specs.Edits.{with_cleared}
+use Rattle.line_lists.proofs.Words.{◌≡◌, ◌<◌, ◌+◌, ◌-◌, ◌++◌, ◌∷◌, [], min, length, subst, sym, ap, ◌∙◌, lines_in}
+use Rattle.line_lists.proofs.Words.{text_in, IsText, place_of, text_at, with_cleared}
 use Rattle.line_lists.proofs.ClearingLaws.{ClearsLine, clears-line}
 use Rattle.line_lists.proofs.drafts.Draft.clear_line.Given.{Over}
 use Rattle.line_lists.proofs.drafts.Draft.clear_line.Goals as goal

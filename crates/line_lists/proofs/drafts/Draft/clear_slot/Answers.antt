@@ -1,7 +1,4 @@
-use Rattle.std.proofs.Common.{length, sym, ap, ◌∙◌}
-use Rattle.std.proofs.lemmas.Result.{on_ok_weaker}
-use Rattle.line_lists.specs.Edits.{with_cleared}
-use Rattle.line_lists.specs.Texts.{whole}
+use Rattle.line_lists.proofs.Words.{length, sym, ap, ◌∙◌, on_ok_weaker, with_cleared, whole}
 use Rattle.line_lists.proofs.ClearingLaws.{cleared-all}
 use Rattle.line_lists.proofs.drafts.Draft.clear_slot.Goals as goal
 

@@ -1,8 +1,4 @@
-use Rattle.std.proofs.Common.{◌+◌, length, sym, ap, ◌∙◌}
-use Rattle.std.proofs.lemmas.Result.{IfOk-equal}
-use Rattle.line_lists.specs.DraftTexts.{text_in}
-use Rattle.line_lists.specs.Edits.{with_toggled}
-use Rattle.line_lists.specs.Texts.{whole}
+use Rattle.line_lists.proofs.Words.{◌+◌, length, sym, ap, ◌∙◌, IfOk-equal, text_in, with_toggled, whole}
 use Rattle.line_lists.proofs.StepTexts.{bare-made, toggled-long}
 use Rattle.line_lists.proofs.drafts.Draft.clear_tags.Goals as goal
 

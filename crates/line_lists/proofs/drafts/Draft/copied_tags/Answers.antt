@@ -1,10 +1,6 @@
-use Rattle.std.proofs.Common.{◌≡◌, ◌-◌, ◌≤◌, ◌++◌, ◌∷◌, [], length, take, drop, subst, sym, ap, ap₂, ◌∙◌, arith}
-use Rattle.std.specs.Option.{option_copied}
-use Rattle.std.specs.Prelude.{slice_get}
-use Rattle.text_model.specs.SlotSets.{differing}
-use Rattle.line_lists.specs.Drafts.{IsDraft, copies_of, drafted_at, tags_after, used}
-use Rattle.line_lists.specs.Texts.{whole}
-use Rattle.line_lists.specs.Toggling.{tags_left_of}
+use Rattle.line_lists.proofs.Words.{◌≡◌, ◌-◌, ◌≤◌, ◌++◌, ◌∷◌, [], length, take, drop, subst, sym, ap, ap₂, ◌∙◌, arith}
+use Rattle.line_lists.proofs.Words.{option_copied, slice_get, differing, IsDraft, copies_of, drafted_at, tags_after}
+use Rattle.line_lists.proofs.Words.{used, whole, tags_left_of}
 use Rattle.line_lists.proofs.ClearingLaws.{copied-tags}
 use Rattle.line_lists.proofs.DraftLaws.{can-follow, last_is}
 use Rattle.line_lists.proofs.FindLaws.{IsLast, the-last}

@@ -1,11 +1,8 @@
-use Rattle.std.proofs.Common.{Vec, Global, ℕ, List, ◌≡◌, ◌+◌, ◌-◌, ◌++◌, ◌∷◌, [], Some, refl, sym, ap, ◌∙◌, arith}
-use Rattle.segments.specs.Columns.{LineContent}
-use Rattle.line_lists.specs.declared.drafts.Copied.{Copied}
-use Rattle.line_lists.specs.declared.drafts.Stop.{Stop}
-use Rattle.line_lists.specs.Drafts.{IsTaken, StandsAt, drafted_at, taken_lines}
+use Rattle.line_lists.proofs.Words.{Vec, Global, ℕ, List, ◌≡◌, ◌+◌, ◌-◌, ◌++◌, ◌∷◌, [], Some, refl, sym, ap, ◌∙◌, arith}
+use Rattle.line_lists.proofs.Words.{LineContent, Copied, Stop, IsTaken, StandsAt, drafted_at, taken_lines}
 use Rattle.line_lists.proofs.CountRows.{count-lines}
-use Rattle.line_lists.proofs.FindLaws.{IsKept, begin-le, kept-within, opened, opened-before, opened-kept}
-use Rattle.line_lists.proofs.FindLaws.{opened-stands, opened-stop, still, taken-kept}
+use Rattle.line_lists.proofs.FindLaws.{IsKept, begin-le, kept-within, opened, opened-before, opened-kept, opened-stands}
+use Rattle.line_lists.proofs.FindLaws.{opened-stop, still, taken-kept}
 use Rattle.line_lists.proofs.drafts.Draft.copy_kept.Given.{Over}
 use Rattle.line_lists.proofs.drafts.Draft.copy_kept.Goals as goal
 use Rattle.line_lists.proofs.drafts.Draft.copy_kept.Goals.{After-push_reserved, In_ok-try_clone}

@@ -1,9 +1,5 @@
-use Rattle.std.proofs.Common.{Vec, Global, List, ◌≡◌, ◌-◌, [], Some, sym, ap, ◌∙◌, arith}
-use Rattle.std.specs.Prelude.{reverse}
-use Rattle.segments.specs.Columns.{LineContent}
-use Rattle.line_lists.specs.declared.drafts.Copied.{Copied}
-use Rattle.line_lists.specs.declared.drafts.Stop.{Stop}
-use Rattle.line_lists.specs.Drafts.{IsTaken, StandsAt, drafted_at, taken_lines, used}
+use Rattle.line_lists.proofs.Words.{Vec, Global, List, ◌≡◌, ◌-◌, [], Some, sym, ap, ◌∙◌, arith, reverse, LineContent}
+use Rattle.line_lists.proofs.Words.{Copied, Stop, IsTaken, StandsAt, drafted_at, taken_lines, used}
 use Rattle.line_lists.proofs.FindLaws.{IsKept, opened, opened-rest, opened-stands, opened-stop, rest-within, still}
 use Rattle.line_lists.proofs.drafts.Draft.copy_rest.Given.{Over}
 use Rattle.line_lists.proofs.drafts.Draft.copy_rest.Goals as goal

@@ -1,9 +1,6 @@
-use Rattle.std.proofs.Common.{◌≡◌, ◌+◌, ◌<◌, None, get_or, length, take, ap, subst, ◌∙◌, arith}
+use Rattle.line_lists.proofs.Words.{◌≡◌, ◌+◌, ◌<◌, None, get_or, length, take, ap, subst, ◌∙◌, arith, nat_cmp, take_all}
+use Rattle.line_lists.proofs.Words.{copies_of, made_lines, whole}
 use Rattle.std.specs.FinMap as finite
-use Rattle.std.specs.Ordering.{nat_cmp}
-use Rattle.std.proofs.lemmas.List.{take_all}
-use Rattle.line_lists.specs.Drafts.{copies_of, made_lines}
-use Rattle.line_lists.specs.Texts.{whole}
 use Rattle.line_lists.proofs.StandLaws.{AtCopy, at-front, front-more, none-more, stands-at, stands-found}
 use Rattle.line_lists.proofs.drafts.Draft.find_before.Given.{Over}
 use Rattle.line_lists.proofs.drafts.Draft.find_before.Goals as goal

@@ -1,7 +1,5 @@
-use Rattle.std.proofs.Common.{◌≡◌, None, take}
+use Rattle.line_lists.proofs.Words.{◌≡◌, None, take, copies_of, made_lines, whole}
 use Rattle.std.specs.FinMap as finite
-use Rattle.line_lists.specs.Drafts.{copies_of, made_lines}
-use Rattle.line_lists.specs.Texts.{whole}
 use Rattle.line_lists.proofs.drafts.Draft.find_before.Given as goal
 
 abbrev pub invariant-loop-stop : goal.invariant-loop-stop

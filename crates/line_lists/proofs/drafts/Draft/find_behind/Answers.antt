@@ -1,9 +1,6 @@
-use Rattle.std.proofs.Common.{◌≡◌, ◌+◌, ◌-◌, ◌<◌, None, length, subst, arith}
+use Rattle.line_lists.proofs.Words.{◌≡◌, ◌+◌, ◌-◌, ◌<◌, None, length, subst, arith, lines_in, IsReached, made_lines}
+use Rattle.line_lists.proofs.Words.{StandsIn, whole}
 use Rattle.std.specs.FinMap as finite
-use Rattle.line_lists.specs.DraftTexts.{lines_in}
-use Rattle.line_lists.specs.Drafts.{IsReached, made_lines}
-use Rattle.line_lists.specs.Marking.{StandsIn}
-use Rattle.line_lists.specs.Texts.{whole}
 use Rattle.line_lists.proofs.StandLaws.{AtCopy, at-back, back-more, back-none, copies_to, none-more, none-rest}
 use Rattle.line_lists.proofs.StandLaws.{stands-at, stands-found, stands-rest}
 use Rattle.line_lists.proofs.drafts.Draft.find_behind.Given.{Over}

@@ -1,7 +1,5 @@
-use Rattle.std.proofs.Common.{◌≡◌, None}
+use Rattle.line_lists.proofs.Words.{◌≡◌, None, IsReached, made_lines, whole}
 use Rattle.std.specs.FinMap as finite
-use Rattle.line_lists.specs.Drafts.{IsReached, made_lines}
-use Rattle.line_lists.specs.Texts.{whole}
 use Rattle.line_lists.proofs.StandLaws.{copies_to}
 use Rattle.line_lists.proofs.drafts.Draft.find_behind.Given as goal
 

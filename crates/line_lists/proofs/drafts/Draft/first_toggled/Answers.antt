@@ -1,10 +1,6 @@
-use Rattle.std.proofs.Common.{◌≡◌, ◌<◌, min, length, sym, ap, subst, ◌∙◌, arith, eqb-true}
-use Rattle.std.proofs.lemmas.List.{nil_from_length}
+use Rattle.line_lists.proofs.Words.{◌≡◌, ◌<◌, min, length, sym, ap, subst, ◌∙◌, arith, eqb-true, nil_from_length}
+use Rattle.line_lists.proofs.Words.{text_in, drafted_at, with_cleared, whole}
 use Rattle.std.specs.Prelude.{vec_len}
-use Rattle.line_lists.specs.DraftTexts.{text_in}
-use Rattle.line_lists.specs.Drafts.{drafted_at}
-use Rattle.line_lists.specs.Edits.{with_cleared}
-use Rattle.line_lists.specs.Texts.{whole}
 use Rattle.line_lists.proofs.BeginLaws.{BeginsFree, behind-above, behind-within, free-line, free-lines}
 use Rattle.line_lists.proofs.CountRows.{count-lines}
 use Rattle.line_lists.proofs.FindLaws.{rest-within}

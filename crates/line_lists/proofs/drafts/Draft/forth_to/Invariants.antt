@@ -1,6 +1,4 @@
-use Rattle.std.proofs.Common.{◌≡◌, vec_len}
-use Rattle.line_lists.specs.DraftTexts.{IsDraftIn, lines_in}
-use Rattle.line_lists.specs.Drafts.{BeginsBy}
+use Rattle.line_lists.proofs.Words.{◌≡◌, vec_len, IsDraftIn, lines_in, BeginsBy}
 use Rattle.line_lists.proofs.drafts.Draft.forth_to.Given as goal
 
 abbrev pub invariant-loop : goal.invariant-loop

@@ -1,9 +1,5 @@
-use Rattle.std.proofs.Common.{◌≡◌, ◌-◌, ◌+◌, true, Some, length, take, drop, sym, ap, ◌∙◌, arith}
-use Rattle.std.specs.Prelude.{slice_get}
-use Rattle.line_lists.specs.Clearing.{free_end}
-use Rattle.line_lists.specs.Drafts.{CanFollow}
-use Rattle.line_lists.specs.Lists.{has_toggle}
-use Rattle.line_lists.specs.Texts.{whole}
+use Rattle.line_lists.proofs.Words.{◌≡◌, ◌-◌, ◌+◌, true, Some, length, take, drop, sym, ap, ◌∙◌, arith, slice_get}
+use Rattle.line_lists.proofs.Words.{free_end, CanFollow, has_toggle, whole}
 use Rattle.line_lists.proofs.ClearingLaws.{end-kept, end-passed, end-rest, end-within}
 use Rattle.line_lists.proofs.CountRows.{count-lines}
 use Rattle.line_lists.proofs.DraftLaws.{can-follow-next, last_is, no_last}

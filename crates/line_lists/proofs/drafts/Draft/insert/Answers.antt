@@ -1,6 +1,4 @@
-use Rattle.std.proofs.Common.{chars, ◌∙◌}
-use Rattle.std.proofs.lemmas.Result.{on_ok_weaker}
-use Rattle.line_lists.specs.DraftTexts.{text_in}
+use Rattle.line_lists.proofs.Words.{chars, ◌∙◌, on_ok_weaker, text_in}
 use Rattle.line_lists.proofs.OpenLaws.{partly-first}
 use Rattle.line_lists.proofs.drafts.Draft.insert.Goals as goal
 

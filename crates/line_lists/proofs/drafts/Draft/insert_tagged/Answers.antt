@@ -1,10 +1,7 @@
-use Rattle.std.proofs.Common.{◌≡◌, ◌+◌, ◌<◌, ◌^◌, length, chars, ap, ◌∙◌, arith}
+use Rattle.line_lists.proofs.Words.{◌≡◌, ◌+◌, ◌<◌, ◌^◌, length, chars, ap, ◌∙◌, arith, differing, after_text, text_in}
+use Rattle.line_lists.proofs.Words.{whole}
 use Rattle.std.proofs.lemmas.Iterator.{YieldsList-from_chars}
 use Rattle.std.proofs.lemmas.Iterator.Consumers.{count_from_yields_List}
-use Rattle.text_model.specs.SlotSets.{differing}
-use Rattle.segments.specs.Columns.{after_text}
-use Rattle.line_lists.specs.DraftTexts.{text_in}
-use Rattle.line_lists.specs.Texts.{whole}
 use Rattle.line_lists.proofs.StepTexts.{inserted-long, inserted-made, more-there, toggled-long}
 use Rattle.line_lists.proofs.drafts.Draft.insert_tagged.Given.{Over}
 use Rattle.line_lists.proofs.drafts.Draft.insert_tagged.Goals as goal

@@ -1,8 +1,5 @@
-use Rattle.std.proofs.Common.{length, ap, ◌∙◌, arith}
+use Rattle.line_lists.proofs.Words.{length, ap, ◌∙◌, arith, LineContent, after_text, lines_in, taken_in, whole}
 use Rattle.std.specs.Prelude.{chars}
-use Rattle.segments.specs.Columns.{LineContent, after_text}
-use Rattle.line_lists.specs.DraftTexts.{lines_in, taken_in}
-use Rattle.line_lists.specs.Texts.{whole}
 use Rattle.line_lists.proofs.EditLaws.{inserted-makes, length-text}
 use Rattle.line_lists.proofs.RowLaws.{Makes, made-text}
 use Rattle.line_lists.proofs.drafts.Draft.insert_within.Given.{Over}

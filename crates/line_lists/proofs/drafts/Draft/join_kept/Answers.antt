@@ -1,7 +1,4 @@
-use Rattle.std.proofs.Common.{◌≡◌, ◌+◌, ap, sym, ◌∙◌, arith}
-use Rattle.std.specs.Prelude.{slice_get}
-use Rattle.segments.specs.Columns.{joined}
-use Rattle.line_lists.specs.Drafts.{covered}
+use Rattle.line_lists.proofs.Words.{◌≡◌, ◌+◌, ap, sym, ◌∙◌, arith, slice_get, joined, covered}
 use Rattle.line_lists.proofs.CountRows.{count-lines}
 use Rattle.line_lists.proofs.JoinLaws.{first-line}
 use Rattle.line_lists.proofs.drafts.Draft.join_kept.Goals as goal

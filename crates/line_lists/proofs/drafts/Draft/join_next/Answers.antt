@@ -1,10 +1,6 @@
-use Rattle.std.proofs.Common.{◌≡◌, ◌+◌, ◌<◌, [], None, Some, drop, length, take, sym, ap, subst, ◌∙◌, arith}
-use Rattle.std.specs.Prelude.{reverse}
-use Rattle.std.proofs.lemmas.List.{append-nil}
-use Rattle.segments.specs.Columns.{joined}
-use Rattle.line_lists.specs.Drafts.{IsTaken, copies_of, covered, lines_behind, used}
-use Rattle.line_lists.specs.Removals.{JoinsNext}
-use Rattle.line_lists.specs.Texts.{whole}
+use Rattle.line_lists.proofs.Words.{◌≡◌, ◌+◌, ◌<◌, [], None, Some, drop, length, take, sym, ap, subst, ◌∙◌, arith}
+use Rattle.line_lists.proofs.Words.{reverse, append-nil, joined, IsTaken, copies_of, covered, lines_behind, used}
+use Rattle.line_lists.proofs.Words.{JoinsNext, whole}
 use Rattle.line_lists.proofs.JoinLaws.{none_popped, behind-rest, both_ok, joins, rest-there, still-placed}
 use Rattle.line_lists.proofs.drafts.Draft.join_next.Goals as goal
 

@@ -1,10 +1,5 @@
-use Rattle.std.proofs.Common.{◌-◌, ◌≤◌, List, length, take, drop, subst, ap, ap₂, sym, ◌∙◌}
-use Rattle.text_model.specs.Content.{Slots}
-use Rattle.text_model.specs.SlotSets.{differing}
-use Rattle.segments.specs.Columns.{LineContent}
-use Rattle.line_lists.specs.Drafts.{copies_of, tags_after, used}
-use Rattle.line_lists.specs.Texts.{whole}
-use Rattle.line_lists.specs.Toggling.{tags_left_of}
+use Rattle.line_lists.proofs.Words.{◌-◌, ◌≤◌, List, length, take, drop, subst, ap, ap₂, sym, ◌∙◌, Slots, differing}
+use Rattle.line_lists.proofs.Words.{LineContent, copies_of, tags_after, used, whole, tags_left_of}
 use Rattle.line_lists.proofs.ClearingLaws.{kept-ends, kept-tags}
 use Rattle.line_lists.proofs.FindLaws.{reached-there}
 use Rattle.line_lists.proofs.KnownLaws.{draft-there}

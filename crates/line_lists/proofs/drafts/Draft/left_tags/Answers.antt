@@ -1,6 +1,4 @@
-use Rattle.std.proofs.Common.{sym, ap₂, ◌∙◌}
-use Rattle.text_model.specs.SlotSets.{differing}
-use Rattle.line_lists.specs.DraftTexts.{lines_in}
+use Rattle.line_lists.proofs.Words.{sym, ap₂, ◌∙◌, differing, lines_in}
 use Rattle.line_lists.proofs.StepTexts.{tags-left}
 use Rattle.line_lists.proofs.drafts.Draft.left_tags.Goals as goal
 

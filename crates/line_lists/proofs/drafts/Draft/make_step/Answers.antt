@@ -1,7 +1,4 @@
-use Rattle.std.proofs.Common.{subst}
-use Rattle.text_model.specs.declared.edits.Step.TheVariants.{Remove, ClearTags}
-use Rattle.text_model.specs.Steps.{StepFitsIn}
-use Rattle.line_lists.specs.DraftTexts.{text_in}
+use Rattle.line_lists.proofs.Words.{subst, Remove, ClearTags, StepFitsIn, text_in}
 use Rattle.line_lists.proofs.StepTexts.{made-long}
 use Rattle.line_lists.proofs.drafts.Draft.make_step.Goals as goal
 

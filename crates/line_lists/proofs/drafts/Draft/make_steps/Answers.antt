@@ -1,5 +1,4 @@
-use Rattle.std.proofs.Common.{◌+◌, drop, ◌∙◌}
-use Rattle.line_lists.specs.DraftTexts.{text_in}
+use Rattle.line_lists.proofs.Words.{◌+◌, drop, ◌∙◌, text_in}
 use Rattle.line_lists.proofs.StepTexts.{goes-at, goes-on, step-fits}
 use Rattle.line_lists.proofs.drafts.Draft.make_steps.Goals as goal
 

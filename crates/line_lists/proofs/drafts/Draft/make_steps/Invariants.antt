@@ -1,5 +1,4 @@
-use Rattle.std.proofs.Common.{◌≡◌, drop}
-use Rattle.line_lists.specs.DraftTexts.{IsTextIn, text_in}
+use Rattle.line_lists.proofs.Words.{◌≡◌, drop, IsTextIn, text_in}
 use Rattle.line_lists.proofs.StepTexts.{Goes}
 use Rattle.line_lists.proofs.drafts.Draft.make_steps.Given as goal
 

@@ -1,7 +1,4 @@
-use Rattle.std.proofs.Common.{ap, ◌∙◌}
-use Rattle.std.proofs.lemmas.Result.{IfOk-equal}
-use Rattle.line_lists.specs.DraftTexts.{text_in}
-use Rattle.line_lists.specs.Edits.{with_mark}
+use Rattle.line_lists.proofs.Words.{ap, ◌∙◌, IfOk-equal, text_in, with_mark}
 use Rattle.line_lists.proofs.StepTexts.{mark-free, mark-moved}
 use Rattle.line_lists.proofs.drafts.Draft.move_mark.Goals as goal
 

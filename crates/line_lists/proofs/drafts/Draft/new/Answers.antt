@@ -1,5 +1,4 @@
-use Rattle.std.proofs.Common.{[], subst, sym}
-use Rattle.line_lists.specs.Drafts.{IsDraft}
+use Rattle.line_lists.proofs.Words.{[], subst, sym, IsDraft}
 use Rattle.line_lists.proofs.DraftLaws.{draft-none}
 use Rattle.line_lists.proofs.drafts.Draft.new.Goals as goal
 

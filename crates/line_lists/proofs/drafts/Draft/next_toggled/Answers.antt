@@ -1,5 +1,4 @@
-use Rattle.std.proofs.Common.{◌<◌, length, ap, ◌∙◌, arith}
-use Rattle.line_lists.specs.Clearing.{free_end}
+use Rattle.line_lists.proofs.Words.{◌<◌, length, ap, ◌∙◌, arith, free_end}
 use Rattle.line_lists.proofs.ClearingLaws.{passed-end}
 use Rattle.line_lists.proofs.drafts.Draft.next_toggled.Goals as goal
 

@@ -1,7 +1,4 @@
-use Rattle.std.proofs.Common.{◌≡◌, vec_len}
-use Rattle.line_lists.specs.Clearing.{free_end}
-use Rattle.line_lists.specs.DraftTexts.{IsDraftIn, lines_in}
-use Rattle.line_lists.specs.Drafts.{IsReached, copies_of}
+use Rattle.line_lists.proofs.Words.{◌≡◌, vec_len, free_end, IsDraftIn, lines_in, IsReached, copies_of}
 use Rattle.line_lists.proofs.drafts.Draft.next_toggled.Given as goal
 
 abbrev pub invariant-loop-reached : goal.invariant-loop-reached

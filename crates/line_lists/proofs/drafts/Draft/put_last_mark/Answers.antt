@@ -1,9 +1,5 @@
-use Rattle.std.proofs.Common.{◌≡◌, ◌+◌, length, ap, ◌∙◌, arith}
-use Rattle.text_model.specs.declared.places.Place.{Place}
-use Rattle.segments.specs.Columns.{LineContent}
-use Rattle.line_lists.specs.DraftTexts.{lines_in, taken_in}
-use Rattle.line_lists.specs.Edits.{with_mark}
-use Rattle.line_lists.specs.Texts.{whole}
+use Rattle.line_lists.proofs.Words.{◌≡◌, ◌+◌, length, ap, ◌∙◌, arith, Place, LineContent, lines_in, taken_in, with_mark}
+use Rattle.line_lists.proofs.Words.{whole}
 use Rattle.line_lists.proofs.FoundMarks.{draft-some, last-makes}
 use Rattle.line_lists.proofs.RowLaws.{Makes, made-text}
 use Rattle.line_lists.proofs.drafts.Draft.put_last_mark.Given.{Over}

@@ -1,7 +1,5 @@
-use Rattle.std.proofs.Common.{◌++◌, ◌∷◌, [], chars, subst, sym, ap, ◌∙◌}
-use Rattle.line_lists.specs.declared.drafts.Stop.{Stop}
-use Rattle.line_lists.specs.Drafts.{IsReached, copies_of, place_of, text_at}
-use Rattle.line_lists.specs.Insertions.{Opens}
+use Rattle.line_lists.proofs.Words.{◌++◌, ◌∷◌, [], chars, subst, sym, ap, ◌∙◌, Stop, IsReached, copies_of, place_of}
+use Rattle.line_lists.proofs.Words.{text_at, Opens}
 use Rattle.line_lists.proofs.OpenLaws.{line-opens, new_stop}
 use Rattle.line_lists.proofs.drafts.Draft.put_line.Goals as goal
 

@@ -1,9 +1,6 @@
-use Rattle.std.proofs.Common.{◌≡◌, ◌+◌, ◌≤◌, chars, length}
+use Rattle.line_lists.proofs.Words.{◌≡◌, ◌+◌, ◌≤◌, chars, length, text_in, place_of, IsPartly}
 use denote.Text.{Utf8}
 use denote.Shadow.{shadow}
-use Rattle.line_lists.specs.DraftTexts.{text_in}
-use Rattle.line_lists.specs.Drafts.{place_of}
-use Rattle.line_lists.specs.Insertions.{IsPartly}
 use Rattle.line_lists.proofs.drafts.Draft.put_lines.Given as goal
 
 abbrev pub invariant-loop-line : goal.invariant-loop-line

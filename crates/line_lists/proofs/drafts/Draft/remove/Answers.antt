@@ -1,7 +1,4 @@
-use Rattle.std.proofs.Common.{◌-◌, length, ap, arith}
-use Rattle.segments.specs.Columns.{LineContent}
-use Rattle.line_lists.specs.Removals.{held_at, held_text}
-use Rattle.line_lists.specs.Texts.{whole}
+use Rattle.line_lists.proofs.Words.{◌-◌, length, ap, arith, LineContent, held_at, held_text, whole}
 use Rattle.line_lists.proofs.HeldLaws.{length-removal}
 use Rattle.line_lists.proofs.drafts.Draft.remove.Goals as goal
 

@@ -1,6 +1,4 @@
-use Rattle.std.proofs.Common.{Vec, Global, ◌≡◌, ap, ◌∙◌, arith}
-use Rattle.line_lists.specs.declared.drafts.Stop.{Stop}
-use Rattle.line_lists.specs.Removals.{held_at, held_text}
+use Rattle.line_lists.proofs.Words.{Vec, Global, ◌≡◌, ap, ◌∙◌, arith, Stop, held_at, held_text}
 use Rattle.line_lists.proofs.HeldLaws.{at-same, left-long, left-same, none-left}
 use Rattle.line_lists.proofs.drafts.Draft.remove_behind.Goals as goal
 

@@ -1,7 +1,5 @@
-use Rattle.std.proofs.Common.{Vec, Global, ◌≡◌, ◌+◌, ◌-◌, ◌<◌, ◌≤◌, length, sym, ap, ◌∙◌, arith}
-use Rattle.segments.specs.Columns.{after_removal}
-use Rattle.line_lists.specs.declared.drafts.Stop.{Stop}
-use Rattle.line_lists.specs.Removals.{held_at, held_text}
+use Rattle.line_lists.proofs.Words.{Vec, Global, ◌≡◌, ◌+◌, ◌-◌, ◌<◌, ◌≤◌, length, sym, ap, ◌∙◌, arith, after_removal}
+use Rattle.line_lists.proofs.Words.{Stop, held_at, held_text}
 use Rattle.line_lists.proofs.HeldLaws.{Leaves, leaves-joined, leaves-within, next-there, with_line}
 use Rattle.line_lists.proofs.drafts.Draft.remove_some.Given.{Over}
 use Rattle.line_lists.proofs.drafts.Draft.remove_some.Goals as goal

@@ -1,10 +1,4 @@
-use Rattle.std.proofs.Common.{ap, ◌∙◌}
-use Rattle.std.proofs.lemmas.Result.{IfOk-equal}
-use Rattle.text_model.specs.Steps.{set_slot}
-use Rattle.line_lists.specs.DraftTexts.{text_in}
-use Rattle.line_lists.specs.Edits.{with_cleared}
-use Rattle.line_lists.specs.Texts.{whole}
-use Rattle.line_lists.specs.Toggling.{switched}
+use Rattle.line_lists.proofs.Words.{ap, ◌∙◌, IfOk-equal, set_slot, text_in, with_cleared, whole, switched}
 use Rattle.line_lists.proofs.StepTexts.{cleared-long, tagged-made}
 use Rattle.line_lists.proofs.drafts.Draft.set_tag.Goals as goal
 

@@ -1,7 +1,4 @@
-use Rattle.std.proofs.Common.{◌++◌, ◌∷◌, [], chars, sym, ap, subst, ◌∙◌}
-use Rattle.line_lists.specs.DraftTexts.{lines_in}
-use Rattle.line_lists.specs.Insertions.{Opens}
-use Rattle.line_lists.specs.Texts.{whole}
+use Rattle.line_lists.proofs.Words.{◌++◌, ◌∷◌, [], chars, sym, ap, subst, ◌∙◌, lines_in, Opens, whole}
 use Rattle.line_lists.proofs.OpenLaws.{new_copy, split-opens}
 use Rattle.line_lists.proofs.drafts.Draft.split.Goals as goal
 

@@ -1,7 +1,5 @@
-use Rattle.std.proofs.Common.{◌-◌, ◌++◌, ◌∷◌, [], length, take, subst, sym, ap, ◌∙◌, arith}
-use Rattle.std.specs.Prelude.{slice_get}
-use Rattle.line_lists.specs.declared.drafts.Stop.{Stop}
-use Rattle.line_lists.specs.Drafts.{BeginsBy, IsDraft}
+use Rattle.line_lists.proofs.Words.{◌-◌, ◌++◌, ◌∷◌, [], length, take, subst, sym, ap, ◌∙◌, arith, slice_get, Stop}
+use Rattle.line_lists.proofs.Words.{BeginsBy, IsDraft}
 use Rattle.line_lists.proofs.DraftLaws.{begins-behind, can-follow-next, forth-by, last_is}
 use Rattle.line_lists.proofs.drafts.Draft.step_forth_by.Given.{Over}
 use Rattle.line_lists.proofs.drafts.Draft.step_forth_by.Goals as goal

@@ -1,7 +1,4 @@
-use Rattle.std.proofs.Common.{sym, ap, ◌∙◌}
-use Rattle.text_model.specs.SlotSets.{differing}
-use Rattle.segments.specs.Columns.{tags_before}
-use Rattle.line_lists.specs.DraftTexts.{lines_in}
+use Rattle.line_lists.proofs.Words.{sym, ap, ◌∙◌, differing, tags_before, lines_in}
 use Rattle.line_lists.proofs.StepTexts.{tags-taken}
 use Rattle.line_lists.proofs.drafts.Draft.tags_at.Goals as goal
 

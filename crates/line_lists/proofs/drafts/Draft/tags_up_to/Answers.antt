@@ -1,8 +1,4 @@
-use Rattle.std.proofs.Common.{take, drop, sym, ap, ◌∙◌}
-use Rattle.text_model.specs.SlotSets.{differing}
-use Rattle.line_lists.specs.Drafts.{copies_of, tags_after}
-use Rattle.line_lists.specs.Texts.{whole}
-use Rattle.line_lists.specs.Toggling.{tags_left_of}
+use Rattle.line_lists.proofs.Words.{take, drop, sym, ap, ◌∙◌, differing, copies_of, tags_after, whole, tags_left_of}
 use Rattle.line_lists.proofs.ClearingLaws.{tags-before}
 use Rattle.line_lists.proofs.drafts.Draft.tags_up_to.Goals as goal
 

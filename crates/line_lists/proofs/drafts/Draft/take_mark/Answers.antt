@@ -1,5 +1,4 @@
-use Rattle.std.proofs.Common.{sym}
-use Rattle.line_lists.specs.DraftTexts.{lines_in, text_in}
+use Rattle.line_lists.proofs.Words.{sym, lines_in, text_in}
 use Rattle.line_lists.proofs.FreedLaws.{same-line}
 use Rattle.line_lists.proofs.StandLaws.{stands-found}
 use Rattle.line_lists.proofs.drafts.Draft.take_mark.Goals as goal

@@ -1,8 +1,4 @@
-use Rattle.std.proofs.Common.{◌≡◌, length, ap, ◌∙◌, arith}
-use Rattle.segments.specs.Columns.{LineContent}
-use Rattle.line_lists.specs.DraftTexts.{lines_in, taken_in}
-use Rattle.line_lists.specs.Edits.{without_mark}
-use Rattle.line_lists.specs.Texts.{whole}
+use Rattle.line_lists.proofs.Words.{◌≡◌, length, ap, ◌∙◌, arith, LineContent, lines_in, taken_in, without_mark, whole}
 use Rattle.line_lists.proofs.EditLaws.{taken-makes}
 use Rattle.line_lists.proofs.RowLaws.{Makes, made-text}
 use Rattle.line_lists.proofs.drafts.Draft.take_mark_at.Given.{Over}

@@ -1,8 +1,4 @@
-use Rattle.std.proofs.Common.{◌≡◌, length, ap, ◌∙◌, arith}
-use Rattle.segments.specs.Columns.{LineContent}
-use Rattle.line_lists.specs.DraftTexts.{lines_in, taken_in}
-use Rattle.line_lists.specs.Edits.{with_toggled}
-use Rattle.line_lists.specs.Texts.{whole}
+use Rattle.line_lists.proofs.Words.{◌≡◌, length, ap, ◌∙◌, arith, LineContent, lines_in, taken_in, with_toggled, whole}
 use Rattle.line_lists.proofs.RowLaws.{Makes, made-text, toggled-line, toggled-makes}
 use Rattle.line_lists.proofs.WholeLaws.{length-toggled}
 use Rattle.line_lists.proofs.drafts.Draft.toggle.Given.{Over}

@@ -1,5 +1,4 @@
-use Rattle.std.proofs.Common.{◌-◌, ◌≤◌, min}
-use Rattle.line_lists.specs.Drafts.{IsKnown}
+use Rattle.line_lists.proofs.Words.{◌-◌, ◌≤◌, min, IsKnown}
 use Rattle.line_lists.proofs.drafts.Known.back_to.Given as goal
 
 abbrev pub invariant-loop-self : goal.invariant-loop-self

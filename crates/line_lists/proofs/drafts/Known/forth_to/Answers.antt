@@ -1,5 +1,4 @@
-use Rattle.std.proofs.Common.{◌<◌, ◌+◌, length, arith, refl}
-use Rattle.std.proofs.lemmas.Option.{slice_get_read}
+use Rattle.line_lists.proofs.Words.{◌<◌, ◌+◌, length, arith, refl, slice_get_read}
 use Rattle.line_lists.proofs.KnownLaws.{known-forth, stop-there}
 use Rattle.line_lists.proofs.drafts.Known.forth_to.Goals as goal
 

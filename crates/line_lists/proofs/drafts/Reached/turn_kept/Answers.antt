@@ -1,9 +1,5 @@
-use Rattle.std.proofs.Common.{◌+◌, take, drop, sym, ap, ◌∙◌, arith}
-use Rattle.text_model.specs.SlotSets.{differing}
-use Rattle.toggle_sums.specs.CountLaws.{differing-associative, differing-empty}
-use Rattle.line_lists.specs.Lists.{count_of}
-use Rattle.line_lists.specs.Texts.{whole}
-use Rattle.line_lists.specs.Toggling.{tags_left_of}
+use Rattle.line_lists.proofs.Words.{◌+◌, take, drop, sym, ap, ◌∙◌, arith, differing, differing-associative}
+use Rattle.line_lists.proofs.Words.{differing-empty, count_of, whole, tags_left_of}
 use Rattle.line_lists.proofs.CountRows.{count-lines}
 use Rattle.line_lists.proofs.DraftLaws.{parity-between}
 use Rattle.line_lists.proofs.drafts.Reached.turn_kept.Goals as goal

@@ -1,8 +1,4 @@
-use Rattle.std.proofs.Common.{take, drop, sym, ap, ◌∙◌}
-use Rattle.text_model.specs.SlotSets.{differing}
-use Rattle.toggle_sums.specs.CountLaws.{differing-associative}
-use Rattle.line_lists.specs.Texts.{whole}
-use Rattle.line_lists.specs.Toggling.{tags_left_of}
+use Rattle.line_lists.proofs.Words.{take, drop, sym, ap, ◌∙◌, differing, differing-associative, whole, tags_left_of}
 use Rattle.line_lists.proofs.KnownLaws.{copy-tags}
 use Rattle.line_lists.proofs.drafts.Stop.turn_slots.Goals as goal
 

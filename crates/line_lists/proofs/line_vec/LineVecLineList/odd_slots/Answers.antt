@@ -1,6 +1,4 @@
-use Rattle.std.proofs.Common.{take, ap, ◌∙◌}
-use Rattle.toggle_sums.specs.Counts.{Count}
-use Rattle.line_lists.specs.Lists.{count_of}
+use Rattle.line_lists.proofs.Words.{take, ap, ◌∙◌, Count, count_of}
 use Rattle.line_lists.proofs.VecLaws.{counted-front}
 use Rattle.line_lists.proofs.line_vec.LineVecLineList.odd_slots.Goals as goal
 

@@ -1,6 +1,4 @@
-use Rattle.std.proofs.Common.{subst, sym, ap, ◌∙◌, arith}
-use Rattle.text_model.specs.Splices.{inserted}
-use Rattle.line_lists.specs.Lists.{AreLines}
+use Rattle.line_lists.proofs.Words.{subst, sym, ap, ◌∙◌, arith, inserted, AreLines}
 use Rattle.line_lists.proofs.VecLaws.{spliced-made}
 use Rattle.line_lists.proofs.line_vec.LineVecLineList.splice.Goals as goal
 

@@ -1,7 +1,4 @@
-use Rattle.std.proofs.Common.{length, map, subst, sym, ap, ◌∙◌, arith}
-use Rattle.std.proofs.lemmas.List.{length-map}
-use Rattle.line_lists.specs.Edits.{without_mark}
-use Rattle.line_lists.specs.Lists.{AreLines}
+use Rattle.line_lists.proofs.Words.{length, map, subst, sym, ap, ◌∙◌, arith, length-map, without_mark, AreLines}
 use Rattle.line_lists.proofs.VecLaws.{lines-are-without, written-over}
 use Rattle.line_lists.proofs.line_vec.LineVecLineList.take_mark.Goals as goal
 

@@ -1,7 +1,5 @@
-use Rattle.std.proofs.Common.{◌≡◌, ◌++◌, ◌∙◌, ap, arith}
-use Rattle.std.specs.Prelude.{chars, slice_range, string_bytes}
-use Rattle.segments.specs.Columns.{characters}
-use Rattle.line_lists.specs.Texts.{whole}
+use Rattle.line_lists.proofs.Words.{◌≡◌, ◌++◌, ◌∙◌, ap, arith, slice_range, string_bytes, characters, whole}
+use Rattle.std.specs.Prelude.{chars}
 use Rattle.line_lists.proofs.TextRows.{pushed-line, pushed-none}
 use Rattle.line_lists.proofs.lists.LineList.push_lines.Goals as goal
 

@@ -1,7 +1,5 @@
-use Rattle.std.proofs.Common.{◌≡◌, ◌++◌}
-use Rattle.std.specs.Prelude.{chars, slice_range, string_bytes}
-use Rattle.segments.specs.Columns.{characters}
-use Rattle.line_lists.specs.Texts.{whole}
+use Rattle.line_lists.proofs.Words.{◌≡◌, ◌++◌, slice_range, string_bytes, characters, whole}
+use Rattle.std.specs.Prelude.{chars}
 use Rattle.line_lists.proofs.lists.LineList.push_lines.Given as goal
 
 abbrev pub invariant-loop-index : goal.invariant-loop-index

@@ -1,10 +1,5 @@
-use Rattle.std.proofs.Common.{◌≡◌, ap, ◌∙◌}
-use Rattle.text_model.specs.Content.{Slots}
-use Rattle.text_model.specs.SlotSets.{differing}
-use Rattle.toggle_sums.specs.CountLaws.{differing-associative, differing-empty, differing-self}
-use Rattle.line_tree.proofs.Words.{Count, records, sum_at}
-use Rattle.line_tree.specs.Aims.{slots_behind}
-use Rattle.line_tree.specs.declared.aims.SlotsBefore.{SlotsBefore}
+use Rattle.line_tree.proofs.Words.{◌≡◌, ap, ◌∙◌, Slots, differing, differing-associative, differing-empty}
+use Rattle.line_tree.proofs.Words.{differing-self, Count, records, sum_at, slots_behind, SlotsBefore}
 use Rattle.line_tree.proofs.RowLaws.{said}
 use Rattle.line_tree.proofs.aims.SlotsBeforeAimBack.go_back.Goals as goal
 

@@ -1,6 +1,4 @@
-use Rattle.std.proofs.Common.{◌≡◌, true, sym, ap, subst, ◌∙◌}
-use Rattle.line_tree.proofs.Words.{Count, IsBare, contents, lines_in, records}
-use Rattle.line_lists.specs.Lists.{count_of}
+use Rattle.line_tree.proofs.Words.{◌≡◌, true, sym, ap, subst, ◌∙◌, Count, IsBare, contents, lines_in, records, count_of}
 use Rattle.line_tree.proofs.PrefixLaws.{count-contents}
 use Rattle.line_tree.proofs.RowLaws.{tells}
 use Rattle.line_tree.proofs.TreeLaws.{named-tree, sum-tree}

@@ -1,7 +1,4 @@
-use Rattle.std.proofs.Common.{sym, ap, ◌∙◌, subst, Some, slice_get}
-use Rattle.line_tree.proofs.Words.{entry, lines_in, records}
-use Rattle.raw_nodes.proofs.MapLaws.{at_some}
-use Rattle.line_tree.specs.Places.{IsLineAt}
+use Rattle.line_tree.proofs.Words.{sym, ap, ◌∙◌, subst, Some, slice_get, entry, records, lines_in, at_some, IsLineAt}
 use Rattle.line_tree.proofs.LineNodes.{lent-same, lent-some, named-line, stands-at}
 use Rattle.line_tree.proofs.tree.LineTree.line.Goals as goal
 

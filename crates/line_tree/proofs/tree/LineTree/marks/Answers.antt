@@ -1,6 +1,4 @@
-use Rattle.std.proofs.Common.{sym, ap, ◌∙◌}
-use Rattle.line_tree.proofs.Words.{Count, contents, lines_in, records}
-use Rattle.line_lists.specs.Lists.{count_of}
+use Rattle.line_tree.proofs.Words.{sym, ap, ◌∙◌, Count, contents, lines_in, records, count_of}
 use Rattle.line_tree.proofs.PrefixLaws.{count-contents}
 use Rattle.line_tree.proofs.RowLaws.{marks_is}
 use Rattle.line_tree.proofs.TreeLaws.{named-tree, sum-tree}

@@ -1,8 +1,6 @@
-use Rattle.std.proofs.Common.{◌≡◌, ap, sym, ◌∙◌, [], ◌∷◌, length, subst}
+use Rattle.line_tree.proofs.Words.{◌≡◌, ap, sym, ◌∙◌, [], ◌∷◌, length, subst, get-empty, FitsSum, line_count}
+use Rattle.line_tree.proofs.Words.{plain_line, records, name_cmp}
 use Rattle.std.specs.FinMap as finite
-use Rattle.std.specs.FinMap.{get-empty}
-use Rattle.line_tree.proofs.Words.{FitsSum, line_count, plain_line, records}
-use Rattle.raw_nodes.specs.Cells.{name_cmp}
 use Rattle.line_tree.proofs.GrowLaws.{unnamed}
 use Rattle.line_tree.proofs.RootLaws.{first-root, first-root-alone, lone-fits, lone-line, new-line, new-sum}
 use Rattle.line_tree.proofs.TreeLaws.{named-tree}

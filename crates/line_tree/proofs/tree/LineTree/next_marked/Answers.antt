@@ -1,4 +1,4 @@
-use Rattle.raw_nodes.specs.Names.{records}
+use Rattle.line_tree.proofs.Words.{records}
 use Rattle.line_tree.proofs.RootLaws.{stands-few}
 use Rattle.line_tree.proofs.tree.LineTree.next_marked.Goals as goal
 

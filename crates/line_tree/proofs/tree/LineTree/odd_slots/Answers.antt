@@ -1,6 +1,4 @@
-use Rattle.std.proofs.Common.{take, sym, ap, ◌∙◌}
-use Rattle.line_tree.proofs.Words.{Count, contents, lines_in, records}
-use Rattle.line_lists.specs.Lists.{count_of}
+use Rattle.line_tree.proofs.Words.{take, sym, ap, ◌∙◌, Count, contents, lines_in, records, count_of}
 use Rattle.line_tree.proofs.PrefixLaws.{count-first}
 use Rattle.line_tree.proofs.tree.LineTree.odd_slots.Goals as goal
 

@@ -1,7 +1,5 @@
-use Rattle.std.proofs.Common.{◌≡◌, ◌+◌, ◌-◌, ◌++◌, length, take, drop, min, ap, sym, ◌∙◌, subst, arith}
-use Rattle.line_tree.proofs.Words.{FitsSum, plus, total}
-use Rattle.line_lists.specs.Lists.{count_of, more_lines}
-use Rattle.line_tree.specs.Room.{PutsRoom}
+use Rattle.line_tree.proofs.Words.{◌≡◌, ◌+◌, ◌-◌, ◌++◌, length, take, drop, min, ap, sym, ◌∙◌, subst, arith, FitsSum}
+use Rattle.line_tree.proofs.Words.{plus, total, count_of, more_lines, PutsRoom}
 use Rattle.line_tree.proofs.SpendingLaws.{puts-none, room-alone, room-row, spends-alone, spends-keeps, spends-row}
 use Rattle.std.proofs.lemmas.List.{length-take}
 use Rattle.line_tree.proofs.SpliceLaws.{all-in, few-lines, no-fewer, rest-fits, then-fits}

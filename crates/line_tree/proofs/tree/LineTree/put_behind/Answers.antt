@@ -1,12 +1,7 @@
-use Rattle.std.proofs.Common.{◌≡◌, ◌≤◌, ◌+◌, ◌-◌, suc, length, ap, sym, ◌∙◌, subst, arith, Some, [], ◌∷◌}
-use Rattle.std.specs.List.{insert}
-use Rattle.std.proofs.lemmas.List.Edits.{length-insert}
-use Rattle.line_tree.proofs.Words.{FitsSum, Records, blank, line_count, lines_in, plus, records, spares, sum_of, total}
-use Rattle.raw_nodes.proofs.MapLaws.{get_inserted}
+use Rattle.line_tree.proofs.Words.{◌≡◌, ◌≤◌, ◌+◌, ◌-◌, suc, length, ap, sym, ◌∙◌, subst, arith, Some, [], ◌∷◌, insert}
+use Rattle.line_tree.proofs.Words.{length-insert, FitsSum, Records, blank, line_count, lines_in, sum_of, plus, records}
+use Rattle.line_tree.proofs.Words.{spares, total, get_inserted, Inserts, StandsAlone, IsLineAt, levels_at_most}
 use Rattle.std.specs.FinMap as finite
-use Rattle.line_tree.specs.Growth.{Inserts, StandsAlone}
-use Rattle.line_tree.specs.Places.{IsLineAt}
-use Rattle.line_tree.specs.Room.{levels_at_most}
 use Rattle.line_tree.proofs.LevelLaws.{levels-held}
 use Rattle.line_tree.proofs.LineRoomLaws.{one-more, room-falls}
 use Rattle.line_tree.proofs.RoomLaws.{len-line, len-root}

@@ -1,11 +1,6 @@
-use Rattle.std.proofs.Common.{◌≡◌, ◌∷◌, [], ◌+◌, ◌-◌, ◌++◌, length, ap, sym, ◌∙◌, subst, arith, append_assoc}
-use Rattle.std.proofs.Common.{length-append, drop, min, take}
-use Rattle.std.proofs.lemmas.List.{append-nil, nil_from_length}
-use Rattle.std.proofs.lemmas.Option.{none-some}
-use Rattle.line_tree.specs.Places.{IsLineAt}
-use Rattle.line_tree.proofs.Words.{FitsSum, plus, total}
-use Rattle.line_lists.specs.Lists.{count_of}
-use Rattle.line_tree.specs.Room.{PutsRoom}
+use Rattle.line_tree.proofs.Words.{◌≡◌, ◌∷◌, [], ◌+◌, ◌-◌, ◌++◌, length, ap, sym, ◌∙◌, subst, arith, append_assoc}
+use Rattle.line_tree.proofs.Words.{length-append, drop, min, take, append-nil, nil_from_length, none-some, IsLineAt}
+use Rattle.line_tree.proofs.Words.{FitsSum, plus, total, count_of, PutsRoom}
 use Rattle.line_tree.proofs.SpendingLaws.{keeps-self, puts-kept, puts-on}
 use Rattle.line_tree.proofs.SpliceLaws.{few-lines, in-length, next-fits, next-in, none-in, went-within}
 use Rattle.line_tree.proofs.tree.LineTree.put_in.Goals as goal

@@ -1,12 +1,7 @@
-use Rattle.std.proofs.Common.{◌≡◌, ◌≤◌, List, [], ◌∷◌, length, get_or, take, drop, refl, sym, ap, ◌∙◌, subst}
-use Rattle.std.proofs.Common.{append_assoc, arith, length-drop}
-use Rattle.std.proofs.lemmas.List.{length-map, length_push}
-use Rattle.line_tree.proofs.Words.{FitsSum, LineContent, Named, NodePtr, contents, lines_in, plus, records, spares}
-use Rattle.line_tree.proofs.Words.{total, tree_at}
-use Rattle.line_lists.specs.Lists.{count_of}
-use Rattle.line_tree.specs.Growth.{lines_of}
-use Rattle.line_tree.specs.Raising.{Lifts, trees_at, with_lines}
-use Rattle.line_tree.specs.Room.{levels_at_most}
+use Rattle.line_tree.proofs.Words.{◌≡◌, ◌≤◌, List, [], ◌∷◌, length, get_or, take, drop, refl, sym, ap, ◌∙◌, subst}
+use Rattle.line_tree.proofs.Words.{append_assoc, arith, length-drop, length-map, length_push, FitsSum, LineContent}
+use Rattle.line_tree.proofs.Words.{Named, contents, total, NodePtr, lines_in, tree_at, plus, records, spares, count_of}
+use Rattle.line_tree.proofs.Words.{lines_of, Lifts, trees_at, with_lines, levels_at_most}
 use Rattle.line_tree.proofs.InsertLaws.{length-lines}
 use Rattle.line_tree.proofs.LevelLaws.{levels-held}
 use Rattle.line_tree.proofs.NewRowLaws.{drop-length}

@@ -1,7 +1,6 @@
-use Rattle.std.proofs.Common.{◌≡◌, ℕ, ◌+◌, ◌-◌, ◌*◌, ◌/◌, ◌<◌, ◌≤◌, ◌++◌, length, take, drop, sym, ap, ◌∙◌, subst}
-use Rattle.std.proofs.Common.{append_assoc, arith, inl, inr, length-take}
-use Rattle.std.proofs.lemmas.Bool.{cases_lt}
-use Rattle.line_tree.specs.Room.{levels_at_most, most_in_row, nodes_above}
+use Rattle.line_tree.proofs.Words.{◌≡◌, ℕ, ◌+◌, ◌-◌, ◌*◌, ◌/◌, ◌<◌, ◌≤◌, ◌++◌, length, take, drop, sym, ap, ◌∙◌, subst}
+use Rattle.line_tree.proofs.Words.{append_assoc, arith, inl, inr, length-take, cases_lt, levels_at_most, most_in_row}
+use Rattle.line_tree.proofs.Words.{nodes_above}
 use Rattle.line_tree.proofs.LevelLaws.{low-levels}
 use Rattle.line_tree.proofs.RowsLaws.{left-first, left-last, more-contents, more-rows, part-fits}
 use Rattle.line_tree.proofs.tree.LineTree.put_rows.Goals as goal

@@ -1,7 +1,5 @@
-use Rattle.std.proofs.Common.{◌≡◌, ◌+◌, ◌-◌, ◌<◌, ◌≤◌, List, length, take, drop}
-use Rattle.line_tree.specs.Raising.{with_lines}
-use Rattle.line_tree.specs.Room.{nodes_above}
-use Rattle.line_tree.specs.Trees.{Named, contents}
+use Rattle.line_tree.proofs.Words.{◌≡◌, ◌+◌, ◌-◌, ◌<◌, ◌≤◌, List, length, take, drop, with_lines, nodes_above, Named}
+use Rattle.line_tree.proofs.Words.{contents}
 use Rattle.line_tree.proofs.tree.LineTree.put_rows.Given as goal
 
 abbrev pub invariant-loop-lines : goal.invariant-loop-lines

@@ -1,6 +1,4 @@
-use Rattle.std.proofs.Common.{◌≡◌, ◌+◌, length, ap, ◌∙◌, arith}
-use Rattle.line_tree.proofs.Words.{lines_in, records}
-use Rattle.text_model.specs.Splices.{removed}
+use Rattle.line_tree.proofs.Words.{◌≡◌, ◌+◌, length, ap, ◌∙◌, arith, lines_in, records, removed}
 use Rattle.line_tree.proofs.GivingLaws.{Out, branch-out}
 use Rattle.line_tree.proofs.LineRoomLaws.{fewer-lines, length-removed, room-grows}
 use Rattle.line_tree.proofs.LowerLaws.{branch-after, can-lower, can-remove}

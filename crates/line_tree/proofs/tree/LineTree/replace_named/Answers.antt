@@ -1,8 +1,5 @@
-use Rattle.std.proofs.Common.{◌+◌, length, ap, sym, ◌∙◌, subst}
-use Rattle.line_tree.proofs.Words.{FitsSum, line_count, lines_in, plus, records, total}
-use Rattle.line_tree.specs.Places.{IsLineAt}
-use Rattle.line_tree.specs.Room.{line_room}
-use Rattle.line_tree.specs.Taking.{changed}
+use Rattle.line_tree.proofs.Words.{◌+◌, length, ap, sym, ◌∙◌, subst, FitsSum, line_count, lines_in, plus, records}
+use Rattle.line_tree.proofs.Words.{total, IsLineAt, line_room, changed}
 use Rattle.line_tree.proofs.ChangingLaws.{length-changed, stands-changed}
 use Rattle.line_tree.proofs.LineRoomLaws.{room-stays}
 use Rattle.line_tree.proofs.PlaceLaws.{line-within}

@@ -1,10 +1,7 @@
-use Rattle.std.proofs.Common.{◌≡◌, ◌≤◌, ◌+◌, ◌*◌, ◌/◌, length, ap, sym, ◌∙◌, subst, arith}
+use Rattle.line_tree.proofs.Words.{◌≡◌, ◌≤◌, ◌+◌, ◌*◌, ◌/◌, length, ap, sym, ◌∙◌, subst, arith, mul-le-mul_left}
+use Rattle.line_tree.proofs.Words.{lines_in, records, spares, Stands, levels_at_most}
 use Rattle.std.specs.FinMap as finite
-use Rattle.std.proofs.Math.Nat.{mul-le-mul_left}
 use Rattle.std.proofs.lemmas.Result.{on_ok_weaker}
-use Rattle.line_tree.proofs.Words.{lines_in, records, spares}
-use Rattle.line_tree.specs.Growth.{Stands}
-use Rattle.line_tree.specs.Room.{levels_at_most}
 use Rattle.line_tree.proofs.LevelLaws.{many-records, more-lines}
 use Rattle.line_tree.proofs.LineRoomLaws.{on_ok_two, steep-room, wide-room}
 use Rattle.line_tree.proofs.tree.LineTree.reserve_alone.Goals as goal

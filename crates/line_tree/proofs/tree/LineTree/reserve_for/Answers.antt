@@ -1,6 +1,5 @@
-use Rattle.std.proofs.Common.{◌≡◌, ◌≤◌, ◌<◌, ◌+◌, ◌*◌, ◌/◌, ◌^◌, ap, sym, ◌∙◌, subst, arith, rules}
-use Rattle.std.proofs.Math.Nat.{mul-le-mul_left}
-use Rattle.line_tree.specs.Room.{levels_at_most}
+use Rattle.line_tree.proofs.Words.{◌≡◌, ◌≤◌, ◌<◌, ◌+◌, ◌*◌, ◌/◌, ◌^◌, ap, sym, ◌∙◌, subst, arith, rules}
+use Rattle.line_tree.proofs.Words.{mul-le-mul_left, levels_at_most}
 use Rattle.line_tree.proofs.LevelLaws.{more-lines}
 use Rattle.line_tree.proofs.LineRoomLaws.{on_ok_two}
 use Rattle.line_tree.proofs.SpendingLaws.{flat-room}

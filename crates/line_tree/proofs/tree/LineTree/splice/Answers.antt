@@ -1,6 +1,5 @@
-use Rattle.std.proofs.Common.{◌≡◌, ◌+◌, ◌++◌, length, take, drop, min, ap, ◌∙◌, arith}
-use Rattle.std.proofs.lemmas.List.{length-map}
-use Rattle.line_lists.specs.Lists.{more_lines, row_of}
+use Rattle.line_tree.proofs.Words.{◌≡◌, ◌+◌, ◌++◌, length, take, drop, min, ap, ◌∙◌, arith, length-map, more_lines}
+use Rattle.line_tree.proofs.Words.{row_of}
 use Rattle.line_tree.proofs.SpendingLaws.{spends-keeps}
 use Rattle.line_tree.proofs.SpliceLaws.{few-lines, taken-behind}
 use Rattle.line_tree.proofs.tree.LineTree.splice.Goals as goal

@@ -1,7 +1,5 @@
-use Rattle.std.proofs.Common.{length, take, sym, ap, ◌∙◌}
-use Rattle.line_tree.proofs.Words.{Count, contents, lines_in, records}
-use Rattle.line_lists.specs.Texts.{whole}
-use Rattle.line_lists.proofs.CountRows.{count-characters}
+use Rattle.line_tree.proofs.Words.{length, take, sym, ap, ◌∙◌, Count, contents, lines_in, records, whole}
+use Rattle.line_tree.proofs.Words.{count-characters}
 use Rattle.line_tree.proofs.PrefixLaws.{count-first}
 use Rattle.line_tree.proofs.tree.LineTree.start.Goals as goal
 

@@ -1,8 +1,5 @@
-use Rattle.std.proofs.Common.{length, take, sym, subst, ap, ◌∙◌}
-use Rattle.line_tree.proofs.Words.{Count, contents, lines_in, records}
-use Rattle.line_lists.specs.Texts.{whole}
-use Rattle.line_lists.proofs.CountRows.{count-characters}
-use Rattle.line_tree.specs.Places.{IsLineAt}
+use Rattle.line_tree.proofs.Words.{length, take, sym, subst, ap, ◌∙◌, Count, contents, lines_in, records, whole}
+use Rattle.line_tree.proofs.Words.{count-characters, IsLineAt}
 use Rattle.line_tree.proofs.PrefixLaws.{count-first}
 use Rattle.line_tree.proofs.tree.LineTree.start_of.Goals as goal
 

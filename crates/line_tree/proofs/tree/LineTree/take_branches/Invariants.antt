@@ -1,5 +1,4 @@
-use Rattle.std.proofs.Common.{◌-◌, ◌≤◌}
-use Rattle.line_tree.specs.Leaving.{Leaves}
+use Rattle.line_tree.proofs.Words.{◌-◌, ◌≤◌, Leaves}
 use Rattle.line_tree.proofs.tree.LineTree.take_branches.Given as goal
 
 abbrev pub invariant-loop-end : goal.invariant-loop-end

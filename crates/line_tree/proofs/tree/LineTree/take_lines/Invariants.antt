@@ -1,5 +1,4 @@
-use Rattle.std.proofs.Common.{◌≡◌, ◌+◌, ◌++◌, take, drop}
-use Rattle.line_tree.specs.Room.{KeepsRoom}
+use Rattle.line_tree.proofs.Words.{◌≡◌, ◌+◌, ◌++◌, take, drop, KeepsRoom}
 use Rattle.line_tree.proofs.tree.LineTree.take_lines.Given as goal
 
 abbrev pub invariant-loop : goal.invariant-loop

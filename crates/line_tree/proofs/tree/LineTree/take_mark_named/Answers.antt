@@ -1,9 +1,5 @@
-use Rattle.std.proofs.Common.{◌+◌, length, ap, sym, ◌∙◌, subst}
-use Rattle.line_tree.proofs.Words.{counting, lines_in, no_text, records, total}
-use Rattle.line_lists.specs.Edits.{without_mark}
-use Rattle.line_tree.specs.Places.{IsLineAt}
-use Rattle.line_tree.specs.Room.{line_room}
-use Rattle.line_tree.specs.Taking.{changed}
+use Rattle.line_tree.proofs.Words.{◌+◌, length, ap, sym, ◌∙◌, subst, counting, no_text, lines_in, records, total}
+use Rattle.line_tree.proofs.Words.{without_mark, IsLineAt, line_room, changed}
 use Rattle.line_tree.proofs.ChangingLaws.{length-changed, stands-changed}
 use Rattle.line_tree.proofs.LineRoomLaws.{room-stays}
 use Rattle.line_tree.proofs.PlaceLaws.{line-within}

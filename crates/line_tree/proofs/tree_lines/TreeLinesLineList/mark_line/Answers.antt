@@ -1,5 +1,4 @@
-use Rattle.std.proofs.Common.{◌≡◌, Some, sym, ap, ◌∙◌}
-use Rattle.line_tree.specs.MarkTable.{holder, noted}
+use Rattle.line_tree.proofs.Words.{◌≡◌, Some, sym, ap, ◌∙◌, holder, noted}
 use Rattle.line_tree.proofs.ListedLaws.{held, held-name, held-next, nowhere}
 use Rattle.line_tree.proofs.tree_lines.TreeLinesLineList.mark_line.Goals as goal
 

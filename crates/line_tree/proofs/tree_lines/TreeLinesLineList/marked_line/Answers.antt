@@ -1,5 +1,4 @@
-use Rattle.std.proofs.Common.{◌≡◌, sym, ap, ◌∙◌}
-use Rattle.line_tree.specs.MarkTable.{holder, noted}
+use Rattle.line_tree.proofs.Words.{◌≡◌, sym, ap, ◌∙◌, holder, noted}
 use Rattle.line_tree.proofs.ListedLaws.{held, held-name, held-next, listed, nowhere}
 use Rattle.line_tree.proofs.tree_lines.TreeLinesLineList.marked_line.Goals as goal
 

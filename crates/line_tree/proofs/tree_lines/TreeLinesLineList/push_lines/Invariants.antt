@@ -1,7 +1,5 @@
-use Rattle.std.proofs.Common.{◌≡◌, ◌++◌, IfSome, chars, slice_range, string_bytes}
-use Rattle.line_tree.proofs.Words.{characters, contents}
-use Rattle.line_lists.specs.Texts.{whole}
-use Rattle.line_tree.specs.Places.{IsLineAt}
+use Rattle.line_tree.proofs.Words.{◌≡◌, ◌++◌, IfSome, chars, slice_range, string_bytes, characters, contents, whole}
+use Rattle.line_tree.proofs.Words.{IsLineAt}
 use Rattle.line_tree.proofs.tree_lines.TreeLinesLineList.push_lines.Given as goal
 
 abbrev pub invariant-loop-index : goal.invariant-loop-index

@@ -1,9 +1,5 @@
-use Rattle.std.proofs.Common.{◌≡◌, ◌+◌, length, vec_len, subst, sym, ap, ◌∙◌, arith, slice_range}
-use Rattle.std.specs.List.{All}
-use Rattle.line_tree.proofs.Words.{LineContent, contents}
-use Rattle.line_lists.specs.Lists.{AreLines, NumbersBelow, more_lines, row_of}
-use Rattle.line_tree.specs.Room.{HasRoom}
-use Rattle.line_tree.specs.MarkTable.{holder, lines_without}
+use Rattle.line_tree.proofs.Words.{◌≡◌, ◌+◌, length, vec_len, subst, sym, ap, ◌∙◌, arith, slice_range, All, LineContent}
+use Rattle.line_tree.proofs.Words.{contents, AreLines, NumbersBelow, more_lines, row_of, HasRoom, holder, lines_without}
 use Rattle.line_tree.proofs.ListedLaws.{Comes, comes-below, comes-contents, comes-long, comes-others, end-fits}
 use Rattle.line_tree.proofs.ListedLaws.{fits-counted, gone-fits, some-left}
 use Rattle.line_tree.proofs.SpendingLaws.{keeps-room}

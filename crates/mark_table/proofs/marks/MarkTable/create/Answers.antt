@@ -1,12 +1,7 @@
-use Rattle.std.proofs.Common.{◌≡◌, ℕ, List, refl, ap, sym, ◌∙◌, ◌++◌, ◌∷◌, [], ◌+◌, subst, slice_set}
-use Rattle.std.specs.Prelude.{chars, string_bytes}
-use Rattle.name_list.specs.Moves.{without}
+use Rattle.mark_table.proofs.Words.{◌≡◌, ℕ, List, refl, ap, sym, ◌∙◌, ◌++◌, ◌∷◌, [], ◌+◌, subst, slice_set, chars}
+use Rattle.mark_table.proofs.Words.{string_bytes, without, Names, Gravity, Right, AreKept, marks_kept, with_gravity_for}
+use Rattle.mark_table.proofs.Words.{Mark, SharedMarks, is_named, number_of, numbers_of, first_number, IsLeastFree}
 use Rattle.name_list.specs.Names as list
-use Rattle.name_list.specs.Names.{Names}
-use Rattle.text_model.specs.declared.places.Gravity.{Gravity}
-use Rattle.text_model.specs.declared.places.Gravity.TheVariants.{Right}
-use Rattle.mark_table.specs.Kept.{AreKept, marks_kept, with_gravity_for}
-use Rattle.mark_table.specs.SharedMarks.{Mark, SharedMarks, is_named, number_of, numbers_of, first_number, IsLeastFree}
 use Rattle.mark_table.proofs.MarkLaws.{no_place, place_of_mark, marks-back, marks-push, marks-placed, placed}
 use Rattle.mark_table.proofs.MarkLaws.{least_within, AreKept-push, IsLeastFree-number}
 use Rattle.mark_table.proofs.marks.MarkTable.create.Goals as goal

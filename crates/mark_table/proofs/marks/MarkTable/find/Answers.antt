@@ -1,6 +1,4 @@
-use Rattle.std.proofs.Common.{ap, sym, ◌∙◌}
-use Rattle.std.specs.Prelude.{chars}
-use Rattle.std.specs.Option.{option_map}
+use Rattle.mark_table.proofs.Words.{ap, sym, ◌∙◌, chars, option_map}
 use Rattle.mark_table.proofs.MarkLaws.{place_of_mark, number_there, no_number}
 use Rattle.mark_table.proofs.marks.MarkTable.find.Goals as goal
 

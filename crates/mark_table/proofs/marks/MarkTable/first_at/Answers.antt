@@ -1,11 +1,6 @@
-use Rattle.std.proofs.Common.{length, sym, ◌∙◌, arith}
-use Rattle.std.proofs.lemmas.List.{length-map}
-use Rattle.std.proofs.lemmas.Option.{slice_get_within}
-use Rattle.text_model.specs.MarkOrder.{marks_at}
-use Rattle.mark_table.specs.SharedMarks.{Mark, numbers_of}
+use Rattle.mark_table.proofs.Words.{length, sym, ◌∙◌, arith, length-map, slice_get_within, marks_at, Mark, numbers_of}
 use Rattle.mark_table.proofs.StoreLaws.{mark_at_index}
-use Rattle.mark_table.proofs.OneOffset.{Found-more, Least-more, IsFirstAt-all, first-here}
-use Rattle.mark_table.proofs.OneOffset.{none-behind, none-more}
+use Rattle.mark_table.proofs.OneOffset.{Found-more, Least-more, IsFirstAt-all, first-here, none-behind, none-more}
 use Rattle.mark_table.proofs.marks.MarkTable.first_at.Goals as goal
 
 pub overflow_add-index : goal.overflow_add-index

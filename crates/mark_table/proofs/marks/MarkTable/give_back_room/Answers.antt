@@ -1,5 +1,4 @@
-use Rattle.std.proofs.Common.{ap, ◌∙◌}
-use Rattle.mark_table.specs.Kept.{marks_kept}
+use Rattle.mark_table.proofs.Words.{ap, ◌∙◌, marks_kept}
 use Rattle.mark_table.proofs.MarkLaws.{marks-take}
 use Rattle.mark_table.proofs.marks.MarkTable.give_back_room.Goals as goal
 

@@ -1,9 +1,5 @@
-use Rattle.std.proofs.Common.{sym, ◌∙◌, arith, inl, inr}
-use Rattle.std.proofs.lemmas.Bool.{cases_lt}
-use Rattle.std.proofs.lemmas.List.{length-map}
-use Rattle.std.proofs.lemmas.Option.{slice_get_within}
-use Rattle.text_model.specs.MarkOrder.{marks_at}
-use Rattle.mark_table.specs.SharedMarks.{Mark, numbers_of}
+use Rattle.mark_table.proofs.Words.{sym, ◌∙◌, arith, inl, inr, cases_lt, length-map, slice_get_within, marks_at, Mark}
+use Rattle.mark_table.proofs.Words.{numbers_of}
 use Rattle.mark_table.proofs.StoreLaws.{mark_at_index}
 use Rattle.mark_table.proofs.OneOffset.{FoundBack-more, Greatest-all, Greatest-more, last-here, last_within}
 use Rattle.mark_table.proofs.OneOffset.{none-before}

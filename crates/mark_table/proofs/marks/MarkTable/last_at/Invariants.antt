@@ -1,8 +1,4 @@
-use Rattle.std.proofs.Common.{◌≡◌, ◌-◌, ◌<◌, ◌≤◌, ℕ, Some, length, slice_get}
-use Rattle.text_model.specs.declared.places.MarkNo.{MarkNo}
-use Rattle.text_model.specs.MarkOrder.{marks_at}
-use Rattle.mark_table.specs.SharedMarks.{numbers_of}
-use Rattle.mark_table.specs.Walk.{IsAt}
+use Rattle.mark_table.proofs.Words.{◌≡◌, ◌-◌, ◌<◌, ◌≤◌, ℕ, Some, length, slice_get, MarkNo, marks_at, numbers_of, IsAt}
 use Rattle.mark_table.proofs.marks.MarkTable.last_at.Given as goal
 
 abbrev pub invariant-loop-number : goal.invariant-loop-number

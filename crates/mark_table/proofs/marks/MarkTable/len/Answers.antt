@@ -1,5 +1,4 @@
-use Rattle.std.proofs.Common.{subst}
-use Rattle.mark_table.specs.SharedMarks.{AreMarks}
+use Rattle.mark_table.proofs.Words.{subst, AreMarks}
 use Rattle.mark_table.proofs.MarkLaws.{AreMarks-kept}
 use Rattle.mark_table.proofs.marks.MarkTable.len.Goals as goal
 

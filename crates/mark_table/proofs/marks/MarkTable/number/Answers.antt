@@ -1,7 +1,4 @@
-use Rattle.std.proofs.Common.{ap, ◌∙◌, ◌+◌, Some, sym}
-use Rattle.std.specs.Option.{option_map}
-use Rattle.std.proofs.lemmas.Option.{slice_get-map}
-use Rattle.mark_table.specs.SharedMarks.{first_number}
+use Rattle.mark_table.proofs.Words.{ap, ◌∙◌, ◌+◌, Some, sym, option_map, slice_get-map, first_number}
 use Rattle.mark_table.proofs.MarkLaws.{numbers_seen}
 use Rattle.mark_table.proofs.marks.MarkTable.number.Goals as goal
 

@@ -1,7 +1,5 @@
+use Rattle.mark_table.proofs.Words.{SharedMarks, numbers_of, Contains, subst, Some, ◌≡◌, slice_get, MatchOption}
 use Rattle.mark_table.proofs.MarkLaws.{mark_with, no_mark_with, taken_off, not_taken_off}
-use Rattle.mark_table.specs.SharedMarks.{SharedMarks, numbers_of}
-use Rattle.std.proofs.Common.{Contains, subst, Some, ◌≡◌, slice_get}
-use Rattle.std.specs.Option.{MatchOption}
 use Rattle.mark_table.proofs.marks.MarkTable.place.Goals as goal
 
 pub returns-in_err-number : goal.returns-in_err-number

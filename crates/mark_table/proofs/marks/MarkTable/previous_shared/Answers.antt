@@ -1,6 +1,4 @@
-use Rattle.std.proofs.Common.{sym, ◌∙◌, arith}
-use Rattle.std.proofs.lemmas.List.{length-map}
-use Rattle.mark_table.specs.SharedMarks.{Mark, numbers_of}
+use Rattle.mark_table.proofs.Words.{sym, ◌∙◌, arith, length-map, Mark, numbers_of}
 use Rattle.mark_table.proofs.SharedWalk.{Ahead-start, TurnsBack-bound, TurnsBack-previous, Ahead-previous, IsLast-found}
 use Rattle.mark_table.proofs.SharedWalk.{IsLast-none, IsLast-no_previous}
 use Rattle.mark_table.proofs.marks.MarkTable.previous_shared.Goals as goal

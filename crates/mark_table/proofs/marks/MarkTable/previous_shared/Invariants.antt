@@ -1,5 +1,4 @@
-use Rattle.std.proofs.Common.{◌≤◌}
-use Rattle.mark_table.specs.SharedMarks.{numbers_of}
+use Rattle.mark_table.proofs.Words.{◌≤◌, numbers_of}
 use Rattle.mark_table.proofs.SharedWalk.{Ahead, TurnsBack}
 use Rattle.mark_table.proofs.marks.MarkTable.previous_shared.Given as goal
 

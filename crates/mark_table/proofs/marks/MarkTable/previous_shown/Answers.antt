@@ -1,6 +1,4 @@
-use Rattle.std.proofs.Common.{ap, sym, ◌∙◌}
-use Rattle.mark_table.specs.Order.{previous_shown, usable}
-use Rattle.mark_table.specs.SharedMarks.{numbers_of}
+use Rattle.mark_table.proofs.Words.{ap, sym, ◌∙◌, previous_shown, usable, numbers_of}
 use Rattle.mark_table.proofs.OrderLaws.{previous_from_place, previous_from_mark}
 use Rattle.mark_table.proofs.marks.MarkTable.previous_shown.Goals as goal
 

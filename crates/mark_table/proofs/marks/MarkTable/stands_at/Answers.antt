@@ -1,8 +1,4 @@
-use Rattle.std.proofs.Common.{ap, sym, ◌∙◌, arith}
-use Rattle.std.proofs.lemmas.Bool.Decides.{nat_tests}
-use Rattle.std.proofs.lemmas.Option.{none-some, same_Some}
-use Rattle.text_model.specs.declared.places.Place.{Place}
-use Rattle.mark_table.specs.SharedMarks.{numbers_of}
+use Rattle.mark_table.proofs.Words.{ap, sym, ◌∙◌, arith, nat_tests, none-some, same_Some, Place, numbers_of}
 use Rattle.mark_table.proofs.StoreLaws.{stands-here, stands-there}
 use Rattle.mark_table.proofs.marks.MarkTable.stands_at.Goals as goal
 

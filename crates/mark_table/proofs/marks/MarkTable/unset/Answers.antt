@@ -1,8 +1,4 @@
-use Rattle.std.proofs.Common.{ap, sym, ◌∙◌}
-use Rattle.std.specs.Prelude.{chars}
-use Rattle.name_list.specs.Moves.{without}
-use Rattle.mark_table.specs.Kept.{marks_kept}
-use Rattle.mark_table.specs.SharedMarks.{SharedMarks, is_named}
+use Rattle.mark_table.proofs.Words.{ap, sym, ◌∙◌, chars, without, marks_kept, SharedMarks, is_named}
 use Rattle.mark_table.proofs.MarkLaws.{place_of_mark, marks-remove, marks-keep, AreKept-remove}
 use Rattle.mark_table.proofs.marks.MarkTable.unset.Goals as goal
 

@@ -1,6 +1,4 @@
-use Rattle.std.proofs.Common.{ap, subst, sym}
-use Rattle.std.specs.Map.{values_of}
-use Rattle.name_list.specs.Places.{AreKept}
+use Rattle.name_list.proofs.Words.{ap, subst, sym, values_of, AreKept}
 use Rattle.name_list.proofs.PlaceLaws.{AreKept-trimmed}
 use Rattle.name_list.proofs.names.NameList.give_back_room.Goals as goal
 

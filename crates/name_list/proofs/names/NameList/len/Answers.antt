@@ -1,5 +1,4 @@
-use Rattle.std.proofs.Common.{subst}
-use Rattle.name_list.specs.Names.{AreNames}
+use Rattle.name_list.proofs.Words.{subst, AreNames}
 use Rattle.name_list.proofs.ViewLaws.{AreNames-kept}
 use Rattle.name_list.proofs.names.NameList.len.Goals as goal
 

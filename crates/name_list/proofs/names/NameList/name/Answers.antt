@@ -1,9 +1,4 @@
-use Rattle.std.proofs.Common.{Some, ap, sym, ◌∙◌}
-use Rattle.std.specs.Option.{option_map}
-use Rattle.std.specs.Prelude.{chars}
-use Rattle.std.proofs.lemmas.Option.{slice_get-map}
-use Rattle.name_list.specs.Names.{Named}
-use Rattle.name_list.specs.Places.{named}
+use Rattle.name_list.proofs.Words.{Some, ap, sym, ◌∙◌, option_map, chars, slice_get-map, Named, named}
 use Rattle.name_list.proofs.names.NameList.name.Goals as goal
 
 pub returns : goal.returns

@@ -1,5 +1,5 @@
-use Rattle.std.proofs.Common.{rules, tests, sym, ◌∙◌, String, Global}
-use Rattle.std.specs.Prelude.{bytes_eq, string_bytes}
+use Rattle.name_list.proofs.Words.{rules, tests, sym, ◌∙◌, Global, bytes_eq, string_bytes}
+use Rattle.std.proofs.Common.{String}
 use Rattle.std.proofs.lemmas.Iterator.Consumers.{YieldsList-from_rest}
 use Rattle.std.proofs.lemmas.Iterator.Search.{position_from_yields_List}
 use Rattle.name_list.proofs.ViewLaws.{place_seen}

@@ -1,9 +1,5 @@
-use Rattle.std.proofs.Common.{[], ◌∷◌, ◌++◌, sym, ap, subst, ◌∙◌, arith, chars}
-use Rattle.std.specs.List.{AllByRecursion, IsDistinct}
-use Rattle.command_effects.specs.Words.{is_same}
-use Rattle.documents.specs.Documents.{Document}
-use Rattle.documents.specs.WellFormed.{IsWellFormedDocument}
-use Rattle.peers.specs.Windows.{homes_of, names_in}
+use Rattle.peers.proofs.Words.{[], ◌∷◌, ◌++◌, sym, ap, subst, ◌∙◌, arith, chars, AllByRecursion, IsDistinct, is_same}
+use Rattle.peers.proofs.Words.{Document, IsWellFormedDocument, homes_of, names_in}
 use Rattle.peers.proofs.WorldLaws.{absent-home, added-homes, all-added, homes-windows}
 use Rattle.peers.proofs.document_list.Documents.add.Goals as goal
 

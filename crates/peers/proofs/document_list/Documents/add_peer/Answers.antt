@@ -1,12 +1,7 @@
-use Rattle.std.proofs.Common.{◌≤◌, ◌+◌, length, slice_set, take, sym, ap, subst, ◌∙◌, arith, chars, remove}
-use Rattle.std.specs.List.{IsDistinct}
-use Rattle.std.proofs.lemmas.List.Edits.{length-insert}
-use Rattle.command_effects.specs.Words.{is_among, is_same}
-use Rattle.documents.specs.Documents.{Document}
-use Rattle.documents.specs.WellFormed.{IsWellFormedDocument, window_names}
-use Rattle.documents.specs.Widgets.{with_peer}
-use Rattle.peers.specs.Windows.{Homes, homes_of, names_in}
-use Rattle.peers.specs.World.{windows_of}
+use Rattle.peers.proofs.Words.{◌≤◌, ◌+◌, length, slice_set, take, sym, ap, subst, ◌∙◌, arith, chars, IsDistinct}
+use Rattle.peers.proofs.Words.{length-insert, is_among, is_same, Document, IsWellFormedDocument, window_names}
+use Rattle.peers.proofs.Words.{with_peer, Homes, homes_of, names_in, windows_of}
+use Rattle.std.proofs.Common.{remove}
 use Rattle.peers.proofs.WorldLaws.{absent-home, all-at, all-changed, front-windows, homes-windows, own-absent}
 use Rattle.peers.proofs.WorldLaws.{own-count, peer-homes, read-is, remove-insert, same-homes, windows-count}
 use Rattle.peers.proofs.document_list.Documents.add_peer.Goals as goal

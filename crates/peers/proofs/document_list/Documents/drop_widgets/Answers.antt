@@ -1,12 +1,6 @@
-use Rattle.std.proofs.Common.{drop, filter, length, map, sym, ap, subst, ◌∙◌, arith}
-use Rattle.std.specs.List.{AllByRecursion, IsDistinct}
-use Rattle.std.proofs.lemmas.List.{take_at}
-use Rattle.tcl_words.specs.Unread.{texts_of}
-use Rattle.command_effects.specs.Words.{is_same}
-use Rattle.documents.specs.WellFormed.{IsWellFormedDocument}
-use Rattle.documents.specs.Widgets.{keeps_some, thinned}
-use Rattle.peers.specs.Windows.{names_in}
-use Rattle.peers.specs.World.{windows_of}
+use Rattle.peers.proofs.Words.{drop, filter, length, map, sym, ap, subst, ◌∙◌, arith, AllByRecursion, IsDistinct}
+use Rattle.peers.proofs.Words.{take_at, texts_of, is_same, IsWellFormedDocument, keeps_some, thinned, names_in}
+use Rattle.peers.proofs.Words.{windows_of}
 use Rattle.peers.proofs.WorldLaws.{all-kept, homes-windows, left-documents, left-homes}
 use Rattle.peers.proofs.document_list.Documents.drop_widgets.Goals as goal
 

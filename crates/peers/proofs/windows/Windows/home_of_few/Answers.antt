@@ -1,9 +1,7 @@
-use Rattle.std.proofs.Common.{rules, tests, ◌≡◌, String, Global, ap, sym, ◌∙◌}
-use Rattle.std.specs.Map.{keys_of}
-use Rattle.std.specs.Prelude.{bytes_eq, chars, position, string_bytes}
+use Rattle.peers.proofs.Words.{rules, tests, ◌≡◌, String, Global, ap, sym, ◌∙◌, keys_of, bytes_eq, position, home_in}
+use Rattle.std.specs.Prelude.{chars, string_bytes}
 use Rattle.std.proofs.lemmas.Iterator.Consumers.{YieldsList-from_rest}
 use Rattle.std.proofs.lemmas.Iterator.Search.{position_from_yields_List}
-use Rattle.peers.specs.Windows.{home_in}
 use Rattle.peers.proofs.WindowLaws.{home-at, home-none}
 use Rattle.peers.proofs.windows.Windows.home_of_few.Goals as goal
 use Rattle.peers.proofs.windows.Windows.home_of_few.Goals.{After-position}

@@ -1,7 +1,4 @@
-use Rattle.std.proofs.Common.{subst}
-use Rattle.std.specs.List.{IsDistinct}
-use Rattle.command_effects.specs.Words.{is_same}
-use Rattle.peers.specs.Windows.{Homes, names_in}
+use Rattle.peers.proofs.Words.{subst, IsDistinct, is_same, Homes, names_in}
 use Rattle.peers.proofs.WindowLaws.{names-distinct}
 use Rattle.peers.proofs.windows.Windows.len.Goals as goal
 

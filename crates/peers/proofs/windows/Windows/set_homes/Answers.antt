@@ -1,6 +1,4 @@
-use Rattle.std.proofs.Common.{length, ap, arith}
-use Rattle.std.proofs.lemmas.List.{length-map}
-use Rattle.peers.specs.Windows.{home_kept}
+use Rattle.peers.proofs.Words.{length, ap, arith, length-map, home_kept}
 use Rattle.peers.proofs.WindowLaws.{fills-more}
 use Rattle.peers.proofs.windows.Windows.set_homes.Goals as goal
 

@@ -1,10 +1,6 @@
-use Rattle.std.proofs.Common.{ap, sym, not, map, ◌∙◌}
+use Rattle.peers.proofs.Words.{ap, sym, not, map, ◌∙◌, slice_get-map, texts_of, is_among, home_kept}
 use Rattle.std.specs.Option.{option_map}
 use Rattle.std.specs.Prelude.{chars}
-use Rattle.std.proofs.lemmas.Option.{slice_get-map}
-use Rattle.tcl_words.specs.Unread.{texts_of}
-use Rattle.command_effects.specs.Words.{is_among}
-use Rattle.peers.specs.Windows.{home_kept}
 use Rattle.peers.proofs.WindowLaws.{homes-removed, kept_from, kept-more, kept-removed}
 use Rattle.peers.proofs.windows.Windows.take_names.Goals as goal
 

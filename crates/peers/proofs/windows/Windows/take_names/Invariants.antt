@@ -1,7 +1,4 @@
-use Rattle.std.proofs.Common.{◌≡◌, ◌-◌, length, filter, not, map}
-use Rattle.tcl_words.specs.Unread.{texts_of}
-use Rattle.command_effects.specs.Words.{is_among}
-use Rattle.peers.specs.Windows.{home_kept}
+use Rattle.peers.proofs.Words.{◌≡◌, ◌-◌, length, filter, not, map, texts_of, is_among, home_kept}
 use Rattle.peers.proofs.WindowLaws.{kept_from}
 use Rattle.peers.proofs.windows.Windows.take_names.Given as goal
 

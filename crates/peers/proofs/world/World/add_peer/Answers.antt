@@ -1,11 +1,6 @@
-use Rattle.std.proofs.Common.{◌≡◌, ◌<◌, false, length, sym, ap, subst, ◌∙◌, arith, chars, nat_le}
-use Rattle.std.proofs.lemmas.Bool.Decides.{nat_tests}
-use Rattle.command_effects.specs.Words.{is_among}
-use Rattle.command_effects.specs.declared.answers.Fault.TheVariants.{TooManyWidgets, WindowExists}
-use Rattle.documents.specs.Promise.{Change}
-use Rattle.peers.specs.Step.{changed}
-use Rattle.peers.specs.WellFormed.{IsWellFormed}
-use Rattle.peers.specs.World.{World, all_windows, document_at, windows_of}
+use Rattle.peers.proofs.Words.{◌≡◌, ◌<◌, false, length, sym, ap, subst, ◌∙◌, arith, chars, nat_le, nat_tests, is_among}
+use Rattle.peers.proofs.Words.{TooManyWidgets, WindowExists, Change, changed, IsWellFormed, World, all_windows}
+use Rattle.peers.proofs.Words.{document_at, windows_of}
 use Rattle.peers.proofs.MakesLaws.{changed-refuses, makes-refused}
 use Rattle.peers.proofs.WorldLaws.{formed-peer, peer-many, peer-new, peer-taken, with_all}
 use Rattle.peers.proofs.world.World.add_peer.Goals as goal

@@ -1,11 +1,5 @@
-use Rattle.std.proofs.Common.{◌≡◌, Err, None, [], true, rules, ap, subst, chars, is_ok}
-use Rattle.tcl_words.specs.Unread.{texts_of}
-use Rattle.command_effects.specs.declared.answers.Fault.TheVariants.{Memory}
-use Rattle.peers.specs.Step.{on_widget, step}
-use Rattle.peers.specs.MarksTold.{MarksTellAt}
-use Rattle.peers.specs.Told.{TellsAt, answer_of, no_edit}
-use Rattle.peers.specs.WellFormed.{IsWellFormed}
-use Rattle.peers.specs.World.{home}
+use Rattle.peers.proofs.Words.{◌≡◌, Err, None, [], true, rules, ap, subst, chars, is_ok, texts_of, Memory, on_widget}
+use Rattle.peers.proofs.Words.{step, MarksTellAt, TellsAt, answer_of, no_edit, IsWellFormed, home}
 use Rattle.peers.proofs.MakesLaws.{makes-memory}
 use Rattle.peers.proofs.MarksToldLaws.{marks-call}
 use Rattle.peers.proofs.ToldStepLaws.{tells-call}

@@ -1,12 +1,6 @@
-use Rattle.std.proofs.Common.{◌≡◌, ◌+◌, ◌<◌, length, true, sym, ap, subst, ◌∙◌, chars}
-use Rattle.tcl_words.specs.Unread.{texts_of}
-use Rattle.documents.specs.Documents.{Document, widget_at}
-use Rattle.documents.specs.Kept.{is_window_name}
-use Rattle.peers.specs.Options.{settings_given}
-use Rattle.peers.specs.Step.{Makes, changed}
-use Rattle.peers.specs.WellFormed.{IsWellFormed}
-use Rattle.peers.specs.Widgets.{peer_settings}
-use Rattle.peers.specs.World.{World, all_windows, document_at}
+use Rattle.peers.proofs.Words.{◌≡◌, ◌+◌, ◌<◌, length, true, sym, ap, subst, ◌∙◌, chars, texts_of, Document, widget_at}
+use Rattle.peers.proofs.Words.{is_window_name, settings_given, Makes, changed, IsWellFormed, peer_settings, World}
+use Rattle.peers.proofs.Words.{all_windows, document_at}
 use Rattle.peers.proofs.MakesLaws.{changed-refuses, makes-refused}
 use Rattle.peers.proofs.PeerLaws.{bad-peer, good-peer}
 use Rattle.peers.proofs.WorldLaws.{read-is}

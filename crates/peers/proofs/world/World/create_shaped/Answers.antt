@@ -1,6 +1,4 @@
-use Rattle.std.proofs.Common.{sym, ap, subst, ◌∙◌}
-use Rattle.tcl_words.specs.Unread.{texts_of}
-use Rattle.peers.specs.Step.{Makes, create, create_shaped}
+use Rattle.peers.proofs.Words.{sym, ap, subst, ◌∙◌, texts_of, Makes, create, create_shaped}
 use Rattle.peers.proofs.ArgumentLaws.{arguments-part}
 use Rattle.peers.proofs.world.World.create_shaped.Goals as goal
 

@@ -1,5 +1,4 @@
-use Rattle.std.proofs.Common.{refl, ap}
-use Rattle.tcl_words.specs.Unread.{texts_of}
+use Rattle.peers.proofs.Words.{refl, ap, texts_of}
 use Rattle.peers.proofs.WorldLaws.{formed-left, with_all}
 use Rattle.peers.proofs.world.World.destroy.Goals as goal
 

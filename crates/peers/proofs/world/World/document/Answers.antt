@@ -1,6 +1,5 @@
-use Rattle.std.proofs.Common.{◌≡◌, None, Some, arith, sym, ap, ◌∙◌, chars, option_map}
-use Rattle.peers.specs.Windows.{home_in}
-use Rattle.peers.specs.World.{World, document_at, home}
+use Rattle.peers.proofs.Words.{◌≡◌, None, Some, arith, sym, ap, ◌∙◌, chars, option_map, home_in, World, document_at}
+use Rattle.peers.proofs.Words.{home}
 use Rattle.peers.proofs.HomeStepLaws.{home-is}
 use Rattle.peers.proofs.WorldLaws.{home-found, read-is}
 use Rattle.peers.proofs.world.World.document.Goals as goal

@@ -1,15 +1,7 @@
-use Rattle.std.proofs.Common.{◌≡◌, ◌<◌, Some, true, false, is_some, length, slice_set, sym, ap, subst, ◌∙◌, arith}
-use Rattle.std.proofs.Common.{IfErr, chars}
-use Rattle.tcl_words.specs.Unread.{texts_of}
-use Rattle.command_effects.specs.Words.{is_among}
-use Rattle.documents.specs.Documents.{Document, widget_at}
-use Rattle.documents.specs.Promise.{Does}
-use Rattle.documents.specs.WellFormed.{IsWellFormedDocument, window_names}
-use Rattle.documents.specs.Widgets.{widget_named}
-use Rattle.peers.specs.Commands.{command}
-use Rattle.peers.specs.Widgets.{peer_create}
-use Rattle.peers.specs.Step.{Makes, Outcome, changed, on_found}
-use Rattle.peers.specs.World.{World, all_windows, document_at, home, windows_of}
+use Rattle.peers.proofs.Words.{◌≡◌, ◌<◌, Some, true, false, is_some, length, slice_set, sym, ap, subst, ◌∙◌, arith}
+use Rattle.peers.proofs.Words.{IfErr, chars, texts_of, is_among, Document, widget_at, Does, IsWellFormedDocument}
+use Rattle.peers.proofs.Words.{window_names, widget_named, command, peer_create, Makes, Outcome, changed, on_found}
+use Rattle.peers.proofs.Words.{World, all_windows, document_at, home, windows_of}
 use Rattle.peers.proofs.ArgumentLaws.{arguments-part}
 use Rattle.peers.proofs.HomeStepLaws.{does-form, does-homes, does-refuse, does-world, found-change, home-is}
 use Rattle.peers.proofs.HomeStepLaws.{peer-command}

@@ -1,12 +1,6 @@
-use Rattle.std.proofs.Common.{◌≡◌, Some, None, sym, ap, subst, ◌∙◌, chars}
-use Rattle.tcl_words.specs.Unread.{texts_of}
-use Rattle.command_effects.specs.Faults.{shape_fault}
-use Rattle.command_effects.specs.declared.answers.Fault.TheVariants.{InvalidCommandName}
-use Rattle.documents.specs.Widgets.{widget_named}
-use Rattle.peers.specs.Step.{Makes, changed, on_home, refuses}
-use Rattle.peers.specs.WellFormed.{IsWellFormed}
-use Rattle.peers.specs.Windows.{home_in}
-use Rattle.peers.specs.World.{World, all_windows, document_at, home}
+use Rattle.peers.proofs.Words.{◌≡◌, Some, None, sym, ap, subst, ◌∙◌, chars, texts_of, shape_fault, InvalidCommandName}
+use Rattle.peers.proofs.Words.{widget_named, Makes, changed, on_home, refuses, IsWellFormed, home_in, World}
+use Rattle.peers.proofs.Words.{all_windows, document_at, home}
 use Rattle.peers.proofs.HomeStepLaws.{bad-command, found-change, home-is, some-widget}
 use Rattle.peers.proofs.MakesLaws.{changed-refuses, makes-refused}
 use Rattle.peers.proofs.WorldLaws.{home-found}

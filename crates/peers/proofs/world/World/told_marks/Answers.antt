@@ -1,18 +1,7 @@
-use Rattle.std.proofs.Common.{◌≡◌, ℕ, List, Option, None, Some, Ok, Bool, true, false, is_some, arith, sym, ap, subst}
-use Rattle.std.proofs.Common.{◌∙◌, IfOk, chars, is_ok}
-use Rattle.tcl_words.specs.Unread.{texts_of}
-use Rattle.text_model.specs.LimitTable.{LimitTable}
-use Rattle.command_table.specs.Reading.{reading}
-use Rattle.command_effects.specs.Words.{is_among}
-use Rattle.documents.specs.Documents.{Document, widget_at}
-use Rattle.documents.specs.MarksTold.{ForetellsMarks}
-use Rattle.documents.specs.WellFormed.{window_names}
-use Rattle.documents.specs.Widgets.{widget_named}
-use Rattle.peers.specs.Commands.{command}
-use Rattle.peers.specs.MarksTold.{MarksTellAt, edits_reading, edits_text}
-use Rattle.peers.specs.Step.{on_widget}
-use Rattle.peers.specs.Windows.{home_in}
-use Rattle.peers.specs.World.{World, document_at, home, windows_of}
+use Rattle.peers.proofs.Words.{◌≡◌, ℕ, List, Option, None, Some, Ok, Bool, true, false, is_some, arith, sym, ap, subst}
+use Rattle.peers.proofs.Words.{◌∙◌, IfOk, chars, is_ok, texts_of, LimitTable, reading, is_among, Document, widget_at}
+use Rattle.peers.proofs.Words.{ForetellsMarks, window_names, widget_named, command, MarksTellAt, edits_reading}
+use Rattle.peers.proofs.Words.{edits_text, on_widget, home_in, World, document_at, home, windows_of}
 use Rattle.peers.proofs.HomeStepLaws.{home-is}
 use Rattle.peers.proofs.MarksToldLaws.{marks-found, marks-through}
 use Rattle.peers.proofs.WorldLaws.{home-found, read-is, with_all}

@@ -1,16 +1,7 @@
-use Rattle.std.proofs.Common.{◌≡◌, ℕ, List, Option, None, Some, true, false, is_some, arith, sym, ap, subst, ◌∙◌}
+use Rattle.peers.proofs.Words.{◌≡◌, ℕ, List, Option, None, Some, true, false, is_some, arith, sym, ap, subst, ◌∙◌}
+use Rattle.peers.proofs.Words.{texts_of, is_among, Document, widget_at, Foretells, IsWellFormedDocument, window_names}
+use Rattle.peers.proofs.Words.{widget_named, command, on_widget, TellsAt, home_in, World, document_at, home, windows_of}
 use Rattle.std.specs.Prelude.{IfOk, chars, is_ok}
-use Rattle.tcl_words.specs.Unread.{texts_of}
-use Rattle.command_effects.specs.Words.{is_among}
-use Rattle.documents.specs.Documents.{Document, widget_at}
-use Rattle.documents.specs.Told.{Foretells}
-use Rattle.documents.specs.WellFormed.{IsWellFormedDocument, window_names}
-use Rattle.documents.specs.Widgets.{widget_named}
-use Rattle.peers.specs.Commands.{command}
-use Rattle.peers.specs.Step.{on_widget}
-use Rattle.peers.specs.Told.{TellsAt}
-use Rattle.peers.specs.Windows.{home_in}
-use Rattle.peers.specs.World.{World, document_at, home, windows_of}
 use Rattle.peers.proofs.HomeStepLaws.{home-is}
 use Rattle.peers.proofs.ToldLaws.{told-through}
 use Rattle.peers.proofs.ToldStepLaws.{tells-found}

@@ -1,6 +1,4 @@
-use Rattle.std.proofs.Common.{◌∙◌, ap}
-use Rattle.raw_nodes.specs.Rooms.{branch_sum}
-use Rattle.toggle_sums.specs.Counts.{counting, less, plus}
+use Rattle.raw_nodes.proofs.Words.{◌∙◌, ap, branch_sum, counting, less, plus}
 use Rattle.toggle_sums.proofs.ExchangeLaws.{levelled}
 use Rattle.raw_nodes.proofs.branch.Branch.exchange.Goals as goal
 

@@ -1,6 +1,6 @@
 -- A `&` to the heap is made where one to each node is.
+use Rattle.raw_nodes.proofs.Words.{ats}
 use denote.Struct.Lending.{of_Lends}
-use Rattle.raw_nodes.specs.Cells.{ats}
 use Rattle.raw_nodes.specs.contracts.heap.Heap as C
 use Rattle.raw_nodes.proofs.heap.Heap.TheLaw.Statement.{statement}
 use Rattle.raw_nodes.proofs.HeapShared.{nodes_lent_laws, Lends-nodes}

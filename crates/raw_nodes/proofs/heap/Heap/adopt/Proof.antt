@@ -1,4 +1,6 @@
 -- `adopt` moves what the parts own into the heap.
+use Rattle.raw_nodes.proofs.Words.{length-map, map-append, proved_at, leaves, D, B, word, box_typed, box_out, ats}
+use Rattle.raw_nodes.proofs.Words.{nodes_own, NotIn}
 use Rattle.raw_nodes.proofs.WalkSteps.{◌≡◌, List, [], ◌∷◌, refl, sym, ap, ◌∙◌, rewrite, ftrue, flft, named, fact, id⊢}
 use Rattle.raw_nodes.proofs.WalkSteps.{tables, ‵, raw, ◌⊛◌, ◌$◌, ◌∵◌, !, qed, move, keep, use2, split, join, fsplit}
 use Rattle.raw_nodes.proofs.WalkSteps.{fsplit3, fjoin, feq_i, feq_l, suffices, group, enter, of_opd, stop, fld, no_more}
@@ -17,18 +19,13 @@ use mir.Val.{Val, vptr, vstruct, vcons, vnil}
 use lib.ListN.{length}
 use denote.RawPtr.{block_ptr, count_of}
 use Rattle.std.specs.Ptr.{Ptr}
-use Rattle.std.proofs.lemmas.List.{length-map, map-append}
 use denote.Struct.Laws.{makes}
-use Rattle.std.proofs.raw_atomic.Walks.{proved_at, leaves}
-use Rattle.std.proofs.BoxSteps.Form.{D, B, word, box_typed}
-use Rattle.std.proofs.BoxSteps.Steps.{box_out}
 use Rattle.std.specs.Global.{Global}
 use Rattle.std.specs.contracts.impls.GlobalAllocator.TheImpl.{ghosts}
 use mir.Raw.{raw as bare}
 use denote.Memory.{lone}
 use Rattle.raw_nodes.specs.contracts.nodes.Node.{the_row as N}
 use Rattle.raw_nodes.proofs.AsBox.{E, InParts}
-use Rattle.raw_nodes.specs.Cells.{ats, nodes_own, NotIn}
 use Rattle.raw_nodes.specs.contracts.names.NodePtr as P
 use Rattle.raw_nodes.proofs.names.NodePtr.TheLaws as P-laws
 use Rattle.raw_nodes.specs.contracts.heap.Heap.{the_row as R}

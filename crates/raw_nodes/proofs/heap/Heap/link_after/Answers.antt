@@ -1,10 +1,6 @@
-use Rattle.std.proofs.Common.{◌∙◌, Option, ap, refl, subst, sym}
-use Rattle.std.proofs.lemmas.List.{map-set}
-use Rattle.std.specs.Prelude.{IfSome}
-use Rattle.raw_nodes.specs.Cells.{IsPlace, number_in, put_at}
-use Rattle.raw_nodes.specs.Chain.{after_of, afters_of, before_of, content_of}
-use Rattle.raw_nodes.specs.Links.{link_name}
-use Rattle.raw_nodes.specs.declared.names.NodePtr.{NodePtr}
+use Rattle.raw_nodes.proofs.Words.{◌∙◌, ap, refl, subst, sym, map-set, IfSome, IsPlace, number_in, put_at, after_of}
+use Rattle.raw_nodes.proofs.Words.{afters_of, before_of, content_of, link_name, NodePtr}
+use Rattle.std.proofs.Common.{Option}
 use Rattle.raw_nodes.proofs.ChainLaws.{same_at}
 use Rattle.raw_nodes.proofs.heap.Heap.link_after.Goals as goal
 

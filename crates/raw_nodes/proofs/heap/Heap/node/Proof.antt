@@ -1,4 +1,5 @@
 -- `node` lends the node that the name leads to.
+use Rattle.raw_nodes.proofs.Words.{IsPlace, ats, number_in}
 use Rattle.raw_nodes.proofs.WalkSteps.{◌≡◌, List, [], ◌∷◌, refl, sym, ap, ◌∙◌, proved, ftrue, flft, named, arith, fact}
 use Rattle.raw_nodes.proofs.WalkSteps.{tables, ‵, raw, ◌⊛◌, at_ret, ◌$◌, ◌∵◌, !, qed, done, move, keep, drop, use1}
 use Rattle.raw_nodes.proofs.WalkSteps.{split, join, fsplit, fjoin, feq_i, suffices, enter, of_opd, addr, stop, fld}
@@ -7,19 +8,17 @@ use Rattle.raw_nodes.proofs.WalkSteps.{through, sets, env, yes, plain, nothing, 
 use Rattle.raw_nodes.proofs.WalkSteps.{stay_dropped, Goes-dropped, ends_at}
 use types.ByLocal.{sets_last, get_in, is}
 use types.Part.{whole, sub}
-use denote.RawPtr.{ptr_val}
+use denote.RawPtr.{ptr_val, null_ptr, in_a_block}
 use mir.Val.{Val, vptr}
 use denote.Builtin.{RefOf}
 use denote.Opens.{unhide, hide}
 use denote.Ref.{ShrRef, shr_vals, shr_Tells}
-use denote.RawPtr.{null_ptr, in_a_block}
 use denote.Memory.{shared_of}
 use base.Logic.{never, fst∗}
 use types.Logic.{sem}
 use denote.Struct.Lending.{lent_at}
 use denote.Struct.Laws.{vals, tells, lawful}
 use lib.ListN.{get_or}
-use Rattle.raw_nodes.specs.Cells.{IsPlace, ats, number_in}
 use Rattle.raw_nodes.specs.contracts.names.NodePtr as P
 use Rattle.raw_nodes.proofs.names.NodePtr.TheLaws as P-laws
 use Rattle.raw_nodes.specs.contracts.nodes.Node.{the_row as N}

@@ -1,4 +1,5 @@
 -- `node_mut` lends the node that the name leads to, and the heap follows it.
+use Rattle.raw_nodes.proofs.Words.{IsPlace, ats, number_in, node_right, node_owns, nodes_own, without, NodePtr, Node}
 use Rattle.raw_nodes.proofs.WalkSteps.{◌≡◌, ℕ, List, [], ◌∷◌, refl, sym, ap, ◌∙◌, proved, full_share, ftrue, flft}
 use Rattle.raw_nodes.proofs.WalkSteps.{named, arith, fact, tables, ‵, raw, ◌⊛◌, some, later, at_ret, ◌$◌, ◌∵◌, !, qed}
 use Rattle.raw_nodes.proofs.WalkSteps.{done, move, keep, use1, use2, split, join, fsplit, fsplit3, fjoin, pick, await}
@@ -24,11 +25,8 @@ use denote.Struct.Laws.{vals, tells, lawful}
 use denote.Struct.Owning.{shape, to}
 use denote.Struct.Struct.{Struct}
 use denote.Triple.Walked.{Goes-spent_ref}
-use Rattle.raw_nodes.specs.Cells.{IsPlace, ats, number_in, node_right, node_owns, nodes_own, without}
 use Rattle.raw_nodes.specs.Lending.{with_node}
 use Rattle.raw_nodes.specs.declared.heap.Heap.{Heap}
-use Rattle.raw_nodes.specs.declared.names.NodePtr.{NodePtr}
-use Rattle.raw_nodes.specs.declared.nodes.Node.{Node}
 use Rattle.raw_nodes.specs.contracts.names.NodePtr as P
 use Rattle.raw_nodes.proofs.names.NodePtr.TheLaws as P-laws
 use Rattle.raw_nodes.specs.contracts.nodes.Node.{the_row as N}

@@ -1,4 +1,6 @@
 -- `release` moves what the heap owns of a node into parts.
+use Rattle.raw_nodes.proofs.Words.{proved_at, leaves, handle_tells, D, word, box_typed, box_in, IsPlace, ats}
+use Rattle.raw_nodes.proofs.Words.{node_right, node_owns, nodes_own, number_in, without}
 use Rattle.raw_nodes.proofs.WalkSteps.{◌≡◌, List, [], ◌∷◌, refl, sym, ap, ◌∙◌, ftrue, flft, named, arith, fact, id⊢}
 use Rattle.raw_nodes.proofs.WalkSteps.{tables, ‵, raw, ◌⊛◌, ◌$◌, ◌∵◌, !, qed, move, keep, use1, split, join, fsplit}
 use Rattle.raw_nodes.proofs.WalkSteps.{fsplit3, fjoin, feq_i, feq_l, suffices, rewrite, group, enter, of_opd, stop, fld}
@@ -20,12 +22,7 @@ use lib.ListN.{get_or}
 use denote.RawPtr.{block_ptr, null_ptr, ptr_val, in_a_block}
 use denote.Signature.{type_at}
 use denote.Struct.Laws.{vals, tells, lawful}
-use Rattle.std.proofs.raw_atomic.Walks.{proved_at, leaves}
-use Rattle.std.proofs.alloc.Calls.{handle_tells}
-use Rattle.std.proofs.BoxSteps.Form.{D, word, box_typed}
-use Rattle.std.proofs.BoxSteps.Steps.{box_in}
 use Rattle.raw_nodes.proofs.AsBox.{E, Handle}
-use Rattle.raw_nodes.specs.Cells.{IsPlace, ats, node_right, node_owns, nodes_own, number_in, without}
 use Rattle.raw_nodes.specs.contracts.names.NodePtr as P
 use Rattle.raw_nodes.proofs.names.NodePtr.TheLaws as P-laws
 use Rattle.raw_nodes.specs.contracts.heap.Heap.{the_row as R}

@@ -1,8 +1,5 @@
-use Rattle.std.proofs.Common.{◌≡◌, ap, sym, ◌∙◌, subst}
-use Rattle.toggle_sums.specs.Counts.{CountsFit, plus}
-use Rattle.raw_nodes.specs.Links.{link_name}
+use Rattle.raw_nodes.proofs.Words.{◌≡◌, ap, sym, ◌∙◌, subst, CountsFit, plus, link_name, is_used, record_in}
 use Rattle.raw_nodes.specs.Names.{records}
-use Rattle.raw_nodes.specs.Records.{is_used, record_in}
 use Rattle.raw_nodes.proofs.NameLaws.{in_use, name_place, read_entry, told_entry}
 use mathlib.Core.Bool.{false≢true}
 use Rattle.raw_nodes.proofs.store.NodeStore.add_sum_to.Goals as goal

@@ -1,9 +1,7 @@
-use Rattle.std.proofs.Common.{◌≡◌, None, ap, get_or, map, sym, ◌∙◌}
-use Rattle.raw_nodes.specs.Links.{link_name}
+use Rattle.raw_nodes.proofs.Words.{◌≡◌, ap, get_or, map, sym, ◌∙◌, link_name, record_in, Room}
+use Rattle.std.proofs.Common.{None}
 use Rattle.raw_nodes.specs.Names.{records}
-use Rattle.raw_nodes.specs.Records.{record_in}
 use Rattle.raw_nodes.proofs.NameLaws.{childless, in_use, name_place, none_at, read_entry}
-use Rattle.raw_nodes.specs.declared.nodes.Room.{Room}
 use Rattle.raw_nodes.proofs.store.NodeStore.child.Goals as goal
 
 pub node-requires : goal.node-requires

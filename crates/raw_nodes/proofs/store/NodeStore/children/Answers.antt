@@ -1,8 +1,6 @@
-use Rattle.std.proofs.Common.{◌≡◌, ap, count_by, is_some, map, sym, ◌∙◌}
-use Rattle.raw_nodes.specs.Links.{link_name}
+use Rattle.raw_nodes.proofs.Words.{◌≡◌, ap, count_by, map, sym, ◌∙◌, link_name, record_in, Room}
+use Rattle.std.proofs.Common.{is_some}
 use Rattle.raw_nodes.specs.Names.{records}
-use Rattle.raw_nodes.specs.Records.{record_in}
-use Rattle.raw_nodes.specs.declared.nodes.Room.{Room}
 use Rattle.raw_nodes.proofs.NameLaws.{childless, in_use, name_place, read_entry}
 use Rattle.raw_nodes.proofs.store.NodeStore.children.Goals as goal
 

@@ -1,10 +1,5 @@
-use Rattle.std.proofs.Common.{◌∙◌, List, [], ◌∷◌, ◌++◌, ap, arith, length, map, subst, sym}
-use Rattle.std.proofs.lemmas.List.{length-map}
-use Rattle.std.specs.Prelude.{None, Some}
-use Rattle.raw_nodes.specs.Cells.{AreApart, ats}
-use Rattle.raw_nodes.specs.Chain.{before_of, befores_of}
-use Rattle.raw_nodes.specs.declared.names.NodePtr.{NodePtr}
-use Rattle.raw_nodes.specs.declared.nodes.Node.{Node}
+use Rattle.raw_nodes.proofs.Words.{◌∙◌, List, [], ◌∷◌, ◌++◌, ap, arith, length, map, subst, sym, length-map, None, Some}
+use Rattle.raw_nodes.proofs.Words.{AreApart, ats, before_of, befores_of, NodePtr, Node}
 use Rattle.raw_nodes.proofs.ChainLaws.{listed_none}
 use Rattle.raw_nodes.proofs.NeighbourLaws.{apart_had, apart_without, end_left, last_number}
 use Rattle.raw_nodes.proofs.WithoutLaws.{length-without}

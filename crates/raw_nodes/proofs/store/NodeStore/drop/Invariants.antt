@@ -1,7 +1,4 @@
-use Rattle.std.proofs.Common.{◌≡◌, [], ◌∷◌, ◌++◌, length, map}
-use Rattle.std.specs.Prelude.{None, Some}
-use Rattle.raw_nodes.specs.Cells.{AreApart, ats}
-use Rattle.raw_nodes.specs.Chain.{befores_of}
+use Rattle.raw_nodes.proofs.Words.{◌≡◌, [], ◌∷◌, ◌++◌, length, map, None, Some, AreApart, ats, befores_of}
 use Rattle.raw_nodes.proofs.store.NodeStore.drop.Given as goal
 
 abbrev pub invariant-loop-last : goal.invariant-loop-last

@@ -1,17 +1,10 @@
-use Rattle.std.proofs.Common.{◌≡◌, ◌∙◌, ◌-◌, List, [], ◌∷◌, ◌++◌, Option, ap, arith, get_or, length, map}
-use Rattle.std.proofs.Common.{subst, sym}
-use Rattle.std.specs.List.{sum_by}
-use Rattle.std.specs.Prelude.{IfSome, None, Some}
-use Rattle.raw_nodes.specs.Cells.{AreApart, IsPlace, ats, number_in, put_at, without}
-use Rattle.raw_nodes.specs.Chain.{IsChain, after_of, afters_of, before_of, befores_of, behind, flag_of}
-use Rattle.raw_nodes.specs.Chain.{last_left, marks_of, next_of, nexts_of, room_of}
-use Rattle.raw_nodes.specs.Links.{link_name}
+use Rattle.raw_nodes.proofs.Words.{◌≡◌, ◌∙◌, ◌-◌, List, [], ◌∷◌, ◌++◌, ap, arith, get_or, length, map, subst, sym}
+use Rattle.raw_nodes.proofs.Words.{sum_by, IfSome, None, Some, AreApart, IsPlace, ats, number_in, put_at, without}
+use Rattle.raw_nodes.proofs.Words.{IsChain, after_of, afters_of, before_of, befores_of, behind, flag_of, last_left}
+use Rattle.raw_nodes.proofs.Words.{marks_of, next_of, nexts_of, room_of, link_name, records_in, Link, NodePtr, Held}
+use Rattle.raw_nodes.proofs.Words.{Node}
+use Rattle.std.proofs.Common.{Option}
 use Rattle.raw_nodes.specs.Names.{records}
-use Rattle.raw_nodes.specs.Records.{records_in}
-use Rattle.raw_nodes.specs.declared.names.Link.{Link}
-use Rattle.raw_nodes.specs.declared.names.NodePtr.{NodePtr}
-use Rattle.raw_nodes.specs.declared.nodes.Held.{Held}
-use Rattle.raw_nodes.specs.declared.nodes.Node.{Node}
 use Rattle.raw_nodes.proofs.ChainLaws.{chain_head, is_spare}
 use Rattle.raw_nodes.proofs.NameLaws.{place_within}
 use Rattle.raw_nodes.proofs.NeighbourLaws.{Relinked, after_place, apart_had, apart_without, before_place, content_at}

@@ -1,10 +1,7 @@
-use Rattle.std.proofs.Common.{◌≡◌, ◌+◌, ap, arith, set, sym, refl, ◌∙◌}
+use Rattle.raw_nodes.proofs.Words.{◌≡◌, ◌+◌, ap, arith, set, sym, refl, ◌∙◌, number_in, room_in, is_used, line_in}
+use Rattle.raw_nodes.proofs.Words.{records_in, slot_in, Node}
 use lib.ListN.{length-set}
-use Rattle.raw_nodes.specs.Cells.{number_in}
-use Rattle.raw_nodes.specs.Chain.{room_in}
 use Rattle.raw_nodes.specs.Names.{records}
-use Rattle.raw_nodes.specs.Records.{is_used, line_in, records_in, slot_in}
-use Rattle.raw_nodes.specs.declared.nodes.Node.{Node}
 use Rattle.raw_nodes.proofs.ChainLaws.{count-le, followed_set, given_chain, given_count, listed_set, room_moved}
 use Rattle.raw_nodes.proofs.MapLaws.{len_given}
 use Rattle.raw_nodes.proofs.NameLaws.{in_use, line_said, name_place, place_within, read_entry, removed_records}

@@ -1,20 +1,13 @@
-use Rattle.std.proofs.Common.{◌≡◌, ◌+◌, ◌^◌, ◌<◌, false, List, [], ◌∷◌, ◌++◌, ap, arith, length-append, map, sym}
-use Rattle.std.proofs.Common.{subst, ◌∙◌}
-use Rattle.std.proofs.lemmas.Bool.Decides.{nat_tests}
-use Rattle.std.specs.Prelude.{IfSome, None, Some}
-use Rattle.raw_nodes.specs.Cells.{AreApart, IsPlace, ats, put_at}
-use Rattle.raw_nodes.specs.Chain.{IsChain, after_of, afters_of, before_of, befores_of, behind, contents_of, marks_of}
-use Rattle.raw_nodes.specs.Chain.{next_of, nexts_of, room_of}
+use Rattle.raw_nodes.proofs.Words.{◌≡◌, ◌+◌, ◌^◌, ◌<◌, false, List, [], ◌∷◌, ◌++◌, ap, arith, length-append, map, sym}
+use Rattle.raw_nodes.proofs.Words.{subst, ◌∙◌, refl, nat_tests, IfSome, None, Some, AreApart, IsPlace, ats, put_at}
+use Rattle.raw_nodes.proofs.Words.{IsChain, after_of, afters_of, before_of, befores_of, behind, contents_of, marks_of}
+use Rattle.raw_nodes.proofs.Words.{next_of, nexts_of, room_of, is_used, records_in, slot_in, NodePtr, Node}
 use Rattle.raw_nodes.specs.Names.{records}
-use Rattle.raw_nodes.specs.Records.{is_used, records_in, slot_in}
-use Rattle.raw_nodes.specs.declared.names.NodePtr.{NodePtr}
-use Rattle.raw_nodes.specs.declared.nodes.Node.{Node}
 use Rattle.raw_nodes.proofs.ChainLaws.{count-le, grown_chain, grown_count, listed_grown, room_grown}
 use Rattle.raw_nodes.proofs.NameLaws.{grown_records}
 use Rattle.raw_nodes.proofs.NeighbourLaws.{apart_grown, apart_had, content_long, followed_grown, last_place_grown}
 use Rattle.raw_nodes.proofs.NeighbourLaws.{same_chain, same_count, same_records, same_rooms}
 use Rattle.raw_nodes.proofs.store.NodeStore.grow.Goals as goal
-use Rattle.std.proofs.Common.{refl}
 
 pub overflow_add-self : goal.overflow_add-self
 overflow_add-self g c = let small = c.args.self.now.small in let full = c.if-self.false in

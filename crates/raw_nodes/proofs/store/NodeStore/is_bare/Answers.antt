@@ -1,8 +1,5 @@
-use Rattle.std.proofs.Common.{◌≡◌, ap, sym, ◌∙◌, subst, true, false}
-use Rattle.toggle_sums.specs.Counts.{IsBare}
-use Rattle.raw_nodes.specs.Links.{link_name}
+use Rattle.raw_nodes.proofs.Words.{◌≡◌, ap, sym, ◌∙◌, subst, true, false, IsBare, link_name, is_used, record_in}
 use Rattle.raw_nodes.specs.Names.{records}
-use Rattle.raw_nodes.specs.Records.{is_used, record_in}
 use Rattle.raw_nodes.proofs.NameLaws.{bare_branch, bare_room, in_use, name_place, read_entry}
 use mathlib.Core.Bool.{false≢true}
 use Rattle.raw_nodes.proofs.store.NodeStore.is_bare.Goals as goal

@@ -1,7 +1,5 @@
-use Rattle.std.proofs.Common.{◌≡◌, ap, sym, ◌∙◌}
-use Rattle.raw_nodes.specs.Links.{link_name}
+use Rattle.raw_nodes.proofs.Words.{◌≡◌, ap, sym, ◌∙◌, link_name, record_in}
 use Rattle.raw_nodes.specs.Names.{records}
-use Rattle.raw_nodes.specs.Records.{record_in}
 use Rattle.raw_nodes.proofs.NameLaws.{in_use, line_off, line_said, name_place, read_entry}
 use Rattle.raw_nodes.proofs.store.NodeStore.line.Goals as goal
 

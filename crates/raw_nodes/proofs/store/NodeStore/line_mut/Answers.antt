@@ -1,12 +1,9 @@
-use Rattle.std.proofs.Common.{◌≡◌, Some, None, ap, sym, refl, ◌∙◌}
-use Rattle.raw_nodes.specs.Chain.{room_in}
-use Rattle.raw_nodes.specs.Links.{link_name}
-use Rattle.std.specs.Prelude.{is_some}
+use Rattle.raw_nodes.proofs.Words.{◌≡◌, ap, sym, refl, ◌∙◌, room_in, link_name, is_some, Node, line_in, record_in}
+use Rattle.raw_nodes.proofs.Words.{with_line}
+use Rattle.std.proofs.Common.{Some, None}
 use Rattle.raw_nodes.specs.Names.{records}
-use Rattle.raw_nodes.specs.declared.nodes.Node.{Node}
-use Rattle.raw_nodes.specs.Records.{line_in, record_in, with_line}
-use Rattle.raw_nodes.proofs.NameLaws.{followed_kept, listed_kept, whole_kept, chain_kept, count_kept, in_use, line_if, line_said}
-use Rattle.raw_nodes.proofs.NameLaws.{lined, name_place, name_within, no_line, read_entry, rewritten}
+use Rattle.raw_nodes.proofs.NameLaws.{followed_kept, listed_kept, whole_kept, chain_kept, count_kept, in_use, line_if}
+use Rattle.raw_nodes.proofs.NameLaws.{line_said, lined, name_place, name_within, no_line, read_entry, rewritten}
 use Rattle.raw_nodes.proofs.NameLaws.{rooms_kept, same_node}
 use Rattle.raw_nodes.proofs.store.NodeStore.line_mut.Goals as goal
 

@@ -1,10 +1,7 @@
-use Rattle.std.proofs.Common.{◌≡◌, ap, sym, ◌∙◌}
-use Rattle.raw_nodes.specs.Links.{link_name}
+use Rattle.raw_nodes.proofs.Words.{◌≡◌, ap, sym, ◌∙◌, link_name, record_in, is_used}
 use Rattle.raw_nodes.specs.Names.{records}
-use Rattle.raw_nodes.specs.Records.{record_in}
 use Rattle.raw_nodes.proofs.NameLaws.{in_use, name_place, read_entry}
 use mathlib.Core.Bool.{false≢true}
-use Rattle.raw_nodes.specs.Records.{is_used}
 use Rattle.raw_nodes.proofs.store.NodeStore.lines.Goals as goal
 
 pub node-requires : goal.node-requires

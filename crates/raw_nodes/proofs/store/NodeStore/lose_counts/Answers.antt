@@ -1,12 +1,8 @@
-use Rattle.std.proofs.Common.{◌≡◌, ap, sym, refl, subst}
-use Rattle.raw_nodes.specs.Chain.{room_in}
+use Rattle.raw_nodes.proofs.Words.{◌≡◌, ap, sym, refl, subst, room_in, record_in, with_sum, link_name, HasCounts}
+use Rattle.raw_nodes.proofs.Words.{counting, less, Room}
 use Rattle.raw_nodes.specs.Names.{records}
-use Rattle.raw_nodes.specs.Records.{record_in, with_sum}
-use Rattle.raw_nodes.proofs.NameLaws.{followed_kept, listed_kept, whole_kept, chain_kept, count_kept, in_use, name_place}
-use Rattle.raw_nodes.proofs.NameLaws.{rewritten, recounted, room_if, rooms_kept, told_entry}
-use Rattle.raw_nodes.specs.Links.{link_name}
-use Rattle.toggle_sums.specs.Counts.{HasCounts, counting, less}
-use Rattle.raw_nodes.specs.declared.nodes.Room.{Room}
+use Rattle.raw_nodes.proofs.NameLaws.{followed_kept, listed_kept, whole_kept, chain_kept, count_kept, in_use}
+use Rattle.raw_nodes.proofs.NameLaws.{name_place, rewritten, recounted, room_if, rooms_kept, told_entry}
 use Rattle.raw_nodes.proofs.store.NodeStore.lose_counts.Goals as goal
 
 pub node_mut-requires : goal.node_mut-requires

@@ -1,12 +1,9 @@
-use Rattle.std.proofs.Common.{◌≡◌, ◌+◌, ◌-◌, Option, ap, arith, set, subst, sym, refl, ◌∙◌}
+use Rattle.raw_nodes.proofs.Words.{◌≡◌, ◌+◌, ◌-◌, ap, arith, set, subst, sym, refl, ◌∙◌, number_in, IsChain, marks_of}
+use Rattle.raw_nodes.proofs.Words.{nexts_of, blank, record_in, records_in, NodePtr, Node}
+use Rattle.std.proofs.Common.{Option}
 use Rattle.std.specs.FinMap as finite
 use lib.ListN.{length-set}
-use Rattle.raw_nodes.specs.Cells.{number_in}
-use Rattle.raw_nodes.specs.Chain.{IsChain, marks_of, nexts_of}
 use Rattle.raw_nodes.specs.Names.{records}
-use Rattle.raw_nodes.specs.Records.{blank, record_in, records_in}
-use Rattle.raw_nodes.specs.declared.names.NodePtr.{NodePtr}
-use Rattle.raw_nodes.specs.declared.nodes.Node.{Node}
 use Rattle.raw_nodes.proofs.ChainLaws.{chain_head, followed_set, is_spare, listed_set, made_chain, made_count}
 use Rattle.raw_nodes.proofs.ChainLaws.{room_moved}
 use Rattle.raw_nodes.proofs.MapLaws.{len_made}

@@ -1,5 +1,4 @@
-use Rattle.std.proofs.Common.{◌≡◌, ◌+◌}
-use Rattle.raw_nodes.specs.Cells.{IsPlace, number_in}
+use Rattle.raw_nodes.proofs.Words.{◌≡◌, ◌+◌, IsPlace, number_in}
 use Rattle.raw_nodes.proofs.store.NodeStore.place.Given as goal
 
 abbrev pub invariant-loop-before : goal.invariant-loop-before

@@ -1,5 +1,4 @@
-use Rattle.std.proofs.Common.{◌≡◌, ◌≤◌, ◌-◌, max}
-use Rattle.raw_nodes.specs.Names.{records, rooms, spares}
+use Rattle.raw_nodes.proofs.Words.{◌≡◌, ◌≤◌, ◌-◌, max, records, rooms, spares}
 use Rattle.raw_nodes.proofs.store.NodeStore.reserve_lines.Given as goal
 
 abbrev pub invariant-loop-self : goal.invariant-loop-self

@@ -1,6 +1,4 @@
-use Rattle.std.proofs.Common.{◌≡◌, ap, arith, sym, ◌∙◌}
-use Rattle.std.proofs.lemmas.Bool.Decides.{nat_tests}
-use Rattle.raw_nodes.specs.Cells.{number_in}
+use Rattle.raw_nodes.proofs.Words.{◌≡◌, ap, arith, sym, ◌∙◌, nat_tests, number_in}
 use Rattle.raw_nodes.specs.Names.{records}
 use Rattle.raw_nodes.proofs.NameLaws.{name_place}
 use Rattle.raw_nodes.proofs.PlaceLaws.{same_number}

@@ -1,10 +1,7 @@
-use Rattle.std.proofs.Common.{ap, refl, ◌∙◌}
+use Rattle.raw_nodes.proofs.Words.{ap, refl, ◌∙◌, room_in, link_name, is_used, record_in, with_parent, with_slot}
 use Rattle.raw_nodes.specs.Names.{records}
-use Rattle.raw_nodes.specs.Chain.{room_in}
-use Rattle.raw_nodes.specs.Links.{link_name}
-use Rattle.raw_nodes.specs.Records.{is_used, record_in, with_parent, with_slot}
-use Rattle.raw_nodes.proofs.NameLaws.{followed_kept, listed_kept, whole_kept, chain_kept, count_kept, in_use, name_place}
-use Rattle.raw_nodes.proofs.NameLaws.{parented, rewritten, room_slot, rooms_kept, used_slot}
+use Rattle.raw_nodes.proofs.NameLaws.{followed_kept, listed_kept, whole_kept, chain_kept, count_kept, in_use}
+use Rattle.raw_nodes.proofs.NameLaws.{name_place, parented, rewritten, room_slot, rooms_kept, used_slot}
 use Rattle.raw_nodes.proofs.store.NodeStore.set_parent.Goals as goal
 
 pub node_mut-node-requires : goal.node_mut-node-requires

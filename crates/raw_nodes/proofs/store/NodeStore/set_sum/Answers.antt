@@ -1,9 +1,7 @@
-use Rattle.std.proofs.Common.{◌≡◌, ap, sym, refl}
-use Rattle.raw_nodes.specs.Chain.{room_in}
+use Rattle.raw_nodes.proofs.Words.{◌≡◌, ap, sym, refl, room_in, with_sum}
 use Rattle.raw_nodes.specs.Names.{records}
-use Rattle.raw_nodes.specs.Records.{with_sum}
-use Rattle.raw_nodes.proofs.NameLaws.{followed_kept, listed_kept, whole_kept, chain_kept, count_kept, in_use, name_place}
-use Rattle.raw_nodes.proofs.NameLaws.{rewritten, room_if, rooms_kept, told_entry, summed}
+use Rattle.raw_nodes.proofs.NameLaws.{followed_kept, listed_kept, whole_kept, chain_kept, count_kept, in_use}
+use Rattle.raw_nodes.proofs.NameLaws.{name_place, rewritten, room_if, rooms_kept, told_entry, summed}
 use Rattle.raw_nodes.proofs.store.NodeStore.set_sum.Goals as goal
 
 pub node_mut-requires : goal.node_mut-requires

@@ -1,9 +1,5 @@
-use Rattle.std.proofs.Common.{[], sym, ap, ◌∙◌}
+use Rattle.search_dump.proofs.Words.{[], sym, ap, ◌∙◌, get_or_from_slice_get, rank_of, names_of, name_of_rank}
 use Rattle.std.specs.Str.{chars}
-use Rattle.std.proofs.lemmas.Option.{get_or_from_slice_get}
-use Rattle.mark_table.specs.Order.{rank_of}
-use Rattle.mark_table.specs.SharedMarks.{names_of}
-use Rattle.search_dump.specs.Dump.{name_of_rank}
 use Rattle.search_dump.proofs.MarkLaws.{insert-characters, current-characters, shared-name}
 use Rattle.search_dump.proofs.dumped_marks.Marked.name.Goals as goal
 

@@ -1,6 +1,4 @@
-use Rattle.std.proofs.Common.{refl, sym}
-use Rattle.std.specs.Option.{option_map}
-use Rattle.search_dump.specs.MarksAhead.{shown_of, usable_by}
+use Rattle.search_dump.proofs.Words.{refl, sym, option_map, shown_of, usable_by}
 use Rattle.search_dump.proofs.MarkOrderLaws.{mark-behind, usable-rising}
 use Rattle.search_dump.proofs.dumped_marks.Marked.next.Goals as goal
 

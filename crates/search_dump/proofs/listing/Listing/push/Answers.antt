@@ -1,10 +1,5 @@
-use Rattle.std.proofs.Common.{[], ◌∷◌, ap, subst, ◌∙◌}
+use Rattle.search_dump.proofs.Words.{[], ◌∷◌, ap, subst, ◌∙◌, on_ok_weaker, Goes, needs_quotes, goes_on, position_text}
 use Rattle.std.specs.Prelude.{chars, string_bytes}
-use Rattle.std.proofs.lemmas.Result.{on_ok_weaker}
-use Rattle.tcl_words.specs.ListGrowth.{Goes}
-use Rattle.tcl_words.specs.ListText.{needs_quotes}
-use Rattle.tcl_words.proofs.ListGrowth.{goes_on}
-use Rattle.text_index.specs.Positions.{position_text}
 use Rattle.search_dump.proofs.listing.Listing.push.Goals as goal
 
 pub returns : goal.returns

@@ -1,5 +1,5 @@
+use Rattle.search_dump.proofs.Words.{text_in}
 use Rattle.search_dump.proofs.LineStops.{spot-on}
-use Rattle.search_dump.specs.Sight.{text_in}
 use Rattle.search_dump.proofs.listing.Spot.line_on.Goals as goal
 
 pub returns-then-place-self : goal.returns-then-place-self

@@ -1,8 +1,4 @@
-use Rattle.std.proofs.Common.{chars, subst}
-use Rattle.std.specs.Prelude.{IfSome}
-use Rattle.std.proofs.lemmas.Iterator.{YieldsList-from_chars}
-use Rattle.std.proofs.lemmas.Iterator.Consumers.{count_from_yields_List}
-use Rattle.search_dump.specs.Stretches.{IsPeriod}
+use Rattle.search_dump.proofs.Words.{chars, subst, IfSome, YieldsList-from_chars, count_from_yields_List, IsPeriod}
 use Rattle.search_dump.proofs.patterns.Pattern.new.Goals as goal
 
 pub invariant_of-result : goal.invariant_of-result

@@ -1,5 +1,4 @@
-use Rattle.std.proofs.Common.{ap, refl, set, ◌∙◌}
-use Rattle.search_dump.specs.Ahead.{change_behind}
+use Rattle.search_dump.proofs.Words.{ap, refl, set, ◌∙◌, change_behind}
 use Rattle.search_dump.proofs.ChangeLaws.{put-ahead, put-keeps, put-known}
 use Rattle.search_dump.proofs.tag_changes.TagChanges.look.Goals as goal
 

@@ -1,5 +1,4 @@
-use Rattle.std.proofs.Common.{ℕ, ◌<◌}
-use Rattle.search_dump.specs.Sight.{AreChangesAhead, IsChangeKnown}
+use Rattle.search_dump.proofs.Words.{ℕ, ◌<◌, AreChangesAhead, IsChangeKnown}
 use Rattle.search_dump.proofs.tag_changes.TagChanges.pass.Given as goal
 
 abbrev pub invariant-loop-at : goal.invariant-loop-at

@@ -1,6 +1,5 @@
-use Rattle.std.proofs.Common.{arith, inl, refl, slice_index_or}
-use Rattle.tag_table.specs.Tags.{slots_of}
-use Rattle.search_dump.specs.Ahead.{slot_of_row}
+use Rattle.search_dump.proofs.Words.{arith, inl, refl, slots_of, slot_of_row}
+use Rattle.std.proofs.Common.{slice_index_or}
 use Rattle.search_dump.proofs.TurnLaws.{turn-either, turn-more}
 use Rattle.search_dump.proofs.tag_changes.TagChanges.turned.Goals as goal
 

@@ -1,6 +1,4 @@
-use Rattle.std.proofs.Common.{ℕ, length}
-use Rattle.tag_table.specs.Tags.{slots_of}
-use Rattle.search_dump.specs.Ahead.{AreKept, AreTurned}
+use Rattle.search_dump.proofs.Words.{ℕ, length, slots_of, AreKept, AreTurned}
 use Rattle.search_dump.proofs.TurnLaws.{IsEither}
 use Rattle.search_dump.proofs.tag_changes.TagChanges.turned.Given as goal
 

@@ -1,7 +1,4 @@
-use Rattle.std.proofs.Common.{◌≡◌, ◌≤◌, ap, ◌∙◌, arith, length}
-use Rattle.std.specs.Prelude.{chars, string_bytes}
-use Rattle.std.proofs.lemmas.Str.{IsUtf8-string_bytes}
-use Rattle.text_model.specs.Splices.{inserted}
+use Rattle.segments.proofs.Words.{◌≡◌, ◌≤◌, ap, ◌∙◌, arith, length, chars, string_bytes, IsUtf8-string_bytes, inserted}
 use Rattle.segments.proofs.TextLaws.{fewer_characters, inserted_text, length-inserted}
 use Rattle.segments.proofs.characters.Characters.insert.Goals as goal
 

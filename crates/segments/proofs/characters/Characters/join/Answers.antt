@@ -1,6 +1,5 @@
-use Rattle.std.proofs.Common.{◌≡◌, ◌++◌, ap, ap₂, ◌∙◌, arith, length, length-append}
-use Rattle.std.specs.Prelude.{chars, string_bytes}
-use Rattle.std.proofs.lemmas.Str.{chars-append, IsUtf8-string_bytes}
+use Rattle.segments.proofs.Words.{◌≡◌, ◌++◌, ap, ap₂, ◌∙◌, arith, length, length-append, chars, string_bytes}
+use Rattle.segments.proofs.Words.{chars-append, IsUtf8-string_bytes}
 use Rattle.segments.proofs.TextLaws.{fewer_characters}
 use Rattle.segments.proofs.characters.Characters.join.Goals as goal
 

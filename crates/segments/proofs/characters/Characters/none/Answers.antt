@@ -1,6 +1,4 @@
-use Rattle.std.proofs.Common.{sym, ap, ◌∙◌, length}
-use Rattle.std.specs.Prelude.{chars}
-use Rattle.std.proofs.lemmas.Str.{chars-nil}
+use Rattle.segments.proofs.Words.{sym, ap, ◌∙◌, length, chars, chars-nil}
 use Rattle.segments.proofs.characters.Characters.none.Goals as goal
 
 pub invariant_of-result : goal.invariant_of-result

@@ -1,6 +1,4 @@
-use Rattle.std.proofs.Common.{◌++◌, ap, ◌∙◌}
-use Rattle.std.specs.Prelude.{chars, string_bytes}
-use Rattle.std.proofs.lemmas.Str.{chars-append, IsUtf8-string_bytes}
+use Rattle.segments.proofs.Words.{◌++◌, ap, ◌∙◌, chars, string_bytes, chars-append, IsUtf8-string_bytes}
 use Rattle.segments.proofs.characters.Characters.push.Goals as goal
 
 pub returns : goal.returns

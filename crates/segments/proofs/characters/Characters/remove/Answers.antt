@@ -1,6 +1,4 @@
-use Rattle.std.proofs.Common.{◌≡◌, ◌≤◌, ap, ◌∙◌, arith, length}
-use Rattle.std.specs.Prelude.{chars, string_bytes}
-use Rattle.text_model.specs.Splices.{removed}
+use Rattle.segments.proofs.Words.{◌≡◌, ◌≤◌, ap, ◌∙◌, arith, length, chars, string_bytes, removed}
 use Rattle.segments.proofs.TextLaws.{length-removed, removed_text}
 use Rattle.segments.proofs.characters.Characters.remove.Goals as goal
 

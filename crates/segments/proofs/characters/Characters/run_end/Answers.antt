@@ -1,7 +1,4 @@
-use Rattle.std.proofs.Common.{◌≡◌, drop, length, ap, ◌∙◌, arith}
-use Rattle.std.specs.List.{prefix_len}
-use Rattle.std.specs.Prelude.{chars}
-use Rattle.text_model.proofs.RunLaws.{run_end-le}
+use Rattle.segments.proofs.Words.{◌≡◌, drop, length, ap, ◌∙◌, arith, prefix_len, chars, run_end-le}
 use Rattle.segments.proofs.TextLaws.{fewer_characters}
 use Rattle.segments.proofs.characters.Characters.run_end.Goals as goal
 

@@ -1,7 +1,4 @@
-use Rattle.std.proofs.Common.{◌≡◌, take, drop, ap, ◌∙◌, arith}
-use Rattle.std.specs.List.{suffix_len}
-use Rattle.std.specs.Prelude.{chars}
-use Rattle.text_model.proofs.RunLaws.{run_start-le}
+use Rattle.segments.proofs.Words.{◌≡◌, take, drop, ap, ◌∙◌, arith, suffix_len, chars, run_start-le}
 use Rattle.segments.proofs.characters.Characters.run_start.Goals as goal
 
 pub overflow_sub-result : goal.overflow_sub-result

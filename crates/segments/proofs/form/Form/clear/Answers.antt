@@ -1,7 +1,4 @@
-use Rattle.std.proofs.Common.{◌≤◌, false, length, sym, ap, ◌∙◌, arith}
-use Rattle.text_model.specs.Splices.{changed}
-use Rattle.segments.specs.Columns.{LineContent, with_toggle}
-use Rattle.segments.specs.Forms.{content}
+use Rattle.segments.proofs.Words.{◌≤◌, false, length, sym, ap, ◌∙◌, arith, changed, LineContent, with_toggle, content}
 use Rattle.segments.proofs.PlainLaws.{length-plain, cleared-plain}
 use Rattle.segments.proofs.form.Form.clear.Goals as goal
 

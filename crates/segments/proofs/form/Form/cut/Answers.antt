@@ -1,6 +1,4 @@
-use Rattle.std.proofs.Common.{sym, ap, ◌∙◌}
-use Rattle.segments.specs.Columns.{line_before, line_behind, plain_line}
-use Rattle.segments.specs.Forms.{content}
+use Rattle.segments.proofs.Words.{sym, ap, ◌∙◌, line_before, line_behind, plain_line, content}
 use Rattle.segments.proofs.PlainLaws.{before-plain, behind-plain}
 use Rattle.segments.proofs.form.Form.cut.Goals as goal
 

@@ -1,8 +1,4 @@
-use Rattle.std.proofs.Common.{sym, ap, ◌∙◌}
-use Rattle.std.specs.Prelude.{chars}
-use Rattle.std.proofs.lemmas.Result.{on_ok_weaker}
-use Rattle.segments.specs.Columns.{after_text, plain_line}
-use Rattle.segments.specs.Forms.{content}
+use Rattle.segments.proofs.Words.{sym, ap, ◌∙◌, chars, on_ok_weaker, after_text, plain_line, content}
 use Rattle.segments.proofs.PlainLaws.{inserted-plain}
 use Rattle.segments.proofs.form.Form.insert_text.Goals as goal
 

@@ -1,7 +1,4 @@
-use Rattle.std.proofs.Common.{sym, ap, ap₂, ◌∙◌}
-use Rattle.std.proofs.lemmas.Result.{on_ok_weaker}
-use Rattle.segments.specs.Columns.{joined, plain_line}
-use Rattle.segments.specs.Forms.{content}
+use Rattle.segments.proofs.Words.{sym, ap, ap₂, ◌∙◌, on_ok_weaker, joined, plain_line, content}
 use Rattle.segments.proofs.PlainLaws.{joined-plain}
 use Rattle.segments.proofs.form.Form.join_copy.Goals as goal
 

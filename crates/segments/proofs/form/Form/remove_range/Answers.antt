@@ -1,7 +1,4 @@
-use Rattle.std.proofs.Common.{sym, ap, ◌∙◌}
-use Rattle.std.proofs.lemmas.Result.{on_ok_weaker}
-use Rattle.segments.specs.Columns.{after_removal, plain_line}
-use Rattle.segments.specs.Forms.{content}
+use Rattle.segments.proofs.Words.{sym, ap, ◌∙◌, on_ok_weaker, after_removal, plain_line, content}
 use Rattle.segments.proofs.PlainLaws.{removed-plain}
 use Rattle.segments.proofs.form.Form.remove_range.Goals as goal
 

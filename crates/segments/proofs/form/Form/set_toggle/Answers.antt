@@ -1,8 +1,6 @@
-use Rattle.std.proofs.Common.{◌+◌, ◌<◌, Bool, true, false, length, refl, sym, ap, ◌∙◌, arith}
+use Rattle.segments.proofs.Words.{◌+◌, ◌<◌, Bool, true, false, length, refl, sym, ap, ◌∙◌, arith, changed, LineContent}
+use Rattle.segments.proofs.Words.{with_toggle, content, is_plain}
 use Rattle.std.specs.Prelude.{◌≡◌}
-use Rattle.text_model.specs.Splices.{changed}
-use Rattle.segments.specs.Columns.{LineContent, with_toggle}
-use Rattle.segments.specs.Forms.{content, is_plain}
 use Rattle.segments.proofs.PlainLaws.{length-plain, set-plain}
 use Rattle.segments.proofs.form.Form.set_toggle.Goals as goal
 

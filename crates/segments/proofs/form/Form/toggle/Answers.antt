@@ -1,7 +1,5 @@
-use Rattle.std.proofs.Common.{◌+◌, ◌<◌, length, sym, ap, ◌∙◌, arith}
-use Rattle.text_model.specs.Splices.{changed}
-use Rattle.segments.specs.Columns.{LineContent, toggled_more}
-use Rattle.segments.specs.Forms.{content, is_plain}
+use Rattle.segments.proofs.Words.{◌+◌, ◌<◌, length, sym, ap, ◌∙◌, arith, changed, LineContent, toggled_more, content}
+use Rattle.segments.proofs.Words.{is_plain}
 use Rattle.segments.proofs.PlainLaws.{length-plain, toggled-plain}
 use Rattle.segments.proofs.form.Form.toggle.Goals as goal
 

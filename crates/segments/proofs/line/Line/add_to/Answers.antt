@@ -1,7 +1,4 @@
-use Rattle.std.proofs.Common.{sym, ap, ◌∙◌}
-use Rattle.toggle_sums.specs.Counts.{Count, counting, plus}
-use Rattle.segments.specs.Columns.{line_count}
-use Rattle.segments.specs.Forms.{content}
+use Rattle.segments.proofs.Words.{sym, ap, ◌∙◌, Count, counting, plus, line_count, content}
 use Rattle.segments.proofs.PlainLaws.{sum-plain}
 use Rattle.segments.proofs.line.Line.add_to.Goals as goal
 

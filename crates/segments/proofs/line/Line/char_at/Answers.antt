@@ -1,7 +1,4 @@
-use Rattle.std.proofs.Common.{sym, ap, ◌∙◌}
-use Rattle.std.specs.Prelude.{slice_get}
-use Rattle.segments.specs.Columns.{LineContent, characters}
-use Rattle.segments.specs.Forms.{content}
+use Rattle.segments.proofs.Words.{sym, ap, ◌∙◌, slice_get, LineContent, characters, content}
 use Rattle.segments.proofs.PlainLaws.{characters-plain}
 use Rattle.segments.proofs.line.Line.char_at.Goals as goal
 

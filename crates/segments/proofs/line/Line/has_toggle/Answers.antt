@@ -1,9 +1,5 @@
-use Rattle.std.proofs.Common.{sym, ap, ◌∙◌}
+use Rattle.segments.proofs.Words.{sym, ap, ◌∙◌, nat_cmp, Count, line_count, content}
 use Rattle.std.specs.FinSet as set
-use Rattle.std.specs.Ordering.{nat_cmp}
-use Rattle.toggle_sums.specs.Counts.{Count}
-use Rattle.segments.specs.Columns.{line_count}
-use Rattle.segments.specs.Forms.{content}
 use Rattle.segments.proofs.PlainLaws.{sum-plain}
 use Rattle.segments.proofs.line.Line.has_toggle.Goals as goal
 

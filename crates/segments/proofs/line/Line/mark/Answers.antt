@@ -1,8 +1,5 @@
-use Rattle.std.proofs.Common.{sym, ap, ◌∙◌}
-use Rattle.std.specs.Prelude.{slice_get}
+use Rattle.segments.proofs.Words.{sym, ap, ◌∙◌, slice_get, LineContent, content}
 use Rattle.std.specs.FinMap as finite
-use Rattle.segments.specs.Columns.{LineContent}
-use Rattle.segments.specs.Forms.{content}
 use Rattle.segments.proofs.PlainLaws.{mark-none}
 use Rattle.segments.proofs.line.Line.mark.Goals as goal
 

@@ -1,8 +1,4 @@
-use Rattle.std.proofs.Common.{sym, ap, ◌∙◌}
-use Rattle.std.specs.Prelude.{slice_get}
-use Rattle.text_model.specs.MarkOrder.{marks_at}
-use Rattle.segments.specs.Columns.{LineContent}
-use Rattle.segments.specs.Forms.{content}
+use Rattle.segments.proofs.Words.{sym, ap, ◌∙◌, slice_get, marks_at, LineContent, content}
 use Rattle.segments.proofs.PlainLaws.{mark_at-none}
 use Rattle.segments.proofs.line.Line.mark_at.Goals as goal
 

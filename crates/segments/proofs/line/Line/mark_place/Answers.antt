@@ -1,7 +1,5 @@
-use Rattle.std.proofs.Common.{sym, ap, ◌∙◌}
+use Rattle.segments.proofs.Words.{sym, ap, ◌∙◌, LineContent, content}
 use Rattle.std.specs.FinMap as finite
-use Rattle.segments.specs.Columns.{LineContent}
-use Rattle.segments.specs.Forms.{content}
 use Rattle.segments.proofs.PlainLaws.{place-none}
 use Rattle.segments.proofs.line.Line.mark_place.Goals as goal
 

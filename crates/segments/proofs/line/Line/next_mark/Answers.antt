@@ -1,7 +1,4 @@
-use Rattle.std.proofs.Common.{sym, ap, ◌∙◌}
-use Rattle.text_model.specs.MarkOrder.{next_mark}
-use Rattle.segments.specs.Columns.{LineContent}
-use Rattle.segments.specs.Forms.{content}
+use Rattle.segments.proofs.Words.{sym, ap, ◌∙◌, next_mark, LineContent, content}
 use Rattle.segments.proofs.PlainLaws.{next_mark-none}
 use Rattle.segments.proofs.line.Line.next_mark.Goals as goal
 

@@ -1,6 +1,4 @@
-use Rattle.std.proofs.Common.{◌≤◌, length, sym, ap, ◌∙◌, arith}
-use Rattle.segments.specs.Columns.{LineContent, next_toggle}
-use Rattle.segments.specs.Forms.{content}
+use Rattle.segments.proofs.Words.{◌≤◌, length, sym, ap, ◌∙◌, arith, LineContent, next_toggle, content}
 use Rattle.segments.proofs.PlainLaws.{length-plain, next-plain}
 use Rattle.segments.proofs.line.Line.next_toggle.Goals as goal
 

@@ -1,7 +1,5 @@
-use Rattle.std.proofs.Common.{◌≡◌, ◌++◌, sym, ap, subst, ◌∙◌}
-use Rattle.std.specs.Prelude.{OnOk, chars, slice_range, string_bytes}
-use Rattle.segments.specs.Columns.{LineContent, characters}
-use Rattle.segments.specs.Forms.{content}
+use Rattle.segments.proofs.Words.{◌≡◌, ◌++◌, sym, ap, subst, ◌∙◌, OnOk, chars, slice_range, string_bytes, LineContent}
+use Rattle.segments.proofs.Words.{characters, content}
 use Rattle.segments.proofs.PlainLaws.{characters-plain}
 use Rattle.segments.proofs.line.Line.push_text.Goals as goal
 

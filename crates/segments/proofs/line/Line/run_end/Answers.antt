@@ -1,7 +1,4 @@
-use Rattle.std.proofs.Common.{◌+◌, drop, sym, ap, ◌∙◌}
-use Rattle.std.specs.List.{prefix_len}
-use Rattle.segments.specs.Columns.{LineContent, characters}
-use Rattle.segments.specs.Forms.{content}
+use Rattle.segments.proofs.Words.{◌+◌, drop, sym, ap, ◌∙◌, prefix_len, LineContent, characters, content}
 use Rattle.segments.proofs.PlainLaws.{characters-plain}
 use Rattle.segments.proofs.line.Line.run_end.Goals as goal
 

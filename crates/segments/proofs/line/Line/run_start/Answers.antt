@@ -1,7 +1,4 @@
-use Rattle.std.proofs.Common.{◌-◌, take, sym, ap, ◌∙◌}
-use Rattle.std.specs.List.{suffix_len}
-use Rattle.segments.specs.Columns.{LineContent, characters}
-use Rattle.segments.specs.Forms.{content}
+use Rattle.segments.proofs.Words.{◌-◌, take, sym, ap, ◌∙◌, suffix_len, LineContent, characters, content}
 use Rattle.segments.proofs.PlainLaws.{characters-plain}
 use Rattle.segments.proofs.line.Line.run_start.Goals as goal
 

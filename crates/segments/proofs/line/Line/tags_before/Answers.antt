@@ -1,6 +1,4 @@
-use Rattle.std.proofs.Common.{◌+◌, sym, ap, ◌∙◌}
-use Rattle.segments.specs.Columns.{LineContent, tags_before}
-use Rattle.segments.specs.Forms.{content}
+use Rattle.segments.proofs.Words.{◌+◌, sym, ap, ◌∙◌, LineContent, tags_before, content}
 use Rattle.segments.proofs.PlainLaws.{front-plain}
 use Rattle.segments.proofs.line.Line.tags_before.Goals as goal
 

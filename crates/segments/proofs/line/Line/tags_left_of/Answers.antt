@@ -1,7 +1,4 @@
-use Rattle.std.proofs.Common.{take, sym, ap, ◌∙◌}
-use Rattle.toggle_sums.specs.Toggles.{parity}
-use Rattle.segments.specs.Columns.{LineContent, toggles}
-use Rattle.segments.specs.Forms.{content}
+use Rattle.segments.proofs.Words.{take, sym, ap, ◌∙◌, parity, LineContent, toggles, content}
 use Rattle.segments.proofs.PlainLaws.{front-plain}
 use Rattle.segments.proofs.line.Line.tags_left_of.Goals as goal
 

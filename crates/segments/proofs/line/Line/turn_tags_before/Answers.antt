@@ -1,8 +1,4 @@
-use Rattle.std.proofs.Common.{◌+◌, sym, ap, ◌∙◌}
-use Rattle.text_model.specs.SlotSets.{differing}
-use Rattle.toggle_sums.specs.CountLaws.{differing-empty}
-use Rattle.segments.specs.Columns.{LineContent, tags_before}
-use Rattle.segments.specs.Forms.{content}
+use Rattle.segments.proofs.Words.{◌+◌, sym, ap, ◌∙◌, differing, differing-empty, LineContent, tags_before, content}
 use Rattle.segments.proofs.PlainLaws.{front-plain}
 use Rattle.segments.proofs.line.Line.turn_tags_before.Goals as goal
 

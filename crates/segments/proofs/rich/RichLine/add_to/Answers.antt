@@ -1,6 +1,4 @@
-use Rattle.std.proofs.Common.{rules, ◌∙◌, ap}
-use Rattle.toggle_sums.specs.Counts.{with_toggles_of}
-use Rattle.segments.specs.Columns.{line_count}
+use Rattle.segments.proofs.Words.{rules, ◌∙◌, ap, with_toggles_of, line_count}
 use Rattle.segments.proofs.SumLaws.{counted_more, fits_more, sized}
 use Rattle.segments.proofs.rich.RichLine.add_to.Goals as goal
 

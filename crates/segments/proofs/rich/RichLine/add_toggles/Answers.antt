@@ -1,14 +1,7 @@
-use Rattle.std.proofs.Common.{◌≡◌, ◌+◌, drop, length, sym, ap, ◌∙◌, arith}
-use Rattle.std.proofs.lemmas.List.{drop_all}
+use Rattle.segments.proofs.Words.{◌≡◌, ◌+◌, drop, length, sym, ap, ◌∙◌, arith, drop_all, differing, differing-empty}
+use Rattle.segments.proofs.Words.{union-empty, Count, with_toggles_of, parity, presence, Toggled, line_count, toggles}
+use Rattle.segments.proofs.Words.{any_of, odd_of, columns_from}
 use Rattle.std.specs.FinSet as set
-use Rattle.text_model.specs.SlotSets.{differing}
-use Rattle.toggle_sums.specs.CountLaws.{differing-empty, union-empty}
-use Rattle.toggle_sums.specs.Counts.{Count, with_toggles_of}
-use Rattle.toggle_sums.specs.Toggles.{parity, presence}
-use Rattle.segments.specs.declared.toggles.Toggled.{Toggled}
-use Rattle.segments.specs.Columns.{line_count, toggles}
-use Rattle.segments.specs.Entries.{any_of, odd_of}
-use Rattle.segments.specs.Kept.{columns_from}
 use Rattle.segments.proofs.ColumnLaws.{parity-columns, presence-columns}
 use Rattle.segments.proofs.EntryLaws.{any_more, odd_more}
 use Rattle.segments.proofs.rich.RichLine.add_toggles.Goals as goal

@@ -1,7 +1,5 @@
-use Rattle.std.proofs.Common.{◌≡◌, drop}
+use Rattle.segments.proofs.Words.{◌≡◌, drop, differing, any_of, odd_of}
 use Rattle.std.specs.FinSet as set
-use Rattle.text_model.specs.SlotSets.{differing}
-use Rattle.segments.specs.Entries.{any_of, odd_of}
 use Rattle.segments.proofs.rich.RichLine.add_toggles.Given as goal
 
 abbrev pub invariant-loop-entry : goal.invariant-loop-entry

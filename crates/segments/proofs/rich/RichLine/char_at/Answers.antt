@@ -1,6 +1,4 @@
-use Rattle.std.proofs.Common.{length, sym, ap, ◌∙◌, arith}
-use Rattle.std.specs.Prelude.{slice_get}
-use Rattle.segments.specs.Columns.{LineContent, characters}
+use Rattle.segments.proofs.Words.{length, sym, ap, ◌∙◌, arith, slice_get, LineContent, characters}
 use Rattle.segments.proofs.ColumnLaws.{characters-columns, length-columns}
 use Rattle.segments.proofs.rich.RichLine.char_at.Goals as goal
 

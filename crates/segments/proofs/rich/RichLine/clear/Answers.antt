@@ -1,6 +1,4 @@
-use Rattle.std.proofs.Common.{◌≤◌, false, length, ap, ◌∙◌, arith}
-use Rattle.text_model.specs.Splices.{changed}
-use Rattle.segments.specs.Columns.{LineContent, with_toggle}
+use Rattle.segments.proofs.Words.{◌≤◌, false, length, ap, ◌∙◌, arith, changed, LineContent, with_toggle}
 use Rattle.segments.proofs.ChangeLaws.{columns_cleared}
 use Rattle.segments.proofs.ColumnLaws.{length-columns}
 use Rattle.segments.proofs.rich.RichLine.clear.Goals as goal

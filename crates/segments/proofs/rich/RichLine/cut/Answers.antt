@@ -1,13 +1,8 @@
-use Rattle.std.proofs.Common.{◌≡◌, ◌-◌, ◌≤◌, length, take, drop, sym, ap, ap₂, subst, ◌∙◌, arith, length-take, length-drop}
-use Rattle.std.proofs.lemmas.List.Elements.{All-filter}
-use Rattle.std.specs.List.{All, filter}
+use Rattle.segments.proofs.Words.{◌≡◌, ◌-◌, ◌≤◌, length, take, drop, sym, ap, ap₂, subst, ◌∙◌, arith, length-take}
+use Rattle.segments.proofs.Words.{length-drop, All-filter, All, filter, map_marks, Mark, LineContent, earlier}
+use Rattle.segments.proofs.Words.{line_before, line_behind, marks_where, CanMoveBack, LieIn, moved_back, AreKept}
+use Rattle.segments.proofs.Words.{columns_from, StandIn, marks_of, with_place}
 use Rattle.std.specs.Prelude.{map, nat_le, nat_lt}
-use Rattle.text_model.specs.Content.{map_marks}
-use Rattle.segments.specs.declared.marks.Mark.{Mark}
-use Rattle.segments.specs.Columns.{LineContent, earlier, line_before, line_behind, marks_where}
-use Rattle.segments.specs.Entries.{CanMoveBack, LieIn, moved_back}
-use Rattle.segments.specs.Kept.{AreKept, columns_from}
-use Rattle.segments.specs.Marks.{StandIn, marks_of, with_place}
 use Rattle.segments.proofs.ColumnLaws.{length-columns}
 use Rattle.segments.proofs.MovedLaws.{can_move_back}
 use Rattle.segments.proofs.PartLaws.{before_lies, behind_lie, behind_lies, columns_before, columns_behind, marks_before}

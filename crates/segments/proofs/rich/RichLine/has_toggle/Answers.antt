@@ -1,11 +1,6 @@
-use Rattle.std.proofs.Common.{◌∙◌, ap, sym, length, arith}
-use Rattle.std.proofs.lemmas.List.{drop_all}
+use Rattle.segments.proofs.Words.{◌∙◌, ap, sym, length, arith, drop_all, nat_cmp, presence, Toggled, LineContent}
+use Rattle.segments.proofs.Words.{toggles, any_of}
 use Rattle.std.specs.FinSet as set
-use Rattle.std.specs.Ordering.{nat_cmp}
-use Rattle.toggle_sums.specs.Toggles.{presence}
-use Rattle.segments.specs.declared.toggles.Toggled.{Toggled}
-use Rattle.segments.specs.Columns.{LineContent, toggles}
-use Rattle.segments.specs.Entries.{any_of}
 use Rattle.segments.proofs.ColumnLaws.{presence-columns}
 use Rattle.segments.proofs.SumLaws.{met_slot, passed_slot}
 use Rattle.segments.proofs.rich.RichLine.has_toggle.Goals as goal

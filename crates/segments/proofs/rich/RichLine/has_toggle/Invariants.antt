@@ -1,6 +1,5 @@
-use Rattle.std.proofs.Common.{◌≡◌, drop}
+use Rattle.segments.proofs.Words.{◌≡◌, drop, any_of}
 use Rattle.std.specs.FinSet as set
-use Rattle.segments.specs.Entries.{any_of}
 use Rattle.segments.proofs.rich.RichLine.has_toggle.Given as goal
 
 abbrev pub invariant-loop-entry : goal.invariant-loop-entry

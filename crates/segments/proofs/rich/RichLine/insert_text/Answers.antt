@@ -1,19 +1,14 @@
-use Rattle.std.proofs.Common.{◌≡◌, ◌+◌, ◌-◌, ◌≤◌, ◌++◌, length, map, take, drop, refl, sym, ap, subst, ◌∙◌, arith}
-use Rattle.std.specs.Prelude.{chars}
-use Rattle.std.proofs.lemmas.List.{length-map}
-use Rattle.text_model.specs.Content.{map_marks}
-use Rattle.text_model.specs.Splices.{inserted, moved}
-use Rattle.text_model.proofs.SpliceLaws.{length-inserted}
-use Rattle.segments.specs.Columns.{LineContent, after_text}
-use Rattle.segments.specs.Entries.{LieIn}
-use Rattle.segments.specs.Kept.{AreKept, columns_from}
-use Rattle.segments.specs.Marks.{StandIn, marks_of, with_place}
+use Rattle.segments.proofs.Words.{◌≡◌, ◌+◌, ◌-◌, ◌≤◌, ◌++◌, length, map, take, drop, refl, sym, ap, subst, ◌∙◌, arith}
+use Rattle.segments.proofs.Words.{chars, length-map, map_marks, inserted, moved, length-inserted, LineContent}
+use Rattle.segments.proofs.Words.{after_text, LieIn, AreKept, columns_from, StandIn, marks_of, with_place}
 use Rattle.segments.proofs.ColumnLaws.{length-columns}
 use Rattle.segments.proofs.InsertionLaws.{columns_inserted, moved_lie}
-use Rattle.segments.proofs.MarkPlaceLaws.{Rise-placed, marks_of-placed, moved_reach, moved_stand, moved_within, written_over}
+use Rattle.segments.proofs.MarkPlaceLaws.{Rise-placed, marks_of-placed, moved_reach, moved_stand, moved_within}
+use Rattle.segments.proofs.MarkPlaceLaws.{written_over}
 use Rattle.segments.proofs.MovedLaws.{can_move_on}
 use Rattle.segments.proofs.rich.RichLine.insert_text.Goals as goal
-use Rattle.segments.proofs.rich.RichLine.insert_text.Goals.{After-count_before-start, After-len-len, After-move_marks-self-inside}
+use Rattle.segments.proofs.rich.RichLine.insert_text.Goals.{After-count_before-start, After-len-len}
+use Rattle.segments.proofs.rich.RichLine.insert_text.Goals.{After-move_marks-self-inside}
 
 within : (c : After-len-len) → c.args.column ≤ length c.self.inside.text
 within c =

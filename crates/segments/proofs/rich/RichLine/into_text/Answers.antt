@@ -1,5 +1,4 @@
-use Rattle.std.proofs.Common.{sym, ap, ◌∙◌}
-use Rattle.segments.specs.Columns.{LineContent, characters}
+use Rattle.segments.proofs.Words.{sym, ap, ◌∙◌, LineContent, characters}
 use Rattle.segments.proofs.ColumnLaws.{characters-columns}
 use Rattle.segments.proofs.rich.RichLine.into_text.Goals as goal
 

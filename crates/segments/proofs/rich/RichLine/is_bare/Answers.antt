@@ -1,6 +1,5 @@
-use Rattle.std.proofs.Common.{◌≡◌, ℕ, true, nat_eq, length, sym, ap, ◌∙◌, arith}
-use Rattle.std.proofs.lemmas.Bool.Decides.{nat_tests}
-use Rattle.segments.specs.Columns.{LineContent, characters, plain_line}
+use Rattle.segments.proofs.Words.{◌≡◌, ℕ, true, nat_eq, length, sym, ap, ◌∙◌, arith, nat_tests, LineContent, characters}
+use Rattle.segments.proofs.Words.{plain_line}
 use Rattle.segments.proofs.PlainLaws.{bare}
 use Rattle.segments.proofs.rich.RichLine.is_bare.Goals as goal
 

@@ -1,9 +1,5 @@
-use Rattle.std.proofs.Common.{◌≡◌, ◌+◌, ◌++◌, ◌<◌, ◌^◌, length, map, sym, ap, ap₂, subst, ◌∙◌, arith}
-use Rattle.std.proofs.Common.{length-append}
-use Rattle.std.specs.List.{All}
-use Rattle.segments.specs.Columns.{LineContent}
-use Rattle.segments.specs.Entries.{CanMoveOn, LieIn, moved_on}
-use Rattle.segments.specs.Kept.{columns_from}
+use Rattle.segments.proofs.Words.{◌≡◌, ◌+◌, ◌++◌, ◌<◌, ◌^◌, length, map, sym, ap, ap₂, subst, ◌∙◌, arith, length-append}
+use Rattle.segments.proofs.Words.{All, LineContent, CanMoveOn, LieIn, moved_on, columns_from}
 use Rattle.segments.proofs.ColumnLaws.{length-columns}
 use Rattle.segments.proofs.MovedLaws.{can_move_on}
 use Rattle.segments.proofs.PartLaws.{columns_joined, joined_lie, not_refused, rest_added, rest_moved}

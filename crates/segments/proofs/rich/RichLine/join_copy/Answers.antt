@@ -1,10 +1,7 @@
-use Rattle.std.proofs.Common.{◌≡◌, ◌+◌, ◌<◌, ◌^◌, List, [], ◌∷◌, length, refl, sym, ap, ap₂, subst, ◌∙◌, arith, length-append}
-use Rattle.std.proofs.lemmas.Bool.Decides.{nat_tests}
-use Rattle.std.proofs.lemmas.Result.{on_ok_weaker}
+use Rattle.segments.proofs.Words.{◌≡◌, ◌+◌, ◌<◌, ◌^◌, List, [], ◌∷◌, length, refl, sym, ap, ap₂, subst, ◌∙◌, arith}
+use Rattle.segments.proofs.Words.{length-append, nat_tests, on_ok_weaker, Mark, LineContent, joined_marks, StandIn}
+use Rattle.segments.proofs.Words.{marks_of}
 use Rattle.std.specs.FinMap as finite
-use Rattle.segments.specs.declared.marks.Mark.{Mark}
-use Rattle.segments.specs.Columns.{LineContent, joined_marks}
-use Rattle.segments.specs.Marks.{StandIn, marks_of}
 use Rattle.segments.proofs.ColumnLaws.{length-columns}
 use Rattle.segments.proofs.MarkLaws.{joined_none, marks_of-nil}
 use Rattle.segments.proofs.MarkPlaceLaws.{kept_stand}

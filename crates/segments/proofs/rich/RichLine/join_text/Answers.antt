@@ -1,8 +1,6 @@
-use Rattle.std.proofs.Common.{◌≡◌, ◌+◌, ◌++◌, length, sym, ap, ◌∙◌, arith, length-append}
+use Rattle.segments.proofs.Words.{◌≡◌, ◌+◌, ◌++◌, length, sym, ap, ◌∙◌, arith, length-append, joined, joined_marks}
+use Rattle.segments.proofs.Words.{plain_columns, plain_line, columns_from, marks_of}
 use Rattle.std.specs.FinMap as finite
-use Rattle.segments.specs.Columns.{joined, joined_marks, plain_columns, plain_line}
-use Rattle.segments.specs.Kept.{columns_from}
-use Rattle.segments.specs.Marks.{marks_of}
 use Rattle.segments.proofs.EntryLaws.{LieIn-wide}
 use Rattle.segments.proofs.MarkLaws.{joined_none}
 use Rattle.segments.proofs.PartLaws.{joined_text}

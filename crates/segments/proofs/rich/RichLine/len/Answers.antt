@@ -1,5 +1,4 @@
-use Rattle.std.proofs.Common.{length, sym, ap, ◌∙◌}
-use Rattle.segments.specs.Columns.{LineContent}
+use Rattle.segments.proofs.Words.{length, sym, ap, ◌∙◌, LineContent}
 use Rattle.segments.proofs.ColumnLaws.{length-columns}
 use Rattle.segments.proofs.rich.RichLine.len.Goals as goal
 

@@ -1,10 +1,6 @@
-use Rattle.std.proofs.Common.{◌<◌, ◌≤◌, length, get_or, refl, sym, ap, subst, ◌∙◌}
-use Rattle.std.proofs.lemmas.Option.{slice_get_past, slice_get_read}
+use Rattle.segments.proofs.Words.{◌<◌, ◌≤◌, length, get_or, refl, sym, ap, subst, ◌∙◌, slice_get_past, slice_get_read}
+use Rattle.segments.proofs.Words.{option_map, slice_get, Mark, LineContent, entry_of}
 use Rattle.std.specs.FinMap as finite
-use Rattle.std.specs.Prelude.{option_map, slice_get}
-use Rattle.segments.specs.declared.marks.Mark.{Mark}
-use Rattle.segments.specs.Columns.{LineContent}
-use Rattle.segments.specs.Marks.{entry_of}
 use Rattle.segments.proofs.ColumnLaws.{length-columns}
 use Rattle.segments.proofs.MarkLaws.{slice_get-marks_of}
 use Rattle.segments.proofs.MarkPlaceLaws.{kept_stand}

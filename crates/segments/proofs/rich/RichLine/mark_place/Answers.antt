@@ -1,8 +1,5 @@
-use Rattle.std.proofs.Common.{◌≤◌, length, sym, ap, subst, ◌∙◌}
+use Rattle.segments.proofs.Words.{◌≤◌, length, sym, ap, subst, ◌∙◌, stands_if_some, LineContent, marks_of}
 use Rattle.std.specs.FinMap as finite
-use Rattle.text_model.proofs.PlaceLaws.{stands_if_some}
-use Rattle.segments.specs.Columns.{LineContent}
-use Rattle.segments.specs.Marks.{marks_of}
 use Rattle.segments.proofs.ColumnLaws.{length-columns}
 use Rattle.segments.proofs.MarkOrderLaws.{mark_stands}
 use Rattle.segments.proofs.MarkPlaceLaws.{kept_stand}

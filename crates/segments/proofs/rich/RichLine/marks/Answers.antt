@@ -1,5 +1,4 @@
-use Rattle.std.proofs.Common.{sym, ap, ◌∙◌}
-use Rattle.segments.specs.Columns.{line_count}
+use Rattle.segments.proofs.Words.{sym, ap, ◌∙◌, line_count}
 use Rattle.segments.proofs.MarkPlaceLaws.{len-marks}
 use Rattle.segments.proofs.rich.RichLine.marks.Goals as goal
 

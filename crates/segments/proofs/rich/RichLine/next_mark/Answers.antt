@@ -1,9 +1,5 @@
-use Rattle.std.proofs.Common.{◌≤◌, length, sym, ap, subst, ◌∙◌}
-use Rattle.std.specs.Prelude.{IfSome}
-use Rattle.text_model.specs.MarkOrder.{next_mark}
-use Rattle.text_model.proofs.MarkOrderLaws.{next_mark-above}
-use Rattle.segments.specs.Columns.{LineContent}
-use Rattle.segments.specs.Marks.{marks_of}
+use Rattle.segments.proofs.Words.{◌≤◌, length, sym, ap, subst, ◌∙◌, IfSome, next_mark, next_mark-above, LineContent}
+use Rattle.segments.proofs.Words.{marks_of}
 use Rattle.segments.proofs.ColumnLaws.{length-columns}
 use Rattle.segments.proofs.MarkOrderLaws.{next_mark-stands}
 use Rattle.segments.proofs.MarkPlaceLaws.{kept_stand}

@@ -1,9 +1,5 @@
-use Rattle.std.proofs.Common.{◌≡◌, ◌*◌, ◌<◌, ◌≤◌, length, drop, sym, ap, subst, ◌∙◌, arith}
-use Rattle.std.proofs.lemmas.List.{take_rest}
-use Rattle.std.specs.Prelude.{IfSome}
-use Rattle.text_model.specs.declared.tag_set.TheConstants.{WORDS}
-use Rattle.segments.specs.Columns.{LineContent, next_toggle}
-use Rattle.segments.specs.Entries.{next_entry}
+use Rattle.segments.proofs.Words.{◌≡◌, ◌*◌, ◌<◌, ◌≤◌, length, drop, sym, ap, subst, ◌∙◌, arith, take_rest, IfSome}
+use Rattle.segments.proofs.Words.{WORDS, LineContent, next_toggle, next_entry}
 use Rattle.segments.proofs.ColumnLaws.{length-columns}
 use Rattle.segments.proofs.NextLaws.{next_above, next_behind, next_below, next_column}
 use Rattle.segments.proofs.rich.RichLine.next_toggle.Goals as goal

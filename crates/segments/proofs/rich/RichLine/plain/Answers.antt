@@ -1,7 +1,5 @@
-use Rattle.std.proofs.Common.{◌≡◌, ap, ◌∙◌}
+use Rattle.segments.proofs.Words.{◌≡◌, ap, ◌∙◌, columns_from, marks_of}
 use Rattle.std.specs.FinMap as finite
-use Rattle.segments.specs.Kept.{columns_from}
-use Rattle.segments.specs.Marks.{marks_of}
 use Rattle.segments.proofs.ColumnLaws.{columns-plain}
 use Rattle.segments.proofs.MarkLaws.{marks_of-nil}
 use Rattle.segments.proofs.rich.RichLine.plain.Goals as goal

@@ -1,9 +1,5 @@
-use Rattle.std.proofs.Common.{◌<◌, ◌≤◌, length, sym, ap, subst, ◌∙◌}
-use Rattle.std.specs.Prelude.{IfSome}
-use Rattle.text_model.specs.MarkOrder.{previous_mark}
-use Rattle.text_model.proofs.MarkOrderLaws.{previous_mark-below}
-use Rattle.segments.specs.Columns.{LineContent}
-use Rattle.segments.specs.Marks.{marks_of}
+use Rattle.segments.proofs.Words.{◌<◌, ◌≤◌, length, sym, ap, subst, ◌∙◌, IfSome, previous_mark, previous_mark-below}
+use Rattle.segments.proofs.Words.{LineContent, marks_of}
 use Rattle.segments.proofs.ColumnLaws.{length-columns}
 use Rattle.segments.proofs.MarkOrderLaws.{previous_mark-stands}
 use Rattle.segments.proofs.MarkPlaceLaws.{kept_stand}

@@ -1,6 +1,4 @@
-use Rattle.std.proofs.Common.{◌<◌, ◌≤◌, length, sym, ap, subst, ◌∙◌, arith}
-use Rattle.std.specs.Prelude.{IfSome}
-use Rattle.segments.specs.Columns.{LineContent, previous_toggle}
+use Rattle.segments.proofs.Words.{◌<◌, ◌≤◌, length, sym, ap, subst, ◌∙◌, arith, IfSome, LineContent, previous_toggle}
 use Rattle.segments.proofs.ColumnLaws.{length-columns}
 use Rattle.segments.proofs.NextLaws.{previous_below, previous_column}
 use Rattle.segments.proofs.rich.RichLine.previous_toggle.Goals as goal

@@ -1,5 +1,4 @@
-use Rattle.std.proofs.Common.{length, ap, arith}
-use Rattle.segments.specs.Columns.{LineContent}
+use Rattle.segments.proofs.Words.{length, ap, arith, LineContent}
 use Rattle.segments.proofs.ColumnLaws.{characters-columns, length-columns}
 use Rattle.segments.proofs.rich.RichLine.push_text.Goals as goal
 

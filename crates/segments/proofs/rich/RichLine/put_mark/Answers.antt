@@ -1,7 +1,4 @@
-use Rattle.std.proofs.Common.{◌≡◌, ◌≤◌, length, max, sym, ap, subst, ◌∙◌, arith}
-use Rattle.std.proofs.lemmas.List.Elements.{All-weaker}
-use Rattle.segments.specs.declared.marks.Mark.{Mark}
-use Rattle.segments.specs.Columns.{LineContent}
+use Rattle.segments.proofs.Words.{◌≡◌, ◌≤◌, length, max, sym, ap, subst, ◌∙◌, arith, All-weaker, Mark, LineContent}
 use Rattle.segments.proofs.ColumnLaws.{length-columns}
 use Rattle.segments.proofs.rich.RichLine.put_mark.Goals as goal
 

@@ -1,16 +1,12 @@
-use Rattle.std.proofs.Common.{◌≡◌, ◌+◌, ◌-◌, ◌≤◌, ◌++◌, length, map, take, drop, sym, ap, subst, ◌∙◌, arith}
-use Rattle.std.proofs.lemmas.List.{length-map}
-use Rattle.text_model.specs.Splices.{drawn}
-use Rattle.text_model.proofs.SpliceLaws.{length-removed}
-use Rattle.segments.specs.Columns.{LineContent, after_removal}
-use Rattle.segments.specs.Entries.{LieIn}
-use Rattle.segments.specs.Kept.{AreKept, columns_from}
-use Rattle.segments.specs.Marks.{marks_of, with_place}
+use Rattle.segments.proofs.Words.{◌≡◌, ◌+◌, ◌-◌, ◌≤◌, ◌++◌, length, map, take, drop, sym, ap, subst, ◌∙◌, arith}
+use Rattle.segments.proofs.Words.{length-map, drawn, length-removed, LineContent, after_removal, LieIn, AreKept}
+use Rattle.segments.proofs.Words.{columns_from, marks_of, with_place}
 use Rattle.segments.proofs.ColumnLaws.{length-columns}
 use Rattle.segments.proofs.InsertionLaws.{columns_removed}
 use Rattle.segments.proofs.MarkPlaceLaws.{Rise-placed, StandIn-placed, marks_of-placed, written_over}
 use Rattle.segments.proofs.rich.RichLine.remove_range.Goals as goal
-use Rattle.segments.proofs.rich.RichLine.remove_range.Goals.{After-draw_marks-self-inside, After-len-len, After-remove_columns}
+use Rattle.segments.proofs.rich.RichLine.remove_range.Goals.{After-draw_marks-self-inside, After-len-len}
+use Rattle.segments.proofs.rich.RichLine.remove_range.Goals.{After-remove_columns}
 
 within : (c : After-len-len) → c.args.to ≤ length c.self.inside.text
 within c =

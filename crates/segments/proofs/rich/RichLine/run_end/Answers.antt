@@ -1,6 +1,4 @@
-use Rattle.std.proofs.Common.{◌+◌, drop, length, sym, ap, ◌∙◌, arith}
-use Rattle.std.specs.List.{prefix_len}
-use Rattle.segments.specs.Columns.{LineContent, characters}
+use Rattle.segments.proofs.Words.{◌+◌, drop, length, sym, ap, ◌∙◌, arith, prefix_len, LineContent, characters}
 use Rattle.segments.proofs.ColumnLaws.{characters-columns, length-columns}
 use Rattle.segments.proofs.rich.RichLine.run_end.Goals as goal
 

@@ -1,6 +1,4 @@
-use Rattle.std.proofs.Common.{◌-◌, take, length, sym, ap, ◌∙◌, arith}
-use Rattle.std.specs.List.{suffix_len}
-use Rattle.segments.specs.Columns.{LineContent, characters}
+use Rattle.segments.proofs.Words.{◌-◌, take, length, sym, ap, ◌∙◌, arith, suffix_len, LineContent, characters}
 use Rattle.segments.proofs.ColumnLaws.{characters-columns, length-columns}
 use Rattle.segments.proofs.rich.RichLine.run_start.Goals as goal
 

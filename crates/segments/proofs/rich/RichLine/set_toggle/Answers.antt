@@ -1,12 +1,6 @@
-use Rattle.std.proofs.Common.{◌≡◌, ◌+◌, ◌<◌, length, refl, sym, ap, ◌∙◌, arith}
-use Rattle.std.proofs.lemmas.Bool.{false≢true}
-use Rattle.std.proofs.lemmas.Result.{on_ok_weaker}
-use Rattle.std.specs.Cmp.{booleans_Decides}
+use Rattle.segments.proofs.Words.{◌≡◌, ◌+◌, ◌<◌, length, refl, sym, ap, ◌∙◌, arith, false≢true, on_ok_weaker}
+use Rattle.segments.proofs.Words.{booleans_Decides, changed, set_slot, LineContent, with_toggle, toggled_at}
 use Rattle.std.specs.FinSet as finset
-use Rattle.text_model.specs.Splices.{changed}
-use Rattle.text_model.specs.Steps.{set_slot}
-use Rattle.segments.specs.Columns.{LineContent, with_toggle}
-use Rattle.segments.specs.Entries.{toggled_at}
 use Rattle.segments.proofs.ChangeLaws.{columns_changed, columns_turned, slots_kept}
 use Rattle.segments.proofs.ColumnLaws.{length-columns}
 use Rattle.segments.proofs.rich.RichLine.set_toggle.Goals as goal

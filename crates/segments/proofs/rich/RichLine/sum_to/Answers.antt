@@ -1,6 +1,4 @@
-use Rattle.std.proofs.Common.{◌∙◌, ap}
-use Rattle.toggle_sums.specs.Counts.{with_toggles_of}
-use Rattle.segments.specs.Columns.{line_count}
+use Rattle.segments.proofs.Words.{◌∙◌, ap, with_toggles_of, line_count}
 use Rattle.segments.proofs.SumLaws.{counted, sized}
 use Rattle.segments.proofs.rich.RichLine.sum_to.Goals as goal
 

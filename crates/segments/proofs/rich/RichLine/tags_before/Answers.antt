@@ -1,7 +1,4 @@
-use Rattle.std.proofs.Common.{◌∙◌, ap}
-use Rattle.toggle_sums.specs.CountLaws.{empty-differing}
-use Rattle.text_model.specs.SlotSets.{differing}
-use Rattle.segments.specs.Columns.{tags_before}
+use Rattle.segments.proofs.Words.{◌∙◌, ap, empty-differing, differing, tags_before}
 use Rattle.segments.proofs.rich.RichLine.tags_before.Goals as goal
 
 pub returns : goal.returns

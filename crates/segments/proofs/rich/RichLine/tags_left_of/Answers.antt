@@ -1,7 +1,4 @@
-use Rattle.std.proofs.Common.{length, take, ap, ◌∙◌, arith}
-use Rattle.toggle_sums.specs.Toggles.{parity}
-use Rattle.segments.specs.Columns.{LineContent, toggles}
-use Rattle.segments.specs.Entries.{odd_of}
+use Rattle.segments.proofs.Words.{length, take, ap, ◌∙◌, arith, parity, LineContent, toggles, odd_of}
 use Rattle.segments.proofs.ColumnLaws.{front-entries}
 use Rattle.segments.proofs.rich.RichLine.tags_left_of.Goals as goal
 

@@ -1,7 +1,4 @@
-use Rattle.std.proofs.Common.{◌+◌, ◌<◌, length, ap, ◌∙◌, arith}
-use Rattle.std.proofs.lemmas.Result.{on_ok_weaker}
-use Rattle.text_model.specs.Splices.{changed}
-use Rattle.segments.specs.Columns.{LineContent, toggled_more}
+use Rattle.segments.proofs.Words.{◌+◌, ◌<◌, length, ap, ◌∙◌, arith, on_ok_weaker, changed, LineContent, toggled_more}
 use Rattle.segments.proofs.ChangeLaws.{columns_flipped}
 use Rattle.segments.proofs.ColumnLaws.{length-columns}
 use Rattle.segments.proofs.rich.RichLine.toggle.Goals as goal

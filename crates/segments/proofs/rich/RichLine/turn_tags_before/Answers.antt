@@ -1,8 +1,5 @@
-use Rattle.std.proofs.Common.{length, take, sym, ap, ◌∙◌, arith}
-use Rattle.text_model.specs.SlotSets.{differing}
-use Rattle.segments.specs.Columns.{LineContent, tags_before}
-use Rattle.segments.specs.Entries.{odd_of}
-use Rattle.segments.specs.Kept.{columns_from}
+use Rattle.segments.proofs.Words.{length, take, sym, ap, ◌∙◌, arith, differing, LineContent, tags_before, odd_of}
+use Rattle.segments.proofs.Words.{columns_from}
 use Rattle.segments.proofs.ColumnLaws.{length-columns, tags-entries, tags-whole}
 use Rattle.segments.proofs.rich.RichLine.turn_tags_before.Goals as goal
 

@@ -1,10 +1,5 @@
-use Rattle.std.proofs.Common.{ap, sym, ◌∙◌, subst, map}
-use Rattle.std.specs.Prelude.{chars, string_bytes}
-use Rattle.std.proofs.lemmas.List.{map_push}
-use Rattle.name_list.specs.Names.{Names}
-use Rattle.tag_table.specs.Kept.{AreKept, tag}
-use Rattle.tag_table.specs.Priority.{deleted}
-use Rattle.tag_table.specs.Tags.{Tags, slot_of, slots_of, IsLeastFree}
+use Rattle.tag_table.proofs.Words.{ap, sym, ◌∙◌, subst, map, chars, string_bytes, map_push, Names, AreKept, tag}
+use Rattle.tag_table.proofs.Words.{deleted, Tags, slot_of, slots_of, IsLeastFree}
 use Rattle.tag_table.proofs.TagLaws.{no_place, AreKept-push, IsLeastFree-slot, deleted-push, sel_number}
 use Rattle.tag_table.proofs.tags.TagTable.create.Goals as goal
 

@@ -1,9 +1,6 @@
-use Rattle.std.proofs.Common.{ap, sym, ◌∙◌, subst}
-use Rattle.name_list.proofs.ViewLaws.{map-remove}
-use Rattle.std.specs.Prelude.{chars, remove, ◌-◌}
-use Rattle.tag_table.specs.Kept.{AreKept, tag, tags_kept}
-use Rattle.tag_table.specs.Priority.{deleted}
-use Rattle.tag_table.specs.Tags.{Tags}
+use Rattle.tag_table.proofs.Words.{ap, sym, ◌∙◌, subst, map-remove, chars, remove, AreKept, tag, tags_kept, deleted}
+use Rattle.tag_table.proofs.Words.{Tags}
+use Rattle.std.specs.Prelude.{◌-◌}
 use Rattle.tag_table.proofs.TagLaws.{place_of_tag, is_sel, deleted-sel, deleted-at, deleted-none, AreKept-remove}
 use Rattle.tag_table.proofs.tags.TagTable.delete.Goals as goal
 

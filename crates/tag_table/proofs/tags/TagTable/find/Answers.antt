@@ -1,6 +1,4 @@
-use Rattle.std.proofs.Common.{ap, sym, ◌∙◌}
-use Rattle.std.specs.Prelude.{chars}
-use Rattle.std.specs.Option.{option_map}
+use Rattle.tag_table.proofs.Words.{ap, sym, ◌∙◌, chars, option_map}
 use Rattle.tag_table.proofs.TagLaws.{place_of_tag, slot_at, no_slot}
 use Rattle.tag_table.proofs.tags.TagTable.find.Goals as goal
 

@@ -1,5 +1,4 @@
-use Rattle.std.proofs.Common.{subst}
-use Rattle.tag_table.specs.Tags.{AreTags}
+use Rattle.tag_table.proofs.Words.{subst, AreTags}
 use Rattle.tag_table.proofs.TagLaws.{AreTags-kept}
 use Rattle.tag_table.proofs.tags.TagTable.len.Goals as goal
 

@@ -1,12 +1,5 @@
-use Rattle.std.proofs.Common.{ap, sym, ◌∙◌, Ok, map, length, ◌<◌, subst}
-use Rattle.std.specs.Prelude.{chars}
-use Rattle.std.proofs.lemmas.List.{length-map}
-use Rattle.std.proofs.lemmas.Result.{err_from_is_err_and}
-use Rattle.name_list.proofs.ViewLaws.{map-move_index}
-use Rattle.name_list.specs.Moves.{move_index}
-use Rattle.name_list.specs.Names.{Names}
-use Rattle.tag_table.specs.Kept.{AreKept, tag}
-use Rattle.tag_table.specs.Tags.{Tags}
+use Rattle.tag_table.proofs.Words.{ap, sym, ◌∙◌, Ok, map, length, ◌<◌, subst, chars, length-map, err_from_is_err_and}
+use Rattle.tag_table.proofs.Words.{map-move_index, move_index, Names, AreKept, tag, Tags}
 use Rattle.tag_table.proofs.TagLaws.{place_of_tag, lowered-unknown, lowered-to, lowered-fault, AreKept-move}
 use Rattle.tag_table.proofs.tags.TagTable.lower.Goals as goal
 

@@ -1,7 +1,4 @@
-use Rattle.std.proofs.Common.{ap, ◌∙◌, Some, sym}
-use Rattle.std.specs.Option.{option_map}
-use Rattle.std.proofs.lemmas.Option.{slice_get-map}
-use Rattle.tag_table.specs.Kept.{slot_of_number}
+use Rattle.tag_table.proofs.Words.{ap, ◌∙◌, Some, sym, option_map, slice_get-map, slot_of_number}
 use Rattle.tag_table.proofs.TagLaws.{slots_seen}
 use Rattle.tag_table.proofs.tags.TagTable.slot.Goals as goal
 

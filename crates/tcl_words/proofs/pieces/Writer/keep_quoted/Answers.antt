@@ -1,8 +1,5 @@
-use Rattle.std.proofs.Common.{◌++◌, ◌∙◌, IsUtf8, string_bytes, sym, ap, subst, arith}
-use Rattle.std.proofs.lemmas.Str.{IsUtf8-drop}
-use Rattle.tcl_words.specs.EscapeSteps.{pair_gives}
-use Rattle.tcl_words.specs.declared.stage.Stage.TheVariants.{Text}
-use Rattle.tcl_words.specs.declared.stage.TextWord.TheVariants.{Quoted}
+use Rattle.tcl_words.proofs.Words.{◌++◌, ◌∙◌, IsUtf8, string_bytes, sym, ap, subst, arith, IsUtf8-drop, pair_gives}
+use Rattle.tcl_words.proofs.Words.{Text, Quoted}
 use Rattle.tcl_words.proofs.Plain.{run_at, front_range}
 use Rattle.tcl_words.proofs.Pairs.{run_kept, pair_written, pair_boundary}
 use Rattle.tcl_words.proofs.pieces.Writer.keep_quoted.Goals as goal

@@ -1,7 +1,4 @@
-use Rattle.std.proofs.Common.{◌≡◌, ◌≤◌, IsUtf8, map, length, string_bytes}
-use Rattle.tcl_words.specs.Scanning.{words_on}
-use Rattle.tcl_words.specs.declared.stage.Stage.TheVariants.{Text}
-use Rattle.tcl_words.specs.declared.stage.TextWord.TheVariants.{Quoted}
+use Rattle.tcl_words.proofs.Words.{◌≡◌, ◌≤◌, IsUtf8, map, length, string_bytes, words_on, Text, Quoted}
 use Rattle.tcl_words.proofs.pieces.Writer.keep_quoted.Given as goal
 
 abbrev pub invariant-loop-bytes : goal.invariant-loop-bytes

@@ -1,6 +1,4 @@
-use Rattle.std.proofs.Common.{◌+◌, ◌-◌, ◌∙◌, ap, arith, drop, length-take, length-drop}
-use Rattle.std.proofs.lemmas.List.{take_rest}
-use Rattle.tcl_words.specs.Scanning.{later}
+use Rattle.tcl_words.proofs.Words.{◌+◌, ◌-◌, ◌∙◌, ap, arith, drop, length-take, length-drop, take_rest, later}
 use Rattle.tcl_words.proofs.Finding.{progress_more, progress_scan, progress_reaches, progress_depth, command_of}
 use Rattle.tcl_words.proofs.Finding.{refused_of, refused_met, reached_of, no_fault_of, stops_after}
 use Rattle.tcl_words.proofs.progress.Progress.find_command.Goals as goal

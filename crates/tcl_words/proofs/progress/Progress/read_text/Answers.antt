@@ -1,4 +1,4 @@
-use Rattle.std.proofs.lemmas.List.{take_rest}
+use Rattle.tcl_words.proofs.Words.{take_rest}
 use Rattle.tcl_words.proofs.Finding.{progress_more}
 use Rattle.tcl_words.proofs.progress.Progress.read_text.Goals as goal
 

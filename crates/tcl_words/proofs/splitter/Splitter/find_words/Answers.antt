@@ -1,6 +1,4 @@
-use Rattle.std.proofs.Common.{◌∙◌, sym, subst, ap, take}
-use Rattle.tcl_words.specs.Unread.{Unread}
-use Rattle.tcl_words.specs.Progression.{IsCommandOf}
+use Rattle.tcl_words.proofs.Words.{◌∙◌, sym, subst, ap, take, Unread, IsCommandOf}
 use Rattle.tcl_words.proofs.Splitting.{words_found, not_none}
 use Rattle.tcl_words.proofs.splitter.Splitter.find_words.Goals as goal
 

@@ -1,5 +1,4 @@
-use Rattle.std.proofs.Common.{arith, ap}
-use Rattle.tcl_words.specs.Unread.{Unread}
+use Rattle.tcl_words.proofs.Words.{arith, ap, Unread}
 use Rattle.tcl_words.proofs.Splitting.{passed_in}
 use Rattle.tcl_words.proofs.splitter.Splitter.give.Goals as goal
 

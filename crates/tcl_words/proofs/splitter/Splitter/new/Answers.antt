@@ -1,5 +1,4 @@
-use Rattle.std.proofs.Common.{arith}
-use Rattle.std.proofs.lemmas.Str.{IsUtf8-nil}
+use Rattle.tcl_words.proofs.Words.{arith, IsUtf8-nil}
 use Rattle.tcl_words.proofs.Splitting.{starts}
 use Rattle.tcl_words.proofs.splitter.Splitter.new.Goals as goal
 

@@ -1,7 +1,4 @@
-use Rattle.std.proofs.Common.{◌≡◌, ◌∙◌, None, sym, ap, rules, subst, take, drop}
-use Rattle.std.proofs.lemmas.List.{take_rest}
-use Rattle.tcl_words.specs.Unread.{Unread}
-use Rattle.tcl_words.specs.Progression.{IsProgress}
+use Rattle.tcl_words.proofs.Words.{◌≡◌, ◌∙◌, None, sym, ap, rules, subst, take, drop, take_rest, Unread, IsProgress}
 use Rattle.tcl_words.proofs.Splitting.{plain_result}
 use Rattle.tcl_words.proofs.splitter.Splitter.plain_command.Goals as goal
 

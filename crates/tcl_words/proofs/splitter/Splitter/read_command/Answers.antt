@@ -1,5 +1,4 @@
-use Rattle.std.proofs.Common.{◌≡◌, ◌∙◌, false, is_some, sym, ap, subst}
-use Rattle.tcl_words.specs.Unread.{Unread, TakesCommand, texts_of}
+use Rattle.tcl_words.proofs.Words.{◌≡◌, ◌∙◌, false, is_some, sym, ap, subst, Unread, TakesCommand, texts_of}
 use Rattle.tcl_words.proofs.Splitting.{takes}
 use Rattle.tcl_words.proofs.splitter.Splitter.read_command.Goals as goal
 use Rattle.tcl_words.proofs.splitter.Splitter.read_command.Goals.{in-Some, in_default}

@@ -1,6 +1,4 @@
-use Rattle.std.proofs.Common.{◌/◌, ap, arith}
-use Rattle.std.proofs.lemmas.List.Sums.{sum_by-take-le}
-use Rattle.text_cursor.specs.Parts.{parts_len}
+use Rattle.text_cursor.proofs.Words.{◌/◌, ap, arith, sum_by-take-le, parts_len}
 use Rattle.text_cursor.proofs.SideLaws.{part_len}
 use Rattle.text_cursor.proofs.blocks.Block.is_half_passed.Goals as goal
 

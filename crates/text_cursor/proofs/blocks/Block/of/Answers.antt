@@ -1,5 +1,4 @@
-use Rattle.std.proofs.Common.{ap, ◌∙◌, arith}
-use Rattle.text_cursor.specs.Parts.{parts_len}
+use Rattle.text_cursor.proofs.Words.{ap, ◌∙◌, arith, parts_len}
 use Rattle.text_cursor.proofs.SideLaws.{turned-len}
 use Rattle.text_cursor.proofs.blocks.Block.of.Goals as goal
 

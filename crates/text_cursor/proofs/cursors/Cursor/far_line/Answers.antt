@@ -1,6 +1,5 @@
-use Rattle.std.proofs.Common.{◌-◌, length, ap, ap₂, sym, subst, ◌∙◌, arith}
-use Rattle.text_cursor.specs.Cursors.{IsLastLine, front_text, last_line}
-use Rattle.text_cursor.specs.Parts.{parts_len}
+use Rattle.text_cursor.proofs.Words.{◌-◌, length, ap, ap₂, sym, subst, ◌∙◌, arith, IsLastLine, front_text, last_line}
+use Rattle.text_cursor.proofs.Words.{parts_len}
 use Rattle.text_cursor.proofs.LookLaws.{far-fit, far-line-step, fit-both, last-same}
 use Rattle.text_cursor.proofs.cursors.Cursor.far_line.Goals as goal
 

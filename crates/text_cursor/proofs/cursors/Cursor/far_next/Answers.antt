@@ -1,7 +1,4 @@
-use Rattle.std.proofs.Common.{◌≡◌, length, ap, ap₂, sym, subst, ◌∙◌, arith}
-use Rattle.text_model.specs.Lines.{lines}
-use Rattle.text_cursor.specs.Cursors.{front_text}
-use Rattle.text_cursor.specs.Parts.{parts_len}
+use Rattle.text_cursor.proofs.Words.{◌≡◌, length, ap, ap₂, sym, subst, ◌∙◌, arith, lines, front_text, parts_len}
 use Rattle.text_cursor.proofs.LookLaws.{FarPassed, far-behind-fit, far-none, far-small, far-step, fit-both, second-same}
 use Rattle.text_cursor.proofs.cursors.Cursor.far_next.Goals as goal
 

@@ -1,5 +1,4 @@
-use Rattle.std.proofs.Common.{refl, arith}
-use Rattle.text_cursor.specs.Sides.{side_parts}
+use Rattle.text_cursor.proofs.Words.{refl, arith, side_parts}
 use Rattle.text_cursor.proofs.CursorLaws.{leaps-back, front-block}
 use Rattle.text_cursor.proofs.cursors.Cursor.leap_back.Goals as goal
 

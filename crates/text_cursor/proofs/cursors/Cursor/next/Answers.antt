@@ -1,8 +1,5 @@
-use Rattle.std.proofs.Common.{◌≡◌, ◌+◌, length, drop, ap, ap₂, sym, ◌∙◌, arith}
-use Rattle.text_model.specs.Content.{characters}
-use Rattle.text_model.specs.Lines.{lines, line_start}
-use Rattle.text_cursor.specs.Cursors.{behind_text, cursor_cells}
-use Rattle.text_cursor.specs.Parts.{parts_len}
+use Rattle.text_cursor.proofs.Words.{◌≡◌, ◌+◌, length, drop, ap, ap₂, sym, ◌∙◌, arith, characters, lines, line_start}
+use Rattle.text_cursor.proofs.Words.{behind_text, cursor_cells, parts_len}
 use Rattle.text_cursor.proofs.LookLaws.{fit-both, near-next, second-same-back}
 use Rattle.text_cursor.proofs.cursors.Cursor.next.Goals as goal
 

@@ -1,5 +1,4 @@
-use Rattle.std.proofs.Common.{◌≡◌, ◌+◌, ◌++◌, ◌∷◌, [], length, Some, refl, ap, ap₂, ◌∙◌, arith}
-use Rattle.text_cursor.specs.Sides.{side_parts}
+use Rattle.text_cursor.proofs.Words.{◌≡◌, ◌+◌, ◌++◌, ◌∷◌, [], length, Some, refl, ap, ap₂, ◌∙◌, arith, side_parts}
 use Rattle.text_cursor.proofs.CursorLaws.{puts-some}
 use Rattle.text_cursor.proofs.cursors.Cursor.put.Goals as goal
 

@@ -1,5 +1,4 @@
-use Rattle.std.proofs.Common.{◌≤◌}
-use Rattle.text_cursor.specs.Cursors.{Takes}
+use Rattle.text_cursor.proofs.Words.{◌≤◌, Takes}
 use Rattle.text_cursor.proofs.cursors.Cursor.remove.Given as goal
 
 abbrev pub invariant-loop-self : goal.invariant-loop-self

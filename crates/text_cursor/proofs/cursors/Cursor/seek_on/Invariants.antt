@@ -1,5 +1,4 @@
-use Rattle.std.proofs.Common.{◌≡◌, ◌-◌, ◌≤◌, false}
-use Rattle.text_cursor.specs.Cursors.{Moves}
+use Rattle.text_cursor.proofs.Words.{◌≡◌, ◌-◌, ◌≤◌, false, Moves}
 use Rattle.text_cursor.proofs.cursors.Cursor.seek_on.Given as goal
 
 abbrev pub invariant-loop-self : goal.invariant-loop-self

@@ -1,6 +1,5 @@
-use Rattle.std.proofs.Common.{◌-◌, length, take, ap₂, sym, ◌∙◌}
+use Rattle.text_cursor.proofs.Words.{◌-◌, length, take, ap₂, sym, ◌∙◌, side_parts}
 use Rattle.std.specs.FinSet as set
-use Rattle.text_cursor.specs.Sides.{side_parts}
 use Rattle.text_cursor.proofs.LookLaws.{shared-is}
 use Rattle.text_cursor.proofs.cursors.Cursor.shared.Goals as goal
 

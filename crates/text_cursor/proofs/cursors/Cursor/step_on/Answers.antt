@@ -1,6 +1,4 @@
-use Rattle.std.proofs.Common.{◌+◌, ◌++◌, ◌∷◌, [], refl, ap, ◌∙◌}
-use Rattle.text_cursor.specs.declared.parts.Part.{Part}
-use Rattle.text_cursor.specs.Sides.{side_parts}
+use Rattle.text_cursor.proofs.Words.{◌+◌, ◌++◌, ◌∷◌, [], refl, ap, ◌∙◌, Part, side_parts}
 use Rattle.text_cursor.proofs.CursorLaws.{moves-over, moves-in}
 use Rattle.text_cursor.proofs.cursors.Cursor.step_on.Goals as goal
 

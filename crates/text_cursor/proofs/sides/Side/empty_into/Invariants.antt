@@ -1,6 +1,4 @@
-use Rattle.std.proofs.Common.{◌≡◌, ◌++◌, length}
-use Rattle.std.specs.Prelude.{reverse}
-use Rattle.text_cursor.specs.Sides.{side_parts}
+use Rattle.text_cursor.proofs.Words.{◌≡◌, ◌++◌, length, reverse, side_parts}
 use Rattle.text_cursor.proofs.sides.Side.empty_into.Given as goal
 
 abbrev pub invariant-loop-part : goal.invariant-loop-part

@@ -1,5 +1,4 @@
-use Rattle.std.proofs.Common.{refl, arith}
-use Rattle.text_cursor.specs.declared.sides.Side.{Side}
+use Rattle.text_cursor.proofs.Words.{refl, arith, Side}
 use Rattle.text_cursor.proofs.SideLaws.{popped-block}
 use Rattle.text_cursor.proofs.sides.Side.pop_block.Goals as goal
 

@@ -1,6 +1,4 @@
-use Rattle.std.proofs.Common.{◌++◌, refl, ap₂, ◌∙◌}
-use Rattle.text_cursor.specs.declared.sides.Side.{Side}
-use Rattle.text_cursor.specs.Parts.{turned_if}
+use Rattle.text_cursor.proofs.Words.{◌++◌, refl, ap₂, ◌∙◌, Side, turned_if}
 use Rattle.text_cursor.proofs.SideLaws.{side-block}
 use Rattle.text_cursor.proofs.sides.Side.push_block.Goals as goal
 

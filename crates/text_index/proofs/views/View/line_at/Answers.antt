@@ -1,7 +1,5 @@
-use Rattle.std.proofs.Common.{◌≡◌, ℕ, ◌+◌, ◌-◌, ap, ap₂, subst, sym, ◌∙◌, arith}
-use Rattle.text_model.specs.Content.{characters}
-use Rattle.text_model.specs.Lines.{IsLineOf, line_of, line_start}
-use Rattle.text_index.specs.Views.{shown}
+use Rattle.text_index.proofs.Words.{◌≡◌, ℕ, ◌+◌, ◌-◌, ap, ap₂, subst, sym, ◌∙◌, arith, characters, IsLineOf, line_of}
+use Rattle.text_index.proofs.Words.{line_start, shown}
 use Rattle.text_index.proofs.StartLaws.{line-shown, place-start, start-after}
 use Rattle.text_index.proofs.ViewLaws.{length-shown, lines-part}
 use Rattle.text_index.proofs.views.View.line_at.Goals as goal

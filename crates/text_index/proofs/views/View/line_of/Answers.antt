@@ -1,5 +1,4 @@
-use Rattle.std.proofs.Common.{arith}
-use Rattle.text_model.specs.Content.{characters}
+use Rattle.text_index.proofs.Words.{arith, characters}
 use Rattle.text_index.proofs.ViewLaws.{lines-part}
 use Rattle.text_index.proofs.views.View.line_of.Goals as goal
 

@@ -1,9 +1,5 @@
-use Rattle.std.proofs.Common.{sym, ap, ◌∙◌, ◌-◌, take, drop}
-use Rattle.std.specs.Prelude.{chars}
-use Rattle.std.proofs.lemmas.Str.{chars-nil}
-use Rattle.std.proofs.lemmas.List.{take_all, take-map, drop-map}
-use Rattle.text_model.specs.declared.cells.Cell.{Cell}
-use Rattle.text_model.specs.Content.{characters}
+use Rattle.text_model.proofs.Words.{sym, ap, ◌∙◌, ◌-◌, take, drop, chars, chars-nil, take_all, take-map, drop-map, Cell}
+use Rattle.text_model.proofs.Words.{characters}
 use Rattle.text_model.proofs.plain_store.PlainStoreTextStore.copy_text.Goals as goal
 
 pub loop-cell-init : goal.loop-cell-init

@@ -1,6 +1,4 @@
-use Rattle.std.proofs.Common.{◌≡◌, take}
-use Rattle.std.specs.Prelude.{chars, string_bytes}
-use Rattle.text_model.specs.Content.{characters}
+use Rattle.text_model.proofs.Words.{◌≡◌, take, chars, string_bytes, characters}
 use Rattle.text_model.proofs.plain_store.PlainStoreTextStore.copy_text.Given as goal
 
 abbrev pub invariant-loop-cell : goal.invariant-loop-cell

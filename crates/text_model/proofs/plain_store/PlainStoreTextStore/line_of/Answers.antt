@@ -1,8 +1,4 @@
-use Rattle.std.proofs.Common.{sym, ap, ◌∙◌, take}
-use Rattle.std.proofs.lemmas.List.{take-map}
-use Rattle.text_model.specs.declared.cells.Cell.{Cell}
-use Rattle.text_model.specs.Content.{characters}
-use Rattle.text_model.specs.Lines.{lines}
+use Rattle.text_model.proofs.Words.{sym, ap, ◌∙◌, take, take-map, Cell, characters, lines}
 use Rattle.text_model.proofs.plain_store.PlainStoreTextStore.line_of.Goals as goal
 
 pub returns : goal.returns

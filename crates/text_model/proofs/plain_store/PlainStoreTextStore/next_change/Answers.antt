@@ -1,8 +1,5 @@
-use Rattle.std.proofs.Common.{arith}
+use Rattle.text_model.proofs.Words.{arith, length-map, Cell, flags}
 use Rattle.std.specs.FinSet as set
-use Rattle.std.proofs.lemmas.List.{length-map}
-use Rattle.text_model.specs.declared.cells.Cell.{Cell}
-use Rattle.text_model.specs.Content.{flags}
 use Rattle.text_model.proofs.ChangeLaws.{next_change_found, next_change-le}
 use Rattle.text_model.proofs.plain_store.PlainStoreTextStore.next_change.Goals as goal
 

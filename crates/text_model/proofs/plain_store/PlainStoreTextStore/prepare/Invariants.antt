@@ -1,6 +1,4 @@
-use Rattle.std.proofs.Common.{◌≡◌, drop}
-use Rattle.text_model.specs.Plain.{plain_content, IsPlain}
-use Rattle.text_model.specs.Steps.{Fits, after}
+use Rattle.text_model.proofs.Words.{◌≡◌, drop, plain_content, IsPlain, Fits, after}
 use Rattle.text_model.proofs.plain_store.PlainStoreTextStore.prepare.Given as goal
 
 abbrev pub invariant-loop-step : goal.invariant-loop-step

@@ -1,10 +1,5 @@
-use Rattle.std.proofs.Common.{take, length-take, arith}
+use Rattle.text_model.proofs.Words.{take, length-take, arith, length-map, suffix_len-le-length, Cell, is_alike, flags}
 use Rattle.std.specs.FinSet as set
-use Rattle.std.proofs.lemmas.List.{length-map}
-use Rattle.std.proofs.lemmas.List.Sums.{suffix_len-le-length}
-use Rattle.text_model.specs.declared.cells.Cell.{Cell}
-use Rattle.text_model.specs.Changes.{is_alike}
-use Rattle.text_model.specs.Content.{flags}
 use Rattle.text_model.proofs.ChangeLaws.{previous_change_found}
 use Rattle.text_model.proofs.plain_store.PlainStoreTextStore.previous_change.Goals as goal
 

@@ -1,6 +1,4 @@
-use Rattle.std.proofs.Common.{◌≡◌, ◌-◌, take, ap, arith}
-use Rattle.std.specs.List.{suffix_len}
-use Rattle.text_model.specs.Content.{characters}
+use Rattle.text_model.proofs.Words.{◌≡◌, ◌-◌, take, ap, arith, suffix_len, characters}
 use Rattle.text_model.proofs.RunLaws.{run_start-le, run_start_found}
 use Rattle.text_model.proofs.plain_store.PlainStoreTextStore.run_start.Goals as goal
 

@@ -1,6 +1,4 @@
-use Rattle.std.proofs.Common.{◌∙◌, ap, sym}
-use Rattle.text_model.specs.OneWord.{slots_in, word_index}
-use Rattle.text_model.specs.OneWordLaws.{word_index-slots_in}
+use Rattle.text_model.proofs.Words.{◌∙◌, ap, sym, slots_in, word_index, word_index-slots_in}
 use Rattle.text_model.proofs.slot_word.SlotWord.bits.Goals as goal
 
 pub returns : goal.returns

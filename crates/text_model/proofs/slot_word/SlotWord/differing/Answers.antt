@@ -1,7 +1,4 @@
-use Rattle.std.proofs.Common.{◌≡◌, ◌∙◌, ap, ap₂, sym}
-use Rattle.text_model.specs.OneWord.{slots_in, word_index}
-use Rattle.text_model.specs.OneWordLaws.{word_index-slots_in}
-use Rattle.text_model.specs.SlotSets.{differing}
+use Rattle.text_model.proofs.Words.{◌≡◌, ◌∙◌, ap, ap₂, sym, slots_in, word_index, word_index-slots_in, differing}
 use Rattle.text_model.proofs.OneWordSteps.{slots_in-differing}
 use Rattle.text_model.proofs.slot_word.SlotWord.differing.Goals as goal
 

@@ -1,6 +1,4 @@
-use Rattle.std.proofs.Common.{◌∙◌, ap, sym, subst}
-use Rattle.text_model.specs.OneWord.{IsOneWord, word_index}
-use Rattle.text_model.specs.OneWordLaws.{word_index-slots_in}
+use Rattle.text_model.proofs.Words.{◌∙◌, ap, sym, subst, IsOneWord, word_index, word_index-slots_in}
 use Rattle.text_model.proofs.OneWordSteps.{one_word}
 use Rattle.text_model.proofs.slot_word.SlotWord.index.Goals as goal
 

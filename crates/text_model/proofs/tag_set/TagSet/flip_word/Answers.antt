@@ -1,8 +1,4 @@
-use Rattle.std.proofs.Common.{◌<◌, ◌∙◌, ap, ap₂, length, length-set}
-use Rattle.text_model.specs.OneWord.{slots_in}
-use Rattle.text_model.specs.OneWordLaws.{AreWords-alone}
-use Rattle.text_model.specs.SlotSets.{differing}
-use Rattle.text_model.specs.declared.tag_set.TheConstants.{WORDS}
+use Rattle.text_model.proofs.Words.{◌<◌, ◌∙◌, ap, ap₂, length, length-set, slots_in, AreWords-alone, differing, WORDS}
 use Rattle.text_model.proofs.OneWordSteps.{slots_of-turned, turned-word}
 use Rattle.text_model.proofs.TagSteps.{AreWords-differing}
 use Rattle.text_model.proofs.tag_set.TagSet.flip_word.Goals as goal

@@ -1,7 +1,5 @@
-use Rattle.std.proofs.Common.{◌∙◌, ap, sym, replicate}
+use Rattle.text_model.proofs.Words.{◌∙◌, ap, sym, replicate, slot_count, slots_of, WORDS}
 use Rattle.std.proofs.lemmas.Slice.Eq.{bytes_eq-Decides}
-use Rattle.text_model.specs.TagBits.{slot_count, slots_of}
-use Rattle.text_model.specs.declared.tag_set.TheConstants.{WORDS}
 use Rattle.text_model.proofs.TagSteps.{slots_below-zeros, zeros_of-slots_of}
 use Rattle.text_model.proofs.tag_set.TagSet.is_empty.Goals as goal
 

@@ -1,5 +1,4 @@
-use Rattle.std.proofs.Common.{◌∙◌, ap}
-use Rattle.text_model.specs.OneWord.{in_word}
+use Rattle.text_model.proofs.Words.{◌∙◌, ap, in_word}
 use Rattle.text_model.proofs.OneWordSteps.{slots_of-word}
 use Rattle.text_model.proofs.tag_set.TagSet.word.Goals as goal
 

@@ -1,6 +1,4 @@
-use Rattle.std.proofs.Common.{sym, ap, ◌∙◌}
-use Rattle.std.specs.Prelude.{encode_utf8_all, chars}
-use Rattle.std.proofs.lemmas.Str.{encodes-chars}
+use Rattle.text_model.proofs.Words.{sym, ap, ◌∙◌, encode_utf8_all, chars, encodes-chars}
 use Rattle.text_model.proofs.texts.Text.as_str.Goals as goal
 
 pub returns-clause-bytes : goal.returns-clause-bytes

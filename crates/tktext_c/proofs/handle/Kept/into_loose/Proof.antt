@@ -1,5 +1,6 @@
 -- `into_loose` gives the pointer back with what it owns.
-use Rattle.std.proofs.Common.{◌≡◌, Some, List, [], ◌∷◌, ◌++◌, refl, sym, subst}
+use Rattle.tktext_c.proofs.Words.{◌≡◌, Some, List, [], ◌∷◌, ◌++◌, refl, sym, subst, Goes-blank, handle_tells, proved_at}
+use Rattle.tktext_c.proofs.Words.{leaves}
 use mir.Val.{Val, vptr}
 use base.Logic.{SProp, ent, emp, id⊢}
 use prog.Wp.{WpFn}
@@ -16,9 +17,7 @@ use denote.RawPtr.{Ptr, block_ptr}
 use denote.Steps.{nothing, heard}
 use denote.Triple.Entry.{alive}
 use denote.Triple.Walked.{Stays, stay_dropped, walk_of, Goes-dropped}
-use Rattle.core.proofs.alloc.Calls.{Goes-blank, handle_tells}
 use Rattle.std.specs.Prelude.{IsSome}
-use Rattle.std.proofs.raw_atomic.Walks.{proved_at, leaves}
 use Rattle.std_heap.specs.contracts.Global as heap
 use Rattle.std_heap.specs.contracts.GlobalAllocator.TheImpl.{ghosts}
 use Rattle.std_heap.proofs.Global.TheLaws as heap_laws

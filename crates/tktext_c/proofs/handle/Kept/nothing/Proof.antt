@@ -1,5 +1,5 @@
 -- `nothing` keeps no session.
-use Rattle.std.proofs.Common.{◌≡◌, Option, None, [], ◌∷◌, refl}
+use Rattle.tktext_c.proofs.Words.{◌≡◌, Option, None, [], ◌∷◌, refl, Ptr-Good, proved_at, leaves}
 use mir.Val.{Val}
 use base.Logic.{SProp, emp}
 use types.Kit.{‵, raw, ◌⊛◌, ◌$◌, ◌∵◌, !, qed, by, keep, split, use0}
@@ -14,8 +14,6 @@ use denote.RawPtr.{null_ptr}
 use denote.Steps.{nothing}
 use denote.Triple.Entry.{alive}
 use denote.Triple.Walked.{Stays, walk_of}
-use Rattle.core.proofs.atomic.Steps.{Ptr-Good}
-use Rattle.std.proofs.raw_atomic.Walks.{proved_at, leaves}
 use Rattle.tktext_c.specs.contracts.session.Session as session
 use Rattle.tktext_c.proofs.KeptSteps.{word, kept_in}
 use Rattle.tktext_c.specs.contracts.handle.Kept.nothing.{ended, clauses}

@@ -1,5 +1,5 @@
 -- `of_loose` keeps the pointer, and what it owns.
-use Rattle.std.proofs.Common.{◌≡◌, Some, List, [], ◌∷◌, ◌++◌, refl, sym, subst}
+use Rattle.tktext_c.proofs.Words.{◌≡◌, Some, List, [], ◌∷◌, ◌++◌, refl, sym, subst, Goes-blank, proved_at, leaves}
 use mir.Val.{Val, vptr}
 use base.Logic.{SProp, ent, emp, id⊢}
 use prog.Wp.{WpFn}
@@ -16,8 +16,6 @@ use denote.RawPtr.{block_ptr}
 use denote.Steps.{nothing}
 use denote.Triple.Entry.{alive}
 use denote.Triple.Walked.{Stays, stay_dropped, walk_of}
-use Rattle.core.proofs.alloc.Calls.{Goes-blank}
-use Rattle.std.proofs.raw_atomic.Walks.{proved_at, leaves}
 use Rattle.std_heap.specs.contracts.Global as heap
 use Rattle.std_heap.specs.contracts.GlobalAllocator.TheImpl.{ghosts}
 use Rattle.std_heap.proofs.Global.TheLaws as heap_laws

@@ -1,10 +1,11 @@
 -- `spent` gives the pointer back with what it owns.
-use Rattle.std.proofs.Common.{List, [], ◌∷◌, ◌++◌, refl, sym, subst}
-use mir.Val.{Val}
+use Rattle.tktext_c.proofs.Words.{List, [], ◌∷◌, ◌++◌, refl, sym, subst, Goes-blank, proved_at, leaves, Ptr-Good}
+use Rattle.tktext_c.proofs.Words.{and_tt}
+use mir.Val.{Val, vunit}
 use base.Logic.{SProp, ent, id⊢}
 use prog.Wp.{WpFn}
 use types.Kit.{‵, raw, ◌⊛◌, ◌$◌, ◌∵◌, !, qed, by, move, keep, split, fsplit, fjoin, suffices, feq_i}
-use types.Run.{of_opd, returns, enter}
+use types.Run.{of_opd, returns, enter, unit_lit}
 use types.ByLocal.{alloc_all, pass_all, free_all, look_at, sets}
 use contract.Running.{tables}
 use denote.Exit.{yes}
@@ -13,14 +14,8 @@ use denote.Signature.{types_at, plain}
 use denote.Steps.{nothing}
 use denote.Triple.Entry.{alive}
 use denote.Triple.Walked.{Stays, stay_dropped, walk_of}
-use Rattle.core.proofs.alloc.Calls.{Goes-blank}
-use Rattle.std.proofs.raw_atomic.Walks.{proved_at, leaves}
 use Rattle.tktext_c.specs.contracts.handle.Kept as kept
 use Rattle.tktext_c.proofs.KeptSteps.{word, kept_out}
-use types.Run.{unit_lit}
-use mir.Val.{vunit}
-use Rattle.core.proofs.atomic.Steps.{Ptr-Good}
-use Rattle.std_alloc.proofs.ResultValues.{and_tt}
 use Rattle.tktext_c.specs.contracts.handle.Kept.spent.{ended, clauses}
 use Rattle.tktext_c.specs.contracts.handle.Kept.spent.Key.{name as #self}
 use Rattle.tktext_c.proofs.handle.Kept.spent.Statement.{statement}

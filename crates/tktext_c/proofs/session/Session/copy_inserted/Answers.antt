@@ -1,7 +1,5 @@
-use Rattle.std.proofs.Common.{sym, ◌∙◌}
-use Rattle.std.specs.Prelude.{option_map}
+use Rattle.tktext_c.proofs.Words.{sym, ◌∙◌, option_map, bytes_of, text_told}
 use Rattle.edit_ops.specs.declared.changes.TextChange.{TextChange}
-use Rattle.tktext_c.specs.Told.{bytes_of, text_told}
 use Rattle.tktext_c.proofs.ReadLaws.{read-found, read-none}
 use Rattle.tktext_c.proofs.RoomLaws.{copied-as, copied-nothing}
 use Rattle.tktext_c.proofs.session.Session.copy_inserted.Goals as goal

@@ -1,7 +1,5 @@
-use Rattle.std.proofs.Common.{sym, ap, ◌∙◌}
-use Rattle.std.proofs.lemmas.Str.{encodes-chars}
-use Rattle.std.specs.Prelude.{encode_utf8_all, option_map}
-use Rattle.tktext_c.specs.Told.{bytes_of, tag_widget, widget_told}
+use Rattle.tktext_c.proofs.Words.{sym, ap, ◌∙◌, encodes-chars, encode_utf8_all, option_map, bytes_of, tag_widget}
+use Rattle.tktext_c.proofs.Words.{widget_told}
 use Rattle.tktext_c.proofs.ReadLaws.{read-found, read-none}
 use Rattle.tktext_c.proofs.RoomLaws.{copied-as, copied-nothing}
 use Rattle.tktext_c.proofs.session.Session.copy_tag_widget.Goals as goal

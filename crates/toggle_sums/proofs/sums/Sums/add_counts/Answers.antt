@@ -1,5 +1,4 @@
-use Rattle.std.proofs.Common.{◌+◌, sym}
-use Rattle.toggle_sums.specs.CountLaws.{differing-empty, union-empty}
+use Rattle.toggle_sums.proofs.Words.{◌+◌, sym, differing-empty, union-empty}
 use Rattle.toggle_sums.proofs.sums.Sums.add_counts.Goals as goal
 
 pub returns : goal.returns

@@ -1,15 +1,11 @@
-use Rattle.std.proofs.Common.{◌≡◌, ◌<◌, ◌∙◌, ap, sym, bit_or, bit_xor, length, length-set, slice_index, slice_set}
+use Rattle.toggle_sums.proofs.Words.{◌≡◌, ◌<◌, ◌∙◌, ap, sym, bit_or, bit_xor, length, length-set, slice_index}
+use Rattle.toggle_sums.proofs.Words.{slice_set, alone, slots_in, AreWords-alone, differing, WORDS, differing-empty}
+use Rattle.toggle_sums.proofs.Words.{union-empty, slots_of}
 use Rattle.std.specs.FinSet as set
-use Rattle.text_model.specs.OneWord.{alone, slots_in}
-use Rattle.text_model.specs.OneWordLaws.{AreWords-alone}
-use Rattle.text_model.specs.SlotSets.{differing}
-use Rattle.text_model.specs.declared.tag_set.TheConstants.{WORDS}
 use Rattle.text_model.proofs.OneWordSteps.{turned-word}
-use Rattle.toggle_sums.specs.CountLaws.{differing-empty, union-empty}
-use Rattle.toggle_sums.specs.SlotWords.{slots_of}
 use Rattle.toggle_sums.proofs.UsedLaws.{last_used-set, some_of}
-use Rattle.toggle_sums.proofs.WordSteps.{AreWords-differing, AreWords-joined, joined-word, slots_in-none, slots_of-differing}
-use Rattle.toggle_sums.proofs.WordSteps.{slots_of-joined}
+use Rattle.toggle_sums.proofs.WordSteps.{AreWords-differing, AreWords-joined, joined-word, slots_in-none}
+use Rattle.toggle_sums.proofs.WordSteps.{slots_of-differing, slots_of-joined}
 use Rattle.toggle_sums.proofs.toggle_words.ToggleWords+WORDS.add_word.Goals as goal
 
 pub invariant_of-self : goal.invariant_of-self

@@ -1,6 +1,5 @@
-use Rattle.std.proofs.Common.{◌∙◌, ap}
+use Rattle.toggle_sums.proofs.Words.{◌∙◌, ap, ToggleSets}
 use Rattle.std.specs.FinSet as set
-use Rattle.toggle_sums.specs.ToggleSets.{ToggleSets}
 use Rattle.toggle_sums.proofs.WordSteps.{found_bit}
 use Rattle.toggle_sums.proofs.toggle_words.ToggleWords.has.Goals as goal
 

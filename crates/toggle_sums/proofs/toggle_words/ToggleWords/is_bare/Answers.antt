@@ -1,6 +1,4 @@
-use Rattle.std.proofs.Common.{◌∙◌, ap, sym, arith}
-use Rattle.std.proofs.lemmas.Bool.Decides.{nat_tests}
-use Rattle.toggle_sums.specs.ToggleSets.{ToggleSets}
+use Rattle.toggle_sums.proofs.Words.{◌∙◌, ap, sym, arith, nat_tests, ToggleSets}
 use Rattle.toggle_sums.proofs.UsedLaws.{none_toggled, none_used}
 use Rattle.toggle_sums.proofs.toggle_words.ToggleWords.is_bare.Goals as goal
 

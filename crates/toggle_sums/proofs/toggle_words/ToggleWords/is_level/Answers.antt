@@ -1,7 +1,4 @@
-use Rattle.std.proofs.Common.{◌∙◌, ap, sym}
-use Rattle.std.proofs.lemmas.Slice.Eq.{bytes_eq-Decides}
-use Rattle.toggle_sums.specs.ToggleSets.{ToggleSets}
-use Rattle.toggle_sums.specs.SlotWords.{slots_of}
+use Rattle.toggle_sums.proofs.Words.{◌∙◌, ap, sym, bytes_eq-Decides, ToggleSets, slots_of}
 use Rattle.toggle_sums.proofs.UsedLaws.{same_used}
 use Rattle.toggle_sums.proofs.WordSteps.{same_words}
 use Rattle.toggle_sums.proofs.toggle_words.ToggleWords.is_level.Goals as goal

@@ -1,9 +1,6 @@
-use Rattle.std.proofs.Common.{rules, ◌≡◌, ◌∙◌, ap, sym}
-use Rattle.std.proofs.lemmas.Slice.Eq.{bytes_eq-Decides}
+use Rattle.toggle_sums.proofs.Words.{rules, ◌≡◌, ◌∙◌, ap, sym, bytes_eq-Decides, ToggleSets, slots_of, words_of}
+use Rattle.toggle_sums.proofs.Words.{words_of-slots_of}
 use Rattle.std.specs.FinSet as set
-use Rattle.toggle_sums.specs.ToggleSets.{ToggleSets}
-use Rattle.toggle_sums.specs.SlotWords.{slots_of, words_of}
-use Rattle.toggle_sums.specs.SlotWordLaws.{words_of-slots_of}
 use Rattle.toggle_sums.proofs.UsedLaws.{ends-presence, used-le}
 use Rattle.toggle_sums.proofs.WordSteps.{AreWords-joined, slots_of-joined}
 use Rattle.toggle_sums.proofs.toggle_words.ToggleWords.is_within.Goals as goal

@@ -1,9 +1,7 @@
-use Rattle.std.proofs.Common.{rules, ap, bit_xor, refl, sym, ◌∙◌}
-use Rattle.text_model.specs.SlotSets.{differing}
-use Rattle.toggle_sums.specs.CountLaws.{differing-empty}
-use Rattle.toggle_sums.specs.ToggleSets.{ToggleSets}
-use Rattle.toggle_sums.specs.SlotWords.{slots_of}
-use Rattle.toggle_sums.proofs.UsedLaws.{EndBy-both, EndBy-max, ends-parity, ends-presence, max-le, none_toggled, used-le}
+use Rattle.toggle_sums.proofs.Words.{rules, ap, bit_xor, refl, sym, ◌∙◌, differing, differing-empty, ToggleSets}
+use Rattle.toggle_sums.proofs.Words.{slots_of}
+use Rattle.toggle_sums.proofs.UsedLaws.{EndBy-both, EndBy-max, ends-parity, ends-presence, max-le, none_toggled}
+use Rattle.toggle_sums.proofs.UsedLaws.{used-le}
 use Rattle.toggle_sums.proofs.WordSteps.{AreWords-differing, slots_of-differing}
 use Rattle.toggle_sums.proofs.toggle_words.ToggleWords.lose.Goals as goal
 

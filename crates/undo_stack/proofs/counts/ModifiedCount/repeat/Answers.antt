@@ -1,5 +1,4 @@
-use Rattle.std.proofs.Common.{◌≡◌, ◌+◌, ◌-◌, sym, ap, ◌∙◌, arith}
-use Rattle.undo_stack.specs.Modified.{times, counted_up}
+use Rattle.undo_stack.proofs.Words.{◌≡◌, ◌+◌, ◌-◌, sym, ap, ◌∙◌, arith, times, counted_up}
 use Rattle.undo_stack.proofs.CountLaws.{times-left}
 use Rattle.undo_stack.proofs.counts.ModifiedCount.repeat.Goals as goal
 

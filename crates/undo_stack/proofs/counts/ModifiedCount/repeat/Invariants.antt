@@ -1,5 +1,4 @@
-use Rattle.std.proofs.Common.{◌≡◌, ◌-◌}
-use Rattle.undo_stack.specs.Modified.{times, counted_up}
+use Rattle.undo_stack.proofs.Words.{◌≡◌, ◌-◌, times, counted_up}
 use Rattle.undo_stack.proofs.counts.ModifiedCount.repeat.Given as goal
 
 abbrev pub invariant-loop : goal.invariant-loop

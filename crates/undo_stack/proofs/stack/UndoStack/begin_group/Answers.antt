@@ -1,6 +1,4 @@
-use Rattle.std.proofs.Common.{◌+◌, ◌∙◌, false, ap, ap₂}
-use Rattle.undo_stack.specs.History.{joined}
-use Rattle.undo_stack.specs.Rings.{Kept, history_of}
+use Rattle.undo_stack.proofs.Words.{◌+◌, ◌∙◌, false, ap, ap₂, joined, Kept, history_of}
 use Rattle.undo_stack.proofs.RingLaws.{none-undone, begins-group, begun}
 use Rattle.undo_stack.proofs.stack.UndoStack.begin_group.Goals as goal
 

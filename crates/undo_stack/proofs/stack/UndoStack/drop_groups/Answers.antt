@@ -1,6 +1,4 @@
-use Rattle.std.proofs.Common.{◌≡◌, ◌-◌, List, length, drop, ap, ◌∙◌, arith, length-drop}
-use Rattle.undo_stack.specs.declared.actions.Action.{Action}
-use Rattle.undo_stack.specs.History.{History}
+use Rattle.undo_stack.proofs.Words.{◌≡◌, ◌-◌, List, length, drop, ap, ◌∙◌, arith, length-drop, Action, History}
 use Rattle.undo_stack.proofs.RingLaws.{drop-one_more}
 use Rattle.undo_stack.proofs.stack.UndoStack.drop_groups.Goals as goal
 

@@ -1,5 +1,4 @@
-use Rattle.std.proofs.Common.{◌∙◌, [], ap, ap₂, arith}
-use Rattle.undo_stack.specs.Rings.{Kept, history_of}
+use Rattle.undo_stack.proofs.Words.{◌∙◌, [], ap, ap₂, arith, Kept, history_of}
 use Rattle.undo_stack.proofs.RingLaws.{undone-goes, part-within}
 use Rattle.undo_stack.proofs.stack.UndoStack.drop_undone.Goals as goal
 

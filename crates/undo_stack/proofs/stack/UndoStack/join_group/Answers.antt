@@ -1,6 +1,4 @@
-use Rattle.std.proofs.Common.{◌+◌, ◌∙◌, true, ap, ap₂, arith}
-use Rattle.undo_stack.specs.History.{joined}
-use Rattle.undo_stack.specs.Rings.{Kept, history_of}
+use Rattle.undo_stack.proofs.Words.{◌+◌, ◌∙◌, true, ap, ap₂, arith, joined, Kept, history_of}
 use Rattle.undo_stack.proofs.RingLaws.{none-undone, joins-group, joined-on, pops-last}
 use Rattle.undo_stack.proofs.stack.UndoStack.join_group.Goals as goal
 

@@ -1,6 +1,4 @@
-use Rattle.std.proofs.Common.{Some, sym, ap, ◌∙◌}
-use Rattle.undo_stack.specs.History.{next_undo}
-use Rattle.undo_stack.specs.Rings.{Kept}
+use Rattle.undo_stack.proofs.Words.{Some, sym, ap, ◌∙◌, next_undo, Kept}
 use Rattle.undo_stack.proofs.BorderLaws.{last-moves}
 use Rattle.undo_stack.proofs.stack.UndoStack.last_undo.Goals as goal
 

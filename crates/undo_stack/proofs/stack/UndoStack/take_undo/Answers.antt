@@ -1,7 +1,5 @@
-use Rattle.std.proofs.Common.{◌-◌, take, drop, refl, sym, ap, ap₂, ◌∙◌}
-use Rattle.undo_stack.specs.History.{next_undo, after_undo}
-use Rattle.undo_stack.specs.Modified.{times, counted_down}
-use Rattle.undo_stack.specs.Rings.{Kept}
+use Rattle.undo_stack.proofs.Words.{◌-◌, take, drop, refl, sym, ap, ap₂, ◌∙◌, next_undo, after_undo, times}
+use Rattle.undo_stack.proofs.Words.{counted_down, Kept}
 use Rattle.undo_stack.proofs.BorderLaws.{last-moves}
 use Rattle.undo_stack.proofs.stack.UndoStack.take_undo.Goals as goal
 

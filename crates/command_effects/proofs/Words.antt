@@ -1,0 +1,54 @@
+-- The words that most proofs of this crate cite, passed on from one place. Declares nothing.
+pub use Rattle.std.proofs.Common.{[], ap₂, true≢false, ℕ, ℤ, ◌&&◌, ◌++◌, ◌+◌, ◌-◌, ◌<◌, ◌^◌, ◌∙◌, ◌∷◌, ◌≡◌, ◌≢◌, ◌≤◌}
+pub use Rattle.std.proofs.Common.{◌⊎◌, Bool, Global, List, Vec, ap, arith, cond, drop, eqb-true, false, inl, inr}
+pub use Rattle.std.proofs.Common.{length, length-drop, map, not, refl, subst, suc, sym, take, true, w32, zero}
+pub use Rattle.command_effects.specs.Edits.{excess, length_replaced, without_widget, without_widgets}
+pub use Rattle.command_effects.specs.Faults.{with_value}
+pub use Rattle.command_effects.specs.Lists.{Pair, all_names, and_pairs, listed_names, pair_at, pairs_at, total}
+pub use Rattle.command_effects.specs.Lists.{total_bytes, with_name, with_names}
+pub use Rattle.command_effects.specs.Marking.{is_left, marks_left, numbers_named, taken}
+pub use Rattle.command_effects.specs.Ranges.{span, spans_of}
+pub use Rattle.command_effects.specs.Settings.{line_answer, line_numbered, line_of_word, setting_read, settings_read}
+pub use Rattle.command_effects.specs.Tagging.{IsFront, own_slot, piece_of, slot_taken, slots_deleted, slots_named}
+pub use Rattle.command_effects.specs.Tagging.{stays, tags_left, with_found}
+pub use Rattle.command_effects.specs.Words.{is_among, is_same, literal}
+pub use Rattle.command_effects.specs.declared.answers.Fault.{Fault}
+pub use Rattle.command_effects.specs.declared.answers.Fault.TheVariants.{BadInteger, Memory, TextTooLong, TooManyTags}
+pub use Rattle.edit_ops.specs.States.{state_in}
+pub use Rattle.mark_table.specs.SharedMarks.{Mark, SharedMarks, number_of}
+pub use Rattle.name_list.specs.Moves.{without}
+pub use Rattle.std.proofs.Math.Seq.{take-suc}
+pub use Rattle.std.proofs.lemmas.Bool.{false_from_ne_true, le-ltb, lt-ltb, or_right}
+pub use Rattle.std.proofs.lemmas.Bool.Decides.{nat_tests, same_from_decides}
+pub use Rattle.std.proofs.lemmas.List.{append-nil, append_assoc, drop-map, get_or-map, length-append, length-map}
+pub use Rattle.std.proofs.lemmas.List.{map-append, take-append-drop, take-append-le, take_all, take_rest}
+pub use Rattle.std.proofs.lemmas.List.Elements.{All-cons, All-drop, All-head, All-more, All-nil, All-push, All-tail}
+pub use Rattle.std.proofs.lemmas.List.Elements.{All-take, filter_map-append}
+pub use Rattle.std.proofs.lemmas.List.Folds.{find-append, list_any-append}
+pub use Rattle.std.proofs.lemmas.Option.{get_or_from_slice_get, none-some, same_Some, slice_get_within}
+pub use Rattle.std.proofs.lemmas.Result.{IfErr-weaker, on_ok_weaker}
+pub use Rattle.std.proofs.lemmas.Slice.Eq.{bytes_eq-Decides}
+pub use Rattle.std.proofs.lemmas.Str.{chars-IsAscii, chars-nil, encodes-chars, length-le-encodes}
+pub use Rattle.std.specs.Char.{IsScalar}
+pub use Rattle.std.specs.Cmp.{both_ways, nat_cmp_total}
+pub use Rattle.std.specs.List.{All, cons_option, position_from}
+pub use Rattle.std.specs.Option.{option_or}
+pub use Rattle.std.specs.Prelude.{if◌then◌else◌, ◌*◌, ◌||◌, Err, IfOk, IfSome, IsNone, IsUtf8, None, Ok, OnOk, Option}
+pub use Rattle.std.specs.Prelude.{Result, Some, String, bytes_eq, chars, encode_utf8_all, filter, find, get_or, is_some}
+pub use Rattle.std.specs.Prelude.{min, nat_lt, ok_or, option_and_then, option_map, slice_get, string_bytes}
+pub use Rattle.tag_table.specs.Priority.{deleted}
+pub use Rattle.tag_table.specs.Tags.{IsFull, Tag, Tags, is_named, names_of, sel, slot_of, slots_of}
+pub use Rattle.tcl_words.proofs.ListGrowth.{goes_nowhere, goes_on}
+pub use Rattle.tcl_words.specs.ListGrowth.{Goes}
+pub use Rattle.tcl_words.specs.Unread.{texts_of}
+pub use Rattle.text_index.proofs.RangeLaws.{range-unset, ranges_from-first}
+pub use Rattle.text_index.specs.Positions.{position_text}
+pub use Rattle.text_index.specs.Views.{shown, shown_flags}
+pub use Rattle.text_model.proofs.TextLaws.{chars-scalars}
+pub use Rattle.text_model.specs.Content.{Content, Slots}
+pub use Rattle.text_model.specs.Steps.{Fits, after, after_step}
+pub use Rattle.text_model.specs.TagBits.{slot_count}
+pub use Rattle.text_model.specs.declared.edits.Step.TheVariants.{ClearSlot, TakeMark}
+pub use Rattle.text_model.specs.declared.places.MarkNo.{MarkNo}
+pub use Rattle.text_model.specs.declared.places.TagSlot.{TagSlot}
+pub use Rattle.undo_stack.specs.declared.actions.Action.{Action}

@@ -1,0 +1,21 @@
+-- The words that most proofs of this crate cite, passed on from one place. Declares nothing.
+pub use Rattle.std.proofs.Common.{[], ap₂, ℕ, ◌&&◌, ◌++◌, ◌+◌, ◌<◌, ◌^◌, ◌∙◌, ◌∷◌, ◌≡◌, ◌≤◌, Bool, List, add-one, ap}
+pub use Rattle.std.proofs.Common.{append_assoc, arith, cond, drop, false, filter, get_or, le-leb, length, refl, subst}
+pub use Rattle.std.proofs.Common.{suc, sym, take, take_all, to_z, true, w32, zero}
+pub use Rattle.command_table.specs.Entries.{EntryRule, SwitchRule, bad_switch, begins, dashed_words, ends_switches}
+pub use Rattle.command_table.specs.Entries.{is_bad_option}
+pub use Rattle.command_table.specs.Numbers.{add_digit, integer_of, number_of}
+pub use Rattle.command_table.specs.Reading.{decided, go_on, unknown}
+pub use Rattle.command_table.specs.Spelled.{entry_rule, option_rule, spelled, switch_rule}
+pub use Rattle.command_table.specs.Table.{IsPlaceOf, find_in, table, text_entry}
+pub use Rattle.command_table.specs.Words.{Word, is_among, is_character, is_dashed, is_same, lent, literal, texts_of}
+pub use Rattle.std.proofs.lemmas.Bool.{false≢true}
+pub use Rattle.std.proofs.lemmas.Bool.Decides.{Decides-eqb, Decides-ltb, nat_tests, same_from_decides}
+pub use Rattle.std.proofs.lemmas.List.{drop-map, drop_more, get_or-map, length-map, take_rest}
+pub use Rattle.std.proofs.lemmas.Str.{char_from_byte, chars-IsAscii, chars-append, encode_ascii, encodes-IsAscii}
+pub use Rattle.std.proofs.lemmas.Str.{encodes-append, encodes-chars}
+pub use Rattle.std.specs.Char.{is_ascii_digit}
+pub use Rattle.std.specs.List.{enumerate_from, find, list_all, list_any, starts_with, take-map}
+pub use Rattle.std.specs.Prelude.{if◌then◌else◌, neg_ℤ, ℤ, ◌==◌, Err, IfSome, IsAscii, IsUtf8, None, Option, Some}
+pub use Rattle.std.specs.Prelude.{String, bytes_eq, chars, encode_utf8, encode_utf8_all, fold, map, nat_eq, nat_le}
+pub use Rattle.std.specs.Prelude.{nat_lt, option_map, pos, slice_index, string_bytes}

@@ -1,0 +1,181 @@
+-- The words that most proofs of this crate cite, passed on from one place. Declares nothing.
+pub use Rattle.std.proofs.Common.{[], ap₂, true≢false, ℕ, ◌&&◌, ◌*◌, ◌++◌, ◌+◌, ◌-◌, ◌<◌, ◌==◌, ◌^◌, ◌||◌, ◌∙◌, ◌∷◌}
+pub use Rattle.std.proofs.Common.{◌≡◌, ◌≢◌, ◌≤◌, ◌⊎◌, Bool, Contains, Err, IfOk, IsSome, List, None, Ok, OnErr, Option}
+pub use Rattle.std.proofs.Common.{Result, Some, ap, append_assoc, arith, chars, cond, drop, encode_utf8_all, eq-eqb}
+pub use Rattle.std.proofs.Common.{false, filter, get_or, get_or-append-add, inl, inr, length, map, max, min, ne_eqb}
+pub use Rattle.std.proofs.Common.{not, option_map, refl, remove, set, string_bytes, subst, suc, sym, take, true, zero}
+pub use Rattle.command_effects.proofs.LeftLaws.{AreApart-head, AreApart-tail}
+pub use Rattle.command_effects.proofs.MadeLaws.{absent_slot, among_slot, found_tag, front_same, take-more}
+pub use Rattle.command_effects.proofs.PairLaws.{spans_of-fit}
+pub use Rattle.command_effects.proofs.WrittenLaws.{filter-append, filter-in, filter-out, take-found}
+pub use Rattle.command_effects.specs.Edits.{excess, length_replaced, new_mark, with_own_marks, without_widget}
+pub use Rattle.command_effects.specs.Edits.{without_widgets}
+pub use Rattle.command_effects.specs.Faults.{at_position, index_fault}
+pub use Rattle.command_effects.specs.Listing.{begun, range_words}
+pub use Rattle.command_effects.specs.Lists.{Pair, all_names, listed_names, total, with_name, with_names}
+pub use Rattle.command_effects.specs.Marking.{IsMadeMark, is_left, marks_left, numbers_named, taken}
+pub use Rattle.command_effects.specs.Ranges.{spans_of}
+pub use Rattle.command_effects.specs.Settings.{first_document_settings, history_under, is_behind, recording_of}
+pub use Rattle.command_effects.specs.Tagging.{IsFront, own_slot, piece_of, slot_taken, slots_deleted, slots_named}
+pub use Rattle.command_effects.specs.Tagging.{stays, tags_left, with_found}
+pub use Rattle.command_effects.specs.Words.{is_among, is_own, is_same, literal}
+pub use Rattle.command_effects.specs.declared.answers.Answer.{Answer}
+pub use Rattle.command_effects.specs.declared.answers.Answer.TheVariants.{Empty}
+pub use Rattle.command_effects.specs.declared.answers.Fault.{Fault}
+pub use Rattle.command_effects.specs.declared.answers.Fault.TheVariants.{InvalidCommandName, Memory, NoSuchTag}
+pub use Rattle.command_effects.specs.declared.answers.Fault.TheVariants.{NothingToRedo, NothingToUndo, TextTooLong}
+pub use Rattle.command_effects.specs.declared.answers.Fault.TheVariants.{TooManyMarks, TooManyTags}
+pub use Rattle.command_effects.specs.declared.settings.DocumentSettings.{DocumentSettings}
+pub use Rattle.command_effects.specs.declared.settings.Settings.{Settings}
+pub use Rattle.documents.specs.Deletions.{delete_places, delete_spans, deleted_runs, last_bare, replace_span, replaced}
+pub use Rattle.documents.specs.Deletions.{with_clipped}
+pub use Rattle.documents.specs.Documents.{Document, Journal, KeyedCell, Parts, SharedMark, Widget, anchors_at}
+pub use Rattle.documents.specs.Documents.{characters, document_of, mark_of, no_widget, placed, whole, widget_at}
+pub use Rattle.documents.specs.Documents.{widget_of}
+pub use Rattle.documents.specs.Edits.{KeyedText, bare, common_keys, keys_between, keys_or, widget_drawn, widget_moved}
+pub use Rattle.documents.specs.Edits.{with_action, with_bare, with_cells, with_key, with_tag, with_text, with_texts}
+pub use Rattle.documents.specs.Edits.{without_cells, without_span, without_spans}
+pub use Rattle.documents.specs.History.{action_again, action_back, edit_redo, edit_reset, edit_separator, edit_undo}
+pub use Rattle.documents.specs.History.{group_again, group_back, modified_set, redo_found, redone, text_back}
+pub use Rattle.documents.specs.History.{undo_found, undone, with_end}
+pub use Rattle.documents.specs.Inside.{parts_of}
+pub use Rattle.documents.specs.Kept.{AreKnown, AreMarked, AreSeats, HasKnownSlots, HasOwnMarks, IsMarked, IsOrderly}
+pub use Rattle.documents.specs.Kept.{IsSeated, IsSound, Stands, is_window_name}
+pub use Rattle.documents.specs.Keys.{Key, Keys, is_shared, key_cmp, key_named, key_pairs, keyed, keys_listed}
+pub use Rattle.documents.specs.Keys.{keys_named, keys_of, numbers_gone, pair_slots, rank, seat_pair, seats_left}
+pub use Rattle.documents.specs.Keys.{selection_stays, set_key, tag_pair}
+pub use Rattle.documents.specs.Marks.{mark_names, mark_offset, mark_unset, origin_in, place_named, set_found}
+pub use Rattle.documents.specs.Marks.{shared_from, shown_at, usable_marks, with_current, with_insert, with_mark}
+pub use Rattle.documents.specs.Marks.{with_shared, with_widget}
+pub use Rattle.documents.specs.MarksTold.{AreGathered, ForetellsMarks, IsSharedName, MarksTold, offset_named}
+pub use Rattle.documents.specs.MarksTold.{offset_seen}
+pub use Rattle.documents.specs.Names.{key_of, mark_number, mark_place, meanings, place_of, tag_flags, tag_number}
+pub use Rattle.documents.specs.Options.{AreLines, IsLine, anchor_at, settings_of, widget_set, with_settings}
+pub use Rattle.documents.specs.Promise.{Change, Does, Gives, answered, change_with, refused, unless_idle}
+pub use Rattle.documents.specs.Ranges.{spans_shown}
+pub use Rattle.documents.specs.Seats.{IsLonger}
+pub use Rattle.documents.specs.Tags.{add_spans, key_stays, known_or, lowered, raised, remove_spans, reordered}
+pub use Rattle.documents.specs.Tags.{tag_delete, tags_on, without_tags}
+pub use Rattle.documents.specs.TagsGone.{AreGone, TellsGone}
+pub use Rattle.documents.specs.TagsTold.{AreDistinct, AreKeysOf, IsTagChange, TellsPairs, TellsSpan, TellsSpans}
+pub use Rattle.documents.specs.TagsTold.{TellsTags, after_changes, flags_of, key_set, run_changes, slot_changes}
+pub use Rattle.documents.specs.TagsTold.{untagged}
+pub use Rattle.documents.specs.Texts.{insert_at, insertion_offset, keyed_text, tags_with, within_limits}
+pub use Rattle.documents.specs.Told.{Foretells, TellsCells}
+pub use Rattle.documents.specs.Views.{is_idle, shown, shown_flags, view_end, view_start}
+pub use Rattle.documents.specs.WellFormed.{HasItsKeys, IsPlaced, IsWellFormedDocument, belongs, window_names}
+pub use Rattle.documents.specs.Widgets.{IsOpen, ShowsOpenly, is_kept, new_widget, widget_named, with_peer}
+pub use Rattle.documents.specs.Widgets.{without_selections}
+pub use Rattle.documents.specs.declared.tag_lists.TagChange.{TagChange}
+pub use Rattle.documents.specs.declared.told.EditTold.{EditTold}
+pub use Rattle.edit_ops.proofs.AnchoredLaws.{all-moved, all-removed, anchored-stand}
+pub use Rattle.edit_ops.proofs.HunkLaws.{inserting-stand, joined, map-patched, put-behind, put_all, putting-append}
+pub use Rattle.edit_ops.proofs.HunkLaws.{removed_all, replacing-is, replacing-stand, taking-is, taking-stand}
+pub use Rattle.edit_ops.proofs.KeepLaws.{deleted-kept, deleted-runs, replaced-kept, texts-kept}
+pub use Rattle.edit_ops.proofs.ReplayLaws.{back-cons, guarded-holds, redo-fits-replay, undo-fits-replay}
+pub use Rattle.edit_ops.proofs.ReversalLaws.{group-redone-text, group-undone-text, guarded, redone-kept, redone-text}
+pub use Rattle.edit_ops.proofs.ReversalLaws.{undone-kept}
+pub use Rattle.edit_ops.proofs.StartLaws.{Begins, inserted-behind, is-start, removed-behind, text-end-begins}
+pub use Rattle.edit_ops.specs.Anchors.{AnchorsStand, AreAnchored, anchors_moved, anchors_removed}
+pub use Rattle.edit_ops.specs.Deletions.{delete_set, deleted, in_spans, removed_spans, runs_below}
+pub use Rattle.edit_ops.specs.Insertions.{inserted_text, inserted_texts, slots_or}
+pub use Rattle.edit_ops.specs.Removals.{clipped, removed_span, replaced_span}
+pub use Rattle.edit_ops.specs.Replays.{replayed, replays}
+pub use Rattle.edit_ops.specs.Reversals.{action_redone, action_undone, group_redone, group_undone, log_redone}
+pub use Rattle.edit_ops.specs.Reversals.{log_undone, put_back, redo_end, taken_back, undo_end}
+pub use Rattle.edit_ops.specs.SlotRuns.{AreBareRuns, IsBareRun, bare_cells, slotted, with_slots}
+pub use Rattle.edit_ops.specs.States.{Log, State, log_noted, log_of, state_of}
+pub use Rattle.edit_ops.specs.Tagging.{SpanFits, cell_without, cleared, tagged, without}
+pub use Rattle.edit_ops.specs.Told.{AreHunks, Tells, hunk_changes, patched, patched_by, putting, taking, taking_out}
+pub use Rattle.edit_ops.specs.declared.anchors.Anchors.{Anchors}
+pub use Rattle.edit_ops.specs.declared.slot_runs.SlotRun.{SlotRun}
+pub use Rattle.edit_ops.specs.declared.slotted_texts.SlottedText.{SlottedText}
+pub use Rattle.edit_ops.specs.declared.spans.Span.{Span}
+pub use Rattle.index_grammar.specs.Names.{known_marks, known_tags}
+pub use Rattle.mark_table.specs.Order.{earlier, rank_of, usable}
+pub use Rattle.mark_table.specs.SharedMarks.{AreMarks, Mark, SharedMarks, first_number, is_named, number_of, turned}
+pub use Rattle.mark_table.specs.declared.order.Shown.{Shown}
+pub use Rattle.name_list.proofs.ListLaws.{AreApart-insert, Contains-from_stands, get_push_cases, stands_from_Contains}
+pub use Rattle.name_list.proofs.ListLaws.{stands_map, stood_at}
+pub use Rattle.name_list.specs.Names.{AreApart, AreNames, IsLeastFree, Named, Names, numbers_of}
+pub use Rattle.search_dump.specs.Dump.{dump_elements, name_of_rank, seen_by}
+pub use Rattle.std.proofs.Math.ListN.{replicate}
+pub use Rattle.std.proofs.lemmas.Bool.{false≢true, and_parts, cases_lt, eqb-false, eqb-true, false_from_ne_true, le-leb}
+pub use Rattle.std.proofs.lemmas.Bool.{lt-ltb, ltb-false, ltb-true, or_left, or_right}
+pub use Rattle.std.proofs.lemmas.Bool.Decides.{nat_tests}
+pub use Rattle.std.proofs.lemmas.Grind.{get_or-set_at}
+pub use Rattle.std.proofs.lemmas.List.{append-nil, drop-drop, drop-take, drop_all, drop_at, drop_more, get_or-drop}
+pub use Rattle.std.proofs.lemmas.List.{get_or-map, get_or-set_other, get_or-take, get_or_append_left, get_or_default}
+pub use Rattle.std.proofs.lemmas.List.{get_or_past, length-append, length-drop, length-map, length-set, length-take}
+pub use Rattle.std.proofs.lemmas.List.{length-take-le, map-append, map-id, replicate_more, take-append-drop, take-take}
+pub use Rattle.std.proofs.lemmas.List.{take_all, take_at, take_more}
+pub use Rattle.std.proofs.lemmas.List.Edits.{split_between}
+pub use Rattle.std.proofs.lemmas.List.Elements.{All-append, All-cons, All-drop, All-from_get_or, All-get_or, All-head}
+pub use Rattle.std.proofs.lemmas.List.Elements.{All-map, All-nil, All-push, All-replicate, All-set, All-tail, All-take}
+pub use Rattle.std.proofs.lemmas.List.Elements.{All-weaker, Contains-append_cases, Contains-append_left}
+pub use Rattle.std.proofs.lemmas.List.Elements.{Contains-append_right}
+pub use Rattle.std.proofs.lemmas.List.Folds.{drop_split, find-append, list_any-append}
+pub use Rattle.std.proofs.lemmas.List.Sums.{sum_by-append, sum_by-cons, sum_by_more_le}
+pub use Rattle.std.proofs.lemmas.Map.Lookups.{CmpEqualImpliesEq, exact_pairs, exact_unsigned}
+pub use Rattle.std.proofs.lemmas.Option.{get_or_from_slice_get, none-some, option_and_then_some, same_Some}
+pub use Rattle.std.proofs.lemmas.Option.{slice_get-get_or, slice_get-map}
+pub use Rattle.std.proofs.lemmas.Result.{IfOk-weaker, on_ok_weaker}
+pub use Rattle.std.proofs.lemmas.Slice.Eq.{bytes_eq-Decides}
+pub use Rattle.std.proofs.lemmas.Str.{IsUtf8-string_bytes, chars-nil, chars_from_encodes}
+pub use Rattle.std.specs.BTreeMap.{is_at}
+pub use Rattle.std.specs.BTreeSet.{IsUnchanged, contains, contains_text}
+pub use Rattle.std.specs.Bool.{Decides, OnFalse}
+pub use Rattle.std.specs.Char.{IsScalar}
+pub use Rattle.std.specs.Cmp.{Equal-is, IsTotalOrder, both_ways, nat_cmp_total, tied_itself, unsigned_tied}
+pub use Rattle.std.specs.List.{All, AllByRecursion, cons_option, fold, list_any, position_from}
+pub use Rattle.std.specs.Option.{option_or}
+pub use Rattle.std.specs.Ordering.{eq_by_cmp, is_eq, nat_cmp}
+pub use Rattle.std.specs.Prelude.{if◌then◌else◌, IfSome, IsUtf8, bytes_eq, codes, find, is_some, nat_le, nat_lt}
+pub use Rattle.std.specs.Prelude.{option_and_then, slice_get, slice_index_or, slice_range, sum_by, unwrap_or}
+pub use Rattle.std.specs.declared.string.String.{String}
+pub use Rattle.tag_table.specs.Priority.{next_to}
+pub use Rattle.tag_table.specs.Tags.{AreTags, Tag, Tags, first_slot, names_of, sel, slot_of, slots_of}
+pub use Rattle.tag_table.specs.declared.faults.NoSuchTag.TheVariants.{Moved, Neighbour}
+pub use Rattle.tcl_words.specs.ListGrowth.{Goes}
+pub use Rattle.tcl_words.specs.ListText.{list_text}
+pub use Rattle.tcl_words.specs.Unread.{texts_of}
+pub use Rattle.text_cursor.specs.Around.{shared_slots}
+pub use Rattle.text_index.specs.Meanings.{AreWithin, MeanTheSame, shown_meanings, word_value}
+pub use Rattle.text_index.specs.Ranges.{next_range, previous_range, tag_ranges}
+pub use Rattle.text_index.specs.Views.{IsView, own_place, shared_place, shown_mark}
+pub use Rattle.text_index.specs.Words.{is_word}
+pub use Rattle.text_model.proofs.CellLaws.{characters-inserted, characters-removed, characters-with_slot}
+pub use Rattle.text_model.proofs.CellLaws.{characters-without_slots, contains-set_slot}
+pub use Rattle.text_model.proofs.DocumentLaws.{IsDocument-inserted, IsDocument-new, IsDocument-removed}
+pub use Rattle.text_model.proofs.SpliceLaws.{changed-same, get_or-inserted_behind, get_or-inserted_within}
+pub use Rattle.text_model.proofs.SpliceLaws.{get_or-removed_before, get_or-removed_behind, length-cells_inserted}
+pub use Rattle.text_model.proofs.SpliceLaws.{length-changed, length-inserted, length-removed, map-alike, map-changed}
+pub use Rattle.text_model.proofs.SpliceLaws.{map-inserted, map-map, map-removed, map-slice_range, removed-append_left}
+pub use Rattle.text_model.specs.Changes.{flag_at, is_alike, next_change}
+pub use Rattle.text_model.specs.Content.{Content, Marks, Slots, flags, map_marks, new_content, slot_sets, slots_left_of}
+pub use Rattle.text_model.specs.Documents.{IsDocument, MarksStand, ends_in_newline}
+pub use Rattle.text_model.specs.LimitTable.{AreLimits, LimitTable}
+pub use Rattle.text_model.specs.Lines.{IsLineStart, is_newline, line_of, line_start, lines}
+pub use Rattle.text_model.specs.Splices.{changed, drawn, goes_behind, inserted, moved, removed}
+pub use Rattle.text_model.specs.Steps.{after_insertion, after_removal, after_step, cells_of, set_slot, with_slot}
+pub use Rattle.text_model.specs.Steps.{without_slots}
+pub use Rattle.text_model.specs.declared.cells.Cell.{Cell}
+pub use Rattle.text_model.specs.declared.edits.Step.TheVariants.{ClearTags, Remove}
+pub use Rattle.text_model.specs.declared.limits.TheConstants.Limits.{MOST_CHARS, MOST_MARKS, MOST_TAGS, MOST_WIDGETS}
+pub use Rattle.text_model.specs.declared.places.Gravity.{Gravity}
+pub use Rattle.text_model.specs.declared.places.Gravity.TheVariants.{Right}
+pub use Rattle.text_model.specs.declared.places.MarkNo.{MarkNo}
+pub use Rattle.text_model.specs.declared.places.Place.{Place}
+pub use Rattle.text_model.specs.declared.places.TagSlot.{TagSlot}
+pub use Rattle.undo_stack.proofs.FitsLaws.{last-apart, limited-fits, note-fits, nothing-fits, redo-fits, redo-goes}
+pub use Rattle.undo_stack.proofs.FitsLaws.{separated-fits, undo-fits, undo-goes}
+pub use Rattle.undo_stack.proofs.OriginLaws.{note-origin, redo-origin, revert-groups-back, undo-origin}
+pub use Rattle.undo_stack.specs.Fits.{FitsText, put_in, repeated, repeated_group, repeated_groups, reverted}
+pub use Rattle.undo_stack.specs.Fits.{reverted_group, reverted_groups, take_out}
+pub use Rattle.undo_stack.specs.History.{History, after_redo, after_undo, limit_of, limited, newest, next_redo}
+pub use Rattle.undo_stack.specs.History.{next_undo, no_history, noted, separated}
+pub use Rattle.undo_stack.specs.Modified.{counted_down, counted_new, counted_up, set_to, times, unmodified}
+pub use Rattle.undo_stack.specs.Rings.{Kept}
+pub use Rattle.undo_stack.specs.declared.actions.Action.{Action}
+pub use Rattle.undo_stack.specs.declared.actions.EditKind.{EditKind}
+pub use Rattle.undo_stack.specs.declared.actions.EditKind.TheVariants.{Delete, Insert, Replace}

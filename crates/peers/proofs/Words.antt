@@ -1,0 +1,96 @@
+-- The words that most proofs of this crate cite, passed on from one place. Declares nothing.
+pub use Rattle.std.proofs.Common.{[], ap₂, if◌then◌else◌, true≢false, ℕ, ◌&&◌, ◌++◌, ◌+◌, ◌-◌, ◌<◌, ◌==◌, ◌||◌, ◌∙◌}
+pub use Rattle.std.proofs.Common.{◌∷◌, ◌≡◌, ◌≢◌, ◌≤◌, ◌⊎◌, Bool, Err, Global, IfErr, IfOk, List, None, Ok, Option}
+pub use Rattle.std.proofs.Common.{Result, Some, String, ap, append-nil, append_assoc, arith, chars, cond, drop}
+pub use Rattle.std.proofs.Common.{encode_utf8, false, filter, flat_map, get_or, inl, inr, is_ok, is_some, length, map}
+pub use Rattle.std.proofs.Common.{nat_le, nat_lt, not, option_map, refl, replicate, reverse, rules, slice_get}
+pub use Rattle.std.proofs.Common.{slice_set, string_bytes, subst, suc, sym, take, tests, true, zero}
+pub use Rattle.command_effects.proofs.CountLaws.{among-append}
+pub use Rattle.command_effects.specs.Arguments.{first_of, first_two_of, none_or_one_of, one_or_two_of, two_of}
+pub use Rattle.command_effects.specs.Faults.{shape_fault, with_value}
+pub use Rattle.command_effects.specs.Listing.{is_filled}
+pub use Rattle.command_effects.specs.Lists.{Pair, pairs_at}
+pub use Rattle.command_effects.specs.Settings.{end_bound, first_settings, is_behind, line_numbered, line_of_word}
+pub use Rattle.command_effects.specs.Settings.{setting_read, settings_checked, settings_read, start_bound, state_of}
+pub use Rattle.command_effects.specs.Words.{is_among, is_same, literal}
+pub use Rattle.command_effects.specs.declared.answers.Answer.{Answer}
+pub use Rattle.command_effects.specs.declared.answers.Answer.TheVariants.{Empty, Flag, Text, Word}
+pub use Rattle.command_effects.specs.declared.answers.Fault.{Fault}
+pub use Rattle.command_effects.specs.declared.answers.Fault.TheVariants.{BadBoolean, BadInteger, BadOption, IndexOrder}
+pub use Rattle.command_effects.specs.declared.answers.Fault.TheVariants.{InvalidCommandName, Memory, NothingToUndo}
+pub use Rattle.command_effects.specs.declared.answers.Fault.TheVariants.{StartLineAfterEndLine, TooManyWidgets}
+pub use Rattle.command_effects.specs.declared.answers.Fault.TheVariants.{WindowExists}
+pub use Rattle.command_effects.specs.declared.settings.Settings.{Settings}
+pub use Rattle.command_table.specs.Numbers.{boolean_of, integer_of}
+pub use Rattle.command_table.specs.Reading.{behind, reading, subcommand}
+pub use Rattle.command_table.specs.declared.commands.Command.{Command}
+pub use Rattle.command_table.specs.declared.commands.Command.TheVariants.{Configure, Delete, EditModified, EditRedo}
+pub use Rattle.command_table.specs.declared.commands.Command.TheVariants.{EditReset, EditSeparator, EditUndo, Insert}
+pub use Rattle.command_table.specs.declared.commands.Command.TheVariants.{MarkGravity, MarkSet, MarkUnset, PeerCreate}
+pub use Rattle.command_table.specs.declared.commands.Command.TheVariants.{Replace, TagAdd, TagDelete, TagLower}
+pub use Rattle.command_table.specs.declared.commands.Command.TheVariants.{TagRaise, TagRemove}
+pub use Rattle.command_table.specs.declared.shapes.Shape.{Shape}
+pub use Rattle.command_table.specs.declared.shapes.ShapeFault.{ShapeFault}
+pub use Rattle.documents.proofs.LeadLaws.{Leads}
+pub use Rattle.documents.proofs.NamesKeptLaws.{HasNamesOf, redo-kept, settings-kept, undo-kept}
+pub use Rattle.documents.proofs.NewNameLaws.{AreNamed, named-carried, named-peer, named-same}
+pub use Rattle.documents.proofs.OptionLeadLaws.{leads-first, leads-left, leads-peer, leads-settings, own-lines}
+pub use Rattle.documents.proofs.UndoRunLaws.{AnswersFor, after_times, by_found, by_name, undone-redone}
+pub use Rattle.documents.specs.Deletions.{delete_places, replace_span}
+pub use Rattle.documents.specs.Documents.{Document, Widget, characters, widget_at}
+pub use Rattle.documents.specs.History.{edit_redo, edit_reset, edit_undo, modified_set}
+pub use Rattle.documents.specs.Indices.{place_at}
+pub use Rattle.documents.specs.Kept.{is_window_name}
+pub use Rattle.documents.specs.Marks.{mark_offset, mark_unset, place_named}
+pub use Rattle.documents.specs.MarksTold.{ForetellsMarks, MarksTold}
+pub use Rattle.documents.specs.Options.{AreLines, IsLine, settings_of, with_settings}
+pub use Rattle.documents.specs.Promise.{Change, Does, Gives, answered, change_with, refused, unless_idle}
+pub use Rattle.documents.specs.Tags.{add_spans, lowered, raised, remove_spans, reordered, tag_delete}
+pub use Rattle.documents.specs.Texts.{insert_at, insertion_offset}
+pub use Rattle.documents.specs.Told.{Foretells, TellsCells}
+pub use Rattle.documents.specs.Views.{shown, view_end}
+pub use Rattle.documents.specs.WellFormed.{IsPlaced, IsWellFormedDocument, window_names}
+pub use Rattle.documents.specs.Widgets.{ShowsOpenly, bare_document, is_kept, keeps_some, new_document, new_widget}
+pub use Rattle.documents.specs.Widgets.{thinned, widget_named, with_peer, without_widgets}
+pub use Rattle.documents.specs.declared.told.EditTold.{EditTold}
+pub use Rattle.peers.specs.Commands.{Call, arguments_of, call_of, command, done, shaped, switches_of}
+pub use Rattle.peers.specs.Deletions.{delete, replace, replace_places, replace_words}
+pub use Rattle.peers.specs.Laws.{AnswersBefore, AreSpared, BeginsToKeep, GoesBack, UndoRuns, after_all, forgets}
+pub use Rattle.peers.specs.Laws.{forgets_read, is_forgotten, is_spared, names_dropped, names_read, place_after}
+pub use Rattle.peers.specs.Laws.{place_after_all, redo_words, repeated, sets_keeping, text_at, undo_words}
+pub use Rattle.peers.specs.Marks.{gravity_asked, gravity_given, gravity_words, mark_gravity, mark_set, set_at}
+pub use Rattle.peers.specs.Marks.{set_words}
+pub use Rattle.peers.specs.MarksTold.{MarksTellAt, MarksTellOf, edits_reading, edits_text}
+pub use Rattle.peers.specs.Options.{configure, settings_given}
+pub use Rattle.peers.specs.Queries.{count_between, counted_as, direction_by, direction_of, has_switch, is_direction}
+pub use Rattle.peers.specs.Queries.{searched, stands_for, stop_at, turned}
+pub use Rattle.peers.specs.Ranges.{and_place, places_at}
+pub use Rattle.peers.specs.Step.{Makes, Outcome, changed, create, create_named, create_new, create_shaped, create_with}
+pub use Rattle.peers.specs.Step.{destroy, destroy_shaped, has_widgets, on_found, on_home, on_widget, refuses, step}
+pub use Rattle.peers.specs.Tags.{add_words, next_between, place_or, previous_between, remove_words, tag_add, tag_lower}
+pub use Rattle.peers.specs.Tags.{tag_raise, tag_remove}
+pub use Rattle.peers.specs.Texts.{got, insert, insert_pairs, insert_words, text_of, texts_of_places}
+pub use Rattle.peers.specs.Told.{TellsAt, TellsOf, answer_of, cells_at, no_edit}
+pub use Rattle.peers.specs.WellFormed.{IsWellFormed}
+pub use Rattle.peers.specs.Widgets.{peer_create, peer_settings, peer_with, peer_words}
+pub use Rattle.peers.specs.Windows.{Homes, home_in, home_kept, homes_from, homes_of, names_in, places_in}
+pub use Rattle.peers.specs.World.{World, all_windows, document_at, home, windows_of}
+pub use Rattle.std.proofs.lemmas.Bool.{false≢true, and_parts, eqb-true, false_from_ne_true, lt-ltb, ltb-false, ltb-true}
+pub use Rattle.std.proofs.lemmas.Bool.Decides.{Decides-eqb, nat_tests, same_from_decides}
+pub use Rattle.std.proofs.lemmas.List.{drop-map, drop_all, drop_more, get_or_read, length-append, length-map}
+pub use Rattle.std.proofs.lemmas.List.{length-replicate, length-take, map-append, reverse-append, take-append-le}
+pub use Rattle.std.proofs.lemmas.List.{take-map, take_all, take_at, take_more, take_rest}
+pub use Rattle.std.proofs.lemmas.List.Edits.{insert-append_left, insert-append_right, insert_end, length-insert}
+pub use Rattle.std.proofs.lemmas.List.Elements.{All-append, All-cons, All-drop, All-nil, All-take}
+pub use Rattle.std.proofs.lemmas.Option.{none-some, slice_get-map}
+pub use Rattle.std.proofs.lemmas.Slice.Eq.{bytes_eq-Decides}
+pub use Rattle.std.proofs.lemmas.Str.{IsUtf8-past_char, IsUtf8-string_bytes, chars-nil, chars_past_char, encode_ascii}
+pub use Rattle.std.proofs.lemmas.Str.{encodes-chars}
+pub use Rattle.std.specs.List.{All, AllByRecursion, IsDistinct, find}
+pub use Rattle.std.specs.Map.{keys_of, lookup, values_of}
+pub use Rattle.std.specs.Option.{option_map_or}
+pub use Rattle.std.specs.Prelude.{ℤ, ⊤, IfSome, IsUtf8, OnErr, OnOk, bytes_eq, encode_utf8_all, negsuc, ok_or}
+pub use Rattle.std.specs.Prelude.{option_and_then, pos, position, remove}
+pub use Rattle.tcl_words.specs.ListGrowth.{Goes}
+pub use Rattle.tcl_words.specs.Unread.{texts_of}
+pub use Rattle.text_model.specs.LimitTable.{AreLimits, LimitTable}

@@ -1,0 +1,27 @@
+-- The words that most proofs of this crate cite, passed on from one place. Declares nothing.
+pub use Rattle.std.proofs.Common.{[], true≢false, ℕ, ◌++◌, ◌+◌, ◌<◌, ◌∙◌, ◌∷◌, ◌≡◌, ◌≢◌, ◌≤◌, ◌⊎◌, Bool, Err, IsSome}
+pub use Rattle.std.proofs.Common.{IsUtf8, List, None, Option, Some, String, ap, append_assoc, arith, chars, drop, false}
+pub use Rattle.std.proofs.Common.{get_or, inl, inr, length, min, refl, rules, string_bytes, subst, suc, sym, take, true}
+pub use Rattle.std.proofs.Common.{zero}
+pub use Rattle.core.proofs.alloc.Calls.{Al, Goes-blank, handle_tells}
+pub use Rattle.core.proofs.atomic.Steps.{Ptr-Good, fm}
+pub use Rattle.core.proofs.cell.Inside.{Good}
+pub use Rattle.std.proofs.lemmas.List.{append-nil, drop_more, length-append, length-drop, map-append}
+pub use Rattle.std.proofs.lemmas.Str.{IsUtf8-drop, IsUtf8-take, encodes-chars}
+pub use Rattle.std.proofs.raw_atomic.Walks.{leaves, proved_at}
+pub use Rattle.std.specs.Prelude.{if◌then◌else◌, Ok, Result, encode_utf8_all, is_err, is_ok, option_map, slice_get}
+pub use Rattle.std_alloc.proofs.BoxSteps.Steps.{box_in, box_out}
+pub use Rattle.std_alloc.proofs.ResultValues.{and_tt}
+pub use Rattle.std_alloc.specs.Box.Ownership.{box_owns}
+pub use Rattle.tcl_words.specs.Unread.{HasNoCommand, StopsAt, TakesCommand, Unread, texts_of}
+pub use Rattle.tktext_c.specs.Calls.{Called, Calls, Fed, Feeds, Gives, Takes, Turns, given_of, status_after}
+pub use Rattle.tktext_c.specs.Room.{Copied, over}
+pub use Rattle.tktext_c.specs.State.{State, Telling, memory_said, said_text, state_of}
+pub use Rattle.tktext_c.specs.Told.{CalledTold, CallsTold, GivesTold, IsTold, TakesTold, TurnsTold, bytes_of, mark_told}
+pub use Rattle.tktext_c.specs.Told.{place_of, span_in, spot_in, tag_name, tag_told, tag_widget, text_told, untold}
+pub use Rattle.tktext_c.specs.Told.{widget_told, word_given}
+pub use Rattle.tktext_c.specs.Words.{AreLengths, AreTexts, cut, total, words_at}
+pub use Rattle.tktext_c.specs.declared.ends.CallEnd.{CallEnd}
+pub use Rattle.tktext_c.specs.declared.ends.Given.{Given}
+pub use Rattle.tktext_c.specs.declared.ends.TurnEnd.{TurnEnd}
+pub use Rattle.tktext_c.specs.declared.session.Session.{Session}
