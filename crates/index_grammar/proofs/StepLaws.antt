@@ -112,10 +112,6 @@ after-step first m (Some ms) = ap Some (sym (append_assoc first (m ∷ []) ms))
 pub after-none : (ms : List Modifier) → after ms (Some []) ≡ Some ms
 after-none ms = ap Some (append-nil ms)
 
-pub after-first : (others : Option (List Modifier)) → others ≡ after [] others
-after-first None = refl
-after-first (Some ms) = refl
-
 keywords : (a b c d : Bool) → option_map saturated_modifier (if a then Some modifier.LineStart
     else (if b then Some modifier.LineEnd else (if c then Some modifier.WordStart
     else (if d then Some modifier.WordEnd else None))))

@@ -1,6 +1,5 @@
 -- What one line that is changed leaves of trees.
 use Rattle.line_tree.proofs.Words.{◌≡◌, ℕ, zero, suc, ◌+◌, ◌<◌, ◌≤◌, inl, inr, List, [], ◌∷◌, ◌++◌, length, take, drop}
-use Rattle.raw_nodes.specs.Records.{with_line}
 use Rattle.line_tree.proofs.Words.{map, refl, sym, ap, ◌∙◌, subst, arith, IsSome, is_some, slice_get, Option, None}
 use Rattle.line_tree.proofs.Words.{Some, AllByRecursion, filter_map, length-map, map-append, flat_map-append, none-some}
 use Rattle.line_tree.proofs.Words.{same_Some, plus-associative, plus-commutative, plus-no_text, Among, Distinct}
@@ -10,6 +9,7 @@ use Rattle.line_tree.proofs.Words.{LineContent, line_count, NodePtr, Record, Rec
 use Rattle.line_tree.proofs.Words.{row, same_or_other, get-update, get-update-other, len-update, Finds, HasRow}
 use Rattle.line_tree.proofs.Words.{HasNoParent, StandsAlone, lines_of, names_of, CanChange, Changes, Linked, SameLinks}
 use Rattle.line_tree.proofs.Words.{changed, linked, Found}
+use Rattle.raw_nodes.specs.Records.{with_line}
 use Rattle.std.proofs.Common.{option_map}
 use Rattle.std.specs.FinMap as finite
 use Rattle.line_tree.proofs.AmongLaws.{among-left}

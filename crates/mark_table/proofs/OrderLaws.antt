@@ -305,15 +305,6 @@ pub previous_from_mark : (marks : List Shown) (mark : WidgetMark) (from : Shown)
 previous_from_mark marks mark from found at is = ap
     (option_and_then (λ from. last (filter (λ shown. earlier shown from) marks))) at ∙ last_before marks from found is
 
-pub next_from_none : (marks : List Shown) (mark : WidgetMark) → shown_mark mark marks ≡ None →
-    next_shown (Mark mark) marks ≡ None
-next_from_none marks mark none = ap (option_and_then (λ from. first (filter (λ shown. earlier from shown) marks))) none
-
-pub previous_from_none : (marks : List Shown) (mark : WidgetMark) → shown_mark mark marks ≡ None →
-    previous_shown (Mark mark) marks ≡ None
-previous_from_none marks mark none =
-    ap (option_and_then (λ from. last (filter (λ shown. earlier shown from) marks))) none
-
 -- each rank is that of one mark at most
 find_only : (test : Shown → Bool) (marks : List Shown) (mark : Shown) → Stands marks mark → test mark ≡ true →
     ((other : Shown) → Stands marks other → test other ≡ true → other ≡ mark) → find test marks ≡ Some mark
@@ -340,21 +331,11 @@ own-out view rank None shown has = absurd (none-some shown has.1)
 own-out view rank (Some place) shown (zero, is) = ap (λ (s : Shown). s.rank) (sym (same_Some _ shown is))
 own-out view rank (Some place) shown (suc at, is) = absurd (none-some shown is)
 
-own-one : (view : MarkView) (rank : ℕ) (found : Option Place) (one other : Shown) →
-    Stands (own_mark view rank found) one → Stands (own_mark view rank found) other → other ≡ one
-own-one view rank None one other has also = absurd (none-some one has.1)
-own-one view rank (Some place) one other (zero, is) (zero, also) = same_Some other one (sym also ∙ is)
-own-one view rank (Some place) one other (zero, is) (suc at, also) = absurd (none-some other also)
-own-one view rank (Some place) one other (suc at, is) also = absurd (none-some one is)
-
 rank_is : (shown : Shown) (rank : ℕ) → shown.rank ≡ rank → (shown.rank == rank) ≡ true
 rank_is shown rank same = eq-eqb shown.rank rank same
 
 is_rank : (shown : Shown) (rank : ℕ) → (shown.rank == rank) ≡ true → shown.rank ≡ rank
 is_rank shown rank same = grind (arith, nat_tests)
-
-not_rank : (shown : Shown) (rank : ℕ) → shown.rank ≢ rank → (shown.rank == rank) ≡ false
-not_rank shown rank other = grind (arith, nat_tests)
 
 -- the only mark of a part is what a test finds that the part alone passes
 find_part : (test : Shown → Bool) (marks part : List Shown) (found : Option Shown) → option_to_list found ≡ part →

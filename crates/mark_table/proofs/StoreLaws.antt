@@ -118,9 +118,6 @@ was_kept p (y ∷ xs) x stands = by (p y) refl (λ rest. was_kept p xs x rest) s
     by true passes rest (suc i, is) = let old = rest (i, is) in ((suc old.0.0, old.0.1), old.1)
     by false fails rest (i, is) = let old = rest (i, is) in ((suc old.0.0, old.0.1), old.1)
 
-entries_at : ℕ → Marks → List (ℕ × Place)
-entries_at at marks = filter (λ (entry : ℕ × Place). entry.1.offset == at) (finite.entries marks)
-
 rises : (marks : Marks) → Rises 0 (finite.entries marks)
 rises marks = Rises-entries (finite.entries marks) (finite.entries_sorted marks)
 

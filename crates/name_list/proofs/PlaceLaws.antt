@@ -3,10 +3,9 @@ use Rattle.name_list.proofs.Words.{◌≡◌, ℕ, zero, suc, ◌+◌, ◌<◌, 
 use Rattle.name_list.proofs.Words.{List, [], ◌∷◌, ◌++◌, length, take, drop, min, slice_get, slice_set, Contains, refl}
 use Rattle.name_list.proofs.Words.{sym, ap, ◌∙◌, subst, inl, inr, arith, length-append, length-set, true≢false}
 use Rattle.name_list.proofs.Words.{if◌then◌else◌, eq-eqb, ne_eqb, insert, remove, is_some, option_and_then}
-use Rattle.name_list.proofs.Words.{option_map_or, cases_lt, cases_eq, nat_tests, none-some, same_Some, slice_get-get_or}
-use Rattle.name_list.proofs.Words.{slice_get_within, append-nil, take_all, drop_all, length-remove, length-insert}
-use Rattle.name_list.proofs.Words.{move_index, AreApart, IsLeastFree, is_taken, with_place_for, AreTrimmed, IsIndex}
-use Rattle.name_list.proofs.Words.{IsIndexTo, AreKept}
+use Rattle.name_list.proofs.Words.{option_map_or, cases_lt, cases_eq, nat_tests, none-some, same_Some, slice_get_within}
+use Rattle.name_list.proofs.Words.{append-nil, take_all, drop_all, length-remove, length-insert, move_index, AreApart}
+use Rattle.name_list.proofs.Words.{IsLeastFree, is_taken, with_place_for, AreTrimmed, IsIndex, IsIndexTo, AreKept}
 use Rattle.name_list.proofs.ListLaws.{Stands, stands_from_Contains, Contains-from_stands, get_push, get_pushed}
 use Rattle.name_list.proofs.ListLaws.{get_push_cases, get_set, get_set_other, get_remove, get_remove_other}
 use Rattle.name_list.proofs.ListLaws.{before_removal, removed_is_gone, AreApart-remove, AreApart-insert, get_inserted}
@@ -47,15 +46,6 @@ pub gone_from_free : (numbers : List ℕ) (places : List (Option ℕ)) (number :
 gone_from_free numbers places number index free (at, is) =
     true≢false (sym (ap (λ o. is_some (option_and_then (λ place. place) o)) (index.placed at number is)) ∙ free)
 
-pub free_from_gone : (numbers : List ℕ) (places : List (Option ℕ)) (number : ℕ) → IsIndex numbers places →
-    number < length places → ¬ (Stands numbers number) → slice_get places number ≡ Some None
-free_from_gone numbers places number index within gone = by (slice_get places number) refl
-  where
-    by : (found : Option (Option ℕ)) → slice_get places number ≡ found → found ≡ Some None
-    by None is = absurd (none-some _ (sym is ∙ slice_get-get_or places number None within))
-    by (Some None) is = refl
-    by (Some (Some at)) is = absurd (gone (at, index.there at number is))
-
 -- a name more, at the end
 pub IsIndex-push : (numbers : List ℕ) (places : List (Option ℕ)) (number : ℕ) → IsIndex numbers places →
     number < length places → ¬ (Stands numbers number) →
@@ -74,39 +64,6 @@ IsIndex-push numbers places number index within new =
             ap (slice_get (numbers ++ number ∷ [])) (sym last) ∙ get_pushed numbers number ∙ ap (λ m. Some m) (sym here)
         | inr other ↦ get_push numbers number at n (index.there at n (sym (get_set_other places number _ n other) ∙ is))
       ];
-    }
-
--- one place more is noted
-pub IsIndexTo-more : (numbers : List ℕ) (places : List (Option ℕ)) (upto number : ℕ) → AreApart numbers →
-    number < length places → slice_get numbers upto ≡ Some number → IsIndexTo numbers upto places →
-    IsIndexTo numbers (upto + 1) (slice_set places number (Some upto))
-IsIndexTo-more numbers places upto number apart within here index =
-    record {
-      placed = λ at n below is. elim (cases_eq n number) [
-        | inl same ↦
-            let last = apart at upto n is (here ∙ ap (λ m. Some m) (sym same)) in
-            ap (slice_get (slice_set places number (Some upto))) same ∙ get_set places number _ within
-            ∙ ap (λ a. Some (Some a)) (sym last)
-        | inr other ↦ get_set_other places number _ n other
-            ∙ index.placed at n (let not_last : at ≢ upto = λ e.
-            other (same_Some n number (sym is ∙ ap (slice_get numbers) e ∙ here)) in omega arith) is
-      ];
-      listed = λ at n is. elim (cases_eq n number) [
-        | inl same ↦ (upto, here ∙ ap (λ m. Some m) (sym same))
-        | inr other ↦ index.listed at n (sym (get_set_other places number _ n other) ∙ is)
-      ];
-    }
-
-pub IsIndex-from_all : (numbers : List ℕ) (places : List (Option ℕ)) (upto : ℕ) → length numbers ≤ upto →
-    IsIndexTo numbers upto places → IsIndex numbers places
-IsIndex-from_all numbers places upto all index =
-    record {
-      placed = λ at n is. let within = slice_get_within numbers at n is in index.placed at n (omega arith) is;
-      there = λ at n is.
-          let old = index.listed at n is in
-          let within = slice_get_within numbers old.0 n old.1 in
-          let same = same_Some at old.0 (same_Some _ _ (sym is ∙ index.placed old.0 n (omega arith) old.1)) in
-          ap (slice_get numbers) same ∙ old.1;
     }
 
 -- before the places are noted anew: a name is taken out

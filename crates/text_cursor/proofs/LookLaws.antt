@@ -3,15 +3,14 @@ use Rattle.text_cursor.proofs.Words.{◌≡◌, ℕ, zero, suc, ◌+◌, ◌-◌
 use Rattle.text_cursor.proofs.Words.{◌++◌, Option, Some, None, length, get_or, take, drop, refl, sym, ap, ap₂, ◌∙◌}
 use Rattle.text_cursor.proofs.Words.{arith, subst, length-append, length-drop, ne_eqb, append_assoc, slice_range, min}
 use Rattle.text_cursor.proofs.Words.{reverse, if◌then◌else◌, All, append-nil, map-append, length-take-le}
-use Rattle.text_cursor.proofs.Words.{take-append-drop, take_all, take_at, drop_at, take_more, drop_more}
-use Rattle.text_cursor.proofs.Words.{reverse-reverse, get_or_append_left, get_or-append-add, get_or-take, get_or-drop}
-use Rattle.text_cursor.proofs.Words.{get_or-map, All-take, All-drop, All-same, All-pop, take-add, Cell, Slots}
-use Rattle.text_cursor.proofs.Words.{characters, slot_sets, is_newline, lines, line_of, line_start, lines-cons}
-use Rattle.text_cursor.proofs.Words.{lines-append, line_start-le, map-map, map-slice_range, Cursor, Part, next_line}
-use Rattle.text_cursor.proofs.Words.{shared_slots, parts_len, turned_if, block_parts, side_parts, cells_between}
-use Rattle.text_cursor.proofs.Words.{part_cells, front_cells, behind_cells, cursor_cells, source_len, slots_in}
-use Rattle.text_cursor.proofs.Words.{last_line, front_text, behind_text, PartFits, IsCursor, IsLastLine, IsSecond}
-use Rattle.text_cursor.proofs.Words.{Block}
+use Rattle.text_cursor.proofs.Words.{take-append-drop, take_at, drop_at, take_more, drop_more, reverse-reverse}
+use Rattle.text_cursor.proofs.Words.{get_or_append_left, get_or-append-add, get_or-take, get_or-drop, get_or-map}
+use Rattle.text_cursor.proofs.Words.{All-take, All-drop, All-same, All-pop, take-add, Cell, Slots, characters}
+use Rattle.text_cursor.proofs.Words.{slot_sets, is_newline, lines, line_of, line_start, lines-cons, lines-append}
+use Rattle.text_cursor.proofs.Words.{line_start-le, map-map, map-slice_range, Cursor, Part, next_line, shared_slots}
+use Rattle.text_cursor.proofs.Words.{parts_len, turned_if, block_parts, side_parts, cells_between, part_cells}
+use Rattle.text_cursor.proofs.Words.{front_cells, behind_cells, cursor_cells, source_len, slots_in, last_line}
+use Rattle.text_cursor.proofs.Words.{front_text, behind_text, PartFits, IsCursor, IsLastLine, IsSecond, Block}
 use Rattle.std.specs.FinSet as set
 use Rattle.std.proofs.lemmas.List.Folds.{drop_split}
 use Rattle.text_cursor.proofs.SideLaws.{len-append, len-cons, turned-len, block-push}
@@ -189,10 +188,6 @@ old-next-in part old new behind is fits behind_is =
     let within = old-within part (length old) (length new) is fits in let long = length-characters old in
     let found = old-next (characters old) part.from part.to behind fits.some (omega (arith, within, long)) behind_is in
     (found.0, found.1 ∙ ap (line_start 1) (sym (old-text part old new is)))
-
-pub some-parts : (parts : List Part) → 0 < parts_len parts → 0 < length parts
-some-parts [] some = absurd (let h : 0 < 0 = some in omega (arith, h))
-some-parts (part ∷ parts) some = omega arith
 
 pub part-text-length : (part : Part) (old : List Cell) (new : List ℕ) → PartFits (length old) (length new) part →
     length (characters (part_cells old new part)) ≡ part.to - part.from
@@ -735,17 +730,6 @@ between-slots (Some slots) old new from to i inside within =
     record { character = character; tags = slots }) (slice_range new from to))
     ∙ get_or-map (λ _. slots) (slice_range new from to) i 0 set.empty
     (let long = slice-length from to new (omega (arith, inside)) within in omega (arith, long, inside))
-
-pub source-at : (slots : Option Slots) (old new to offset : ℕ) → to ≤ source_len slots old new → offset < to →
-    offset < source_len slots old (offset + 1)
-source-at None old new to offset within inside = omega (arith, within, inside)
-source-at (Some slots) old new to offset within inside = omega arith
-
-pub last-read : (parts : List Part) (part : Part) (n : ℕ) → n ≡ length parts → 0 < n →
-    part ≡ get_or parts (n - 1) part → parts ≡ take (n - 1) parts ++ part ∷ []
-last-read parts part n counted some is =
-    sym (take_all (n - 1 + 1) parts (omega (arith, counted, some)))
-    ∙ take_more parts (n - 1) part (omega (arith, counted, some)) ∙ ap (λ p. take (n - 1) parts ++ p ∷ []) (sym is)
 
 pub shared-is : (cursor : Cursor) (old : List Cell) (fronts behinds : List Part) (before behind : Part) →
     IsCursor cursor → length old ≡ cursor.old_len

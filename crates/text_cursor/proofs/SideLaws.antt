@@ -62,14 +62,6 @@ ends-read parts part n counted some is =
     (sym (take_all (n - 1 + 1) parts (omega (arith, counted, some)))
     ∙ take_more parts (n - 1) part (omega (arith, counted, some)) ∙ ap (λ p. take (n - 1) parts ++ p ∷ []) (sym is))
 
--- the first part, where they are turned
-pub ends-first : (parts : List Part) (part : Part) → 0 < length parts → part ≡ get_or parts 0 part →
-    EndsWith (reverse parts) part
-ends-first [] part some is = absurd (omega (arith, some))
-ends-first (first ∷ parts) part some is =
-    ends-is (reverse (first ∷ parts)) (reverse parts) part
-    (reverse-cons first parts ∙ ap (λ p. reverse parts ++ p ∷ []) (sym is))
-
 -- ---- one block more
 
 pub block-push : (turned : Bool) (blocks : List Block) (block : Block) → block_parts turned (blocks ++ block ∷ [])
@@ -94,10 +86,6 @@ shut-stays before now block n turned far block_is near = record {
       (drop n before.near.items)
       ∙ ap (λ parts. block_parts before.turned before.far.items ++ parts) (take-append-drop n before.near.items);
 }
-
-pub side-near : (side : Side) (near : List Part) → side.near.items ≡ near →
-    side_parts side ≡ block_parts side.turned side.far.items ++ near
-side-near side near is = ap (λ parts. block_parts side.turned side.far.items ++ parts) is
 
 -- a side whose near parts are none is its blocks
 none-near : (side : Side) → length side.near.items ≡ 0 → side_parts side ≡ block_parts side.turned side.far.items

@@ -13,18 +13,6 @@ later-start text line other before =
     let is : line + (other - line) ≡ other = omega arith in
     omega (arith, line_start-add line (other - line) text, ap (λ k. line_start k text) is)
 
--- the first character of a line, or the end where there is no such line
-pub first-on : (text : List ℕ) (line character start : ℕ) → (lines text ≤ line → line_start line text ≡ length text) →
-    character ≡ 0
-    → start ≡ line_start line text → start ≡ line_value (suc line) (Some character) text
-first-on text line character start past none is =
-    elim (nat_lt line (lines text)) as (λ b. nat_lt line (lines text) ≡ b →
-    start ≡ (if b then in_line line character text else length text)) [
-      | true ↦ λ before. let inside : line < lines text = grind (arith, nat_tests) in
-          omega (arith, is, none, line_start-rises text line inside)
-      | false ↦ λ behind. let over : lines text ≤ line = grind (arith, nat_tests) in omega (arith, is, past over)
-    ] refl
-
 -- a line behind the last
 pub none-on : (text : List ℕ) (line character start : ℕ) → (lines text ≤ line → line_start line text ≡ length text) →
     lines text ≤ line

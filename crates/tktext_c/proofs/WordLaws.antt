@@ -1,7 +1,7 @@
 -- Words that are read one after another.
-use Rattle.tktext_c.proofs.Words.{◌≡◌, ℕ, ◌+◌, ◌<◌, ◌≤◌, arith, List, [], ◌∷◌, ◌++◌, length, take, drop, refl, sym, ap}
-use Rattle.tktext_c.proofs.Words.{◌∙◌, append_assoc, chars, IsUtf8, String, string_bytes, length-drop, append-nil}
-use Rattle.tktext_c.proofs.Words.{map-append, texts_of, cut, total, words_at, AreLengths, AreTexts}
+use Rattle.tktext_c.proofs.Words.{◌≡◌, ℕ, ◌+◌, ◌≤◌, arith, List, [], ◌∷◌, ◌++◌, length, take, drop, sym, ap, ◌∙◌}
+use Rattle.tktext_c.proofs.Words.{append_assoc, chars, IsUtf8, String, string_bytes, length-drop, map-append, texts_of}
+use Rattle.tktext_c.proofs.Words.{cut, total, words_at, AreTexts}
 
 -- Of bytes and lengths these are left, and these words were made.
 pub record Reading (lengths bytes left rest : List ℕ) (made : List (List ℕ)) : Type 0 where
@@ -9,9 +9,6 @@ pub record Reading (lengths bytes left rest : List ℕ) (made : List (List ℕ))
   pub sums : total lengths + length rest ≡ length bytes + total left
   pub texts : AreTexts (cut lengths bytes) → AreTexts (cut left rest)
   pub back : AreTexts (cut left rest) → AreTexts (cut lengths bytes)
-
-pub reading-start : (lengths bytes : List ℕ) → Reading lengths bytes lengths bytes []
-reading-start lengths bytes = record { whole = refl; sums = omega arith; texts = λ t. t; back = λ t. t }
 
 pub reading-more : (lengths bytes left rest : List ℕ) (made : List (List ℕ)) (n : ℕ) (others : List ℕ)
     → Reading lengths bytes left rest made → left ≡ n ∷ others → n ≤ length rest → IsUtf8 (take n rest)
@@ -25,26 +22,6 @@ reading-more lengths bytes left rest made n others is next fits text =
       texts = λ t. (at.texts t).1;
       back = λ t. at.back (text, t);
     }
-
--- a word that isn't text
-pub reading-broken : (lengths bytes left rest : List ℕ) (made : List (List ℕ)) (n : ℕ) (others : List ℕ)
-    → Reading lengths bytes left rest made → left ≡ n ∷ others → ¬ IsUtf8 (take n rest) → ¬ AreTexts (cut lengths bytes)
-reading-broken lengths bytes left rest made n others is next broken =
-    λ t. let at = rw next at is in broken (at.texts t).0
-
--- a length that doesn't fit
-pub reading-short : (lengths bytes left rest : List ℕ) (made : List (List ℕ)) (n : ℕ) (others : List ℕ)
-    → Reading lengths bytes left rest made → left ≡ n ∷ others → length rest < n → ¬ AreLengths lengths bytes
-reading-short lengths bytes left rest made n others is next short = λ are.
-    let at = rw next at is in
-    let all : total lengths + length rest ≡ length bytes + (n + total others) = at.sums in
-    omega (arith, all, are.1, short)
-
--- none is left
-pub reading-end : (lengths bytes left rest : List ℕ) (made : List (List ℕ)) → Reading lengths bytes left rest made →
-    left ≡ []
-    → made ≡ words_at lengths bytes
-reading-end lengths bytes left rest made is none = let at = rw none at is in sym (at.whole ∙ append-nil made)
 
 -- a word more
 pub texts-more : {Z : Type 0} (words new : List (String Z)) (word : String Z) (bytes : List ℕ)

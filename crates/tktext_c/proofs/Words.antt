@@ -6,7 +6,7 @@ pub use Rattle.std.proofs.Common.{zero}
 pub use Rattle.core.proofs.alloc.Calls.{Al, Goes-blank, handle_tells}
 pub use Rattle.core.proofs.atomic.Steps.{Ptr-Good, fm}
 pub use Rattle.core.proofs.cell.Inside.{Good}
-pub use Rattle.std.proofs.lemmas.List.{append-nil, drop_more, length-append, length-drop, map-append}
+pub use Rattle.std.proofs.lemmas.List.{drop_more, length-append, length-drop, map-append}
 pub use Rattle.std.proofs.lemmas.Str.{IsUtf8-drop, IsUtf8-take, encodes-chars}
 pub use Rattle.std.proofs.raw_atomic.Walks.{leaves, proved_at}
 pub use Rattle.std.specs.Prelude.{if◌then◌else◌, Ok, Result, encode_utf8_all, is_err, is_ok, option_map, slice_get}

@@ -84,12 +84,6 @@ border-on lengths xs g d takes_more last within part =
     ap₂ (λ (gs us : List (List Action)). record { groups = gs; takes_more = false; last = None; undone = us }) groups
     undone
 
--- where no group is done or undone there is none
-pub no-undo : (lengths : List ℕ) (xs : List Action) (g d : ℕ) (takes_more : Bool) (last : Option EditKind) → g ≡ 0
-    → next_undo (history_of lengths xs g d takes_more last) ≡ None
-no-undo lengths xs g d takes_more last is =
-    ap (λ j. slice_get (grouped (take j lengths) xs) (length (grouped (take j lengths) xs) - 1)) is
-
 -- the last group of those that are done, by the length that stands there
 pub record LastGroup (lengths : List ℕ) (xs : List Action) (g d n : ℕ) (takes_more : Bool) (last : Option EditKind) :
     Type 0 where
