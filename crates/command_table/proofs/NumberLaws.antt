@@ -4,8 +4,7 @@ use Rattle.command_table.proofs.Words.{List, [], ◌∷◌, length, take, w32, t
 use Rattle.command_table.proofs.Words.{is_ascii_digit, list_all, IsAscii, IsUtf8, slice_index, ℤ, pos, neg_ℤ, nat_lt}
 use Rattle.command_table.proofs.Words.{nat_le, fold, option_map, ◌==◌, if◌then◌else◌, false≢true, nat_tests}
 use Rattle.command_table.proofs.Words.{Decides-eqb, Decides-ltb, chars-IsAscii, encodes-IsAscii, encodes-chars}
-use Rattle.command_table.proofs.Words.{add_digit, number_of, integer_of}
-use Rattle.std.proofs.Common.{Option, Some, None}
+use Rattle.command_table.proofs.Words.{add_digit, number_of, integer_of, Option, Some, None}
 use Rattle.std.specs.Str.{chars}
 use Rattle.std.proofs.Math.Facts.{to_z_pos}
 use Rattle.std.proofs.Math.Nat.{pow-le-pow_right}

@@ -3,7 +3,7 @@ use Rattle.command_table.proofs.Words.{◌≡◌, ℕ, ◌<◌, ◌≤◌, ◌+�
 use Rattle.command_table.proofs.Words.{drop, get_or, refl, sym, ap, ◌∙◌, subst, arith, cond, Option, Some, None, IfSome}
 use Rattle.command_table.proofs.Words.{String, string_bytes, chars, false≢true, length-map, get_or-map, Word, texts_of}
 use Rattle.command_table.proofs.Words.{EntryRule, begins, entry_rule, spelled, IsPlaceOf, table, text_entry, find_in}
-use Rattle.std.proofs.Common.{map}
+use Rattle.command_table.proofs.Words.{map}
 use Rattle.command_table.specs.declared.entries.Entry.{Entry}
 use Rattle.command_table.proofs.EntryLaws.{rest_at}
 

@@ -1,7 +1,7 @@
 -- The words that most proofs of this crate cite, passed on from one place. Declares nothing.
-pub use Rattle.std.proofs.Common.{[], ap₂, ℕ, ◌&&◌, ◌++◌, ◌+◌, ◌<◌, ◌^◌, ◌∙◌, ◌∷◌, ◌≡◌, ◌≤◌, Bool, List, add-one, ap}
-pub use Rattle.std.proofs.Common.{append_assoc, arith, cond, drop, false, filter, get_or, le-leb, length, refl, subst}
-pub use Rattle.std.proofs.Common.{suc, sym, take, take_all, to_z, true, w32, zero}
+pub use Rattle.std.proofs.Common.{[], ap₂, ℕ, ◌&&◌, ◌++◌, ◌+◌, ◌<◌, ◌^◌, ◌∙◌, ◌∷◌, ◌≡◌, ◌≤◌, Bool, List, None, Option}
+pub use Rattle.std.proofs.Common.{Some, add-one, ap, append_assoc, arith, chars, cond, drop, false, filter, get_or}
+pub use Rattle.std.proofs.Common.{le-leb, length, map, refl, subst, suc, sym, take, take_all, to_z, true, w32, zero}
 pub use Rattle.command_table.specs.Entries.{EntryRule, SwitchRule, bad_switch, begins, dashed_words, ends_switches}
 pub use Rattle.command_table.specs.Entries.{is_bad_option}
 pub use Rattle.command_table.specs.Numbers.{add_digit, integer_of, number_of}
@@ -16,6 +16,6 @@ pub use Rattle.std.proofs.lemmas.Str.{char_from_byte, chars-IsAscii, chars-appen
 pub use Rattle.std.proofs.lemmas.Str.{encodes-append, encodes-chars}
 pub use Rattle.std.specs.Char.{is_ascii_digit}
 pub use Rattle.std.specs.List.{enumerate_from, find, list_all, list_any, starts_with, take-map}
-pub use Rattle.std.specs.Prelude.{if◌then◌else◌, neg_ℤ, ℤ, ◌==◌, Err, IfSome, IsAscii, IsUtf8, None, Option, Some}
-pub use Rattle.std.specs.Prelude.{String, bytes_eq, chars, encode_utf8, encode_utf8_all, fold, map, nat_eq, nat_le}
-pub use Rattle.std.specs.Prelude.{nat_lt, option_map, pos, slice_index, string_bytes}
+pub use Rattle.std.specs.Prelude.{if◌then◌else◌, neg_ℤ, ℤ, ◌==◌, Err, IfSome, IsAscii, IsUtf8, String, bytes_eq}
+pub use Rattle.std.specs.Prelude.{encode_utf8, encode_utf8_all, fold, nat_eq, nat_le, nat_lt, option_map, pos}
+pub use Rattle.std.specs.Prelude.{slice_index, string_bytes}

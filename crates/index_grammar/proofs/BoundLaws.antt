@@ -5,19 +5,18 @@ use Rattle.index_grammar.proofs.Words.{bytes_eq, encode_utf8_all, find, slice_ge
 use Rattle.index_grammar.proofs.Words.{if◌then◌else◌, MatchOption, ends_with, nat_tests, Decides-ltb, take-append-drop}
 use Rattle.index_grammar.proofs.Words.{length-drop, length-take, length-append, append-nil, bytes_eq-Decides}
 use Rattle.index_grammar.proofs.Words.{encodes-chars, IsUtf8-take, IsCharBoundary-before_ascii, Mark, closes, IsBound}
-use Rattle.index_grammar.proofs.Words.{marked, tagged, known_marks, known_tags}
-use Rattle.std.specs.Prelude.{min, ◌==◌, Option, Some, None}
+use Rattle.index_grammar.proofs.Words.{marked, tagged, known_marks, known_tags, min, ◌==◌, Option, Some, None}
+use Rattle.index_grammar.proofs.Words.{append_assoc}
 use Rattle.std.specs.Borrow.{Bor}
-use Rattle.std.proofs.lemmas.List.{append_assoc}
 use Rattle.std.proofs.Math.Seq.{get_or-append_seam}
-use Rattle.mark_table.specs.SharedMarks as shared_marks
-use Rattle.tag_table.specs.Tags as shared_tags
 use Rattle.tag_table.specs.Tags.{Tag}
-use Rattle.index_grammar.specs.declared.indices.Base.TheVariants as base
 use Rattle.index_grammar.proofs.CharLaws.{break-boundary}
 use Rattle.index_grammar.proofs.TokenLaws.{drop-front}
 use Rattle.index_grammar.proofs.NameLaws.{insert_bytes, current_bytes, known-shared}
 use Rattle.index_grammar.proofs.TagLaws.{first_bytes, last_bytes, ends-front, tagged-first, tagged-last, tagged-none}
+use Rattle.mark_table.specs.SharedMarks as shared_marks
+use Rattle.tag_table.specs.Tags as shared_tags
+use Rattle.index_grammar.specs.declared.indices.Base.TheVariants as base
 
 -- how many bytes stand behind a name with its ending, where these are a closed front
 abbrev pub IsBehind : List ℕ → List ℕ → ℕ → Type 0

@@ -6,8 +6,7 @@ use Rattle.index_grammar.proofs.Words.{nat_tests, Decides-ltb, false≢true, tak
 use Rattle.index_grammar.proofs.Words.{prefix_len-le-length, list_all-append, encodes-chars, encode_ascii, chars-append}
 use Rattle.index_grammar.proofs.Words.{chars-nil, chars-IsAscii, IsUtf8-take, IsUtf8-from_ascii}
 use Rattle.index_grammar.proofs.Words.{IsCharBoundary-before_ascii, is_break, closes, place_base, place_of, of_length}
-use Rattle.index_grammar.proofs.Words.{saturated_base, read_of, Base}
-use Rattle.std.specs.Prelude.{Option, Some, None}
+use Rattle.index_grammar.proofs.Words.{saturated_base, read_of, Base, Option, Some, None}
 use lib.Utf8.{encode}
 use Rattle.index_grammar.proofs.LowLaws.{ascii_of}
 use Rattle.index_grammar.proofs.PlaceLaws.{place_of-chars}

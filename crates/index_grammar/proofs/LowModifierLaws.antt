@@ -7,14 +7,14 @@ use Rattle.index_grammar.proofs.Words.{starts_is, bytes_eq-Decides, chars-IsAsci
 use Rattle.index_grammar.proofs.Words.{is_blank, is_sign, Token, tokens_from, tokens_of, run_tokens, parts_of}
 use Rattle.index_grammar.proofs.Words.{modifiers_of, before, counted, by_count, number_of, keyword_of, unit_of}
 use Rattle.index_grammar.proofs.Words.{abbreviates, Sign, Digits, Word, Modifier}
-use Rattle.index_grammar.specs.declared.indices.Modifier.TheVariants as modifier
 use Rattle.index_grammar.specs.declared.indices.Unit.{Unit}
-use Rattle.index_grammar.specs.declared.indices.Unit.TheVariants as unit
 use Rattle.index_grammar.proofs.CharLaws.{both}
 use Rattle.index_grammar.proofs.LowLaws.{is_low, ascii_of}
 use Rattle.index_grammar.proofs.PlaceLaws.{low_number}
 use Rattle.index_grammar.proofs.StepLaws.{any_bytes}
 use Rattle.index_grammar.proofs.TokenLaws.{from-nil, from-blank, from-sign, from-inside}
+use Rattle.index_grammar.specs.declared.indices.Modifier.TheVariants as modifier
+use Rattle.index_grammar.specs.declared.indices.Unit.TheVariants as unit
 
 abbrev low_token : Token → Bool
 low_token (Sign plus) = true

@@ -8,8 +8,8 @@ use Rattle.index_grammar.proofs.Words.{Base, add_digit, number_of, in_line, arou
 use Rattle.index_grammar.proofs.Words.{is_dot}
 use Rattle.std.specs.Str.{chars}
 use Rattle.std.proofs.lemmas.List.Quantifiers.{position-Some}
-use Rattle.index_grammar.specs.declared.indices.Base.TheVariants as base
 use Rattle.index_grammar.proofs.LowLaws.{is_low, ascii_of}
+use Rattle.index_grammar.specs.declared.indices.Base.TheVariants as base
 
 abbrev pub most : ℕ
 most = 18446744073709551615

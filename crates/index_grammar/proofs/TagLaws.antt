@@ -3,12 +3,11 @@ use Rattle.index_grammar.proofs.Words.{◌≡◌, ℕ, ◌-◌, true, false, Lis
 use Rattle.index_grammar.proofs.Words.{arith, chars, IsUtf8, IsAscii, encode_utf8_all, nat_eq, option_map}
 use Rattle.index_grammar.proofs.Words.{if◌then◌else◌, ends_with, false≢true, Decides-eqb, length-append, ends_is}
 use Rattle.index_grammar.proofs.Words.{encodes-chars, encodes-append, encodes-IsAscii, chars-append, chars-IsAscii}
-use Rattle.index_grammar.proofs.Words.{tagged, without_last, first_tagged, last_tagged}
-use Rattle.std.specs.Prelude.{Option, Some, None}
+use Rattle.index_grammar.proofs.Words.{tagged, without_last, first_tagged, last_tagged, Option, Some, None}
 use Rattle.text_model.specs.declared.places.TagSlot.{TagSlot}
-use Rattle.index_grammar.specs.declared.indices.Base.TheVariants as base
 use Rattle.index_grammar.proofs.LowLaws.{ascii_of}
 use Rattle.index_grammar.proofs.TokenLaws.{take-front}
+use Rattle.index_grammar.specs.declared.indices.Base.TheVariants as base
 
 abbrev pub first_bytes : List ℕ
 first_bytes = 46 ∷ 102 ∷ 105 ∷ 114 ∷ 115 ∷ 116 ∷ []

@@ -1,7 +1,7 @@
 -- The words that most proofs of this crate cite, passed on from one place. Declares nothing.
-pub use Rattle.std.proofs.Common.{[], ℕ, ◌&&◌, ◌*◌, ◌++◌, ◌+◌, ◌-◌, ◌/◌, ◌<◌, ◌==◌, ◌||◌, ◌∙◌, ◌∷◌, ◌≡◌, ◌≢◌, ◌≤◌, Bool}
-pub use Rattle.std.proofs.Common.{List, None, Option, Some, ap, append_assoc, arith, cond, drop, false, get_or, length}
-pub use Rattle.std.proofs.Common.{map, min, not, refl, suc, sym, take, true, vec_len, zero}
+pub use Rattle.std.proofs.Common.{[], if◌then◌else◌, ℕ, ◌&&◌, ◌*◌, ◌++◌, ◌+◌, ◌-◌, ◌/◌, ◌<◌, ◌==◌, ◌||◌, ◌∙◌, ◌∷◌, ◌≡◌}
+pub use Rattle.std.proofs.Common.{◌≢◌, ◌≤◌, Bool, List, None, Option, Some, ap, append_assoc, arith, cond, drop, false}
+pub use Rattle.std.proofs.Common.{get_or, length, length-drop, map, min, not, refl, suc, sym, take, true, vec_len, zero}
 pub use Rattle.index_grammar.specs.Characters.{closes, is_blank, is_break, is_sign}
 pub use Rattle.index_grammar.specs.Fronts.{IsBound, named, names_in}
 pub use Rattle.index_grammar.specs.Grammar.{Token, WholeIndex, abbreviates, add_digit, around_dot, base_of, before}
@@ -20,8 +20,8 @@ pub use Rattle.index_grammar.specs.declared.indices.Modifier.{Modifier}
 pub use Rattle.mark_table.specs.SharedMarks.{Mark}
 pub use Rattle.std.proofs.lemmas.Bool.{false≢true}
 pub use Rattle.std.proofs.lemmas.Bool.Decides.{Decides-eqb, Decides-ltb, nat_tests, same_from_decides}
-pub use Rattle.std.proofs.lemmas.List.{append-nil, drop_more, get_or-drop, get_or-take, length-append, length-drop}
-pub use Rattle.std.proofs.lemmas.List.{length-take, take-append-drop, take-take, take_rest}
+pub use Rattle.std.proofs.lemmas.List.{append-nil, drop_more, get_or-drop, get_or-take, length-append, length-take}
+pub use Rattle.std.proofs.lemmas.List.{take-append-drop, take-take, take_rest}
 pub use Rattle.std.proofs.lemmas.List.Folds.{list_all-append}
 pub use Rattle.std.proofs.lemmas.List.Sums.{prefix_len-le-length}
 pub use Rattle.std.proofs.lemmas.Slice.Eq.{bytes_eq-Decides, ends_is, starts_is, strip_prefix_is}
@@ -30,6 +30,6 @@ pub use Rattle.std.proofs.lemmas.Str.{IsUtf8-from_ascii, IsUtf8-take, chars-IsAs
 pub use Rattle.std.proofs.lemmas.Str.{encode_ascii, encodes-IsAscii, encodes-append, encodes-chars}
 pub use Rattle.std.specs.Char.{is_ascii_digit}
 pub use Rattle.std.specs.List.{ends_with, list_all, prefix_len, starts_with}
-pub use Rattle.std.specs.Prelude.{if◌then◌else◌, IsAscii, IsCharBoundary, IsUtf8, MatchOption, bytes_eq, chars, codes}
-pub use Rattle.std.specs.Prelude.{encode_utf8_all, find, fold, nat_eq, nat_le, nat_lt, option_and_then, option_map}
-pub use Rattle.std.specs.Prelude.{position, slice_get, slice_index, slice_range, vec_capacity}
+pub use Rattle.std.specs.Prelude.{IsAscii, IsCharBoundary, IsUtf8, MatchOption, bytes_eq, chars, codes, encode_utf8_all}
+pub use Rattle.std.specs.Prelude.{find, fold, nat_eq, nat_le, nat_lt, option_and_then, option_map, position, slice_get}
+pub use Rattle.std.specs.Prelude.{slice_index, slice_range, vec_capacity}

@@ -4,9 +4,9 @@ use Rattle.line_lists.proofs.Words.{arith, take-append-drop, slice_get, nat_cmp_
 use Rattle.line_lists.proofs.Words.{Slots, slot_sets, slots_left_of, differing, differing-empty, same_slots}
 use Rattle.line_lists.proofs.Words.{union-commutative, parity, presence, presence-append, Column, LineContent, toggles}
 use Rattle.line_lists.proofs.Words.{count_of, content_of, whole, tags_left_of}
-use Rattle.std.specs.FinSet as set
 use Rattle.line_lists.proofs.CountRows.{count-presence}
 use Rattle.line_lists.proofs.PlaceRows.{length-content, tags-behind, tags-column}
+use Rattle.std.specs.FinSet as set
 
 pub none-first : (s t : Slots) → set.union s t ≡ set.empty → s ≡ set.empty
 none-first s t none =

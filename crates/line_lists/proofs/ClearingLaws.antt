@@ -12,7 +12,6 @@ use Rattle.line_lists.proofs.Words.{free_length, lines_on, BeginsBehind, IsDraft
 use Rattle.line_lists.proofs.Words.{copies_of, covered, drafted, drafted_at, lines_before, lines_behind, made_lines}
 use Rattle.line_lists.proofs.Words.{taken_lines, text_at, tags_after, used, place_of, with_cleared, AreRows, has_toggle}
 use Rattle.line_lists.proofs.Words.{next_line, whole, cleared, tags_left_of}
-use Rattle.std.specs.FinSet as set
 use Rattle.segments.proofs.ChangeLaws.{changed-first, changed-next, slots_kept}
 use Rattle.line_lists.proofs.DraftLaws.{behind-whole, can-follow-next, copies-snoc, drafted-append, last_is, last_same}
 use Rattle.line_lists.proofs.DraftLaws.{length-whole, stop_of, no_last, none_at, take-more, used-append}
@@ -24,6 +23,7 @@ use Rattle.line_lists.proofs.SearchRows.{FailFrom, found-next, none-next}
 use Rattle.line_lists.proofs.TagLaws.{behind-append}
 use Rattle.line_lists.proofs.ToggleColumns.{presence-cons}
 use Rattle.line_lists.proofs.WholeLaws.{whole-append, with_cleared-between}
+use Rattle.std.specs.FinSet as set
 
 -- ---- the slots that are on behind so many characters
 -- what stands before a column of a line

@@ -3,8 +3,8 @@ use Rattle.line_lists.proofs.Words.{◌≡◌, ◌+◌, List, [], ◌∷◌, ◌
 use Rattle.line_lists.proofs.Words.{differing, no_text-plus, plus-associative, Count, CountsFit, plus, presence}
 use Rattle.line_lists.proofs.Words.{presence-append, Column, LineContent, line_count, toggles, IsCounted, count_of}
 use Rattle.line_lists.proofs.Words.{whole, tags_left_of}
-use Rattle.std.specs.FinSet as set
 use Rattle.line_lists.proofs.TagLaws.{behind-append}
+use Rattle.std.specs.FinSet as set
 
 pub count-append : (xs ys : List LineContent) → count_of (xs ++ ys) ≡ plus (count_of xs) (count_of ys)
 count-append [] ys = sym (no_text-plus (count_of ys))

@@ -9,13 +9,13 @@ use Rattle.line_lists.proofs.Words.{get-map_marks, same_marks, Column, LineConte
 use Rattle.line_lists.proofs.Words.{joined, later, line_before, line_behind, marks_where, plain_columns, plain_line}
 use Rattle.line_lists.proofs.Words.{get-joined_marks, or_else, characters-plain, AreApart, AreRows, GoesBefore, IsLine}
 use Rattle.line_lists.proofs.Words.{StandBefore, whole}
-use Rattle.std.specs.FinMap as finite
 use Rattle.line_lists.proofs.EditLaws.{length-text, some-columns, text-among, text-goes, text-whole}
 use Rattle.line_lists.proofs.MarkPlaces.{apart-rest}
 use Rattle.line_lists.proofs.NewlineRows.{none_before}
 use Rattle.line_lists.proofs.PassingLaws.{find-passing, passing}
 use Rattle.line_lists.proofs.RowLaws.{AreAmong, Makes, among-first, free-joined, rows-before, rows-behind}
 use Rattle.line_lists.proofs.WholeLaws.{joined-associative, whole-append}
+use Rattle.std.specs.FinMap as finite
 
 -- ---- the marks that pass a test
 pub get-marks_where : (test : Place → Bool) (marks : Marks) (number : ℕ) →

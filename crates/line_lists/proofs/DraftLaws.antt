@@ -6,8 +6,7 @@ use Rattle.line_lists.proofs.Words.{take_all, take_more, get_or_from_slice_get, 
 use Rattle.line_lists.proofs.Words.{LineContent, Copied, Reached, Stop, AreStops, BeginsBehind, BeginsBy, CanFollow}
 use Rattle.line_lists.proofs.Words.{IsDraft, IsReached, LastBeginsBehind, IsStop, copies_of, covered, drafted, in_order}
 use Rattle.line_lists.proofs.Words.{line_start, lines_before, made_lines, used, IsCounted, count_of, whole}
-use Rattle.line_lists.proofs.Words.{tags_left_of}
-use Rattle.std.specs.Prelude.{None, Option, Some}
+use Rattle.line_lists.proofs.Words.{tags_left_of, None, Option, Some}
 use Rattle.line_lists.proofs.CountRows.{count-append, count-characters, count-parity}
 use Rattle.line_lists.proofs.SlotLaws.{differing-again}
 use Rattle.line_lists.proofs.StepLaws.{take-slice}

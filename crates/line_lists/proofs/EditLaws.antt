@@ -6,13 +6,12 @@ use Rattle.line_lists.proofs.Words.{Marks, map_marks, ends_in_newline, lines, in
 use Rattle.line_lists.proofs.Words.{lines-inserted, get-map_marks, length-inserted, map-inserted, moved_le, Column}
 use Rattle.line_lists.proofs.Words.{LineContent, after_text, characters, joined, later, plain_columns, get-joined_marks}
 use Rattle.line_lists.proofs.Words.{or_else, tied_same, characters-plain, StandsBy, with_mark, without_mark, AreApart}
-use Rattle.line_lists.proofs.Words.{AreRows, GoesBefore, IsLine, StandBefore, StandWithin, whole}
-use Rattle.std.proofs.Common.{IfSome}
-use Rattle.std.specs.FinMap as finite
+use Rattle.line_lists.proofs.Words.{AreRows, GoesBefore, IsLine, StandBefore, StandWithin, whole, IfSome}
 use Rattle.line_lists.proofs.MarkRows.{get-row}
 use Rattle.line_lists.proofs.RowLaws.{AreAmong, Makes, StayFree, among-first, free-joined, free-parts, rows-among}
 use Rattle.line_lists.proofs.RowLaws.{rows-before, rows-behind, whole-around}
 use Rattle.line_lists.proofs.WholeLaws.{after_text-between, whole-append, with_mark-between, without_mark-between}
+use Rattle.std.specs.FinMap as finite
 
 -- ---- the marks of lines before others stand before their end
 pub joined_one : (len end : ℕ) (found first : Option Place) (place : Place) →

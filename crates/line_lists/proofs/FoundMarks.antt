@@ -3,10 +3,10 @@ use Rattle.line_lists.proofs.Words.{◌≡◌, ℕ, ◌+◌, ◌-◌, ◌<◌, �
 use Rattle.line_lists.proofs.Words.{sym, ap, ap₂, subst, ◌∙◌, arith, length-append, Place, LineContent, later, Copied}
 use Rattle.line_lists.proofs.Words.{Stop, IsText, covered, drafted, drafted_at, in_order, text_at, with_mark, AreRows}
 use Rattle.line_lists.proofs.Words.{GoesBefore, IsLine, whole}
-use Rattle.std.specs.FinMap as finite
 use Rattle.line_lists.proofs.EditLaws.{free-around, mark-stays, mark-whole, put-stands, some-columns}
 use Rattle.line_lists.proofs.FreedLaws.{drafted-cons}
 use Rattle.line_lists.proofs.RowLaws.{Makes, rows-among, rows-behind, whole-around}
+use Rattle.std.specs.FinMap as finite
 
 -- ---- the end of the text
 drafted-some : (copies : List Copied) (lines : List LineContent) → 0 < length lines → 0 < length (drafted copies lines)

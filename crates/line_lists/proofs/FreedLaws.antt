@@ -6,7 +6,6 @@ use Rattle.line_lists.proofs.Words.{unsigned_tied, eq_by_cmp, nat_cmp, nat_tests
 use Rattle.line_lists.proofs.Words.{take-map, take_all, MarkNo, Place, same_marks, LineContent, tied_same, Copied}
 use Rattle.line_lists.proofs.Words.{covered, drafted, made_lines, used, without_mark, AreApart, AreLines, AreRows}
 use Rattle.line_lists.proofs.Words.{GoesBefore, count_of, copied_lines, freed, numbers_in, numbers_of, whole}
-use Rattle.std.specs.FinMap as finite
 use Rattle.std.specs.FinMap.Entries.{find}
 use Rattle.line_lists.proofs.DraftLaws.{none_at}
 use Rattle.line_lists.proofs.EditLaws.{free_one, rows-apart}
@@ -14,6 +13,7 @@ use Rattle.line_lists.proofs.RowLaws.{free-joined, free-parts, rows-behind}
 use Rattle.line_lists.proofs.VecLaws.{characters-without, lines-are-without, lines-without, marks-without}
 use Rattle.line_lists.proofs.VecLaws.{whole-without}
 use Rattle.line_lists.proofs.WholeLaws.{whole-append}
+use Rattle.std.specs.FinMap as finite
 
 -- ---- the numbers of a line's marks, one by one
 abbrev number_of : ℕ × Place → ℕ

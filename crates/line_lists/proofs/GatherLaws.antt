@@ -10,12 +10,12 @@ use Rattle.line_lists.proofs.Words.{Piece, AreStops, IsText, copies_of, drafted,
 use Rattle.line_lists.proofs.Words.{without_mark, AreApart, AreLines, AreRows, IsCounted, SameNumbers, count_of}
 use Rattle.line_lists.proofs.Words.{spliced, CanPlace, Covers, copied_lines, freed, named, numbers_in, numbers_of}
 use Rattle.line_lists.proofs.Words.{piece_lines, placed, whole}
-use Rattle.std.specs.FinMap as finite
 use Rattle.line_lists.proofs.CountRows.{count-append}
 use Rattle.line_lists.proofs.DraftLaws.{copies-snoc, made-snoc, used-append}
 use Rattle.line_lists.proofs.FreedLaws.{freed-apart, freed-count_characters, freed-count_lines, freed-count_marks}
 use Rattle.line_lists.proofs.FreedLaws.{freed-drafted, freed-length, freed-lines, in_names}
 use Rattle.line_lists.proofs.PieceLaws.{covers-all, covers-more, covers-new}
+use Rattle.std.specs.FinMap as finite
 
 -- the last of a list, as it is and as it becomes
 pub last-of : {A : Type 0} (xs : List A) (n : ℕ) (x : A) → n ≡ length xs → 0 < n → x ≡ get_or xs (n - 1) x →

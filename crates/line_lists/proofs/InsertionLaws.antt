@@ -7,11 +7,11 @@ use Rattle.line_lists.proofs.Words.{Place, Marks, map_marks, goes_behind, insert
 use Rattle.line_lists.proofs.Words.{same_marks, inserted-append_right, LineContent, after_text, joined, joined_marks}
 use Rattle.line_lists.proofs.Words.{later, plain_columns, plain_line, get-joined_marks, or_else, StandRight, AreApart}
 use Rattle.line_lists.proofs.Words.{AreRows, GoesBefore, IsLine, StandBefore, whole}
-use Rattle.std.specs.FinMap as finite
 use Rattle.line_lists.proofs.EditLaws.{rows-stand}
 use Rattle.line_lists.proofs.MarkRows.{moved_before}
 use Rattle.line_lists.proofs.RowLaws.{AreAmong, Makes, free-joined, rows-before, rows-behind}
 use Rattle.line_lists.proofs.WholeLaws.{whole-append}
+use Rattle.std.specs.FinMap as finite
 
 -- ---- one text behind another
 moves_twice : (a n m : ℕ) (first second : Bool) (place : Place) → first ≡ goes_behind a place →

@@ -3,8 +3,7 @@ use Rattle.line_lists.proofs.Words.{◌≡◌, ℕ, zero, suc, ◌+◌, ◌≤�
 use Rattle.line_lists.proofs.Words.{subst, arith, append_assoc, reverse, slice_get, append-nil, slice_get_within, Slots}
 use Rattle.line_lists.proofs.Words.{differing, differing-commutative, LineContent, Copied, Stop, AreStops, IsBefore}
 use Rattle.line_lists.proofs.Words.{IsDraft, IsKnown, IsReached, copies_of, copy_tags, covered, made_lines, tags_after}
-use Rattle.line_lists.proofs.Words.{used, whole, tags_left_of}
-use Rattle.std.specs.Prelude.{None, Option, Some}
+use Rattle.line_lists.proofs.Words.{used, whole, tags_left_of, None, Option, Some}
 use Rattle.line_lists.specs.declared.drafts.Known.{Known}
 use Rattle.line_lists.proofs.DraftLaws.{behind-whole, copies-snoc, made-snoc, some_same, used-append}
 use Rattle.line_lists.proofs.SlotLaws.{differing-back}

@@ -4,12 +4,12 @@ use Rattle.line_lists.proofs.Words.{length, take, drop, refl, sym, ap, ap₂, �
 use Rattle.line_lists.proofs.Words.{nat_cmp, is_some, option_map, nat_tests, unsigned_tied, Place, Marks, LineContent}
 use Rattle.line_lists.proofs.Words.{later, get-joined_marks, or_else, AreApart, AreRows, GoesBefore, StandBefore}
 use Rattle.line_lists.proofs.Words.{StandWithin, has_mark, has_marks, whole}
-use Rattle.std.specs.FinMap as finite
 use Rattle.line_lists.proofs.LineStarts.{length_at, start-more, start_of, there}
 use Rattle.line_lists.proofs.MarkRows.{get-row}
 use Rattle.line_lists.proofs.NewlineRows.{row-at}
 use Rattle.line_lists.proofs.PlaceRows.{whole-at}
 use Rattle.line_lists.proofs.SearchRows.{FailFrom, line_at}
+use Rattle.std.specs.FinMap as finite
 
 pub record InLine (lines : List LineContent) (number : ℕ) (place : Place) (k : ℕ) (inner : Place) : Type 0 where
   pub within : k < length lines

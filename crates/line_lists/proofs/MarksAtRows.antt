@@ -3,12 +3,12 @@ use Rattle.line_lists.proofs.Words.{◌≡◌, ℕ, ◌+◌, Bool, true, false, 
 use Rattle.line_lists.proofs.Words.{refl, sym, ap, ◌∙◌, arith, nat_cmp_total, nat_cmp-IsAntisymmetric, same_entries}
 use Rattle.line_lists.proofs.Words.{nat_cmp, option_map, nat_tests, option_filter, MarkNo, Place, marks_at, LineContent}
 use Rattle.line_lists.proofs.Words.{later, AreRows, IsAt, whole}
-use Rattle.std.specs.FinMap as finite
 use Rattle.line_lists.proofs.LineStarts.{start_of}
 use Rattle.line_lists.proofs.MarkPlaces.{mark-in, mark-out}
 use Rattle.line_lists.proofs.NearMarks.{by_line, inside}
 use Rattle.line_lists.proofs.PassingLaws.{find-passing, find-placed, passing, placed, sorted-passing, sorted-placed}
 use Rattle.line_lists.proofs.SearchRows.{line_at}
+use Rattle.std.specs.FinMap as finite
 
 -- ---- the marks of the text and of a line
 abbrev stand_at : ℕ → Place → Bool

@@ -7,7 +7,6 @@ use Rattle.line_lists.proofs.Words.{after, Count, plus, LineContent, plain_line,
 use Rattle.line_lists.proofs.Words.{without_mark, AreLines, AreRows, IsCounted, count_of, spliced, MovesTo, CanMake}
 use Rattle.line_lists.proofs.Words.{CanPlace, FitsIn, content_made, freed, named, numbers_in, numbers_of, lines_more}
 use Rattle.line_lists.proofs.Words.{piece_lines, placed, rows_more, IsAt, content_of, text_of, whole}
-use Rattle.std.specs.FinMap as finite
 use Rattle.line_lists.specs.declared.pieces.Growth.{Growth}
 use Rattle.line_lists.proofs.CountRows.{count-append}
 use Rattle.line_lists.proofs.DraftLaws.{take-more}
@@ -21,6 +20,7 @@ use Rattle.line_lists.proofs.StandLaws.{line-some}
 use Rattle.line_lists.proofs.StepTexts.{mark-moved}
 use Rattle.line_lists.proofs.VecLaws.{characters-without, lines-are-without, lines-without, marks-without}
 use Rattle.line_lists.proofs.VecLaws.{whole-without}
+use Rattle.std.specs.FinMap as finite
 
 -- a line that is lent, between those before it and those behind it
 split-lent : (lines : List LineContent) (k : ℕ) (line : LineContent) → slice_get lines k ≡ Some line →

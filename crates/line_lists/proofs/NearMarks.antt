@@ -4,11 +4,11 @@ use Rattle.line_lists.proofs.Words.{subst, ◌∙◌, inl, inr, arith, IfSome, s
 use Rattle.line_lists.proofs.Words.{previous_mark, next_mark-above, next_mark-least, next_mark-marked}
 use Rattle.line_lists.proofs.Words.{previous_mark-below, previous_mark-greatest, previous_mark-marked, LineContent}
 use Rattle.line_lists.proofs.Words.{later, AreRows, has_marks, IsAt, whole}
-use Rattle.std.specs.FinMap as finite
 use Rattle.text_model.proofs.MarkOrderLaws.{IsMarked}
 use Rattle.line_lists.proofs.LineStarts.{at-before, at-inside, length_at, lent, start-before, start_of}
 use Rattle.line_lists.proofs.MarkPlaces.{InLine, has-none, has-some, mark-before, mark-in, mark-out, mark-within}
 use Rattle.line_lists.proofs.SearchRows.{FailFrom, NextAt, PreviousAt, line_at, some_same}
+use Rattle.std.specs.FinMap as finite
 
 -- what the nearest marks are
 pub record Next (at : ℕ) (marks : Marks) (n : ℕ) : Type 0 where

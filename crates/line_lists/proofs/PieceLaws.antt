@@ -6,13 +6,13 @@ use Rattle.line_lists.proofs.Words.{drop-drop, length-take-le, nil_from_length, 
 use Rattle.line_lists.proofs.Words.{drop-append_seam, Marks, Count, plus, LineContent, line_count, Piece, AreApart}
 use Rattle.line_lists.proofs.Words.{AreLines, AreRows, IsCounted, count_of, spliced, CanPlace, Covers, FitsIn, Follows}
 use Rattle.line_lists.proofs.Words.{placed, whole}
-use Rattle.std.specs.FinMap as finite
 use Rattle.line_lists.proofs.CountRows.{count-append}
 use Rattle.line_lists.proofs.DraftLaws.{take-more}
 use Rattle.line_lists.proofs.EditLaws.{rows-apart}
 use Rattle.line_lists.proofs.FreedLaws.{free-front}
 use Rattle.line_lists.proofs.RowLaws.{free-joined, free-parts, rows-among, rows-behind}
 use Rattle.line_lists.proofs.WholeLaws.{whole-append}
+use Rattle.std.specs.FinMap as finite
 
 -- ---- one piece more
 pub placed-snoc : (pieces : List Piece) (piece : Piece) (lines : List LineContent) →

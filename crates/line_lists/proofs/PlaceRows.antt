@@ -6,11 +6,11 @@ use Rattle.line_lists.proofs.Words.{get_or_from_slice_get, slice_get-map, Cell, 
 use Rattle.line_lists.proofs.Words.{differing, empty-differing, parity, tags_from, tags_by_parity, Column, LineContent}
 use Rattle.line_lists.proofs.Words.{characters, tags_before, toggles, Holds, count_of, cells_from, cells_of_columns}
 use Rattle.line_lists.proofs.Words.{content_of, whole, tags_left_of}
-use Rattle.std.specs.FinSet as set
 use Rattle.text_model.specs.Content.{characters as cell_characters}
 use Rattle.line_lists.proofs.CountRows.{count-characters, count-parity}
 use Rattle.line_lists.proofs.TagLaws.{behind-append}
 use Rattle.line_lists.proofs.WholeLaws.{between, whole-append}
+use Rattle.std.specs.FinSet as set
 
 -- ---- a list at an index
 first_same : {A : Type 0} (x y : A) → Some x ≡ Some y → x ≡ y

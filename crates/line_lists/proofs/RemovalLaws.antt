@@ -8,8 +8,6 @@ use Rattle.line_lists.proofs.Words.{get-map_marks, same_marks, map-removed, diff
 use Rattle.line_lists.proofs.Words.{empty-differing, Column, LineContent, after_removal, characters, joined, later}
 use Rattle.line_lists.proofs.Words.{toggled_first, without_columns, get-joined_marks, or_else, AreRows, GoesBefore}
 use Rattle.line_lists.proofs.Words.{IsLine, StandBefore, whole, tags_left_of}
-use Rattle.std.specs.FinMap as finite
-use Rattle.std.specs.FinSet as set
 use Rattle.line_lists.proofs.EditLaws.{goes-changed, joined-stands, joined_one, rows-stand, some-columns, text-among}
 use Rattle.line_lists.proofs.NewlineRows.{none_before}
 use Rattle.line_lists.proofs.RowLaws.{Makes, among-first, characters-first, free-parts, rows-before, rows-behind}
@@ -18,6 +16,8 @@ use Rattle.line_lists.proofs.StepLaws.{take-slice}
 use Rattle.line_lists.proofs.TagLaws.{behind-append}
 use Rattle.line_lists.proofs.WholeLaws.{after_removal-between, joined-associative, length-without, whole-append}
 use Rattle.line_lists.proofs.WholeLaws.{without-behind}
+use Rattle.std.specs.FinMap as finite
+use Rattle.std.specs.FinSet as set
 
 -- ---- two removals at one place are one
 first-again : (slots : Slots) (k : ℕ) (xs : List Column)

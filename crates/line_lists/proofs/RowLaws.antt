@@ -6,10 +6,10 @@ use Rattle.line_lists.proofs.Words.{ends_in_newline, lines, changed, Column, Lin
 use Rattle.line_lists.proofs.Words.{toggled_first, toggled_more, get-joined_marks, or_else, Copied, Stop, IsDraft}
 use Rattle.line_lists.proofs.Words.{IsText, drafted_at, with_toggled, AreApart, AreRows, GoesBefore, IsLine, whole}
 use Rattle.line_lists.proofs.Words.{toggled_before}
-use Rattle.std.specs.FinMap as finite
-use Rattle.std.specs.FinSet as set
 use Rattle.line_lists.proofs.StepLaws.{slice-one}
 use Rattle.line_lists.proofs.WholeLaws.{between, whole-append, with_toggled-between}
+use Rattle.std.specs.FinMap as finite
+use Rattle.std.specs.FinSet as set
 
 pub whole-around : (before behind : List LineContent) (line : LineContent) →
     whole (before ++ line ∷ behind) ≡ between (whole before) line (whole behind)

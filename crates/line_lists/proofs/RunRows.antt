@@ -3,9 +3,7 @@ use Rattle.line_lists.proofs.Words.{◌≡◌, ℕ, zero, suc, ◌+◌, ◌-◌,
 use Rattle.line_lists.proofs.Words.{length, take, drop, refl, sym, ap, ap₂, ◌∙◌, arith, slice_get, reverse, prefix_len}
 use Rattle.line_lists.proofs.Words.{suffix_len, drop-append-add, take-append-add, drop-append-le, length-map}
 use Rattle.line_lists.proofs.Words.{length-reverse, reverse-append, take-append-le, ends_in_newline, run_start-le}
-use Rattle.line_lists.proofs.Words.{Column, LineContent, characters, AreRows, content_of, whole}
-use Rattle.std.specs.Prelude.{Some}
-use Rattle.std.proofs.lemmas.Bool.{eqb-true}
+use Rattle.line_lists.proofs.Words.{Column, LineContent, characters, AreRows, content_of, whole, Some, eqb-true}
 use Rattle.text_model.specs.Content.{characters as cell_characters}
 use Rattle.line_lists.proofs.NewlineRows.{characters-append, row-at}
 use Rattle.line_lists.proofs.PlaceRows.{characters-content, whole-at}

@@ -3,8 +3,7 @@ use Rattle.line_lists.proofs.Words.{◌≡◌, ℕ, zero, suc, ◌+◌, ◌-◌,
 use Rattle.line_lists.proofs.Words.{Option, None, Some, length, take, drop, get_or, refl, sym, ap, ◌∙◌, inl, inr, arith}
 use Rattle.line_lists.proofs.Words.{length-drop, option_map, if◌then◌else◌, position, position_or_len, suffix_len}
 use Rattle.line_lists.proofs.Words.{cases_lt, nat_tests, get_or-drop, fails_before_first, suffix_len-take_no}
-use Rattle.line_lists.proofs.Words.{suffix_len-take_yes, LineContent, plain_line, next_line, previous_line}
-use Rattle.std.proofs.Common.{nat_lt}
+use Rattle.line_lists.proofs.Words.{suffix_len-take_yes, LineContent, plain_line, next_line, previous_line, nat_lt}
 use Rattle.std.proofs.lemmas.List.Quantifiers.{position-Some}
 
 abbrev pub line_at : List LineContent → ℕ → LineContent

@@ -7,9 +7,7 @@ use Rattle.line_lists.proofs.Words.{drop_more, get_or-take, length-take-le, map-
 use Rattle.line_lists.proofs.Words.{take_more, Place, LineContent, later, or_else, Copied, Reached, Stop, AreStops}
 use Rattle.line_lists.proofs.Words.{CanFollow, IsReached, IsText, StandsBy, copies_of, covered, drafted, drafted_at}
 use Rattle.line_lists.proofs.Words.{in_order, made_lines, text_at, used, AreRows, GoesBefore, IsMarked, StandBefore}
-use Rattle.line_lists.proofs.Words.{has_mark, next_line, StandsIn, lines_with, whole}
-use Rattle.std.proofs.Common.{IfSome}
-use Rattle.std.specs.FinMap as finite
+use Rattle.line_lists.proofs.Words.{has_mark, next_line, StandsIn, lines_with, whole, IfSome}
 use Rattle.line_lists.proofs.DraftLaws.{copies-snoc, drafted-append, length-whole, made-snoc, stops-last, take-more}
 use Rattle.line_lists.proofs.DraftLaws.{add_groups, used-append}
 use Rattle.line_lists.proofs.EditLaws.{some-columns}
@@ -23,6 +21,7 @@ use Rattle.line_lists.proofs.NewlineRows.{row-at}
 use Rattle.line_lists.proofs.RowLaws.{free-joined, rows-behind, whole-around}
 use Rattle.line_lists.proofs.SearchRows.{line_at, next-found, next-none}
 use Rattle.line_lists.proofs.WholeLaws.{whole-append}
+use Rattle.std.specs.FinMap as finite
 
 -- ---- lines among others
 abbrev clamped : LineContent → Place → ℕ

@@ -9,10 +9,10 @@ use Rattle.line_lists.proofs.Words.{differing-empty, empty-differing, same_slots
 use Rattle.line_lists.proofs.Words.{toggled_first, without_columns, with_toggle, cells_from, cells_of_columns}
 use Rattle.line_lists.proofs.Words.{columns_bare, columns_inserted, columns_tagged, switched, tags_left_of}
 use Rattle.line_lists.proofs.Words.{toggled_before}
-use Rattle.std.specs.FinSet as set
 use Rattle.line_lists.proofs.SlotLaws.{differing-again, differing-back, differing-self}
 use Rattle.line_lists.proofs.TagLaws.{behind-append, behind-cleared, behind-plain, cells-append, cells-cleared}
 use Rattle.line_lists.proofs.TagLaws.{cells-plain, cells-toggled}
+use Rattle.std.specs.FinSet as set
 
 abbrev cells : List Column → List Cell
 cells columns = cells_of_columns columns

@@ -10,8 +10,6 @@ use Rattle.line_lists.proofs.Words.{LineContent, after_text, tags_before, toggle
 use Rattle.line_lists.proofs.Words.{StandsAt, copies_of, lines_before, lines_behind, taken_lines, made, with_cleared}
 use Rattle.line_lists.proofs.Words.{with_mark, with_toggled, without_mark, text_of, whole, switched, tags_left_of}
 use Rattle.line_lists.proofs.Words.{toggled_before}
-use Rattle.std.specs.FinMap as finite
-use Rattle.std.specs.FinSet as set
 use Rattle.text_model.specs.declared.places.TagSlot.{TagSlot}
 use Rattle.line_lists.proofs.ClearingLaws.{tags-around}
 use Rattle.line_lists.proofs.EditLaws.{length-text}
@@ -20,6 +18,8 @@ use Rattle.line_lists.proofs.MadeLaws.{text-made}
 use Rattle.line_lists.proofs.PlaceRows.{length-cells}
 use Rattle.line_lists.proofs.RemovalLaws.{none-first}
 use Rattle.line_lists.proofs.WholeLaws.{length-toggled}
+use Rattle.std.specs.FinMap as finite
+use Rattle.std.specs.FinSet as set
 
 -- ---- slots that are toggled nowhere
 pub toggled-end : (at : ℕ) (slots : Slots) (line : LineContent) → length line.columns ≤ at →

@@ -2,12 +2,12 @@
 use Rattle.line_lists.proofs.Words.{◌≡◌, ℕ, ◌<◌, ◌≤◌, inl, inr, List, [], ◌∷◌, length, sym, ap, subst, ◌∙◌, arith, All}
 use Rattle.line_lists.proofs.Words.{All-cons, All-head, All-nil, All-tail, new_content, LineContent, plain_line}
 use Rattle.line_lists.proofs.Words.{AreLines, NumbersBelow, numbers_in, numbers_of, content_of, text_of, whole}
-use Rattle.std.specs.FinMap as finite
-use Rattle.std.specs.FinSet as set
 use Rattle.line_lists.proofs.FoundMarks.{rows-some}
 use Rattle.line_lists.proofs.FreedLaws.{Names, names-left, names-right, names_of}
 use Rattle.line_lists.proofs.TagLaws.{cells-plain}
 use Rattle.line_lists.proofs.WholeLaws.{whole-one}
+use Rattle.std.specs.FinMap as finite
+use Rattle.std.specs.FinSet as set
 
 -- a text has a character
 pub some-text : (lines : List LineContent) → AreLines lines → 0 < length (whole lines).columns

@@ -3,8 +3,8 @@ use Rattle.line_lists.proofs.Words.{◌≡◌, ℕ, Bool, true, false, not, ◌&
 use Rattle.line_lists.proofs.Words.{false≢true, nat_tests, nat_cmp_total, unsigned_tied, nat_cmp, Slots, differing}
 use Rattle.line_lists.proofs.Words.{set_slot, contains-differing, either, same_slots}
 use Rattle.std.specs.Bool.{beq}
-use Rattle.std.specs.FinSet as set
 use Rattle.text_model.specs.TagBitLaws.{contains_inserted}
+use Rattle.std.specs.FinSet as set
 
 stays_on : (k q : ℕ) (c : Bool) → (q ≡ k → c ≡ true) → false ≡ either c (q == k || c)
 stays_on k q true is = grind (arith, nat_tests)

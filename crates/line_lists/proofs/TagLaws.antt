@@ -3,8 +3,8 @@ use Rattle.line_lists.proofs.Words.{◌≡◌, ℕ, Bool, false, List, [], ◌�
 use Rattle.line_lists.proofs.Words.{differing, cells_of, set_slot, with_slot, differing-associative, differing-empty}
 use Rattle.line_lists.proofs.Words.{empty-differing, Column, plain_columns, toggled_first, with_toggle, cells_from}
 use Rattle.line_lists.proofs.Words.{tags_left_of}
-use Rattle.std.specs.FinSet as set
 use Rattle.line_lists.proofs.SlotLaws.{differing-set}
+use Rattle.std.specs.FinSet as set
 
 -- the cell of a column, where some slots are on before it
 abbrev cell_of : Slots → Column → Cell

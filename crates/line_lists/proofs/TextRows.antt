@@ -3,8 +3,7 @@ use Rattle.line_lists.proofs.Words.{◌≡◌, ℕ, zero, suc, ◌+◌, ◌-◌,
 use Rattle.line_lists.proofs.Words.{ap, ap₂, ◌∙◌, arith, add-one, append_assoc, inl, inr, length-append, length-drop}
 use Rattle.line_lists.proofs.Words.{take-append-drop, slice_get, slice_range, cases_lt, append-nil, drop-append-le}
 use Rattle.line_lists.proofs.Words.{length-map, map-append, take-append-le, take_all, drop-drop, none-some, same_Some}
-use Rattle.line_lists.proofs.Words.{drop-append-add, Column, LineContent, characters, IsAt, content_of, whole}
-use Rattle.std.specs.Prelude.{Some}
+use Rattle.line_lists.proofs.Words.{drop-append-add, Column, LineContent, characters, IsAt, content_of, whole, Some}
 use Rattle.text_model.specs.Content.{characters as cell_characters}
 use Rattle.line_lists.proofs.DraftLaws.{take-more}
 use Rattle.line_lists.proofs.LineStarts.{at-before, at-within, length_at, lent, lent-length, start-next, start-rises}

@@ -5,10 +5,10 @@ use Rattle.line_lists.proofs.Words.{take-suc, or_parts, length-map, get_or_from_
 use Rattle.line_lists.proofs.Words.{next_change, previous_change, flags, differing, next_change_is, previous_change_is}
 use Rattle.line_lists.proofs.Words.{contains-differing, differing-empty, either, presence, Column, LineContent}
 use Rattle.line_lists.proofs.Words.{tags_before, toggles, has_toggle, cells_of_columns, tags_left_of}
-use Rattle.std.specs.FinSet as set
 use Rattle.line_lists.proofs.PlaceRows.{flag-at, length-cells, tags-column}
 use Rattle.line_lists.proofs.SearchRows.{FailIn}
 use Rattle.line_lists.proofs.TagLaws.{behind-append}
+use Rattle.std.specs.FinSet as set
 
 abbrev pub no_column : Column
 no_column = record { character = 0; toggled = set.empty }

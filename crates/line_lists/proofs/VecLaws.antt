@@ -6,10 +6,10 @@ use Rattle.line_lists.proofs.Words.{length-map, length-take-le, take_at, map_ove
 use Rattle.line_lists.proofs.Words.{same_marks, LineContent, joined, joined_marks, later, plain_line, get-joined_marks}
 use Rattle.line_lists.proofs.Words.{or_else, without_mark, AreApart, AreLines, AreRows, GoesBefore, IsCounted, count_of}
 use Rattle.line_lists.proofs.Words.{spliced, whole}
-use Rattle.std.specs.FinMap as finite
 use Rattle.std.specs.Str.{chars}
 use Rattle.line_lists.proofs.CountRows.{counted-part}
 use Rattle.line_lists.proofs.EditLaws.{free_one, take-kept}
+use Rattle.std.specs.FinMap as finite
 
 -- the part before an index is counted
 pub counted-front : (n : ℕ) (xs : List LineContent) → IsCounted (count_of xs) → IsCounted (count_of (take n xs))

@@ -10,9 +10,9 @@ use Rattle.line_lists.proofs.Words.{Column, LineContent, after_removal, after_te
 use Rattle.line_lists.proofs.Words.{plain_columns, plain_line, toggled_first, toggles, with_toggle, without_columns}
 use Rattle.line_lists.proofs.Words.{parity, joined_none, or_else, tied_same, with_cleared, with_mark, with_toggled}
 use Rattle.line_lists.proofs.Words.{without_mark, whole, toggled_before}
-use Rattle.std.specs.FinMap as finite
 use Rattle.line_lists.proofs.MarkRows.{StandBefore, StandWithin, drawn-Lifts, get-row, joined_marks-associative}
 use Rattle.line_lists.proofs.MarkRows.{map_marks-row, moved-Lifts, none-joined_marks, row}
+use Rattle.std.specs.FinMap as finite
 
 pub joined-associative : (a b c : LineContent) → joined a (joined b c) ≡ joined (joined a b) c
 joined-associative a b c =

@@ -1,9 +1,9 @@
 -- The words that most proofs of this crate cite, passed on from one place. Declares nothing.
 pub use Rattle.std.proofs.Common.{[], ap₂, subst₂, ℕ, ◌&&◌, ◌++◌, ◌+◌, ◌-◌, ◌<◌, ◌==◌, ◌^◌, ◌||◌, ◌∙◌, ◌∷◌, ◌≡◌, ◌≢◌}
-pub use Rattle.std.proofs.Common.{◌≤◌, ◌⊎◌, Bool, Err, Global, IfNone, List, None, Ok, Option, Result, Some, T, Vec}
-pub use Rattle.std.proofs.Common.{add-one, ap, append_assoc, arith, chars, cond, drop, eqb-true, false, get_or, inl}
-pub use Rattle.std.proofs.Common.{inr, length, length-append, length-drop, length-take, map, max, min, not, refl, rules}
-pub use Rattle.std.proofs.Common.{set, subst, suc, sym, take, take-append-drop, true, vec_len, zero}
+pub use Rattle.std.proofs.Common.{◌≤◌, ◌⊎◌, Bool, Err, Global, IfNone, IfSome, List, None, Ok, Option, Result, Some, T}
+pub use Rattle.std.proofs.Common.{Vec, add-one, ap, append_assoc, arith, chars, cond, drop, eqb-true, false, get_or}
+pub use Rattle.std.proofs.Common.{inl, inr, length, length-append, length-drop, length-take, map, max, min, nat_lt, not}
+pub use Rattle.std.proofs.Common.{refl, rules, set, subst, suc, sym, take, take-append-drop, true, vec_len, zero}
 pub use Rattle.line_lists.specs.Clearing.{AreFree, free_end, free_length, lines_on}
 pub use Rattle.line_lists.specs.DraftTexts.{IsDraftIn, IsTextIn, lines_in, taken_in, text_in}
 pub use Rattle.line_lists.specs.Drafts.{AreStops, BeginsBehind, BeginsBy, CanFollow, IsBefore, IsDraft, IsFound}
@@ -59,8 +59,8 @@ pub use Rattle.std.specs.FinMap.Entries.{below_all, same_entries}
 pub use Rattle.std.specs.List.{All, filter, position, position_or_len, prefix_len, suffix_len}
 pub use Rattle.std.specs.Option.{IsSome, SomeIff, ok_or, option_copied}
 pub use Rattle.std.specs.Ordering.{eq_by_cmp, is_lt, nat_cmp}
-pub use Rattle.std.specs.Prelude.{if◌then◌else◌, IfSome, OnOk, is_some, nat_le, nat_lt, option_map, option_to_list}
-pub use Rattle.std.specs.Prelude.{reverse, slice_get, slice_range, string_bytes, unwrap_or}
+pub use Rattle.std.specs.Prelude.{if◌then◌else◌, OnOk, is_some, nat_le, option_map, option_to_list, reverse, slice_get}
+pub use Rattle.std.specs.Prelude.{slice_range, string_bytes, unwrap_or}
 pub use Rattle.text_model.proofs.CellLaws.{contains-set_slot}
 pub use Rattle.text_model.proofs.ChangeLaws.{next_change-above, next_change_is, previous_change-below}
 pub use Rattle.text_model.proofs.ChangeLaws.{previous_change_is}

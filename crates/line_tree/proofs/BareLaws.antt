@@ -1,8 +1,8 @@
 -- Lines in which no slot is toggled: none is before any of them.
 use Rattle.line_tree.proofs.Words.{◌≡◌, ℕ, zero, suc, List, [], ◌∷◌, take, refl, Named, total, toggles}
-use Rattle.std.specs.FinSet as set
 use Rattle.toggle_sums.specs.Toggles.{parity, presence}
 use Rattle.line_lists.proofs.BareLaws.{both-none, none-first, none-odd, none-second}
+use Rattle.std.specs.FinSet as set
 
 -- where no slot is toggled in any line, none is toggled an odd number of times in the first ones
 pub bare-front : (ls : List Named) (k : ℕ) → (total ls).presence ≡ set.empty → (total (take k ls)).parity ≡ set.empty

@@ -4,7 +4,6 @@ use Rattle.line_tree.proofs.Words.{◌≢◌, IsSome, Option, None, Some, AllByR
 use Rattle.line_tree.proofs.Words.{FitsSum, relinked, sum_all, sums, Holds, tree_at, LineContent, NodePtr, Records}
 use Rattle.line_tree.proofs.Words.{blank, with_sum, Tree, tops, row, get_inserted, get_other, get_unmoved, insert-named}
 use Rattle.line_tree.proofs.Words.{remove-named, HasNoParent, NewLine, NewRoot, names_of, Becomes}
-use Rattle.std.specs.FinMap as finite
 use Rattle.line_tree.proofs.AmongLaws.{among-cases, among-left, among-right}
 use Rattle.line_tree.proofs.BuildLaws.{built}
 use Rattle.line_tree.proofs.DistinctLaws.{distinct-append, distinct-apart, distinct-left, distinct-right}
@@ -14,6 +13,7 @@ use Rattle.line_tree.proofs.GrowLaws.{all-append, all-left, all-right, in-cases,
 use Rattle.line_tree.proofs.GrowLaws.{of-one, to-one, unnamed}
 use Rattle.line_tree.proofs.RootLaws.{can-top, new-line, new-named, new-other}
 use Rattle.line_tree.proofs.UpdateLaws.{refilled-named}
+use Rattle.std.specs.FinMap as finite
 
 pub absent : {X : Type 0} (o : Option X) → (IsSome o → ⊥) → o ≡ None
 absent None out = refl

@@ -4,11 +4,11 @@ use Rattle.line_tree.proofs.Words.{arith, IfSome, Option, Some, option_map, take
 use Rattle.line_tree.proofs.Words.{slice_get_within, IsTree, lines_in, Named, total, NodePtr, Records, kids, sum_all}
 use Rattle.line_tree.proofs.Words.{characters-add, characters_behind, lines-add, nothing-adds, Begins, IsChild}
 use Rattle.line_tree.proofs.Words.{IsLineAt, characters_before, CharactersBefore}
-use Rattle.std.specs.FinMap as finite
 use Rattle.line_tree.proofs.PlaceLaws.{child-parent, child-slot, line-within, named_line, through}
 use Rattle.line_tree.proofs.SearchLaws.{Passes, arrives-before, passes-line, passes-start, passes-step, wide-all}
 use Rattle.line_tree.proofs.SumLaws.{total-append}
 use Rattle.line_tree.proofs.TreeLaws.{at_line, child-tree, count-tree, total-lines}
+use Rattle.std.specs.FinMap as finite
 
 -- ---- from the root down to a line
 begins-line : (m : Records) (h d : ℕ) (r q p : NodePtr) (ls : List Named) (k o : ℕ) (old b : CharactersBefore) →

@@ -4,12 +4,12 @@ use Rattle.line_tree.proofs.Words.{IfSome, IsSome, Option, None, Some, sum_by, t
 use Rattle.line_tree.proofs.Words.{same_Some, slice_get_within, IsTree, lines_at, lines_in, NodePtr, Record, Records}
 use Rattle.line_tree.proofs.Words.{kids, at_some, Leads, CanInsert, Inserts, IsChild, IsLineAt, Sits, lines_before}
 use Rattle.line_tree.proofs.Words.{Found}
-use Rattle.std.specs.FinMap as finite
 use Rattle.line_tree.proofs.InsertLaws.{can-child}
 use Rattle.line_tree.proofs.LowestLaws.{lowest-before}
 use Rattle.line_tree.proofs.PlaceLaws.{child-named, child-parent, level, linked, sits, up_from}
 use Rattle.line_tree.proofs.RowLaws.{step_yes}
 use Rattle.line_tree.proofs.TreeLaws.{row-tree, whole-below}
+use Rattle.std.specs.FinMap as finite
 
 -- the first children's lines are among those of their node
 before-within : (m : Records) (h : ℕ) (q : NodePtr) (i : ℕ) → IsTree m (suc h) q → lines_before m q i ≤ lines_at m q

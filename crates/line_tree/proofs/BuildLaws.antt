@@ -6,7 +6,6 @@ use Rattle.line_tree.proofs.Words.{IsTree, Links, line_of, sum_at, tree_at, Node
 use Rattle.line_tree.proofs.Words.{with_child, with_parent, with_sum, Tree, inner, lines, names, tops, total, kids}
 use Rattle.line_tree.proofs.Words.{kids_of, row, plus, some_of, same_or_other, somes, somes-row, get-update-other}
 use Rattle.line_tree.proofs.Words.{lines_of, names_of}
-use Rattle.std.specs.FinMap as finite
 use Rattle.line_tree.proofs.AmongLaws.{among-left, among-right}
 use Rattle.line_tree.proofs.DistinctLaws.{distinct-right}
 use Rattle.line_tree.proofs.FillLaws.{at-update, refilled-other, relinked-other, relinked-row, relinked-sums}
@@ -15,6 +14,7 @@ use Rattle.line_tree.proofs.FrameLaws.{tops-among}
 use Rattle.line_tree.proofs.SumLaws.{total-append}
 use Rattle.line_tree.proofs.TreeLaws.{sum-held, sum-tree, tops-tree_at}
 use Rattle.line_tree.proofs.UpdateLaws.{named-link_one}
+use Rattle.std.specs.FinMap as finite
 
 -- ---- links
 pub links-relinked : (m : Records) (p : NodePtr) (i : ℕ) (cs : List NodePtr) (k : ℕ) → Distinct cs → (Among p cs → ⊥) →

@@ -11,7 +11,6 @@ use Rattle.line_tree.proofs.Words.{HasNoParent, StandsAlone, lines_of, names_of,
 use Rattle.line_tree.proofs.Words.{changed, linked, Found}
 use Rattle.raw_nodes.specs.Records.{with_line}
 use Rattle.std.proofs.Common.{option_map}
-use Rattle.std.specs.FinMap as finite
 use Rattle.line_tree.proofs.AmongLaws.{among-left}
 use Rattle.line_tree.proofs.BuildLaws.{sum-trees, tree-is}
 use Rattle.line_tree.proofs.DistinctLaws.{distinct-apart, distinct-left, distinct-right}
@@ -21,6 +20,7 @@ use Rattle.line_tree.proofs.GrowLaws.{all-append, all-left, all-right, in-right,
 use Rattle.line_tree.proofs.StepLaws.{at-place, split-same}
 use Rattle.line_tree.proofs.SumLaws.{fits-left, total-append}
 use Rattle.line_tree.proofs.TreeLaws.{counted, descends, row-tree, sum-tree, top-tree_at, tops-tree_at}
+use Rattle.std.specs.FinMap as finite
 
 -- ---- lists
 changed-left : (cs ys : List Named) (r : ℕ) (f : LineContent → LineContent) → r < length cs →

@@ -9,12 +9,12 @@ use Rattle.line_tree.proofs.Words.{◌≡◌, ℕ, zero, suc, ◌+◌, ◌-◌, 
 use Rattle.line_tree.proofs.Words.{IsSome, Option, Some, same_Some, Count, Distinct, IsTree, lines_at, lines_in}
 use Rattle.line_tree.proofs.Words.{tree_at, LineContent, NodePtr, Records, names, at_some, Finds, IsChild, IsLineAt}
 use Rattle.line_tree.proofs.Words.{Sits, lines_before, CanChange, Changes, Found}
-use Rattle.std.specs.FinMap as finite
 use Rattle.line_tree.proofs.BehindLaws.{at-root, child-within, led}
 use Rattle.line_tree.proofs.ChangingLaws.{named-as-linked, record-linked}
 use Rattle.line_tree.proofs.LowestLaws.{one-line}
 use Rattle.line_tree.proofs.PlaceLaws.{child-is-tree, level, line-within, linked, sits}
 use Rattle.line_tree.proofs.TreeLaws.{count-tree, named-tree}
+use Rattle.std.specs.FinMap as finite
 
 -- ---- the way down
 finds-child : (m : Records) (h : ℕ) (q : NodePtr) (i : ℕ) (p : NodePtr) (k b o : ℕ) → IsChild m h q i p →

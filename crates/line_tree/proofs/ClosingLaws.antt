@@ -5,12 +5,12 @@ use Rattle.line_tree.proofs.Words.{remove, option_map, at_drop_more, get_or-set_
 use Rattle.line_tree.proofs.Words.{slice_get_past, slice_get_within, Among, CanFill, link_one, relinked, Links, NodePtr}
 use Rattle.line_tree.proofs.Words.{Record, Records, update, with_child, with_parent, kids, row, at_some, get_or-row}
 use Rattle.line_tree.proofs.Words.{length-row, get-update, get-update-other, HasRow}
-use Rattle.std.specs.FinMap as finite
 use Rattle.line_tree.proofs.AmongLaws.{get-among}
 use Rattle.line_tree.proofs.EvenLaws.{kept-remove, remove-above}
 use Rattle.line_tree.proofs.KeptLaws.{drop-front, empty-same}
 use Rattle.line_tree.proofs.RowLaws.{past}
 use Rattle.line_tree.proofs.UpdateLaws.{InnerIn, inner-link_one, inner-row, named-link_one}
+use Rattle.std.specs.FinMap as finite
 
 -- those before a slot are written; behind it stand the children of before
 pub record Closing (m n : Records) (p : NodePtr) (slot at : ℕ) : Type 0 where

@@ -4,12 +4,12 @@ use Rattle.line_tree.proofs.Words.{refl, sym, ap, ◌∙◌, subst, arith, lengt
 use Rattle.line_tree.proofs.Words.{slice_get, Option, None, Some, remove, append-nil, take-append-drop, slice_get_past}
 use Rattle.line_tree.proofs.Words.{Among, CanEven, CanFill, FitsSum, Stay, refilled, relinked, sum_all, sums, Links}
 use Rattle.line_tree.proofs.Words.{sum_at, NodePtr, Records, kids, row, plus, length-row, HasRow}
-use Rattle.std.specs.FinMap as finite
 use Rattle.line_tree.proofs.AmongLaws.{among-cases, among-drop, among-get, among-take, get-among}
 use Rattle.line_tree.proofs.FillLaws.{refilled-other, refilled-sum, row-some, sum_all-append, sum_all-same, sums-row}
 use Rattle.line_tree.proofs.KeptLaws.{kept-front, kept-row}
 use Rattle.line_tree.proofs.SumLaws.{fits-left, fits-right}
 use Rattle.line_tree.proofs.UpdateLaws.{named-refilled}
+use Rattle.std.specs.FinMap as finite
 
 pub remove-above : {X : Type 0} (xs : List X) (at i : ℕ) → at < length xs → at ≤ i →
     slice_get (remove xs at) i ≡ slice_get xs (i + 1)

@@ -7,9 +7,9 @@ use Rattle.line_tree.proofs.Words.{CanFill, link_one, refilled, relinked, sum_al
 use Rattle.line_tree.proofs.Words.{update, with_child, with_parent, with_sum, kids, kids_of, row, no_text, plus, sum_at}
 use Rattle.line_tree.proofs.Words.{sum_of, same_or_other, get_or-row, length-row, somes-row, get-update}
 use Rattle.line_tree.proofs.Words.{get-update-other, HasRow}
-use Rattle.std.specs.FinMap as finite
 use Rattle.line_tree.proofs.AmongLaws.{get-among}
 use Rattle.line_tree.proofs.UpdateLaws.{named-relinked}
+use Rattle.std.specs.FinMap as finite
 
 -- ---- lists
 pub insert-above : {X : Type 0} (xs : List X) (at i : ℕ) (y : X) → at ≤ length xs → at < i →

@@ -2,10 +2,10 @@
 use Rattle.line_tree.proofs.Words.{◌≡◌, ℕ, zero, suc, inl, inr, List, [], ◌∷◌, refl, sym, ◌∙◌, subst, IsSome, Option}
 use Rattle.line_tree.proofs.Words.{Some, AllByRecursion, Among, Distinct, Holds, Links, NodePtr, Record, Records, Tree}
 use Rattle.line_tree.proofs.Words.{inner, names, tops, names_of}
-use Rattle.std.specs.FinMap as finite
 use Rattle.line_tree.proofs.AmongLaws.{among-cases, among-left, among-right}
 use Rattle.line_tree.proofs.DistinctLaws.{distinct-apart, distinct-left, distinct-right}
 use Rattle.line_tree.proofs.TreeLaws.{named-held}
+use Rattle.std.specs.FinMap as finite
 
 -- the record stays, but for the parent and the slot
 pub record HasBody (o : Option Record) (r : Record) : Type 0 where

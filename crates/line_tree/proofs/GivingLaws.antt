@@ -5,12 +5,12 @@ use Rattle.line_tree.proofs.Words.{Some, take_more, get_or_from_slice_get, none-
 use Rattle.line_tree.proofs.Words.{removed, rooms_for, Among, IsTree, lines_in, tree_at, NodePtr, Record, Records, kids}
 use Rattle.line_tree.proofs.Words.{lines, names, at_some, get_removed, get_unmoved, some_of, same_or_other, Without}
 use Rattle.line_tree.proofs.Words.{StandsAlone, names_of, IsLineAt, Sits, Cleans, Lowers, Removes}
-use Rattle.std.specs.FinMap as finite
 use Rattle.line_tree.proofs.AmongLaws.{among-cases, among-get, among-left, among-right, among-take}
 use Rattle.line_tree.proofs.LowerLaws.{branch-after, gone-of, taken-out}
 use Rattle.line_tree.proofs.PlaceLaws.{linked, sits}
 use Rattle.line_tree.proofs.RowLaws.{child_is}
 use Rattle.line_tree.proofs.TreeLaws.{child-tree, named-tree, row-tree}
+use Rattle.std.specs.FinMap as finite
 
 -- ---- the records but those of some names
 pub without-none : (m : Records) → Without m m []

@@ -4,11 +4,11 @@ use Rattle.line_tree.proofs.Words.{refl, sym, ap, ◌∙◌, subst, arith, appen
 use Rattle.line_tree.proofs.Words.{AllByRecursion, insert, append-nil, drop-append-le, take-append-drop, take-append-le}
 use Rattle.line_tree.proofs.Words.{flat_map-append, none-some, Among, Distinct, Holds, LineContent, NodePtr, Records}
 use Rattle.line_tree.proofs.Words.{Tree, lines, names, tops, some_of, Grows, lines_of, names_of, with_line}
-use Rattle.std.specs.FinMap as finite
 use mathlib.Core.Bool.{false≢true}
 use Rattle.line_tree.proofs.AmongLaws.{among-cases, among-left, among-right}
 use Rattle.line_tree.proofs.DistinctLaws.{distinct-apart, distinct-more, distinct-replace, distinct-right}
 use Rattle.line_tree.proofs.FrameLaws.{all-same, names-all-held, tops-among}
+use Rattle.std.specs.FinMap as finite
 
 -- ---- all of several lists
 pub all-append : {X : Type 0} (P : X → Type 0) (xs ys : List X) → AllByRecursion P xs → AllByRecursion P ys →

@@ -4,11 +4,11 @@ use Rattle.line_tree.proofs.Words.{length, take, drop, refl, sym, ap, ap₂, ◌
 use Rattle.line_tree.proofs.Words.{Option, None, Some, none-some, same_Some, Place, LineContent, Named, contents}
 use Rattle.line_tree.proofs.Words.{NodePtr, AreRows, has_mark, has_marks, next_line, whole, drop_after, FailFrom}
 use Rattle.line_tree.proofs.Words.{next-found, next-none, AreBare, IsMarkedBelow, holder, lines_without, IsLineAt}
-use Rattle.std.specs.FinMap as finite
 use mathlib.Core.Bool.{false≢true}
 use Rattle.line_lists.proofs.MarkPlaces.{has-none}
 use Rattle.line_lists.proofs.RowLaws.{free-parts}
 use Rattle.line_tree.proofs.NearestLaws.{long}
+use Rattle.std.specs.FinMap as finite
 
 -- ---- the first of two
 abbrev pub first : Option NodePtr → Option NodePtr → Option NodePtr

@@ -8,7 +8,6 @@ use Rattle.line_tree.proofs.Words.{IsTree, Links, lines_in, sum_at, sum_of, tree
 use Rattle.line_tree.proofs.Words.{names, tops, total, LineContent, NodePtr, Records, with_sum, kids, kids_of, row}
 use Rattle.line_tree.proofs.Words.{same_or_other, HasRow, Leads, lines_below, CanInsert, Grows, Inserts, KeepsLink}
 use Rattle.line_tree.proofs.Words.{KeepsWide, lines_of, names_of, trees, Found}
-use Rattle.std.specs.FinMap as finite
 use mathlib.Core.Bool.{false≢true}
 use Rattle.line_tree.proofs.AmongLaws.{among-get, among-left, among-right}
 use Rattle.line_tree.proofs.BuildLaws.{sum-kids, sum-trees}
@@ -24,6 +23,7 @@ use Rattle.line_tree.proofs.StepLaws.{wide-same, wide-some}
 use Rattle.line_tree.proofs.SumLaws.{total-append}
 use Rattle.line_tree.proofs.TreeLaws.{below-tree, child-tree, count-tree, counted, named-tree, row-tree, sum-held}
 use Rattle.line_tree.proofs.TreeLaws.{top-tree_at, tops-tree_at}
+use Rattle.std.specs.FinMap as finite
 
 pub length-lines : (m : Records) (ts : List (Tree 0)) → AllByRecursion (Holds m 0) ts →
     length (lines_of 0 ts) ≡ length ts

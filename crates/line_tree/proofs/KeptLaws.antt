@@ -7,10 +7,9 @@ use Rattle.line_tree.proofs.Words.{drop, length, length-take, map, refl, replica
 use Rattle.line_tree.proofs.Words.{arith, same_map, append-nil, map-append, take-append-drop, none-some, same_Some}
 use Rattle.line_tree.proofs.Words.{Record, Records, updated, with_child, with_parent, IsLinked, Links, NodePtr, Stay}
 use Rattle.line_tree.proofs.Words.{link_one, relinked, kids, row, get_inserted, get_other, name_antisym, name_total}
-use Rattle.line_tree.proofs.Words.{same_or_other, HasRow}
-use Rattle.std.specs.Prelude.{Option, None, Some, slice_get}
-use Rattle.std.specs.FinMap as finite
+use Rattle.line_tree.proofs.Words.{same_or_other, HasRow, Option, None, Some, slice_get}
 use Rattle.raw_nodes.specs.Records.{update}
+use Rattle.std.specs.FinMap as finite
 
 -- ---- one record
 insert-same : (m : Records) (p : NodePtr) (r : Record) → finite.get m p ≡ Some r → finite.insert m p r ≡ m

@@ -2,8 +2,7 @@
 use Rattle.line_tree.proofs.Words.{◌≡◌, ℕ, zero, suc, ◌+◌, ◌-◌, ◌≤◌, List, [], ◌∷◌, ◌++◌, length, take, drop, refl, sym}
 use Rattle.line_tree.proofs.Words.{ap, ◌∙◌, arith, append_assoc, length-append, append-nil, drop-append-le, drop-drop}
 use Rattle.line_tree.proofs.Words.{drop_all, length-take-le, take-append-drop, take-append-le, removed, Leaves}
-use Rattle.line_tree.proofs.Words.{KeepsRoom, TreeState, Named}
-use Rattle.std.proofs.lemmas.List.{length-drop}
+use Rattle.line_tree.proofs.Words.{KeepsRoom, TreeState, Named, length-drop}
 use Rattle.line_tree.proofs.LineRoomLaws.{length-removed}
 use Rattle.line_tree.proofs.SpendingLaws.{keeps-on, keeps-self}
 

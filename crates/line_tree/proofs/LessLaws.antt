@@ -7,8 +7,7 @@ use Rattle.line_tree.proofs.Words.{◌≡◌, ℕ, zero, suc, ◌+◌, ◌-◌, 
 use Rattle.line_tree.proofs.Words.{arith, remove, split_between, none-some, same_Some, differing, removed}
 use Rattle.line_tree.proofs.Words.{differing-associative, differing-empty, differing-self, plus-associative}
 use Rattle.line_tree.proofs.Words.{plus-commutative, union-empty, Count, IsBare, IsWithin, less, plus, without, Named}
-use Rattle.line_tree.proofs.Words.{total, NodePtr, Records, sum_all, sum_at}
-use Rattle.std.specs.Prelude.{Some, slice_get, slice_range}
+use Rattle.line_tree.proofs.Words.{total, NodePtr, Records, sum_all, sum_at, Some, slice_get, slice_range}
 use Rattle.line_tree.proofs.SumLaws.{total-append}
 use Rattle.std.specs.FinSet as set
 

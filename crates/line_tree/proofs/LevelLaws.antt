@@ -3,12 +3,12 @@ use Rattle.line_tree.proofs.Words.{◌≡◌, ℕ, zero, suc, ◌+◌, ◌-◌, 
 use Rattle.line_tree.proofs.Words.{arith, lit≤, lit<, length, nat_le, pow-le-pow_right, pow-succ', cases_lt, cond-false}
 use Rattle.line_tree.proofs.Words.{cond-true, le-leb, lt-leb, NodePtr, Records, lines_in, tree_at, names, Stands}
 use Rattle.line_tree.proofs.Words.{levels_up_to}
-use Rattle.std.specs.FinMap as finite
 use Rattle.line_tree.specs.Room.{levels_at_most}
 use Rattle.line_tree.proofs.CountLaws.{names-many-root}
 use Rattle.line_tree.proofs.FrameLaws.{names-held}
 use Rattle.line_tree.proofs.RoomLaws.{len-many}
 use Rattle.line_tree.proofs.RootLaws.{stands-few, stands-least}
+use Rattle.std.specs.FinMap as finite
 
 -- ---- one step of the count
 more-levels : (h n : ℕ) → 2 * 6 ^ suc h ≤ n → levels_up_to (suc h) n ≡ suc (suc h)

@@ -4,7 +4,6 @@ use Rattle.line_tree.proofs.Words.{subst, arith, AllByRecursion, mul-le-mul_righ
 use Rattle.line_tree.proofs.Words.{IsBalanced, IsBalancedRoot, Tree, least_below_root, total, NodePtr, Records, tree_at}
 use Rattle.line_tree.proofs.Words.{IsWide, lines_of, names_of, CanLift, CanRaise, Lifted, Raises, trees_at}
 use Rattle.line_tree.proofs.Words.{levels_at_most}
-use Rattle.std.specs.FinMap as finite
 use Rattle.line_tree.proofs.BecomeLaws.{and-then}
 use Rattle.line_tree.proofs.BuildLaws.{sum-trees}
 use Rattle.line_tree.proofs.CountLaws.{least-lines, lines-sum, lines-within, many-lines}
@@ -14,6 +13,7 @@ use Rattle.line_tree.proofs.RemakeLaws.{lines-below, some-above, wide-all}
 use Rattle.line_tree.proofs.RoomLaws.{len-many}
 use Rattle.line_tree.proofs.StepLaws.{all-balanced}
 use Rattle.line_tree.proofs.TreeLaws.{tops-tree_at, total-lines}
+use Rattle.std.specs.FinMap as finite
 
 pub lift-can : (m : Records) (h : ℕ) (cs : List NodePtr) → CanLift m h cs → CanRaise m h cs
 lift-can m h cs can = record {

@@ -7,14 +7,13 @@ use Rattle.line_tree.proofs.Words.{none-some, same_Some, slice_get-map, slice_ge
 use Rattle.line_tree.proofs.Words.{LineContent, plain_line, Named, contents, total, NodePtr, AreLines, IsCounted}
 use Rattle.line_tree.proofs.Words.{NumbersBelow, count_of, has_mark, next_line, spliced, whole, count-characters}
 use Rattle.line_tree.proofs.Words.{count-lines, FailFrom, NextAt, new-lines, IsPlaceAt, IsTable, holder, lines_without}
-use Rattle.line_tree.proofs.Words.{noted, IsLineAt}
+use Rattle.line_tree.proofs.Words.{noted, IsLineAt, append_assoc, length-drop}
 use Rattle.std.proofs.Common.{option_map}
-use Rattle.std.specs.FinMap as finite
-use Rattle.std.proofs.lemmas.List.{append_assoc, length-drop}
 use Rattle.line_lists.specs.Lists.{Holds}
 use Rattle.line_tree.proofs.HolderLaws.{not-first}
 use Rattle.line_tree.proofs.NearestLaws.{long, next-is, next-no}
 use Rattle.line_tree.proofs.PrefixLaws.{count-contents, count-first}
+use Rattle.std.specs.FinMap as finite
 
 -- ---- a new tree
 pub new-are : (ls : List Named) (p : NodePtr) → ls ≡ (p, plain_line (10 ∷ [])) ∷ [] → AreLines (contents ls)

@@ -7,7 +7,6 @@ use Rattle.line_tree.proofs.Words.{Named, Tree, inner, lines, names, total, Line
 use Rattle.line_tree.proofs.Words.{update, with_parent, kids, get_unmoved, some_of, get-update-other, remove-named}
 use Rattle.line_tree.proofs.Words.{update-named, Without, IsWide, Stands, StandsAlone, lines_of, names_of, CanLower}
 use Rattle.line_tree.proofs.Words.{CanRemove, Cleans, Lowers, Removes}
-use Rattle.std.specs.FinMap as finite
 use mathlib.Core.Bool.{false≢true}
 use Rattle.line_tree.proofs.AmongLaws.{among-left, among-or}
 use Rattle.line_tree.proofs.BuildLaws.{tree-is}
@@ -17,6 +16,7 @@ use Rattle.line_tree.proofs.FrameLaws.{holds-moved, holds-same}
 use Rattle.line_tree.proofs.GrowLaws.{of-one, to-one, unnamed}
 use Rattle.line_tree.proofs.RemoveLaws.{fits-removed}
 use Rattle.line_tree.proofs.TreeLaws.{top-tree_at}
+use Rattle.std.specs.FinMap as finite
 
 -- ---- a tree that stands can lose a line
 two-wide : (m : Records) (h : ℕ) (r : NodePtr) → Stands m h r → 2 ≤ length (lines_in m h r) → IsWide 2 h (tree_at m h r)

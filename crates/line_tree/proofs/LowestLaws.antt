@@ -3,9 +3,9 @@ use Rattle.line_tree.proofs.Words.{◌≡◌, ℕ, zero, suc, ◌<◌, ◌≤◌
 use Rattle.line_tree.proofs.Words.{IsSome, slice_get, Option, None, Some, AllByRecursion, sum_by, sum_by-cons, Holds}
 use Rattle.line_tree.proofs.Words.{IsTree, line_of, lines_at, tree_at, LineContent, NodePtr, Records, kids, lines}
 use Rattle.line_tree.proofs.Words.{lines_below, lines_before}
-use Rattle.std.specs.FinMap as finite
 use mathlib.Core.Bool.{false≢true}
 use Rattle.line_tree.proofs.TreeLaws.{child-tree, count-tree}
+use Rattle.std.specs.FinMap as finite
 
 -- a line is one line
 pub one-line : (m : Records) (p : NodePtr) → IsTree m zero p → lines_at m p ≡ 1

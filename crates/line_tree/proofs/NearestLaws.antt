@@ -7,13 +7,13 @@ use Rattle.line_tree.proofs.Words.{lines_at, lines_in, LineContent, line_count, 
 use Rattle.line_tree.proofs.Words.{total, NodePtr, Records, kids, next_line, previous_line, FailFrom, NextAt}
 use Rattle.line_tree.proofs.Words.{PreviousAt, line_at, next-found, next-none, previous-found, previous-none, passes}
 use Rattle.line_tree.proofs.Words.{shows, lines_before, Wanted}
-use Rattle.std.specs.FinMap as finite
-use Rattle.std.specs.FinSet as set
 use mathlib.Core.Bool.{false≢true}
 use Rattle.line_lists.proofs.ListLaws.{no-marks, some-marks}
 use Rattle.line_tree.specs.declared.nearest.Wanted.TheVariants.{Toggle, Mark}
 use Rattle.line_tree.proofs.RowLaws.{step_yes}
 use Rattle.line_tree.proofs.TreeLaws.{below-tree, child-tree, count-tree, line-found, row-tree}
+use Rattle.std.specs.FinMap as finite
+use Rattle.std.specs.FinSet as set
 
 -- ---- the nearest line by what holds of it
 differ : (b : Bool) → b ≡ true → b ≡ false → ⊥

@@ -5,7 +5,6 @@ use Rattle.line_tree.proofs.Words.{length-map, map-append, flat_map-append, Amon
 use Rattle.line_tree.proofs.Words.{Shares, refilled, sum_all, Holds, Links, tree_at, IsBalanced, Tree, inner, lines}
 use Rattle.line_tree.proofs.Words.{names, tops, total, NodePtr, Records, kids, row, same_or_other, KeepsLink, lines_of}
 use Rattle.line_tree.proofs.Words.{names_of, Turns}
-use Rattle.std.specs.FinMap as finite
 use Rattle.line_tree.proofs.AmongLaws.{among-drop, among-get, among-take}
 use Rattle.line_tree.proofs.BuildLaws.{sum-kids, sum-trees}
 use Rattle.line_tree.proofs.DistinctLaws.{distinct-left, distinct-right}
@@ -22,6 +21,7 @@ use Rattle.line_tree.proofs.StepLaws.{all-drop, all-take, keeps-after, keeps-ref
 use Rattle.line_tree.proofs.StepLaws.{links-kept}
 use Rattle.line_tree.proofs.TreeLaws.{child-tree, named-tree, row-tree, tops-tree_at}
 use Rattle.line_tree.proofs.UpdateLaws.{named-refilled, refilled-named}
+use Rattle.std.specs.FinMap as finite
 
 -- the trees of these names stand below p, and their lines can be counted
 pub record Siblings (l : Records) (g : ℕ) (p : NodePtr) (cs : List NodePtr) : Type 0 where

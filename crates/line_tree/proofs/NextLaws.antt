@@ -4,13 +4,13 @@ use Rattle.line_tree.proofs.Words.{◌∙◌, subst, arith, IfSome, slice_get, O
 use Rattle.line_tree.proofs.Words.{take_all, none-some, same_Some, slice_get_within, IsBalanced, IsBalancedRoot, Named}
 use Rattle.line_tree.proofs.Words.{Tree, IsTree, lines_at, lines_in, tree_at, NodePtr, Records, kids, IsChild, IsLineAt}
 use Rattle.line_tree.proofs.Words.{Sits, lines_before}
-use Rattle.std.specs.FinMap as finite
 use Rattle.line_tree.specs.Walks.{IsFirstLine}
 use Rattle.line_tree.specs.declared.walk.Subtree.{Subtree}
 use Rattle.line_tree.proofs.CountLaws.{least-lines, one-line, pow-more}
 use Rattle.line_tree.proofs.PlaceLaws.{Up, child-is-tree, sits, up_from}
 use Rattle.line_tree.proofs.RowLaws.{step_yes}
 use Rattle.line_tree.proofs.TreeLaws.{below-tree, child-tree, count-tree, line-found}
+use Rattle.std.specs.FinMap as finite
 
 -- ---- balance, and a first line
 balanced-at : (m : Records) (h : ℕ) (cs : List NodePtr) (i : ℕ) (c : NodePtr) →

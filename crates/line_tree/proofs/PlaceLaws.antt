@@ -5,8 +5,8 @@ use Rattle.line_tree.proofs.Words.{AllByRecursion, flat_map, sum_by, option_map,
 use Rattle.line_tree.proofs.Words.{same_Some, slice_get_within, Holds, IsLinked, IsTree, Links, line_of, lines_at}
 use Rattle.line_tree.proofs.Words.{lines_in, tree_at, LineContent, Named, lines, NodePtr, Records, kids, at_some}
 use Rattle.line_tree.proofs.Words.{IsChild, IsLineAt, Sits, lines_before}
-use Rattle.std.specs.FinMap as finite
 use Rattle.line_tree.proofs.TreeLaws.{child-tree, count-tree, get-left, get-right, tops-tree_at}
+use Rattle.std.specs.FinMap as finite
 
 -- ---- links
 linked-at : (m : Records) (p : NodePtr) (from i : ℕ) (cs : List NodePtr) (c : NodePtr) → Links m p from cs →

@@ -6,13 +6,13 @@ use Rattle.line_tree.proofs.Words.{take-append-drop, take-append-le, sum_by-cons
 use Rattle.line_tree.proofs.Words.{FitsSum, Puts, Stay, refilled, relinked, sum_all, sums, Links, sum_at, sum_of}
 use Rattle.line_tree.proofs.Words.{NodePtr, Records, blank, kids, kids_of, row, plus, at_some, get_inserted, get_other}
 use Rattle.line_tree.proofs.Words.{kept_insert, some_of, length-row, HasRow}
-use Rattle.std.specs.FinMap as finite
 use Rattle.line_tree.proofs.AmongLaws.{among-drop, among-get, among-insert, among-take}
 use Rattle.line_tree.proofs.FillLaws.{refilled-other, refilled-sum, sum_all-append, sum_all-same, sums-row}
 use Rattle.line_tree.proofs.FrameLaws.{links-same}
 use Rattle.line_tree.proofs.KeptLaws.{kept-front, kept-row, take-short}
 use Rattle.line_tree.proofs.SumLaws.{fits-left, fits-right}
 use Rattle.line_tree.proofs.UpdateLaws.{named-refilled}
+use Rattle.std.specs.FinMap as finite
 
 -- ---- how many
 count-none : (n : ℕ) → count_by is_some (replicate {A = Option NodePtr} n None) ≡ 0

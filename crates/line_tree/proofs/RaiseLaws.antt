@@ -5,7 +5,6 @@ use Rattle.line_tree.proofs.Words.{AllByRecursion, append-nil, length-map, map-a
 use Rattle.line_tree.proofs.Words.{flat_map-append, Among, Distinct, FitsSum, sum_all, Count, plus, Holds, sum_of}
 use Rattle.line_tree.proofs.Words.{tree_at, NodePtr, Records, Tree, tops, HasNoParent, NewRoot, names_of, Becomes}
 use Rattle.line_tree.proofs.Words.{CanRaise, HasKids, Raises, below_all, trees_at}
-use Rattle.std.specs.FinMap as finite
 use Rattle.line_tree.proofs.AmongLaws.{among-cases, among-left}
 use Rattle.line_tree.proofs.BecomeLaws.{both, node-becomes, node-loose}
 use Rattle.line_tree.proofs.BuildLaws.{trees-is}
@@ -14,6 +13,7 @@ use Rattle.line_tree.proofs.FillLaws.{sum_all-append, sum_all-same}
 use Rattle.line_tree.proofs.FrameLaws.{all-same, names-all-held, tops-among}
 use Rattle.line_tree.proofs.GrowLaws.{all-append, all-left, all-right, names-append, unnamed}
 use Rattle.line_tree.proofs.TreeLaws.{tops-tree_at}
+use Rattle.std.specs.FinMap as finite
 
 -- ---- parts of a list
 pub push-one : {X : Type 0} (xs : List X) (i : ℕ) → take (suc i) xs ≡ take i xs ++ option_to_list (slice_get xs i)

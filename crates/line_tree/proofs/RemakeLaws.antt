@@ -6,7 +6,6 @@ use Rattle.line_tree.proofs.Words.{Among, Distinct, FitsSum, sum_all, Holds, IsT
 use Rattle.line_tree.proofs.Words.{Named, Tree, lines, names, tops, total, NodePtr, Records, kids, plus, IsWide}
 use Rattle.line_tree.proofs.Words.{lines_of, names_of, Becomes, CanRaise, HasKids, Raises, TakesRow, below_all}
 use Rattle.line_tree.proofs.Words.{trees_at, with_lines}
-use Rattle.std.specs.FinMap as finite
 use Rattle.line_tree.proofs.AmongLaws.{among-cases, among-left, among-right}
 use Rattle.line_tree.proofs.BecomeLaws.{and-then, both, gone, renamed, stays}
 use Rattle.line_tree.proofs.BuildLaws.{sum-trees, trees-is}
@@ -15,6 +14,7 @@ use Rattle.line_tree.proofs.FrameLaws.{all-same, names-all-held}
 use Rattle.line_tree.proofs.GrowLaws.{all-append, all-left, all-right, edit-middle, names-append}
 use Rattle.line_tree.proofs.SumLaws.{total-append}
 use Rattle.line_tree.proofs.TreeLaws.{named-tree, tops-tree_at}
+use Rattle.std.specs.FinMap as finite
 
 -- ---- lines among others
 pub total-with_lines : (ls : List Named) (k : ℕ) (added : List Named) →

@@ -3,9 +3,7 @@ use Rattle.line_tree.proofs.Words.{◌≡◌, ℕ, suc, ◌+◌, ◌≤◌, List
 use Rattle.line_tree.proofs.Words.{AllByRecursion, length-map, removed, Among, CanFill, FitsSum, refilled, Count, plus}
 use Rattle.line_tree.proofs.Words.{IsBalanced, Named, Tree, names, tops, total, NodePtr, Records, kids, row, lines_in}
 use Rattle.line_tree.proofs.Words.{tree_at, get_unmoved, length-row, HasRow, IsWide, KeepsLink, lines_of, names_of}
-use Rattle.line_tree.proofs.Words.{CanRemove, Removes, Shrinks}
-use Rattle.std.specs.Prelude.{◌≢◌, slice_range}
-use Rattle.std.specs.FinMap as finite
+use Rattle.line_tree.proofs.Words.{CanRemove, Removes, Shrinks, ◌≢◌, slice_range}
 use Rattle.line_tree.proofs.BuildLaws.{sum-trees, tree-is}
 use Rattle.line_tree.proofs.FrameLaws.{holds-same, names-all-held, tops-among}
 use Rattle.line_tree.proofs.GrowLaws.{to-one}
@@ -14,6 +12,7 @@ use Rattle.line_tree.proofs.ShrinkLaws.{shrinks-up}
 use Rattle.line_tree.proofs.StepLaws.{keeps-after, keeps-refilled, keeps-then}
 use Rattle.line_tree.proofs.SumLaws.{fits-left, fits-right, total-append}
 use Rattle.line_tree.proofs.TreeLaws.{top-tree_at}
+use Rattle.std.specs.FinMap as finite
 
 -- ---- sums
 part-fits : (a c b : Count) → FitsSum (plus a (plus c b)) → FitsSum c

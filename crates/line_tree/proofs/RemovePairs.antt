@@ -7,7 +7,6 @@ use Rattle.line_tree.proofs.Words.{refilled, sum_all, Holds, Links, lines_in, su
 use Rattle.line_tree.proofs.Words.{names, tops, total, NodePtr, Records, kids, kids_of, row, plus, get_removed}
 use Rattle.line_tree.proofs.Words.{get_unmoved, same_or_other, Finds, HasRow, IsWide, lines_of, names_of, CanMend}
 use Rattle.line_tree.proofs.Words.{CanRemove, Cleans, Removes, Settles, Shrinks, Turns, Found}
-use Rattle.std.specs.FinMap as finite
 use Rattle.line_tree.proofs.AmongLaws.{among-or, get-among}
 use Rattle.line_tree.proofs.BuildLaws.{built, sum-trees, tree-is}
 use Rattle.line_tree.proofs.DistinctLaws.{distinct-apart}
@@ -28,6 +27,7 @@ use Rattle.line_tree.proofs.ShrinkLaws.{shrinks-turns}
 use Rattle.line_tree.proofs.LessLaws.{total-gone}
 use Rattle.line_tree.proofs.TreeLaws.{child-tree, row-tree, sum-tree, tops-tree_at}
 use Rattle.line_tree.proofs.UpdateLaws.{InnerIn, inner-refilled, inner-row, named-refilled}
+use Rattle.std.specs.FinMap as finite
 
 -- the children that are left
 abbrev pub without : List NodePtr → Option ℕ → List NodePtr

@@ -7,7 +7,6 @@ use Rattle.line_tree.proofs.Words.{Distinct, FitsSum, refilled, sum_all, Holds, 
 use Rattle.line_tree.proofs.Words.{tree_at, IsBalanced, Tree, inner, lines, names, tops, total, LineContent, NodePtr}
 use Rattle.line_tree.proofs.Words.{Records, kids, kids_of, row, plus, same_or_other, Finds, HasRow, IsWide, KeepsLink}
 use Rattle.line_tree.proofs.Words.{lines_of, names_of, CanRemove, Cleans, Removes, Shrinks, Found}
-use Rattle.std.specs.FinMap as finite
 use Rattle.line_tree.proofs.AmongLaws.{among-cases, among-get, among-left, among-right}
 use Rattle.line_tree.proofs.BuildLaws.{sum-kids, tree-is, trees-is}
 use Rattle.line_tree.proofs.DistinctLaws.{distinct-left, distinct-right}
@@ -20,6 +19,7 @@ use Rattle.line_tree.proofs.RemoveLaws.{can-fill, finish, fits-part, fits-remove
 use Rattle.line_tree.proofs.ShrinkLaws.{shrinks-one, shrinks-up, shrinks-wide}
 use Rattle.line_tree.proofs.StepLaws.{at-place, keeps-same, links-kept, split-same}
 use Rattle.line_tree.proofs.TreeLaws.{child-tree, count-tree, counted, named-tree, row-tree, top-tree_at, tops-tree_at}
+use Rattle.std.specs.FinMap as finite
 
 -- ---- lists by index
 all-but : {X : Type 0} (P : X → Type 0) (ls : List X) (t : X) (rs : List X) → AllByRecursion P ls →

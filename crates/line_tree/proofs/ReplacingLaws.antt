@@ -13,12 +13,12 @@ use Rattle.line_tree.proofs.Words.{sym, ap, ◌∙◌, subst, arith, plus-commut
 use Rattle.line_tree.proofs.Words.{union-self, Count, IsWithin, no_text, plus, FitsSum, resummed, sums, LineContent}
 use Rattle.line_tree.proofs.Words.{line_count, Named, total, NodePtr, Records, kids, row, lines_in, sum_at, Finds}
 use Rattle.line_tree.proofs.Words.{HasRow, CanChange, Changes, changed, Found}
-use Rattle.std.specs.FinSet as set
 use Rattle.line_tree.specs.Replacing.{PutsOver}
 use Rattle.line_tree.proofs.ChangingLaws.{can-child, changes-line, changes-node, lines-changed, node-row, node-sum}
 use Rattle.line_tree.proofs.ChangingLaws.{row-sum, sum-changed, was-parts}
 use Rattle.line_tree.proofs.ClimbingLaws.{Above, Climbs, down, next}
 use Rattle.line_tree.proofs.SumLaws.{fits-part}
+use Rattle.std.specs.FinSet as set
 
 pub puts-line : (m n : Records) (p : NodePtr) (k : ℕ) (new : LineContent) (gone more : Count) → CanChange m 0 p k →
     PutsOver m n p new gone more → Changes m n 0 p k (λ _. new) gone more

@@ -6,8 +6,8 @@ use Rattle.line_tree.proofs.Words.{len-remove, same_map, cases_lt, LineContent, 
 use Rattle.line_tree.proofs.Words.{with_child, with_parent, with_sum, kids, row, name_cmp, get_unmoved, name_antisym}
 use Rattle.line_tree.proofs.Words.{name_total, len-update, remove-named, Among, Distinct, Evens, Puts, link_one}
 use Rattle.line_tree.proofs.Words.{refilled, relinked, resummed, sums, NewLine, NewRoot, Settles}
-use Rattle.std.specs.FinMap as finite
 use mathlib.Core.Bool.{false≢true}
+use Rattle.std.specs.FinMap as finite
 
 len-new : (m : Records) (p : NodePtr) (r : Record) → finite.get m p ≡ None →
     finite.len (finite.insert m p r) ≡ finite.len m + 1

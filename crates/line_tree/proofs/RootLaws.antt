@@ -8,7 +8,6 @@ use Rattle.line_tree.proofs.Words.{Among, CanFill, Distinct, FitsSum, relinked, 
 use Rattle.line_tree.proofs.Words.{Inserts, IsWide, NewLine, NewRoot, Stands, StandsAlone, lines_of, names_of, trees}
 use Rattle.line_tree.proofs.Words.{with_line, Holds, IsTree, line_of, lines_in, sum_at, sum_of, tree_at, IsBalanced}
 use Rattle.line_tree.proofs.Words.{IsBalancedRoot, Tree, inner, least_below_root, lines, names, tops, total}
-use Rattle.std.specs.FinMap as finite
 use Rattle.std.proofs.lemmas.Str.{chars-IsAscii}
 use mathlib.Core.Bool.{Bool, true, false, false≢true}
 use Rattle.line_tree.proofs.AmongLaws.{among-or}
@@ -20,6 +19,7 @@ use Rattle.line_tree.proofs.GrowLaws.{of-one, to-one, unnamed}
 use Rattle.line_tree.proofs.StepLaws.{total-with_line}
 use Rattle.line_tree.proofs.TreeLaws.{top-tree_at, total-lines}
 use Rattle.line_tree.proofs.UpdateLaws.{refilled-named}
+use Rattle.std.specs.FinMap as finite
 
 -- ---- records that are the same for a tree
 pub tree-same : (m n : Records) (h : ℕ) (p : NodePtr) → IsTree m h p →

@@ -5,7 +5,6 @@ use Rattle.line_tree.proofs.Words.{AllByRecursion, append-nil, Among, Distinct, 
 use Rattle.line_tree.proofs.Words.{IsBalancedRoot, Named, Tree, least_below_root, lines, names, total, NodePtr, Records}
 use Rattle.line_tree.proofs.Words.{plus, IsWide, Stands, StandsAlone, lines_of, names_of, Becomes, CanLift, CanTakeRow}
 use Rattle.line_tree.proofs.Words.{Lifts, TakesRow, trees_at, with_lines}
-use Rattle.std.specs.FinMap as finite
 use Rattle.line_tree.proofs.AmongLaws.{among-left, among-or, among-right}
 use Rattle.line_tree.proofs.DistinctLaws.{distinct-append}
 use Rattle.line_tree.proofs.FrameLaws.{holds-same, names-held}
@@ -13,6 +12,7 @@ use Rattle.line_tree.proofs.GrowLaws.{of-one, unnamed}
 use Rattle.line_tree.proofs.RemakeLaws.{total-with_lines}
 use Rattle.line_tree.proofs.RootLaws.{tree-same, wide-root}
 use Rattle.line_tree.proofs.StepLaws.{all-balanced}
+use Rattle.std.specs.FinMap as finite
 
 least-small : (h : ℕ) → least_below_root h ≤ 6
 least-small zero = omega arith

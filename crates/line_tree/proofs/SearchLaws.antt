@@ -6,7 +6,6 @@ use Rattle.line_tree.proofs.Words.{plus-no_text, Count, plus, Holds, IsTree, lin
 use Rattle.line_tree.proofs.Words.{LineContent, line_count, Named, lines, total, NodePtr, Records, kids, sum_all}
 use Rattle.line_tree.proofs.Words.{AddsUp, IsLineAt, Arrives}
 use Rattle.std.proofs.Common.{option_map}
-use Rattle.std.specs.FinMap as finite
 use Rattle.line_tree.specs.declared.search.Arrived.{Arrived}
 use Rattle.line_tree.proofs.FillLaws.{sum_all-append}
 use Rattle.line_tree.proofs.GrowLaws.{all-left}
@@ -14,6 +13,7 @@ use Rattle.line_tree.proofs.PrefixLaws.{sum-more, summed}
 use Rattle.line_tree.proofs.StepLaws.{at-place, split-same}
 use Rattle.line_tree.proofs.SumLaws.{total-append}
 use Rattle.line_tree.proofs.TreeLaws.{child-tree, get-right, sum-tree, total-lines}
+use Rattle.std.specs.FinMap as finite
 
 -- place r of the lines xs is place k of ls, and where old stood before ls, now stands before xs
 pub record Passes {A : Type 0} (wide : Count → ℕ) (behind : A → Count → A) (ls xs : List Named) (k r : ℕ) (old now : A) :

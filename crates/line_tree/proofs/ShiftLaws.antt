@@ -8,13 +8,13 @@ use Rattle.line_tree.proofs.Words.{at_some, some_of, get_or-row, length-row, get
 use Rattle.line_tree.proofs.Words.{CanFill, CanPut, Fills, FitsSum, link_one, relinked, resummed, sum_all, sums, HasRow}
 use Rattle.line_tree.proofs.Words.{sum_at}
 use mathlib.Core.Bool.{false≢true}
-use Rattle.std.specs.FinMap as finite
 use Rattle.line_tree.proofs.AmongLaws.{get-among}
 use Rattle.line_tree.proofs.FillLaws.{insert-above, relinked-has_row, relinked-sums, sum-relinked}
 use Rattle.line_tree.proofs.KeptLaws.{drop-front, empty-same}
 use Rattle.line_tree.proofs.PutLaws.{fill-room, kept-put, long, named-all}
 use Rattle.line_tree.proofs.RowLaws.{child_is, past}
 use Rattle.line_tree.proofs.UpdateLaws.{InnerIn, inner-link_one, inner-row, named-link_one}
+use Rattle.std.specs.FinMap as finite
 
 -- those before a slot are written, and o is the child that gets the slot
 pub record Shifting (m n : Records) (p : NodePtr) (at : ℕ) (x : NodePtr) (slot : ℕ) (o : Option NodePtr) : Type 0 where

@@ -6,8 +6,7 @@ use Rattle.line_tree.proofs.Words.{append-nil, drop-drop, length-map, length-tak
 use Rattle.line_tree.proofs.Words.{take-append-le, take-take, insert-append_left, insert_end, remove-append_right}
 use Rattle.line_tree.proofs.Words.{no_text-plus, Count, no_text, plus, FitsSum, LineContent, line_count, Named, total}
 use Rattle.line_tree.proofs.Words.{NodePtr, count_of, count-append, count-lines, option_map, IsLineAt, PutsRoom}
-use Rattle.line_tree.proofs.Words.{changed, TreeState}
-use Rattle.std.proofs.lemmas.List.{length-drop}
+use Rattle.line_tree.proofs.Words.{changed, TreeState, length-drop}
 use Rattle.line_tree.proofs.ChangingLaws.{changed-at}
 use Rattle.line_tree.proofs.PlaceLaws.{named_line}
 use Rattle.line_tree.proofs.SumLaws.{total-append}

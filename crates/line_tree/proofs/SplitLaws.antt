@@ -6,7 +6,6 @@ use Rattle.line_tree.proofs.Words.{CanPut, Distinct, Puts, refilled, resummed, s
 use Rattle.line_tree.proofs.Words.{blank, with_sum, Tree, lines, tops, kids, row, get_other, kept_insert}
 use Rattle.line_tree.proofs.Words.{get-update-other, insert-named, named-update, update-named, HasRow, Grows, lines_of}
 use Rattle.line_tree.proofs.Words.{names_of, parted, trees, with_line}
-use Rattle.std.specs.FinMap as finite
 use Rattle.line_tree.proofs.AmongLaws.{among-cases, among-left, among-right}
 use Rattle.line_tree.proofs.BuildLaws.{built, sum-trees, tree-is}
 use Rattle.line_tree.proofs.DistinctLaws.{distinct-apart, distinct-append, distinct-left, distinct-right}
@@ -16,6 +15,7 @@ use Rattle.line_tree.proofs.GrowLaws.{all-left, all-right, grows-up, in-cases, i
 use Rattle.line_tree.proofs.GrowLaws.{to-one, unnamed}
 use Rattle.line_tree.proofs.PutLaws.{fill-left, fill-right, fill-room, split_at}
 use Rattle.line_tree.proofs.UpdateLaws.{named-refilled, refilled-named}
+use Rattle.std.specs.FinMap as finite
 
 -- ---- with room
 pub grows-room : (m l n : Records) (h : ℕ) (p : NodePtr) (ts : List (Tree h)) (k : ℕ) (x : Tree 0) (us : List (Tree h))

@@ -6,7 +6,6 @@ use Rattle.line_tree.proofs.Words.{Distinct, FitsSum, Halves, refilled, Holds, I
 use Rattle.line_tree.proofs.Words.{sum_of, tree_at, IsBalanced, Tree, names, tops, total, NodePtr, Records, kids}
 use Rattle.line_tree.proofs.Words.{kids_of, row, plus, CanInsert, Grows, Inserts, IsWide, lines_of, names_of, trees}
 use Rattle.line_tree.proofs.Words.{with_line, Turns, CanSpread, IsPair, Moves, Respreads, first_part, Found}
-use Rattle.std.specs.FinMap as finite
 use mathlib.Core.Bool.{false≢true}
 use Rattle.line_tree.proofs.AmongLaws.{among-or}
 use Rattle.line_tree.proofs.BuildLaws.{trees-is}
@@ -24,6 +23,7 @@ use Rattle.line_tree.proofs.ShrinkLaws.{turns-none}
 use Rattle.line_tree.proofs.StepLaws.{keeps-after}
 use Rattle.line_tree.proofs.SumLaws.{fits-left}
 use Rattle.line_tree.proofs.TreeLaws.{child-tree, row-tree, tops-tree_at}
+use Rattle.std.specs.FinMap as finite
 
 -- ---- below one node
 module _ (m : Records) (g : ℕ) (p : NodePtr) (k : ℕ) (x : NodePtr) (can : CanInsert m (suc (suc g)) p k x) where

@@ -7,7 +7,6 @@ use Rattle.line_tree.proofs.Words.{refilled, relinked, sum_all, sums, Count, plu
 use Rattle.line_tree.proofs.Words.{total, Links, NodePtr, Record, Records, blank, with_sum, kids, row, get_other}
 use Rattle.line_tree.proofs.Words.{some_of, HasRow, Grows, IsWide, KeepsLink, KeepsWide, lines_of, names_of, parted}
 use Rattle.line_tree.proofs.Words.{with_line}
-use Rattle.std.specs.FinMap as finite
 use mathlib.Core.Bool.{false≢true}
 use Rattle.line_tree.proofs.AmongLaws.{among-right}
 use Rattle.line_tree.proofs.BuildLaws.{sum-trees}
@@ -17,6 +16,7 @@ use Rattle.line_tree.proofs.GrowLaws.{all-left, all-right, unnamed}
 use Rattle.line_tree.proofs.PutLaws.{fill-left, fill-room, split_at}
 use Rattle.line_tree.proofs.SumLaws.{total-append}
 use Rattle.line_tree.proofs.TreeLaws.{named-row}
+use Rattle.std.specs.FinMap as finite
 
 -- ---- a list at one of its places
 pub split-same : {X : Type 0} (xs : List X) (i : ℕ) (x : X) → slice_get xs i ≡ Some x →

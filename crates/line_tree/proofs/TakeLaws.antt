@@ -3,13 +3,12 @@ use Rattle.line_tree.proofs.Words.{◌≡◌, ℕ, suc, ◌<◌, Bool, true, fal
 use Rattle.line_tree.proofs.Words.{drop, set, refl, sym, ap, ap₂, ◌∙◌, subst, is_some, slice_get, Option, None, Some}
 use Rattle.line_tree.proofs.Words.{nat_cmp_total, eq_by_cmp, nat_cmp, map-append, LineContent, Named, contents, NodePtr}
 use Rattle.line_tree.proofs.Words.{tied_same, without_mark, AreLines, has_mark, drop_after, same-line}
-use Rattle.line_tree.proofs.Words.{lines-are-without, IsTable, holder, noted, changed}
-use Rattle.std.specs.FinMap as finite
-use Rattle.std.proofs.lemmas.List.{append_assoc}
+use Rattle.line_tree.proofs.Words.{lines-are-without, IsTable, holder, noted, changed, append_assoc}
 use mathlib.Core.Bool.{false≢true}
 use Rattle.line_tree.proofs.HolderLaws.{alone, first, holder-append, not-first, whole-list}
 use Rattle.line_tree.proofs.ListedLaws.{HeldAt}
 use Rattle.line_tree.proofs.TableLaws.{noted-set, noted-within}
+use Rattle.std.specs.FinMap as finite
 
 -- ---- the line of the mark
 -- line k has it, and no other

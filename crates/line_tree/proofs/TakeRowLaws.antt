@@ -5,7 +5,6 @@ use Rattle.line_tree.proofs.Words.{take-append-drop, take-map, flat_map-append, 
 use Rattle.line_tree.proofs.Words.{Holds, IsTree, lines_in, tree_at, IsBalanced, Tree, lines, names, total, NodePtr}
 use Rattle.line_tree.proofs.Words.{Records, kids, kids_of, row, HasRow, Leads, lines_below, lines_of, names_of, Becomes}
 use Rattle.line_tree.proofs.Words.{CanRaise, CanTakeRow, HasSlots, Raises, TakesRow, trees_at, with_lines, Found}
-use Rattle.std.specs.FinMap as finite
 use Rattle.line_tree.proofs.AmongLaws.{among-left, among-right}
 use Rattle.line_tree.proofs.BecomeLaws.{stays}
 use Rattle.line_tree.proofs.DistinctLaws.{distinct-append, distinct-apart, distinct-left, distinct-right}
@@ -15,6 +14,7 @@ use Rattle.line_tree.proofs.RemakeLaws.{can-raise, node-stays, takes-row}
 use Rattle.line_tree.proofs.StepLaws.{all-balanced, all-take, at-place, split-same, wide-balanced, wide-some}
 use Rattle.line_tree.proofs.SumLaws.{total-append}
 use Rattle.line_tree.proofs.TreeLaws.{below-tree, child-tree, count-tree, counted, row-tree}
+use Rattle.std.specs.FinMap as finite
 
 part-fits : (a c b s : Count) → FitsSum (plus (plus a (plus c b)) s) → FitsSum (plus c s)
 part-fits a c b s fits = let l = fits.lines in let n = fits.characters in let m = fits.marks in

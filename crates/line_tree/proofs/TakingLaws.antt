@@ -5,12 +5,12 @@ use Rattle.line_tree.proofs.Words.{none-some, Marks, Place, differing-empty, plu
 use Rattle.line_tree.proofs.Words.{HasCounts, counting, less, no_text, plus, LineContent, line_count, NodePtr, Records}
 use Rattle.line_tree.proofs.Words.{update, with_sum, lines_in, sum_at, sum_of, total, without_mark, Finds, HasRow}
 use Rattle.line_tree.proofs.Words.{CanChange, Changes, TakesOff, marked, Found}
-use Rattle.std.specs.FinMap as finite
 use mir.Val.{bool_byte}
 use Rattle.line_tree.proofs.ChangingLaws.{can-child, changes-line, changes-node, node-row, node-sum, sum-changed}
 use Rattle.line_tree.proofs.ClimbingLaws.{Above, Climbs, down, next}
 use Rattle.line_tree.proofs.KeptLaws.{update-as}
 use Rattle.line_tree.proofs.UpdateLaws.{InnerIn, inner-row}
+use Rattle.std.specs.FinMap as finite
 
 -- ---- sums
 add-less : (a b : ℕ) → a + b - b ≡ a

@@ -3,8 +3,7 @@ use Rattle.line_tree.proofs.Words.{◌≡◌, ℕ, zero, suc, [], ◌∷◌, ◌
 use Rattle.line_tree.proofs.Words.{get_or, ap, ap₂, ◌∙◌, subst, arith, is_some, slice_get, slice_range, Option, None}
 use Rattle.line_tree.proofs.Words.{Some, All, get_or-drop, get_or-take, length-take-le, none-some, same_Some}
 use Rattle.line_tree.proofs.Words.{LineContent, Named, contents, NodePtr, AreLines, NumbersBelow, has_mark, drop_after}
-use Rattle.line_tree.proofs.Words.{AreBare, IsMarkedBelow, IsTable, holder, lines_without, noted}
-use Rattle.std.proofs.lemmas.List.{length-drop}
+use Rattle.line_tree.proofs.Words.{AreBare, IsMarkedBelow, IsTable, holder, lines_without, noted, length-drop}
 use Rattle.line_tree.proofs.HolderLaws.{all-noted, alone, bare-drop, first, forget-line, forgotten, holder-append}
 use Rattle.line_tree.proofs.HolderLaws.{none-before, note-line}
 use Rattle.line_tree.proofs.NearestLaws.{long}

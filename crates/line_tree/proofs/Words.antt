@@ -1,11 +1,11 @@
 -- The words that most proofs of this crate cite, passed on from one place. Declares nothing.
 pub use Rattle.std.proofs.Common.{[], ap₂, lit≤, ℕ, ◌*◌, ◌++◌, ◌+◌, ◌-◌, ◌/◌, ◌<◌, ◌^◌, ◌||◌, ◌∙◌, ◌∷◌, ◌≡◌, ◌≢◌, ◌≤◌}
 pub use Rattle.std.proofs.Common.{◌⊎◌, Bool, Err, IfSome, IsSome, List, MatchOption, None, Ok, OnOk, OnSome, Option}
-pub use Rattle.std.proofs.Common.{Result, Some, Vec, ap, append_assoc, arith, chars, cond, drop, false, get_or, inl}
-pub use Rattle.std.proofs.Common.{inr, is_some, length, length-append, length-drop, length-set, length-take, lit<, map}
-pub use Rattle.std.proofs.Common.{max, min, nat_le, nat_lt, not, option_to_list, refl, replicate, reverse, rules, set}
-pub use Rattle.std.proofs.Common.{slice_get, slice_index, slice_range, string_bytes, subst, suc, sym, take, true}
-pub use Rattle.std.proofs.Common.{vec_capacity, vec_len, zero}
+pub use Rattle.std.proofs.Common.{Result, Some, Vec, ap, append_assoc, arith, chars, cond, drop, drop-drop, false}
+pub use Rattle.std.proofs.Common.{get_or, inl, inr, is_some, length, length-append, length-drop, length-set}
+pub use Rattle.std.proofs.Common.{length-take, lit<, map, max, min, nat_le, nat_lt, not, option_to_list, refl}
+pub use Rattle.std.proofs.Common.{replicate, reverse, rules, set, slice_get, slice_index, slice_range, string_bytes}
+pub use Rattle.std.proofs.Common.{subst, suc, sym, take, take_all, true, vec_capacity, vec_len, zero}
 pub use Rattle.line_lists.proofs.CountRows.{count-append, count-characters, count-lines}
 pub use Rattle.line_lists.proofs.FindLaws.{drop_after}
 pub use Rattle.line_lists.proofs.FreedLaws.{eq_self, same-line}
@@ -68,11 +68,11 @@ pub use Rattle.std.proofs.Math.Nat.{min-le_right, mul-add, mul-le-mul_left, mul-
 pub use Rattle.std.proofs.Math.Nat.{pow-succ'}
 pub use Rattle.std.proofs.Math.Seq.{drop-append-add, drop-append_seam, take-append-add, take-append_seam}
 pub use Rattle.std.proofs.lemmas.Bool.{cases_eq, cases_lt, cond-false, cond-true, le-leb, lt-leb}
-pub use Rattle.std.proofs.lemmas.List.{append-nil, at_drop_all, at_drop_more, drop-append-le, drop-drop, drop-map}
-pub use Rattle.std.proofs.lemmas.List.{drop_all, drop_at, ext_get_or, get_or-drop, get_or-set_other, get_or-set_same}
-pub use Rattle.std.proofs.lemmas.List.{get_or-take, get_or_past, length-map, length-take-le, length_push, map-append}
+pub use Rattle.std.proofs.lemmas.List.{append-nil, at_drop_all, at_drop_more, drop-append-le, drop-map, drop_all}
+pub use Rattle.std.proofs.lemmas.List.{drop_at, ext_get_or, get_or-drop, get_or-set_other, get_or-set_same, get_or-take}
+pub use Rattle.std.proofs.lemmas.List.{get_or_past, length-map, length-take-le, length_push, map-append}
 pub use Rattle.std.proofs.lemmas.List.{nil_from_length, reverse-append, take-append-drop, take-append-le, take-map}
-pub use Rattle.std.proofs.lemmas.List.{take-take, take_all, take_at, take_more}
+pub use Rattle.std.proofs.lemmas.List.{take-take, take_at, take_more}
 pub use Rattle.std.proofs.lemmas.List.Concat.{flat_map-append}
 pub use Rattle.std.proofs.lemmas.List.Edits.{insert-append_left, insert_end, length-insert, length-remove}
 pub use Rattle.std.proofs.lemmas.List.Edits.{remove-append_right, sets, sets-eq, split_between}
@@ -85,7 +85,6 @@ pub use Rattle.std.specs.FinMap.{empty_of_len, get-empty, len-empty, len-insert,
 pub use Rattle.std.specs.List.{All, AllByRecursion, count_by, filter_map, flat_map, insert, remove, sum_by}
 pub use Rattle.std.specs.Option.{option_map}
 pub use Rattle.std.specs.Ordering.{eq_by_cmp, is_lt, nat_cmp}
-pub use Rattle.std.specs.Prelude.{⊤, ◌&&◌, T}
 pub use Rattle.text_model.specs.Content.{Marks, Slots}
 pub use Rattle.text_model.specs.SlotSets.{differing}
 pub use Rattle.text_model.specs.Splices.{removed}

@@ -11,10 +11,10 @@ use Rattle.mark_table.proofs.Words.{AreKept, gravity_at, mark, marks_kept, with_
 use Rattle.mark_table.proofs.Words.{AreMarks, IsLeastFree, first_number, gravity_of, is_named, names_of, number_of}
 use Rattle.mark_table.proofs.Words.{numbers_of, turned}
 use Rattle.std.proofs.lemmas.Slice.Eq.{bytes_eq-Decides}
-use Rattle.name_list.specs.Names as list
 use Rattle.name_list.proofs.MoveLaws.{position-map, position-passes, first_is, found_at, not_found, none_found}
 use Rattle.name_list.proofs.MoveLaws.{without-push, without-remove, without_none}
 use Rattle.name_list.proofs.ViewLaws.{map-remove}
+use Rattle.name_list.specs.Names as list
 
 -- what is seen of the list
 pub place_seen : (gravities : List Gravity) (name : List ℕ) (es : List Named) →

@@ -6,7 +6,6 @@ use Rattle.mark_table.proofs.Words.{fold, MatchOption, option_map_or, option_and
 use Rattle.mark_table.proofs.Words.{none-some, same_Some, Place, Marks, Stands, MarkView, Shown, earlier, first, last}
 use Rattle.mark_table.proofs.Words.{own_mark, shared_mark, shared_marks, usable, shown_mark, next_shown, previous_shown}
 use Rattle.mark_table.proofs.Words.{IsFirst, IsLast, first_of, last_of, shared_at}
-use Rattle.std.specs.FinMap as finite
 use Rattle.std.proofs.lemmas.List.Elements.{filter_agree}
 use Rattle.mark_table.specs.declared.order.Origin.TheVariants.{Mark, Place as Offset}
 use Rattle.mark_table.specs.declared.order.WidgetMark.{WidgetMark}
@@ -14,6 +13,7 @@ use Rattle.mark_table.specs.declared.order.WidgetMark.TheVariants.{Insert, Curre
 use Rattle.mark_table.proofs.SharedWalk.{stands_left, stands_right, stands_either, shared-out, shared-in, one-out}
 use Rattle.mark_table.proofs.SharedWalk.{one_shared}
 use Rattle.mark_table.proofs.StoreLaws.{was_kept, kept_entry}
+use Rattle.std.specs.FinMap as finite
 
 -- the order
 asym : (a b : Shown) → earlier a b ≡ true → earlier b a ≡ false

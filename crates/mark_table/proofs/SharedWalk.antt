@@ -5,9 +5,9 @@ use Rattle.mark_table.proofs.Words.{slice_get, refl, sym, ap, ◌∙◌, subst, 
 use Rattle.mark_table.proofs.Words.{none-some, same_Some, slice_get_within, Place, Marks, marks_at, next_mark}
 use Rattle.mark_table.proofs.Words.{previous_mark, Stands, MarkView, Shown, earlier, shared_mark, shared_marks, IsAt}
 use Rattle.mark_table.proofs.Words.{IsFirstAt, IsLastAt, IsFirst, IsLast}
-use Rattle.std.specs.FinMap as finite
 use Rattle.text_model.proofs.MarkOrderLaws.{next_mark-least, previous_mark-greatest}
 use Rattle.mark_table.proofs.StoreLaws.{place_of_mark_at, mark_told_at}
+use Rattle.std.specs.FinMap as finite
 
 -- what stands in two lists together
 pub stands_left : {A : Type 0} (xs ys : List A) (x : A) → Stands xs x → Stands (xs ++ ys) x

@@ -4,10 +4,10 @@ use Rattle.mark_table.proofs.Words.{[], ◌∷◌, slice_get, Ordering, T, refl,
 use Rattle.mark_table.proofs.Words.{nat_tests, none-some, same_Some, Stands, stands_map, stood_at, MarkNo, Place, Marks}
 use Rattle.mark_table.proofs.Words.{marks_at, IsAt}
 use Rattle.std.specs.declared.cmp.Ordering.TheVariants.{Less, Equal, Greater}
-use Rattle.std.specs.FinMap as finite
 use Rattle.std.specs.FinMap.Entries.{is_sorted, below_all, find}
 use Rattle.std.specs.Ordering.{nat_cmp, is_lt, eq_by_cmp}
 use Rattle.std.specs.Cmp.{unsigned_tied, ranked}
+use Rattle.std.specs.FinMap as finite
 
 -- keys that rise from a number on
 Rises : ℕ → List (ℕ × Place) → Type 0

@@ -1,9 +1,9 @@
 -- The words that most proofs of this crate cite, passed on from one place. Declares nothing.
 pub use Rattle.std.proofs.Common.{[], ap₂, if◌then◌else◌, true≢false, ℕ, ◌++◌, ◌+◌, ◌-◌, ◌<◌, ◌^◌, ◌∙◌, ◌∷◌, ◌≡◌, ◌≢◌}
-pub use Rattle.std.proofs.Common.{◌≤◌, ◌⊎◌, Bool, Contains, Global, List, None, Option, Some, ap, arith, cond, drop}
-pub use Rattle.std.proofs.Common.{eq-eqb, false, get_or, inl, inr, le-ltb, length, length-append, length-set, lt-ltb}
-pub use Rattle.std.proofs.Common.{map, min, nat_lt, ne_eqb, not, refl, rules, slice_get, slice_set, subst, suc, sym}
-pub use Rattle.std.proofs.Common.{take, tests, true, zero}
+pub use Rattle.std.proofs.Common.{◌≤◌, ◌⊎◌, Bool, Contains, Global, List, None, Option, Some, String, ap, arith, cond}
+pub use Rattle.std.proofs.Common.{drop, eq-eqb, false, get_or, inl, inr, le-ltb, length, length-append, length-set}
+pub use Rattle.std.proofs.Common.{lt-ltb, map, min, nat_lt, ne_eqb, not, refl, rules, slice_get, slice_set, subst, suc}
+pub use Rattle.std.proofs.Common.{sym, take, tests, true, zero}
 pub use Rattle.name_list.specs.Moves.{move_index, put_before, put_behind, without}
 pub use Rattle.name_list.specs.Names.{AreApart, AreNames, IsLeastFree, Named, Names, names_of, numbers_of, place_of}
 pub use Rattle.name_list.specs.Places.{AreKept, AreTrimmed, IsIndex, IsIndexTo, is_taken, named, names_kept}
@@ -18,5 +18,5 @@ pub use Rattle.std.proofs.lemmas.Option.{slice_get-get_or, slice_get-map, slice_
 pub use Rattle.std.specs.List.{IsDistinct, position_or_len}
 pub use Rattle.std.specs.Map.{keys_of, lookup, values_of}
 pub use Rattle.std.specs.Option.{option_and_then, option_map, option_map_or}
-pub use Rattle.std.specs.Prelude.{IsUtf8, String, bytes_eq, chars, encode_utf8_all, find, insert, is_some, position}
-pub use Rattle.std.specs.Prelude.{remove, string_bytes}
+pub use Rattle.std.specs.Prelude.{IsUtf8, bytes_eq, chars, encode_utf8_all, find, insert, is_some, position, remove}
+pub use Rattle.std.specs.Prelude.{string_bytes}

@@ -1,7 +1,8 @@
 -- The words that most proofs of this crate cite, passed on from one place. Declares nothing.
-pub use Rattle.std.proofs.Common.{[], ap₂, ℕ, ◌++◌, ◌+◌, ◌-◌, ◌<◌, ◌^◌, ◌∙◌, ◌∷◌, ◌≡◌, ◌≤◌, ◌⊎◌, Bool, List, ap, arith}
-pub use Rattle.std.proofs.Common.{cond, count_by, drop, false, get_or, inl, inr, length, length-append, map, max, min}
-pub use Rattle.std.proofs.Common.{refl, replicate, set, subst, suc, sym, true, zero}
+pub use Rattle.std.proofs.Common.{[], ap₂, ℕ, ◌++◌, ◌+◌, ◌-◌, ◌<◌, ◌^◌, ◌∙◌, ◌∷◌, ◌≡◌, ◌≤◌, ◌⊎◌, Bool, List, None}
+pub use Rattle.std.proofs.Common.{Option, Some, ap, arith, cond, count_by, drop, false, get_or, inl, inr, is_some}
+pub use Rattle.std.proofs.Common.{length, length-append, map, max, min, refl, replicate, set, subst, suc, sym, true}
+pub use Rattle.std.proofs.Common.{zero}
 pub use Rattle.raw_nodes.specs.Cells.{AreApart, IsPlace, NotIn, ats, name_cmp, node_at, node_owns, node_right}
 pub use Rattle.raw_nodes.specs.Cells.{nodes_lent, nodes_own, number_in, put_at, without}
 pub use Rattle.raw_nodes.specs.Chain.{IsChain, after_of, afters_of, before_of, befores_of, behind, content_of}
@@ -31,6 +32,6 @@ pub use Rattle.std.specs.FinMap.{IsAntisymmetric, empty, empty_of_len, get, get-
 pub use Rattle.std.specs.FinMap.{len, len-insert, len-remove, nat_cmp-IsAntisymmetric, remove, same_map}
 pub use Rattle.std.specs.List.{filter_map, sum, sum_by}
 pub use Rattle.std.specs.Ordering.{eq_by_cmp, is_eq}
-pub use Rattle.std.specs.Prelude.{◌≢◌, IfSome, IsSome, None, Option, Some, is_some, option_map, slice_get, unwrap_or}
+pub use Rattle.std.specs.Prelude.{◌≢◌, IfSome, IsSome, option_map, slice_get, unwrap_or}
 pub use Rattle.toggle_sums.specs.Counts.{CanExchange, Count, CountsFit, HasCounts, IsBare, counting, exchanged, less}
 pub use Rattle.toggle_sums.specs.Counts.{plus}

@@ -8,10 +8,10 @@ use Rattle.script_cli.proofs.Words.{RunSummary, Met, ReadLog, WriteLog, HandsOut
 use Rattle.script_cli.proofs.Words.{no_documents, run_output, refused_count, RunsTo, Holds, WritesRun, WritesFront}
 use Rattle.script_cli.proofs.Words.{Feeds, Sends, Gathers, Replies, MeetsCommand, Meets}
 use Rattle.script_cli.specs.declared.summary.RunFault.{RunFault}
-use Rattle.script_cli.specs.declared.turns.Met.TheVariants as kinds
 use Rattle.script_cli.specs.Carrying.{RunsBytes, MayFollow, Carries, CarriesOut, Carried, Cuts}
 use Rattle.script_cli.specs.PlainRun.{IsPlain, IsPlainUpToRefusal}
 use Rattle.script_cli.proofs.SendingLaws.{Takes-nil, Takes-then, HandsOut-nil, HandsOut-then}
+use Rattle.script_cli.specs.declared.turns.Met.TheVariants as kinds
 
 -- the run without refusals for memory is one of the runs
 pub plain_runs : (commands : List (List (List ℕ))) (world : World) (fault : Option ScriptFault)

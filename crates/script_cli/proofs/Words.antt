@@ -16,7 +16,6 @@ pub use Rattle.script_cli.specs.Turns.{Meets, MeetsCommand, Replies, goes_on, is
 pub use Rattle.script_cli.specs.declared.summary.RunSummary.{RunSummary}
 pub use Rattle.script_cli.specs.declared.turns.Met.{Met}
 pub use Rattle.std.proofs.lemmas.Bool.{false≢true}
-pub use Rattle.std.proofs.lemmas.Grind.{common_steps}
 pub use Rattle.std.proofs.lemmas.List.{append-nil}
 pub use Rattle.std.proofs.lemmas.Str.{encodes-append}
 pub use Rattle.std.specs.Prelude.{Err, IfErr, IfSome, Ok, OnErr, OnOk, Result, is_err, is_ok, is_some}

@@ -2,8 +2,7 @@
 use Rattle.tag_table.proofs.Words.{◌≡◌, ℕ, suc, true, false, Some, List, [], ◌∷◌, map, slice_get, refl, sym, ap, ◌∙◌}
 use Rattle.tag_table.proofs.Words.{arith, if◌then◌else◌, ◌==◌, find, bytes_eq, take, Decides-eqb, option_map, none-some}
 use Rattle.tag_table.proofs.Words.{same_Some, bytes_eq-Decides, Named, Names, AreKept, tag, tags_kept, slot_of_number}
-use Rattle.tag_table.proofs.Words.{Tag, Tags, slot_of, is_named, first_slot, sel}
-use Rattle.std.specs.Prelude.{◌+◌, ◌-◌}
+use Rattle.tag_table.proofs.Words.{Tag, Tags, slot_of, is_named, first_slot, sel, ◌+◌, ◌-◌}
 use Rattle.std.specs.List.{take-map}
 
 number_zero : (number : ℕ) → slot_of_number number ≡ 0 → number ≡ 0

@@ -11,7 +11,6 @@ use Rattle.tag_table.proofs.Words.{below_place, next_to, raised, raised_tag, low
 use Rattle.tag_table.proofs.Words.{AreTags, IsLeastFree, names_of, slots_of, slot_of, is_named, sel}
 use Rattle.std.proofs.lemmas.Bool.{cases_eq}
 use Rattle.std.proofs.lemmas.Str.{IsUtf8-from_ascii, chars-IsAscii}
-use Rattle.name_list.specs.Names as list
 use Rattle.name_list.proofs.PlaceLaws.{stands_move}
 use Rattle.name_list.proofs.ListLaws.{get_push, get_remove_other, Stands, stands_map, stood_at, stands_from_Contains}
 use Rattle.name_list.proofs.ListLaws.{Contains-from_stands}
@@ -20,6 +19,7 @@ use Rattle.name_list.proofs.MoveLaws.{none_found, found_at, not_found, without-p
 use Rattle.name_list.proofs.MoveLaws.{put_behind-insert, put_before-insert, insert-remove, moved_at, moved_last}
 use Rattle.tag_table.specs.declared.faults.NoSuchTag.{NoSuchTag}
 use Rattle.tag_table.specs.declared.faults.NoSuchTag.TheVariants.{Moved, Neighbour}
+use Rattle.name_list.specs.Names as list
 
 -- what is seen of the list
 pub place_seen : (name : List ℕ) (es : List Named) → position (is_named name) (map tag es) ≡ place_of name es

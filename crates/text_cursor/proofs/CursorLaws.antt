@@ -9,7 +9,7 @@ use Rattle.text_cursor.proofs.Words.{All-weaker, sum_by-append, sum_by-cons, tak
 use Rattle.text_cursor.proofs.Words.{removed, take-removed, drop-removed, Cursor, Part, parts_len, turned_if}
 use Rattle.text_cursor.proofs.Words.{side_parts, Block, cells_between, part_cells, front_cells, behind_cells}
 use Rattle.text_cursor.proofs.Words.{source_len, cursor_cells, cursor_parts, PartFits, IsCursor, Moves, Takes, Puts}
-use Rattle.std.specs.Prelude.{Bool, true, false}
+use Rattle.text_cursor.proofs.Words.{Bool, true, false}
 use Rattle.text_cursor.proofs.RiseLaws.{rise-across, rise-along, rise-cut, rise-dropped, rise-trimmed, rise-put}
 use Rattle.text_cursor.proofs.SideLaws.{len-append, len-cons, turned-len, turned-length}
 

@@ -11,7 +11,6 @@ use Rattle.text_cursor.proofs.Words.{line_start-le, map-map, map-slice_range, Cu
 use Rattle.text_cursor.proofs.Words.{parts_len, turned_if, block_parts, side_parts, cells_between, part_cells}
 use Rattle.text_cursor.proofs.Words.{front_cells, behind_cells, cursor_cells, source_len, slots_in, last_line}
 use Rattle.text_cursor.proofs.Words.{front_text, behind_text, PartFits, IsCursor, IsLastLine, IsSecond, Block}
-use Rattle.std.specs.FinSet as set
 use Rattle.std.proofs.lemmas.List.Folds.{drop_split}
 use Rattle.text_cursor.proofs.SideLaws.{len-append, len-cons, turned-len, block-push}
 use Rattle.text_cursor.proofs.CursorLaws.{part-length, front-push, behind-push, len-push, front-length, place-is}
@@ -19,6 +18,7 @@ use Rattle.text_cursor.proofs.CursorLaws.{behind-length, front-append, behind-ap
 use Rattle.text_cursor.proofs.CursorLaws.{reverse-fit, same-fit}
 use Rattle.text_cursor.proofs.AroundLaws.{length-slot_sets, characters-of, length-characters, line-append-same}
 use Rattle.text_cursor.proofs.AroundLaws.{line_start-past, next_line-is}
+use Rattle.std.specs.FinSet as set
 
 -- ---- where lines begin in two texts behind one another
 

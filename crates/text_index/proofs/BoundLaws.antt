@@ -9,21 +9,20 @@ use Rattle.text_index.proofs.Words.{saturated_base, saturated_modifier, WholeInd
 use Rattle.text_index.proofs.Words.{on_line, line_value, unless_end, lines_back, word_front, word_behind, word_end}
 use Rattle.text_index.proofs.Words.{modified, modified_by, or_fault, first_tagged, last_tagged, base_value}
 use Rattle.text_index.proofs.Words.{then_modified, index_value, Meanings, AreWithin, value_of, shown_meanings}
-use Rattle.text_index.proofs.Words.{IndexFault, BadIndex, Base}
-use Rattle.std.specs.Prelude.{Some, None}
+use Rattle.text_index.proofs.Words.{IndexFault, BadIndex, Base, Some, None}
 use Rattle.std.proofs.lemmas.List.Quantifiers.{position-Some}
 use Rattle.text_model.specs.declared.places.Place.{Place}
 use Rattle.mark_table.specs.SharedMarks.{Mark, first_number}
 use Rattle.tag_table.specs.Tags.{Tag}
-use Rattle.std.specs.FinMap as finite
 use Rattle.text_index.proofs.ViewLaws.{length-shown}
 use Rattle.text_index.proofs.FlagLaws.{length-part, flags-within}
 use Rattle.index_grammar.specs.Steps.{saturated_index}
-use Rattle.index_grammar.specs.declared.indices.Base.TheVariants as base
 use Rattle.index_grammar.specs.declared.indices.Modifier.{Modifier}
-use Rattle.index_grammar.specs.declared.indices.Modifier.TheVariants as modifier
 use Rattle.index_grammar.specs.declared.indices.Unit.TheVariants.{Characters, Lines}
 use Rattle.index_grammar.proofs.PlaceLaws.{most}
+use Rattle.std.specs.FinMap as finite
+use Rattle.index_grammar.specs.declared.indices.Base.TheVariants as base
+use Rattle.index_grammar.specs.declared.indices.Modifier.TheVariants as modifier
 
 -- ---- places in lines
 

@@ -5,8 +5,7 @@ use Rattle.text_index.proofs.Words.{nat_eq, ◌==◌, position, if◌then◌else
 use Rattle.text_index.proofs.Words.{place_base, token, of_length, longest, closed_front, longest_front, marked, tagged}
 use Rattle.text_index.proofs.Words.{without_last, base_of, modifiers_of, tokens_of, WholeIndex, base_value, or_fault}
 use Rattle.text_index.proofs.Words.{then_modified, Meanings, MeanTheSame, value_of, word_value, IndexFault, BadIndex}
-use Rattle.text_index.proofs.Words.{NoTaggedCharacters, Base}
-use Rattle.std.specs.Prelude.{Some, None}
+use Rattle.text_index.proofs.Words.{NoTaggedCharacters, Base, Some, None}
 use Rattle.std.specs.Option.{option_or}
 use Rattle.index_grammar.specs.Characters.{closes}
 use Rattle.index_grammar.specs.Grammar.{in_line, first_tagged, last_tagged}

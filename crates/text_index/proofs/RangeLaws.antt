@@ -4,7 +4,7 @@ use Rattle.text_index.proofs.Words.{Some, None, length, drop, refl, sym, subst, 
 use Rattle.text_index.proofs.Words.{nat_le, filter, find, IfSome, prefix_len, last_or, le-leb, lt-leb, leb-true}
 use Rattle.text_index.proofs.Words.{is_alike, flag_at, next_change, is_set, ranges_behind, tag_ranges, begins_from}
 use Rattle.text_index.proofs.Words.{begins_before, ranges_from, next_range, previous_range, and_later, begins, TagRange}
-use Rattle.std.proofs.Common.{◌&&◌, Option}
+use Rattle.text_index.proofs.Words.{◌&&◌, Option}
 
 -- whether a range begins at a place of flags behind another flag
 abbrev starts : Bool → List Bool → ℕ → Bool

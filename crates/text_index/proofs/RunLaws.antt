@@ -2,7 +2,7 @@
 use Rattle.text_index.proofs.Words.{◌≡◌, ℕ, zero, suc, ◌+◌, ◌-◌, ◌≤◌, min, Bool, true, false, cond, List, [], ◌∷◌, ◌++◌}
 use Rattle.text_index.proofs.Words.{length, take, drop, refl, sym, ap, ◌∙◌, arith, length-drop, reverse, slice_range}
 use Rattle.text_index.proofs.Words.{prefix_len, suffix_len, length-reverse, length-take-le, reverse-append, take-take}
-use Rattle.std.proofs.Common.{drop-drop}
+use Rattle.text_index.proofs.Words.{drop-drop}
 use Rattle.text_index.proofs.ViewLaws.{take-apart}
 
 -- a front of a text ends its run

@@ -1,7 +1,8 @@
 -- The words that most proofs of this crate cite, passed on from one place. Declares nothing.
-pub use Rattle.std.proofs.Common.{[], ap₂, ℕ, ◌++◌, ◌+◌, ◌-◌, ◌<◌, ◌^◌, ◌∙◌, ◌∷◌, ◌≡◌, ◌≢◌, ◌≤◌, Bool, List, None, Some}
-pub use Rattle.std.proofs.Common.{ap, arith, cond, drop, false, get_or, inl, inr, le-ltb, length, length-drop, lt-ltb}
-pub use Rattle.std.proofs.Common.{map, max, min, ne_eqb, not, refl, subst, suc, sym, take, true, zero}
+pub use Rattle.std.proofs.Common.{[], ap₂, ℕ, ◌&&◌, ◌++◌, ◌+◌, ◌-◌, ◌<◌, ◌==◌, ◌^◌, ◌∙◌, ◌∷◌, ◌≡◌, ◌≢◌, ◌≤◌, Bool, Err}
+pub use Rattle.std.proofs.Common.{List, None, Ok, Option, Some, ap, arith, cond, drop, drop-drop, false, get_or, inl}
+pub use Rattle.std.proofs.Common.{inr, le-ltb, length, length-drop, lt-ltb, map, max, min, nat_lt, ne_eqb, not, refl}
+pub use Rattle.std.proofs.Common.{subst, suc, sym, take, true, zero}
 pub use Rattle.index_grammar.specs.Grammar.{WholeIndex, around_dot, base_of, closed_front, index_of, longest}
 pub use Rattle.index_grammar.specs.Grammar.{longest_front, marked, modifiers_of, number_of, of_length, place_base}
 pub use Rattle.index_grammar.specs.Grammar.{place_of, saturated_base, saturated_modifier, tagged, token, tokens_of}
@@ -11,18 +12,16 @@ pub use Rattle.index_grammar.specs.declared.faults.IndexFault.TheVariants.{BadIn
 pub use Rattle.index_grammar.specs.declared.indices.Base.{Base}
 pub use Rattle.std.proofs.lemmas.Bool.{false≢true, cases_lt, le-leb, leb-true, lt-leb, ltb-false, ltb-true}
 pub use Rattle.std.proofs.lemmas.Bool.Decides.{Decides-eqb, nat_tests}
-pub use Rattle.std.proofs.lemmas.List.{drop-drop, drop-take, get_or-drop, get_or-reverse, get_or-take, get_or_past}
-pub use Rattle.std.proofs.lemmas.List.{length-map, length-reverse, length-take-le, reverse-append, take-append-drop}
-pub use Rattle.std.proofs.lemmas.List.{take-take}
+pub use Rattle.std.proofs.lemmas.List.{drop-take, get_or-drop, get_or-reverse, get_or-take, get_or_past, length-map}
+pub use Rattle.std.proofs.lemmas.List.{length-reverse, length-take-le, reverse-append, take-append-drop, take-take}
 pub use Rattle.std.proofs.lemmas.List.Sums.{prefix_len-drop_no, prefix_len-drop_yes, prefix_len-le-length}
 pub use Rattle.std.proofs.lemmas.List.Sums.{prefix_len_passes, prefix_len_stops, suffix_len-le-length}
 pub use Rattle.std.proofs.lemmas.List.Sums.{suffix_len-take_no, suffix_len-take_yes}
 pub use Rattle.std.proofs.lemmas.Str.{IsAscii-append, IsUtf8-string_bytes, chars-IsAscii, chars-append}
 pub use Rattle.std.specs.List.{ends_with, last_or, prefix_len, suffix_len}
-pub use Rattle.std.specs.Prelude.{if◌then◌else◌, ◌&&◌, ◌==◌, Err, IfOk, IfSome, IsAscii, IsUtf8, Ok, Option, Result}
-pub use Rattle.std.specs.Prelude.{bytes_eq, chars, codes, decimal, encode_utf8_all, filter, find, nat_eq, nat_le}
-pub use Rattle.std.specs.Prelude.{nat_lt, option_and_then, option_map, position, reverse, slice_get, slice_index}
-pub use Rattle.std.specs.Prelude.{slice_range, string_bytes}
+pub use Rattle.std.specs.Prelude.{if◌then◌else◌, IfOk, IfSome, IsAscii, IsUtf8, Result, bytes_eq, chars, codes, decimal}
+pub use Rattle.std.specs.Prelude.{encode_utf8_all, filter, find, nat_eq, nat_le, option_and_then, option_map, position}
+pub use Rattle.std.specs.Prelude.{reverse, slice_get, slice_index, slice_range, string_bytes}
 pub use Rattle.text_index.specs.Meanings.{AreWithin, MeanTheSame, Meanings, shown_meanings, value_of, word_value}
 pub use Rattle.text_index.specs.Ranges.{and_later, begins, begins_before, begins_from, is_set, next_range}
 pub use Rattle.text_index.specs.Ranges.{previous_range, ranges_behind, ranges_from, tag_ranges}

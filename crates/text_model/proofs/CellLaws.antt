@@ -2,8 +2,8 @@
 use Rattle.text_model.proofs.Words.{◌≡◌, ℕ, ◌≤◌, Bool, true, false, cond, ◌&&◌, ◌||◌, ◌==◌, not, List, [], ◌∷◌, refl}
 use Rattle.text_model.proofs.Words.{ap, ◌∙◌, arith, nat_cmp_total, unsigned_tied, nat_tests, Cell, Slots, characters}
 use Rattle.text_model.proofs.Words.{inserted, removed, changed, cells_of, set_slot, with_slot, without_slots}
-use Rattle.std.specs.FinSet as set
 use Rattle.text_model.proofs.SpliceLaws.{map-inserted, map-removed, map-changed, changed-same}
+use Rattle.std.specs.FinSet as set
 
 abbrev character_of : Cell → ℕ
 character_of cell = cell.character

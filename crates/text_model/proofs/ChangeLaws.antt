@@ -5,8 +5,8 @@ use Rattle.text_model.proofs.Words.{get_or-map, get_or-drop, get_or-take, length
 use Rattle.text_model.proofs.Words.{take-map, take_rest, prefix_len-drop_yes, prefix_len-drop_no, prefix_len_is}
 use Rattle.text_model.proofs.Words.{prefix_len-le-length, suffix_len-take_yes, suffix_len-take_no, suffix_len_is, Cell}
 use Rattle.text_model.proofs.Words.{is_alike, flag_at, next_change, previous_change, flags}
-use Rattle.std.specs.FinSet as set
 use mathlib.Core.Bool.{beq}
+use Rattle.std.specs.FinSet as set
 
 pub alike_same : (has on : Bool) → beq has on ≡ true → is_alike on has ≡ true
 alike_same true true is = refl

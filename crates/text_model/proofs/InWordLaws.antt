@@ -4,11 +4,11 @@ use Rattle.text_model.proofs.Words.{not, cond, ◌&&◌, ◌||◌, nat_lt, ◌==
 use Rattle.text_model.proofs.Words.{◌∙◌, arith, inl, inr, cases_eq, false≢true, nat_tests, pow_pos, nat_cmp, AreSlots}
 use Rattle.text_model.proofs.Words.{IsOneWord, has_word, in_word, word_bits, word_index, word_count, differing}
 use Rattle.text_model.proofs.Words.{contains-slots_below, word_of_slots, AreWords, has_bit, slot_count, slots_of, WORDS}
-use Rattle.std.specs.FinSet as set
 use Rattle.text_model.specs.OneWord.{words_below}
 use Rattle.text_model.specs.TagBits.{word_below}
 use Rattle.text_model.proofs.OneWordSteps.{contains-in_word, no_word_bits, same_slots}
 use Rattle.text_model.proofs.TagSteps.{contains-differing}
+use Rattle.std.specs.FinSet as set
 
 -- where a word has no bits the set has none of its slots
 digit_none : (b : Bool) (p w : ℕ) → 0 < p → cond b 1 0 * p + w ≡ 0 → b ≡ false

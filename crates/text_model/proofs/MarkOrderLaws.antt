@@ -5,9 +5,9 @@ use Rattle.text_model.proofs.Words.{◌⊎◌, IfSome, All, filter, fold, reduce
 use Rattle.text_model.proofs.Words.{All-head, All-tail, All-map, All-weaker, All-filter, filter_passes, nat_tests}
 use Rattle.text_model.proofs.Words.{Place, Content, Marks, MarksStand, next_mark, offsets, previous_mark, marks_at}
 use Rattle.text_model.proofs.Words.{places_from, plain_marks}
-use Rattle.std.specs.FinMap as finite
 use Rattle.text_model.specs.declared.places.MarkNo.{MarkNo}
 use Rattle.text_model.proofs.PlaceLaws.{All-entries, entries-plain_marks}
+use Rattle.std.specs.FinMap as finite
 
 -- f over offsets, from one if there is one
 abbrev pub reduced_from : (ℕ → ℕ → ℕ) → Option ℕ → List ℕ → Option ℕ

@@ -8,9 +8,9 @@ use Rattle.text_model.proofs.Words.{bit_at, bit_not, nat_cmp, AreBits, IsOneWord
 use Rattle.text_model.proofs.Words.{word_index, alone-other, alone-same, contains-slots_in, word_bits-slots_in}
 use Rattle.text_model.proofs.Words.{word_index-slots_in, differing, contains_inserted, contains-slots_below}
 use Rattle.text_model.proofs.Words.{word_of_bits, has_bit, slot_count, slots_of, WORDS}
-use Rattle.std.specs.FinSet as set
 use Rattle.std.specs.Int.Bits.{xor_zero_r}
 use Rattle.text_model.proofs.TagSteps.{slots_of-differing}
+use Rattle.std.specs.FinSet as set
 
 pub same_slots : (s t : set.FinSet nat_cmp) → ((q : ℕ) → set.contains s q ≡ set.contains t q) → s ≡ t
 same_slots = set.same_set nat_cmp_total set.nat_cmp-IsAntisymmetric

@@ -5,10 +5,10 @@ use Rattle.text_model.proofs.Words.{take_at, map_over_more, Cell, Step, Place, S
 use Rattle.text_model.proofs.Words.{MarksStand, cells_of, after_removal, after_insertion, with_slot, set_slot, StepFits}
 use Rattle.text_model.proofs.Words.{after_step, inserted, removed, moved, drawn, plain_content, plain_marks, IsPlain}
 use Rattle.std.proofs.Common.{set as set_at}
-use Rattle.std.specs.FinMap as finite
-use Rattle.std.specs.FinSet as set
 use Rattle.text_model.proofs.PlaceLaws.{get-plain_marks, plain_marks-map, same_marks}
 use Rattle.text_model.proofs.StepLaws.{MarksStand-after_step}
+use Rattle.std.specs.FinMap as finite
+use Rattle.std.specs.FinSet as set
 
 pub plain_marks-nil : plain_marks [] ≡ finite.empty
 plain_marks-nil = same_marks _ _ (λ number. get-plain_marks [] number ∙ sym (finite.get-empty nat_cmp number))

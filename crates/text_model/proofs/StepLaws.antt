@@ -5,9 +5,9 @@ use Rattle.text_model.proofs.Words.{eq_by_cmp, nat_cmp_total, length-map, Cell, 
 use Rattle.text_model.proofs.Words.{ClearSlot, PutMark, TakeMark, Place, Content, Marks, map_marks, MarksStand}
 use Rattle.text_model.proofs.Words.{inserted, goes_behind, moved, drawn, cells_of, with_slot, without_slots, StepFits}
 use Rattle.text_model.proofs.Words.{Fits, FitsIn, length_after, after_step, after}
-use Rattle.std.specs.FinMap as finite
 use Rattle.text_model.proofs.PlaceLaws.{get-map_marks}
 use Rattle.text_model.proofs.SpliceLaws.{length-cells_inserted, length-removed, length-changed}
+use Rattle.std.specs.FinMap as finite
 
 pub moved_le : (at count end : ℕ) (place : Place) → place.offset ≤ end → (moved at count place).offset ≤ end + count
 moved_le at count end place within =

@@ -14,8 +14,8 @@ use denote.RawPtr.{Ptr, block_ptr, null_ptr, ptr_val, in_a_block}
 use denote.Steps.{nothing}
 use denote.Struct.Struct.{within}
 use denote.Struct.Owning.{shape}
-use Rattle.tktext_c.specs.contracts.session.Session as session
 use Rattle.tktext_c.specs.Held.{frees, held_session}
+use Rattle.tktext_c.specs.contracts.session.Session as session
 use Rattle.tktext_c.specs.contracts.handle.Kept as kept
 
 abbrev pub word : Ptr → Val

@@ -3,20 +3,19 @@ use Rattle.tktext_c.proofs.Words.{◌≡◌, ◌≢◌, Bool, true, false, ◌�
 use Rattle.tktext_c.proofs.Words.{Ok, Result, is_ok, is_err, encode_utf8_all, if◌then◌else◌, Unread, TakesCommand}
 use Rattle.tktext_c.proofs.Words.{StopsAt, HasNoCommand, Given, TurnEnd, CallEnd, Gives, Called, Turns, given_of}
 use Rattle.tktext_c.proofs.Words.{status_after, State, Telling, memory_said, said_text, untold, GivesTold, CalledTold}
-use Rattle.tktext_c.proofs.Words.{IsTold, TurnsTold, cut, words_at, AreLengths, AreTexts}
-use Rattle.std.specs.Prelude.{[], None, Err}
+use Rattle.tktext_c.proofs.Words.{IsTold, TurnsTold, cut, words_at, AreLengths, AreTexts, [], None, Err}
 use Rattle.tcl_words.specs.declared.fault.ScriptFault.{ScriptFault}
 use Rattle.command_effects.specs.declared.answers.Answer.{Answer}
 use Rattle.command_effects.specs.declared.answers.Fault.{Fault}
-use Rattle.command_effects.specs.declared.answers.Fault.TheVariants as fault
 use Rattle.peers.specs.Step.{step, Makes}
 use Rattle.peers.specs.World.{World}
 use Rattle.printing.specs.Lines.{piece}
+use Rattle.tktext_c.proofs.CallLaws.{turns-on}
+use Rattle.command_effects.specs.declared.answers.Fault.TheVariants as fault
 use Rattle.tktext_c.specs.declared.ends.Given.TheVariants as given
 use Rattle.tktext_c.specs.declared.ends.TurnEnd.TheVariants as turn
 use Rattle.tktext_c.specs.declared.ends.CallEnd.TheVariants as call
 use Rattle.tktext_c.specs.declared.session.Said.TheVariants as says
-use Rattle.tktext_c.proofs.CallLaws.{turns-on}
 
 -- ---- a command of the world
 

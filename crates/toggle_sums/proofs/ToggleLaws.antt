@@ -4,9 +4,9 @@ use Rattle.toggle_sums.proofs.Words.{◌++◌, length, take, sym, ap, ◌∙◌,
 use Rattle.toggle_sums.proofs.Words.{differing, contains-differing, differing-associative, differing-empty, either}
 use Rattle.toggle_sums.proofs.Words.{empty-differing, empty-union, union-associative}
 use Rattle.std.proofs.lemmas.List.Sums.{sum_by-cons}
-use Rattle.std.specs.FinSet as set
 use Rattle.std.specs.Prelude.{slice_get, Some}
 use Rattle.toggle_sums.specs.Toggles.{parity, presence, tags_from, toggle_count}
+use Rattle.std.specs.FinSet as set
 
 pub parity-append : (first second : List Slots) → parity (first ++ second) ≡ differing (parity first) (parity second)
 parity-append [] second = sym (empty-differing (parity second))

@@ -10,10 +10,10 @@ use Rattle.toggle_sums.proofs.Words.{words_of-slots_of}
 use Rattle.std.proofs.lemmas.Nat.Bits.{bit_at-lt, bit_at-zero, bit_at_or, bit_at_xor, bit_at_set_same, bit_at_set_other}
 use Rattle.std.proofs.lemmas.Nat.Bits.{bit_at-pow_same, bit_at-pow_other, shr_and_one}
 use Rattle.std.proofs.Math.Pow.{pow-lt}
-use Rattle.std.specs.FinSet as set
 use Rattle.std.specs.Int.{bit_at}
 use Rattle.text_model.specs.TagBitLaws.{contains_inserted, contains-slots_below}
 use Rattle.text_model.proofs.TagSteps.{has_bit-with_word, with_word}
+use Rattle.std.specs.FinSet as set
 
 -- ---- zeros
 pub zeros_at : (count i : ℕ) → slice_index (replicate count 0) i ≡ 0

@@ -1,6 +1,6 @@
 use Rattle.line_lists.proofs.Words.{sym, ap, ◌∙◌, Count, has_toggle}
-use Rattle.std.specs.FinSet as set
 use Rattle.line_lists.proofs.ListLaws.{passed-all, passed-more, passed-stops}
+use Rattle.std.specs.FinSet as set
 use Rattle.line_lists.proofs.line_vec.first_with.Goals as goal
 
 pub loop-index-preserved : goal.loop-index-preserved

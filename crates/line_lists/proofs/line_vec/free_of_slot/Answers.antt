@@ -1,8 +1,8 @@
 use Rattle.line_lists.proofs.Words.{sym, ap, ◌∙◌, arith, Count, has_toggle}
-use Rattle.std.specs.FinSet as set
 use Rattle.line_lists.proofs.ListLaws.{left-more, left-none, left-stops}
-use Rattle.line_lists.proofs.line_vec.free_of_slot.Goals as goal
 use Rattle.line_lists.proofs.line_vec.free_of_slot.Goals.{then-loop-start-test+else-not-has, else-loop-start-test}
+use Rattle.std.specs.FinSet as set
+use Rattle.line_lists.proofs.line_vec.free_of_slot.Goals as goal
 
 pub loop-start-preserved : goal.loop-start-preserved
 loop-start-preserved c =

@@ -1,8 +1,8 @@
 use Rattle.line_lists.proofs.Words.{◌≡◌, ◌<◌, ◌≤◌, [], Some, ap, subst, sym, ◌∙◌, arith, All, MarkNo, Place}
-use Rattle.std.specs.FinMap as finite
 use Rattle.std.specs.Option.{option_map}
 use Rattle.line_lists.proofs.FreedLaws.{all-numbers, number-there, numbers-more}
 use Rattle.line_lists.proofs.GatherLaws.{bound-more}
+use Rattle.std.specs.FinMap as finite
 use Rattle.line_lists.proofs.pieces.bound_with.Goals as goal
 
 pub unwrap-requires : goal.unwrap-requires

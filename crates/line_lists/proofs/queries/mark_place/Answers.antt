@@ -1,12 +1,12 @@
 use Rattle.line_lists.proofs.Words.{◌≡◌, ◌+◌, ◌≤◌, ◌∙◌, length, ap, sym, true, false, arith, is_some, Place}
 use Rattle.line_lists.proofs.Words.{LineContent, has_mark}
-use Rattle.std.specs.FinMap as finite
 use Rattle.line_lists.proofs.CountRows.{count-characters}
 use Rattle.line_lists.proofs.LineStarts.{lent, placed-most, start_of}
 use Rattle.line_lists.proofs.MarkPlaces.{mark-nowhere, mark-out}
 use Rattle.line_lists.proofs.NearMarks.{if_some}
 use Rattle.line_lists.proofs.PlaceRows.{length-content}
 use Rattle.line_lists.proofs.SearchRows.{next-found, next-none}
+use Rattle.std.specs.FinMap as finite
 use Rattle.line_lists.proofs.queries.mark_place.Goals as goal
 
 pub returns-in_err-start-clause-value : goal.returns-in_err-start-clause-value

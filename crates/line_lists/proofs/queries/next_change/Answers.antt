@@ -1,6 +1,5 @@
 use Rattle.line_lists.proofs.Words.{ℕ, ◌+◌, ◌<◌, length, ◌∙◌, ap, sym, subst, suc, arith, refl, add-one, length-map}
 use Rattle.line_lists.proofs.Words.{Cell, flags, next_change-above, has_toggle, next_line, content_of}
-use Rattle.std.specs.FinSet as set
 use Rattle.line_lists.proofs.CountRows.{count-characters, count-lines}
 use Rattle.line_lists.proofs.LineStarts.{lent-inner, near-column, near-most, placed-most}
 use Rattle.line_lists.proofs.NearChanges.{change-here, change-later, change-nowhere, lent-next, lent-none-next}
@@ -8,6 +7,7 @@ use Rattle.line_lists.proofs.NearMarks.{if_some}
 use Rattle.line_lists.proofs.PlaceRows.{length-content}
 use Rattle.line_lists.proofs.SearchRows.{line_at, next-found, next-none}
 use Rattle.line_lists.proofs.ToggleColumns.{some-toggle}
+use Rattle.std.specs.FinSet as set
 use Rattle.line_lists.proofs.queries.next_change.Goals as goal
 
 pub line_at-index-requires : goal.line_at-index-requires

@@ -1,6 +1,5 @@
 use Rattle.line_lists.proofs.Words.{ℕ, ◌+◌, ◌<◌, ◌≤◌, ◌∙◌, ap, sym, subst, arith, length, refl, length-map, Cell, flags}
 use Rattle.line_lists.proofs.Words.{previous_change-below, has_toggle, content_of, whole}
-use Rattle.std.specs.FinSet as set
 use Rattle.line_lists.proofs.CountRows.{count-characters}
 use Rattle.line_lists.proofs.LineStarts.{at-within, length_at, lent-length, near-column, placed-most}
 use Rattle.line_lists.proofs.NearChanges.{change-back, change-earlier, change-first, lent-none-previous, lent-previous}
@@ -8,6 +7,7 @@ use Rattle.line_lists.proofs.NearMarks.{if_some}
 use Rattle.line_lists.proofs.PlaceRows.{length-content}
 use Rattle.line_lists.proofs.SearchRows.{line_at, previous-found, previous-none}
 use Rattle.line_lists.proofs.ToggleColumns.{some-toggle}
+use Rattle.std.specs.FinSet as set
 use Rattle.line_lists.proofs.queries.previous_change.Goals as goal
 
 pub previous_toggle-requires-clause-within : goal.previous_toggle-requires-clause-within

@@ -1,6 +1,6 @@
 use Rattle.line_lists.proofs.Words.{◌∙◌, ap, sym, Slots}
-use Rattle.std.specs.FinSet as set
 use Rattle.line_lists.proofs.SwitchLaws.{opposite, same_flag, switched_one, unswitched}
+use Rattle.std.specs.FinSet as set
 use Rattle.line_lists.proofs.steps.switched_slots.Goals as goal
 
 pub returns-then-has-is_on : goal.returns-then-has-is_on

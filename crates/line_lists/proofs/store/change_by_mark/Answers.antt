@@ -1,8 +1,8 @@
 use Rattle.line_lists.proofs.Words.{refl, Change}
 use Rattle.line_lists.proofs.MoveLaws.{Brings, moved-can, moved-new}
 use Rattle.line_lists.proofs.store.change_by_mark.Given.{Over}
-use Rattle.line_lists.proofs.store.change_by_mark.Goals as goal
 use Rattle.line_lists.proofs.store.change_by_mark.Goals.{In_ok-piece}
+use Rattle.line_lists.proofs.store.change_by_mark.Goals as goal
 
 -- the piece brings the copied line
 brings : (g : Over) (c : In_ok-piece g) → Brings c.in_ok-copy.copy c.in_ok-piece.piece

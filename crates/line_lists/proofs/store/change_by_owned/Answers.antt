@@ -1,7 +1,7 @@
 use Rattle.line_lists.proofs.Words.{length, sym, ap, ◌∙◌, arith, drafted_at, whole}
-use Rattle.std.specs.FinSet as set
 use Rattle.line_lists.proofs.PlaceRows.{length-cells}
 use Rattle.line_lists.proofs.StoreLaws.{some-text}
+use Rattle.std.specs.FinSet as set
 use Rattle.line_lists.proofs.store.change_by_owned.Goals as goal
 
 pub make_steps-requires-clause-len : goal.make_steps-requires-clause-len

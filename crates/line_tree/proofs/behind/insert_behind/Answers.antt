@@ -1,6 +1,5 @@
 use Rattle.line_tree.proofs.Words.{◌≡◌, ◌+◌, ◌-◌, suc, sym, ap, ◌∙◌, subst, arith, None, insert, CanPut, Fills, sum_all}
 use Rattle.line_tree.proofs.Words.{kids, row, plus, records, sum_at}
-use Rattle.std.specs.FinMap as finite
 use Rattle.line_tree.proofs.BehindLaws.{Base, Climbs, above-of, base-of, climbed, named-behind, parent-behind}
 use Rattle.line_tree.proofs.BehindLaws.{some-parent}
 use Rattle.line_tree.proofs.InsertLaws.{has-now, low-can_put, low-inserts, low-sum, one-fits, one-inserts, one-sum}
@@ -8,8 +7,9 @@ use Rattle.line_tree.proofs.RoomLaws.{len-puts, len-resummed}
 use Rattle.line_tree.proofs.ShiftLaws.{has-room, shifted-fills, shifted-fits, shifted-row, shifted-sum}
 use Rattle.line_tree.proofs.TreeLaws.{named-tree, row-tree}
 use Rattle.line_tree.proofs.behind.insert_behind.Given.{Over}
-use Rattle.line_tree.proofs.behind.insert_behind.Goals as goal
 use Rattle.line_tree.proofs.behind.insert_behind.Goals.{After-slot-slot}
+use Rattle.std.specs.FinMap as finite
+use Rattle.line_tree.proofs.behind.insert_behind.Goals as goal
 
 pub parent-requires : goal.parent-requires
 parent-requires g c = let m = records c.args.store.now in

@@ -1,6 +1,6 @@
 use Rattle.line_tree.proofs.Words.{◌≡◌, ◌≤◌, records, rooms, spares}
-use Rattle.std.specs.FinMap as finite
 use Rattle.line_tree.proofs.BehindLaws.{Climbs}
+use Rattle.std.specs.FinMap as finite
 use Rattle.line_tree.proofs.behind.insert_behind.Given as goal
 
 abbrev pub invariant-loop-level : goal.invariant-loop-level

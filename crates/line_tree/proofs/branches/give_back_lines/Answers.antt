@@ -4,8 +4,8 @@ use Rattle.line_tree.proofs.AmongLaws.{among-take}
 use Rattle.line_tree.proofs.GivingLaws.{gives-line, line-apart, line-named, line-roomless, no-line, without-line}
 use Rattle.line_tree.proofs.RowLaws.{none_of, past}
 use Rattle.line_tree.proofs.TreeLaws.{named-tree, row-tree}
-use Rattle.line_tree.proofs.branches.give_back_lines.Goals as goal
 use Rattle.line_tree.proofs.branches.give_back_lines.Goals.{in-Some, in_default}
+use Rattle.line_tree.proofs.branches.give_back_lines.Goals as goal
 
 pub child-requires-clause-name : goal.child-requires-clause-name
 child-requires-clause-name g c = let m = records c.args.store.now in let p = c.args.node in

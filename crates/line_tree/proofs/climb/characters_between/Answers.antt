@@ -1,8 +1,8 @@
 use Rattle.line_tree.proofs.Words.{◌+◌, ◌≤◌, take, sym, ap, ◌∙◌, arith, sum_by, take-take, sum_by-take-le, kids}
 use Rattle.line_tree.proofs.Words.{records, characters_at}
 use Rattle.line_tree.proofs.RowLaws.{child_is, none_of, size_is, step_no, step_yes}
-use Rattle.line_tree.proofs.climb.characters_between.Goals as goal
 use Rattle.line_tree.proofs.climb.characters_between.Goals.{in-Some, in_default}
+use Rattle.line_tree.proofs.climb.characters_between.Goals as goal
 
 pub size-more-requires : goal.size-more-requires
 size-more-requires g c = let m = records c.args.store.now in

@@ -3,8 +3,8 @@ use Rattle.line_tree.proofs.Words.{lines_in, records, IsLineAt, Sits}
 use Rattle.line_tree.proofs.PlaceLaws.{Up, child-named, child-parent, level, line-within, sits, up_from}
 use Rattle.line_tree.proofs.TreeLaws.{row-tree}
 use Rattle.line_tree.proofs.climb.rank.Given.{Over}
-use Rattle.line_tree.proofs.climb.rank.Goals as goal
 use Rattle.line_tree.proofs.climb.rank.Goals.{After-ahead-arg-1}
+use Rattle.line_tree.proofs.climb.rank.Goals as goal
 
 start : (m : Records) (h : ℕ) (r p : NodePtr) (o : ℕ) → Sits m h 0 r p o → Sits m (h - 0) 0 r p o
 start m h r p o s = let e : h ≡ h - 0 = omega arith in subst (λ x. Sits m x 0 r p o) e s

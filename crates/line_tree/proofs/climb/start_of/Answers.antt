@@ -5,8 +5,8 @@ use Rattle.line_tree.proofs.LocateLaws.{size-below}
 use Rattle.line_tree.proofs.PlaceLaws.{child-named, child-parent}
 use Rattle.line_tree.proofs.TreeLaws.{row-tree}
 use Rattle.line_tree.proofs.climb.start_of.Given.{Over}
-use Rattle.line_tree.proofs.climb.start_of.Goals as goal
 use Rattle.line_tree.proofs.climb.start_of.Goals.{After-characters_ahead-arg-1}
+use Rattle.line_tree.proofs.climb.start_of.Goals as goal
 
 from-none : (m : Records) (h : ℕ) (r p : NodePtr) (b : ℕ) → Begins m h 0 r p b → Begins m (h - 0) 0 r p b
 from-none m h r p b s = let e : h ≡ h - 0 = omega arith in subst (λ x. Begins m x 0 r p b) e s

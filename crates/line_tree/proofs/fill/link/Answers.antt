@@ -1,7 +1,7 @@
 use Rattle.line_tree.proofs.Words.{sym, ap, ◌∙◌, subst, Some, IsSome, link_one, records, update, with_child}
 use Rattle.line_tree.proofs.Words.{with_parent, named-update}
-use Rattle.std.specs.FinMap as finite
 use Rattle.line_tree.proofs.RowLaws.{none_of}
+use Rattle.std.specs.FinMap as finite
 use Rattle.line_tree.proofs.fill.link.Goals as goal
 
 pub set_parent-requires : goal.set_parent-requires

@@ -2,7 +2,6 @@ use Rattle.line_tree.proofs.Words.{◌≡◌, ◌-◌, ◌≤◌, ℕ, List, Som
 use Rattle.line_tree.proofs.Words.{length-drop, None, not, IfSome, IsSome, slice_get, Option, insert, take_all}
 use Rattle.line_tree.proofs.Words.{length-insert, Among, CanFill, CanPut, FitsSum, Stay, refilled, sum_all, sums, Count}
 use Rattle.line_tree.proofs.Words.{plus, NodePtr, Records, blank, kids, row, records, sum_at, HasRow}
-use Rattle.std.specs.FinMap as finite
 use Rattle.line_tree.proofs.AmongLaws.{among-drop, among-take, get-among}
 use Rattle.line_tree.proofs.FillLaws.{row-some, sums-row}
 use Rattle.line_tree.proofs.RowLaws.{sum_is}
@@ -11,6 +10,7 @@ use Rattle.line_tree.proofs.TreeLaws.{named-row}
 use Rattle.line_tree.proofs.PutLaws.{fill-left, fill-right, first-fits, halves-sum, kept-left, last-fits, left-sums}
 use Rattle.line_tree.proofs.PutLaws.{named-all, right-sums}
 use Rattle.line_tree.proofs.ShiftLaws.{has-none, has-room, shifted-fills, shifted-fits, shifted-row, shifted-sum}
+use Rattle.std.specs.FinMap as finite
 use Rattle.line_tree.proofs.fill.put.Goals as goal
 
 -- the last ones of thirteen

@@ -1,8 +1,8 @@
 use Rattle.line_tree.proofs.Words.{◌+◌, sym, ◌∙◌, subst, arith, refl, IsSome, same_Some, records}
-use Rattle.std.specs.FinMap as finite
 use Rattle.line_tree.proofs.RowLaws.{none_of}
 use Rattle.line_tree.proofs.ShiftLaws.{Shifting, shift-child, shift-first, shift-last, shift-named, shift-next}
 use Rattle.line_tree.proofs.ShiftLaws.{shift-within}
+use Rattle.std.specs.FinMap as finite
 use Rattle.line_tree.proofs.fill.shift.Goals as goal
 
 pub loop-next-init : goal.loop-next-init

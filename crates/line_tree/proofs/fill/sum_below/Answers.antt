@@ -4,8 +4,8 @@ use Rattle.line_tree.proofs.Words.{plus, FitsSum, sum_or_none, sums, NodePtr, Re
 use Rattle.line_tree.proofs.Words.{length-row, HasRow}
 use Rattle.line_tree.proofs.RowLaws.{added_is, asks, child_is, none_of, sums-step}
 use Rattle.line_tree.proofs.SumLaws.{fits-both, fits-left}
-use Rattle.line_tree.proofs.fill.sum_below.Goals as goal
 use Rattle.line_tree.proofs.fill.sum_below.Goals.{in-Some, in_default}
+use Rattle.line_tree.proofs.fill.sum_below.Goals as goal
 
 -- what the child at a slot adds
 some_step : (m : Records) (p : NodePtr) (has : HasRow m p) (i : ℕ) (d : NodePtr) → i < 12 →

@@ -4,8 +4,8 @@ use Rattle.line_tree.proofs.Words.{plus-associative, plus-no_text, CountsFit, pl
 use Rattle.line_tree.proofs.Words.{Records, records, sum_at}
 use Rattle.line_tree.proofs.RowLaws.{added_is, asks, none_of}
 use Rattle.line_tree.proofs.SumLaws.{fits-both, fits-left}
-use Rattle.line_tree.proofs.fill.sum_of.Goals as goal
 use Rattle.line_tree.proofs.fill.sum_of.Goals.{in-Some, in_default}
+use Rattle.line_tree.proofs.fill.sum_of.Goals as goal
 
 -- what the node at a slot adds
 some_step : (m : Records) (os : List (Option NodePtr)) (i : ℕ) (d : Option NodePtr) (c : NodePtr) →

@@ -2,8 +2,8 @@ use Rattle.line_tree.proofs.Words.{◌≡◌, ℕ, ◌-◌, take, sym, ap, subst
 use Rattle.line_tree.proofs.Words.{nothing-adds, Finds, Reaches, sum_below}
 use Rattle.line_tree.specs.declared.search.Reached.{Reached}
 use Rattle.line_tree.proofs.SearchLaws.{wide-all}
-use Rattle.line_tree.proofs.find.find_among.Goals as goal
 use Rattle.line_tree.proofs.find.find_among.Goals.{then-k-lines, else-k-lines}
+use Rattle.line_tree.proofs.find.find_among.Goals as goal
 
 finds : (m : Records) (p : NodePtr) (k : ℕ) (r : Reached ℕ) → Reaches (λ s. s.lines) (λ s. s.lines) m p k r →
     Finds m p k (record { child = r.child; slot = r.slot; lines = r.size; rest = r.rest })

@@ -1,6 +1,6 @@
 use Rattle.line_tree.proofs.Words.{◌≡◌, ◌-◌, length, vec_len, take}
-use Rattle.std.specs.FinMap as finite
 use Rattle.line_tree.proofs.TableLaws.{Written}
+use Rattle.std.specs.FinMap as finite
 use Rattle.line_tree.proofs.mark_names.write.Given as goal
 
 abbrev pub invariant-loop-number : goal.invariant-loop-number

@@ -4,13 +4,13 @@ use Rattle.line_tree.proofs.NearestLaws.{child-is, child-within, found-within, l
 use Rattle.line_tree.proofs.NearestLaws.{next-missed, none-next, past-next}
 use Rattle.line_tree.proofs.RowLaws.{child_is, lines_is, none_of, said, step_no, step_yes}
 use Rattle.line_tree.proofs.TreeLaws.{count-tree, named-tree, row-above, sum-tree}
-use Rattle.line_tree.proofs.nearest.+next.Goals as goal
 use Rattle.line_tree.proofs.nearest.+next.Goals.{else-rest-lines, in-Some, in_default}
 use Rattle.line_tree.proofs.nearest.+next.Goals.{then-rest-lines+then-is_in+in_default-next}
 use Rattle.line_tree.proofs.nearest.+next.Goals.{else-rest-lines-via-else-rest-lines}
 use Rattle.line_tree.proofs.nearest.+next.Goals.{else-rest-lines-via-then-rest-lines+else-is_in}
 use Rattle.line_tree.proofs.nearest.+next.Goals.{then-from-lines-via-then-from-lines}
 use Rattle.line_tree.proofs.nearest.+next.Goals.{then-from-lines-via-else-from-lines+then-not-is_in}
+use Rattle.line_tree.proofs.nearest.+next.Goals as goal
 
 pub lines-requires : goal.lines-requires
 lines-requires g t c = named-tree (records c.args.store.now) c.args.height c.args.node c.requires.tree

@@ -6,11 +6,11 @@ use Rattle.line_tree.proofs.NearestLaws.{previous-end, previous-hit, previous-mi
 use Rattle.line_tree.proofs.RowLaws.{child_is, lines_is, none_of, said, step_no, step_yes}
 use Rattle.line_tree.proofs.TreeLaws.{count-tree, named-tree, row-above, sum-tree}
 use Rattle.line_tree.proofs.nearest.+previous.Given.{Over}
-use Rattle.line_tree.proofs.nearest.+previous.Goals as goal
 use Rattle.line_tree.proofs.nearest.+previous.Goals.{After-min-rest, else-rest-gt0-via-else-rest-gt0}
 use Rattle.line_tree.proofs.nearest.+previous.Goals.{else-rest-gt0-via-then-rest-gt0+else-is_in}
 use Rattle.line_tree.proofs.nearest.+previous.Goals.{then-to-eq0-via-then-to-eq0}
 use Rattle.line_tree.proofs.nearest.+previous.Goals.{then-to-eq0-via-else-to-eq0+then-not-is_in}
+use Rattle.line_tree.proofs.nearest.+previous.Goals as goal
 
 pub is_in-requires-clause-named : goal.is_in-requires-clause-named
 is_in-requires-clause-named g t c = named-tree (records c.args.store.now) c.args.height c.args.node c.requires.tree

@@ -1,10 +1,10 @@
 use Rattle.line_tree.proofs.Words.{◌≤◌, length, take, drop, length-take, sym, ap, ◌∙◌, subst, arith, slice_get, CanFill}
 use Rattle.line_tree.proofs.Words.{FitsSum, sums, records}
-use Rattle.std.specs.FinMap as finite
 use Rattle.line_tree.proofs.AmongLaws.{get-among}
 use Rattle.line_tree.proofs.FillLaws.{row-some, sums-row}
 use Rattle.line_tree.proofs.RoomLaws.{len-refilled}
 use Rattle.line_tree.proofs.RootLaws.{can-top}
+use Rattle.std.specs.FinMap as finite
 use Rattle.line_tree.proofs.raise.above.Goals as goal
 
 pub sum_of-sum-requires : goal.sum_of-sum-requires

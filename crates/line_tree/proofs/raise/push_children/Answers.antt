@@ -2,8 +2,8 @@ use Rattle.line_tree.proofs.Words.{◌++◌, sym, ap, ◌∙◌, arith, vec_capa
 use Rattle.line_tree.proofs.Words.{kids, records}
 use Rattle.std.specs.Global.{Global}
 use Rattle.line_tree.proofs.RaiseLaws.{grown}
-use Rattle.line_tree.proofs.raise.push_children.Goals as goal
 use Rattle.line_tree.proofs.raise.push_children.Goals.{in-Some, in_default}
+use Rattle.line_tree.proofs.raise.push_children.Goals as goal
 
 pub loop-slot-preserved : goal.loop-slot-preserved
 loop-slot-preserved g c =

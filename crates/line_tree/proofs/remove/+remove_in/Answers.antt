@@ -2,7 +2,6 @@ use Rattle.line_tree.proofs.Words.{◌≡◌, ℕ, zero, suc, ◌+◌, ◌-◌, 
 use Rattle.line_tree.proofs.Words.{arith, Some, None, ap, ◌∙◌, IsSome, remove, FitsSum, resummed, sum_all, IsTree}
 use Rattle.line_tree.proofs.Words.{Links, lines_in, sum_at, sum_of, NodePtr, Records, kids, row, plus, records}
 use Rattle.line_tree.proofs.Words.{same_Some, Found, CanRemove, Cleans, Removes, Settles}
-use Rattle.std.specs.FinMap as finite
 use Rattle.line_tree.proofs.FillLaws.{sums-row}
 use Rattle.line_tree.proofs.KeptLaws.{kept-whole}
 use Rattle.line_tree.proofs.RowLaws.{lines_is, sum_is}
@@ -13,6 +12,7 @@ use Rattle.line_tree.proofs.RemoveSteps.{one-fill, one-long, one-removes, one-su
 use Rattle.line_tree.proofs.RoomLaws.{len-gone, len-refilled, len-resummed, len-settles}
 use Rattle.line_tree.proofs.TreeLaws.{below-tree, named-tree, row-tree, tops-tree_at, whole-below}
 use Rattle.line_tree.proofs.UpdateLaws.{InnerIn, inner-refilled, named-refilled, room-given}
+use Rattle.std.specs.FinMap as finite
 use Rattle.line_tree.proofs.remove.+remove_in.Goals as goal
 
 above : (m : Records) (h j : ℕ) (p : NodePtr) (k : ℕ) → j < h → (h ≡ j + 1 → ⊥) → CanRemove m h p k →

@@ -2,12 +2,12 @@ use Rattle.line_tree.proofs.Words.{◌≡◌, ℕ, ◌-◌, ◌<◌, suc, length
 use Rattle.line_tree.proofs.Words.{IsSome, length-map, slice_get-get_or, IsBalancedRoot, NodePtr, Records, update}
 use Rattle.line_tree.proofs.Words.{with_parent, kids, records, tree_at, len-update, named-update, HasRow, CanLower}
 use Rattle.line_tree.proofs.Words.{Lowers}
-use Rattle.std.specs.FinMap as finite
 use Rattle.line_tree.proofs.LowerLaws.{lowers-child, lowers-same, only-child}
 use Rattle.line_tree.proofs.PutLaws.{count-row}
 use Rattle.line_tree.proofs.RoomLaws.{len-gone}
 use Rattle.line_tree.proofs.TreeLaws.{named-row, row-tree}
 use Rattle.line_tree.proofs.UpdateLaws.{InnerIn, inner-row, inner-update, room-given}
+use Rattle.std.specs.FinMap as finite
 use Rattle.line_tree.proofs.remove.lower.Goals as goal
 
 above : (m : Records) (h : ℕ) (r : NodePtr) → 0 < h → (h ≡ 1 → ⊥) → CanLower m h r → CanLower m (suc (suc (h - 2))) r

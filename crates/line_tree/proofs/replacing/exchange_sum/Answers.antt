@@ -1,12 +1,12 @@
 use Rattle.line_tree.proofs.Words.{◌≡◌, sym, ap, ◌∙◌, subst, arith, IfSome, CanExchange, Count, IsWithin, exchanged}
 use Rattle.line_tree.proofs.Words.{plus, without, FitsSum, sums, kids, row, records, sum_of, with_sum, same_slots}
-use Rattle.std.specs.FinSet as set
 use Rattle.toggle_sums.proofs.ExchangeLaws.{union-part}
 use Rattle.line_tree.proofs.KeptLaws.{update-as}
 use Rattle.line_tree.proofs.LessLaws.{without-plus}
 use Rattle.line_tree.proofs.ReplacingLaws.{within-both}
 use Rattle.line_tree.proofs.SumLaws.{fits-both}
 use Rattle.line_tree.proofs.UpdateLaws.{inner-row}
+use Rattle.std.specs.FinSet as set
 use Rattle.line_tree.proofs.replacing.exchange_sum.Goals as goal
 
 pub exchange-requires : goal.exchange-requires

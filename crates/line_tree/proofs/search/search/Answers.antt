@@ -2,8 +2,8 @@ use Rattle.line_tree.proofs.Words.{◌+◌, sym, ap, ◌∙◌, subst, arith, ki
 use Rattle.line_tree.proofs.PrefixLaws.{sum-none}
 use Rattle.line_tree.proofs.RowLaws.{asks, child_is, none_of, said}
 use Rattle.line_tree.proofs.SearchLaws.{behind-more, fits-child, steps-more, steps-within, wide-more}
-use Rattle.line_tree.proofs.search.search.Goals as goal
 use Rattle.line_tree.proofs.search.search.Goals.{in-Some+else-rest-width, in_default}
+use Rattle.line_tree.proofs.search.search.Goals as goal
 
 pub read-size-requires : goal.read-size-requires
 read-size-requires g c = let m = records c.args.store.now in

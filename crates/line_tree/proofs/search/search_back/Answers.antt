@@ -2,8 +2,8 @@ use Rattle.line_tree.proofs.Words.{◌≡◌, ◌+◌, ◌-◌, sym, ap, ◌∙�
 use Rattle.line_tree.proofs.PrefixLaws.{sum-none}
 use Rattle.line_tree.proofs.RowLaws.{asks, child_is, none_of, said}
 use Rattle.line_tree.proofs.SearchLaws.{behind-last, steps-more, steps-within, wide-more}
-use Rattle.line_tree.proofs.search.search_back.Goals as goal
 use Rattle.line_tree.proofs.search.search_back.Goals.{in-Some+else-rest-width, in_default}
+use Rattle.line_tree.proofs.search.search_back.Goals as goal
 
 pub loop-back-init : goal.loop-back-init
 loop-back-init g c = let m = records c.args.store.now in let cs = kids m c.args.node in

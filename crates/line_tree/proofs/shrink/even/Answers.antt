@@ -1,13 +1,13 @@
 use Rattle.line_tree.proofs.Words.{◌≡◌, ◌+◌, ◌/◌, ◌≤◌, ◌++◌, ℕ, List, length, take, drop, sym, ap, subst, ◌∙◌, arith}
 use Rattle.line_tree.proofs.Words.{length-append, IfSome, take-append-le, take_all, CanEven, FitsSum, Halves, refilled}
 use Rattle.line_tree.proofs.Words.{sum_all, sums, Count, CountsFit, plus, NodePtr, Records, kids, row, records, sum_at}
-use Rattle.std.specs.FinMap as finite
 use Rattle.line_tree.proofs.EvenLaws.{fill-whole, kept-part, whole-sum}
 use Rattle.line_tree.proofs.FillLaws.{sums-row}
 use Rattle.line_tree.proofs.PutLaws.{count-row}
 use Rattle.line_tree.proofs.RowLaws.{added_is, asks, sum_is}
 use Rattle.line_tree.proofs.SumLaws.{fits-both}
 use Rattle.line_tree.proofs.TreeLaws.{named-row}
+use Rattle.std.specs.FinMap as finite
 use Rattle.line_tree.proofs.shrink.even.Goals as goal
 
 whole : (all : List NodePtr) → length all ≤ 12 → row (take 12 (drop 0 all)) ≡ row all

@@ -1,7 +1,6 @@
 use Rattle.line_tree.proofs.Words.{◌≡◌, ◌-◌, ◌<◌, ◌≤◌, ◌++◌, ℕ, List, length, take, drop, sym, ap, subst, ◌∙◌, arith}
 use Rattle.line_tree.proofs.Words.{IfSome, Option, take-append-drop, plus-commutative, CanEven, FitsSum, sum_all, sums}
 use Rattle.line_tree.proofs.Words.{Count, plus, NodePtr, Records, kids, row, records}
-use Rattle.std.specs.FinMap as finite
 use Rattle.line_tree.proofs.AmongLaws.{among-drop, among-take}
 use Rattle.line_tree.proofs.EvenLaws.{halves, named-part}
 use Rattle.line_tree.proofs.FillLaws.{sum_all-append, sums-row}
@@ -10,6 +9,7 @@ use Rattle.line_tree.proofs.PutLaws.{count-row}
 use Rattle.line_tree.proofs.RowLaws.{sum_is}
 use Rattle.line_tree.proofs.SumLaws.{fits-both, fits-left, fits-right}
 use Rattle.line_tree.proofs.TreeLaws.{named-row}
+use Rattle.std.specs.FinMap as finite
 use Rattle.line_tree.proofs.shrink.sum_halves.Goals as goal
 
 -- what a call says of the two

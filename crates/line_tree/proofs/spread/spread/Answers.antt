@@ -4,8 +4,8 @@ use Rattle.line_tree.proofs.Words.{slice_get_within, Halves, NodePtr, Records, k
 use Rattle.line_tree.proofs.PutLaws.{count-row}
 use Rattle.line_tree.proofs.SpreadLaws.{enough, halves-first, not-more}
 use Rattle.line_tree.proofs.spread.spread.Given.{Over}
-use Rattle.line_tree.proofs.spread.spread.Goals as goal
 use Rattle.line_tree.proofs.spread.spread.Goals.{After-children-2}
+use Rattle.line_tree.proofs.spread.spread.Goals as goal
 
 pub has_room-requires-clause-row : goal.has_room-requires-clause-row
 has_room-requires-clause-row g c = (c.requires.spread.each c.args.found.now.slot c.args.found.now.child c.requires.child).0

@@ -7,8 +7,8 @@ use Rattle.line_tree.proofs.TreeLaws.{named-row, row-tree}
 use Rattle.line_tree.proofs.NextLaws.{Child, ends-above, ends-child, ends-last, ends-level, ends-line, ends-next}
 use Rattle.line_tree.proofs.NextLaws.{ends-root}
 use Rattle.line_tree.proofs.walk.climb.Given.{Over}
-use Rattle.line_tree.proofs.walk.climb.Goals as goal
 use Rattle.line_tree.proofs.walk.climb.Goals.{After-slot-slot}
+use Rattle.line_tree.proofs.walk.climb.Goals as goal
 
 pub loop-level-init : goal.loop-level-init
 loop-level-init g c = record {

@@ -1,6 +1,6 @@
 use Rattle.script_cli.proofs.Words.{refl, ap, Some, Ok, Err, last_piece, Meets, is_refusal, texts_of}
-use Rattle.script_cli.specs.declared.turns.Met.TheVariants as met
 use Rattle.script_cli.proofs.TurnLaws.{meets, meets_command, meets_fault}
+use Rattle.script_cli.specs.declared.turns.Met.TheVariants as met
 use Rattle.script_cli.proofs.turns.take_turn.Goals as goal
 
 pub returns-in-Ok-true-clause-met : goal.returns-in-Ok-true-clause-met

@@ -1,7 +1,7 @@
 use Rattle.text_cursor.proofs.Words.{◌+◌, take, ap, sym, ◌∙◌, eq-eqb, ne_eqb, if◌then◌else◌, is_newline, last_line}
 use Rattle.text_cursor.proofs.LookLaws.{last-more}
-use Rattle.text_cursor.proofs.cursors.last_newline.Goals as goal
 use Rattle.text_cursor.proofs.cursors.last_newline.Goals.{then-character-eq10, else-character-eq10}
+use Rattle.text_cursor.proofs.cursors.last_newline.Goals as goal
 
 pub loop-index-preserved : goal.loop-index-preserved
 loop-index-preserved c =

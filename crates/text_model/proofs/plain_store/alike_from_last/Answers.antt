@@ -1,9 +1,9 @@
 use Rattle.text_model.proofs.Words.{◌≡◌, take, sym, ap, ◌∙◌, arith, suffix_len, Cell, is_alike, flags}
-use Rattle.std.specs.FinSet as set
 use Rattle.text_model.proofs.ChangeLaws.{last_more, last_stops}
-use Rattle.text_model.proofs.plain_store.alike_from_last.Goals as goal
 use Rattle.text_model.proofs.plain_store.alike_from_last.Goals.{then-loop-start-test+else-has-is_on}
 use Rattle.text_model.proofs.plain_store.alike_from_last.Goals.{else-loop-start-test}
+use Rattle.std.specs.FinSet as set
+use Rattle.text_model.proofs.plain_store.alike_from_last.Goals as goal
 
 pub loop-start-preserved : goal.loop-start-preserved
 loop-start-preserved c =

@@ -1,7 +1,7 @@
 use Rattle.text_model.proofs.Words.{Some, ap, ◌∙◌, drawn}
 use Rattle.text_model.proofs.PlaceLaws.{place_more}
-use Rattle.text_model.proofs.plain_store.draw_places.Goals as goal
 use Rattle.text_model.proofs.plain_store.draw_places.Goals.{in-None, in-Some}
+use Rattle.text_model.proofs.plain_store.draw_places.Goals as goal
 
 pub loop-place-preserved : goal.loop-place-preserved
 loop-place-preserved c =

@@ -1,7 +1,7 @@
 use Rattle.text_model.proofs.Words.{◌≢◌, arith, nat_tests}
 use Rattle.text_model.proofs.LineLaws.{line_start-next}
-use Rattle.text_model.proofs.plain_store.find_line.Goals as goal
 use Rattle.text_model.proofs.plain_store.find_line.Goals.{then-cell-eq10, else-cell-eq10}
+use Rattle.text_model.proofs.plain_store.find_line.Goals as goal
 
 pub loop-offset-preserved : goal.loop-offset-preserved
 loop-offset-preserved c =

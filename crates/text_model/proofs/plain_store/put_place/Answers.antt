@@ -1,9 +1,9 @@
 use Rattle.text_model.proofs.Words.{◌≡◌, ◌+◌, ◌-◌, ◌≤◌, ◌++◌, length, vec_len, replicate, None, ap, ◌∙◌, arith}
 use Rattle.text_model.proofs.Words.{take_all, plain_marks}
-use Rattle.std.specs.FinMap as finite
 use Rattle.text_model.proofs.PlaceLaws.{plain_marks-put, plain_marks-padded}
-use Rattle.text_model.proofs.plain_store.put_place.Goals as goal
 use Rattle.text_model.proofs.plain_store.put_place.Goals.{then-len-index+in_ok-resize, else-len-index}
+use Rattle.std.specs.FinMap as finite
+use Rattle.text_model.proofs.plain_store.put_place.Goals as goal
 
 pub returns-clause-marks : goal.returns-clause-marks
 returns-clause-marks c =

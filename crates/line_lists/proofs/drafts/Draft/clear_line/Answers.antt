@@ -2,8 +2,8 @@ use Rattle.line_lists.proofs.Words.{◌≡◌, ◌<◌, ◌+◌, ◌-◌, ◌++�
 use Rattle.line_lists.proofs.Words.{text_in, IsText, place_of, text_at, with_cleared}
 use Rattle.line_lists.proofs.ClearingLaws.{ClearsLine, clears-line}
 use Rattle.line_lists.proofs.drafts.Draft.clear_line.Given.{Over}
-use Rattle.line_lists.proofs.drafts.Draft.clear_line.Goals as goal
 use Rattle.line_lists.proofs.drafts.Draft.clear_line.Goals.{After-clear}
+use Rattle.line_lists.proofs.drafts.Draft.clear_line.Goals as goal
 
 -- the line is cleared, and its copy put back
 cleared : (g : Over) (c : After-clear g)

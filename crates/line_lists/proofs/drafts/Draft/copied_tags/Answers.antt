@@ -6,8 +6,8 @@ use Rattle.line_lists.proofs.DraftLaws.{can-follow, last_is}
 use Rattle.line_lists.proofs.FindLaws.{IsLast, the-last}
 use Rattle.line_lists.proofs.KnownLaws.{draft-there}
 use Rattle.line_lists.proofs.drafts.Draft.copied_tags.Given.{Over}
-use Rattle.line_lists.proofs.drafts.Draft.copied_tags.Goals as goal
 use Rattle.line_lists.proofs.drafts.Draft.copied_tags.Goals.{After-len}
+use Rattle.line_lists.proofs.drafts.Draft.copied_tags.Goals as goal
 
 pub but_last-slots-requires-clause-there : goal.but_last-slots-requires-clause-there
 but_last-slots-requires-clause-there g c =

@@ -4,8 +4,8 @@ use Rattle.line_lists.proofs.CountRows.{count-lines}
 use Rattle.line_lists.proofs.FindLaws.{IsKept, begin-le, kept-within, opened, opened-before, opened-kept, opened-stands}
 use Rattle.line_lists.proofs.FindLaws.{opened-stop, still, taken-kept}
 use Rattle.line_lists.proofs.drafts.Draft.copy_kept.Given.{Over}
-use Rattle.line_lists.proofs.drafts.Draft.copy_kept.Goals as goal
 use Rattle.line_lists.proofs.drafts.Draft.copy_kept.Goals.{After-push_reserved, In_ok-try_clone}
+use Rattle.line_lists.proofs.drafts.Draft.copy_kept.Goals as goal
 
 pub find_line-index-requires-clause-within : goal.find_line-index-requires-clause-within
 find_line-index-requires-clause-within g c =

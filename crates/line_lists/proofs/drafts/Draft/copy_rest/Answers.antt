@@ -2,8 +2,8 @@ use Rattle.line_lists.proofs.Words.{Vec, Global, List, ◌≡◌, ◌-◌, [], S
 use Rattle.line_lists.proofs.Words.{Copied, Stop, IsTaken, StandsAt, drafted_at, taken_lines, used}
 use Rattle.line_lists.proofs.FindLaws.{IsKept, opened, opened-rest, opened-stands, opened-stop, rest-within, still}
 use Rattle.line_lists.proofs.drafts.Draft.copy_rest.Given.{Over}
-use Rattle.line_lists.proofs.drafts.Draft.copy_rest.Goals as goal
 use Rattle.line_lists.proofs.drafts.Draft.copy_rest.Goals.{In_ok-try_clone}
+use Rattle.line_lists.proofs.drafts.Draft.copy_rest.Goals as goal
 
 pub find_line-index-requires-clause-within : goal.find_line-index-requires-clause-within
 find_line-index-requires-clause-within g c =

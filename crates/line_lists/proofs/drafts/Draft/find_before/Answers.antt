@@ -1,10 +1,10 @@
 use Rattle.line_lists.proofs.Words.{◌≡◌, ◌+◌, ◌<◌, None, get_or, length, take, ap, subst, ◌∙◌, arith, nat_cmp, take_all}
 use Rattle.line_lists.proofs.Words.{copies_of, made_lines, whole}
-use Rattle.std.specs.FinMap as finite
 use Rattle.line_lists.proofs.StandLaws.{AtCopy, at-front, front-more, none-more, stands-at, stands-found}
 use Rattle.line_lists.proofs.drafts.Draft.find_before.Given.{Over}
-use Rattle.line_lists.proofs.drafts.Draft.find_before.Goals as goal
 use Rattle.line_lists.proofs.drafts.Draft.find_before.Goals.{After-stop-item}
+use Rattle.std.specs.FinMap as finite
+use Rattle.line_lists.proofs.drafts.Draft.find_before.Goals as goal
 
 pub loop-stop-init : goal.loop-stop-init
 loop-stop-init g c = finite.get-empty nat_cmp c.args.number.0

@@ -1,11 +1,11 @@
 use Rattle.line_lists.proofs.Words.{◌≡◌, ◌+◌, ◌-◌, ◌<◌, None, length, subst, arith, lines_in, IsReached, made_lines}
 use Rattle.line_lists.proofs.Words.{StandsIn, whole}
-use Rattle.std.specs.FinMap as finite
 use Rattle.line_lists.proofs.StandLaws.{AtCopy, at-back, back-more, back-none, copies_to, none-more, none-rest}
 use Rattle.line_lists.proofs.StandLaws.{stands-at, stands-found, stands-rest}
 use Rattle.line_lists.proofs.drafts.Draft.find_behind.Given.{Over}
-use Rattle.line_lists.proofs.drafts.Draft.find_behind.Goals as goal
 use Rattle.line_lists.proofs.drafts.Draft.find_behind.Goals.{After-index-copy, In_ok-offset}
+use Rattle.std.specs.FinMap as finite
+use Rattle.line_lists.proofs.drafts.Draft.find_behind.Goals as goal
 
 pub loop-index-init : goal.loop-index-init
 loop-index-init g c =

@@ -1,12 +1,11 @@
 use Rattle.line_lists.proofs.Words.{◌≡◌, ◌<◌, min, length, sym, ap, subst, ◌∙◌, arith, eqb-true, nil_from_length}
-use Rattle.line_lists.proofs.Words.{text_in, drafted_at, with_cleared, whole}
-use Rattle.std.specs.Prelude.{vec_len}
+use Rattle.line_lists.proofs.Words.{text_in, drafted_at, with_cleared, whole, vec_len}
 use Rattle.line_lists.proofs.BeginLaws.{BeginsFree, behind-above, behind-within, free-line, free-lines}
 use Rattle.line_lists.proofs.CountRows.{count-lines}
 use Rattle.line_lists.proofs.FindLaws.{rest-within}
 use Rattle.line_lists.proofs.drafts.Draft.first_toggled.Given.{Over}
-use Rattle.line_lists.proofs.drafts.Draft.first_toggled.Goals as goal
 use Rattle.line_lists.proofs.drafts.Draft.first_toggled.Goals.{Else-has_toggle}
+use Rattle.line_lists.proofs.drafts.Draft.first_toggled.Goals as goal
 
 pub find_line-index-requires-clause-within : goal.find_line-index-requires-clause-within
 find_line-index-requires-clause-within g c =

@@ -4,10 +4,10 @@ use Rattle.line_lists.proofs.ClearingLaws.{end-kept, end-passed, end-rest, end-w
 use Rattle.line_lists.proofs.CountRows.{count-lines}
 use Rattle.line_lists.proofs.DraftLaws.{can-follow-next, last_is, no_last}
 use Rattle.line_lists.proofs.drafts.Draft.free_up_to.Given.{Over}
-use Rattle.line_lists.proofs.drafts.Draft.free_up_to.Goals as goal
 use Rattle.line_lists.proofs.drafts.Draft.free_up_to.Goals.{After-next_below-index-in-Some, In-Some}
 use Rattle.line_lists.proofs.drafts.Draft.free_up_to.Goals.{then-index-end-via-then-index-end}
 use Rattle.line_lists.proofs.drafts.Draft.free_up_to.Goals.{then-index-end-via-else-index-end+then-has_toggle}
+use Rattle.line_lists.proofs.drafts.Draft.free_up_to.Goals as goal
 
 pub characters_behind-requires-clause-counted : goal.characters_behind-requires-clause-counted
 characters_behind-requires-clause-counted g c =

@@ -4,8 +4,8 @@ use Rattle.std.proofs.lemmas.Iterator.{YieldsList-from_chars}
 use Rattle.std.proofs.lemmas.Iterator.Consumers.{count_from_yields_List}
 use Rattle.line_lists.proofs.StepTexts.{inserted-long, inserted-made, more-there, toggled-long}
 use Rattle.line_lists.proofs.drafts.Draft.insert_tagged.Given.{Over}
-use Rattle.line_lists.proofs.drafts.Draft.insert_tagged.Goals as goal
 use Rattle.line_lists.proofs.drafts.Draft.insert_tagged.Goals.{After-count-count, In_ok-insert, In_ok-longer}
+use Rattle.line_lists.proofs.drafts.Draft.insert_tagged.Goals as goal
 
 -- how many characters there are then
 counted : (g : Over) (c : After-count-count g) → c.count-count.result ≡ length (chars c.args.text.now)

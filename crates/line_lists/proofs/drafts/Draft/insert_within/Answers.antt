@@ -1,10 +1,9 @@
-use Rattle.line_lists.proofs.Words.{length, ap, ◌∙◌, arith, LineContent, after_text, lines_in, taken_in, whole}
-use Rattle.std.specs.Prelude.{chars}
+use Rattle.line_lists.proofs.Words.{length, ap, ◌∙◌, arith, LineContent, after_text, lines_in, taken_in, whole, chars}
 use Rattle.line_lists.proofs.EditLaws.{inserted-makes, length-text}
 use Rattle.line_lists.proofs.RowLaws.{Makes, made-text}
 use Rattle.line_lists.proofs.drafts.Draft.insert_within.Given.{Over}
-use Rattle.line_lists.proofs.drafts.Draft.insert_within.Goals as goal
 use Rattle.line_lists.proofs.drafts.Draft.insert_within.Goals.{In_ok-insert_text}
+use Rattle.line_lists.proofs.drafts.Draft.insert_within.Goals as goal
 
 -- what the text makes of the lines
 made : (g : Over) (c : In_ok-insert_text g) →

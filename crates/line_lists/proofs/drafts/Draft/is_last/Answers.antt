@@ -3,8 +3,8 @@ use Rattle.line_lists.proofs.Words.{line_start}
 use Rattle.line_lists.proofs.DraftLaws.{begins-by, last-begins-behind, last_is}
 use Rattle.line_lists.proofs.FindLaws.{last-starts}
 use Rattle.line_lists.proofs.drafts.Draft.is_last.Given.{Over}
-use Rattle.line_lists.proofs.drafts.Draft.is_last.Goals as goal
 use Rattle.line_lists.proofs.drafts.Draft.is_last.Goals.{After-len}
+use Rattle.line_lists.proofs.drafts.Draft.is_last.Goals as goal
 
 -- where the last copy begins
 starts : (g : Over) (c : After-len g)

@@ -3,8 +3,8 @@ use Rattle.line_lists.proofs.Words.{whole}
 use Rattle.line_lists.proofs.EditLaws.{marked-makes}
 use Rattle.line_lists.proofs.RowLaws.{Makes, made-text}
 use Rattle.line_lists.proofs.drafts.Draft.put_mark.Given.{Over}
-use Rattle.line_lists.proofs.drafts.Draft.put_mark.Goals as goal
 use Rattle.line_lists.proofs.drafts.Draft.put_mark.Goals.{In_ok-put_mark}
+use Rattle.line_lists.proofs.drafts.Draft.put_mark.Goals as goal
 
 -- what the mark makes of the lines
 made : (g : Over) (c : In_ok-put_mark g) →

@@ -3,8 +3,8 @@ use Rattle.line_lists.proofs.Words.{slice_get, Reached, CanFollow, IsDraft, IsRe
 use Rattle.line_lists.proofs.CountRows.{count-lines}
 use Rattle.line_lists.proofs.DraftLaws.{can-follow, copies-snoc, last-start, last_is, no_last, reached-more, stops-last}
 use Rattle.line_lists.proofs.drafts.Draft.reached.Given.{Over}
-use Rattle.line_lists.proofs.drafts.Draft.reached.Goals as goal
 use Rattle.line_lists.proofs.drafts.Draft.reached.Goals.{In-Some}
+use Rattle.line_lists.proofs.drafts.Draft.reached.Goals as goal
 
 -- the last copy before the place: it stands behind the others, and there are numbers for what it covers
 last : (g : Over) (c : In-Some g)

@@ -2,8 +2,8 @@ use Rattle.line_lists.proofs.Words.{Vec, Global, ◌≡◌, ◌+◌, ◌-◌, �
 use Rattle.line_lists.proofs.Words.{Stop, held_at, held_text}
 use Rattle.line_lists.proofs.HeldLaws.{Leaves, leaves-joined, leaves-within, next-there, with_line}
 use Rattle.line_lists.proofs.drafts.Draft.remove_some.Given.{Over}
-use Rattle.line_lists.proofs.drafts.Draft.remove_some.Goals as goal
 use Rattle.line_lists.proofs.drafts.Draft.remove_some.Goals.{In_ok-remove_range, In_ok-remove_range-2}
+use Rattle.line_lists.proofs.drafts.Draft.remove_some.Goals as goal
 
 -- what is left where the line goes on behind what is taken out of it
 within : (g : Over) (c : In_ok-remove_range g)

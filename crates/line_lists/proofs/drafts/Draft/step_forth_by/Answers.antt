@@ -2,8 +2,8 @@ use Rattle.line_lists.proofs.Words.{◌-◌, ◌++◌, ◌∷◌, [], length, ta
 use Rattle.line_lists.proofs.Words.{BeginsBy, IsDraft}
 use Rattle.line_lists.proofs.DraftLaws.{begins-behind, can-follow-next, forth-by, last_is}
 use Rattle.line_lists.proofs.drafts.Draft.step_forth_by.Given.{Over}
-use Rattle.line_lists.proofs.drafts.Draft.step_forth_by.Goals as goal
 use Rattle.line_lists.proofs.drafts.Draft.step_forth_by.Goals.{After-push_reserved}
+use Rattle.line_lists.proofs.drafts.Draft.step_forth_by.Goals as goal
 
 pub start_of-start-requires : goal.start_of-start-requires
 start_of-start-requires g c =

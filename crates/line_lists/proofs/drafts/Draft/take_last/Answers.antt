@@ -3,8 +3,8 @@ use Rattle.line_lists.proofs.Words.{IsDraft, copies_of, drafted_at, used}
 use Rattle.line_lists.proofs.FindLaws.{IsLast, taken-is, taken-last, the-last}
 use Rattle.line_lists.proofs.KnownLaws.{draft-there}
 use Rattle.line_lists.proofs.drafts.Draft.take_last.Given.{Over}
-use Rattle.line_lists.proofs.drafts.Draft.take_last.Goals as goal
 use Rattle.line_lists.proofs.drafts.Draft.take_last.Goals.{After-len}
+use Rattle.line_lists.proofs.drafts.Draft.take_last.Goals as goal
 
 pub leave_last-requires-clause-there : goal.leave_last-requires-clause-there
 leave_last-requires-clause-there g c =

@@ -2,8 +2,8 @@ use Rattle.line_lists.proofs.Words.{◌≡◌, length, ap, ◌∙◌, arith, Lin
 use Rattle.line_lists.proofs.EditLaws.{taken-makes}
 use Rattle.line_lists.proofs.RowLaws.{Makes, made-text}
 use Rattle.line_lists.proofs.drafts.Draft.take_mark_at.Given.{Over}
-use Rattle.line_lists.proofs.drafts.Draft.take_mark_at.Goals as goal
 use Rattle.line_lists.proofs.drafts.Draft.take_mark_at.Goals.{After-take_mark}
+use Rattle.line_lists.proofs.drafts.Draft.take_mark_at.Goals as goal
 
 -- what is left of the lines without the mark
 made : (g : Over) (c : After-take_mark g) →

@@ -2,8 +2,8 @@ use Rattle.line_lists.proofs.Words.{◌≡◌, length, ap, ◌∙◌, arith, Lin
 use Rattle.line_lists.proofs.RowLaws.{Makes, made-text, toggled-line, toggled-makes}
 use Rattle.line_lists.proofs.WholeLaws.{length-toggled}
 use Rattle.line_lists.proofs.drafts.Draft.toggle.Given.{Over}
-use Rattle.line_lists.proofs.drafts.Draft.toggle.Goals as goal
 use Rattle.line_lists.proofs.drafts.Draft.toggle.Goals.{In_ok-toggle}
+use Rattle.line_lists.proofs.drafts.Draft.toggle.Goals as goal
 
 -- what the toggles make of the lines
 made : (g : Over) (c : In_ok-toggle g) →

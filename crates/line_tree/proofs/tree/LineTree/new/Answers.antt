@@ -1,9 +1,9 @@
 use Rattle.line_tree.proofs.Words.{◌≡◌, ap, sym, ◌∙◌, [], ◌∷◌, length, subst, get-empty, FitsSum, line_count}
 use Rattle.line_tree.proofs.Words.{plain_line, records, name_cmp}
-use Rattle.std.specs.FinMap as finite
 use Rattle.line_tree.proofs.GrowLaws.{unnamed}
 use Rattle.line_tree.proofs.RootLaws.{first-root, first-root-alone, lone-fits, lone-line, new-line, new-sum}
 use Rattle.line_tree.proofs.TreeLaws.{named-tree}
+use Rattle.std.specs.FinMap as finite
 use Rattle.line_tree.proofs.tree.LineTree.new.Goals as goal
 
 pub top-root-requires-clause-child : goal.top-root-requires-clause-child

@@ -1,7 +1,6 @@
 use Rattle.line_tree.proofs.Words.{◌≡◌, ◌≤◌, ◌+◌, ◌-◌, suc, length, ap, sym, ◌∙◌, subst, arith, Some, [], ◌∷◌, insert}
 use Rattle.line_tree.proofs.Words.{length-insert, FitsSum, Records, blank, line_count, lines_in, sum_of, plus, records}
 use Rattle.line_tree.proofs.Words.{spares, total, get_inserted, Inserts, StandsAlone, IsLineAt, levels_at_most}
-use Rattle.std.specs.FinMap as finite
 use Rattle.line_tree.proofs.LevelLaws.{levels-held}
 use Rattle.line_tree.proofs.LineRoomLaws.{one-more, room-falls}
 use Rattle.line_tree.proofs.RoomLaws.{len-line, len-root}
@@ -9,6 +8,7 @@ use Rattle.line_tree.proofs.RootLaws.{can-insert, same-lines, can-root, fits-now
 use Rattle.line_tree.proofs.RootLaws.{same-root-alone}
 use Rattle.line_tree.proofs.RowLaws.{none_of}
 use Rattle.line_tree.proofs.TreeLaws.{named-tree, total-lines}
+use Rattle.std.specs.FinMap as finite
 use Rattle.line_tree.proofs.tree.LineTree.put_behind.Goals as goal
 
 pub overflow_add-self : goal.overflow_add-self

@@ -10,8 +10,8 @@ use Rattle.line_tree.proofs.RootLaws.{positive-root}
 use Rattle.line_tree.proofs.RowRootLaws.{can-lift, can-take, length-with_lines, lifted-alone, lines-lifted}
 use Rattle.line_tree.proofs.TreeLaws.{total-lines}
 use Rattle.line_tree.proofs.tree.LineTree.put_part.Given.{Over}
-use Rattle.line_tree.proofs.tree.LineTree.put_part.Goals as goal
 use Rattle.line_tree.proofs.tree.LineTree.put_part.Goals.{After-self}
+use Rattle.line_tree.proofs.tree.LineTree.put_part.Goals as goal
 
 -- what is counted of the new lines
 fits-row : (old now : List Named) (added : List Named) (new : List LineContent) → old ≡ now → contents added ≡ new →

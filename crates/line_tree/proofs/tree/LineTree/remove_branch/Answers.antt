@@ -3,8 +3,8 @@ use Rattle.line_tree.proofs.GivingLaws.{Out, branch-out}
 use Rattle.line_tree.proofs.LineRoomLaws.{fewer-lines, length-removed, room-grows}
 use Rattle.line_tree.proofs.LowerLaws.{branch-after, can-lower, can-remove}
 use Rattle.line_tree.proofs.tree.LineTree.remove_branch.Given.{Over}
-use Rattle.line_tree.proofs.tree.LineTree.remove_branch.Goals as goal
 use Rattle.line_tree.proofs.tree.LineTree.remove_branch.Goals.{After-give_back_all-lines}
+use Rattle.line_tree.proofs.tree.LineTree.remove_branch.Goals as goal
 
 pub remove_in-requires-clause-remove : goal.remove_in-requires-clause-remove
 remove_in-requires-clause-remove g c = let same = ap (λ v. length v.lines) c.self.view_is in

@@ -1,9 +1,9 @@
 use Rattle.mark_table.proofs.Words.{◌≡◌, ℕ, List, refl, ap, sym, ◌∙◌, ◌++◌, ◌∷◌, [], ◌+◌, subst, slice_set, chars}
 use Rattle.mark_table.proofs.Words.{string_bytes, without, Names, Gravity, Right, AreKept, marks_kept, with_gravity_for}
 use Rattle.mark_table.proofs.Words.{Mark, SharedMarks, is_named, number_of, numbers_of, first_number, IsLeastFree}
-use Rattle.name_list.specs.Names as list
 use Rattle.mark_table.proofs.MarkLaws.{no_place, place_of_mark, marks-back, marks-push, marks-placed, placed}
 use Rattle.mark_table.proofs.MarkLaws.{least_within, AreKept-push, IsLeastFree-number}
+use Rattle.name_list.specs.Names as list
 use Rattle.mark_table.proofs.marks.MarkTable.create.Goals as goal
 
 pub create-requires : goal.create-requires

@@ -1,8 +1,8 @@
 use Rattle.mark_table.proofs.Words.{◌+◌, max, inl, inr, sym, subst, ◌∙◌, arith, numbers_of}
 use Rattle.mark_table.proofs.SharedWalk.{Passed, Passed-more, Passed-next, Passed-start, Turns-bound, Turns-next}
 use Rattle.mark_table.proofs.SharedWalk.{IsFirst-found, IsFirst-no_next, IsFirst-none}
-use Rattle.mark_table.proofs.marks.MarkTable.next_shared.Goals as goal
 use Rattle.mark_table.proofs.marks.MarkTable.next_shared.Goals.{then-offset-bound, else-offset-bound}
+use Rattle.mark_table.proofs.marks.MarkTable.next_shared.Goals as goal
 
 pub loop-offset-init : goal.loop-offset-init
 loop-offset-init g c =

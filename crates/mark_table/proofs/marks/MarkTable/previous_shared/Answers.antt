@@ -1,8 +1,8 @@
 use Rattle.mark_table.proofs.Words.{sym, ◌∙◌, arith, length-map, Mark, numbers_of}
 use Rattle.mark_table.proofs.SharedWalk.{Ahead-start, TurnsBack-bound, TurnsBack-previous, Ahead-previous, IsLast-found}
 use Rattle.mark_table.proofs.SharedWalk.{IsLast-none, IsLast-no_previous}
-use Rattle.mark_table.proofs.marks.MarkTable.previous_shared.Goals as goal
 use Rattle.mark_table.proofs.marks.MarkTable.previous_shared.Goals.{then-offset-bound, else-offset-bound}
+use Rattle.mark_table.proofs.marks.MarkTable.previous_shared.Goals as goal
 
 pub loop-offset-init : goal.loop-offset-init
 loop-offset-init g c =

@@ -26,13 +26,13 @@ use mir.Raw.{raw as bare}
 use denote.Memory.{lone}
 use Rattle.raw_nodes.specs.contracts.nodes.Node.{the_row as N}
 use Rattle.raw_nodes.proofs.AsBox.{E, InParts}
-use Rattle.raw_nodes.specs.contracts.names.NodePtr as P
-use Rattle.raw_nodes.proofs.names.NodePtr.TheLaws as P-laws
 use Rattle.raw_nodes.specs.contracts.heap.Heap.{the_row as R}
 use Rattle.raw_nodes.proofs.HeapSteps.{both_longer}
 use Rattle.raw_nodes.proofs.HeapApart.{last_in_fresh}
-use Rattle.raw_nodes.specs.contracts.heap.Heap.adopt as f
 use Rattle.raw_nodes.proofs.heap.Heap.adopt.Statement.{statement}
+use Rattle.raw_nodes.specs.contracts.names.NodePtr as P
+use Rattle.raw_nodes.proofs.names.NodePtr.TheLaws as P-laws
+use Rattle.raw_nodes.specs.contracts.heap.Heap.adopt as f
 use Rattle.raw_nodes.proofs.heap.Heap.adopt.Code as code
 
 abbrev stayed : Stays f.ended.signature.params f.ended.kept

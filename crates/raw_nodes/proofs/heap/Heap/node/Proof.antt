@@ -19,14 +19,14 @@ use types.Logic.{sem}
 use denote.Struct.Lending.{lent_at}
 use denote.Struct.Laws.{vals, tells, lawful}
 use lib.ListN.{get_or}
-use Rattle.raw_nodes.specs.contracts.names.NodePtr as P
-use Rattle.raw_nodes.proofs.names.NodePtr.TheLaws as P-laws
 use Rattle.raw_nodes.specs.contracts.nodes.Node.{the_row as N}
 use Rattle.raw_nodes.specs.contracts.heap.Heap.{the_row as R}
 use Rattle.raw_nodes.proofs.HeapSteps.{uncons, any_default, node_lent}
 use Rattle.raw_nodes.proofs.PlaceLaws.{ptr_at_number, within_ats}
-use Rattle.raw_nodes.specs.contracts.heap.Heap.node as f
 use Rattle.raw_nodes.proofs.heap.Heap.node.Statement.{statement}
+use Rattle.raw_nodes.specs.contracts.names.NodePtr as P
+use Rattle.raw_nodes.proofs.names.NodePtr.TheLaws as P-laws
+use Rattle.raw_nodes.specs.contracts.heap.Heap.node as f
 use Rattle.raw_nodes.proofs.heap.Heap.node.Code as code
 
 abbrev stayed : Stays f.ended.signature.params f.ended.kept

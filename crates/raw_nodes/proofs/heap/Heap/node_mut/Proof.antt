@@ -27,15 +27,15 @@ use denote.Struct.Struct.{Struct}
 use denote.Triple.Walked.{Goes-spent_ref}
 use Rattle.raw_nodes.specs.Lending.{with_node}
 use Rattle.raw_nodes.specs.declared.heap.Heap.{Heap}
-use Rattle.raw_nodes.specs.contracts.names.NodePtr as P
-use Rattle.raw_nodes.proofs.names.NodePtr.TheLaws as P-laws
 use Rattle.raw_nodes.specs.contracts.nodes.Node.{the_row as N}
-use Rattle.raw_nodes.specs.contracts.heap.Heap as C
 use Rattle.raw_nodes.specs.contracts.heap.Heap.{the_row as R}
 use Rattle.raw_nodes.proofs.HeapSteps.{uncons, any_default, one_out, one_in}
 use Rattle.raw_nodes.proofs.PlaceLaws.{ptr_at_number, within_ats}
-use Rattle.raw_nodes.specs.contracts.heap.Heap.node_mut as f
 use Rattle.raw_nodes.proofs.heap.Heap.node_mut.Statement.{statement}
+use Rattle.raw_nodes.specs.contracts.names.NodePtr as P
+use Rattle.raw_nodes.proofs.names.NodePtr.TheLaws as P-laws
+use Rattle.raw_nodes.specs.contracts.heap.Heap as C
+use Rattle.raw_nodes.specs.contracts.heap.Heap.node_mut as f
 use Rattle.raw_nodes.proofs.heap.Heap.node_mut.Code as code
 
 abbrev stayed : Stays f.ended.signature.params f.ended.kept

@@ -23,14 +23,14 @@ use denote.RawPtr.{block_ptr, null_ptr, ptr_val, in_a_block}
 use denote.Signature.{type_at}
 use denote.Struct.Laws.{vals, tells, lawful}
 use Rattle.raw_nodes.proofs.AsBox.{E, Handle}
-use Rattle.raw_nodes.specs.contracts.names.NodePtr as P
-use Rattle.raw_nodes.proofs.names.NodePtr.TheLaws as P-laws
 use Rattle.raw_nodes.specs.contracts.heap.Heap.{the_row as R}
 use Rattle.raw_nodes.proofs.HeapSteps.{any_default, both_without, one_out, uncons}
 use Rattle.raw_nodes.proofs.PlaceLaws.{ptr_at_number, within_ats}
 use Rattle.raw_nodes.proofs.WithoutLaws.{map-without}
-use Rattle.raw_nodes.specs.contracts.heap.Heap.release as f
 use Rattle.raw_nodes.proofs.heap.Heap.release.Statement.{statement}
+use Rattle.raw_nodes.specs.contracts.names.NodePtr as P
+use Rattle.raw_nodes.proofs.names.NodePtr.TheLaws as P-laws
+use Rattle.raw_nodes.specs.contracts.heap.Heap.release as f
 use Rattle.raw_nodes.proofs.heap.Heap.release.Code as code
 
 abbrev stayed : Stays f.ended.signature.params f.ended.kept

@@ -1,8 +1,8 @@
 use Rattle.raw_nodes.proofs.Words.{◌≡◌, ap, sym, ◌∙◌, false, link_name, is_used, record_in}
-use Rattle.std.specs.FinSet as set
 use Rattle.raw_nodes.specs.Names.{records}
 use Rattle.raw_nodes.proofs.NameLaws.{in_use, name_place, read_entry}
 use mathlib.Core.Bool.{false≢true}
+use Rattle.std.specs.FinSet as set
 use Rattle.raw_nodes.proofs.store.NodeStore.has_toggle.Goals as goal
 
 pub node-requires : goal.node-requires

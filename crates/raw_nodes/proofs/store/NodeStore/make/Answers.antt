@@ -1,13 +1,12 @@
 use Rattle.raw_nodes.proofs.Words.{◌≡◌, ◌+◌, ◌-◌, ap, arith, set, subst, sym, refl, ◌∙◌, number_in, IsChain, marks_of}
-use Rattle.raw_nodes.proofs.Words.{nexts_of, blank, record_in, records_in, NodePtr, Node}
-use Rattle.std.proofs.Common.{Option}
-use Rattle.std.specs.FinMap as finite
+use Rattle.raw_nodes.proofs.Words.{nexts_of, blank, record_in, records_in, NodePtr, Node, Option}
 use lib.ListN.{length-set}
 use Rattle.raw_nodes.specs.Names.{records}
 use Rattle.raw_nodes.proofs.ChainLaws.{chain_head, followed_set, is_spare, listed_set, made_chain, made_count}
 use Rattle.raw_nodes.proofs.ChainLaws.{room_moved}
 use Rattle.raw_nodes.proofs.MapLaws.{len_made}
 use Rattle.raw_nodes.proofs.NameLaws.{entry_none, place_within, spare_room, written_records}
+use Rattle.std.specs.FinMap as finite
 use Rattle.raw_nodes.proofs.store.NodeStore.make.Goals as goal
 
 pub node_mut-node-requires : goal.node_mut-node-requires

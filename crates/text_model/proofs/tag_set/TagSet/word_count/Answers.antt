@@ -1,8 +1,8 @@
 use Rattle.text_model.proofs.Words.{◌≡◌, ℕ, ap, cond, refl, subst, arith, AreSlots, has_word, slots_of}
 use Rattle.text_model.specs.OneWord.{words_below}
 use Rattle.text_model.proofs.InWordLaws.{counts_none, counts_word, slots_are, words_below-le, words_below-more}
-use Rattle.text_model.proofs.tag_set.TagSet.word_count.Goals as goal
 use Rattle.text_model.proofs.tag_set.TagSet.word_count.Goals.{then-self-index-ne0, else-self-index-ne0}
+use Rattle.text_model.proofs.tag_set.TagSet.word_count.Goals as goal
 
 pub loop-index-init : goal.loop-index-init
 unfolding words_below

@@ -1,6 +1,6 @@
 -- `into_loose` gives the pointer back with what it owns.
 use Rattle.tktext_c.proofs.Words.{◌≡◌, Some, List, [], ◌∷◌, ◌++◌, refl, sym, subst, Goes-blank, handle_tells, proved_at}
-use Rattle.tktext_c.proofs.Words.{leaves}
+use Rattle.tktext_c.proofs.Words.{leaves, IsSome}
 use mir.Val.{Val, vptr}
 use base.Logic.{SProp, ent, emp, id⊢}
 use prog.Wp.{WpFn}
@@ -17,17 +17,16 @@ use denote.RawPtr.{Ptr, block_ptr}
 use denote.Steps.{nothing, heard}
 use denote.Triple.Entry.{alive}
 use denote.Triple.Walked.{Stays, stay_dropped, walk_of, Goes-dropped}
-use Rattle.std.specs.Prelude.{IsSome}
-use Rattle.std_heap.specs.contracts.Global as heap
 use Rattle.std_heap.specs.contracts.GlobalAllocator.TheImpl.{ghosts}
-use Rattle.std_heap.proofs.Global.TheLaws as heap_laws
-use Rattle.tktext_c.specs.contracts.session.Session as session
-use Rattle.tktext_c.specs.contracts.handle.Kept as kept
 use Rattle.tktext_c.proofs.Values.{both, al, loose_good, loose_in}
 use Rattle.tktext_c.proofs.KeptSteps.{word, held_some, kept_out}
 use Rattle.tktext_c.specs.contracts.handle.Kept.into_loose.{ended, clauses}
 use Rattle.tktext_c.specs.contracts.handle.Kept.into_loose.Key.{name as #self}
 use Rattle.tktext_c.proofs.handle.Kept.into_loose.Statement.{statement}
+use Rattle.std_heap.specs.contracts.Global as heap
+use Rattle.std_heap.proofs.Global.TheLaws as heap_laws
+use Rattle.tktext_c.specs.contracts.session.Session as session
+use Rattle.tktext_c.specs.contracts.handle.Kept as kept
 use Rattle.tktext_c.proofs.handle.Kept.into_loose.Code as code
 
 pub into_loose_spec : {M : Type 1} → statement M

@@ -14,11 +14,11 @@ use denote.RawPtr.{null_ptr}
 use denote.Steps.{nothing}
 use denote.Triple.Entry.{alive}
 use denote.Triple.Walked.{Stays, walk_of}
-use Rattle.tktext_c.specs.contracts.session.Session as session
 use Rattle.tktext_c.proofs.KeptSteps.{word, kept_in}
 use Rattle.tktext_c.specs.contracts.handle.Kept.nothing.{ended, clauses}
 use Rattle.tktext_c.specs.contracts.handle.Kept.nothing.Key.{name as #self}
 use Rattle.tktext_c.proofs.handle.Kept.nothing.Statement.{statement}
+use Rattle.tktext_c.specs.contracts.session.Session as session
 use Rattle.tktext_c.proofs.handle.Kept.nothing.Code as code
 
 pub nothing_spec : {M : Type 1} → statement M

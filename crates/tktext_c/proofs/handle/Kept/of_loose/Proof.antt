@@ -16,15 +16,15 @@ use denote.RawPtr.{block_ptr}
 use denote.Steps.{nothing}
 use denote.Triple.Entry.{alive}
 use denote.Triple.Walked.{Stays, stay_dropped, walk_of}
-use Rattle.std_heap.specs.contracts.Global as heap
 use Rattle.std_heap.specs.contracts.GlobalAllocator.TheImpl.{ghosts}
-use Rattle.std_heap.proofs.Global.TheLaws as heap_laws
-use Rattle.tktext_c.specs.contracts.session.Session as session
 use Rattle.tktext_c.proofs.Values.{both, Loose, loose_good, loose_out}
 use Rattle.tktext_c.proofs.KeptSteps.{word, kept_in}
 use Rattle.tktext_c.specs.contracts.handle.Kept.of_loose.{ended, clauses}
 use Rattle.tktext_c.specs.contracts.handle.Kept.of_loose.Key.{name as #self}
 use Rattle.tktext_c.proofs.handle.Kept.of_loose.Statement.{statement}
+use Rattle.std_heap.specs.contracts.Global as heap
+use Rattle.std_heap.proofs.Global.TheLaws as heap_laws
+use Rattle.tktext_c.specs.contracts.session.Session as session
 use Rattle.tktext_c.proofs.handle.Kept.of_loose.Code as code
 
 pub of_loose_spec : {M : Type 1} → statement M

@@ -14,11 +14,11 @@ use denote.Signature.{types_at, plain}
 use denote.Steps.{nothing}
 use denote.Triple.Entry.{alive}
 use denote.Triple.Walked.{Stays, stay_dropped, walk_of}
-use Rattle.tktext_c.specs.contracts.handle.Kept as kept
 use Rattle.tktext_c.proofs.KeptSteps.{word, kept_out}
 use Rattle.tktext_c.specs.contracts.handle.Kept.spent.{ended, clauses}
 use Rattle.tktext_c.specs.contracts.handle.Kept.spent.Key.{name as #self}
 use Rattle.tktext_c.proofs.handle.Kept.spent.Statement.{statement}
+use Rattle.tktext_c.specs.contracts.handle.Kept as kept
 use Rattle.tktext_c.proofs.handle.Kept.spent.Code as code
 
 pub spent_spec : {M : Type 1} → statement M

@@ -27,13 +27,13 @@ use denote.Triple.Spec.{triple_of}
 use denote.Triple.Call.{calls_at_last}
 use denote.Triple.Walked.{Stays, stay_dropped, walk_of}
 use Rattle.core.proofs.alloc.Shapes.{after}
-use Rattle.std_alloc.proofs.BoxSteps.Form as box
 use Rattle.tktext_c.proofs.Values.{both, Loose, loose_good, loose_out}
-use Rattle.std_alloc.specs.contracts.boxed.Box.from_raw as callee
 use Rattle.std_alloc.proofs.boxed.Box.from_raw.Met.{met}
 use Rattle.tktext_c.specs.contracts.loose.Loose.into_box.{ended, clauses}
 use Rattle.tktext_c.specs.contracts.loose.Loose.into_box.Key.{name as #self}
 use Rattle.tktext_c.proofs.loose.Loose.into_box.Statement.{statement}
+use Rattle.std_alloc.proofs.BoxSteps.Form as box
+use Rattle.std_alloc.specs.contracts.boxed.Box.from_raw as callee
 use Rattle.tktext_c.proofs.loose.Loose.into_box.Code as code
 
 pub into_box_spec : {M : Type 1} → statement M

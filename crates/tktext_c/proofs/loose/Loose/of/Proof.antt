@@ -28,13 +28,13 @@ use denote.Struct.Tuple.{Tuple}
 use denote.Triple.Spec.{triple_of}
 use denote.Triple.Call.{calls_at}
 use denote.Triple.Walked.{Stays, stay_dropped, walk_of}
-use Rattle.std_alloc.proofs.BoxSteps.Form as box
 use Rattle.tktext_c.proofs.Values.{both, loose_good, loose_in}
-use Rattle.std_alloc.specs.contracts.boxed.Box.into_raw_with_allocator as callee
 use Rattle.std_alloc.proofs.boxed.Box.into_raw_with_allocator.Met.{met}
 use Rattle.tktext_c.specs.contracts.loose.Loose.of.{ended, clauses}
 use Rattle.tktext_c.specs.contracts.loose.Loose.of.Key.{name as #self}
 use Rattle.tktext_c.proofs.loose.Loose.of.Statement.{statement}
+use Rattle.std_alloc.proofs.BoxSteps.Form as box
+use Rattle.std_alloc.specs.contracts.boxed.Box.into_raw_with_allocator as callee
 use Rattle.tktext_c.proofs.loose.Loose.of.Code as code
 
 pub of_spec : {M : Type 1} → statement M

@@ -1,8 +1,8 @@
 use Rattle.tktext_c.proofs.Words.{◌≢◌, [], ap, rules, Err, texts_of, state_of}
 use Rattle.tcl_words.specs.declared.fault.ScriptFault.TheVariants.{Memory}
-use Rattle.tktext_c.specs.declared.ends.TurnEnd.TheVariants as turn
 use Rattle.tktext_c.proofs.ToldLaws.{turned-both, turned_otherwise-both, turns-back, turns-end, turns-fault}
 use Rattle.tktext_c.proofs.ToldLaws.{end-no_answer}
+use Rattle.tktext_c.specs.declared.ends.TurnEnd.TheVariants as turn
 use Rattle.tktext_c.proofs.session.Session.take_turn.Goals as goal
 
 pub returns-in-Ok-Some : goal.returns-in-Ok-Some

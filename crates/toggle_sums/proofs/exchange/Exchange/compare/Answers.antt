@@ -1,8 +1,8 @@
 use Rattle.toggle_sums.proofs.Words.{sym, ap, ◌∙◌}
-use Rattle.std.specs.FinSet as set
 use Rattle.toggle_sums.proofs.ExchangeLaws.{part-same, part_of-union}
-use Rattle.toggle_sums.proofs.exchange.Exchange.compare.Goals as goal
 use Rattle.toggle_sums.proofs.exchange.Exchange.compare.Goals.{then-self, else-self}
+use Rattle.std.specs.FinSet as set
+use Rattle.toggle_sums.proofs.exchange.Exchange.compare.Goals as goal
 
 pub invariant_of-self : goal.invariant_of-self
 invariant_of-self c =

@@ -1,11 +1,11 @@
 use Rattle.toggle_sums.proofs.Words.{◌≡◌, ◌<◌, ◌∙◌, ap, sym, bit_or, bit_xor, length, length-set, slice_index}
 use Rattle.toggle_sums.proofs.Words.{slice_set, alone, slots_in, AreWords-alone, differing, WORDS, differing-empty}
 use Rattle.toggle_sums.proofs.Words.{union-empty, slots_of}
-use Rattle.std.specs.FinSet as set
 use Rattle.text_model.proofs.OneWordSteps.{turned-word}
 use Rattle.toggle_sums.proofs.UsedLaws.{last_used-set, some_of}
 use Rattle.toggle_sums.proofs.WordSteps.{AreWords-differing, AreWords-joined, joined-word, slots_in-none}
 use Rattle.toggle_sums.proofs.WordSteps.{slots_of-differing, slots_of-joined}
+use Rattle.std.specs.FinSet as set
 use Rattle.toggle_sums.proofs.toggle_words.ToggleWords+WORDS.add_word.Goals as goal
 
 pub invariant_of-self : goal.invariant_of-self

@@ -1,8 +1,8 @@
 use Rattle.toggle_sums.proofs.Words.{rules, ap, bit_or, bit_xor, refl, sym, ◌∙◌, differing, differing-empty}
 use Rattle.toggle_sums.proofs.Words.{union-empty, ToggleSets}
-use Rattle.std.specs.FinSet as set
 use Rattle.toggle_sums.proofs.UsedLaws.{EndBy-both, ends-parity, ends-presence, max-le, none_toggled, used-le}
 use Rattle.toggle_sums.proofs.WordSteps.{AreWords-differing, AreWords-joined, slots_of-differing, slots_of-joined}
+use Rattle.std.specs.FinSet as set
 use Rattle.toggle_sums.proofs.toggle_words.ToggleWords.add.Goals as goal
 
 pub turn_words-requires : goal.turn_words-requires

@@ -1,8 +1,8 @@
 use Rattle.toggle_sums.proofs.Words.{rules, ◌≡◌, ◌∙◌, ap, sym, bytes_eq-Decides, ToggleSets, slots_of, words_of}
 use Rattle.toggle_sums.proofs.Words.{words_of-slots_of}
-use Rattle.std.specs.FinSet as set
 use Rattle.toggle_sums.proofs.UsedLaws.{ends-presence, used-le}
 use Rattle.toggle_sums.proofs.WordSteps.{AreWords-joined, slots_of-joined}
+use Rattle.std.specs.FinSet as set
 use Rattle.toggle_sums.proofs.toggle_words.ToggleWords.is_within.Goals as goal
 
 pub join_words-requires : goal.join_words-requires
