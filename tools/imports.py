@@ -3,7 +3,7 @@
 
     python3 tools/imports.py NAME ..
 
-A name that two files of `crates/NAME/proofs` bring in stands in `proofs/Words.antt`, which passes it on, and they bring
+A name that two files of `crates/NAME/proofs` bring in stands in `proofs/Common.antt`, which passes it on, and they bring
 it in from there, by one list: what `rt check --fix-imports` wrote is put there.  A name that its file doesn't use goes,
 and so does a word that no file brings in.
 
@@ -26,7 +26,7 @@ TOP = os.path.dirname(os.path.dirname(os.path.abspath(__file__)))
 MOST_CHARACTERS = 120
 LIST = re.compile(r"(pub )?use ([^{]+)\.\{(.*)\}$")
 UNFOLDED = re.compile(r"^\s*unfolding (.*)$", re.MULTILINE)
-HEAD = "-- The words that most proofs of this crate cite, passed on from one place. Declares nothing."
+HEAD = "-- The names that most proofs of this crate cite, passed on from one place. Declares nothing."
 COMMON = "Rattle.std.proofs.Common"
 
 
@@ -80,7 +80,7 @@ class Proofs:
         for match in self.lists():
             for name in match[3].split(", "):
                 if is_named(name.split(" as ")[-1], rest):
-                    self.brought[name] = words[name] if match[2] == f"{own}.Words" else match[2]
+                    self.brought[name] = words[name] if match[2] == f"{own}.Common" else match[2]
 
     def lists(self):
         return [match for match in map(LIST.match, self.lines) if match and not match[1]]
@@ -95,10 +95,10 @@ class Proofs:
 
     def lay_out(self, words):
         """Writes the file with what stands among the words brought in from there, before all other lists."""
-        movable, by_module = self.movable(), {f"{self.own}.Words": []}
+        movable, by_module = self.movable(), {f"{self.own}.Common": []}
         for name, module in self.brought.items():
             is_word = name in movable and name in words and origin(words[name], name) == origin(module, name)
-            by_module.setdefault(f"{self.own}.Words" if is_word else module, []).append(name)
+            by_module.setdefault(f"{self.own}.Common" if is_word else module, []).append(name)
         lists = [line for module, names in by_module.items() for line in lists_of(module, names)]
         lines = []
         for line in self.lines:
@@ -135,7 +135,7 @@ def order_of(name):
 def lay_out(crate):
     """Lays out what the proofs of a crate bring in."""
     own, folder = f"Rattle.{crate}.proofs", os.path.join(TOP, "crates", crate, "proofs")
-    place = os.path.join(folder, "Words.antt")
+    place = os.path.join(folder, "Common.antt")
     before = words_of(read(place)) if os.path.exists(place) else {}
     paths = glob.glob(os.path.join(folder, "**", "*.antt"), recursive=True)
     files = [Proofs(path, own, before) for path in sorted(paths) if path != place]

@@ -1,9 +1,9 @@
 -- How a run of switches goes on, and when words are too many to begin a subcommand.
-use Rattle.command_table.proofs.Words.{◌≡◌, ℕ, ◌+◌, ◌<◌, Bool, true, false, ◌&&◌, List, [], ◌∷◌, ◌++◌, length, take}
-use Rattle.command_table.proofs.Words.{drop, get_or, refl, sym, ap, ◌∙◌, arith, append_assoc, add-one, Err, String}
-use Rattle.command_table.proofs.Words.{chars, string_bytes, if◌then◌else◌, length-map, drop_more, get_or-map, go_on}
-use Rattle.command_table.proofs.Words.{unknown, Word, texts_of, is_same, is_dashed, SwitchRule, begins, ends_switches}
-use Rattle.command_table.proofs.Words.{dashed_words}
+use Rattle.command_table.proofs.Common.{◌≡◌, ℕ, ◌+◌, ◌<◌, Bool, true, false, ◌&&◌, List, [], ◌∷◌, ◌++◌, length, take}
+use Rattle.command_table.proofs.Common.{drop, get_or, refl, sym, ap, ◌∙◌, arith, append_assoc, add-one, Err, String}
+use Rattle.command_table.proofs.Common.{chars, string_bytes, if◌then◌else◌, length-map, drop_more, get_or-map, go_on}
+use Rattle.command_table.proofs.Common.{unknown, Word, texts_of, is_same, is_dashed, SwitchRule, begins, ends_switches}
+use Rattle.command_table.proofs.Common.{dashed_words}
 use Rattle.std.proofs.Math.Seq.{take-suc}
 use Rattle.command_table.specs.declared.shapes.ShapeFault.TheVariants.{BadOption, WrongArguments}
 

@@ -1,5 +1,5 @@
+pub mod Common
 pub mod EntryLaws
 pub mod NumberLaws
 pub mod PlaceLaws
 pub mod WordLaws
-pub mod Words

@@ -1,10 +1,10 @@
 -- Integers of bytes are those of characters, and numbers of at most nine digits are small.
-use Rattle.command_table.proofs.Words.{◌≡◌, take_all, le-leb, ℕ, zero, suc, ◌^◌, ◌<◌, ◌≤◌, Bool, true, false, ◌&&◌}
-use Rattle.command_table.proofs.Words.{List, [], ◌∷◌, length, take, w32, to_z, refl, sym, ap, ap₂, ◌∙◌, arith}
-use Rattle.command_table.proofs.Words.{is_ascii_digit, list_all, IsAscii, IsUtf8, slice_index, ℤ, pos, neg_ℤ, nat_lt}
-use Rattle.command_table.proofs.Words.{nat_le, fold, option_map, ◌==◌, if◌then◌else◌, false≢true, nat_tests}
-use Rattle.command_table.proofs.Words.{Decides-eqb, Decides-ltb, chars-IsAscii, encodes-IsAscii, encodes-chars}
-use Rattle.command_table.proofs.Words.{add_digit, number_of, integer_of, Option, Some, None}
+use Rattle.command_table.proofs.Common.{◌≡◌, take_all, le-leb, ℕ, zero, suc, ◌^◌, ◌<◌, ◌≤◌, Bool, true, false, ◌&&◌}
+use Rattle.command_table.proofs.Common.{List, [], ◌∷◌, length, take, w32, to_z, refl, sym, ap, ap₂, ◌∙◌, arith}
+use Rattle.command_table.proofs.Common.{is_ascii_digit, list_all, IsAscii, IsUtf8, slice_index, ℤ, pos, neg_ℤ, nat_lt}
+use Rattle.command_table.proofs.Common.{nat_le, fold, option_map, ◌==◌, if◌then◌else◌, false≢true, nat_tests}
+use Rattle.command_table.proofs.Common.{Decides-eqb, Decides-ltb, chars-IsAscii, encodes-IsAscii, encodes-chars}
+use Rattle.command_table.proofs.Common.{add_digit, number_of, integer_of, Option, Some, None}
 use Rattle.std.specs.Str.{chars}
 use Rattle.std.proofs.Math.Facts.{to_z_pos}
 use Rattle.std.proofs.Math.Nat.{pow-le-pow_right}

@@ -1,9 +1,9 @@
 -- Which entry of the table begins with words.
-use Rattle.command_table.proofs.Words.{◌≡◌, ℕ, ◌<◌, ◌≤◌, ◌+◌, Bool, true, false, ◌&&◌, List, [], ◌∷◌, ◌++◌, length}
-use Rattle.command_table.proofs.Words.{drop, get_or, refl, sym, ap, ◌∙◌, subst, arith, cond, Option, Some, None, IfSome}
-use Rattle.command_table.proofs.Words.{String, string_bytes, chars, false≢true, length-map, get_or-map, Word, texts_of}
-use Rattle.command_table.proofs.Words.{EntryRule, begins, entry_rule, spelled, IsPlaceOf, table, text_entry, find_in}
-use Rattle.command_table.proofs.Words.{map}
+use Rattle.command_table.proofs.Common.{◌≡◌, ℕ, ◌<◌, ◌≤◌, ◌+◌, Bool, true, false, ◌&&◌, List, [], ◌∷◌, ◌++◌, length}
+use Rattle.command_table.proofs.Common.{drop, get_or, refl, sym, ap, ◌∙◌, subst, arith, cond, Option, Some, None}
+use Rattle.command_table.proofs.Common.{IfSome, String, string_bytes, chars, false≢true, length-map, get_or-map, Word}
+use Rattle.command_table.proofs.Common.{texts_of, EntryRule, begins, entry_rule, spelled, IsPlaceOf, table, text_entry}
+use Rattle.command_table.proofs.Common.{find_in, map}
 use Rattle.command_table.specs.declared.entries.Entry.{Entry}
 use Rattle.command_table.proofs.EntryLaws.{rest_at}
 

@@ -1,9 +1,9 @@
 -- What the bytes of words say of their characters.
-use Rattle.command_table.proofs.Words.{◌≡◌, ℕ, ◌<◌, ◌≤◌, Bool, true, false, List, [], ◌∷◌, ◌++◌, length, drop, get_or}
-use Rattle.command_table.proofs.Words.{refl, sym, ap, ◌∙◌, arith, chars, bytes_eq, IsUtf8, encode_utf8, encode_utf8_all}
-use Rattle.command_table.proofs.Words.{◌==◌, nat_eq, starts_with, false≢true, same_from_decides, Decides-eqb}
-use Rattle.command_table.proofs.Words.{chars-append, encodes-append, encodes-chars, encode_ascii, char_from_byte}
-use Rattle.command_table.proofs.Words.{is_character, is_dashed}
+use Rattle.command_table.proofs.Common.{◌≡◌, ℕ, ◌<◌, ◌≤◌, Bool, true, false, List, [], ◌∷◌, ◌++◌, length, drop, get_or}
+use Rattle.command_table.proofs.Common.{refl, sym, ap, ◌∙◌, arith, chars, bytes_eq, IsUtf8, encode_utf8}
+use Rattle.command_table.proofs.Common.{encode_utf8_all, ◌==◌, nat_eq, starts_with, false≢true, same_from_decides}
+use Rattle.command_table.proofs.Common.{Decides-eqb, chars-append, encodes-append, encodes-chars, encode_ascii}
+use Rattle.command_table.proofs.Common.{char_from_byte, is_character, is_dashed}
 use Rattle.std.proofs.lemmas.Slice.Eq.{bytes_eq-Decides, starts_is}
 
 pub bytes_eq-chars : (a b : List ℕ) → IsUtf8 a → IsUtf8 b → bytes_eq a b ≡ bytes_eq (chars a) (chars b)

@@ -1,12 +1,12 @@
 -- How long a closed front of a word may be if it is a name, from what stands behind those names that begin it.
-use Rattle.index_grammar.proofs.Words.{◌≡◌, ◌≢◌, ℕ, suc, ◌+◌, ◌-◌, ◌<◌, ◌≤◌, true, false, cond, List, [], ◌∷◌, ◌++◌}
-use Rattle.index_grammar.proofs.Words.{map, take, drop, length, get_or, refl, sym, ap, ◌∙◌, arith, chars, IsUtf8}
-use Rattle.index_grammar.proofs.Words.{bytes_eq, encode_utf8_all, find, slice_get, nat_lt, nat_eq, option_map}
-use Rattle.index_grammar.proofs.Words.{if◌then◌else◌, MatchOption, ends_with, nat_tests, Decides-ltb, take-append-drop}
-use Rattle.index_grammar.proofs.Words.{length-drop, length-take, length-append, append-nil, bytes_eq-Decides}
-use Rattle.index_grammar.proofs.Words.{encodes-chars, IsUtf8-take, IsCharBoundary-before_ascii, Mark, closes, IsBound}
-use Rattle.index_grammar.proofs.Words.{marked, tagged, known_marks, known_tags, min, ◌==◌, Option, Some, None}
-use Rattle.index_grammar.proofs.Words.{append_assoc}
+use Rattle.index_grammar.proofs.Common.{◌≡◌, ◌≢◌, ℕ, suc, ◌+◌, ◌-◌, ◌<◌, ◌≤◌, true, false, cond, List, [], ◌∷◌, ◌++◌}
+use Rattle.index_grammar.proofs.Common.{map, take, drop, length, get_or, refl, sym, ap, ◌∙◌, arith, chars, IsUtf8}
+use Rattle.index_grammar.proofs.Common.{bytes_eq, encode_utf8_all, find, slice_get, nat_lt, nat_eq, option_map}
+use Rattle.index_grammar.proofs.Common.{if◌then◌else◌, MatchOption, ends_with, nat_tests, Decides-ltb, take-append-drop}
+use Rattle.index_grammar.proofs.Common.{length-drop, length-take, length-append, append-nil, bytes_eq-Decides}
+use Rattle.index_grammar.proofs.Common.{encodes-chars, IsUtf8-take, IsCharBoundary-before_ascii, Mark, closes, IsBound}
+use Rattle.index_grammar.proofs.Common.{marked, tagged, known_marks, known_tags, min, ◌==◌, Option, Some, None}
+use Rattle.index_grammar.proofs.Common.{append_assoc}
 use Rattle.std.specs.Borrow.{Bor}
 use Rattle.std.proofs.Math.Seq.{get_or-append_seam}
 use Rattle.tag_table.specs.Tags.{Tag}

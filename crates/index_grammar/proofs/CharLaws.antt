@@ -1,12 +1,12 @@
 -- Where a word is cut at a blank or a sign, its characters are too.
-use Rattle.index_grammar.proofs.Words.{◌≡◌, ℕ, ◌+◌, ◌<◌, ◌≤◌, Bool, true, false, cond, not, ◌&&◌, List, [], ◌∷◌, ◌++◌}
-use Rattle.index_grammar.proofs.Words.{take, drop, length, get_or, refl, sym, ap, ◌∙◌, arith, chars, IsUtf8}
-use Rattle.index_grammar.proofs.Words.{IsCharBoundary, encode_utf8_all, nat_lt, option_map, list_all, prefix_len}
-use Rattle.index_grammar.proofs.Words.{nat_tests, Decides-ltb, false≢true, take-append-drop, drop_more}
-use Rattle.index_grammar.proofs.Words.{prefix_len-le-length, list_all-append, encodes-chars, encode_ascii, chars-append}
-use Rattle.index_grammar.proofs.Words.{chars-nil, chars-IsAscii, IsUtf8-take, IsUtf8-from_ascii}
-use Rattle.index_grammar.proofs.Words.{IsCharBoundary-before_ascii, is_break, closes, place_base, place_of, of_length}
-use Rattle.index_grammar.proofs.Words.{saturated_base, read_of, Base, Option, Some, None}
+use Rattle.index_grammar.proofs.Common.{◌≡◌, ℕ, ◌+◌, ◌<◌, ◌≤◌, Bool, true, false, cond, not, ◌&&◌, List, [], ◌∷◌, ◌++◌}
+use Rattle.index_grammar.proofs.Common.{take, drop, length, get_or, refl, sym, ap, ◌∙◌, arith, chars, IsUtf8}
+use Rattle.index_grammar.proofs.Common.{IsCharBoundary, encode_utf8_all, nat_lt, option_map, list_all, prefix_len}
+use Rattle.index_grammar.proofs.Common.{nat_tests, Decides-ltb, false≢true, take-append-drop, drop_more}
+use Rattle.index_grammar.proofs.Common.{prefix_len-le-length, list_all-append, encodes-chars, encode_ascii}
+use Rattle.index_grammar.proofs.Common.{chars-append, chars-nil, chars-IsAscii, IsUtf8-take, IsUtf8-from_ascii}
+use Rattle.index_grammar.proofs.Common.{IsCharBoundary-before_ascii, is_break, closes, place_base, place_of, of_length}
+use Rattle.index_grammar.proofs.Common.{saturated_base, read_of, Base, Option, Some, None}
 use lib.Utf8.{encode}
 use Rattle.index_grammar.proofs.LowLaws.{ascii_of}
 use Rattle.index_grammar.proofs.PlaceLaws.{place_of-chars}

@@ -1,10 +1,10 @@
 -- The longest closed front of a word, by its bytes.
-use Rattle.index_grammar.proofs.Words.{◌≡◌, ℕ, suc, ◌+◌, ◌<◌, ◌≤◌, true, List, [], ◌∷◌, ◌++◌, take, drop, length}
-use Rattle.index_grammar.proofs.Words.{get_or, refl, sym, ap, ◌∙◌, arith, chars, IsUtf8, IsCharBoundary, slice_range}
-use Rattle.index_grammar.proofs.Words.{list_all, drop_more, take-take, get_or-take, length-append, length-take}
-use Rattle.index_grammar.proofs.Words.{IsUtf8-take, IsUtf8-drop, IsCharBoundary-after_ascii, Decides-ltb, is_break}
-use Rattle.index_grammar.proofs.Words.{closes, longest, longest_front, closed_front, saturated_base, read_of, Base}
-use Rattle.index_grammar.proofs.Words.{Option, Some, None, ◌-◌}
+use Rattle.index_grammar.proofs.Common.{◌≡◌, ℕ, suc, ◌+◌, ◌<◌, ◌≤◌, true, List, [], ◌∷◌, ◌++◌, take, drop, length}
+use Rattle.index_grammar.proofs.Common.{get_or, refl, sym, ap, ◌∙◌, arith, chars, IsUtf8, IsCharBoundary, slice_range}
+use Rattle.index_grammar.proofs.Common.{list_all, drop_more, take-take, get_or-take, length-append, length-take}
+use Rattle.index_grammar.proofs.Common.{IsUtf8-take, IsUtf8-drop, IsCharBoundary-after_ascii, Decides-ltb, is_break}
+use Rattle.index_grammar.proofs.Common.{closes, longest, longest_front, closed_front, saturated_base, read_of, Base}
+use Rattle.index_grammar.proofs.Common.{Option, Some, None, ◌-◌}
 use Rattle.index_grammar.proofs.TokenLaws.{inside}
 use Rattle.index_grammar.proofs.CharLaws.{inside-chars, chars-cut, chars-low, closes-chars, break-low, break-boundary}
 use Rattle.index_grammar.proofs.CharLaws.{take-chars, drop-chars}

@@ -1,7 +1,7 @@
 -- How long the front of a list is that has a property, by the place of the first element without.
-use Rattle.index_grammar.proofs.Words.{◌≡◌, ℕ, ◌+◌, Bool, true, false, cond, not, List, [], ◌∷◌, length, Option, Some}
-use Rattle.index_grammar.proofs.Words.{None, refl, sym, ap, ◌∙◌, arith, position, nat_lt, prefix_len, nat_tests}
-use Rattle.index_grammar.proofs.Words.{prefix_len-le-length}
+use Rattle.index_grammar.proofs.Common.{◌≡◌, ℕ, ◌+◌, Bool, true, false, cond, not, List, [], ◌∷◌, length, Option, Some}
+use Rattle.index_grammar.proofs.Common.{None, refl, sym, ap, ◌∙◌, arith, position, nat_lt, prefix_len, nat_tests}
+use Rattle.index_grammar.proofs.Common.{prefix_len-le-length}
 
 pub front-some : (p : ℕ → Bool) (xs : List ℕ) (found : Option ℕ) (at : ℕ) → found ≡ position p xs → found ≡ Some at →
     at ≡ prefix_len (λ x. not (p x)) xs

@@ -1,6 +1,6 @@
 -- What the grammar makes of words that were worked out by hand.
-use Rattle.index_grammar.proofs.Words.{◌≡◌, ℕ, List, [], ◌∷◌, Option, Some, None, refl, codes, bytes_eq, index_of}
-use Rattle.index_grammar.proofs.Words.{WholeIndex, if◌then◌else◌}
+use Rattle.index_grammar.proofs.Common.{◌≡◌, ℕ, List, [], ◌∷◌, Option, Some, None, refl, codes, bytes_eq, index_of}
+use Rattle.index_grammar.proofs.Common.{WholeIndex, if◌then◌else◌}
 use Rattle.index_grammar.specs.Grammar.{tokens_from}
 use Rattle.index_grammar.specs.declared.indices.Base.TheVariants as base
 use Rattle.index_grammar.specs.declared.indices.Modifier.TheVariants as modifier

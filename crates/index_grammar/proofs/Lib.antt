@@ -1,5 +1,6 @@
 pub mod BoundLaws
 pub mod CharLaws
+pub mod Common
 pub mod FindLaws
 pub mod FrontLaws
 pub mod GrammarRows
@@ -12,4 +13,3 @@ pub mod StepLaws
 pub mod TagLaws
 pub mod TokenLaws
 pub mod WholeLaws
-pub mod Words

@@ -1,9 +1,9 @@
 -- The longest closed front, from the last closed front on.
-use Rattle.index_grammar.proofs.Words.{◌≡◌, ℕ, zero, suc, ◌+◌, ◌-◌, ◌<◌, ◌≤◌, Bool, true, false, not, List, [], ◌∷◌}
-use Rattle.index_grammar.proofs.Words.{take, drop, length, get_or, refl, sym, ap, ◌∙◌, arith, nat_lt, option_map}
-use Rattle.index_grammar.proofs.Words.{if◌then◌else◌, list_all, nat_tests, Decides-ltb, false≢true, drop_more}
-use Rattle.index_grammar.proofs.Words.{get_or-drop, get_or-take, length-take, length-drop, is_break, closes, longest}
-use Rattle.index_grammar.proofs.Words.{closed_front, of_length, Base, Option, Some, None}
+use Rattle.index_grammar.proofs.Common.{◌≡◌, ℕ, zero, suc, ◌+◌, ◌-◌, ◌<◌, ◌≤◌, Bool, true, false, not, List, [], ◌∷◌}
+use Rattle.index_grammar.proofs.Common.{take, drop, length, get_or, refl, sym, ap, ◌∙◌, arith, nat_lt, option_map}
+use Rattle.index_grammar.proofs.Common.{if◌then◌else◌, list_all, nat_tests, Decides-ltb, false≢true, drop_more}
+use Rattle.index_grammar.proofs.Common.{get_or-drop, get_or-take, length-take, length-drop, is_break, closes, longest}
+use Rattle.index_grammar.proofs.Common.{closed_front, of_length, Base, Option, Some, None}
 use Rattle.std.specs.Option.{option_or}
 use Rattle.index_grammar.proofs.TokenLaws.{inside}
 use Rattle.index_grammar.proofs.CharLaws.{both}

@@ -1,6 +1,6 @@
 -- Texts without a character beyond ASCII.
-use Rattle.index_grammar.proofs.Words.{◌≡◌, ℕ, zero, suc, ◌<◌, Bool, true, false, ◌&&◌, List, [], ◌∷◌, refl, arith}
-use Rattle.index_grammar.proofs.Words.{list_all, IsAscii, slice_index, nat_lt, Decides-ltb, false≢true}
+use Rattle.index_grammar.proofs.Common.{◌≡◌, ℕ, zero, suc, ◌<◌, Bool, true, false, ◌&&◌, List, [], ◌∷◌, refl, arith}
+use Rattle.index_grammar.proofs.Common.{list_all, IsAscii, slice_index, nat_lt, Decides-ltb, false≢true}
 
 abbrev pub is_low : ℕ → Bool
 is_low c = nat_lt c 128

@@ -1,12 +1,12 @@
 -- Modifiers have no character beyond ASCII, so the bytes of a text stand for its characters.
-use Rattle.index_grammar.proofs.Words.{◌≡◌, ℕ, Bool, true, false, ◌&&◌, ◌||◌, List, [], ◌∷◌, ◌++◌, Option, Some, None}
-use Rattle.index_grammar.proofs.Words.{take, drop, length, refl, sym, ap, ◌∙◌, arith, chars, codes, IsUtf8, bytes_eq}
-use Rattle.index_grammar.proofs.Words.{nat_eq, nat_le, option_map, if◌then◌else◌, list_all, prefix_len, starts_with}
-use Rattle.index_grammar.proofs.Words.{is_ascii_digit, nat_tests, Decides-eqb, take-append-drop, list_all-append}
-use Rattle.index_grammar.proofs.Words.{starts_is, bytes_eq-Decides, chars-IsAscii, encodes-IsAscii, encodes-chars}
-use Rattle.index_grammar.proofs.Words.{is_blank, is_sign, Token, tokens_from, tokens_of, run_tokens, parts_of}
-use Rattle.index_grammar.proofs.Words.{modifiers_of, before, counted, by_count, number_of, keyword_of, unit_of}
-use Rattle.index_grammar.proofs.Words.{abbreviates, Sign, Digits, Word, Modifier}
+use Rattle.index_grammar.proofs.Common.{◌≡◌, ℕ, Bool, true, false, ◌&&◌, ◌||◌, List, [], ◌∷◌, ◌++◌, Option, Some, None}
+use Rattle.index_grammar.proofs.Common.{take, drop, length, refl, sym, ap, ◌∙◌, arith, chars, codes, IsUtf8, bytes_eq}
+use Rattle.index_grammar.proofs.Common.{nat_eq, nat_le, option_map, if◌then◌else◌, list_all, prefix_len, starts_with}
+use Rattle.index_grammar.proofs.Common.{is_ascii_digit, nat_tests, Decides-eqb, take-append-drop, list_all-append}
+use Rattle.index_grammar.proofs.Common.{starts_is, bytes_eq-Decides, chars-IsAscii, encodes-IsAscii, encodes-chars}
+use Rattle.index_grammar.proofs.Common.{is_blank, is_sign, Token, tokens_from, tokens_of, run_tokens, parts_of}
+use Rattle.index_grammar.proofs.Common.{modifiers_of, before, counted, by_count, number_of, keyword_of, unit_of}
+use Rattle.index_grammar.proofs.Common.{abbreviates, Sign, Digits, Word, Modifier}
 use Rattle.index_grammar.specs.declared.indices.Unit.{Unit}
 use Rattle.index_grammar.proofs.CharLaws.{both}
 use Rattle.index_grammar.proofs.LowLaws.{is_low, ascii_of}

@@ -1,7 +1,7 @@
 -- Names by their bytes.
-use Rattle.index_grammar.proofs.Words.{◌≡◌, ℕ, ◌+◌, ◌*◌, Bool, true, false, List, [], ◌∷◌, Some, refl, sym, ap, ◌∙◌}
-use Rattle.index_grammar.proofs.Words.{bytes_eq, codes, IsUtf8, encode_utf8_all, same_from_decides, bytes_eq-Decides}
-use Rattle.index_grammar.proofs.Words.{encodes-chars, IsUtf8-from_ascii, Mark, known_marks}
+use Rattle.index_grammar.proofs.Common.{◌≡◌, ℕ, ◌+◌, ◌*◌, Bool, true, false, List, [], ◌∷◌, Some, refl, sym, ap, ◌∙◌}
+use Rattle.index_grammar.proofs.Common.{bytes_eq, codes, IsUtf8, encode_utf8_all, same_from_decides, bytes_eq-Decides}
+use Rattle.index_grammar.proofs.Common.{encodes-chars, IsUtf8-from_ascii, Mark, known_marks}
 use Rattle.std.specs.Str.{chars}
 use Rattle.mark_table.specs.SharedMarks.{number_of}
 use Rattle.index_grammar.proofs.LowLaws.{ascii_of}

@@ -1,11 +1,11 @@
 -- Places of bytes, and with numbers up to the greatest that a machine has.
-use Rattle.index_grammar.proofs.Words.{◌≡◌, ℕ, suc, ◌+◌, ◌≤◌, min, true, false, ◌&&◌, List, [], ◌∷◌, ◌++◌, Option, Some}
-use Rattle.index_grammar.proofs.Words.{None, take, drop, get_or, refl, sym, ap, ◌∙◌, arith, is_ascii_digit, fold}
-use Rattle.index_grammar.proofs.Words.{bytes_eq, codes, position, option_map, option_and_then, if◌then◌else◌, IsUtf8}
-use Rattle.index_grammar.proofs.Words.{nat_tests, Decides-eqb, drop_more, take-append-drop, list_all-append, list_all}
-use Rattle.index_grammar.proofs.Words.{false≢true, bytes_eq-Decides, chars-IsAscii, encodes-IsAscii, encodes-chars}
-use Rattle.index_grammar.proofs.Words.{Base, add_digit, number_of, in_line, around_dot, place_of, saturated_base}
-use Rattle.index_grammar.proofs.Words.{is_dot}
+use Rattle.index_grammar.proofs.Common.{◌≡◌, ℕ, suc, ◌+◌, ◌≤◌, min, true, false, ◌&&◌, List, [], ◌∷◌, ◌++◌, Option}
+use Rattle.index_grammar.proofs.Common.{Some, None, take, drop, get_or, refl, sym, ap, ◌∙◌, arith, is_ascii_digit, fold}
+use Rattle.index_grammar.proofs.Common.{bytes_eq, codes, position, option_map, option_and_then, if◌then◌else◌, IsUtf8}
+use Rattle.index_grammar.proofs.Common.{nat_tests, Decides-eqb, drop_more, take-append-drop, list_all-append, list_all}
+use Rattle.index_grammar.proofs.Common.{false≢true, bytes_eq-Decides, chars-IsAscii, encodes-IsAscii, encodes-chars}
+use Rattle.index_grammar.proofs.Common.{Base, add_digit, number_of, in_line, around_dot, place_of, saturated_base}
+use Rattle.index_grammar.proofs.Common.{is_dot}
 use Rattle.std.specs.Str.{chars}
 use Rattle.std.proofs.lemmas.List.Quantifiers.{position-Some}
 use Rattle.index_grammar.proofs.LowLaws.{is_low, ascii_of}

@@ -1,9 +1,9 @@
 -- The first modifier of a list of tokens.
-use Rattle.index_grammar.proofs.Words.{◌≡◌, ℕ, Bool, true, false, List, [], ◌∷◌, ◌++◌, Option, Some, None, refl, sym}
-use Rattle.index_grammar.proofs.Words.{ap, ◌∙◌, append_assoc, bytes_eq, codes, option_map, if◌then◌else◌, append-nil}
-use Rattle.index_grammar.proofs.Words.{bytes_eq-Decides, Token, modifiers_of, before, counted, number_of}
-use Rattle.index_grammar.proofs.Words.{saturated_modifier, keyword_of, abbreviates, Sign, Digits, Word, digits_first}
-use Rattle.index_grammar.proofs.Words.{unit_first, saturated, after, Modifier}
+use Rattle.index_grammar.proofs.Common.{◌≡◌, ℕ, Bool, true, false, List, [], ◌∷◌, ◌++◌, Option, Some, None, refl, sym}
+use Rattle.index_grammar.proofs.Common.{ap, ◌∙◌, append_assoc, bytes_eq, codes, option_map, if◌then◌else◌, append-nil}
+use Rattle.index_grammar.proofs.Common.{bytes_eq-Decides, Token, modifiers_of, before, counted, number_of}
+use Rattle.index_grammar.proofs.Common.{saturated_modifier, keyword_of, abbreviates, Sign, Digits, Word, digits_first}
+use Rattle.index_grammar.proofs.Common.{unit_first, saturated, after, Modifier}
 use Rattle.index_grammar.specs.declared.indices.Modifier.TheVariants as modifier
 
 abbrev pub any_bytes : List ℕ

@@ -1,9 +1,9 @@
 -- A tag's name before `.first` or `.last`, by its bytes.
-use Rattle.index_grammar.proofs.Words.{◌≡◌, ℕ, ◌-◌, true, false, List, [], ◌∷◌, ◌++◌, take, length, refl, sym, ap, ◌∙◌}
-use Rattle.index_grammar.proofs.Words.{arith, chars, IsUtf8, IsAscii, encode_utf8_all, nat_eq, option_map}
-use Rattle.index_grammar.proofs.Words.{if◌then◌else◌, ends_with, false≢true, Decides-eqb, length-append, ends_is}
-use Rattle.index_grammar.proofs.Words.{encodes-chars, encodes-append, encodes-IsAscii, chars-append, chars-IsAscii}
-use Rattle.index_grammar.proofs.Words.{tagged, without_last, first_tagged, last_tagged, Option, Some, None}
+use Rattle.index_grammar.proofs.Common.{◌≡◌, ℕ, ◌-◌, true, false, List, [], ◌∷◌, ◌++◌, take, length, refl, sym, ap, ◌∙◌}
+use Rattle.index_grammar.proofs.Common.{arith, chars, IsUtf8, IsAscii, encode_utf8_all, nat_eq, option_map}
+use Rattle.index_grammar.proofs.Common.{if◌then◌else◌, ends_with, false≢true, Decides-eqb, length-append, ends_is}
+use Rattle.index_grammar.proofs.Common.{encodes-chars, encodes-append, encodes-IsAscii, chars-append, chars-IsAscii}
+use Rattle.index_grammar.proofs.Common.{tagged, without_last, first_tagged, last_tagged, Option, Some, None}
 use Rattle.text_model.specs.declared.places.TagSlot.{TagSlot}
 use Rattle.index_grammar.proofs.LowLaws.{ascii_of}
 use Rattle.index_grammar.proofs.TokenLaws.{take-front}

@@ -1,10 +1,10 @@
 -- The tokens at the front of a text.
-use Rattle.index_grammar.proofs.Words.{◌≡◌, ℕ, zero, suc, ◌+◌, Bool, true, false, cond, not, ◌&&◌, ◌||◌, ◌==◌, List, []}
-use Rattle.index_grammar.proofs.Words.{◌∷◌, ◌++◌, ◌<◌, ◌≤◌, Some, None, take, drop, length, refl, sym, ap, ◌∙◌}
-use Rattle.index_grammar.proofs.Words.{append_assoc, arith, slice_get, list_all, prefix_len, is_ascii_digit, nat_tests}
-use Rattle.index_grammar.proofs.Words.{false≢true, append-nil, length-take, list_all-append, is_blank, is_sign}
-use Rattle.index_grammar.proofs.Words.{is_break, Token, tokens_of, run_tokens, parts_of, Sign, Digits, Word}
-use Rattle.index_grammar.proofs.Words.{length-drop}
+use Rattle.index_grammar.proofs.Common.{◌≡◌, ℕ, zero, suc, ◌+◌, Bool, true, false, cond, not, ◌&&◌, ◌||◌, ◌==◌, List}
+use Rattle.index_grammar.proofs.Common.{[], ◌∷◌, ◌++◌, ◌<◌, ◌≤◌, Some, None, take, drop, length, refl, sym, ap, ◌∙◌}
+use Rattle.index_grammar.proofs.Common.{append_assoc, arith, slice_get, list_all, prefix_len, is_ascii_digit, nat_tests}
+use Rattle.index_grammar.proofs.Common.{false≢true, append-nil, length-take, list_all-append, is_blank, is_sign}
+use Rattle.index_grammar.proofs.Common.{is_break, Token, tokens_of, run_tokens, parts_of, Sign, Digits, Word}
+use Rattle.index_grammar.proofs.Common.{length-drop}
 use Rattle.index_grammar.specs.Grammar.{tokens_from}
 
 abbrev pub inside : ℕ → Bool

@@ -1,7 +1,7 @@
 -- An index by its base and its modifiers.
-use Rattle.index_grammar.proofs.Words.{◌≡◌, ℕ, List, Option, Some, None, drop, refl, ap, ◌∙◌, option_map}
-use Rattle.index_grammar.proofs.Words.{option_and_then, index_of, base_of, modifiers_of, tokens_of, saturated_base}
-use Rattle.index_grammar.proofs.Words.{WholeIndex, read_of, saturated, saturated_index, Base, Modifier}
+use Rattle.index_grammar.proofs.Common.{◌≡◌, ℕ, List, Option, Some, None, drop, refl, ap, ◌∙◌, option_map}
+use Rattle.index_grammar.proofs.Common.{option_and_then, index_of, base_of, modifiers_of, tokens_of, saturated_base}
+use Rattle.index_grammar.proofs.Common.{WholeIndex, read_of, saturated, saturated_index, Base, Modifier}
 
 with-steps : (b : Base) (found : Option (List Modifier)) (steps : List Modifier) → saturated found ≡ Some steps
     → saturated_index (option_map {U = WholeIndex} (λ ms. (b, ms)) found) ≡ Some (saturated_base b, steps)

@@ -1,9 +1,9 @@
 -- Lines in which no slot is toggled: none is on before any of their columns.
-use Rattle.line_lists.proofs.Words.{◌≡◌, ℕ, ◌+◌, ◌<◌, List, [], ◌∷◌, Some, length, take, drop, refl, sym, ap, ◌∙◌}
-use Rattle.line_lists.proofs.Words.{arith, take-append-drop, slice_get, nat_cmp_total, nat_cmp, or_parts, take-map}
-use Rattle.line_lists.proofs.Words.{Slots, slot_sets, slots_left_of, differing, differing-empty, same_slots}
-use Rattle.line_lists.proofs.Words.{union-commutative, parity, presence, presence-append, Column, LineContent, toggles}
-use Rattle.line_lists.proofs.Words.{count_of, content_of, whole, tags_left_of}
+use Rattle.line_lists.proofs.Common.{◌≡◌, ℕ, ◌+◌, ◌<◌, List, [], ◌∷◌, Some, length, take, drop, refl, sym, ap, ◌∙◌}
+use Rattle.line_lists.proofs.Common.{arith, take-append-drop, slice_get, nat_cmp_total, nat_cmp, or_parts, take-map}
+use Rattle.line_lists.proofs.Common.{Slots, slot_sets, slots_left_of, differing, differing-empty, same_slots}
+use Rattle.line_lists.proofs.Common.{union-commutative, parity, presence, presence-append, Column, LineContent, toggles}
+use Rattle.line_lists.proofs.Common.{count_of, content_of, whole, tags_left_of}
 use Rattle.line_lists.proofs.CountRows.{count-presence}
 use Rattle.line_lists.proofs.PlaceRows.{length-content, tags-behind, tags-column}
 use Rattle.std.specs.FinSet as set

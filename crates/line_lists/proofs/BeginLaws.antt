@@ -1,10 +1,10 @@
 -- Where to begin to take the toggles of a slot away from an offset on: if the kept line that holds it has none, further
 -- on. All is as if that line were copied, and cleared, which leaves the text as it is.
-use Rattle.line_lists.proofs.Words.{◌≡◌, ℕ, ◌+◌, ◌-◌, ◌<◌, ◌≤◌, min, true, false, List, [], ◌∷◌, ◌++◌, length, take}
-use Rattle.line_lists.proofs.Words.{drop, refl, sym, ap, subst, ◌∙◌, arith, IfSome, slice_get, LineContent, Copied}
-use Rattle.line_lists.proofs.Words.{Reached, Stop, AreFree, free_end, IsReached, IsTaken, IsText, StandsAt, copies_of}
-use Rattle.line_lists.proofs.Words.{covered, drafted_at, line_start, taken_lines, text_at, place_of, with_cleared}
-use Rattle.line_lists.proofs.Words.{has_toggle, whole}
+use Rattle.line_lists.proofs.Common.{◌≡◌, ℕ, ◌+◌, ◌-◌, ◌<◌, ◌≤◌, min, true, false, List, [], ◌∷◌, ◌++◌, length, take}
+use Rattle.line_lists.proofs.Common.{drop, refl, sym, ap, subst, ◌∙◌, arith, IfSome, slice_get, LineContent, Copied}
+use Rattle.line_lists.proofs.Common.{Reached, Stop, AreFree, free_end, IsReached, IsTaken, IsText, StandsAt, copies_of}
+use Rattle.line_lists.proofs.Common.{covered, drafted_at, line_start, taken_lines, text_at, place_of, with_cleared}
+use Rattle.line_lists.proofs.Common.{has_toggle, whole}
 use Rattle.line_lists.proofs.ClearingLaws.{ClearsLine, cleared-none, clears-line, clears-on, end-rest, end-within}
 use Rattle.line_lists.proofs.ClearingLaws.{line-kept, place-behind}
 use Rattle.line_lists.proofs.DraftLaws.{copies-snoc, reached-more, stop_of}

@@ -1,17 +1,17 @@
 -- The slots that are on in a draft, and its lines without the toggles of a slot.
-use Rattle.line_lists.proofs.Words.{◌≡◌, ℕ, zero, suc, ◌+◌, ◌-◌, ◌<◌, ◌≤◌, ◌^◌, min, Bool, true, false, List, [], ◌∷◌}
-use Rattle.line_lists.proofs.Words.{◌++◌, Option, None, Some, length, get_or, map, take, drop, inl, inr, refl, sym, ap}
-use Rattle.line_lists.proofs.Words.{ap₂, subst, ◌∙◌, arith, append_assoc, length-append, length-drop, length-take}
-use Rattle.line_lists.proofs.Words.{take-append-drop, IfSome, if◌then◌else◌, reverse, slice_get, unwrap_or, cases_lt}
-use Rattle.line_lists.proofs.Words.{or_parts, append-nil, drop-drop, drop-map, get_or-drop, get_or-take, map-append}
-use Rattle.line_lists.proofs.Words.{reverse-append, take-append-le, take-map, take-take, take_all, slice_get-get_or}
-use Rattle.line_lists.proofs.Words.{take-append-add, differing, changed, changed-append_right, changed-same}
-use Rattle.line_lists.proofs.Words.{length-changed, map-changed, presence, Column, LineContent, characters, joined}
-use Rattle.line_lists.proofs.Words.{plain_line, toggles, with_toggle, Copied, Reached, Stop, AreFree, free_end}
-use Rattle.line_lists.proofs.Words.{free_length, lines_on, BeginsBehind, IsDraft, IsReached, IsTaken, IsText, StandsAt}
-use Rattle.line_lists.proofs.Words.{copies_of, covered, drafted, drafted_at, lines_before, lines_behind, made_lines}
-use Rattle.line_lists.proofs.Words.{taken_lines, text_at, tags_after, used, place_of, with_cleared, AreRows, has_toggle}
-use Rattle.line_lists.proofs.Words.{next_line, whole, cleared, tags_left_of}
+use Rattle.line_lists.proofs.Common.{◌≡◌, ℕ, zero, suc, ◌+◌, ◌-◌, ◌<◌, ◌≤◌, ◌^◌, min, Bool, true, false, List, [], ◌∷◌}
+use Rattle.line_lists.proofs.Common.{◌++◌, Option, None, Some, length, get_or, map, take, drop, inl, inr, refl, sym, ap}
+use Rattle.line_lists.proofs.Common.{ap₂, subst, ◌∙◌, arith, append_assoc, length-append, length-drop, length-take}
+use Rattle.line_lists.proofs.Common.{take-append-drop, IfSome, if◌then◌else◌, reverse, slice_get, unwrap_or, cases_lt}
+use Rattle.line_lists.proofs.Common.{or_parts, append-nil, drop-drop, drop-map, get_or-drop, get_or-take, map-append}
+use Rattle.line_lists.proofs.Common.{reverse-append, take-append-le, take-map, take-take, take_all, slice_get-get_or}
+use Rattle.line_lists.proofs.Common.{take-append-add, differing, changed, changed-append_right, changed-same}
+use Rattle.line_lists.proofs.Common.{length-changed, map-changed, presence, Column, LineContent, characters, joined}
+use Rattle.line_lists.proofs.Common.{plain_line, toggles, with_toggle, Copied, Reached, Stop, AreFree, free_end}
+use Rattle.line_lists.proofs.Common.{free_length, lines_on, BeginsBehind, IsDraft, IsReached, IsTaken, IsText, StandsAt}
+use Rattle.line_lists.proofs.Common.{copies_of, covered, drafted, drafted_at, lines_before, lines_behind, made_lines}
+use Rattle.line_lists.proofs.Common.{taken_lines, text_at, tags_after, used, place_of, with_cleared, AreRows}
+use Rattle.line_lists.proofs.Common.{has_toggle, next_line, whole, cleared, tags_left_of}
 use Rattle.segments.proofs.ChangeLaws.{changed-first, changed-next, slots_kept}
 use Rattle.line_lists.proofs.DraftLaws.{behind-whole, can-follow-next, copies-snoc, drafted-append, last_is, last_same}
 use Rattle.line_lists.proofs.DraftLaws.{length-whole, stop_of, no_last, none_at, take-more, used-append}

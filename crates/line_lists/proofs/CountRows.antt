@@ -1,8 +1,8 @@
 -- What is counted of lines in a row.
-use Rattle.line_lists.proofs.Words.{◌≡◌, ◌+◌, List, [], ◌∷◌, ◌++◌, length, refl, sym, ap, ◌∙◌, arith, length-append}
-use Rattle.line_lists.proofs.Words.{differing, no_text-plus, plus-associative, Count, CountsFit, plus, presence}
-use Rattle.line_lists.proofs.Words.{presence-append, Column, LineContent, line_count, toggles, IsCounted, count_of}
-use Rattle.line_lists.proofs.Words.{whole, tags_left_of}
+use Rattle.line_lists.proofs.Common.{◌≡◌, ◌+◌, List, [], ◌∷◌, ◌++◌, length, refl, sym, ap, ◌∙◌, arith, length-append}
+use Rattle.line_lists.proofs.Common.{differing, no_text-plus, plus-associative, Count, CountsFit, plus, presence}
+use Rattle.line_lists.proofs.Common.{presence-append, Column, LineContent, line_count, toggles, IsCounted, count_of}
+use Rattle.line_lists.proofs.Common.{whole, tags_left_of}
 use Rattle.line_lists.proofs.TagLaws.{behind-append}
 use Rattle.std.specs.FinSet as set
 

@@ -1,14 +1,14 @@
 -- A line that is cut in two.
-use Rattle.line_lists.proofs.Words.{◌≡◌, ℕ, ◌+◌, ◌-◌, ◌<◌, ◌≤◌, Bool, true, false, cond, List, [], ◌∷◌, ◌++◌, Option}
-use Rattle.line_lists.proofs.Words.{None, Some, length, take, drop, refl, sym, ap, ap₂, subst, ◌∙◌, arith}
-use Rattle.line_lists.proofs.Words.{length-append, length-drop, take-append-drop, nat_cmp_total, nat_le, nat_lt}
-use Rattle.line_lists.proofs.Words.{option_map, nat_tests, drop-map, length-map, length-take-le, map-append, take-map}
-use Rattle.line_lists.proofs.Words.{option_filter, drop-append_seam, take-append_seam, Place, Marks, map_marks}
-use Rattle.line_lists.proofs.Words.{ends_in_newline, lines, inserted, moved, ends_with_rest, lines-append}
-use Rattle.line_lists.proofs.Words.{get-map_marks, same_marks, Column, LineContent, after_text, characters, earlier}
-use Rattle.line_lists.proofs.Words.{joined, later, line_before, line_behind, marks_where, plain_columns, plain_line}
-use Rattle.line_lists.proofs.Words.{get-joined_marks, or_else, characters-plain, AreApart, AreRows, GoesBefore, IsLine}
-use Rattle.line_lists.proofs.Words.{StandBefore, whole}
+use Rattle.line_lists.proofs.Common.{◌≡◌, ℕ, ◌+◌, ◌-◌, ◌<◌, ◌≤◌, Bool, true, false, cond, List, [], ◌∷◌, ◌++◌, Option}
+use Rattle.line_lists.proofs.Common.{None, Some, length, take, drop, refl, sym, ap, ap₂, subst, ◌∙◌, arith}
+use Rattle.line_lists.proofs.Common.{length-append, length-drop, take-append-drop, nat_cmp_total, nat_le, nat_lt}
+use Rattle.line_lists.proofs.Common.{option_map, nat_tests, drop-map, length-map, length-take-le, map-append, take-map}
+use Rattle.line_lists.proofs.Common.{option_filter, drop-append_seam, take-append_seam, Place, Marks, map_marks}
+use Rattle.line_lists.proofs.Common.{ends_in_newline, lines, inserted, moved, ends_with_rest, lines-append}
+use Rattle.line_lists.proofs.Common.{get-map_marks, same_marks, Column, LineContent, after_text, characters, earlier}
+use Rattle.line_lists.proofs.Common.{joined, later, line_before, line_behind, marks_where, plain_columns, plain_line}
+use Rattle.line_lists.proofs.Common.{get-joined_marks, or_else, characters-plain, AreApart, AreRows, GoesBefore, IsLine}
+use Rattle.line_lists.proofs.Common.{StandBefore, whole}
 use Rattle.line_lists.proofs.EditLaws.{length-text, some-columns, text-among, text-goes, text-whole}
 use Rattle.line_lists.proofs.MarkPlaces.{apart-rest}
 use Rattle.line_lists.proofs.NewlineRows.{none_before}

@@ -1,12 +1,12 @@
 -- Copies of lines in a row, and the lines that they make.
-use Rattle.line_lists.proofs.Words.{◌≡◌, ℕ, zero, suc, ◌+◌, ◌-◌, ◌<◌, ◌≤◌, ◌^◌, List, [], ◌∷◌, ◌++◌, length, take, drop}
-use Rattle.line_lists.proofs.Words.{refl, sym, ap, ap₂, ◌∙◌, subst, arith, append_assoc, length-append, reverse}
-use Rattle.line_lists.proofs.Words.{slice_get, append-nil, drop-drop, map-append, nil_from_length, reverse-append}
-use Rattle.line_lists.proofs.Words.{take_all, take_more, get_or_from_slice_get, slice_get_within, differing, Count}
-use Rattle.line_lists.proofs.Words.{LineContent, Copied, Reached, Stop, AreStops, BeginsBehind, BeginsBy, CanFollow}
-use Rattle.line_lists.proofs.Words.{IsDraft, IsReached, LastBeginsBehind, IsStop, copies_of, covered, drafted, in_order}
-use Rattle.line_lists.proofs.Words.{line_start, lines_before, made_lines, used, IsCounted, count_of, whole}
-use Rattle.line_lists.proofs.Words.{tags_left_of, None, Option, Some}
+use Rattle.line_lists.proofs.Common.{◌≡◌, ℕ, zero, suc, ◌+◌, ◌-◌, ◌<◌, ◌≤◌, ◌^◌, List, [], ◌∷◌, ◌++◌, length, take}
+use Rattle.line_lists.proofs.Common.{drop, refl, sym, ap, ap₂, ◌∙◌, subst, arith, append_assoc, length-append, reverse}
+use Rattle.line_lists.proofs.Common.{slice_get, append-nil, drop-drop, map-append, nil_from_length, reverse-append}
+use Rattle.line_lists.proofs.Common.{take_all, take_more, get_or_from_slice_get, slice_get_within, differing, Count}
+use Rattle.line_lists.proofs.Common.{LineContent, Copied, Reached, Stop, AreStops, BeginsBehind, BeginsBy, CanFollow}
+use Rattle.line_lists.proofs.Common.{IsDraft, IsReached, LastBeginsBehind, IsStop, copies_of, covered, drafted}
+use Rattle.line_lists.proofs.Common.{in_order, line_start, lines_before, made_lines, used, IsCounted, count_of, whole}
+use Rattle.line_lists.proofs.Common.{tags_left_of, None, Option, Some}
 use Rattle.line_lists.proofs.CountRows.{count-append, count-characters, count-parity}
 use Rattle.line_lists.proofs.SlotLaws.{differing-again}
 use Rattle.line_lists.proofs.StepLaws.{take-slice}

@@ -1,12 +1,13 @@
 -- What a text that goes into a line, and a mark that is put in it, make of the lines of a text.
-use Rattle.line_lists.proofs.Words.{◌≡◌, ◌≢◌, ℕ, ◌+◌, ◌-◌, min, ◌<◌, ◌≤◌, Bool, true, false, List, [], ◌∷◌, ◌++◌}
-use Rattle.line_lists.proofs.Words.{Option, None, Some, cond, length, take, refl, sym, ap, ap₂, subst, ◌∙◌, arith}
-use Rattle.line_lists.proofs.Words.{length-append, nat_cmp_total, eq_by_cmp, nat_cmp, option_map, length-map, Place}
-use Rattle.line_lists.proofs.Words.{Marks, map_marks, ends_in_newline, lines, inserted, moved, ends_with_rest}
-use Rattle.line_lists.proofs.Words.{lines-inserted, get-map_marks, length-inserted, map-inserted, moved_le, Column}
-use Rattle.line_lists.proofs.Words.{LineContent, after_text, characters, joined, later, plain_columns, get-joined_marks}
-use Rattle.line_lists.proofs.Words.{or_else, tied_same, characters-plain, StandsBy, with_mark, without_mark, AreApart}
-use Rattle.line_lists.proofs.Words.{AreRows, GoesBefore, IsLine, StandBefore, StandWithin, whole, IfSome}
+use Rattle.line_lists.proofs.Common.{◌≡◌, ◌≢◌, ℕ, ◌+◌, ◌-◌, min, ◌<◌, ◌≤◌, Bool, true, false, List, [], ◌∷◌, ◌++◌}
+use Rattle.line_lists.proofs.Common.{Option, None, Some, cond, length, take, refl, sym, ap, ap₂, subst, ◌∙◌, arith}
+use Rattle.line_lists.proofs.Common.{length-append, nat_cmp_total, eq_by_cmp, nat_cmp, option_map, length-map, Place}
+use Rattle.line_lists.proofs.Common.{Marks, map_marks, ends_in_newline, lines, inserted, moved, ends_with_rest}
+use Rattle.line_lists.proofs.Common.{lines-inserted, get-map_marks, length-inserted, map-inserted, moved_le, Column}
+use Rattle.line_lists.proofs.Common.{LineContent, after_text, characters, joined, later, plain_columns}
+use Rattle.line_lists.proofs.Common.{get-joined_marks, or_else, tied_same, characters-plain, StandsBy, with_mark}
+use Rattle.line_lists.proofs.Common.{without_mark, AreApart, AreRows, GoesBefore, IsLine, StandBefore, StandWithin}
+use Rattle.line_lists.proofs.Common.{whole, IfSome}
 use Rattle.line_lists.proofs.MarkRows.{get-row}
 use Rattle.line_lists.proofs.RowLaws.{AreAmong, Makes, StayFree, among-first, free-joined, free-parts, rows-among}
 use Rattle.line_lists.proofs.RowLaws.{rows-before, rows-behind, whole-around}

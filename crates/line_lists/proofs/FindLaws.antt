@@ -1,11 +1,11 @@
 -- Lines of a list that copies keep, by where they stand in the text.
-use Rattle.line_lists.proofs.Words.{◌≡◌, ℕ, zero, suc, ◌+◌, ◌-◌, ◌<◌, ◌≤◌, ◌^◌, List, [], ◌∷◌, ◌++◌, Option, None, Some}
-use Rattle.line_lists.proofs.Words.{length, take, drop, inl, inr, refl, sym, ap, ap₂, subst, ◌∙◌, arith, append_assoc}
-use Rattle.line_lists.proofs.Words.{length-append, take-append-drop, IfSome, reverse, slice_get, cases_lt, drop-drop}
-use Rattle.line_lists.proofs.Words.{reverse-append, slice_get_within, LineContent, Copied, Reached, Stop, BeginsBy}
-use Rattle.line_lists.proofs.Words.{IsDraft, IsFound, IsReached, IsSeen, IsStop, IsTaken, StandsAt, copies_of, covered}
-use Rattle.line_lists.proofs.Words.{drafted, drafted_at, in_order, line_start, lines_before, made_lines, place_of}
-use Rattle.line_lists.proofs.Words.{taken_lines, used, Holds, whole}
+use Rattle.line_lists.proofs.Common.{◌≡◌, ℕ, zero, suc, ◌+◌, ◌-◌, ◌<◌, ◌≤◌, ◌^◌, List, [], ◌∷◌, ◌++◌, Option, None}
+use Rattle.line_lists.proofs.Common.{Some, length, take, drop, inl, inr, refl, sym, ap, ap₂, subst, ◌∙◌, arith}
+use Rattle.line_lists.proofs.Common.{append_assoc, length-append, take-append-drop, IfSome, reverse, slice_get}
+use Rattle.line_lists.proofs.Common.{cases_lt, drop-drop, reverse-append, slice_get_within, LineContent, Copied}
+use Rattle.line_lists.proofs.Common.{Reached, Stop, BeginsBy, IsDraft, IsFound, IsReached, IsSeen, IsStop, IsTaken}
+use Rattle.line_lists.proofs.Common.{StandsAt, copies_of, covered, drafted, drafted_at, in_order, line_start}
+use Rattle.line_lists.proofs.Common.{lines_before, made_lines, place_of, taken_lines, used, Holds, whole}
 use Rattle.line_lists.specs.declared.drafts.Seen.{Seen}
 use Rattle.line_lists.proofs.CountRows.{count-characters}
 use Rattle.line_lists.proofs.DraftLaws.{copies-snoc, counted-between, drafted-append, length-whole, made-snoc, none_at}

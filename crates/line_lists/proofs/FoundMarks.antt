@@ -1,8 +1,8 @@
 -- A mark that goes to the end of the text of a draft.
-use Rattle.line_lists.proofs.Words.{◌≡◌, ℕ, ◌+◌, ◌-◌, ◌<◌, ◌≤◌, List, [], ◌∷◌, ◌++◌, None, length, take, drop, refl}
-use Rattle.line_lists.proofs.Words.{sym, ap, ap₂, subst, ◌∙◌, arith, length-append, Place, LineContent, later, Copied}
-use Rattle.line_lists.proofs.Words.{Stop, IsText, covered, drafted, drafted_at, in_order, text_at, with_mark, AreRows}
-use Rattle.line_lists.proofs.Words.{GoesBefore, IsLine, whole}
+use Rattle.line_lists.proofs.Common.{◌≡◌, ℕ, ◌+◌, ◌-◌, ◌<◌, ◌≤◌, List, [], ◌∷◌, ◌++◌, None, length, take, drop, refl}
+use Rattle.line_lists.proofs.Common.{sym, ap, ap₂, subst, ◌∙◌, arith, length-append, Place, LineContent, later, Copied}
+use Rattle.line_lists.proofs.Common.{Stop, IsText, covered, drafted, drafted_at, in_order, text_at, with_mark, AreRows}
+use Rattle.line_lists.proofs.Common.{GoesBefore, IsLine, whole}
 use Rattle.line_lists.proofs.EditLaws.{free-around, mark-stays, mark-whole, put-stands, some-columns}
 use Rattle.line_lists.proofs.FreedLaws.{drafted-cons}
 use Rattle.line_lists.proofs.RowLaws.{Makes, rows-among, rows-behind, whole-around}

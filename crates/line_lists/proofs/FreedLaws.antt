@@ -1,11 +1,11 @@
 -- Lines from which the marks of copies are taken off.
-use Rattle.line_lists.proofs.Words.{◌≡◌, ◌≢◌, ℕ, zero, suc, ◌+◌, ◌<◌, ◌≤◌, Bool, true, false, ◌⊎◌, inl, inr, List, []}
-use Rattle.line_lists.proofs.Words.{◌∷◌, ◌++◌, Option, None, Some, cond, length, map, take, drop, refl, sym, ap, ap₂}
-use Rattle.line_lists.proofs.Words.{subst, ◌∙◌, arith, append_assoc, option_map, slice_get, IsSome, nat_cmp_total}
-use Rattle.line_lists.proofs.Words.{unsigned_tied, eq_by_cmp, nat_cmp, nat_tests, drop-drop, drop-map, length-map}
-use Rattle.line_lists.proofs.Words.{take-map, take_all, MarkNo, Place, same_marks, LineContent, tied_same, Copied}
-use Rattle.line_lists.proofs.Words.{covered, drafted, made_lines, used, without_mark, AreApart, AreLines, AreRows}
-use Rattle.line_lists.proofs.Words.{GoesBefore, count_of, copied_lines, freed, numbers_in, numbers_of, whole}
+use Rattle.line_lists.proofs.Common.{◌≡◌, ◌≢◌, ℕ, zero, suc, ◌+◌, ◌<◌, ◌≤◌, Bool, true, false, ◌⊎◌, inl, inr, List, []}
+use Rattle.line_lists.proofs.Common.{◌∷◌, ◌++◌, Option, None, Some, cond, length, map, take, drop, refl, sym, ap, ap₂}
+use Rattle.line_lists.proofs.Common.{subst, ◌∙◌, arith, append_assoc, option_map, slice_get, IsSome, nat_cmp_total}
+use Rattle.line_lists.proofs.Common.{unsigned_tied, eq_by_cmp, nat_cmp, nat_tests, drop-drop, drop-map, length-map}
+use Rattle.line_lists.proofs.Common.{take-map, take_all, MarkNo, Place, same_marks, LineContent, tied_same, Copied}
+use Rattle.line_lists.proofs.Common.{covered, drafted, made_lines, used, without_mark, AreApart, AreLines, AreRows}
+use Rattle.line_lists.proofs.Common.{GoesBefore, count_of, copied_lines, freed, numbers_in, numbers_of, whole}
 use Rattle.std.specs.FinMap.Entries.{find}
 use Rattle.line_lists.proofs.DraftLaws.{none_at}
 use Rattle.line_lists.proofs.EditLaws.{free_one, rows-apart}

@@ -1,15 +1,15 @@
 -- Copies that become pieces, one by one.
-use Rattle.line_lists.proofs.Words.{◌≡◌, ℕ, ◌+◌, ◌-◌, ◌<◌, ◌≤◌, Bool, true, false, cond, List, [], ◌∷◌, ◌++◌, Option}
-use Rattle.line_lists.proofs.Words.{None, Some, length, get_or, set, map, take, drop, refl, sym, ap, ap₂, subst, subst₂}
-use Rattle.line_lists.proofs.Words.{◌∙◌, arith, append_assoc, length-append, reverse, nat_cmp_total, All, eq_by_cmp}
-use Rattle.line_lists.proofs.Words.{nat_cmp, append-nil, at_drop_more, length-set, map-append, nil_from_length}
-use Rattle.line_lists.proofs.Words.{take_all, take_more, take_more_set, All-drop, All-push, All-take, All-weaker}
-use Rattle.line_lists.proofs.Words.{drop-append_seam, take-append_seam, MarkNo, Place, same_marks, plus-associative}
-use Rattle.line_lists.proofs.Words.{plus-no_text, Count, counting, no_text, plus, LineContent, line_count, Copied, Stop}
-use Rattle.line_lists.proofs.Words.{Piece, AreStops, IsText, copies_of, drafted, drafted_at, made_lines, used}
-use Rattle.line_lists.proofs.Words.{without_mark, AreApart, AreLines, AreRows, IsCounted, SameNumbers, count_of}
-use Rattle.line_lists.proofs.Words.{spliced, CanPlace, Covers, copied_lines, freed, named, numbers_in, numbers_of}
-use Rattle.line_lists.proofs.Words.{piece_lines, placed, whole}
+use Rattle.line_lists.proofs.Common.{◌≡◌, ℕ, ◌+◌, ◌-◌, ◌<◌, ◌≤◌, Bool, true, false, cond, List, [], ◌∷◌, ◌++◌, Option}
+use Rattle.line_lists.proofs.Common.{None, Some, length, get_or, set, map, take, drop, refl, sym, ap, ap₂, subst}
+use Rattle.line_lists.proofs.Common.{subst₂, ◌∙◌, arith, append_assoc, length-append, reverse, nat_cmp_total, All}
+use Rattle.line_lists.proofs.Common.{eq_by_cmp, nat_cmp, append-nil, at_drop_more, length-set, map-append}
+use Rattle.line_lists.proofs.Common.{nil_from_length, take_all, take_more, take_more_set, All-drop, All-push, All-take}
+use Rattle.line_lists.proofs.Common.{All-weaker, drop-append_seam, take-append_seam, MarkNo, Place, same_marks}
+use Rattle.line_lists.proofs.Common.{plus-associative, plus-no_text, Count, counting, no_text, plus, LineContent}
+use Rattle.line_lists.proofs.Common.{line_count, Copied, Stop, Piece, AreStops, IsText, copies_of, drafted, drafted_at}
+use Rattle.line_lists.proofs.Common.{made_lines, used, without_mark, AreApart, AreLines, AreRows, IsCounted}
+use Rattle.line_lists.proofs.Common.{SameNumbers, count_of, spliced, CanPlace, Covers, copied_lines, freed, named}
+use Rattle.line_lists.proofs.Common.{numbers_in, numbers_of, piece_lines, placed, whole}
 use Rattle.line_lists.proofs.CountRows.{count-append}
 use Rattle.line_lists.proofs.DraftLaws.{copies-snoc, made-snoc, used-append}
 use Rattle.line_lists.proofs.FreedLaws.{freed-apart, freed-count_characters, freed-count_lines, freed-count_marks}

@@ -1,6 +1,6 @@
 -- How many lines pieces bring beyond those in whose place they come, and in how many rows.
-use Rattle.line_lists.proofs.Words.{◌≡◌, ℕ, ◌+◌, ◌-◌, ◌<◌, ◌≤◌, min, List, [], ◌∷◌, ◌++◌, length, get_or, take, subst₂}
-use Rattle.line_lists.proofs.Words.{sym, ap, ◌∙◌, arith, take_more, Piece, more_lines, row_of, lines_more, rows_more}
+use Rattle.line_lists.proofs.Common.{◌≡◌, ℕ, ◌+◌, ◌-◌, ◌<◌, ◌≤◌, min, List, [], ◌∷◌, ◌++◌, length, get_or, take, subst₂}
+use Rattle.line_lists.proofs.Common.{sym, ap, ◌∙◌, arith, take_more, Piece, more_lines, row_of, lines_more, rows_more}
 
 lines-snoc : (pieces : List Piece) (piece : Piece) →
     lines_more (pieces ++ piece ∷ []) ≡ more_lines piece.count piece.lines.items + lines_more pieces

@@ -1,8 +1,8 @@
 -- Characters are taken out of a text while the copy of a line is held out of its draft.
-use Rattle.line_lists.proofs.Words.{◌≡◌, ℕ, ◌+◌, ◌-◌, ◌<◌, ◌≤◌, List, [], ◌∷◌, ◌++◌, length, take, drop, refl, sym, ap}
-use Rattle.line_lists.proofs.Words.{ap₂, subst, ◌∙◌, arith, length-append, LineContent, after_removal, joined, Copied}
-use Rattle.line_lists.proofs.Words.{Stop, IsTaken, copies_of, lines_before, lines_behind, made_lines, taken_lines, used}
-use Rattle.line_lists.proofs.Words.{AreRows, HoldsMore, IsHeld, JoinsNext, held_at, held_text, whole}
+use Rattle.line_lists.proofs.Common.{◌≡◌, ℕ, ◌+◌, ◌-◌, ◌<◌, ◌≤◌, List, [], ◌∷◌, ◌++◌, length, take, drop, refl, sym, ap}
+use Rattle.line_lists.proofs.Common.{ap₂, subst, ◌∙◌, arith, length-append, LineContent, after_removal, joined, Copied}
+use Rattle.line_lists.proofs.Common.{Stop, IsTaken, copies_of, lines_before, lines_behind, made_lines, taken_lines}
+use Rattle.line_lists.proofs.Common.{used, AreRows, HoldsMore, IsHeld, JoinsNext, held_at, held_text, whole}
 use Rattle.line_lists.proofs.DraftLaws.{length-whole}
 use Rattle.line_lists.proofs.EditLaws.{some-columns}
 use Rattle.line_lists.proofs.JoinLaws.{first-of}

@@ -1,12 +1,12 @@
 -- A text with newlines goes into the text of a draft line by line.
-use Rattle.line_lists.proofs.Words.{◌≡◌, ℕ, ◌+◌, ◌<◌, ◌≤◌, Bool, true, false, ◌&&◌, ◌||◌, ◌==◌, List, [], ◌∷◌, ◌++◌}
-use Rattle.line_lists.proofs.Words.{Option, None, Some, length, take, drop, refl, sym, ap, ap₂, subst, ◌∙◌, arith}
-use Rattle.line_lists.proofs.Words.{append_assoc, length-append, take-append-drop, nat_cmp, if◌then◌else◌, nat_lt}
-use Rattle.line_lists.proofs.Words.{option_map, or_parts, nat_tests, append-nil, length-map, length-take-le, map-append}
-use Rattle.line_lists.proofs.Words.{Place, Marks, map_marks, goes_behind, inserted, is_right, moved, get-map_marks}
-use Rattle.line_lists.proofs.Words.{same_marks, inserted-append_right, LineContent, after_text, joined, joined_marks}
-use Rattle.line_lists.proofs.Words.{later, plain_columns, plain_line, get-joined_marks, or_else, StandRight, AreApart}
-use Rattle.line_lists.proofs.Words.{AreRows, GoesBefore, IsLine, StandBefore, whole}
+use Rattle.line_lists.proofs.Common.{◌≡◌, ℕ, ◌+◌, ◌<◌, ◌≤◌, Bool, true, false, ◌&&◌, ◌||◌, ◌==◌, List, [], ◌∷◌, ◌++◌}
+use Rattle.line_lists.proofs.Common.{Option, None, Some, length, take, drop, refl, sym, ap, ap₂, subst, ◌∙◌, arith}
+use Rattle.line_lists.proofs.Common.{append_assoc, length-append, take-append-drop, nat_cmp, if◌then◌else◌, nat_lt}
+use Rattle.line_lists.proofs.Common.{option_map, or_parts, nat_tests, append-nil, length-map, length-take-le}
+use Rattle.line_lists.proofs.Common.{map-append, Place, Marks, map_marks, goes_behind, inserted, is_right, moved}
+use Rattle.line_lists.proofs.Common.{get-map_marks, same_marks, inserted-append_right, LineContent, after_text, joined}
+use Rattle.line_lists.proofs.Common.{joined_marks, later, plain_columns, plain_line, get-joined_marks, or_else}
+use Rattle.line_lists.proofs.Common.{StandRight, AreApart, AreRows, GoesBefore, IsLine, StandBefore, whole}
 use Rattle.line_lists.proofs.EditLaws.{rows-stand}
 use Rattle.line_lists.proofs.MarkRows.{moved_before}
 use Rattle.line_lists.proofs.RowLaws.{AreAmong, Makes, free-joined, rows-before, rows-behind}

@@ -1,9 +1,9 @@
 -- The next line joins that of a copy which is taken out of a draft.
-use Rattle.line_lists.proofs.Words.{◌≡◌, ℕ, ◌+◌, ◌-◌, ◌<◌, List, [], ◌∷◌, ◌++◌, Some, Result, Ok, Err, length, take}
-use Rattle.line_lists.proofs.Words.{drop, refl, sym, ap, ap₂, subst, ◌∙◌, arith, length-drop, OnOk, reverse, slice_get}
-use Rattle.line_lists.proofs.Words.{drop-drop, reverse-append, LineContent, joined, Copied, Reached, Stop, IsReached}
-use Rattle.line_lists.proofs.Words.{IsStop, IsTaken, copies_of, covered, drafted, lines_behind, made_lines, used}
-use Rattle.line_lists.proofs.Words.{JoinsNext, whole}
+use Rattle.line_lists.proofs.Common.{◌≡◌, ℕ, ◌+◌, ◌-◌, ◌<◌, List, [], ◌∷◌, ◌++◌, Some, Result, Ok, Err, length, take}
+use Rattle.line_lists.proofs.Common.{drop, refl, sym, ap, ap₂, subst, ◌∙◌, arith, length-drop, OnOk, reverse, slice_get}
+use Rattle.line_lists.proofs.Common.{drop-drop, reverse-append, LineContent, joined, Copied, Reached, Stop, IsReached}
+use Rattle.line_lists.proofs.Common.{IsStop, IsTaken, copies_of, covered, drafted, lines_behind, made_lines, used}
+use Rattle.line_lists.proofs.Common.{JoinsNext, whole}
 use Rattle.line_lists.proofs.FindLaws.{drop_after, opened_next}
 use Rattle.line_lists.proofs.WholeLaws.{whole-one}
 

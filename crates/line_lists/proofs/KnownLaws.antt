@@ -1,9 +1,9 @@
 -- The slots that are on behind copies, by one copy more or less.
-use Rattle.line_lists.proofs.Words.{◌≡◌, ℕ, zero, suc, ◌+◌, ◌≤◌, List, [], ◌∷◌, ◌++◌, length, take, drop, sym, ap, ◌∙◌}
-use Rattle.line_lists.proofs.Words.{subst, arith, append_assoc, reverse, slice_get, append-nil, slice_get_within, Slots}
-use Rattle.line_lists.proofs.Words.{differing, differing-commutative, LineContent, Copied, Stop, AreStops, IsBefore}
-use Rattle.line_lists.proofs.Words.{IsDraft, IsKnown, IsReached, copies_of, copy_tags, covered, made_lines, tags_after}
-use Rattle.line_lists.proofs.Words.{used, whole, tags_left_of, None, Option, Some}
+use Rattle.line_lists.proofs.Common.{◌≡◌, ℕ, zero, suc, ◌+◌, ◌≤◌, List, [], ◌∷◌, ◌++◌, length, take, drop, sym, ap, ◌∙◌}
+use Rattle.line_lists.proofs.Common.{subst, arith, append_assoc, reverse, slice_get, append-nil, slice_get_within}
+use Rattle.line_lists.proofs.Common.{Slots, differing, differing-commutative, LineContent, Copied, Stop, AreStops}
+use Rattle.line_lists.proofs.Common.{IsBefore, IsDraft, IsKnown, IsReached, copies_of, copy_tags, covered, made_lines}
+use Rattle.line_lists.proofs.Common.{tags_after, used, whole, tags_left_of, None, Option, Some}
 use Rattle.line_lists.specs.declared.drafts.Known.{Known}
 use Rattle.line_lists.proofs.DraftLaws.{behind-whole, copies-snoc, made-snoc, some_same, used-append}
 use Rattle.line_lists.proofs.SlotLaws.{differing-back}

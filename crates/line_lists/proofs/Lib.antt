@@ -1,6 +1,7 @@
 pub mod BareLaws
 pub mod BeginLaws
 pub mod ClearingLaws
+pub mod Common
 pub mod CountRows
 pub mod CutLaws
 pub mod DraftLaws
@@ -45,4 +46,3 @@ pub mod TextRows
 pub mod ToggleColumns
 pub mod VecLaws
 pub mod WholeLaws
-pub mod Words

@@ -1,7 +1,7 @@
 -- The line that an offset stands in, of lines in a row.
-use Rattle.line_lists.proofs.Words.{◌≡◌, ℕ, suc, ◌+◌, ◌-◌, List, Some, length, sym, ap, ◌∙◌, arith, slice_get}
-use Rattle.line_lists.proofs.Words.{length-map, Cell, IsLineOf, line_start-later, line_start-le, LineContent, AreRows}
-use Rattle.line_lists.proofs.Words.{Holds, content_of}
+use Rattle.line_lists.proofs.Common.{◌≡◌, ℕ, suc, ◌+◌, ◌-◌, List, Some, length, sym, ap, ◌∙◌, arith, slice_get}
+use Rattle.line_lists.proofs.Common.{length-map, Cell, IsLineOf, line_start-later, line_start-le, LineContent, AreRows}
+use Rattle.line_lists.proofs.Common.{Holds, content_of}
 use Rattle.text_model.specs.Content.{characters}
 use Rattle.text_model.specs.Lines.{line_start}
 use Rattle.line_lists.proofs.LineStarts.{lent-length, start-all, start-next, start_of}

@@ -1,8 +1,8 @@
 -- Where the lines in a row begin.
-use Rattle.line_lists.proofs.Words.{◌≡◌, ℕ, zero, suc, ◌+◌, ◌-◌, ◌<◌, ◌≤◌, List, [], ◌∷◌, None, Some, length, take, sym}
-use Rattle.line_lists.proofs.Words.{ap, subst, ◌∙◌, inl, inr, arith, length-append, IfSome, slice_get, cases_lt}
-use Rattle.line_lists.proofs.Words.{take_all, get_or_from_slice_get, slice_get-get_or, LineContent, plain_line, Holds}
-use Rattle.line_lists.proofs.Words.{IsAt, whole}
+use Rattle.line_lists.proofs.Common.{◌≡◌, ℕ, zero, suc, ◌+◌, ◌-◌, ◌<◌, ◌≤◌, List, [], ◌∷◌, None, Some, length, take}
+use Rattle.line_lists.proofs.Common.{sym, ap, subst, ◌∙◌, inl, inr, arith, length-append, IfSome, slice_get, cases_lt}
+use Rattle.line_lists.proofs.Common.{take_all, get_or_from_slice_get, slice_get-get_or, LineContent, plain_line, Holds}
+use Rattle.line_lists.proofs.Common.{IsAt, whole}
 use Rattle.line_lists.proofs.SearchRows.{line_at}
 
 abbrev pub start_of : List LineContent → ℕ → ℕ

@@ -1,10 +1,10 @@
 -- Lines that are looked through one by one, from the first on or from the last back.
-use Rattle.line_lists.proofs.Words.{◌≡◌, ℕ, ◌+◌, ◌-◌, ◌<◌, ◌≤◌, Bool, true, false, cond, List, [], ◌∷◌, ◌++◌, None}
-use Rattle.line_lists.proofs.Words.{Some, length, get_or, take, drop, sym, ap, subst, ◌∙◌, arith, length-append}
-use Rattle.line_lists.proofs.Words.{take-append-drop, IfSome, nat_lt, position, prefix_len, suffix_len, nat_tests}
-use Rattle.line_lists.proofs.Words.{drop_more, take_more, prefix_len-drop_all, prefix_len-drop_no, prefix_len-drop_yes}
-use Rattle.line_lists.proofs.Words.{suffix_len-take_no, suffix_len-take_yes, slice_get-get_or, plus-no_text, CountsFit}
-use Rattle.line_lists.proofs.Words.{plus, LineContent, joined, line_count, Holds, IsCounted, count_of, whole, not}
+use Rattle.line_lists.proofs.Common.{◌≡◌, ℕ, ◌+◌, ◌-◌, ◌<◌, ◌≤◌, Bool, true, false, cond, List, [], ◌∷◌, ◌++◌, None}
+use Rattle.line_lists.proofs.Common.{Some, length, get_or, take, drop, sym, ap, subst, ◌∙◌, arith, length-append}
+use Rattle.line_lists.proofs.Common.{take-append-drop, IfSome, nat_lt, position, prefix_len, suffix_len, nat_tests}
+use Rattle.line_lists.proofs.Common.{drop_more, take_more, prefix_len-drop_all, prefix_len-drop_no, prefix_len-drop_yes}
+use Rattle.line_lists.proofs.Common.{suffix_len-take_no, suffix_len-take_yes, slice_get-get_or, plus-no_text, CountsFit}
+use Rattle.line_lists.proofs.Common.{plus, LineContent, joined, line_count, Holds, IsCounted, count_of, whole, not}
 use Rattle.line_lists.proofs.CountRows.{count-append, counted-more}
 use Rattle.line_lists.proofs.WholeLaws.{whole-append, whole-one}
 

@@ -1,6 +1,6 @@
 -- What a step makes of a text that is one long line is what it makes of the text.
-use Rattle.line_lists.proofs.Words.{◌≡◌, length, refl, arith, Step, Remove, Insert, SetTag, ClearTags, ClearSlot}
-use Rattle.line_lists.proofs.Words.{PutMark, TakeMark, StepFitsIn, after_step, LineContent, made, text_of}
+use Rattle.line_lists.proofs.Common.{◌≡◌, length, refl, arith, Step, Remove, Insert, SetTag, ClearTags, ClearSlot}
+use Rattle.line_lists.proofs.Common.{PutMark, TakeMark, StepFitsIn, after_step, LineContent, made, text_of}
 use Rattle.line_lists.proofs.StepLaws.{cells-bare, cells-cleared_all, cells-inserted, cells-removed, cells-tagged}
 
 pub text-made : (step : Step) (line : LineContent) → StepFitsIn step (length line.columns) →

@@ -1,9 +1,9 @@
 -- Where the marks of lines in a row stand in the text.
-use Rattle.line_lists.proofs.Words.{◌≡◌, ℕ, suc, ◌+◌, ◌<◌, true, false, cond, ◌==◌, List, [], ◌∷◌, Option, None, Some}
-use Rattle.line_lists.proofs.Words.{length, take, drop, refl, sym, ap, ap₂, ◌∙◌, arith, length-drop, find, eq_by_cmp}
-use Rattle.line_lists.proofs.Words.{nat_cmp, is_some, option_map, nat_tests, unsigned_tied, Place, Marks, LineContent}
-use Rattle.line_lists.proofs.Words.{later, get-joined_marks, or_else, AreApart, AreRows, GoesBefore, StandBefore}
-use Rattle.line_lists.proofs.Words.{StandWithin, has_mark, has_marks, whole}
+use Rattle.line_lists.proofs.Common.{◌≡◌, ℕ, suc, ◌+◌, ◌<◌, true, false, cond, ◌==◌, List, [], ◌∷◌, Option, None, Some}
+use Rattle.line_lists.proofs.Common.{length, take, drop, refl, sym, ap, ap₂, ◌∙◌, arith, length-drop, find, eq_by_cmp}
+use Rattle.line_lists.proofs.Common.{nat_cmp, is_some, option_map, nat_tests, unsigned_tied, Place, Marks, LineContent}
+use Rattle.line_lists.proofs.Common.{later, get-joined_marks, or_else, AreApart, AreRows, GoesBefore, StandBefore}
+use Rattle.line_lists.proofs.Common.{StandWithin, has_mark, has_marks, whole}
 use Rattle.line_lists.proofs.LineStarts.{length_at, start-more, start_of, there}
 use Rattle.line_lists.proofs.MarkRows.{get-row}
 use Rattle.line_lists.proofs.NewlineRows.{row-at}

@@ -1,8 +1,8 @@
 -- The marks of lines in a row.
-use Rattle.line_lists.proofs.Words.{◌≡◌, ℕ, ◌+◌, ◌-◌, ◌<◌, ◌≤◌, Bool, true, false, ◌&&◌, ◌||◌, ◌==◌, Option, None, Some}
-use Rattle.line_lists.proofs.Words.{refl, sym, ap, ap₂, ◌∙◌, arith, nat_cmp, if◌then◌else◌, nat_lt, option_map}
-use Rattle.line_lists.proofs.Words.{nat_tests, Place, Marks, map_marks, drawn, goes_behind, is_right, moved}
-use Rattle.line_lists.proofs.Words.{get-map_marks, same_marks, joined_marks, later, get-joined_marks, or_else}
+use Rattle.line_lists.proofs.Common.{◌≡◌, ℕ, ◌+◌, ◌-◌, ◌<◌, ◌≤◌, Bool, true, false, ◌&&◌, ◌||◌, ◌==◌, Option, None}
+use Rattle.line_lists.proofs.Common.{Some, refl, sym, ap, ap₂, ◌∙◌, arith, nat_cmp, if◌then◌else◌, nat_lt, option_map}
+use Rattle.line_lists.proofs.Common.{nat_tests, Place, Marks, map_marks, drawn, goes_behind, is_right, moved}
+use Rattle.line_lists.proofs.Common.{get-map_marks, same_marks, joined_marks, later, get-joined_marks, or_else}
 use Rattle.std.specs.FinMap as finite
 
 -- ---- three in a row

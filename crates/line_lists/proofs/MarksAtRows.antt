@@ -1,8 +1,8 @@
 -- The marks at an offset of lines in a row are those at its column in its line.
-use Rattle.line_lists.proofs.Words.{◌≡◌, ℕ, ◌+◌, Bool, true, false, cond, ◌==◌, List, [], ◌∷◌, Option, None, Some, map}
-use Rattle.line_lists.proofs.Words.{refl, sym, ap, ◌∙◌, arith, nat_cmp_total, nat_cmp-IsAntisymmetric, same_entries}
-use Rattle.line_lists.proofs.Words.{nat_cmp, option_map, nat_tests, option_filter, MarkNo, Place, marks_at, LineContent}
-use Rattle.line_lists.proofs.Words.{later, AreRows, IsAt, whole}
+use Rattle.line_lists.proofs.Common.{◌≡◌, ℕ, ◌+◌, Bool, true, false, cond, ◌==◌, List, [], ◌∷◌, Option, None, Some, map}
+use Rattle.line_lists.proofs.Common.{refl, sym, ap, ◌∙◌, arith, nat_cmp_total, nat_cmp-IsAntisymmetric, same_entries}
+use Rattle.line_lists.proofs.Common.{nat_cmp, option_map, nat_tests, option_filter, MarkNo, Place, marks_at}
+use Rattle.line_lists.proofs.Common.{LineContent, later, AreRows, IsAt, whole}
 use Rattle.line_lists.proofs.LineStarts.{start_of}
 use Rattle.line_lists.proofs.MarkPlaces.{mark-in, mark-out}
 use Rattle.line_lists.proofs.NearMarks.{by_line, inside}

@@ -1,12 +1,12 @@
 -- A mark that goes to one of the lines of a list, wherever it stood.
-use Rattle.line_lists.proofs.Words.{◌≡◌, ℕ, suc, ◌+◌, ◌-◌, ◌<◌, ◌≤◌, List, [], ◌∷◌, ◌++◌, Some, length, map, None, take}
-use Rattle.line_lists.proofs.Words.{drop, inl, inr, refl, sym, ap, ap₂, subst, subst₂, ◌∙◌, arith, append_assoc}
-use Rattle.line_lists.proofs.Words.{length-append, take-append-drop, All, slice_get, cases_lt, append-nil, drop-map}
-use Rattle.line_lists.proofs.Words.{drop_more, length-map, map-append, take-map, PutMark, TakeMark, MarkNo, Place}
-use Rattle.line_lists.proofs.Words.{after, Count, plus, LineContent, plain_line, Copied, Piece, Change, with_mark}
-use Rattle.line_lists.proofs.Words.{without_mark, AreLines, AreRows, IsCounted, count_of, spliced, MovesTo, CanMake}
-use Rattle.line_lists.proofs.Words.{CanPlace, FitsIn, content_made, freed, named, numbers_in, numbers_of, lines_more}
-use Rattle.line_lists.proofs.Words.{piece_lines, placed, rows_more, IsAt, content_of, text_of, whole}
+use Rattle.line_lists.proofs.Common.{◌≡◌, ℕ, suc, ◌+◌, ◌-◌, ◌<◌, ◌≤◌, List, [], ◌∷◌, ◌++◌, Some, length, map, None}
+use Rattle.line_lists.proofs.Common.{take, drop, inl, inr, refl, sym, ap, ap₂, subst, subst₂, ◌∙◌, arith, append_assoc}
+use Rattle.line_lists.proofs.Common.{length-append, take-append-drop, All, slice_get, cases_lt, append-nil, drop-map}
+use Rattle.line_lists.proofs.Common.{drop_more, length-map, map-append, take-map, PutMark, TakeMark, MarkNo, Place}
+use Rattle.line_lists.proofs.Common.{after, Count, plus, LineContent, plain_line, Copied, Piece, Change, with_mark}
+use Rattle.line_lists.proofs.Common.{without_mark, AreLines, AreRows, IsCounted, count_of, spliced, MovesTo, CanMake}
+use Rattle.line_lists.proofs.Common.{CanPlace, FitsIn, content_made, freed, named, numbers_in, numbers_of, lines_more}
+use Rattle.line_lists.proofs.Common.{piece_lines, placed, rows_more, IsAt, content_of, text_of, whole}
 use Rattle.line_lists.specs.declared.pieces.Growth.{Growth}
 use Rattle.line_lists.proofs.CountRows.{count-append}
 use Rattle.line_lists.proofs.DraftLaws.{take-more}

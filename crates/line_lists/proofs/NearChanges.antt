@@ -1,10 +1,10 @@
 -- The nearest change of a tag in lines in a row: in the line of the offset, else in the nearest line where its slot is
 -- toggled.
-use Rattle.line_lists.proofs.Words.{◌≡◌, ℕ, suc, ◌+◌, ◌-◌, ◌<◌, ◌≤◌, Bool, true, false, List, [], ◌∷◌, Option, None}
-use Rattle.line_lists.proofs.Words.{Some, length, get_or, refl, sym, ap, ap₂, subst, ◌∙◌, inl, inr, arith}
-use Rattle.line_lists.proofs.Words.{length-append, IfSome, slice_get, cases_lt, slice_get-get_or, get_or_from_slice_get}
-use Rattle.line_lists.proofs.Words.{next_change, previous_change, flags, Column, LineContent, next_toggle}
-use Rattle.line_lists.proofs.Words.{previous_toggle, Holds, has_toggle, IsAt, content_of, whole}
+use Rattle.line_lists.proofs.Common.{◌≡◌, ℕ, suc, ◌+◌, ◌-◌, ◌<◌, ◌≤◌, Bool, true, false, List, [], ◌∷◌, Option, None}
+use Rattle.line_lists.proofs.Common.{Some, length, get_or, refl, sym, ap, ap₂, subst, ◌∙◌, inl, inr, arith}
+use Rattle.line_lists.proofs.Common.{length-append, IfSome, slice_get, cases_lt, slice_get-get_or}
+use Rattle.line_lists.proofs.Common.{get_or_from_slice_get, next_change, previous_change, flags, Column, LineContent}
+use Rattle.line_lists.proofs.Common.{next_toggle, previous_toggle, Holds, has_toggle, IsAt, content_of, whole}
 use Rattle.line_lists.proofs.LineStarts.{at-before, length_at, lent, start-all, start-before, start-more, start-next}
 use Rattle.line_lists.proofs.LineStarts.{start-rises, start_of, there}
 use Rattle.line_lists.proofs.NearMarks.{three_ways}

@@ -1,9 +1,9 @@
 -- The nearest mark of lines in a row: in the line of the offset, else in the nearest line that has one.
-use Rattle.line_lists.proofs.Words.{◌≡◌, ℕ, suc, ◌+◌, ◌<◌, ◌≤◌, true, List, Option, None, Some, length, refl, sym, ap}
-use Rattle.line_lists.proofs.Words.{subst, ◌∙◌, inl, inr, arith, IfSome, slice_get, cases_lt, Place, Marks, next_mark}
-use Rattle.line_lists.proofs.Words.{previous_mark, next_mark-above, next_mark-least, next_mark-marked}
-use Rattle.line_lists.proofs.Words.{previous_mark-below, previous_mark-greatest, previous_mark-marked, LineContent}
-use Rattle.line_lists.proofs.Words.{later, AreRows, has_marks, IsAt, whole}
+use Rattle.line_lists.proofs.Common.{◌≡◌, ℕ, suc, ◌+◌, ◌<◌, ◌≤◌, true, List, Option, None, Some, length, refl, sym, ap}
+use Rattle.line_lists.proofs.Common.{subst, ◌∙◌, inl, inr, arith, IfSome, slice_get, cases_lt, Place, Marks, next_mark}
+use Rattle.line_lists.proofs.Common.{previous_mark, next_mark-above, next_mark-least, next_mark-marked}
+use Rattle.line_lists.proofs.Common.{previous_mark-below, previous_mark-greatest, previous_mark-marked, LineContent}
+use Rattle.line_lists.proofs.Common.{later, AreRows, has_marks, IsAt, whole}
 use Rattle.text_model.proofs.MarkOrderLaws.{IsMarked}
 use Rattle.line_lists.proofs.LineStarts.{at-before, at-inside, length_at, lent, start-before, start_of}
 use Rattle.line_lists.proofs.MarkPlaces.{InLine, has-none, has-some, mark-before, mark-in, mark-out, mark-within}

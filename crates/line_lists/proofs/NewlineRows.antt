@@ -1,10 +1,10 @@
 -- The newlines of lines in a row: as many as the lines, each at the end of its own.
-use Rattle.line_lists.proofs.Words.{◌≡◌, ℕ, zero, suc, ◌+◌, ◌<◌, ◌≤◌, Bool, true, false, cond, List, [], ◌∷◌, ◌++◌}
-use Rattle.line_lists.proofs.Words.{get_or, None, Some, length, take, drop, refl, sym, ap, ap₂, subst, ◌∙◌, arith}
-use Rattle.line_lists.proofs.Words.{length-append, slice_get, if◌then◌else◌, length-map, map-append, take-append-le}
-use Rattle.line_lists.proofs.Words.{take_all, slice_get-get_or, take-append-add, ends_in_newline, is_newline, line_of}
-use Rattle.line_lists.proofs.Words.{lines, lines-append, lines-cons, Column, LineContent, characters, plain_line}
-use Rattle.line_lists.proofs.Words.{AreRows, GoesBefore, Holds, IsLine, content_of, whole}
+use Rattle.line_lists.proofs.Common.{◌≡◌, ℕ, zero, suc, ◌+◌, ◌<◌, ◌≤◌, Bool, true, false, cond, List, [], ◌∷◌, ◌++◌}
+use Rattle.line_lists.proofs.Common.{get_or, None, Some, length, take, drop, refl, sym, ap, ap₂, subst, ◌∙◌, arith}
+use Rattle.line_lists.proofs.Common.{length-append, slice_get, if◌then◌else◌, length-map, map-append, take-append-le}
+use Rattle.line_lists.proofs.Common.{take_all, slice_get-get_or, take-append-add, ends_in_newline, is_newline, line_of}
+use Rattle.line_lists.proofs.Common.{lines, lines-append, lines-cons, Column, LineContent, characters, plain_line}
+use Rattle.line_lists.proofs.Common.{AreRows, GoesBefore, Holds, IsLine, content_of, whole}
 use Rattle.text_model.specs.Content.{characters as cell_characters}
 use Rattle.text_model.specs.Lines.{line_start}
 use Rattle.line_lists.proofs.PlaceRows.{characters-content, inside, whole-at}

@@ -1,10 +1,10 @@
 -- A draft whose text goes on being put in at its place.
-use Rattle.line_lists.proofs.Words.{◌≡◌, ℕ, ◌+◌, ◌<◌, ◌^◌, List, [], ◌∷◌, ◌++◌, length, drop, refl, sym, ap, ap₂, subst}
-use Rattle.line_lists.proofs.Words.{◌∙◌, arith, length-append, reverse, append-nil, length-map, length-take-le}
-use Rattle.line_lists.proofs.Words.{reverse-append, LineContent, after_text, line_before, line_behind, plain_line}
-use Rattle.line_lists.proofs.Words.{Copied, Reached, Stop, IsDraft, IsReached, IsTaken, StandsAt, copies_of, covered}
-use Rattle.line_lists.proofs.Words.{drafted, drafted_at, lines_before, lines_behind, made_lines, taken_lines, text_at}
-use Rattle.line_lists.proofs.Words.{used, place_of, IsOpen, IsPartly, Opens, StandRight, AreRows, IsLine, whole}
+use Rattle.line_lists.proofs.Common.{◌≡◌, ℕ, ◌+◌, ◌<◌, ◌^◌, List, [], ◌∷◌, ◌++◌, length, drop, refl, sym, ap, ap₂}
+use Rattle.line_lists.proofs.Common.{subst, ◌∙◌, arith, length-append, reverse, append-nil, length-map, length-take-le}
+use Rattle.line_lists.proofs.Common.{reverse-append, LineContent, after_text, line_before, line_behind, plain_line}
+use Rattle.line_lists.proofs.Common.{Copied, Reached, Stop, IsDraft, IsReached, IsTaken, StandsAt, copies_of, covered}
+use Rattle.line_lists.proofs.Common.{drafted, drafted_at, lines_before, lines_behind, made_lines, taken_lines, text_at}
+use Rattle.line_lists.proofs.Common.{used, place_of, IsOpen, IsPartly, Opens, StandRight, AreRows, IsLine, whole}
 use Rattle.line_lists.proofs.CutLaws.{some-text, split-makes}
 use Rattle.line_lists.proofs.DraftLaws.{copies-snoc, drafted-append, length-whole, used-append}
 use Rattle.line_lists.proofs.EditLaws.{length-text}

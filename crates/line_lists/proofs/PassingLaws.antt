@@ -1,7 +1,7 @@
 -- Entries of a map of places that pass a test of their places, and ones whose places are mapped.
-use Rattle.line_lists.proofs.Words.{◌≡◌, ℕ, Bool, true, false, cond, ◌&&◌, ◌==◌, T, List, [], ◌∷◌, Option, None, Some}
-use Rattle.line_lists.proofs.Words.{map, refl, sym, ap, ◌∙◌, arith, unsigned_tied, find, is_sorted, below_all, filter}
-use Rattle.line_lists.proofs.Words.{eq_by_cmp, is_lt, nat_cmp, option_map, nat_tests, option_filter, Place}
+use Rattle.line_lists.proofs.Common.{◌≡◌, ℕ, Bool, true, false, cond, ◌&&◌, ◌==◌, T, List, [], ◌∷◌, Option, None, Some}
+use Rattle.line_lists.proofs.Common.{map, refl, sym, ap, ◌∙◌, arith, unsigned_tied, find, is_sorted, below_all, filter}
+use Rattle.line_lists.proofs.Common.{eq_by_cmp, is_lt, nat_cmp, option_map, nat_tests, option_filter, Place}
 
 abbrev pub passing : (Place → Bool) → List (ℕ × Place) → List (ℕ × Place)
 passing test entries = filter (λ (entry : ℕ × Place). test entry.1) entries

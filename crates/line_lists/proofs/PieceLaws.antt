@@ -1,11 +1,11 @@
 -- Copies of lines as pieces of a list, which come in from the last to the first.
-use Rattle.line_lists.proofs.Words.{◌≡◌, ◌≢◌, ℕ, zero, suc, ◌+◌, ◌-◌, ◌<◌, ◌≤◌, List, [], ◌∷◌, ◌++◌, None, Some, length}
-use Rattle.line_lists.proofs.Words.{take, drop, inl, inr, refl, sym, ap, ap₂, subst, ◌∙◌, arith, append_assoc}
-use Rattle.line_lists.proofs.Words.{length-append, length-drop, take-append-drop, nat_cmp, cases_lt, append-nil}
-use Rattle.line_lists.proofs.Words.{drop-drop, length-take-le, nil_from_length, take-append-le, take-take, take_all}
-use Rattle.line_lists.proofs.Words.{drop-append_seam, Marks, Count, plus, LineContent, line_count, Piece, AreApart}
-use Rattle.line_lists.proofs.Words.{AreLines, AreRows, IsCounted, count_of, spliced, CanPlace, Covers, FitsIn, Follows}
-use Rattle.line_lists.proofs.Words.{placed, whole}
+use Rattle.line_lists.proofs.Common.{◌≡◌, ◌≢◌, ℕ, zero, suc, ◌+◌, ◌-◌, ◌<◌, ◌≤◌, List, [], ◌∷◌, ◌++◌, None, Some}
+use Rattle.line_lists.proofs.Common.{length, take, drop, inl, inr, refl, sym, ap, ap₂, subst, ◌∙◌, arith, append_assoc}
+use Rattle.line_lists.proofs.Common.{length-append, length-drop, take-append-drop, nat_cmp, cases_lt, append-nil}
+use Rattle.line_lists.proofs.Common.{drop-drop, length-take-le, nil_from_length, take-append-le, take-take, take_all}
+use Rattle.line_lists.proofs.Common.{drop-append_seam, Marks, Count, plus, LineContent, line_count, Piece, AreApart}
+use Rattle.line_lists.proofs.Common.{AreLines, AreRows, IsCounted, count_of, spliced, CanPlace, Covers, FitsIn, Follows}
+use Rattle.line_lists.proofs.Common.{placed, whole}
 use Rattle.line_lists.proofs.CountRows.{count-append}
 use Rattle.line_lists.proofs.DraftLaws.{take-more}
 use Rattle.line_lists.proofs.EditLaws.{rows-apart}

@@ -1,11 +1,11 @@
 -- What stands at an offset of lines in a row.
-use Rattle.line_lists.proofs.Words.{◌≡◌, ℕ, zero, suc, ◌+◌, ◌<◌, ◌≤◌, List, [], ◌∷◌, ◌++◌, Option, None, Some, length}
-use Rattle.line_lists.proofs.Words.{take, drop, refl, sym, ap, ap₂, subst, ◌∙◌, arith, add-one, length-append, IfSome}
-use Rattle.line_lists.proofs.Words.{option_map, slice_get, take-append-add, length-map, take-append-le, take-map}
-use Rattle.line_lists.proofs.Words.{get_or_from_slice_get, slice_get-map, Cell, Slots, flags, slot_sets, slots_left_of}
-use Rattle.line_lists.proofs.Words.{differing, empty-differing, parity, tags_from, tags_by_parity, Column, LineContent}
-use Rattle.line_lists.proofs.Words.{characters, tags_before, toggles, Holds, count_of, cells_from, cells_of_columns}
-use Rattle.line_lists.proofs.Words.{content_of, whole, tags_left_of}
+use Rattle.line_lists.proofs.Common.{◌≡◌, ℕ, zero, suc, ◌+◌, ◌<◌, ◌≤◌, List, [], ◌∷◌, ◌++◌, Option, None, Some, length}
+use Rattle.line_lists.proofs.Common.{take, drop, refl, sym, ap, ap₂, subst, ◌∙◌, arith, add-one, length-append, IfSome}
+use Rattle.line_lists.proofs.Common.{option_map, slice_get, take-append-add, length-map, take-append-le, take-map}
+use Rattle.line_lists.proofs.Common.{get_or_from_slice_get, slice_get-map, Cell, Slots, flags, slot_sets, slots_left_of}
+use Rattle.line_lists.proofs.Common.{differing, empty-differing, parity, tags_from, tags_by_parity, Column, LineContent}
+use Rattle.line_lists.proofs.Common.{characters, tags_before, toggles, Holds, count_of, cells_from, cells_of_columns}
+use Rattle.line_lists.proofs.Common.{content_of, whole, tags_left_of}
 use Rattle.text_model.specs.Content.{characters as cell_characters}
 use Rattle.line_lists.proofs.CountRows.{count-characters, count-parity}
 use Rattle.line_lists.proofs.TagLaws.{behind-append}

@@ -1,13 +1,13 @@
 -- Characters that are taken out of a line of a text, with its newline or without, and once more.
-use Rattle.line_lists.proofs.Words.{◌≡◌, ℕ, zero, suc, ◌+◌, ◌-◌, ◌<◌, ◌≤◌, List, [], ◌∷◌, ◌++◌, Option, None, Some}
-use Rattle.line_lists.proofs.Words.{length, take, drop, refl, sym, ap, ap₂, subst, ◌∙◌, arith, length-append}
-use Rattle.line_lists.proofs.Words.{take-append-drop, option_map, slice_range, drop-drop, length-map, length-take-le}
-use Rattle.line_lists.proofs.Words.{map-append, take-append-le, drop-append-add, Place, Marks, Slots, map_marks}
-use Rattle.line_lists.proofs.Words.{ends_in_newline, lines, drawn, removed, differing, ends_with_rest, lines-append}
-use Rattle.line_lists.proofs.Words.{get-map_marks, same_marks, map-removed, differing-associative, differing-empty}
-use Rattle.line_lists.proofs.Words.{empty-differing, Column, LineContent, after_removal, characters, joined, later}
-use Rattle.line_lists.proofs.Words.{toggled_first, without_columns, get-joined_marks, or_else, AreRows, GoesBefore}
-use Rattle.line_lists.proofs.Words.{IsLine, StandBefore, whole, tags_left_of}
+use Rattle.line_lists.proofs.Common.{◌≡◌, ℕ, zero, suc, ◌+◌, ◌-◌, ◌<◌, ◌≤◌, List, [], ◌∷◌, ◌++◌, Option, None, Some}
+use Rattle.line_lists.proofs.Common.{length, take, drop, refl, sym, ap, ap₂, subst, ◌∙◌, arith, length-append}
+use Rattle.line_lists.proofs.Common.{take-append-drop, option_map, slice_range, drop-drop, length-map, length-take-le}
+use Rattle.line_lists.proofs.Common.{map-append, take-append-le, drop-append-add, Place, Marks, Slots, map_marks}
+use Rattle.line_lists.proofs.Common.{ends_in_newline, lines, drawn, removed, differing, ends_with_rest, lines-append}
+use Rattle.line_lists.proofs.Common.{get-map_marks, same_marks, map-removed, differing-associative, differing-empty}
+use Rattle.line_lists.proofs.Common.{empty-differing, Column, LineContent, after_removal, characters, joined, later}
+use Rattle.line_lists.proofs.Common.{toggled_first, without_columns, get-joined_marks, or_else, AreRows, GoesBefore}
+use Rattle.line_lists.proofs.Common.{IsLine, StandBefore, whole, tags_left_of}
 use Rattle.line_lists.proofs.EditLaws.{goes-changed, joined-stands, joined_one, rows-stand, some-columns, text-among}
 use Rattle.line_lists.proofs.NewlineRows.{none_before}
 use Rattle.line_lists.proofs.RowLaws.{Makes, among-first, characters-first, free-parts, rows-before, rows-behind}

@@ -1,11 +1,11 @@
 -- Lines of a text, of which one changes.
-use Rattle.line_lists.proofs.Words.{◌≡◌, ◌≢◌, ℕ, ◌+◌, ◌<◌, List, [], ◌∷◌, ◌++◌, Option, None, Some, length, get_or, map}
-use Rattle.line_lists.proofs.Words.{take, drop, refl, sym, ap, ap₂, subst, ◌∙◌, arith, append_assoc, take-append-drop}
-use Rattle.line_lists.proofs.Words.{option_map, Place, drop_more, get_or_default, length-map, map-append, Marks, Slots}
-use Rattle.line_lists.proofs.Words.{ends_in_newline, lines, changed, Column, LineContent, characters, joined, later}
-use Rattle.line_lists.proofs.Words.{toggled_first, toggled_more, get-joined_marks, or_else, Copied, Stop, IsDraft}
-use Rattle.line_lists.proofs.Words.{IsText, drafted_at, with_toggled, AreApart, AreRows, GoesBefore, IsLine, whole}
-use Rattle.line_lists.proofs.Words.{toggled_before}
+use Rattle.line_lists.proofs.Common.{◌≡◌, ◌≢◌, ℕ, ◌+◌, ◌<◌, List, [], ◌∷◌, ◌++◌, Option, None, Some, length, get_or}
+use Rattle.line_lists.proofs.Common.{map, take, drop, refl, sym, ap, ap₂, subst, ◌∙◌, arith, append_assoc}
+use Rattle.line_lists.proofs.Common.{take-append-drop, option_map, Place, drop_more, get_or_default, length-map}
+use Rattle.line_lists.proofs.Common.{map-append, Marks, Slots, ends_in_newline, lines, changed, Column, LineContent}
+use Rattle.line_lists.proofs.Common.{characters, joined, later, toggled_first, toggled_more, get-joined_marks, or_else}
+use Rattle.line_lists.proofs.Common.{Copied, Stop, IsDraft, IsText, drafted_at, with_toggled, AreApart, AreRows}
+use Rattle.line_lists.proofs.Common.{GoesBefore, IsLine, whole, toggled_before}
 use Rattle.line_lists.proofs.StepLaws.{slice-one}
 use Rattle.line_lists.proofs.WholeLaws.{between, whole-append, with_toggled-between}
 use Rattle.std.specs.FinMap as finite

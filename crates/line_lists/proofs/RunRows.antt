@@ -1,9 +1,10 @@
 -- Runs of characters that pass a test which no newline passes: each lies in one line.
-use Rattle.line_lists.proofs.Words.{◌≡◌, ℕ, zero, suc, ◌+◌, ◌-◌, ◌<◌, ◌≤◌, Bool, true, false, cond, List, [], ◌∷◌, ◌++◌}
-use Rattle.line_lists.proofs.Words.{length, take, drop, refl, sym, ap, ap₂, ◌∙◌, arith, slice_get, reverse, prefix_len}
-use Rattle.line_lists.proofs.Words.{suffix_len, drop-append-add, take-append-add, drop-append-le, length-map}
-use Rattle.line_lists.proofs.Words.{length-reverse, reverse-append, take-append-le, ends_in_newline, run_start-le}
-use Rattle.line_lists.proofs.Words.{Column, LineContent, characters, AreRows, content_of, whole, Some, eqb-true}
+use Rattle.line_lists.proofs.Common.{◌≡◌, ℕ, zero, suc, ◌+◌, ◌-◌, ◌<◌, ◌≤◌, Bool, true, false, cond, List, [], ◌∷◌}
+use Rattle.line_lists.proofs.Common.{◌++◌, length, take, drop, refl, sym, ap, ap₂, ◌∙◌, arith, slice_get, reverse}
+use Rattle.line_lists.proofs.Common.{prefix_len, suffix_len, drop-append-add, take-append-add, drop-append-le}
+use Rattle.line_lists.proofs.Common.{length-map, length-reverse, reverse-append, take-append-le, ends_in_newline}
+use Rattle.line_lists.proofs.Common.{run_start-le, Column, LineContent, characters, AreRows, content_of, whole, Some}
+use Rattle.line_lists.proofs.Common.{eqb-true}
 use Rattle.text_model.specs.Content.{characters as cell_characters}
 use Rattle.line_lists.proofs.NewlineRows.{characters-append, row-at}
 use Rattle.line_lists.proofs.PlaceRows.{characters-content, whole-at}

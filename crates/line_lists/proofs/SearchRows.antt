@@ -1,9 +1,10 @@
 -- What the nearest element that passes a test tells of the elements between: of columns in a line, and of lines.
-use Rattle.line_lists.proofs.Words.{◌≡◌, ℕ, zero, suc, ◌+◌, ◌-◌, ◌<◌, ◌≤◌, Bool, true, false, not, cond, List, []}
-use Rattle.line_lists.proofs.Words.{Option, None, Some, length, take, drop, get_or, refl, sym, ap, ◌∙◌, inl, inr, arith}
-use Rattle.line_lists.proofs.Words.{length-drop, option_map, if◌then◌else◌, position, position_or_len, suffix_len}
-use Rattle.line_lists.proofs.Words.{cases_lt, nat_tests, get_or-drop, fails_before_first, suffix_len-take_no}
-use Rattle.line_lists.proofs.Words.{suffix_len-take_yes, LineContent, plain_line, next_line, previous_line, nat_lt}
+use Rattle.line_lists.proofs.Common.{◌≡◌, ℕ, zero, suc, ◌+◌, ◌-◌, ◌<◌, ◌≤◌, Bool, true, false, not, cond, List, []}
+use Rattle.line_lists.proofs.Common.{Option, None, Some, length, take, drop, get_or, refl, sym, ap, ◌∙◌, inl, inr}
+use Rattle.line_lists.proofs.Common.{arith, length-drop, option_map, if◌then◌else◌, position, position_or_len}
+use Rattle.line_lists.proofs.Common.{suffix_len, cases_lt, nat_tests, get_or-drop, fails_before_first}
+use Rattle.line_lists.proofs.Common.{suffix_len-take_no, suffix_len-take_yes, LineContent, plain_line, next_line}
+use Rattle.line_lists.proofs.Common.{previous_line, nat_lt}
 use Rattle.std.proofs.lemmas.List.Quantifiers.{position-Some}
 
 abbrev pub line_at : List LineContent → ℕ → LineContent

@@ -1,7 +1,7 @@
 -- Sets of slots that differ.
-use Rattle.line_lists.proofs.Words.{◌≡◌, ℕ, Bool, true, false, cond, ◌==◌, refl, sym, ap, ap₂, ◌∙◌, nat_cmp, Slots}
-use Rattle.line_lists.proofs.Words.{differing, set_slot, contains-set_slot, contains-differing, differing-commutative}
-use Rattle.line_lists.proofs.Words.{either, same_slots}
+use Rattle.line_lists.proofs.Common.{◌≡◌, ℕ, Bool, true, false, cond, ◌==◌, refl, sym, ap, ap₂, ◌∙◌, nat_cmp, Slots}
+use Rattle.line_lists.proofs.Common.{differing, set_slot, contains-set_slot, contains-differing, differing-commutative}
+use Rattle.line_lists.proofs.Common.{either, same_slots}
 use Rattle.std.specs.FinSet as set
 
 either-again : (a b : Bool) → either a (either a b) ≡ b

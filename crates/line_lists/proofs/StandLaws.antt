@@ -1,13 +1,13 @@
 -- Where the mark of a number stands in the lines of a draft.
-use Rattle.line_lists.proofs.Words.{◌≡◌, ◌≢◌, ℕ, suc, ◌+◌, ◌-◌, min, ◌<◌, ◌≤◌, true, false, List, [], ◌∷◌, ◌++◌, Option}
-use Rattle.line_lists.proofs.Words.{None, Some, length, take, drop, get_or, inl, inr, refl, sym, ap, ap₂, subst, ◌∙◌}
-use Rattle.line_lists.proofs.Words.{arith, append_assoc, length-append, take-append-drop, length-drop, nat_cmp, is_some}
-use Rattle.line_lists.proofs.Words.{option_map, reverse, slice_get, cases_lt, append-nil, drop-drop, drop-take}
-use Rattle.line_lists.proofs.Words.{drop_more, get_or-take, length-take-le, map-append, reverse-append, take_all}
-use Rattle.line_lists.proofs.Words.{take_more, Place, LineContent, later, or_else, Copied, Reached, Stop, AreStops}
-use Rattle.line_lists.proofs.Words.{CanFollow, IsReached, IsText, StandsBy, copies_of, covered, drafted, drafted_at}
-use Rattle.line_lists.proofs.Words.{in_order, made_lines, text_at, used, AreRows, GoesBefore, IsMarked, StandBefore}
-use Rattle.line_lists.proofs.Words.{has_mark, next_line, StandsIn, lines_with, whole, IfSome}
+use Rattle.line_lists.proofs.Common.{◌≡◌, ◌≢◌, ℕ, suc, ◌+◌, ◌-◌, min, ◌<◌, ◌≤◌, true, false, List, [], ◌∷◌, ◌++◌}
+use Rattle.line_lists.proofs.Common.{Option, None, Some, length, take, drop, get_or, inl, inr, refl, sym, ap, ap₂}
+use Rattle.line_lists.proofs.Common.{subst, ◌∙◌, arith, append_assoc, length-append, take-append-drop, length-drop}
+use Rattle.line_lists.proofs.Common.{nat_cmp, is_some, option_map, reverse, slice_get, cases_lt, append-nil, drop-drop}
+use Rattle.line_lists.proofs.Common.{drop-take, drop_more, get_or-take, length-take-le, map-append, reverse-append}
+use Rattle.line_lists.proofs.Common.{take_all, take_more, Place, LineContent, later, or_else, Copied, Reached, Stop}
+use Rattle.line_lists.proofs.Common.{AreStops, CanFollow, IsReached, IsText, StandsBy, copies_of, covered, drafted}
+use Rattle.line_lists.proofs.Common.{drafted_at, in_order, made_lines, text_at, used, AreRows, GoesBefore, IsMarked}
+use Rattle.line_lists.proofs.Common.{StandBefore, has_mark, next_line, StandsIn, lines_with, whole, IfSome}
 use Rattle.line_lists.proofs.DraftLaws.{copies-snoc, drafted-append, length-whole, made-snoc, stops-last, take-more}
 use Rattle.line_lists.proofs.DraftLaws.{add_groups, used-append}
 use Rattle.line_lists.proofs.EditLaws.{some-columns}

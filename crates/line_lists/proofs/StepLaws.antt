@@ -1,14 +1,14 @@
 -- Each step on columns is that step on the cells.
-use Rattle.line_lists.proofs.Words.{◌≡◌, ℕ, zero, suc, ◌+◌, ◌-◌, ◌<◌, ◌≤◌, ◌==◌, Bool, true, false, cond, get_or, List}
-use Rattle.line_lists.proofs.Words.{[], ◌∷◌, ◌++◌, length, map, take, drop, refl, sym, ap, ap₂, ◌∙◌, arith, length-drop}
-use Rattle.line_lists.proofs.Words.{append_assoc, length-append, slice_range, nat_cmp, take-append_seam, take-nil}
-use Rattle.line_lists.proofs.Words.{drop-append_seam, drop_more, get_or_default, length-map, length-take-le}
-use Rattle.line_lists.proofs.Words.{split_between, Cell, Slots, differing, changed, inserted, removed, cells_of}
-use Rattle.line_lists.proofs.Words.{set_slot, with_slot, without_slots, contains-set_slot, differing-associative}
-use Rattle.line_lists.proofs.Words.{differing-empty, empty-differing, same_slots, Column, plain_columns, tags_before}
-use Rattle.line_lists.proofs.Words.{toggled_first, without_columns, with_toggle, cells_from, cells_of_columns}
-use Rattle.line_lists.proofs.Words.{columns_bare, columns_inserted, columns_tagged, switched, tags_left_of}
-use Rattle.line_lists.proofs.Words.{toggled_before}
+use Rattle.line_lists.proofs.Common.{◌≡◌, ℕ, zero, suc, ◌+◌, ◌-◌, ◌<◌, ◌≤◌, ◌==◌, Bool, true, false, cond, get_or, List}
+use Rattle.line_lists.proofs.Common.{[], ◌∷◌, ◌++◌, length, map, take, drop, refl, sym, ap, ap₂, ◌∙◌, arith}
+use Rattle.line_lists.proofs.Common.{length-drop, append_assoc, length-append, slice_range, nat_cmp, take-append_seam}
+use Rattle.line_lists.proofs.Common.{take-nil, drop-append_seam, drop_more, get_or_default, length-map, length-take-le}
+use Rattle.line_lists.proofs.Common.{split_between, Cell, Slots, differing, changed, inserted, removed, cells_of}
+use Rattle.line_lists.proofs.Common.{set_slot, with_slot, without_slots, contains-set_slot, differing-associative}
+use Rattle.line_lists.proofs.Common.{differing-empty, empty-differing, same_slots, Column, plain_columns, tags_before}
+use Rattle.line_lists.proofs.Common.{toggled_first, without_columns, with_toggle, cells_from, cells_of_columns}
+use Rattle.line_lists.proofs.Common.{columns_bare, columns_inserted, columns_tagged, switched, tags_left_of}
+use Rattle.line_lists.proofs.Common.{toggled_before}
 use Rattle.line_lists.proofs.SlotLaws.{differing-again, differing-back, differing-self}
 use Rattle.line_lists.proofs.TagLaws.{behind-append, behind-cleared, behind-plain, cells-append, cells-cleared}
 use Rattle.line_lists.proofs.TagLaws.{cells-plain, cells-toggled}

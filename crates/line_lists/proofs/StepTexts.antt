@@ -1,15 +1,15 @@
 -- What the steps of an edit make of the text of a draft.
-use Rattle.line_lists.proofs.Words.{◌≡◌, ℕ, zero, suc, ◌+◌, ◌-◌, ◌<◌, ◌≤◌, Bool, true, false, cond, List, [], ◌∷◌, ◌++◌}
-use Rattle.line_lists.proofs.Words.{Option, None, Some, Result, Err, Ok, get_or, length, map, take, drop, inl, inr}
-use Rattle.line_lists.proofs.Words.{refl, sym, ap, ap₂, subst, ◌∙◌, arith, take-append-drop, nat_cmp_total, SomeIff}
-use Rattle.line_lists.proofs.Words.{ok_or, eq_by_cmp, nat_cmp, cases_lt, append-nil, drop_all, drop_more, take_all}
-use Rattle.line_lists.proofs.Words.{Step, ClearTags, Insert, SetTag, Place, Content, Slots, differing, changed, Fits}
-use Rattle.line_lists.proofs.Words.{StepFitsIn, after, after_step, length_after, set_slot, same_marks, length-changed}
-use Rattle.line_lists.proofs.Words.{length-after_step, differing-associative, differing-commutative, Column}
-use Rattle.line_lists.proofs.Words.{LineContent, after_text, tags_before, toggled_first, with_toggle, Copied, Stop}
-use Rattle.line_lists.proofs.Words.{StandsAt, copies_of, lines_before, lines_behind, taken_lines, made, with_cleared}
-use Rattle.line_lists.proofs.Words.{with_mark, with_toggled, without_mark, text_of, whole, switched, tags_left_of}
-use Rattle.line_lists.proofs.Words.{toggled_before}
+use Rattle.line_lists.proofs.Common.{◌≡◌, ℕ, zero, suc, ◌+◌, ◌-◌, ◌<◌, ◌≤◌, Bool, true, false, cond, List, [], ◌∷◌}
+use Rattle.line_lists.proofs.Common.{◌++◌, Option, None, Some, Result, Err, Ok, get_or, length, map, take, drop, inl}
+use Rattle.line_lists.proofs.Common.{inr, refl, sym, ap, ap₂, subst, ◌∙◌, arith, take-append-drop, nat_cmp_total}
+use Rattle.line_lists.proofs.Common.{SomeIff, ok_or, eq_by_cmp, nat_cmp, cases_lt, append-nil, drop_all, drop_more}
+use Rattle.line_lists.proofs.Common.{take_all, Step, ClearTags, Insert, SetTag, Place, Content, Slots, differing}
+use Rattle.line_lists.proofs.Common.{changed, Fits, StepFitsIn, after, after_step, length_after, set_slot, same_marks}
+use Rattle.line_lists.proofs.Common.{length-changed, length-after_step, differing-associative, differing-commutative}
+use Rattle.line_lists.proofs.Common.{Column, LineContent, after_text, tags_before, toggled_first, with_toggle, Copied}
+use Rattle.line_lists.proofs.Common.{Stop, StandsAt, copies_of, lines_before, lines_behind, taken_lines, made}
+use Rattle.line_lists.proofs.Common.{with_cleared, with_mark, with_toggled, without_mark, text_of, whole, switched}
+use Rattle.line_lists.proofs.Common.{tags_left_of, toggled_before}
 use Rattle.text_model.specs.declared.places.TagSlot.{TagSlot}
 use Rattle.line_lists.proofs.ClearingLaws.{tags-around}
 use Rattle.line_lists.proofs.EditLaws.{length-text}

@@ -1,7 +1,7 @@
 -- What a store over lines asks of its list.
-use Rattle.line_lists.proofs.Words.{◌≡◌, ℕ, ◌<◌, ◌≤◌, inl, inr, List, [], ◌∷◌, length, sym, ap, subst, ◌∙◌, arith, All}
-use Rattle.line_lists.proofs.Words.{All-cons, All-head, All-nil, All-tail, new_content, LineContent, plain_line}
-use Rattle.line_lists.proofs.Words.{AreLines, NumbersBelow, numbers_in, numbers_of, content_of, text_of, whole}
+use Rattle.line_lists.proofs.Common.{◌≡◌, ℕ, ◌<◌, ◌≤◌, inl, inr, List, [], ◌∷◌, length, sym, ap, subst, ◌∙◌, arith, All}
+use Rattle.line_lists.proofs.Common.{All-cons, All-head, All-nil, All-tail, new_content, LineContent, plain_line}
+use Rattle.line_lists.proofs.Common.{AreLines, NumbersBelow, numbers_in, numbers_of, content_of, text_of, whole}
 use Rattle.line_lists.proofs.FoundMarks.{rows-some}
 use Rattle.line_lists.proofs.FreedLaws.{Names, names-left, names-right, names_of}
 use Rattle.line_lists.proofs.TagLaws.{cells-plain}

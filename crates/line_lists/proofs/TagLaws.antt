@@ -1,8 +1,8 @@
 -- What the steps of an edit make of columns is what they make of the cells.
-use Rattle.line_lists.proofs.Words.{◌≡◌, ℕ, Bool, false, List, [], ◌∷◌, ◌++◌, map, refl, sym, ap, ◌∙◌, Cell, Slots}
-use Rattle.line_lists.proofs.Words.{differing, cells_of, set_slot, with_slot, differing-associative, differing-empty}
-use Rattle.line_lists.proofs.Words.{empty-differing, Column, plain_columns, toggled_first, with_toggle, cells_from}
-use Rattle.line_lists.proofs.Words.{tags_left_of}
+use Rattle.line_lists.proofs.Common.{◌≡◌, ℕ, Bool, false, List, [], ◌∷◌, ◌++◌, map, refl, sym, ap, ◌∙◌, Cell, Slots}
+use Rattle.line_lists.proofs.Common.{differing, cells_of, set_slot, with_slot, differing-associative, differing-empty}
+use Rattle.line_lists.proofs.Common.{empty-differing, Column, plain_columns, toggled_first, with_toggle, cells_from}
+use Rattle.line_lists.proofs.Common.{tags_left_of}
 use Rattle.line_lists.proofs.SlotLaws.{differing-set}
 use Rattle.std.specs.FinSet as set
 

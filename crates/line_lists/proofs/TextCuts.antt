@@ -1,8 +1,8 @@
 -- A text is cut behind its first newline.
-use Rattle.line_lists.proofs.Words.{◌≡◌, ℕ, zero, suc, ◌+◌, cond, ◌==◌, List, [], ◌∷◌, ◌++◌, take, drop, chars, refl}
-use Rattle.line_lists.proofs.Words.{sym, ap, ap₂, subst, ◌∙◌, arith, append_assoc, take-append-drop, length-take-le}
-use Rattle.line_lists.proofs.Words.{take-append-add, ends_in_newline, lines, ends_with_rest, lines-append, lines-cons}
-use Rattle.line_lists.proofs.Words.{plain_line, characters-plain, IsLine}
+use Rattle.line_lists.proofs.Common.{◌≡◌, ℕ, zero, suc, ◌+◌, cond, ◌==◌, List, [], ◌∷◌, ◌++◌, take, drop, chars, refl}
+use Rattle.line_lists.proofs.Common.{sym, ap, ap₂, subst, ◌∙◌, arith, append_assoc, take-append-drop, length-take-le}
+use Rattle.line_lists.proofs.Common.{take-append-add, ends_in_newline, lines, ends_with_rest, lines-append, lines-cons}
+use Rattle.line_lists.proofs.Common.{plain_line, characters-plain, IsLine}
 use Rattle.std.specs.Str.{IsAscii, IsCharBoundary, IsUtf8, NoCharPasses, NonePass}
 use Rattle.std.specs.Str.Pattern.{HasCharAt}
 use Rattle.std.proofs.lemmas.Str.{IsUtf8-drop, IsUtf8-take, IsUtf8-from_ascii, chars-append, chars-nil}

@@ -1,9 +1,10 @@
 -- The characters of lines in a row, from one offset to another.
-use Rattle.line_lists.proofs.Words.{◌≡◌, ℕ, zero, suc, ◌+◌, ◌-◌, ◌<◌, ◌≤◌, List, [], ◌∷◌, ◌++◌, length, take, drop, sym}
-use Rattle.line_lists.proofs.Words.{ap, ap₂, ◌∙◌, arith, add-one, append_assoc, inl, inr, length-append, length-drop}
-use Rattle.line_lists.proofs.Words.{take-append-drop, slice_get, slice_range, cases_lt, append-nil, drop-append-le}
-use Rattle.line_lists.proofs.Words.{length-map, map-append, take-append-le, take_all, drop-drop, none-some, same_Some}
-use Rattle.line_lists.proofs.Words.{drop-append-add, Column, LineContent, characters, IsAt, content_of, whole, Some}
+use Rattle.line_lists.proofs.Common.{◌≡◌, ℕ, zero, suc, ◌+◌, ◌-◌, ◌<◌, ◌≤◌, List, [], ◌∷◌, ◌++◌, length, take, drop}
+use Rattle.line_lists.proofs.Common.{sym, ap, ap₂, ◌∙◌, arith, add-one, append_assoc, inl, inr, length-append}
+use Rattle.line_lists.proofs.Common.{length-drop, take-append-drop, slice_get, slice_range, cases_lt, append-nil}
+use Rattle.line_lists.proofs.Common.{drop-append-le, length-map, map-append, take-append-le, take_all, drop-drop}
+use Rattle.line_lists.proofs.Common.{none-some, same_Some, drop-append-add, Column, LineContent, characters, IsAt}
+use Rattle.line_lists.proofs.Common.{content_of, whole, Some}
 use Rattle.text_model.specs.Content.{characters as cell_characters}
 use Rattle.line_lists.proofs.DraftLaws.{take-more}
 use Rattle.line_lists.proofs.LineStarts.{at-before, at-within, length_at, lent, lent-length, start-next, start-rises}

@@ -1,10 +1,10 @@
 -- Where a tag changes is where its slot is toggled: over the columns of a text.
-use Rattle.line_lists.proofs.Words.{◌≡◌, ℕ, zero, suc, ◌+◌, ◌-◌, ◌<◌, ◌≤◌, Bool, true, false, ◌||◌, List, [], ◌∷◌}
-use Rattle.line_lists.proofs.Words.{length, take, get_or, refl, sym, ap, ap₂, ◌∙◌, arith, nat_cmp_total, nat_cmp}
-use Rattle.line_lists.proofs.Words.{take-suc, or_parts, length-map, get_or_from_slice_get, Cell, flag_at, is_alike}
-use Rattle.line_lists.proofs.Words.{next_change, previous_change, flags, differing, next_change_is, previous_change_is}
-use Rattle.line_lists.proofs.Words.{contains-differing, differing-empty, either, presence, Column, LineContent}
-use Rattle.line_lists.proofs.Words.{tags_before, toggles, has_toggle, cells_of_columns, tags_left_of}
+use Rattle.line_lists.proofs.Common.{◌≡◌, ℕ, zero, suc, ◌+◌, ◌-◌, ◌<◌, ◌≤◌, Bool, true, false, ◌||◌, List, [], ◌∷◌}
+use Rattle.line_lists.proofs.Common.{length, take, get_or, refl, sym, ap, ap₂, ◌∙◌, arith, nat_cmp_total, nat_cmp}
+use Rattle.line_lists.proofs.Common.{take-suc, or_parts, length-map, get_or_from_slice_get, Cell, flag_at, is_alike}
+use Rattle.line_lists.proofs.Common.{next_change, previous_change, flags, differing, next_change_is, previous_change_is}
+use Rattle.line_lists.proofs.Common.{contains-differing, differing-empty, either, presence, Column, LineContent}
+use Rattle.line_lists.proofs.Common.{tags_before, toggles, has_toggle, cells_of_columns, tags_left_of}
 use Rattle.line_lists.proofs.PlaceRows.{flag-at, length-cells, tags-column}
 use Rattle.line_lists.proofs.SearchRows.{FailIn}
 use Rattle.line_lists.proofs.TagLaws.{behind-append}

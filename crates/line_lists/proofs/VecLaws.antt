@@ -1,11 +1,11 @@
 -- What the list over a `Vec` makes of its lines is what a text may be.
-use Rattle.line_lists.proofs.Words.{◌≡◌, ℕ, ◌+◌, ◌-◌, ◌<◌, ◌≤◌, Bool, true, false, cond, List, [], ◌∷◌, ◌++◌, Option}
-use Rattle.line_lists.proofs.Words.{None, Some, get_or, length, map, take, drop, refl, set, sym, ap, ap₂, subst, ◌∙◌}
-use Rattle.line_lists.proofs.Words.{arith, take-append-drop, nat_cmp_total, eq_by_cmp, nat_cmp, option_map, drop_at}
-use Rattle.line_lists.proofs.Words.{length-map, length-take-le, take_at, map_over_more, Place, Marks, inserted, removed}
-use Rattle.line_lists.proofs.Words.{same_marks, LineContent, joined, joined_marks, later, plain_line, get-joined_marks}
-use Rattle.line_lists.proofs.Words.{or_else, without_mark, AreApart, AreLines, AreRows, GoesBefore, IsCounted, count_of}
-use Rattle.line_lists.proofs.Words.{spliced, whole}
+use Rattle.line_lists.proofs.Common.{◌≡◌, ℕ, ◌+◌, ◌-◌, ◌<◌, ◌≤◌, Bool, true, false, cond, List, [], ◌∷◌, ◌++◌, Option}
+use Rattle.line_lists.proofs.Common.{None, Some, get_or, length, map, take, drop, refl, set, sym, ap, ap₂, subst, ◌∙◌}
+use Rattle.line_lists.proofs.Common.{arith, take-append-drop, nat_cmp_total, eq_by_cmp, nat_cmp, option_map, drop_at}
+use Rattle.line_lists.proofs.Common.{length-map, length-take-le, take_at, map_over_more, Place, Marks, inserted}
+use Rattle.line_lists.proofs.Common.{removed, same_marks, LineContent, joined, joined_marks, later, plain_line}
+use Rattle.line_lists.proofs.Common.{get-joined_marks, or_else, without_mark, AreApart, AreLines, AreRows, GoesBefore}
+use Rattle.line_lists.proofs.Common.{IsCounted, count_of, spliced, whole}
 use Rattle.std.specs.Str.{chars}
 use Rattle.line_lists.proofs.CountRows.{counted-part}
 use Rattle.line_lists.proofs.EditLaws.{free_one, take-kept}

@@ -1,15 +1,15 @@
 -- Lines in a row, and what a change of one of them makes of the row.
-use Rattle.line_lists.proofs.Words.{◌≡◌, ℕ, Bool, true, false, ◌+◌, ◌-◌, ◌<◌, ◌≤◌, List, [], ◌∷◌, ◌++◌, Option, None}
-use Rattle.line_lists.proofs.Words.{Some, cond, length, take, drop, refl, sym, ap, ap₂, ◌∙◌, arith, append_assoc}
-use Rattle.line_lists.proofs.Words.{length-append, length-drop, take-append-drop, nat_cmp_total, eq_by_cmp, nat_cmp}
-use Rattle.line_lists.proofs.Words.{option_map, slice_range, append-nil, length-map, length-take-le, drop-append-le}
-use Rattle.line_lists.proofs.Words.{take-append-le, drop-append-add, take-append-add, Place, Slots, map_marks, drawn}
-use Rattle.line_lists.proofs.Words.{inserted, moved, same_marks, changed-append_left, changed-append_right}
-use Rattle.line_lists.proofs.Words.{inserted-append_left, inserted-append_right, length-changed, length-inserted}
-use Rattle.line_lists.proofs.Words.{Column, LineContent, after_removal, after_text, joined, joined_marks, later}
-use Rattle.line_lists.proofs.Words.{plain_columns, plain_line, toggled_first, toggles, with_toggle, without_columns}
-use Rattle.line_lists.proofs.Words.{parity, joined_none, or_else, tied_same, with_cleared, with_mark, with_toggled}
-use Rattle.line_lists.proofs.Words.{without_mark, whole, toggled_before}
+use Rattle.line_lists.proofs.Common.{◌≡◌, ℕ, Bool, true, false, ◌+◌, ◌-◌, ◌<◌, ◌≤◌, List, [], ◌∷◌, ◌++◌, Option, None}
+use Rattle.line_lists.proofs.Common.{Some, cond, length, take, drop, refl, sym, ap, ap₂, ◌∙◌, arith, append_assoc}
+use Rattle.line_lists.proofs.Common.{length-append, length-drop, take-append-drop, nat_cmp_total, eq_by_cmp, nat_cmp}
+use Rattle.line_lists.proofs.Common.{option_map, slice_range, append-nil, length-map, length-take-le, drop-append-le}
+use Rattle.line_lists.proofs.Common.{take-append-le, drop-append-add, take-append-add, Place, Slots, map_marks, drawn}
+use Rattle.line_lists.proofs.Common.{inserted, moved, same_marks, changed-append_left, changed-append_right}
+use Rattle.line_lists.proofs.Common.{inserted-append_left, inserted-append_right, length-changed, length-inserted}
+use Rattle.line_lists.proofs.Common.{Column, LineContent, after_removal, after_text, joined, joined_marks, later}
+use Rattle.line_lists.proofs.Common.{plain_columns, plain_line, toggled_first, toggles, with_toggle, without_columns}
+use Rattle.line_lists.proofs.Common.{parity, joined_none, or_else, tied_same, with_cleared, with_mark, with_toggled}
+use Rattle.line_lists.proofs.Common.{without_mark, whole, toggled_before}
 use Rattle.line_lists.proofs.MarkRows.{StandBefore, StandWithin, drawn-Lifts, get-row, joined_marks-associative}
 use Rattle.line_lists.proofs.MarkRows.{map_marks-row, moved-Lifts, none-joined_marks, row}
 use Rattle.std.specs.FinMap as finite

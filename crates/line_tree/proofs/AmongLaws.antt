@@ -1,7 +1,7 @@
 -- Names among others.
-use Rattle.line_tree.proofs.Words.{◌≡◌, ℕ, zero, suc, ◌⊎◌, inl, inr, List, [], ◌∷◌, ◌++◌, take, drop, sym, ap, subst}
-use Rattle.line_tree.proofs.Words.{slice_get, Some, insert, take-append-drop, none-some, same_Some, Among, NodePtr}
-use Rattle.line_tree.proofs.Words.{same_or_other}
+use Rattle.line_tree.proofs.Common.{◌≡◌, ℕ, zero, suc, ◌⊎◌, inl, inr, List, [], ◌∷◌, ◌++◌, take, drop, sym, ap, subst}
+use Rattle.line_tree.proofs.Common.{slice_get, Some, insert, take-append-drop, none-some, same_Some, Among, NodePtr}
+use Rattle.line_tree.proofs.Common.{same_or_other}
 
 pub among-left : (q : NodePtr) (xs ys : List NodePtr) → Among q xs → Among q (xs ++ ys)
 among-left q [] ys a = absurd a

@@ -1,5 +1,5 @@
 -- Lines in which no slot is toggled: none is before any of them.
-use Rattle.line_tree.proofs.Words.{◌≡◌, ℕ, zero, suc, List, [], ◌∷◌, take, refl, Named, total, toggles}
+use Rattle.line_tree.proofs.Common.{◌≡◌, ℕ, zero, suc, List, [], ◌∷◌, take, refl, Named, total, toggles}
 use Rattle.toggle_sums.specs.Toggles.{parity, presence}
 use Rattle.line_lists.proofs.BareLaws.{both-none, none-first, none-odd, none-second}
 use Rattle.std.specs.FinSet as set

@@ -1,9 +1,9 @@
 -- Trees in the place of records.
-use Rattle.line_tree.proofs.Words.{◌≡◌, ℕ, suc, ◌≤◌, inl, inr, List, [], ◌∷◌, ◌++◌, length, refl, sym, ap, ◌∙◌, subst}
-use Rattle.line_tree.proofs.Words.{◌≢◌, IsSome, Option, None, Some, AllByRecursion, append-nil, Among, Distinct}
-use Rattle.line_tree.proofs.Words.{FitsSum, relinked, sum_all, sums, Holds, tree_at, LineContent, NodePtr, Records}
-use Rattle.line_tree.proofs.Words.{blank, with_sum, Tree, tops, row, get_inserted, get_other, get_unmoved, insert-named}
-use Rattle.line_tree.proofs.Words.{remove-named, HasNoParent, NewLine, NewRoot, names_of, Becomes}
+use Rattle.line_tree.proofs.Common.{◌≡◌, ℕ, suc, ◌≤◌, inl, inr, List, [], ◌∷◌, ◌++◌, length, refl, sym, ap, ◌∙◌, subst}
+use Rattle.line_tree.proofs.Common.{◌≢◌, IsSome, Option, None, Some, AllByRecursion, append-nil, Among, Distinct}
+use Rattle.line_tree.proofs.Common.{FitsSum, relinked, sum_all, sums, Holds, tree_at, LineContent, NodePtr, Records}
+use Rattle.line_tree.proofs.Common.{blank, with_sum, Tree, tops, row, get_inserted, get_other, get_unmoved}
+use Rattle.line_tree.proofs.Common.{insert-named, remove-named, HasNoParent, NewLine, NewRoot, names_of, Becomes}
 use Rattle.line_tree.proofs.AmongLaws.{among-cases, among-left, among-right}
 use Rattle.line_tree.proofs.BuildLaws.{built}
 use Rattle.line_tree.proofs.DistinctLaws.{distinct-append, distinct-apart, distinct-left, distinct-right}

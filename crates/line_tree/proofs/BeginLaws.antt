@@ -1,9 +1,9 @@
 -- How many characters stand before a line, from its name up to the root.
-use Rattle.line_tree.proofs.Words.{◌≡◌, ℕ, zero, suc, ◌+◌, ◌-◌, ◌<◌, ◌≤◌, List, take, drop, refl, sym, ap, ◌∙◌, subst}
-use Rattle.line_tree.proofs.Words.{arith, IfSome, Option, Some, option_map, take-append-drop, same_Some}
-use Rattle.line_tree.proofs.Words.{slice_get_within, IsTree, lines_in, Named, total, NodePtr, Records, kids, sum_all}
-use Rattle.line_tree.proofs.Words.{characters-add, characters_behind, lines-add, nothing-adds, Begins, IsChild}
-use Rattle.line_tree.proofs.Words.{IsLineAt, characters_before, CharactersBefore}
+use Rattle.line_tree.proofs.Common.{◌≡◌, ℕ, zero, suc, ◌+◌, ◌-◌, ◌<◌, ◌≤◌, List, take, drop, refl, sym, ap, ◌∙◌, subst}
+use Rattle.line_tree.proofs.Common.{arith, IfSome, Option, Some, option_map, take-append-drop, same_Some}
+use Rattle.line_tree.proofs.Common.{slice_get_within, IsTree, lines_in, Named, total, NodePtr, Records, kids, sum_all}
+use Rattle.line_tree.proofs.Common.{characters-add, characters_behind, lines-add, nothing-adds, Begins, IsChild}
+use Rattle.line_tree.proofs.Common.{IsLineAt, characters_before, CharactersBefore}
 use Rattle.line_tree.proofs.PlaceLaws.{child-parent, child-slot, line-within, named_line, through}
 use Rattle.line_tree.proofs.SearchLaws.{Passes, arrives-before, passes-line, passes-start, passes-step, wide-all}
 use Rattle.line_tree.proofs.SumLaws.{total-append}

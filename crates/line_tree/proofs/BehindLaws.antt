@@ -1,9 +1,9 @@
 -- A line put in behind another, from there up to the root.
-use Rattle.line_tree.proofs.Words.{◌≡◌, ℕ, zero, suc, ◌+◌, ◌-◌, ◌<◌, ◌≤◌, take, refl, sym, ap, ◌∙◌, subst, arith, drop}
-use Rattle.line_tree.proofs.Words.{IfSome, IsSome, Option, None, Some, sum_by, take-append-drop, sum_by-append}
-use Rattle.line_tree.proofs.Words.{same_Some, slice_get_within, IsTree, lines_at, lines_in, NodePtr, Record, Records}
-use Rattle.line_tree.proofs.Words.{kids, at_some, Leads, CanInsert, Inserts, IsChild, IsLineAt, Sits, lines_before}
-use Rattle.line_tree.proofs.Words.{Found}
+use Rattle.line_tree.proofs.Common.{◌≡◌, ℕ, zero, suc, ◌+◌, ◌-◌, ◌<◌, ◌≤◌, take, refl, sym, ap, ◌∙◌, subst, arith, drop}
+use Rattle.line_tree.proofs.Common.{IfSome, IsSome, Option, None, Some, sum_by, take-append-drop, sum_by-append}
+use Rattle.line_tree.proofs.Common.{same_Some, slice_get_within, IsTree, lines_at, lines_in, NodePtr, Record, Records}
+use Rattle.line_tree.proofs.Common.{kids, at_some, Leads, CanInsert, Inserts, IsChild, IsLineAt, Sits, lines_before}
+use Rattle.line_tree.proofs.Common.{Found}
 use Rattle.line_tree.proofs.InsertLaws.{can-child}
 use Rattle.line_tree.proofs.LowestLaws.{lowest-before}
 use Rattle.line_tree.proofs.PlaceLaws.{child-named, child-parent, level, linked, sits, up_from}

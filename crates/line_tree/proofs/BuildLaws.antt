@@ -1,11 +1,11 @@
 -- A node that was given children is a tree of theirs.
-use Rattle.line_tree.proofs.Words.{◌≡◌, ℕ, zero, suc, ◌-◌, inl, inr, List, [], ◌∷◌, ◌++◌, length, map, replicate, refl}
-use Rattle.line_tree.proofs.Words.{sym, ap, ◌∙◌, subst, ◌≢◌, IsSome, Option, None, Some, AllByRecursion, filter_map}
-use Rattle.line_tree.proofs.Words.{Among, CanFill, Distinct, link_one, refilled, relinked, sum_all, sums, Holds, IsNode}
-use Rattle.line_tree.proofs.Words.{IsTree, Links, line_of, sum_at, tree_at, NodePtr, Record, Records, update}
-use Rattle.line_tree.proofs.Words.{with_child, with_parent, with_sum, Tree, inner, lines, names, tops, total, kids}
-use Rattle.line_tree.proofs.Words.{kids_of, row, plus, some_of, same_or_other, somes, somes-row, get-update-other}
-use Rattle.line_tree.proofs.Words.{lines_of, names_of}
+use Rattle.line_tree.proofs.Common.{◌≡◌, ℕ, zero, suc, ◌-◌, inl, inr, List, [], ◌∷◌, ◌++◌, length, map, replicate, refl}
+use Rattle.line_tree.proofs.Common.{sym, ap, ◌∙◌, subst, ◌≢◌, IsSome, Option, None, Some, AllByRecursion, filter_map}
+use Rattle.line_tree.proofs.Common.{Among, CanFill, Distinct, link_one, refilled, relinked, sum_all, sums, Holds}
+use Rattle.line_tree.proofs.Common.{IsNode, IsTree, Links, line_of, sum_at, tree_at, NodePtr, Record, Records, update}
+use Rattle.line_tree.proofs.Common.{with_child, with_parent, with_sum, Tree, inner, lines, names, tops, total, kids}
+use Rattle.line_tree.proofs.Common.{kids_of, row, plus, some_of, same_or_other, somes, somes-row, get-update-other}
+use Rattle.line_tree.proofs.Common.{lines_of, names_of}
 use Rattle.line_tree.proofs.AmongLaws.{among-left, among-right}
 use Rattle.line_tree.proofs.DistinctLaws.{distinct-right}
 use Rattle.line_tree.proofs.FillLaws.{at-update, refilled-other, relinked-other, relinked-row, relinked-sums}

@@ -1,14 +1,14 @@
 -- What one line that is changed leaves of trees.
-use Rattle.line_tree.proofs.Words.{◌≡◌, ℕ, zero, suc, ◌+◌, ◌<◌, ◌≤◌, inl, inr, List, [], ◌∷◌, ◌++◌, length, take, drop}
-use Rattle.line_tree.proofs.Words.{map, refl, sym, ap, ◌∙◌, subst, arith, IsSome, is_some, slice_get, Option, None}
-use Rattle.line_tree.proofs.Words.{Some, AllByRecursion, filter_map, length-map, map-append, flat_map-append, none-some}
-use Rattle.line_tree.proofs.Words.{same_Some, plus-associative, plus-commutative, plus-no_text, Among, Distinct}
-use Rattle.line_tree.proofs.Words.{FitsSum, sums, Count, plus, Holds, Links, line_of, lines_in, sum_at, sum_of, tree_at}
-use Rattle.line_tree.proofs.Words.{IsBalanced, IsBalancedRoot, Named, Tree, least_below_root, lines, names, tops, total}
-use Rattle.line_tree.proofs.Words.{LineContent, line_count, NodePtr, Record, Records, update, with_sum, kids, kids_of}
-use Rattle.line_tree.proofs.Words.{row, same_or_other, get-update, get-update-other, len-update, Finds, HasRow}
-use Rattle.line_tree.proofs.Words.{HasNoParent, StandsAlone, lines_of, names_of, CanChange, Changes, Linked, SameLinks}
-use Rattle.line_tree.proofs.Words.{changed, linked, Found}
+use Rattle.line_tree.proofs.Common.{◌≡◌, ℕ, zero, suc, ◌+◌, ◌<◌, ◌≤◌, inl, inr, List, [], ◌∷◌, ◌++◌, length, take, drop}
+use Rattle.line_tree.proofs.Common.{map, refl, sym, ap, ◌∙◌, subst, arith, IsSome, is_some, slice_get, Option, None}
+use Rattle.line_tree.proofs.Common.{Some, AllByRecursion, filter_map, length-map, map-append, flat_map-append}
+use Rattle.line_tree.proofs.Common.{none-some, same_Some, plus-associative, plus-commutative, plus-no_text, Among}
+use Rattle.line_tree.proofs.Common.{Distinct, FitsSum, sums, Count, plus, Holds, Links, line_of, lines_in, sum_at}
+use Rattle.line_tree.proofs.Common.{sum_of, tree_at, IsBalanced, IsBalancedRoot, Named, Tree, least_below_root, lines}
+use Rattle.line_tree.proofs.Common.{names, tops, total, LineContent, line_count, NodePtr, Record, Records, update}
+use Rattle.line_tree.proofs.Common.{with_sum, kids, kids_of, row, same_or_other, get-update, get-update-other}
+use Rattle.line_tree.proofs.Common.{len-update, Finds, HasRow, HasNoParent, StandsAlone, lines_of, names_of, CanChange}
+use Rattle.line_tree.proofs.Common.{Changes, Linked, SameLinks, changed, linked, Found}
 use Rattle.raw_nodes.specs.Records.{with_line}
 use Rattle.std.proofs.Common.{option_map}
 use Rattle.line_tree.proofs.AmongLaws.{among-left}

@@ -5,10 +5,10 @@
 --     Above, above-of one level up, where it isn't counted yet
 --     next            where it is
 --     climbed         at the root
-use Rattle.line_tree.proofs.Words.{◌≡◌, ℕ, zero, suc, ◌+◌, ◌-◌, ◌<◌, ◌≤◌, refl, sym, ap, ◌∙◌, subst, arith, IfSome}
-use Rattle.line_tree.proofs.Words.{IsSome, Option, Some, same_Some, Count, Distinct, IsTree, lines_at, lines_in}
-use Rattle.line_tree.proofs.Words.{tree_at, LineContent, NodePtr, Records, names, at_some, Finds, IsChild, IsLineAt}
-use Rattle.line_tree.proofs.Words.{Sits, lines_before, CanChange, Changes, Found}
+use Rattle.line_tree.proofs.Common.{◌≡◌, ℕ, zero, suc, ◌+◌, ◌-◌, ◌<◌, ◌≤◌, refl, sym, ap, ◌∙◌, subst, arith, IfSome}
+use Rattle.line_tree.proofs.Common.{IsSome, Option, Some, same_Some, Count, Distinct, IsTree, lines_at, lines_in}
+use Rattle.line_tree.proofs.Common.{tree_at, LineContent, NodePtr, Records, names, at_some, Finds, IsChild, IsLineAt}
+use Rattle.line_tree.proofs.Common.{Sits, lines_before, CanChange, Changes, Found}
 use Rattle.line_tree.proofs.BehindLaws.{at-root, child-within, led}
 use Rattle.line_tree.proofs.ChangingLaws.{named-as-linked, record-linked}
 use Rattle.line_tree.proofs.LowestLaws.{one-line}

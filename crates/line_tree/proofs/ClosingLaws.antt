@@ -1,10 +1,10 @@
 -- One child less for a node: each behind its slot goes one slot back.
-use Rattle.line_tree.proofs.Words.{◌≡◌, ℕ, suc, ◌+◌, ◌-◌, ◌<◌, ◌≤◌, List, ◌∷◌, length, get_or, drop, replicate, sym, ap}
-use Rattle.line_tree.proofs.Words.{◌∙◌, subst, arith, length-set, ◌≢◌, IfSome, IsSome, slice_get, Option, None, Some}
-use Rattle.line_tree.proofs.Words.{remove, option_map, at_drop_more, get_or-set_other, length-remove, slice_get-get_or}
-use Rattle.line_tree.proofs.Words.{slice_get_past, slice_get_within, Among, CanFill, link_one, relinked, Links, NodePtr}
-use Rattle.line_tree.proofs.Words.{Record, Records, update, with_child, with_parent, kids, row, at_some, get_or-row}
-use Rattle.line_tree.proofs.Words.{length-row, get-update, get-update-other, HasRow}
+use Rattle.line_tree.proofs.Common.{◌≡◌, ℕ, suc, ◌+◌, ◌-◌, ◌<◌, ◌≤◌, List, ◌∷◌, length, get_or, drop, replicate, sym}
+use Rattle.line_tree.proofs.Common.{ap, ◌∙◌, subst, arith, length-set, ◌≢◌, IfSome, IsSome, slice_get, Option, None}
+use Rattle.line_tree.proofs.Common.{Some, remove, option_map, at_drop_more, get_or-set_other, length-remove}
+use Rattle.line_tree.proofs.Common.{slice_get-get_or, slice_get_past, slice_get_within, Among, CanFill, link_one}
+use Rattle.line_tree.proofs.Common.{relinked, Links, NodePtr, Record, Records, update, with_child, with_parent, kids}
+use Rattle.line_tree.proofs.Common.{row, at_some, get_or-row, length-row, get-update, get-update-other, HasRow}
 use Rattle.line_tree.proofs.AmongLaws.{get-among}
 use Rattle.line_tree.proofs.EvenLaws.{kept-remove, remove-above}
 use Rattle.line_tree.proofs.KeptLaws.{drop-front, empty-same}

@@ -1,8 +1,8 @@
 -- How many lines a balanced tree has.
-use Rattle.line_tree.proofs.Words.{◌≡◌, ℕ, zero, suc, ◌+◌, ◌*◌, ◌^◌, ◌<◌, ◌≤◌, List, [], ◌∷◌, length, refl, arith}
-use Rattle.line_tree.proofs.Words.{length-append, IsSome, Option, None, Some, AllByRecursion, mul-le-mul_right}
-use Rattle.line_tree.proofs.Words.{pow-succ', Holds, IsBalanced, IsBalancedRoot, Tree, lines, names, LineContent}
-use Rattle.line_tree.proofs.Words.{NodePtr, Records, lines_of, names_of}
+use Rattle.line_tree.proofs.Common.{◌≡◌, ℕ, zero, suc, ◌+◌, ◌*◌, ◌^◌, ◌<◌, ◌≤◌, List, [], ◌∷◌, length, refl, arith}
+use Rattle.line_tree.proofs.Common.{length-append, IsSome, Option, None, Some, AllByRecursion, mul-le-mul_right}
+use Rattle.line_tree.proofs.Common.{pow-succ', Holds, IsBalanced, IsBalancedRoot, Tree, lines, names, LineContent}
+use Rattle.line_tree.proofs.Common.{NodePtr, Records, lines_of, names_of}
 use mathlib.Core.Bool.{false≢true}
 
 pub one-line : (p : NodePtr) (o : Option LineContent) → IsSome o → length (lines zero (p, o)) ≡ 1

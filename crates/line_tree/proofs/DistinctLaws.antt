@@ -1,5 +1,5 @@
 -- Distinct names.
-use Rattle.line_tree.proofs.Words.{inl, inr, List, [], ◌∷◌, ◌++◌, refl, subst, Among, Distinct, NodePtr}
+use Rattle.line_tree.proofs.Common.{inl, inr, List, [], ◌∷◌, ◌++◌, refl, subst, Among, Distinct, NodePtr}
 use Rattle.line_tree.proofs.AmongLaws.{among-cases, among-left, among-right}
 
 pub distinct-left : (xs ys : List NodePtr) → Distinct (xs ++ ys) → Distinct xs

@@ -1,9 +1,9 @@
 -- The children of a node without one of them, and those of two nodes.
-use Rattle.line_tree.proofs.Words.{◌≡◌, ℕ, zero, suc, ◌+◌, ◌<◌, ◌≤◌, inl, inr, List, [], ◌∷◌, ◌++◌, length, take, drop}
-use Rattle.line_tree.proofs.Words.{refl, sym, ap, ◌∙◌, subst, arith, length-append, length-take, length-drop, IsSome}
-use Rattle.line_tree.proofs.Words.{slice_get, Option, None, Some, remove, append-nil, take-append-drop, slice_get_past}
-use Rattle.line_tree.proofs.Words.{Among, CanEven, CanFill, FitsSum, Stay, refilled, relinked, sum_all, sums, Links}
-use Rattle.line_tree.proofs.Words.{sum_at, NodePtr, Records, kids, row, plus, length-row, HasRow}
+use Rattle.line_tree.proofs.Common.{◌≡◌, ℕ, zero, suc, ◌+◌, ◌<◌, ◌≤◌, inl, inr, List, [], ◌∷◌, ◌++◌, length, take, drop}
+use Rattle.line_tree.proofs.Common.{refl, sym, ap, ◌∙◌, subst, arith, length-append, length-take, length-drop, IsSome}
+use Rattle.line_tree.proofs.Common.{slice_get, Option, None, Some, remove, append-nil, take-append-drop, slice_get_past}
+use Rattle.line_tree.proofs.Common.{Among, CanEven, CanFill, FitsSum, Stay, refilled, relinked, sum_all, sums, Links}
+use Rattle.line_tree.proofs.Common.{sum_at, NodePtr, Records, kids, row, plus, length-row, HasRow}
 use Rattle.line_tree.proofs.AmongLaws.{among-cases, among-drop, among-get, among-take, get-among}
 use Rattle.line_tree.proofs.FillLaws.{refilled-other, refilled-sum, row-some, sum_all-append, sum_all-same, sums-row}
 use Rattle.line_tree.proofs.KeptLaws.{kept-front, kept-row}

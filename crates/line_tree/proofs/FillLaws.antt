@@ -1,12 +1,12 @@
 -- What new children of a node leave at each name.
-use Rattle.line_tree.proofs.Words.{◌≡◌, ℕ, zero, suc, ◌+◌, ◌-◌, ◌<◌, ◌≤◌, inl, inr, List, [], ◌∷◌, ◌++◌, length, get_or}
-use Rattle.line_tree.proofs.Words.{map, replicate, refl, sym, ap, ◌∙◌, subst, arith, ◌≢◌, slice_get, Option, None, Some}
-use Rattle.line_tree.proofs.Words.{filter_map, insert, option_map, append-nil, ext_get_or, drop_all, sets, sets-eq}
-use Rattle.line_tree.proofs.Words.{get_or_from_slice_get, no_text-plus, plus-associative, plus-commutative, Among}
-use Rattle.line_tree.proofs.Words.{CanFill, link_one, refilled, relinked, sum_all, sums, NodePtr, Record, Records}
-use Rattle.line_tree.proofs.Words.{update, with_child, with_parent, with_sum, kids, kids_of, row, no_text, plus, sum_at}
-use Rattle.line_tree.proofs.Words.{sum_of, same_or_other, get_or-row, length-row, somes-row, get-update}
-use Rattle.line_tree.proofs.Words.{get-update-other, HasRow}
+use Rattle.line_tree.proofs.Common.{◌≡◌, ℕ, zero, suc, ◌+◌, ◌-◌, ◌<◌, ◌≤◌, inl, inr, List, [], ◌∷◌, ◌++◌, length}
+use Rattle.line_tree.proofs.Common.{get_or, map, replicate, refl, sym, ap, ◌∙◌, subst, arith, ◌≢◌, slice_get, Option}
+use Rattle.line_tree.proofs.Common.{None, Some, filter_map, insert, option_map, append-nil, ext_get_or, drop_all, sets}
+use Rattle.line_tree.proofs.Common.{sets-eq, get_or_from_slice_get, no_text-plus, plus-associative, plus-commutative}
+use Rattle.line_tree.proofs.Common.{Among, CanFill, link_one, refilled, relinked, sum_all, sums, NodePtr, Record}
+use Rattle.line_tree.proofs.Common.{Records, update, with_child, with_parent, with_sum, kids, kids_of, row, no_text}
+use Rattle.line_tree.proofs.Common.{plus, sum_at, sum_of, same_or_other, get_or-row, length-row, somes-row, get-update}
+use Rattle.line_tree.proofs.Common.{get-update-other, HasRow}
 use Rattle.line_tree.proofs.AmongLaws.{get-among}
 use Rattle.line_tree.proofs.UpdateLaws.{named-relinked}
 use Rattle.std.specs.FinMap as finite

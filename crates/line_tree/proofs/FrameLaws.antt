@@ -1,7 +1,7 @@
 -- A tree stands where its records stay, but for the links of its top.
-use Rattle.line_tree.proofs.Words.{◌≡◌, ℕ, zero, suc, inl, inr, List, [], ◌∷◌, refl, sym, ◌∙◌, subst, IsSome, Option}
-use Rattle.line_tree.proofs.Words.{Some, AllByRecursion, Among, Distinct, Holds, Links, NodePtr, Record, Records, Tree}
-use Rattle.line_tree.proofs.Words.{inner, names, tops, names_of}
+use Rattle.line_tree.proofs.Common.{◌≡◌, ℕ, zero, suc, inl, inr, List, [], ◌∷◌, refl, sym, ◌∙◌, subst, IsSome, Option}
+use Rattle.line_tree.proofs.Common.{Some, AllByRecursion, Among, Distinct, Holds, Links, NodePtr, Record, Records, Tree}
+use Rattle.line_tree.proofs.Common.{inner, names, tops, names_of}
 use Rattle.line_tree.proofs.AmongLaws.{among-cases, among-left, among-right}
 use Rattle.line_tree.proofs.DistinctLaws.{distinct-apart, distinct-left, distinct-right}
 use Rattle.line_tree.proofs.TreeLaws.{named-held}

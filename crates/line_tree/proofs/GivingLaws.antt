@@ -1,10 +1,11 @@
 -- A lowest node and its lines are given back.
-use Rattle.line_tree.proofs.Words.{◌≡◌, ℕ, zero, suc, ◌+◌, ◌-◌, ◌<◌, ◌⊎◌, ◌++◌, inl, inr, List, [], ◌∷◌, get_or, length}
-use Rattle.line_tree.proofs.Words.{map, take, refl, sym, ap, ◌∙◌, subst, arith, IfSome, IsSome, slice_get, Option, None}
-use Rattle.line_tree.proofs.Words.{Some, take_more, get_or_from_slice_get, none-some, same_Some, slice_get_within}
-use Rattle.line_tree.proofs.Words.{removed, rooms_for, Among, IsTree, lines_in, tree_at, NodePtr, Record, Records, kids}
-use Rattle.line_tree.proofs.Words.{lines, names, at_some, get_removed, get_unmoved, some_of, same_or_other, Without}
-use Rattle.line_tree.proofs.Words.{StandsAlone, names_of, IsLineAt, Sits, Cleans, Lowers, Removes}
+use Rattle.line_tree.proofs.Common.{◌≡◌, ℕ, zero, suc, ◌+◌, ◌-◌, ◌<◌, ◌⊎◌, ◌++◌, inl, inr, List, [], ◌∷◌, get_or}
+use Rattle.line_tree.proofs.Common.{length, map, take, refl, sym, ap, ◌∙◌, subst, arith, IfSome, IsSome, slice_get}
+use Rattle.line_tree.proofs.Common.{Option, None, Some, take_more, get_or_from_slice_get, none-some, same_Some}
+use Rattle.line_tree.proofs.Common.{slice_get_within, removed, rooms_for, Among, IsTree, lines_in, tree_at, NodePtr}
+use Rattle.line_tree.proofs.Common.{Record, Records, kids, lines, names, at_some, get_removed, get_unmoved, some_of}
+use Rattle.line_tree.proofs.Common.{same_or_other, Without, StandsAlone, names_of, IsLineAt, Sits, Cleans, Lowers}
+use Rattle.line_tree.proofs.Common.{Removes}
 use Rattle.line_tree.proofs.AmongLaws.{among-cases, among-get, among-left, among-right, among-take}
 use Rattle.line_tree.proofs.LowerLaws.{branch-after, gone-of, taken-out}
 use Rattle.line_tree.proofs.PlaceLaws.{linked, sits}

@@ -1,9 +1,10 @@
 -- Trees with one more line.
-use Rattle.line_tree.proofs.Words.{◌≡◌, ℕ, zero, suc, ◌+◌, ◌≤◌, ◌⊎◌, inl, inr, List, [], ◌∷◌, ◌++◌, length, take, drop}
-use Rattle.line_tree.proofs.Words.{refl, sym, ap, ◌∙◌, subst, arith, append_assoc, ◌≢◌, IsSome, Option, None, Some}
-use Rattle.line_tree.proofs.Words.{AllByRecursion, insert, append-nil, drop-append-le, take-append-drop, take-append-le}
-use Rattle.line_tree.proofs.Words.{flat_map-append, none-some, Among, Distinct, Holds, LineContent, NodePtr, Records}
-use Rattle.line_tree.proofs.Words.{Tree, lines, names, tops, some_of, Grows, lines_of, names_of, with_line}
+use Rattle.line_tree.proofs.Common.{◌≡◌, ℕ, zero, suc, ◌+◌, ◌≤◌, ◌⊎◌, inl, inr, List, [], ◌∷◌, ◌++◌, length, take, drop}
+use Rattle.line_tree.proofs.Common.{refl, sym, ap, ◌∙◌, subst, arith, append_assoc, ◌≢◌, IsSome, Option, None, Some}
+use Rattle.line_tree.proofs.Common.{AllByRecursion, insert, append-nil, drop-append-le, take-append-drop}
+use Rattle.line_tree.proofs.Common.{take-append-le, flat_map-append, none-some, Among, Distinct, Holds, LineContent}
+use Rattle.line_tree.proofs.Common.{NodePtr, Records, Tree, lines, names, tops, some_of, Grows, lines_of, names_of}
+use Rattle.line_tree.proofs.Common.{with_line}
 use mathlib.Core.Bool.{false≢true}
 use Rattle.line_tree.proofs.AmongLaws.{among-cases, among-left, among-right}
 use Rattle.line_tree.proofs.DistinctLaws.{distinct-apart, distinct-more, distinct-replace, distinct-right}

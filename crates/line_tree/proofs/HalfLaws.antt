@@ -1,8 +1,8 @@
 -- The sums of the first children of two nodes, and of the others, by those that change sides.
-use Rattle.line_tree.proofs.Words.{◌≡◌, ℕ, ◌+◌, ◌-◌, ◌≤◌, List, ◌++◌, length, take, drop, sym, ap, ◌∙◌, arith}
-use Rattle.line_tree.proofs.Words.{length-drop, drop-append-add, drop-append_seam, take-append-add, take-append_seam}
-use Rattle.line_tree.proofs.Words.{drop-append-le, take-append-drop, take-append-le, plus-commutative, NodePtr, Records}
-use Rattle.line_tree.proofs.Words.{plus, sum_all}
+use Rattle.line_tree.proofs.Common.{◌≡◌, ℕ, ◌+◌, ◌-◌, ◌≤◌, List, ◌++◌, length, take, drop, sym, ap, ◌∙◌, arith}
+use Rattle.line_tree.proofs.Common.{length-drop, drop-append-add, drop-append_seam, take-append-add, take-append_seam}
+use Rattle.line_tree.proofs.Common.{drop-append-le, take-append-drop, take-append-le, plus-commutative, NodePtr}
+use Rattle.line_tree.proofs.Common.{Records, plus, sum_all}
 use Rattle.line_tree.proofs.FillLaws.{sum_all-append}
 
 -- ---- some of the right one's children go to the left one

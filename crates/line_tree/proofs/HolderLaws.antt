@@ -1,9 +1,9 @@
 -- Which of some lines has the mark of a number.
-use Rattle.line_tree.proofs.Words.{◌≡◌, ℕ, zero, suc, ◌-◌, ◌<◌, ◌≤◌, Bool, true, false, cond, List, [], ◌∷◌, ◌++◌}
-use Rattle.line_tree.proofs.Words.{length, take, drop, refl, sym, ap, ap₂, ◌∙◌, arith, is_some, slice_get, slice_range}
-use Rattle.line_tree.proofs.Words.{Option, None, Some, none-some, same_Some, Place, LineContent, Named, contents}
-use Rattle.line_tree.proofs.Words.{NodePtr, AreRows, has_mark, has_marks, next_line, whole, drop_after, FailFrom}
-use Rattle.line_tree.proofs.Words.{next-found, next-none, AreBare, IsMarkedBelow, holder, lines_without, IsLineAt}
+use Rattle.line_tree.proofs.Common.{◌≡◌, ℕ, zero, suc, ◌-◌, ◌<◌, ◌≤◌, Bool, true, false, cond, List, [], ◌∷◌, ◌++◌}
+use Rattle.line_tree.proofs.Common.{length, take, drop, refl, sym, ap, ap₂, ◌∙◌, arith, is_some, slice_get, slice_range}
+use Rattle.line_tree.proofs.Common.{Option, None, Some, none-some, same_Some, Place, LineContent, Named, contents}
+use Rattle.line_tree.proofs.Common.{NodePtr, AreRows, has_mark, has_marks, next_line, whole, drop_after, FailFrom}
+use Rattle.line_tree.proofs.Common.{next-found, next-none, AreBare, IsMarkedBelow, holder, lines_without, IsLineAt}
 use mathlib.Core.Bool.{false≢true}
 use Rattle.line_lists.proofs.MarkPlaces.{has-none}
 use Rattle.line_lists.proofs.RowLaws.{free-parts}

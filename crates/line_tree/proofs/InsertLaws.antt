@@ -1,13 +1,13 @@
 -- An insertion at a node, from the insertion at its child.
-use Rattle.line_tree.proofs.Words.{◌≡◌, ℕ, zero, suc, ◌+◌, ◌<◌, ◌≤◌, inl, inr, List, [], ◌∷◌, ◌++◌, length, take, drop}
-use Rattle.line_tree.proofs.Words.{map, refl, sym, ap, ◌∙◌, subst, arith, ◌≢◌, IsSome, option_to_list, slice_get}
-use Rattle.line_tree.proofs.Words.{Option, None, Some, AllByRecursion, insert, drop-map, length-map, map-append}
-use Rattle.line_tree.proofs.Words.{take-map, flat_map-append, length-insert, none-some, same_Some, slice_get_within}
-use Rattle.line_tree.proofs.Words.{Among, CanPut, Distinct, FitsSum, Puts, resummed, sum_all, sums, Count, plus, Holds}
-use Rattle.line_tree.proofs.Words.{IsTree, Links, lines_in, sum_at, sum_of, tree_at, IsBalanced, Tree, inner, lines}
-use Rattle.line_tree.proofs.Words.{names, tops, total, LineContent, NodePtr, Records, with_sum, kids, kids_of, row}
-use Rattle.line_tree.proofs.Words.{same_or_other, HasRow, Leads, lines_below, CanInsert, Grows, Inserts, KeepsLink}
-use Rattle.line_tree.proofs.Words.{KeepsWide, lines_of, names_of, trees, Found}
+use Rattle.line_tree.proofs.Common.{◌≡◌, ℕ, zero, suc, ◌+◌, ◌<◌, ◌≤◌, inl, inr, List, [], ◌∷◌, ◌++◌, length, take, drop}
+use Rattle.line_tree.proofs.Common.{map, refl, sym, ap, ◌∙◌, subst, arith, ◌≢◌, IsSome, option_to_list, slice_get}
+use Rattle.line_tree.proofs.Common.{Option, None, Some, AllByRecursion, insert, drop-map, length-map, map-append}
+use Rattle.line_tree.proofs.Common.{take-map, flat_map-append, length-insert, none-some, same_Some, slice_get_within}
+use Rattle.line_tree.proofs.Common.{Among, CanPut, Distinct, FitsSum, Puts, resummed, sum_all, sums, Count, plus, Holds}
+use Rattle.line_tree.proofs.Common.{IsTree, Links, lines_in, sum_at, sum_of, tree_at, IsBalanced, Tree, inner, lines}
+use Rattle.line_tree.proofs.Common.{names, tops, total, LineContent, NodePtr, Records, with_sum, kids, kids_of, row}
+use Rattle.line_tree.proofs.Common.{same_or_other, HasRow, Leads, lines_below, CanInsert, Grows, Inserts, KeepsLink}
+use Rattle.line_tree.proofs.Common.{KeepsWide, lines_of, names_of, trees, Found}
 use mathlib.Core.Bool.{false≢true}
 use Rattle.line_tree.proofs.AmongLaws.{among-get, among-left, among-right}
 use Rattle.line_tree.proofs.BuildLaws.{sum-kids, sum-trees}

@@ -2,12 +2,12 @@
 --     kept-row      the first children of a row are as they were
 --     kept-front    as many of them as are the same
 --     kept-whole    all of them
-use Rattle.line_tree.proofs.Words.{◌≡◌, ℕ, zero, suc, ◌+◌, ◌-◌, inl, inr, List, [], ◌∷◌, ◌++◌, ◌<◌, ◌≤◌, append_assoc}
-use Rattle.line_tree.proofs.Words.{drop, length, length-take, map, refl, replicate, set, sym, ap, take, ◌∙◌, subst}
-use Rattle.line_tree.proofs.Words.{arith, same_map, append-nil, map-append, take-append-drop, none-some, same_Some}
-use Rattle.line_tree.proofs.Words.{Record, Records, updated, with_child, with_parent, IsLinked, Links, NodePtr, Stay}
-use Rattle.line_tree.proofs.Words.{link_one, relinked, kids, row, get_inserted, get_other, name_antisym, name_total}
-use Rattle.line_tree.proofs.Words.{same_or_other, HasRow, Option, None, Some, slice_get}
+use Rattle.line_tree.proofs.Common.{◌≡◌, ℕ, zero, suc, ◌+◌, ◌-◌, inl, inr, List, [], ◌∷◌, ◌++◌, ◌<◌, ◌≤◌, append_assoc}
+use Rattle.line_tree.proofs.Common.{drop, length, length-take, map, refl, replicate, set, sym, ap, take, ◌∙◌, subst}
+use Rattle.line_tree.proofs.Common.{arith, same_map, append-nil, map-append, take-append-drop, none-some, same_Some}
+use Rattle.line_tree.proofs.Common.{Record, Records, updated, with_child, with_parent, IsLinked, Links, NodePtr, Stay}
+use Rattle.line_tree.proofs.Common.{link_one, relinked, kids, row, get_inserted, get_other, name_antisym, name_total}
+use Rattle.line_tree.proofs.Common.{same_or_other, HasRow, Option, None, Some, slice_get}
 use Rattle.raw_nodes.specs.Records.{update}
 use Rattle.std.specs.FinMap as finite
 

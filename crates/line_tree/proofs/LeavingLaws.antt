@@ -1,8 +1,8 @@
 -- Some of the lines in a row are taken out, and then the others.
-use Rattle.line_tree.proofs.Words.{◌≡◌, ℕ, zero, suc, ◌+◌, ◌-◌, ◌≤◌, List, [], ◌∷◌, ◌++◌, length, take, drop, refl, sym}
-use Rattle.line_tree.proofs.Words.{ap, ◌∙◌, arith, append_assoc, length-append, append-nil, drop-append-le, drop-drop}
-use Rattle.line_tree.proofs.Words.{drop_all, length-take-le, take-append-drop, take-append-le, removed, Leaves}
-use Rattle.line_tree.proofs.Words.{KeepsRoom, TreeState, Named, length-drop}
+use Rattle.line_tree.proofs.Common.{◌≡◌, ℕ, zero, suc, ◌+◌, ◌-◌, ◌≤◌, List, [], ◌∷◌, ◌++◌, length, take, drop, refl}
+use Rattle.line_tree.proofs.Common.{sym, ap, ◌∙◌, arith, append_assoc, length-append, append-nil, drop-append-le}
+use Rattle.line_tree.proofs.Common.{drop-drop, drop_all, length-take-le, take-append-drop, take-append-le, removed}
+use Rattle.line_tree.proofs.Common.{Leaves, KeepsRoom, TreeState, Named, length-drop}
 use Rattle.line_tree.proofs.LineRoomLaws.{length-removed}
 use Rattle.line_tree.proofs.SpendingLaws.{keeps-on, keeps-self}
 

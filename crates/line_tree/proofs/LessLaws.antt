@@ -3,11 +3,11 @@
 --     without-plus     a part whose toggled slots are toggled in the rest too
 --     sum_all-remove   a child
 --     total-gone       some lines
-use Rattle.line_tree.proofs.Words.{◌≡◌, ℕ, zero, suc, ◌+◌, ◌-◌, ◌≤◌, List, [], ◌∷◌, ◌++◌, take, drop, sym, ap, ◌∙◌}
-use Rattle.line_tree.proofs.Words.{arith, remove, split_between, none-some, same_Some, differing, removed}
-use Rattle.line_tree.proofs.Words.{differing-associative, differing-empty, differing-self, plus-associative}
-use Rattle.line_tree.proofs.Words.{plus-commutative, union-empty, Count, IsBare, IsWithin, less, plus, without, Named}
-use Rattle.line_tree.proofs.Words.{total, NodePtr, Records, sum_all, sum_at, Some, slice_get, slice_range}
+use Rattle.line_tree.proofs.Common.{◌≡◌, ℕ, zero, suc, ◌+◌, ◌-◌, ◌≤◌, List, [], ◌∷◌, ◌++◌, take, drop, sym, ap, ◌∙◌}
+use Rattle.line_tree.proofs.Common.{arith, remove, split_between, none-some, same_Some, differing, removed}
+use Rattle.line_tree.proofs.Common.{differing-associative, differing-empty, differing-self, plus-associative}
+use Rattle.line_tree.proofs.Common.{plus-commutative, union-empty, Count, IsBare, IsWithin, less, plus, without, Named}
+use Rattle.line_tree.proofs.Common.{total, NodePtr, Records, sum_all, sum_at, Some, slice_get, slice_range}
 use Rattle.line_tree.proofs.SumLaws.{total-append}
 use Rattle.std.specs.FinSet as set
 

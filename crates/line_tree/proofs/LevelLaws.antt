@@ -1,8 +1,8 @@
 -- How many levels a tree of so many lines has at most.
-use Rattle.line_tree.proofs.Words.{◌≡◌, ℕ, zero, suc, ◌+◌, ◌-◌, ◌*◌, ◌/◌, ◌^◌, ◌<◌, ◌≤◌, max, inl, inr, ap, subst}
-use Rattle.line_tree.proofs.Words.{arith, lit≤, lit<, length, nat_le, pow-le-pow_right, pow-succ', cases_lt, cond-false}
-use Rattle.line_tree.proofs.Words.{cond-true, le-leb, lt-leb, NodePtr, Records, lines_in, tree_at, names, Stands}
-use Rattle.line_tree.proofs.Words.{levels_up_to}
+use Rattle.line_tree.proofs.Common.{◌≡◌, ℕ, zero, suc, ◌+◌, ◌-◌, ◌*◌, ◌/◌, ◌^◌, ◌<◌, ◌≤◌, max, inl, inr, ap, subst}
+use Rattle.line_tree.proofs.Common.{arith, lit≤, lit<, length, nat_le, pow-le-pow_right, pow-succ', cases_lt}
+use Rattle.line_tree.proofs.Common.{cond-false, cond-true, le-leb, lt-leb, NodePtr, Records, lines_in, tree_at, names}
+use Rattle.line_tree.proofs.Common.{Stands, levels_up_to}
 use Rattle.line_tree.specs.Room.{levels_at_most}
 use Rattle.line_tree.proofs.CountLaws.{names-many-root}
 use Rattle.line_tree.proofs.FrameLaws.{names-held}

@@ -1,9 +1,9 @@
 -- One more level, up to the root.
-use Rattle.line_tree.proofs.Words.{◌≡◌, ℕ, zero, suc, ◌+◌, ◌-◌, ◌*◌, ◌^◌, ◌≤◌, List, [], ◌∷◌, length, sym, ap, ◌∙◌}
-use Rattle.line_tree.proofs.Words.{subst, arith, AllByRecursion, mul-le-mul_right, length-map, FitsSum, sum_all}
-use Rattle.line_tree.proofs.Words.{IsBalanced, IsBalancedRoot, Tree, least_below_root, total, NodePtr, Records, tree_at}
-use Rattle.line_tree.proofs.Words.{IsWide, lines_of, names_of, CanLift, CanRaise, Lifted, Raises, trees_at}
-use Rattle.line_tree.proofs.Words.{levels_at_most}
+use Rattle.line_tree.proofs.Common.{◌≡◌, ℕ, zero, suc, ◌+◌, ◌-◌, ◌*◌, ◌^◌, ◌≤◌, List, [], ◌∷◌, length, sym, ap, ◌∙◌}
+use Rattle.line_tree.proofs.Common.{subst, arith, AllByRecursion, mul-le-mul_right, length-map, FitsSum, sum_all}
+use Rattle.line_tree.proofs.Common.{IsBalanced, IsBalancedRoot, Tree, least_below_root, total, NodePtr, Records}
+use Rattle.line_tree.proofs.Common.{tree_at, IsWide, lines_of, names_of, CanLift, CanRaise, Lifted, Raises, trees_at}
+use Rattle.line_tree.proofs.Common.{levels_at_most}
 use Rattle.line_tree.proofs.BecomeLaws.{and-then}
 use Rattle.line_tree.proofs.BuildLaws.{sum-trees}
 use Rattle.line_tree.proofs.CountLaws.{least-lines, lines-sum, lines-within, many-lines}

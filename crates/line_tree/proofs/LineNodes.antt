@@ -1,7 +1,7 @@
 -- A line by its name.
-use Rattle.line_tree.proofs.Words.{◌≡◌, ℕ, zero, suc, List, refl, sym, ap, ◌∙◌, subst, IsSome, slice_get, Option, None}
-use Rattle.line_tree.proofs.Words.{Some, option_map, none-some, same_Some, IsTree, line_of, lines_in, LineContent}
-use Rattle.line_tree.proofs.Words.{Named, lines, NodePtr, Record, Records, kids, IsLineAt}
+use Rattle.line_tree.proofs.Common.{◌≡◌, ℕ, zero, suc, List, refl, sym, ap, ◌∙◌, subst, IsSome, slice_get, Option, None}
+use Rattle.line_tree.proofs.Common.{Some, option_map, none-some, same_Some, IsTree, line_of, lines_in, LineContent}
+use Rattle.line_tree.proofs.Common.{Named, lines, NodePtr, Record, Records, kids, IsLineAt}
 use Rattle.line_tree.proofs.PlaceLaws.{named_line, through}
 use Rattle.line_tree.proofs.TreeLaws.{child-tree}
 use Rattle.std.specs.FinMap as finite

@@ -1,9 +1,9 @@
 -- How many lines there are, and how many can be put in.
-use Rattle.line_tree.proofs.Words.{◌≡◌, ℕ, zero, suc, ◌+◌, ◌-◌, ◌*◌, ◌/◌, ◌<◌, ◌≤◌, min, max, inl, inr, List, length}
-use Rattle.line_tree.proofs.Words.{sym, ap, subst, arith, lit<, ◌⊎◌, ◌++◌, OnOk, Result, Ok, Err, take, drop}
-use Rattle.line_tree.proofs.Words.{length-append, insert, remove, div-mul-le_self, le-max_left, le-max_right, le-min}
-use Rattle.line_tree.proofs.Words.{mul-le-mul_left, le-div, length-take-le, length-insert, removed, levels_at_most}
-use Rattle.line_tree.proofs.Words.{room_by_height, room_by_width, TreeState, Named, length-drop}
+use Rattle.line_tree.proofs.Common.{◌≡◌, ℕ, zero, suc, ◌+◌, ◌-◌, ◌*◌, ◌/◌, ◌<◌, ◌≤◌, min, max, inl, inr, List, length}
+use Rattle.line_tree.proofs.Common.{sym, ap, subst, arith, lit<, ◌⊎◌, ◌++◌, OnOk, Result, Ok, Err, take, drop}
+use Rattle.line_tree.proofs.Common.{length-append, insert, remove, div-mul-le_self, le-max_left, le-max_right, le-min}
+use Rattle.line_tree.proofs.Common.{mul-le-mul_left, le-div, length-take-le, length-insert, removed, levels_at_most}
+use Rattle.line_tree.proofs.Common.{room_by_height, room_by_width, TreeState, Named, length-drop}
 use Rattle.line_tree.specs.Room.{line_room}
 use Rattle.line_tree.proofs.LevelLaws.{low-levels}
 

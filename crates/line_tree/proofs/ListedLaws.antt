@@ -1,13 +1,13 @@
 -- A tree with a table of names as a list of lines.
-use Rattle.line_tree.proofs.Words.{◌≡◌, ℕ, zero, suc, ◌+◌, ◌-◌, ◌^◌, ◌<◌, ◌≤◌, Bool, true, false, cond, List, [], ◌∷◌}
-use Rattle.line_tree.proofs.Words.{◌++◌, length, take, drop, refl, sym, ap, ap₂, ◌∙◌, subst, arith, length-append}
-use Rattle.line_tree.proofs.Words.{IfSome, is_some, slice_get, slice_range, Option, None, Some, All, nat_cmp}
-use Rattle.line_tree.proofs.Words.{drop-append_seam, take-append_seam, drop-map, length-take-le, map-append, take-map}
-use Rattle.line_tree.proofs.Words.{none-some, same_Some, slice_get-map, slice_get_within, Count, plus, FitsSum}
-use Rattle.line_tree.proofs.Words.{LineContent, plain_line, Named, contents, total, NodePtr, AreLines, IsCounted}
-use Rattle.line_tree.proofs.Words.{NumbersBelow, count_of, has_mark, next_line, spliced, whole, count-characters}
-use Rattle.line_tree.proofs.Words.{count-lines, FailFrom, NextAt, new-lines, IsPlaceAt, IsTable, holder, lines_without}
-use Rattle.line_tree.proofs.Words.{noted, IsLineAt, append_assoc, length-drop}
+use Rattle.line_tree.proofs.Common.{◌≡◌, ℕ, zero, suc, ◌+◌, ◌-◌, ◌^◌, ◌<◌, ◌≤◌, Bool, true, false, cond, List, [], ◌∷◌}
+use Rattle.line_tree.proofs.Common.{◌++◌, length, take, drop, refl, sym, ap, ap₂, ◌∙◌, subst, arith, length-append}
+use Rattle.line_tree.proofs.Common.{IfSome, is_some, slice_get, slice_range, Option, None, Some, All, nat_cmp}
+use Rattle.line_tree.proofs.Common.{drop-append_seam, take-append_seam, drop-map, length-take-le, map-append, take-map}
+use Rattle.line_tree.proofs.Common.{none-some, same_Some, slice_get-map, slice_get_within, Count, plus, FitsSum}
+use Rattle.line_tree.proofs.Common.{LineContent, plain_line, Named, contents, total, NodePtr, AreLines, IsCounted}
+use Rattle.line_tree.proofs.Common.{NumbersBelow, count_of, has_mark, next_line, spliced, whole, count-characters}
+use Rattle.line_tree.proofs.Common.{count-lines, FailFrom, NextAt, new-lines, IsPlaceAt, IsTable, holder, lines_without}
+use Rattle.line_tree.proofs.Common.{noted, IsLineAt, append_assoc, length-drop}
 use Rattle.std.proofs.Common.{option_map}
 use Rattle.line_lists.specs.Lists.{Holds}
 use Rattle.line_tree.proofs.HolderLaws.{not-first}

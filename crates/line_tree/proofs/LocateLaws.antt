@@ -1,7 +1,7 @@
 -- Ways down by characters.
-use Rattle.line_tree.proofs.Words.{◌≡◌, ℕ, suc, List, [], ◌∷◌, map, refl, sym, ap, ◌∙◌, arith, AllByRecursion, flat_map}
-use Rattle.line_tree.proofs.Words.{sum_by, sum_by-cons, Holds, IsTree, lines_at, lines_in, tree_at, NodePtr, Records}
-use Rattle.line_tree.proofs.Words.{kids, lines, total, lines_below, characters_at, characters_below}
+use Rattle.line_tree.proofs.Common.{◌≡◌, ℕ, suc, List, [], ◌∷◌, map, refl, sym, ap, ◌∙◌, arith, AllByRecursion}
+use Rattle.line_tree.proofs.Common.{flat_map, sum_by, sum_by-cons, Holds, IsTree, lines_at, lines_in, tree_at, NodePtr}
+use Rattle.line_tree.proofs.Common.{Records, kids, lines, total, lines_below, characters_at, characters_below}
 use Rattle.line_tree.proofs.SumLaws.{total-append}
 use Rattle.line_tree.proofs.TreeLaws.{sum-tree, whole-below}
 

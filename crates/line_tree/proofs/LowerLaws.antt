@@ -1,12 +1,12 @@
 -- A root with one child, and what was taken out of a tree: given back, and the lines that are left.
-use Rattle.line_tree.proofs.Words.{◌≡◌, ℕ, zero, suc, ◌+◌, ◌-◌, ◌<◌, ◌≤◌, inl, inr, List, [], ◌∷◌, ◌++◌, length, map}
-use Rattle.line_tree.proofs.Words.{take, drop, refl, sym, ap, ◌∙◌, subst, arith, ◌≢◌, IsSome, slice_get, Option, None}
-use Rattle.line_tree.proofs.Words.{Some, AllByRecursion, append-nil, none-some, same_Some, removed, Among, Distinct}
-use Rattle.line_tree.proofs.Words.{FitsSum, Holds, IsTree, line_of, lines_in, tree_at, IsBalanced, IsBalancedRoot}
-use Rattle.line_tree.proofs.Words.{Named, Tree, inner, lines, names, total, LineContent, NodePtr, Record, Records}
-use Rattle.line_tree.proofs.Words.{update, with_parent, kids, get_unmoved, some_of, get-update-other, remove-named}
-use Rattle.line_tree.proofs.Words.{update-named, Without, IsWide, Stands, StandsAlone, lines_of, names_of, CanLower}
-use Rattle.line_tree.proofs.Words.{CanRemove, Cleans, Lowers, Removes}
+use Rattle.line_tree.proofs.Common.{◌≡◌, ℕ, zero, suc, ◌+◌, ◌-◌, ◌<◌, ◌≤◌, inl, inr, List, [], ◌∷◌, ◌++◌, length, map}
+use Rattle.line_tree.proofs.Common.{take, drop, refl, sym, ap, ◌∙◌, subst, arith, ◌≢◌, IsSome, slice_get, Option, None}
+use Rattle.line_tree.proofs.Common.{Some, AllByRecursion, append-nil, none-some, same_Some, removed, Among, Distinct}
+use Rattle.line_tree.proofs.Common.{FitsSum, Holds, IsTree, line_of, lines_in, tree_at, IsBalanced, IsBalancedRoot}
+use Rattle.line_tree.proofs.Common.{Named, Tree, inner, lines, names, total, LineContent, NodePtr, Record, Records}
+use Rattle.line_tree.proofs.Common.{update, with_parent, kids, get_unmoved, some_of, get-update-other, remove-named}
+use Rattle.line_tree.proofs.Common.{update-named, Without, IsWide, Stands, StandsAlone, lines_of, names_of, CanLower}
+use Rattle.line_tree.proofs.Common.{CanRemove, Cleans, Lowers, Removes}
 use mathlib.Core.Bool.{false≢true}
 use Rattle.line_tree.proofs.AmongLaws.{among-left, among-or}
 use Rattle.line_tree.proofs.BuildLaws.{tree-is}

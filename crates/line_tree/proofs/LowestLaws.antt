@@ -1,8 +1,8 @@
 -- The lowest level of a tree, where each child is a line.
-use Rattle.line_tree.proofs.Words.{◌≡◌, ℕ, zero, suc, ◌<◌, ◌≤◌, List, [], ◌∷◌, length, take, map, refl, ◌∙◌, arith}
-use Rattle.line_tree.proofs.Words.{IsSome, slice_get, Option, None, Some, AllByRecursion, sum_by, sum_by-cons, Holds}
-use Rattle.line_tree.proofs.Words.{IsTree, line_of, lines_at, tree_at, LineContent, NodePtr, Records, kids, lines}
-use Rattle.line_tree.proofs.Words.{lines_below, lines_before}
+use Rattle.line_tree.proofs.Common.{◌≡◌, ℕ, zero, suc, ◌<◌, ◌≤◌, List, [], ◌∷◌, length, take, map, refl, ◌∙◌, arith}
+use Rattle.line_tree.proofs.Common.{IsSome, slice_get, Option, None, Some, AllByRecursion, sum_by, sum_by-cons, Holds}
+use Rattle.line_tree.proofs.Common.{IsTree, line_of, lines_at, tree_at, LineContent, NodePtr, Records, kids, lines}
+use Rattle.line_tree.proofs.Common.{lines_below, lines_before}
 use mathlib.Core.Bool.{false≢true}
 use Rattle.line_tree.proofs.TreeLaws.{child-tree, count-tree}
 use Rattle.std.specs.FinMap as finite

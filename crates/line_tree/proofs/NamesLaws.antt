@@ -1,7 +1,7 @@
 -- The names of a tree's lines are distinct.
-use Rattle.line_tree.proofs.Words.{ℕ, zero, suc, inl, inr, List, [], ◌∷◌, sym, subst, Option, None, Some, map-append}
-use Rattle.line_tree.proofs.Words.{Among, Distinct, LineContent, Named, Tree, lines, names, NodePtr, lines_of, names_of}
-use Rattle.line_tree.proofs.Words.{line_names}
+use Rattle.line_tree.proofs.Common.{ℕ, zero, suc, inl, inr, List, [], ◌∷◌, sym, subst, Option, None, Some, map-append}
+use Rattle.line_tree.proofs.Common.{Among, Distinct, LineContent, Named, Tree, lines, names, NodePtr, lines_of}
+use Rattle.line_tree.proofs.Common.{names_of, line_names}
 use Rattle.line_tree.proofs.AmongLaws.{among-cases, among-left, among-right}
 use Rattle.line_tree.proofs.DistinctLaws.{distinct-apart, distinct-append, distinct-left, distinct-right}
 

@@ -1,12 +1,12 @@
 -- Ways down to the nearest line that has what is wanted.
-use Rattle.line_tree.proofs.Words.{◌≡◌, ℕ, zero, suc, ◌+◌, ◌-◌, ◌<◌, ◌≤◌, ◌⊎◌, inl, inr, Bool, true, false, ◌||◌, min}
-use Rattle.line_tree.proofs.Words.{nat_lt, List, [], ◌∷◌, length, refl, sym, ap, ◌∙◌, subst, arith, slice_get, Option}
-use Rattle.line_tree.proofs.Words.{None, Some, nat_cmp_total, sum_by, le-min, min-le_left, min-le_right, cases_lt}
-use Rattle.line_tree.proofs.Words.{length-map, take_all, sum_by-take-le, plus-no_text, Count, plus, IsTree, line_of}
-use Rattle.line_tree.proofs.Words.{lines_at, lines_in, LineContent, line_count, plain_line, Named, contents, lines}
-use Rattle.line_tree.proofs.Words.{total, NodePtr, Records, kids, next_line, previous_line, FailFrom, NextAt}
-use Rattle.line_tree.proofs.Words.{PreviousAt, line_at, next-found, next-none, previous-found, previous-none, passes}
-use Rattle.line_tree.proofs.Words.{shows, lines_before, Wanted}
+use Rattle.line_tree.proofs.Common.{◌≡◌, ℕ, zero, suc, ◌+◌, ◌-◌, ◌<◌, ◌≤◌, ◌⊎◌, inl, inr, Bool, true, false, ◌||◌, min}
+use Rattle.line_tree.proofs.Common.{nat_lt, List, [], ◌∷◌, length, refl, sym, ap, ◌∙◌, subst, arith, slice_get, Option}
+use Rattle.line_tree.proofs.Common.{None, Some, nat_cmp_total, sum_by, le-min, min-le_left, min-le_right, cases_lt}
+use Rattle.line_tree.proofs.Common.{length-map, take_all, sum_by-take-le, plus-no_text, Count, plus, IsTree, line_of}
+use Rattle.line_tree.proofs.Common.{lines_at, lines_in, LineContent, line_count, plain_line, Named, contents, lines}
+use Rattle.line_tree.proofs.Common.{total, NodePtr, Records, kids, next_line, previous_line, FailFrom, NextAt}
+use Rattle.line_tree.proofs.Common.{PreviousAt, line_at, next-found, next-none, previous-found, previous-none, passes}
+use Rattle.line_tree.proofs.Common.{shows, lines_before, Wanted}
 use mathlib.Core.Bool.{false≢true}
 use Rattle.line_lists.proofs.ListLaws.{no-marks, some-marks}
 use Rattle.line_tree.specs.declared.nearest.Wanted.TheVariants.{Toggle, Mark}

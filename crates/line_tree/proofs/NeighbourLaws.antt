@@ -1,10 +1,10 @@
 -- Two neighbours among the trees below a node, which share their children or become one.
-use Rattle.line_tree.proofs.Words.{◌≡◌, ℕ, suc, inl, inr, List, [], ◌∷◌, ◌++◌, length, take, drop, map, sym, ap, ◌∙◌}
-use Rattle.line_tree.proofs.Words.{subst, arith, length-take, length-drop, ◌≢◌, IsSome, slice_get, Some, AllByRecursion}
-use Rattle.line_tree.proofs.Words.{length-map, map-append, flat_map-append, Among, CanEven, Distinct, FitsSum, Merges}
-use Rattle.line_tree.proofs.Words.{Shares, refilled, sum_all, Holds, Links, tree_at, IsBalanced, Tree, inner, lines}
-use Rattle.line_tree.proofs.Words.{names, tops, total, NodePtr, Records, kids, row, same_or_other, KeepsLink, lines_of}
-use Rattle.line_tree.proofs.Words.{names_of, Turns}
+use Rattle.line_tree.proofs.Common.{◌≡◌, ℕ, suc, inl, inr, List, [], ◌∷◌, ◌++◌, length, take, drop, map, sym, ap, ◌∙◌}
+use Rattle.line_tree.proofs.Common.{subst, arith, length-take, length-drop, ◌≢◌, IsSome, slice_get, Some}
+use Rattle.line_tree.proofs.Common.{AllByRecursion, length-map, map-append, flat_map-append, Among, CanEven, Distinct}
+use Rattle.line_tree.proofs.Common.{FitsSum, Merges, Shares, refilled, sum_all, Holds, Links, tree_at, IsBalanced, Tree}
+use Rattle.line_tree.proofs.Common.{inner, lines, names, tops, total, NodePtr, Records, kids, row, same_or_other}
+use Rattle.line_tree.proofs.Common.{KeepsLink, lines_of, names_of, Turns}
 use Rattle.line_tree.proofs.AmongLaws.{among-drop, among-get, among-take}
 use Rattle.line_tree.proofs.BuildLaws.{sum-kids, sum-trees}
 use Rattle.line_tree.proofs.DistinctLaws.{distinct-left, distinct-right}

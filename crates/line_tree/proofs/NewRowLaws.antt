@@ -1,7 +1,7 @@
 -- A row of new lines.
-use Rattle.line_tree.proofs.Words.{◌≡◌, List, [], ◌∷◌, ◌++◌, length, take, drop, reverse, refl, sym, ap, ◌∙◌, subst}
-use Rattle.line_tree.proofs.Words.{append_assoc, reverse-append, take-append-drop, LineContent, NodePtr, Records}
-use Rattle.line_tree.proofs.Words.{contents, tree_at, NewLine, lines_of, Becomes, trees_at}
+use Rattle.line_tree.proofs.Common.{◌≡◌, List, [], ◌∷◌, ◌++◌, length, take, drop, reverse, refl, sym, ap, ◌∙◌, subst}
+use Rattle.line_tree.proofs.Common.{append_assoc, reverse-append, take-append-drop, LineContent, NodePtr, Records}
+use Rattle.line_tree.proofs.Common.{contents, tree_at, NewLine, lines_of, Becomes, trees_at}
 use Rattle.line_tree.proofs.BecomeLaws.{both, new-becomes, swapped}
 use Rattle.line_tree.proofs.BuildLaws.{trees-is}
 use Rattle.line_tree.proofs.RootLaws.{new-lines}

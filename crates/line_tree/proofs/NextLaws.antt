@@ -1,9 +1,9 @@
 -- From a line to the one behind it: up to the next branch, and down to its first line.
-use Rattle.line_tree.proofs.Words.{◌≡◌, ℕ, zero, suc, ◌+◌, ◌-◌, ◌<◌, ◌≤◌, List, [], ◌∷◌, length, map, refl, sym, ap}
-use Rattle.line_tree.proofs.Words.{◌∙◌, subst, arith, IfSome, slice_get, Option, None, Some, AllByRecursion, sum_by}
-use Rattle.line_tree.proofs.Words.{take_all, none-some, same_Some, slice_get_within, IsBalanced, IsBalancedRoot, Named}
-use Rattle.line_tree.proofs.Words.{Tree, IsTree, lines_at, lines_in, tree_at, NodePtr, Records, kids, IsChild, IsLineAt}
-use Rattle.line_tree.proofs.Words.{Sits, lines_before}
+use Rattle.line_tree.proofs.Common.{◌≡◌, ℕ, zero, suc, ◌+◌, ◌-◌, ◌<◌, ◌≤◌, List, [], ◌∷◌, length, map, refl, sym, ap}
+use Rattle.line_tree.proofs.Common.{◌∙◌, subst, arith, IfSome, slice_get, Option, None, Some, AllByRecursion, sum_by}
+use Rattle.line_tree.proofs.Common.{take_all, none-some, same_Some, slice_get_within, IsBalanced, IsBalancedRoot, Named}
+use Rattle.line_tree.proofs.Common.{Tree, IsTree, lines_at, lines_in, tree_at, NodePtr, Records, kids, IsChild}
+use Rattle.line_tree.proofs.Common.{IsLineAt, Sits, lines_before}
 use Rattle.line_tree.specs.Walks.{IsFirstLine}
 use Rattle.line_tree.specs.declared.walk.Subtree.{Subtree}
 use Rattle.line_tree.proofs.CountLaws.{least-lines, one-line, pow-more}

@@ -1,9 +1,9 @@
 -- A line in another one's place, under its name, and what a table of names says then.
-use Rattle.line_tree.proofs.Words.{◌≡◌, ℕ, suc, [], ◌∷◌, ◌+◌, ◌-◌, ◌≤◌, ◌++◌, cond, List, length, take, drop, refl, sym}
-use Rattle.line_tree.proofs.Words.{ap, ◌∙◌, subst, arith, append_assoc, slice_get, Option, None, Some, plus-no_text}
-use Rattle.line_tree.proofs.Words.{FitsSum, LineContent, line_count, Named, contents, total, NodePtr, plus, AreLines}
-use Rattle.line_tree.proofs.Words.{IsCounted, NumbersBelow, count_of, has_mark, spliced, AreBare, IsTable, holder}
-use Rattle.line_tree.proofs.Words.{lines_without, noted, changed}
+use Rattle.line_tree.proofs.Common.{◌≡◌, ℕ, suc, [], ◌∷◌, ◌+◌, ◌-◌, ◌≤◌, ◌++◌, cond, List, length, take, drop, refl}
+use Rattle.line_tree.proofs.Common.{sym, ap, ◌∙◌, subst, arith, append_assoc, slice_get, Option, None, Some}
+use Rattle.line_tree.proofs.Common.{plus-no_text, FitsSum, LineContent, line_count, Named, contents, total, NodePtr}
+use Rattle.line_tree.proofs.Common.{plus, AreLines, IsCounted, NumbersBelow, count_of, has_mark, spliced, AreBare}
+use Rattle.line_tree.proofs.Common.{IsTable, holder, lines_without, noted, changed}
 use Rattle.std.proofs.Common.{option_map}
 use Rattle.line_tree.proofs.ChangingLaws.{changed-at}
 use Rattle.line_tree.proofs.HolderLaws.{none-out}

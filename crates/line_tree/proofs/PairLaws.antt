@@ -1,8 +1,8 @@
 -- Two neighbours that share their children anew.
-use Rattle.line_tree.proofs.Words.{◌≡◌, ℕ, suc, ◌⊎◌, inl, inr, List, [], ◌∷◌, ◌++◌, take, drop, refl, sym, ap, ◌∙◌}
-use Rattle.line_tree.proofs.Words.{subst, AllByRecursion, append-nil, drop-map, map-append, take-append-drop, take-map}
-use Rattle.line_tree.proofs.Words.{flat_map-append, Among, CanEven, CanFill, Distinct, Merges, Shares, refilled, Holds}
-use Rattle.line_tree.proofs.Words.{NodePtr, Records, Tree, lines, tops, kids, row, lines_of, names_of, Turns, ◌≢◌}
+use Rattle.line_tree.proofs.Common.{◌≡◌, ℕ, suc, ◌⊎◌, inl, inr, List, [], ◌∷◌, ◌++◌, take, drop, refl, sym, ap, ◌∙◌}
+use Rattle.line_tree.proofs.Common.{subst, AllByRecursion, append-nil, drop-map, map-append, take-append-drop, take-map}
+use Rattle.line_tree.proofs.Common.{flat_map-append, Among, CanEven, CanFill, Distinct, Merges, Shares, refilled, Holds}
+use Rattle.line_tree.proofs.Common.{NodePtr, Records, Tree, lines, tops, kids, row, lines_of, names_of, Turns, ◌≢◌}
 use Rattle.line_tree.proofs.AmongLaws.{among-cases, among-left, among-right}
 use Rattle.line_tree.proofs.BuildLaws.{built, kids-held}
 use Rattle.line_tree.proofs.DistinctLaws.{distinct-apart, distinct-append, distinct-left, distinct-right}

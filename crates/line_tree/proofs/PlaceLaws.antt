@@ -1,10 +1,10 @@
 -- Where names stand in a tree.
-use Rattle.line_tree.proofs.Words.{◌≡◌, ℕ, zero, suc, ◌+◌, ◌-◌, ◌<◌, inl, inr, List, [], ◌∷◌, length, take, map, refl}
-use Rattle.line_tree.proofs.Words.{sym, ap, ◌∙◌, subst, arith, IfSome, IsSome, slice_get, Option, None, Some}
-use Rattle.line_tree.proofs.Words.{AllByRecursion, flat_map, sum_by, option_map, cases_lt, sum_by-cons, none-some}
-use Rattle.line_tree.proofs.Words.{same_Some, slice_get_within, Holds, IsLinked, IsTree, Links, line_of, lines_at}
-use Rattle.line_tree.proofs.Words.{lines_in, tree_at, LineContent, Named, lines, NodePtr, Records, kids, at_some}
-use Rattle.line_tree.proofs.Words.{IsChild, IsLineAt, Sits, lines_before}
+use Rattle.line_tree.proofs.Common.{◌≡◌, ℕ, zero, suc, ◌+◌, ◌-◌, ◌<◌, inl, inr, List, [], ◌∷◌, length, take, map, refl}
+use Rattle.line_tree.proofs.Common.{sym, ap, ◌∙◌, subst, arith, IfSome, IsSome, slice_get, Option, None, Some}
+use Rattle.line_tree.proofs.Common.{AllByRecursion, flat_map, sum_by, option_map, cases_lt, sum_by-cons, none-some}
+use Rattle.line_tree.proofs.Common.{same_Some, slice_get_within, Holds, IsLinked, IsTree, Links, line_of, lines_at}
+use Rattle.line_tree.proofs.Common.{lines_in, tree_at, LineContent, Named, lines, NodePtr, Records, kids, at_some}
+use Rattle.line_tree.proofs.Common.{IsChild, IsLineAt, Sits, lines_before}
 use Rattle.line_tree.proofs.TreeLaws.{child-tree, count-tree, get-left, get-right, tops-tree_at}
 use Rattle.std.specs.FinMap as finite
 

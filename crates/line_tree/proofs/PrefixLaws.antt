@@ -1,9 +1,9 @@
 -- Ways down with the sum of the lines before.
-use Rattle.line_tree.proofs.Words.{◌≡◌, ℕ, suc, ◌+◌, ◌<◌, ◌≤◌, List, [], ◌∷◌, ◌++◌, length, take, map, refl, sym, ap}
-use Rattle.line_tree.proofs.Words.{◌∙◌, arith, slice_get, None, Some, AllByRecursion, flat_map, take-map, take_all}
-use Rattle.line_tree.proofs.Words.{take_more, get_or_from_slice_get, slice_get_within, plus-no_text, Count, plus, Holds}
-use Rattle.line_tree.proofs.Words.{IsTree, lines_in, sum_at, tree_at, Named, contents, lines, total, NodePtr, Records}
-use Rattle.line_tree.proofs.Words.{kids, line_count, sum_all, count_of}
+use Rattle.line_tree.proofs.Common.{◌≡◌, ℕ, suc, ◌+◌, ◌<◌, ◌≤◌, List, [], ◌∷◌, ◌++◌, length, take, map, refl, sym, ap}
+use Rattle.line_tree.proofs.Common.{◌∙◌, arith, slice_get, None, Some, AllByRecursion, flat_map, take-map, take_all}
+use Rattle.line_tree.proofs.Common.{take_more, get_or_from_slice_get, slice_get_within, plus-no_text, Count, plus}
+use Rattle.line_tree.proofs.Common.{Holds, IsTree, lines_in, sum_at, tree_at, Named, contents, lines, total, NodePtr}
+use Rattle.line_tree.proofs.Common.{Records, kids, line_count, sum_all, count_of}
 use Rattle.line_tree.proofs.BuildLaws.{sum-trees}
 use Rattle.line_tree.proofs.FillLaws.{sum_all-append}
 use Rattle.line_tree.proofs.RowLaws.{past}

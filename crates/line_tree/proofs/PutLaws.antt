@@ -1,11 +1,11 @@
 -- One more child for a node, with room and without.
-use Rattle.line_tree.proofs.Words.{◌≡◌, ℕ, zero, suc, ◌+◌, ◌-◌, ◌≤◌, inl, inr, List, [], ◌∷◌, ◌++◌, length, take, drop}
-use Rattle.line_tree.proofs.Words.{map, replicate, cond, refl, sym, ap, ◌∙◌, subst, arith, length-drop, length-take}
-use Rattle.line_tree.proofs.Words.{◌≢◌, IfSome, IsSome, is_some, slice_get, Option, None, Some, count_by, insert}
-use Rattle.line_tree.proofs.Words.{take-append-drop, take-append-le, sum_by-cons, none-some, Among, CanFill, CanPut}
-use Rattle.line_tree.proofs.Words.{FitsSum, Puts, Stay, refilled, relinked, sum_all, sums, Links, sum_at, sum_of}
-use Rattle.line_tree.proofs.Words.{NodePtr, Records, blank, kids, kids_of, row, plus, at_some, get_inserted, get_other}
-use Rattle.line_tree.proofs.Words.{kept_insert, some_of, length-row, HasRow}
+use Rattle.line_tree.proofs.Common.{◌≡◌, ℕ, zero, suc, ◌+◌, ◌-◌, ◌≤◌, inl, inr, List, [], ◌∷◌, ◌++◌, length, take, drop}
+use Rattle.line_tree.proofs.Common.{map, replicate, cond, refl, sym, ap, ◌∙◌, subst, arith, length-drop, length-take}
+use Rattle.line_tree.proofs.Common.{◌≢◌, IfSome, IsSome, is_some, slice_get, Option, None, Some, count_by, insert}
+use Rattle.line_tree.proofs.Common.{take-append-drop, take-append-le, sum_by-cons, none-some, Among, CanFill, CanPut}
+use Rattle.line_tree.proofs.Common.{FitsSum, Puts, Stay, refilled, relinked, sum_all, sums, Links, sum_at, sum_of}
+use Rattle.line_tree.proofs.Common.{NodePtr, Records, blank, kids, kids_of, row, plus, at_some, get_inserted, get_other}
+use Rattle.line_tree.proofs.Common.{kept_insert, some_of, length-row, HasRow}
 use Rattle.line_tree.proofs.AmongLaws.{among-drop, among-get, among-insert, among-take}
 use Rattle.line_tree.proofs.FillLaws.{refilled-other, refilled-sum, sum_all-append, sum_all-same, sums-row}
 use Rattle.line_tree.proofs.FrameLaws.{links-same}

@@ -1,10 +1,10 @@
 -- One more node above the trees of a level.
-use Rattle.line_tree.proofs.Words.{◌≡◌, ℕ, zero, suc, ◌+◌, ◌-◌, ◌≤◌, inl, inr, List, [], ◌∷◌, ◌++◌, length, refl, sym}
-use Rattle.line_tree.proofs.Words.{ap, ◌∙◌, subst, append_assoc, arith, take, drop, IsSome, slice_get, option_to_list}
-use Rattle.line_tree.proofs.Words.{AllByRecursion, append-nil, length-map, map-append, take-append-drop}
-use Rattle.line_tree.proofs.Words.{flat_map-append, Among, Distinct, FitsSum, sum_all, Count, plus, Holds, sum_of}
-use Rattle.line_tree.proofs.Words.{tree_at, NodePtr, Records, Tree, tops, HasNoParent, NewRoot, names_of, Becomes}
-use Rattle.line_tree.proofs.Words.{CanRaise, HasKids, Raises, below_all, trees_at}
+use Rattle.line_tree.proofs.Common.{◌≡◌, ℕ, zero, suc, ◌+◌, ◌-◌, ◌≤◌, inl, inr, List, [], ◌∷◌, ◌++◌, length, refl, sym}
+use Rattle.line_tree.proofs.Common.{ap, ◌∙◌, subst, append_assoc, arith, take, drop, IsSome, slice_get, option_to_list}
+use Rattle.line_tree.proofs.Common.{AllByRecursion, append-nil, length-map, map-append, take-append-drop}
+use Rattle.line_tree.proofs.Common.{flat_map-append, Among, Distinct, FitsSum, sum_all, Count, plus, Holds, sum_of}
+use Rattle.line_tree.proofs.Common.{tree_at, NodePtr, Records, Tree, tops, HasNoParent, NewRoot, names_of, Becomes}
+use Rattle.line_tree.proofs.Common.{CanRaise, HasKids, Raises, below_all, trees_at}
 use Rattle.line_tree.proofs.AmongLaws.{among-cases, among-left}
 use Rattle.line_tree.proofs.BecomeLaws.{both, node-becomes, node-loose}
 use Rattle.line_tree.proofs.BuildLaws.{trees-is}

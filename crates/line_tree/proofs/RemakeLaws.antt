@@ -1,11 +1,11 @@
 -- A node that is made anew with other trees among its children.
-use Rattle.line_tree.proofs.Words.{◌≡◌, ℕ, suc, ◌+◌, ◌*◌, ◌≤◌, inl, inr, List, [], ◌∷◌, ◌++◌, length, take, drop, refl}
-use Rattle.line_tree.proofs.Words.{sym, ap, ◌∙◌, subst, arith, length-append, IsSome, AllByRecursion, length-map}
-use Rattle.line_tree.proofs.Words.{map-append, take-append-drop, flat_map-append, plus-associative, plus-commutative}
-use Rattle.line_tree.proofs.Words.{Among, Distinct, FitsSum, sum_all, Holds, IsTree, lines_in, tree_at, IsBalanced}
-use Rattle.line_tree.proofs.Words.{Named, Tree, lines, names, tops, total, NodePtr, Records, kids, plus, IsWide}
-use Rattle.line_tree.proofs.Words.{lines_of, names_of, Becomes, CanRaise, HasKids, Raises, TakesRow, below_all}
-use Rattle.line_tree.proofs.Words.{trees_at, with_lines}
+use Rattle.line_tree.proofs.Common.{◌≡◌, ℕ, suc, ◌+◌, ◌*◌, ◌≤◌, inl, inr, List, [], ◌∷◌, ◌++◌, length, take, drop, refl}
+use Rattle.line_tree.proofs.Common.{sym, ap, ◌∙◌, subst, arith, length-append, IsSome, AllByRecursion, length-map}
+use Rattle.line_tree.proofs.Common.{map-append, take-append-drop, flat_map-append, plus-associative, plus-commutative}
+use Rattle.line_tree.proofs.Common.{Among, Distinct, FitsSum, sum_all, Holds, IsTree, lines_in, tree_at, IsBalanced}
+use Rattle.line_tree.proofs.Common.{Named, Tree, lines, names, tops, total, NodePtr, Records, kids, plus, IsWide}
+use Rattle.line_tree.proofs.Common.{lines_of, names_of, Becomes, CanRaise, HasKids, Raises, TakesRow, below_all}
+use Rattle.line_tree.proofs.Common.{trees_at, with_lines}
 use Rattle.line_tree.proofs.AmongLaws.{among-cases, among-left, among-right}
 use Rattle.line_tree.proofs.BecomeLaws.{and-then, both, gone, renamed, stays}
 use Rattle.line_tree.proofs.BuildLaws.{sum-trees, trees-is}

@@ -1,9 +1,9 @@
 -- A removal at a node, from the removal at its child.
-use Rattle.line_tree.proofs.Words.{◌≡◌, ℕ, suc, ◌+◌, ◌≤◌, List, [], ◌∷◌, ◌++◌, length, map, sym, ap, ◌∙◌, subst, arith}
-use Rattle.line_tree.proofs.Words.{AllByRecursion, length-map, removed, Among, CanFill, FitsSum, refilled, Count, plus}
-use Rattle.line_tree.proofs.Words.{IsBalanced, Named, Tree, names, tops, total, NodePtr, Records, kids, row, lines_in}
-use Rattle.line_tree.proofs.Words.{tree_at, get_unmoved, length-row, HasRow, IsWide, KeepsLink, lines_of, names_of}
-use Rattle.line_tree.proofs.Words.{CanRemove, Removes, Shrinks, ◌≢◌, slice_range}
+use Rattle.line_tree.proofs.Common.{◌≡◌, ℕ, suc, ◌+◌, ◌≤◌, List, [], ◌∷◌, ◌++◌, length, map, sym, ap, ◌∙◌, subst, arith}
+use Rattle.line_tree.proofs.Common.{AllByRecursion, length-map, removed, Among, CanFill, FitsSum, refilled, Count, plus}
+use Rattle.line_tree.proofs.Common.{IsBalanced, Named, Tree, names, tops, total, NodePtr, Records, kids, row, lines_in}
+use Rattle.line_tree.proofs.Common.{tree_at, get_unmoved, length-row, HasRow, IsWide, KeepsLink, lines_of, names_of}
+use Rattle.line_tree.proofs.Common.{CanRemove, Removes, Shrinks, ◌≢◌, slice_range}
 use Rattle.line_tree.proofs.BuildLaws.{sum-trees, tree-is}
 use Rattle.line_tree.proofs.FrameLaws.{holds-same, names-all-held, tops-among}
 use Rattle.line_tree.proofs.GrowLaws.{to-one}

@@ -1,12 +1,12 @@
 -- A removal at a node whose child shares with a neighbour.
-use Rattle.line_tree.proofs.Words.{◌≡◌, ℕ, suc, ◌+◌, ◌<◌, ◌≤◌, ◌⊎◌, inl, inr, List, [], ◌∷◌, ◌++◌, length, take, drop}
-use Rattle.line_tree.proofs.Words.{map, refl, sym, ap, ◌∙◌, subst, arith, length-append, ◌≢◌, IsSome, slice_get, Option}
-use Rattle.line_tree.proofs.Words.{None, Some, AllByRecursion, remove, cases_eq, length-map, length-remove, none-some}
-use Rattle.line_tree.proofs.Words.{same_Some, slice_get_within, Among, CanFill, Distinct, Mends, Merges, Shares}
-use Rattle.line_tree.proofs.Words.{refilled, sum_all, Holds, Links, lines_in, sum_at, sum_of, tree_at, IsBalanced, Tree}
-use Rattle.line_tree.proofs.Words.{names, tops, total, NodePtr, Records, kids, kids_of, row, plus, get_removed}
-use Rattle.line_tree.proofs.Words.{get_unmoved, same_or_other, Finds, HasRow, IsWide, lines_of, names_of, CanMend}
-use Rattle.line_tree.proofs.Words.{CanRemove, Cleans, Removes, Settles, Shrinks, Turns, Found}
+use Rattle.line_tree.proofs.Common.{◌≡◌, ℕ, suc, ◌+◌, ◌<◌, ◌≤◌, ◌⊎◌, inl, inr, List, [], ◌∷◌, ◌++◌, length, take, drop}
+use Rattle.line_tree.proofs.Common.{map, refl, sym, ap, ◌∙◌, subst, arith, length-append, ◌≢◌, IsSome, slice_get}
+use Rattle.line_tree.proofs.Common.{Option, None, Some, AllByRecursion, remove, cases_eq, length-map, length-remove}
+use Rattle.line_tree.proofs.Common.{none-some, same_Some, slice_get_within, Among, CanFill, Distinct, Mends, Merges}
+use Rattle.line_tree.proofs.Common.{Shares, refilled, sum_all, Holds, Links, lines_in, sum_at, sum_of, tree_at}
+use Rattle.line_tree.proofs.Common.{IsBalanced, Tree, names, tops, total, NodePtr, Records, kids, kids_of, row, plus}
+use Rattle.line_tree.proofs.Common.{get_removed, get_unmoved, same_or_other, Finds, HasRow, IsWide, lines_of, names_of}
+use Rattle.line_tree.proofs.Common.{CanMend, CanRemove, Cleans, Removes, Settles, Shrinks, Turns, Found}
 use Rattle.line_tree.proofs.AmongLaws.{among-or, get-among}
 use Rattle.line_tree.proofs.BuildLaws.{built, sum-trees, tree-is}
 use Rattle.line_tree.proofs.DistinctLaws.{distinct-apart}

@@ -1,12 +1,12 @@
 -- One level of a removal.
-use Rattle.line_tree.proofs.Words.{◌≡◌, ℕ, zero, suc, ◌+◌, ◌<◌, ◌≤◌, inl, inr, List, [], ◌∷◌, ◌++◌, length, take, drop}
-use Rattle.line_tree.proofs.Words.{map, refl, sym, ap, ◌∙◌, subst, arith, length-take, ◌≢◌, IsSome, slice_get, Option}
-use Rattle.line_tree.proofs.Words.{None, Some, AllByRecursion, remove, length-map, map-append, flat_map-append}
-use Rattle.line_tree.proofs.Words.{length-remove, none-some, same_Some, slice_get-map, slice_get_within, Among, CanFill}
-use Rattle.line_tree.proofs.Words.{Distinct, FitsSum, refilled, sum_all, Holds, IsTree, Links, lines_in, sum_at}
-use Rattle.line_tree.proofs.Words.{tree_at, IsBalanced, Tree, inner, lines, names, tops, total, LineContent, NodePtr}
-use Rattle.line_tree.proofs.Words.{Records, kids, kids_of, row, plus, same_or_other, Finds, HasRow, IsWide, KeepsLink}
-use Rattle.line_tree.proofs.Words.{lines_of, names_of, CanRemove, Cleans, Removes, Shrinks, Found}
+use Rattle.line_tree.proofs.Common.{◌≡◌, ℕ, zero, suc, ◌+◌, ◌<◌, ◌≤◌, inl, inr, List, [], ◌∷◌, ◌++◌, length, take, drop}
+use Rattle.line_tree.proofs.Common.{map, refl, sym, ap, ◌∙◌, subst, arith, length-take, ◌≢◌, IsSome, slice_get, Option}
+use Rattle.line_tree.proofs.Common.{None, Some, AllByRecursion, remove, length-map, map-append, flat_map-append}
+use Rattle.line_tree.proofs.Common.{length-remove, none-some, same_Some, slice_get-map, slice_get_within, Among}
+use Rattle.line_tree.proofs.Common.{CanFill, Distinct, FitsSum, refilled, sum_all, Holds, IsTree, Links, lines_in}
+use Rattle.line_tree.proofs.Common.{sum_at, tree_at, IsBalanced, Tree, inner, lines, names, tops, total, LineContent}
+use Rattle.line_tree.proofs.Common.{NodePtr, Records, kids, kids_of, row, plus, same_or_other, Finds, HasRow, IsWide}
+use Rattle.line_tree.proofs.Common.{KeepsLink, lines_of, names_of, CanRemove, Cleans, Removes, Shrinks, Found}
 use Rattle.line_tree.proofs.AmongLaws.{among-cases, among-get, among-left, among-right}
 use Rattle.line_tree.proofs.BuildLaws.{sum-kids, tree-is, trees-is}
 use Rattle.line_tree.proofs.DistinctLaws.{distinct-left, distinct-right}

@@ -8,11 +8,11 @@
 --     within-node              the slots of the line are toggled in the node above it
 --     replaces-node            the node above it
 --     row-here .. went-next    all of it one level up from where the change is counted
-use Rattle.line_tree.proofs.Words.{◌≡◌, ℕ, zero, suc, ◌+◌, ◌-◌, ◌<◌, ◌≤◌, List, [], ◌∷◌, length, map, option_to_list}
-use Rattle.line_tree.proofs.Words.{sym, ap, ◌∙◌, subst, arith, plus-commutative, union-associative, union-commutative}
-use Rattle.line_tree.proofs.Words.{union-self, Count, IsWithin, no_text, plus, FitsSum, resummed, sums, LineContent}
-use Rattle.line_tree.proofs.Words.{line_count, Named, total, NodePtr, Records, kids, row, lines_in, sum_at, Finds}
-use Rattle.line_tree.proofs.Words.{HasRow, CanChange, Changes, changed, Found}
+use Rattle.line_tree.proofs.Common.{◌≡◌, ℕ, zero, suc, ◌+◌, ◌-◌, ◌<◌, ◌≤◌, List, [], ◌∷◌, length, map, option_to_list}
+use Rattle.line_tree.proofs.Common.{sym, ap, ◌∙◌, subst, arith, plus-commutative, union-associative, union-commutative}
+use Rattle.line_tree.proofs.Common.{union-self, Count, IsWithin, no_text, plus, FitsSum, resummed, sums, LineContent}
+use Rattle.line_tree.proofs.Common.{line_count, Named, total, NodePtr, Records, kids, row, lines_in, sum_at, Finds}
+use Rattle.line_tree.proofs.Common.{HasRow, CanChange, Changes, changed, Found}
 use Rattle.line_tree.specs.Replacing.{PutsOver}
 use Rattle.line_tree.proofs.ChangingLaws.{can-child, changes-line, changes-node, lines-changed, node-row, node-sum}
 use Rattle.line_tree.proofs.ChangingLaws.{row-sum, sum-changed, was-parts}

@@ -1,11 +1,11 @@
 -- How many records there are.
-use Rattle.line_tree.proofs.Words.{◌≡◌, ℕ, suc, ◌+◌, List, [], ◌∷◌, length, take, drop, Bool, cond, true, false, inl}
-use Rattle.line_tree.proofs.Words.{inr, ◌-◌, ◌<◌, ◌≤◌, ◌++◌, refl, sym, ap, ◌∙◌, subst, arith, IsSome, is_some}
-use Rattle.line_tree.proofs.Words.{option_to_list, Option, None, Some, empty_of_len, get-empty, len-empty, len-insert}
-use Rattle.line_tree.proofs.Words.{len-remove, same_map, cases_lt, LineContent, NodePtr, Record, Records, blank, update}
-use Rattle.line_tree.proofs.Words.{with_child, with_parent, with_sum, kids, row, name_cmp, get_unmoved, name_antisym}
-use Rattle.line_tree.proofs.Words.{name_total, len-update, remove-named, Among, Distinct, Evens, Puts, link_one}
-use Rattle.line_tree.proofs.Words.{refilled, relinked, resummed, sums, NewLine, NewRoot, Settles}
+use Rattle.line_tree.proofs.Common.{◌≡◌, ℕ, suc, ◌+◌, List, [], ◌∷◌, length, take, drop, Bool, cond, true, false, inl}
+use Rattle.line_tree.proofs.Common.{inr, ◌-◌, ◌<◌, ◌≤◌, ◌++◌, refl, sym, ap, ◌∙◌, subst, arith, IsSome, is_some}
+use Rattle.line_tree.proofs.Common.{option_to_list, Option, None, Some, empty_of_len, get-empty, len-empty, len-insert}
+use Rattle.line_tree.proofs.Common.{len-remove, same_map, cases_lt, LineContent, NodePtr, Record, Records, blank}
+use Rattle.line_tree.proofs.Common.{update, with_child, with_parent, with_sum, kids, row, name_cmp, get_unmoved}
+use Rattle.line_tree.proofs.Common.{name_antisym, name_total, len-update, remove-named, Among, Distinct, Evens, Puts}
+use Rattle.line_tree.proofs.Common.{link_one, refilled, relinked, resummed, sums, NewLine, NewRoot, Settles}
 use mathlib.Core.Bool.{false≢true}
 use Rattle.std.specs.FinMap as finite
 

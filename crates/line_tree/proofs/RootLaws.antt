@@ -1,13 +1,13 @@
 -- A new line, and a new root.
-use Rattle.line_tree.proofs.Words.{◌≡◌, ℕ, zero, suc, ◌-◌, ◌*◌, ◌^◌, ◌<◌, ◌≤◌, ◌⊎◌, inl, inr, List, [], ◌∷◌, ◌++◌}
-use Rattle.line_tree.proofs.Words.{length, take, drop, refl, sym, ap, ◌∙◌, subst, arith, ◌≢◌, IsSome, chars}
-use Rattle.line_tree.proofs.Words.{slice_index, Option, None, Some, len-empty, AllByRecursion, insert, append-nil}
-use Rattle.line_tree.proofs.Words.{same_Some, plus-no_text, LineContent, line_count, plain_line, NodePtr, Records}
-use Rattle.line_tree.proofs.Words.{blank, with_sum, plus, row, get_inserted, get_other, kept_insert, insert-named}
-use Rattle.line_tree.proofs.Words.{Among, CanFill, Distinct, FitsSum, relinked, sum_all, sums, CanInsert, HasNoParent}
-use Rattle.line_tree.proofs.Words.{Inserts, IsWide, NewLine, NewRoot, Stands, StandsAlone, lines_of, names_of, trees}
-use Rattle.line_tree.proofs.Words.{with_line, Holds, IsTree, line_of, lines_in, sum_at, sum_of, tree_at, IsBalanced}
-use Rattle.line_tree.proofs.Words.{IsBalancedRoot, Tree, inner, least_below_root, lines, names, tops, total}
+use Rattle.line_tree.proofs.Common.{◌≡◌, ℕ, zero, suc, ◌-◌, ◌*◌, ◌^◌, ◌<◌, ◌≤◌, ◌⊎◌, inl, inr, List, [], ◌∷◌, ◌++◌}
+use Rattle.line_tree.proofs.Common.{length, take, drop, refl, sym, ap, ◌∙◌, subst, arith, ◌≢◌, IsSome, chars}
+use Rattle.line_tree.proofs.Common.{slice_index, Option, None, Some, len-empty, AllByRecursion, insert, append-nil}
+use Rattle.line_tree.proofs.Common.{same_Some, plus-no_text, LineContent, line_count, plain_line, NodePtr, Records}
+use Rattle.line_tree.proofs.Common.{blank, with_sum, plus, row, get_inserted, get_other, kept_insert, insert-named}
+use Rattle.line_tree.proofs.Common.{Among, CanFill, Distinct, FitsSum, relinked, sum_all, sums, CanInsert, HasNoParent}
+use Rattle.line_tree.proofs.Common.{Inserts, IsWide, NewLine, NewRoot, Stands, StandsAlone, lines_of, names_of, trees}
+use Rattle.line_tree.proofs.Common.{with_line, Holds, IsTree, line_of, lines_in, sum_at, sum_of, tree_at, IsBalanced}
+use Rattle.line_tree.proofs.Common.{IsBalancedRoot, Tree, inner, least_below_root, lines, names, tops, total}
 use Rattle.std.proofs.lemmas.Str.{chars-IsAscii}
 use mathlib.Core.Bool.{Bool, true, false, false≢true}
 use Rattle.line_tree.proofs.AmongLaws.{among-or}

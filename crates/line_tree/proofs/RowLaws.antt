@@ -1,9 +1,9 @@
 -- The children of a record as a list.
-use Rattle.line_tree.proofs.Words.{subst, ◌≡◌, ℕ, zero, suc, ◌+◌, ◌<◌, ◌≤◌, List, [], ◌∷◌, length, get_or, take, drop}
-use Rattle.line_tree.proofs.Words.{refl, sym, ap, ◌∙◌, arith, IfSome, IsSome, slice_get, Option, None, Some, sum_by}
-use Rattle.line_tree.proofs.Words.{take_more, take_all, at_drop_more, sum_by_push, none-some, slice_get_within}
-use Rattle.line_tree.proofs.Words.{get_or_from_slice_get, Count, plus, NodePtr, Records, kids, row, lines_at, sum_at}
-use Rattle.line_tree.proofs.Words.{sum_of, sum_or_none, sums, at_some, some_of, get_or-row, length-row, HasRow}
+use Rattle.line_tree.proofs.Common.{subst, ◌≡◌, ℕ, zero, suc, ◌+◌, ◌<◌, ◌≤◌, List, [], ◌∷◌, length, get_or, take, drop}
+use Rattle.line_tree.proofs.Common.{refl, sym, ap, ◌∙◌, arith, IfSome, IsSome, slice_get, Option, None, Some, sum_by}
+use Rattle.line_tree.proofs.Common.{take_more, take_all, at_drop_more, sum_by_push, none-some, slice_get_within}
+use Rattle.line_tree.proofs.Common.{get_or_from_slice_get, Count, plus, NodePtr, Records, kids, row, lines_at, sum_at}
+use Rattle.line_tree.proofs.Common.{sum_of, sum_or_none, sums, at_some, some_of, get_or-row, length-row, HasRow}
 use Rattle.std.specs.FinMap as finite
 
 -- ---- what a call answers of a row

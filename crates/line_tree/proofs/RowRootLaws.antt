@@ -1,10 +1,10 @@
 -- A row of lines in a whole tree.
-use Rattle.line_tree.proofs.Words.{◌≡◌, ℕ, zero, suc, ◌+◌, ◌≤◌, inl, inr, List, [], ◌∷◌, ◌++◌, length, take, drop, refl}
-use Rattle.line_tree.proofs.Words.{sym, ap, ◌∙◌, subst, arith, length-append, length-take, length-drop, IsSome}
-use Rattle.line_tree.proofs.Words.{AllByRecursion, append-nil, Among, Distinct, FitsSum, Holds, lines_in, tree_at}
-use Rattle.line_tree.proofs.Words.{IsBalancedRoot, Named, Tree, least_below_root, lines, names, total, NodePtr, Records}
-use Rattle.line_tree.proofs.Words.{plus, IsWide, Stands, StandsAlone, lines_of, names_of, Becomes, CanLift, CanTakeRow}
-use Rattle.line_tree.proofs.Words.{Lifts, TakesRow, trees_at, with_lines}
+use Rattle.line_tree.proofs.Common.{◌≡◌, ℕ, zero, suc, ◌+◌, ◌≤◌, inl, inr, List, [], ◌∷◌, ◌++◌, length, take, drop}
+use Rattle.line_tree.proofs.Common.{refl, sym, ap, ◌∙◌, subst, arith, length-append, length-take, length-drop, IsSome}
+use Rattle.line_tree.proofs.Common.{AllByRecursion, append-nil, Among, Distinct, FitsSum, Holds, lines_in, tree_at}
+use Rattle.line_tree.proofs.Common.{IsBalancedRoot, Named, Tree, least_below_root, lines, names, total, NodePtr}
+use Rattle.line_tree.proofs.Common.{Records, plus, IsWide, Stands, StandsAlone, lines_of, names_of, Becomes, CanLift}
+use Rattle.line_tree.proofs.Common.{CanTakeRow, Lifts, TakesRow, trees_at, with_lines}
 use Rattle.line_tree.proofs.AmongLaws.{among-left, among-or, among-right}
 use Rattle.line_tree.proofs.DistinctLaws.{distinct-append}
 use Rattle.line_tree.proofs.FrameLaws.{holds-same, names-held}

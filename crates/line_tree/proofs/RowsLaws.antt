@@ -1,8 +1,8 @@
 -- Rows that are put in one before the other.
-use Rattle.line_tree.proofs.Words.{◌≡◌, ℕ, ◌≤◌, List, ◌++◌, length, take, drop, sym, ap, ◌∙◌, subst, append_assoc}
-use Rattle.line_tree.proofs.Words.{arith, length-take, drop-append-le, map-append, take-append-drop, take-append-le}
-use Rattle.line_tree.proofs.Words.{Count, plus, FitsSum, LineContent, Named, contents, total, count_of, count-append}
-use Rattle.line_tree.proofs.Words.{with_lines}
+use Rattle.line_tree.proofs.Common.{◌≡◌, ℕ, ◌≤◌, List, ◌++◌, length, take, drop, sym, ap, ◌∙◌, subst, append_assoc}
+use Rattle.line_tree.proofs.Common.{arith, length-take, drop-append-le, map-append, take-append-drop, take-append-le}
+use Rattle.line_tree.proofs.Common.{Count, plus, FitsSum, LineContent, Named, contents, total, count_of, count-append}
+use Rattle.line_tree.proofs.Common.{with_lines}
 use Rattle.line_tree.proofs.NewRowLaws.{drop-length, take-length}
 use Rattle.line_tree.proofs.PrefixLaws.{count-contents}
 use Rattle.line_tree.proofs.RemakeLaws.{total-with_lines}

@@ -1,10 +1,10 @@
 -- Places below a node, and ways down to them.
-use Rattle.line_tree.proofs.Words.{◌≡◌, ℕ, zero, suc, ◌+◌, ◌-◌, ◌*◌, ◌<◌, ◌≤◌, List, [], ◌∷◌, ◌++◌, length, take, drop}
-use Rattle.line_tree.proofs.Words.{map, refl, sym, ap, ◌∙◌, subst, arith, append_assoc, slice_get, Option, None, Some}
-use Rattle.line_tree.proofs.Words.{AllByRecursion, flat_map, sum_by, append-nil, take_at, flat_map-append, sum_by-cons}
-use Rattle.line_tree.proofs.Words.{plus-no_text, Count, plus, Holds, IsTree, line_of, lines_in, sum_at, tree_at}
-use Rattle.line_tree.proofs.Words.{LineContent, line_count, Named, lines, total, NodePtr, Records, kids, sum_all}
-use Rattle.line_tree.proofs.Words.{AddsUp, IsLineAt, Arrives}
+use Rattle.line_tree.proofs.Common.{◌≡◌, ℕ, zero, suc, ◌+◌, ◌-◌, ◌*◌, ◌<◌, ◌≤◌, List, [], ◌∷◌, ◌++◌, length, take, drop}
+use Rattle.line_tree.proofs.Common.{map, refl, sym, ap, ◌∙◌, subst, arith, append_assoc, slice_get, Option, None, Some}
+use Rattle.line_tree.proofs.Common.{AllByRecursion, flat_map, sum_by, append-nil, take_at, flat_map-append, sum_by-cons}
+use Rattle.line_tree.proofs.Common.{plus-no_text, Count, plus, Holds, IsTree, line_of, lines_in, sum_at, tree_at}
+use Rattle.line_tree.proofs.Common.{LineContent, line_count, Named, lines, total, NodePtr, Records, kids, sum_all}
+use Rattle.line_tree.proofs.Common.{AddsUp, IsLineAt, Arrives}
 use Rattle.std.proofs.Common.{option_map}
 use Rattle.line_tree.specs.declared.search.Arrived.{Arrived}
 use Rattle.line_tree.proofs.FillLaws.{sum_all-append}

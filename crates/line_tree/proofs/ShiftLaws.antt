@@ -1,12 +1,12 @@
 -- One more child for a node with room: each from its slot on goes one slot on.
-use Rattle.line_tree.proofs.Words.{◌≡◌, ℕ, zero, suc, ◌+◌, ◌-◌, ◌<◌, ◌≤◌, List, [], ◌∷◌, length, get_or, drop}
-use Rattle.line_tree.proofs.Words.{replicate, false, refl, sym, ap, ◌∙◌, subst, arith, length-set, ◌≢◌, IfSome, IsSome}
-use Rattle.line_tree.proofs.Words.{is_some, slice_get, Option, None, Some, insert, option_map, at_drop_more}
-use Rattle.line_tree.proofs.Words.{get_or-set_other, length-insert, slice_get-get_or, slice_get_past, slice_get_within}
-use Rattle.line_tree.proofs.Words.{Count, plus, NodePtr, Record, Records, update, with_child, with_parent, kids, row}
-use Rattle.line_tree.proofs.Words.{at_some, some_of, get_or-row, length-row, get-update, get-update-other, Among}
-use Rattle.line_tree.proofs.Words.{CanFill, CanPut, Fills, FitsSum, link_one, relinked, resummed, sum_all, sums, HasRow}
-use Rattle.line_tree.proofs.Words.{sum_at}
+use Rattle.line_tree.proofs.Common.{◌≡◌, ℕ, zero, suc, ◌+◌, ◌-◌, ◌<◌, ◌≤◌, List, [], ◌∷◌, length, get_or, drop}
+use Rattle.line_tree.proofs.Common.{replicate, false, refl, sym, ap, ◌∙◌, subst, arith, length-set, ◌≢◌, IfSome, IsSome}
+use Rattle.line_tree.proofs.Common.{is_some, slice_get, Option, None, Some, insert, option_map, at_drop_more}
+use Rattle.line_tree.proofs.Common.{get_or-set_other, length-insert, slice_get-get_or, slice_get_past, slice_get_within}
+use Rattle.line_tree.proofs.Common.{Count, plus, NodePtr, Record, Records, update, with_child, with_parent, kids, row}
+use Rattle.line_tree.proofs.Common.{at_some, some_of, get_or-row, length-row, get-update, get-update-other, Among}
+use Rattle.line_tree.proofs.Common.{CanFill, CanPut, Fills, FitsSum, link_one, relinked, resummed, sum_all, sums}
+use Rattle.line_tree.proofs.Common.{HasRow, sum_at}
 use mathlib.Core.Bool.{false≢true}
 use Rattle.line_tree.proofs.AmongLaws.{get-among}
 use Rattle.line_tree.proofs.FillLaws.{insert-above, relinked-has_row, relinked-sums, sum-relinked}

@@ -1,10 +1,10 @@
 -- Trees without one subtree.
-use Rattle.line_tree.proofs.Words.{◌≡◌, ℕ, suc, ◌+◌, ◌-◌, ◌≤◌, inl, inr, List, [], ◌∷◌, ◌++◌, length, take, drop, refl}
-use Rattle.line_tree.proofs.Words.{sym, ap, ◌∙◌, subst, arith, length-drop, length-take, ◌≢◌, slice_range}
-use Rattle.line_tree.proofs.Words.{AllByRecursion, append-nil, drop-append-le, drop_all, drop_at, take-append-le}
-use Rattle.line_tree.proofs.Words.{flat_map-append, removed, Among, CanFill, Distinct, refilled, Holds, IsTree}
-use Rattle.line_tree.proofs.Words.{lines_in, tree_at, NodePtr, Records, Tree, lines, names, tops, row, lines_of}
-use Rattle.line_tree.proofs.Words.{names_of, Shrinks, Turns, drop-drop, take_all}
+use Rattle.line_tree.proofs.Common.{◌≡◌, ℕ, suc, ◌+◌, ◌-◌, ◌≤◌, inl, inr, List, [], ◌∷◌, ◌++◌, length, take, drop, refl}
+use Rattle.line_tree.proofs.Common.{sym, ap, ◌∙◌, subst, arith, length-drop, length-take, ◌≢◌, slice_range}
+use Rattle.line_tree.proofs.Common.{AllByRecursion, append-nil, drop-append-le, drop_all, drop_at, take-append-le}
+use Rattle.line_tree.proofs.Common.{flat_map-append, removed, Among, CanFill, Distinct, refilled, Holds, IsTree}
+use Rattle.line_tree.proofs.Common.{lines_in, tree_at, NodePtr, Records, Tree, lines, names, tops, row, lines_of}
+use Rattle.line_tree.proofs.Common.{names_of, Shrinks, Turns, drop-drop, take_all}
 use Rattle.text_model.proofs.SpliceLaws.{removed-append_left, removed-append_right}
 use Rattle.line_tree.proofs.AmongLaws.{among-left, among-right}
 use Rattle.line_tree.proofs.BuildLaws.{built}

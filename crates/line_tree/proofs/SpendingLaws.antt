@@ -1,8 +1,8 @@
 -- What putting lines in, and taking lines out, leaves of the room for rows.
-use Rattle.line_tree.proofs.Words.{◌≡◌, ℕ, ◌+◌, ◌*◌, ◌/◌, ◌<◌, ◌≤◌, min, inl, inr, refl, length, sym, ap, ◌∙◌, subst}
-use Rattle.line_tree.proofs.Words.{arith, add-mul, le-max_left, mul-add, mul-le-mul_left, mul-le-mul_right, cases_lt}
-use Rattle.line_tree.proofs.Words.{le-div, CanPutRow, HasRoom, KeepsRoom, PutsRoom, SpendsRoom, levels_at_most}
-use Rattle.line_tree.proofs.Words.{nodes_above, room_by_height, room_by_width, TreeState}
+use Rattle.line_tree.proofs.Common.{◌≡◌, ℕ, ◌+◌, ◌*◌, ◌/◌, ◌<◌, ◌≤◌, min, inl, inr, refl, length, sym, ap, ◌∙◌, subst}
+use Rattle.line_tree.proofs.Common.{arith, add-mul, le-max_left, mul-add, mul-le-mul_left, mul-le-mul_right, cases_lt}
+use Rattle.line_tree.proofs.Common.{le-div, CanPutRow, HasRoom, KeepsRoom, PutsRoom, SpendsRoom, levels_at_most}
+use Rattle.line_tree.proofs.Common.{nodes_above, room_by_height, room_by_width, TreeState}
 use Rattle.line_tree.specs.Room.{line_room}
 use Rattle.line_tree.proofs.LineRoomLaws.{room-stays}
 

@@ -1,12 +1,12 @@
 -- Lines put in one after the other, and taken out.
-use Rattle.line_tree.proofs.Words.{◌≡◌, ℕ, zero, suc, ◌+◌, ◌-◌, ◌^◌, ◌<◌, ◌≤◌, List, [], ◌∷◌, ◌++◌, length, map, take}
-use Rattle.line_tree.proofs.Words.{drop, min, inl, inr, refl, sym, ap, ◌∙◌, subst, arith, append_assoc, length-append}
-use Rattle.line_tree.proofs.Words.{slice_get, Option, Some, insert, remove, cases_lt, drop-append-add, take-append_seam}
-use Rattle.line_tree.proofs.Words.{append-nil, drop-drop, length-map, length-take-le, map-append, take-append-drop}
-use Rattle.line_tree.proofs.Words.{take-append-le, take-take, insert-append_left, insert_end, remove-append_right}
-use Rattle.line_tree.proofs.Words.{no_text-plus, Count, no_text, plus, FitsSum, LineContent, line_count, Named, total}
-use Rattle.line_tree.proofs.Words.{NodePtr, count_of, count-append, count-lines, option_map, IsLineAt, PutsRoom}
-use Rattle.line_tree.proofs.Words.{changed, TreeState, length-drop}
+use Rattle.line_tree.proofs.Common.{◌≡◌, ℕ, zero, suc, ◌+◌, ◌-◌, ◌^◌, ◌<◌, ◌≤◌, List, [], ◌∷◌, ◌++◌, length, map, take}
+use Rattle.line_tree.proofs.Common.{drop, min, inl, inr, refl, sym, ap, ◌∙◌, subst, arith, append_assoc, length-append}
+use Rattle.line_tree.proofs.Common.{slice_get, Option, Some, insert, remove, cases_lt, drop-append-add}
+use Rattle.line_tree.proofs.Common.{take-append_seam, append-nil, drop-drop, length-map, length-take-le, map-append}
+use Rattle.line_tree.proofs.Common.{take-append-drop, take-append-le, take-take, insert-append_left, insert_end}
+use Rattle.line_tree.proofs.Common.{remove-append_right, no_text-plus, Count, no_text, plus, FitsSum, LineContent}
+use Rattle.line_tree.proofs.Common.{line_count, Named, total, NodePtr, count_of, count-append, count-lines, option_map}
+use Rattle.line_tree.proofs.Common.{IsLineAt, PutsRoom, changed, TreeState, length-drop}
 use Rattle.line_tree.proofs.ChangingLaws.{changed-at}
 use Rattle.line_tree.proofs.PlaceLaws.{named_line}
 use Rattle.line_tree.proofs.SumLaws.{total-append}

@@ -1,11 +1,11 @@
 -- A node with one more child, with room and without.
-use Rattle.line_tree.proofs.Words.{◌≡◌, ℕ, suc, ◌+◌, ◌≤◌, ◌⊎◌, inl, inr, List, [], ◌∷◌, ◌++◌, length, take, drop, refl}
-use Rattle.line_tree.proofs.Words.{sym, ap, ◌∙◌, subst, arith, ◌≢◌, IsSome, Option, None, Some, AllByRecursion, insert}
-use Rattle.line_tree.proofs.Words.{append-nil, take-append-drop, take-map, drop-map, flat_map-append, Among, CanFill}
-use Rattle.line_tree.proofs.Words.{CanPut, Distinct, Puts, refilled, resummed, sums, Holds, Links, NodePtr, Records}
-use Rattle.line_tree.proofs.Words.{blank, with_sum, Tree, lines, tops, kids, row, get_other, kept_insert}
-use Rattle.line_tree.proofs.Words.{get-update-other, insert-named, named-update, update-named, HasRow, Grows, lines_of}
-use Rattle.line_tree.proofs.Words.{names_of, parted, trees, with_line}
+use Rattle.line_tree.proofs.Common.{◌≡◌, ℕ, suc, ◌+◌, ◌≤◌, ◌⊎◌, inl, inr, List, [], ◌∷◌, ◌++◌, length, take, drop, refl}
+use Rattle.line_tree.proofs.Common.{sym, ap, ◌∙◌, subst, arith, ◌≢◌, IsSome, Option, None, Some, AllByRecursion, insert}
+use Rattle.line_tree.proofs.Common.{append-nil, take-append-drop, take-map, drop-map, flat_map-append, Among, CanFill}
+use Rattle.line_tree.proofs.Common.{CanPut, Distinct, Puts, refilled, resummed, sums, Holds, Links, NodePtr, Records}
+use Rattle.line_tree.proofs.Common.{blank, with_sum, Tree, lines, tops, kids, row, get_other, kept_insert}
+use Rattle.line_tree.proofs.Common.{get-update-other, insert-named, named-update, update-named, HasRow, Grows, lines_of}
+use Rattle.line_tree.proofs.Common.{names_of, parted, trees, with_line}
 use Rattle.line_tree.proofs.AmongLaws.{among-cases, among-left, among-right}
 use Rattle.line_tree.proofs.BuildLaws.{built, sum-trees, tree-is}
 use Rattle.line_tree.proofs.DistinctLaws.{distinct-apart, distinct-append, distinct-left, distinct-right}

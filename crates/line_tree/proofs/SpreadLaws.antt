@@ -1,11 +1,11 @@
 -- Sharing before a line goes in.
-use Rattle.line_tree.proofs.Words.{◌≡◌, ℕ, suc, ◌+◌, ◌-◌, ◌<◌, ◌≤◌, inl, inr, List, [], ◌∷◌, ◌++◌, length, take, drop}
-use Rattle.line_tree.proofs.Words.{map, sym, ap, ◌∙◌, subst, arith, false, is_some, slice_get, true, Bool, Option, None}
-use Rattle.line_tree.proofs.Words.{Some, AllByRecursion, append-nil, length-map, same_Some, slice_get_within, Among}
-use Rattle.line_tree.proofs.Words.{Distinct, FitsSum, Halves, refilled, Holds, IsTree, Links, line_of, lines_in, sum_at}
-use Rattle.line_tree.proofs.Words.{sum_of, tree_at, IsBalanced, Tree, names, tops, total, NodePtr, Records, kids}
-use Rattle.line_tree.proofs.Words.{kids_of, row, plus, CanInsert, Grows, Inserts, IsWide, lines_of, names_of, trees}
-use Rattle.line_tree.proofs.Words.{with_line, Turns, CanSpread, IsPair, Moves, Respreads, first_part, Found}
+use Rattle.line_tree.proofs.Common.{◌≡◌, ℕ, suc, ◌+◌, ◌-◌, ◌<◌, ◌≤◌, inl, inr, List, [], ◌∷◌, ◌++◌, length, take, drop}
+use Rattle.line_tree.proofs.Common.{map, sym, ap, ◌∙◌, subst, arith, false, is_some, slice_get, true, Bool, Option}
+use Rattle.line_tree.proofs.Common.{None, Some, AllByRecursion, append-nil, length-map, same_Some, slice_get_within}
+use Rattle.line_tree.proofs.Common.{Among, Distinct, FitsSum, Halves, refilled, Holds, IsTree, Links, line_of, lines_in}
+use Rattle.line_tree.proofs.Common.{sum_at, sum_of, tree_at, IsBalanced, Tree, names, tops, total, NodePtr, Records}
+use Rattle.line_tree.proofs.Common.{kids, kids_of, row, plus, CanInsert, Grows, Inserts, IsWide, lines_of, names_of}
+use Rattle.line_tree.proofs.Common.{trees, with_line, Turns, CanSpread, IsPair, Moves, Respreads, first_part, Found}
 use mathlib.Core.Bool.{false≢true}
 use Rattle.line_tree.proofs.AmongLaws.{among-or}
 use Rattle.line_tree.proofs.BuildLaws.{trees-is}

@@ -1,12 +1,12 @@
 -- One level of an insertion.
-use Rattle.line_tree.proofs.Words.{◌≡◌, ℕ, zero, suc, ◌+◌, ◌≤◌, inl, inr, List, [], ◌∷◌, ◌++◌, length, take, drop, map}
-use Rattle.line_tree.proofs.Words.{refl, sym, ap, ◌∙◌, subst, arith, length-take, length-drop, ◌≢◌, IsSome, slice_get}
-use Rattle.line_tree.proofs.Words.{Option, None, Some, AllByRecursion, insert, map-append, take-append-drop, none-some}
-use Rattle.line_tree.proofs.Words.{same_Some, plus-associative, plus-commutative, Among, CanFill, CanPut, FitsSum, Puts}
-use Rattle.line_tree.proofs.Words.{refilled, relinked, sum_all, sums, Count, plus, IsBalanced, Named, Tree, lines, tops}
-use Rattle.line_tree.proofs.Words.{total, Links, NodePtr, Record, Records, blank, with_sum, kids, row, get_other}
-use Rattle.line_tree.proofs.Words.{some_of, HasRow, Grows, IsWide, KeepsLink, KeepsWide, lines_of, names_of, parted}
-use Rattle.line_tree.proofs.Words.{with_line}
+use Rattle.line_tree.proofs.Common.{◌≡◌, ℕ, zero, suc, ◌+◌, ◌≤◌, inl, inr, List, [], ◌∷◌, ◌++◌, length, take, drop, map}
+use Rattle.line_tree.proofs.Common.{refl, sym, ap, ◌∙◌, subst, arith, length-take, length-drop, ◌≢◌, IsSome, slice_get}
+use Rattle.line_tree.proofs.Common.{Option, None, Some, AllByRecursion, insert, map-append, take-append-drop, none-some}
+use Rattle.line_tree.proofs.Common.{same_Some, plus-associative, plus-commutative, Among, CanFill, CanPut, FitsSum}
+use Rattle.line_tree.proofs.Common.{Puts, refilled, relinked, sum_all, sums, Count, plus, IsBalanced, Named, Tree}
+use Rattle.line_tree.proofs.Common.{lines, tops, total, Links, NodePtr, Record, Records, blank, with_sum, kids, row}
+use Rattle.line_tree.proofs.Common.{get_other, some_of, HasRow, Grows, IsWide, KeepsLink, KeepsWide, lines_of, names_of}
+use Rattle.line_tree.proofs.Common.{parted, with_line}
 use mathlib.Core.Bool.{false≢true}
 use Rattle.line_tree.proofs.AmongLaws.{among-right}
 use Rattle.line_tree.proofs.BuildLaws.{sum-trees}

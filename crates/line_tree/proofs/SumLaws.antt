@@ -4,8 +4,9 @@
 --     fits-none               the sum with nothing more fits too
 --     fits-part               a part and so much more fit where the sum and so much more do
 --     fits-both               two parts can be added where the sum fits
-use Rattle.line_tree.proofs.Words.{◌≡◌, List, [], ◌∷◌, ◌++◌, sym, ap, ◌∙◌, subst, arith, no_text-plus, plus-associative}
-use Rattle.line_tree.proofs.Words.{plus-no_text, Count, CountsFit, no_text, plus, FitsSum, Named, total, line_count}
+use Rattle.line_tree.proofs.Common.{◌≡◌, List, [], ◌∷◌, ◌++◌, sym, ap, ◌∙◌, subst, arith, no_text-plus}
+use Rattle.line_tree.proofs.Common.{plus-associative, plus-no_text, Count, CountsFit, no_text, plus, FitsSum, Named}
+use Rattle.line_tree.proofs.Common.{total, line_count}
 
 pub total-append : (xs ys : List Named) → total (xs ++ ys) ≡ plus (total xs) (total ys)
 total-append [] ys = sym (no_text-plus (total ys))

@@ -1,9 +1,9 @@
 -- The mark of a number is taken off its line.
-use Rattle.line_tree.proofs.Words.{◌≡◌, ℕ, suc, ◌<◌, Bool, true, false, cond, List, [], ◌∷◌, ◌++◌, length, map, take}
-use Rattle.line_tree.proofs.Words.{drop, set, refl, sym, ap, ap₂, ◌∙◌, subst, is_some, slice_get, Option, None, Some}
-use Rattle.line_tree.proofs.Words.{nat_cmp_total, eq_by_cmp, nat_cmp, map-append, LineContent, Named, contents, NodePtr}
-use Rattle.line_tree.proofs.Words.{tied_same, without_mark, AreLines, has_mark, drop_after, same-line}
-use Rattle.line_tree.proofs.Words.{lines-are-without, IsTable, holder, noted, changed, append_assoc}
+use Rattle.line_tree.proofs.Common.{◌≡◌, ℕ, suc, ◌<◌, Bool, true, false, cond, List, [], ◌∷◌, ◌++◌, length, map, take}
+use Rattle.line_tree.proofs.Common.{drop, set, refl, sym, ap, ap₂, ◌∙◌, subst, is_some, slice_get, Option, None, Some}
+use Rattle.line_tree.proofs.Common.{nat_cmp_total, eq_by_cmp, nat_cmp, map-append, LineContent, Named, contents}
+use Rattle.line_tree.proofs.Common.{NodePtr, tied_same, without_mark, AreLines, has_mark, drop_after, same-line}
+use Rattle.line_tree.proofs.Common.{lines-are-without, IsTable, holder, noted, changed, append_assoc}
 use mathlib.Core.Bool.{false≢true}
 use Rattle.line_tree.proofs.HolderLaws.{alone, first, holder-append, not-first, whole-list}
 use Rattle.line_tree.proofs.ListedLaws.{HeldAt}

@@ -1,10 +1,11 @@
 -- A row of lines below a node, from the row below its child.
-use Rattle.line_tree.proofs.Words.{◌≡◌, ℕ, suc, ◌+◌, ◌*◌, ◌<◌, ◌≤◌, List, [], ◌∷◌, ◌++◌, length, take, drop, sym, ap}
-use Rattle.line_tree.proofs.Words.{◌∙◌, subst, arith, length-take, AllByRecursion, append-nil, length-map}
-use Rattle.line_tree.proofs.Words.{take-append-drop, take-map, flat_map-append, Among, Distinct, FitsSum, Count, plus}
-use Rattle.line_tree.proofs.Words.{Holds, IsTree, lines_in, tree_at, IsBalanced, Tree, lines, names, total, NodePtr}
-use Rattle.line_tree.proofs.Words.{Records, kids, kids_of, row, HasRow, Leads, lines_below, lines_of, names_of, Becomes}
-use Rattle.line_tree.proofs.Words.{CanRaise, CanTakeRow, HasSlots, Raises, TakesRow, trees_at, with_lines, Found}
+use Rattle.line_tree.proofs.Common.{◌≡◌, ℕ, suc, ◌+◌, ◌*◌, ◌<◌, ◌≤◌, List, [], ◌∷◌, ◌++◌, length, take, drop, sym, ap}
+use Rattle.line_tree.proofs.Common.{◌∙◌, subst, arith, length-take, AllByRecursion, append-nil, length-map}
+use Rattle.line_tree.proofs.Common.{take-append-drop, take-map, flat_map-append, Among, Distinct, FitsSum, Count, plus}
+use Rattle.line_tree.proofs.Common.{Holds, IsTree, lines_in, tree_at, IsBalanced, Tree, lines, names, total, NodePtr}
+use Rattle.line_tree.proofs.Common.{Records, kids, kids_of, row, HasRow, Leads, lines_below, lines_of, names_of}
+use Rattle.line_tree.proofs.Common.{Becomes, CanRaise, CanTakeRow, HasSlots, Raises, TakesRow, trees_at, with_lines}
+use Rattle.line_tree.proofs.Common.{Found}
 use Rattle.line_tree.proofs.AmongLaws.{among-left, among-right}
 use Rattle.line_tree.proofs.BecomeLaws.{stays}
 use Rattle.line_tree.proofs.DistinctLaws.{distinct-append, distinct-apart, distinct-left, distinct-right}

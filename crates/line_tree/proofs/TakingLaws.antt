@@ -1,10 +1,10 @@
 -- A mark that is taken off a line, and its node's sum.
-use Rattle.line_tree.proofs.Words.{◌≡◌, ℕ, zero, suc, ◌+◌, ◌-◌, ◌<◌, ◌≤◌, Bool, cond, length, refl, sym, ap, ◌∙◌, subst}
-use Rattle.line_tree.proofs.Words.{arith, IfSome, is_some, option_to_list, Option, None, Some, nat_cmp_total, nat_cmp}
-use Rattle.line_tree.proofs.Words.{none-some, Marks, Place, differing-empty, plus-no_text, union-empty, Count}
-use Rattle.line_tree.proofs.Words.{HasCounts, counting, less, no_text, plus, LineContent, line_count, NodePtr, Records}
-use Rattle.line_tree.proofs.Words.{update, with_sum, lines_in, sum_at, sum_of, total, without_mark, Finds, HasRow}
-use Rattle.line_tree.proofs.Words.{CanChange, Changes, TakesOff, marked, Found}
+use Rattle.line_tree.proofs.Common.{◌≡◌, ℕ, zero, suc, ◌+◌, ◌-◌, ◌<◌, ◌≤◌, Bool, cond, length, refl, sym, ap, ◌∙◌}
+use Rattle.line_tree.proofs.Common.{subst, arith, IfSome, is_some, option_to_list, Option, None, Some, nat_cmp_total}
+use Rattle.line_tree.proofs.Common.{nat_cmp, none-some, Marks, Place, differing-empty, plus-no_text, union-empty, Count}
+use Rattle.line_tree.proofs.Common.{HasCounts, counting, less, no_text, plus, LineContent, line_count, NodePtr, Records}
+use Rattle.line_tree.proofs.Common.{update, with_sum, lines_in, sum_at, sum_of, total, without_mark, Finds, HasRow}
+use Rattle.line_tree.proofs.Common.{CanChange, Changes, TakesOff, marked, Found}
 use mir.Val.{bool_byte}
 use Rattle.line_tree.proofs.ChangingLaws.{can-child, changes-line, changes-node, node-row, node-sum, sum-changed}
 use Rattle.line_tree.proofs.ClimbingLaws.{Above, Climbs, down, next}

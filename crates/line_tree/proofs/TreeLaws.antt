@@ -1,10 +1,10 @@
 -- What holds of a tree that stands in records.
-use Rattle.line_tree.proofs.Words.{◌≡◌, ℕ, zero, suc, ◌+◌, ◌-◌, ◌<◌, ◌≤◌, List, [], ◌∷◌, ◌++◌, length, take, map, refl}
-use Rattle.line_tree.proofs.Words.{sym, ap, ◌∙◌, subst, arith, length-append, IsSome, slice_get, Option, None, Some}
-use Rattle.line_tree.proofs.Words.{AllByRecursion, flat_map, sum_by, option_map, sum_by-cons, none-some, same_Some}
-use Rattle.line_tree.proofs.Words.{Holds, IsTree, line_of, lines_at, lines_in, sum_at, sum_of, tree_at, LineContent}
-use Rattle.line_tree.proofs.Words.{Named, Tree, lines, tops, total, NodePtr, Records, kids, row, Finds, HasRow}
-use Rattle.line_tree.proofs.Words.{lines_below, Found}
+use Rattle.line_tree.proofs.Common.{◌≡◌, ℕ, zero, suc, ◌+◌, ◌-◌, ◌<◌, ◌≤◌, List, [], ◌∷◌, ◌++◌, length, take, map, refl}
+use Rattle.line_tree.proofs.Common.{sym, ap, ◌∙◌, subst, arith, length-append, IsSome, slice_get, Option, None, Some}
+use Rattle.line_tree.proofs.Common.{AllByRecursion, flat_map, sum_by, option_map, sum_by-cons, none-some, same_Some}
+use Rattle.line_tree.proofs.Common.{Holds, IsTree, line_of, lines_at, lines_in, sum_at, sum_of, tree_at, LineContent}
+use Rattle.line_tree.proofs.Common.{Named, Tree, lines, tops, total, NodePtr, Records, kids, row, Finds, HasRow}
+use Rattle.line_tree.proofs.Common.{lines_below, Found}
 use Rattle.std.specs.FinMap as finite
 
 -- ---- lists

@@ -1,9 +1,9 @@
 -- What new children of a node leave of the names, and of what is no line.
-use Rattle.line_tree.proofs.Words.{◌≡◌, ℕ, suc, inl, inr, List, [], ◌∷◌, refl, sym, ap, ◌∙◌, subst, IfSome, IsSome}
-use Rattle.line_tree.proofs.Words.{Option, None, Some, option_map, LineContent, NodePtr, Record, Records, update}
-use Rattle.line_tree.proofs.Words.{with_child, with_parent, with_sum, rooms_for, at_some, some_of, same_or_other}
-use Rattle.line_tree.proofs.Words.{get-update, get-update-other, named-update, update-named, CanFill, link_one}
-use Rattle.line_tree.proofs.Words.{refilled, relinked, sums, HasRow}
+use Rattle.line_tree.proofs.Common.{◌≡◌, ℕ, suc, inl, inr, List, [], ◌∷◌, refl, sym, ap, ◌∙◌, subst, IfSome, IsSome}
+use Rattle.line_tree.proofs.Common.{Option, None, Some, option_map, LineContent, NodePtr, Record, Records, update}
+use Rattle.line_tree.proofs.Common.{with_child, with_parent, with_sum, rooms_for, at_some, some_of, same_or_other}
+use Rattle.line_tree.proofs.Common.{get-update, get-update-other, named-update, update-named, CanFill, link_one}
+use Rattle.line_tree.proofs.Common.{refilled, relinked, sums, HasRow}
 use Rattle.std.specs.FinMap as finite
 
 -- ---- each name stays

@@ -1,9 +1,9 @@
 -- Walks over the marked lines of a tree, by which a table follows what becomes of them.
-use Rattle.line_tree.proofs.Words.{◌≡◌, ℕ, zero, suc, [], ◌∷◌, ◌+◌, ◌-◌, ◌≤◌, true, cond, List, length, take, drop}
-use Rattle.line_tree.proofs.Words.{get_or, ap, ap₂, ◌∙◌, subst, arith, is_some, slice_get, slice_range, Option, None}
-use Rattle.line_tree.proofs.Words.{Some, All, get_or-drop, get_or-take, length-take-le, none-some, same_Some}
-use Rattle.line_tree.proofs.Words.{LineContent, Named, contents, NodePtr, AreLines, NumbersBelow, has_mark, drop_after}
-use Rattle.line_tree.proofs.Words.{AreBare, IsMarkedBelow, IsTable, holder, lines_without, noted, length-drop}
+use Rattle.line_tree.proofs.Common.{◌≡◌, ℕ, zero, suc, [], ◌∷◌, ◌+◌, ◌-◌, ◌≤◌, true, cond, List, length, take, drop}
+use Rattle.line_tree.proofs.Common.{get_or, ap, ap₂, ◌∙◌, subst, arith, is_some, slice_get, slice_range, Option, None}
+use Rattle.line_tree.proofs.Common.{Some, All, get_or-drop, get_or-take, length-take-le, none-some, same_Some}
+use Rattle.line_tree.proofs.Common.{LineContent, Named, contents, NodePtr, AreLines, NumbersBelow, has_mark, drop_after}
+use Rattle.line_tree.proofs.Common.{AreBare, IsMarkedBelow, IsTable, holder, lines_without, noted, length-drop}
 use Rattle.line_tree.proofs.HolderLaws.{all-noted, alone, bare-drop, first, forget-line, forgotten, holder-append}
 use Rattle.line_tree.proofs.HolderLaws.{none-before, note-line}
 use Rattle.line_tree.proofs.NearestLaws.{long}

@@ -1,15 +1,15 @@
 -- Marks as a list of names with numbers, and a gravity for each number.
-use Rattle.mark_table.proofs.Words.{◌≡◌, ◌≢◌, ℕ, zero, suc, ◌+◌, ◌-◌, ◌<◌, ◌≤◌, Bool, true, false, Option, None}
-use Rattle.mark_table.proofs.Words.{if◌then◌else◌, Some, List, [], ◌∷◌, ◌++◌, length, map, slice_get, slice_set}
-use Rattle.mark_table.proofs.Words.{Contains, refl, sym, ap, ap₂, ◌∙◌, subst, inl, inr, take, arith, eq-eqb, ne_eqb}
-use Rattle.mark_table.proofs.Words.{length-append, length-set, position, find, remove, bytes_eq, unwrap_or, MatchOption}
-use Rattle.mark_table.proofs.Words.{SomeIff, option_map, cases_eq, length-map, map_push, none-some, same_Some}
-use Rattle.mark_table.proofs.Words.{slice_get-map, without, Named, Names, AreNames, place_of, Stands}
-use Rattle.mark_table.proofs.Words.{stands_from_Contains, Contains-from_stands, stands_map, stood_at, map-same, map-map}
-use Rattle.mark_table.proofs.Words.{get_set, get_set_other, get_push_cases, get_remove, before_removal, Gravity, Right}
-use Rattle.mark_table.proofs.Words.{AreKept, gravity_at, mark, marks_kept, with_gravity_for, Mark, SharedMarks}
-use Rattle.mark_table.proofs.Words.{AreMarks, IsLeastFree, first_number, gravity_of, is_named, names_of, number_of}
-use Rattle.mark_table.proofs.Words.{numbers_of, turned}
+use Rattle.mark_table.proofs.Common.{◌≡◌, ◌≢◌, ℕ, zero, suc, ◌+◌, ◌-◌, ◌<◌, ◌≤◌, Bool, true, false, Option, None}
+use Rattle.mark_table.proofs.Common.{if◌then◌else◌, Some, List, [], ◌∷◌, ◌++◌, length, map, slice_get, slice_set}
+use Rattle.mark_table.proofs.Common.{Contains, refl, sym, ap, ap₂, ◌∙◌, subst, inl, inr, take, arith, eq-eqb, ne_eqb}
+use Rattle.mark_table.proofs.Common.{length-append, length-set, position, find, remove, bytes_eq, unwrap_or}
+use Rattle.mark_table.proofs.Common.{MatchOption, SomeIff, option_map, cases_eq, length-map, map_push, none-some}
+use Rattle.mark_table.proofs.Common.{same_Some, slice_get-map, without, Named, Names, AreNames, place_of, Stands}
+use Rattle.mark_table.proofs.Common.{stands_from_Contains, Contains-from_stands, stands_map, stood_at, map-same}
+use Rattle.mark_table.proofs.Common.{map-map, get_set, get_set_other, get_push_cases, get_remove, before_removal}
+use Rattle.mark_table.proofs.Common.{Gravity, Right, AreKept, gravity_at, mark, marks_kept, with_gravity_for, Mark}
+use Rattle.mark_table.proofs.Common.{SharedMarks, AreMarks, IsLeastFree, first_number, gravity_of, is_named, names_of}
+use Rattle.mark_table.proofs.Common.{number_of, numbers_of, turned}
 use Rattle.std.proofs.lemmas.Slice.Eq.{bytes_eq-Decides}
 use Rattle.name_list.proofs.MoveLaws.{position-map, position-passes, first_is, found_at, not_found, none_found}
 use Rattle.name_list.proofs.MoveLaws.{without-push, without-remove, without_none}

@@ -1,8 +1,8 @@
 -- The first and the last of the shared marks at one offset, mark by mark.
-use Rattle.mark_table.proofs.Words.{◌≡◌, ℕ, ◌+◌, ◌-◌, ◌<◌, ◌≤◌, max, min, nat_lt, Option, None, Some, List, length}
-use Rattle.mark_table.proofs.Words.{slice_get, sym, ap, ◌∙◌, subst, inl, inr, arith, lt-ltb, le-ltb, MatchOption}
-use Rattle.mark_table.proofs.Words.{SomeIff, cases_lt, cases_eq, none-some, same_Some, slice_get-get_or}
-use Rattle.mark_table.proofs.Words.{slice_get_within, MarkNo, IsAt, IsFirstAt, IsLastAt}
+use Rattle.mark_table.proofs.Common.{◌≡◌, ℕ, ◌+◌, ◌-◌, ◌<◌, ◌≤◌, max, min, nat_lt, Option, None, Some, List, length}
+use Rattle.mark_table.proofs.Common.{slice_get, sym, ap, ◌∙◌, subst, inl, inr, arith, lt-ltb, le-ltb, MatchOption}
+use Rattle.mark_table.proofs.Common.{SomeIff, cases_lt, cases_eq, none-some, same_Some, slice_get-get_or}
+use Rattle.mark_table.proofs.Common.{slice_get_within, MarkNo, IsAt, IsFirstAt, IsLastAt}
 use Rattle.std.specs.Bool.{then_some}
 
 -- a place that is found so far, if it is one, and that it is the least

@@ -1,10 +1,10 @@
 -- The shared marks in their order, from offset to offset.
-use Rattle.mark_table.proofs.Words.{◌≡◌, ◌≢◌, ℕ, zero, suc, ◌+◌, ◌-◌, ◌<◌, ◌≤◌, ◌⊎◌, min, max, Bool, true, false, ◌&&◌}
-use Rattle.mark_table.proofs.Words.{nat_lt, nat_le, if◌then◌else◌, Option, None, Some, List, [], ◌∷◌, ◌++◌, length}
-use Rattle.mark_table.proofs.Words.{slice_get, refl, sym, ap, ◌∙◌, subst, inl, inr, arith, cases_eq, nat_tests}
-use Rattle.mark_table.proofs.Words.{none-some, same_Some, slice_get_within, Place, Marks, marks_at, next_mark}
-use Rattle.mark_table.proofs.Words.{previous_mark, Stands, MarkView, Shown, earlier, shared_mark, shared_marks, IsAt}
-use Rattle.mark_table.proofs.Words.{IsFirstAt, IsLastAt, IsFirst, IsLast}
+use Rattle.mark_table.proofs.Common.{◌≡◌, ◌≢◌, ℕ, zero, suc, ◌+◌, ◌-◌, ◌<◌, ◌≤◌, ◌⊎◌, min, max, Bool, true, false, ◌&&◌}
+use Rattle.mark_table.proofs.Common.{nat_lt, nat_le, if◌then◌else◌, Option, None, Some, List, [], ◌∷◌, ◌++◌, length}
+use Rattle.mark_table.proofs.Common.{slice_get, refl, sym, ap, ◌∙◌, subst, inl, inr, arith, cases_eq, nat_tests}
+use Rattle.mark_table.proofs.Common.{none-some, same_Some, slice_get_within, Place, Marks, marks_at, next_mark}
+use Rattle.mark_table.proofs.Common.{previous_mark, Stands, MarkView, Shown, earlier, shared_mark, shared_marks, IsAt}
+use Rattle.mark_table.proofs.Common.{IsFirstAt, IsLastAt, IsFirst, IsLast}
 use Rattle.text_model.proofs.MarkOrderLaws.{next_mark-least, previous_mark-greatest}
 use Rattle.mark_table.proofs.StoreLaws.{place_of_mark_at, mark_told_at}
 use Rattle.std.specs.FinMap as finite

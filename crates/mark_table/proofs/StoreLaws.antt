@@ -1,8 +1,8 @@
 -- Which marks a store tells of at a place, and near it.
-use Rattle.mark_table.proofs.Words.{◌≡◌, ℕ, zero, suc, ◌+◌, ◌<◌, ◌≤◌, Bool, true, false, cond, ◌&&◌, ◌==◌, Some, List}
-use Rattle.mark_table.proofs.Words.{[], ◌∷◌, slice_get, Ordering, T, refl, sym, ap, ◌∙◌, arith, eq-eqb, filter}
-use Rattle.mark_table.proofs.Words.{nat_tests, none-some, same_Some, Stands, stands_map, stood_at, MarkNo, Place, Marks}
-use Rattle.mark_table.proofs.Words.{marks_at, IsAt}
+use Rattle.mark_table.proofs.Common.{◌≡◌, ℕ, zero, suc, ◌+◌, ◌<◌, ◌≤◌, Bool, true, false, cond, ◌&&◌, ◌==◌, Some, List}
+use Rattle.mark_table.proofs.Common.{[], ◌∷◌, slice_get, Ordering, T, refl, sym, ap, ◌∙◌, arith, eq-eqb, filter}
+use Rattle.mark_table.proofs.Common.{nat_tests, none-some, same_Some, Stands, stands_map, stood_at, MarkNo, Place}
+use Rattle.mark_table.proofs.Common.{Marks, marks_at, IsAt}
 use Rattle.std.specs.declared.cmp.Ordering.TheVariants.{Less, Equal, Greater}
 use Rattle.std.specs.FinMap.Entries.{is_sorted, below_all, find}
 use Rattle.std.specs.Ordering.{nat_cmp, is_lt, eq_by_cmp}

@@ -1,5 +1,5 @@
+pub mod Common
 pub mod ListLaws
 pub mod MoveLaws
 pub mod PlaceLaws
 pub mod ViewLaws
-pub mod Words

@@ -1,9 +1,9 @@
 -- Elements by their places: after a push, a write, a removal, an insertion and a move.
-use Rattle.name_list.proofs.Words.{◌≡◌, ℕ, zero, suc, ◌+◌, ◌-◌, ◌<◌, ◌≤◌, ◌≢◌, ◌⊎◌, nat_lt, if◌then◌else◌, Some, List}
-use Rattle.name_list.proofs.Words.{[], ◌∷◌, ◌++◌, length, map, slice_get, slice_set, Contains, refl, sym, ap, ◌∙◌, inl}
-use Rattle.name_list.proofs.Words.{inr, arith, lt-ltb, le-ltb, insert, remove, option_map, cases_lt, cases_eq}
-use Rattle.name_list.proofs.Words.{nat_tests, none-some, same_Some, slice_get-map, slice_get-get_or, slice_get_within}
-use Rattle.name_list.proofs.Words.{get_or_from_slice_get, length-remove, AreApart}
+use Rattle.name_list.proofs.Common.{◌≡◌, ℕ, zero, suc, ◌+◌, ◌-◌, ◌<◌, ◌≤◌, ◌≢◌, ◌⊎◌, nat_lt, if◌then◌else◌, Some, List}
+use Rattle.name_list.proofs.Common.{[], ◌∷◌, ◌++◌, length, map, slice_get, slice_set, Contains, refl, sym, ap, ◌∙◌, inl}
+use Rattle.name_list.proofs.Common.{inr, arith, lt-ltb, le-ltb, insert, remove, option_map, cases_lt, cases_eq}
+use Rattle.name_list.proofs.Common.{nat_tests, none-some, same_Some, slice_get-map, slice_get-get_or, slice_get_within}
+use Rattle.name_list.proofs.Common.{get_or_from_slice_get, length-remove, AreApart}
 
 -- it stands somewhere in the list
 abbrev pub Stands : {A : Type 0} → List A → A → Type 0

@@ -1,10 +1,10 @@
 -- First elements that pass a test, and moves by their places.
-use Rattle.name_list.proofs.Words.{◌≡◌, ◌≢◌, ℕ, zero, suc, ◌+◌, ◌-◌, ◌<◌, ◌⊎◌, Bool, true, false, cond, not, nat_lt}
-use Rattle.name_list.proofs.Words.{if◌then◌else◌, Option, None, Some, List, [], ◌∷◌, ◌++◌, length, map, slice_get, refl}
-use Rattle.name_list.proofs.Words.{sym, ap, ◌∙◌, inl, inr, arith, lt-ltb, le-ltb, position, find, insert, remove}
-use Rattle.name_list.proofs.Words.{position_or_len, option_map, option_and_then, option_map_or, cases_lt, nat_tests}
-use Rattle.name_list.proofs.Words.{insert_end, length-remove, none-some, same_Some, slice_get_within, move_index}
-use Rattle.name_list.proofs.Words.{without, put_behind, put_before}
+use Rattle.name_list.proofs.Common.{◌≡◌, ◌≢◌, ℕ, zero, suc, ◌+◌, ◌-◌, ◌<◌, ◌⊎◌, Bool, true, false, cond, not, nat_lt}
+use Rattle.name_list.proofs.Common.{if◌then◌else◌, Option, None, Some, List, [], ◌∷◌, ◌++◌, length, map, slice_get}
+use Rattle.name_list.proofs.Common.{refl, sym, ap, ◌∙◌, inl, inr, arith, lt-ltb, le-ltb, position, find, insert, remove}
+use Rattle.name_list.proofs.Common.{position_or_len, option_map, option_and_then, option_map_or, cases_lt, nat_tests}
+use Rattle.name_list.proofs.Common.{insert_end, length-remove, none-some, same_Some, slice_get_within, move_index}
+use Rattle.name_list.proofs.Common.{without, put_behind, put_before}
 
 one_more : (n len : ℕ) → cond (nat_lt (1 + n) (suc len)) (Some (1 + n)) None
     ≡ option_map (λ i. suc i) (cond (nat_lt n len) (Some n) None)

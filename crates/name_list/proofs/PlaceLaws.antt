@@ -1,11 +1,12 @@
 -- The places of numbers: what a push, a removal and a move leave, and that they give names that are in order.
-use Rattle.name_list.proofs.Words.{◌≡◌, ℕ, zero, suc, ◌+◌, ◌<◌, ◌≤◌, ◌≢◌, ◌⊎◌, ◌^◌, true, false, Option, None, Some}
-use Rattle.name_list.proofs.Words.{List, [], ◌∷◌, ◌++◌, length, take, drop, min, slice_get, slice_set, Contains, refl}
-use Rattle.name_list.proofs.Words.{sym, ap, ◌∙◌, subst, inl, inr, arith, length-append, length-set, true≢false}
-use Rattle.name_list.proofs.Words.{if◌then◌else◌, eq-eqb, ne_eqb, insert, remove, is_some, option_and_then}
-use Rattle.name_list.proofs.Words.{option_map_or, cases_lt, cases_eq, nat_tests, none-some, same_Some, slice_get_within}
-use Rattle.name_list.proofs.Words.{append-nil, take_all, drop_all, length-remove, length-insert, move_index, AreApart}
-use Rattle.name_list.proofs.Words.{IsLeastFree, is_taken, with_place_for, AreTrimmed, IsIndex, IsIndexTo, AreKept}
+use Rattle.name_list.proofs.Common.{◌≡◌, ℕ, zero, suc, ◌+◌, ◌<◌, ◌≤◌, ◌≢◌, ◌⊎◌, ◌^◌, true, false, Option, None, Some}
+use Rattle.name_list.proofs.Common.{List, [], ◌∷◌, ◌++◌, length, take, drop, min, slice_get, slice_set, Contains, refl}
+use Rattle.name_list.proofs.Common.{sym, ap, ◌∙◌, subst, inl, inr, arith, length-append, length-set, true≢false}
+use Rattle.name_list.proofs.Common.{if◌then◌else◌, eq-eqb, ne_eqb, insert, remove, is_some, option_and_then}
+use Rattle.name_list.proofs.Common.{option_map_or, cases_lt, cases_eq, nat_tests, none-some, same_Some}
+use Rattle.name_list.proofs.Common.{slice_get_within, append-nil, take_all, drop_all, length-remove, length-insert}
+use Rattle.name_list.proofs.Common.{move_index, AreApart, IsLeastFree, is_taken, with_place_for, AreTrimmed, IsIndex}
+use Rattle.name_list.proofs.Common.{IsIndexTo, AreKept}
 use Rattle.name_list.proofs.ListLaws.{Stands, stands_from_Contains, Contains-from_stands, get_push, get_pushed}
 use Rattle.name_list.proofs.ListLaws.{get_push_cases, get_set, get_set_other, get_remove, get_remove_other}
 use Rattle.name_list.proofs.ListLaws.{before_removal, removed_is_gone, AreApart-remove, AreApart-insert, get_inserted}

@@ -1,12 +1,12 @@
 -- What is seen of a map of names: its names as characters, its numbers and its places.
-use Rattle.name_list.proofs.Words.{◌≡◌, ℕ, zero, suc, ◌+◌, ◌<◌, true, cond, not, nat_lt, Option, None, Some, List, []}
-use Rattle.name_list.proofs.Words.{◌∷◌, ◌++◌, length, map, take, drop, get_or, slice_get, refl, sym, subst, ap, ap₂}
-use Rattle.name_list.proofs.Words.{◌∙◌, arith, true≢false, chars, string_bytes, String, bytes_eq, IsUtf8}
-use Rattle.name_list.proofs.Words.{encode_utf8_all, position, insert, remove, position_or_len, IsDistinct, keys_of}
-use Rattle.name_list.proofs.Words.{values_of, lookup, option_map, option_map_or, same_from_decides, length-map}
-use Rattle.name_list.proofs.Words.{map-append, take-map, drop-map, none-some, slice_get-map, slice_get-get_or}
-use Rattle.name_list.proofs.Words.{slice_get_within, get_or_from_slice_get, Named, Names, names_of, numbers_of}
-use Rattle.name_list.proofs.Words.{place_of, AreApart, AreNames, AreKept, named, names_kept}
+use Rattle.name_list.proofs.Common.{◌≡◌, ℕ, zero, suc, ◌+◌, ◌<◌, true, cond, not, nat_lt, Option, None, Some, List, []}
+use Rattle.name_list.proofs.Common.{◌∷◌, ◌++◌, length, map, take, drop, get_or, slice_get, refl, sym, subst, ap, ap₂}
+use Rattle.name_list.proofs.Common.{◌∙◌, arith, true≢false, chars, string_bytes, String, bytes_eq, IsUtf8}
+use Rattle.name_list.proofs.Common.{encode_utf8_all, position, insert, remove, position_or_len, IsDistinct, keys_of}
+use Rattle.name_list.proofs.Common.{values_of, lookup, option_map, option_map_or, same_from_decides, length-map}
+use Rattle.name_list.proofs.Common.{map-append, take-map, drop-map, none-some, slice_get-map, slice_get-get_or}
+use Rattle.name_list.proofs.Common.{slice_get_within, get_or_from_slice_get, Named, Names, names_of, numbers_of}
+use Rattle.name_list.proofs.Common.{place_of, AreApart, AreNames, AreKept, named, names_kept}
 use Rattle.std.specs.String.{string_eq}
 use Rattle.std.proofs.lemmas.Map.Keys.{apart_from_distinct}
 use Rattle.std.proofs.lemmas.Slice.Eq.{bytes_eq-Decides}

@@ -1,12 +1,12 @@
 -- What a change of one node does to the spares and to the counts.
-use Rattle.raw_nodes.proofs.Words.{◌≡◌, ℕ, ◌<◌, ◌≤◌, ◌+◌, Bool, true, false, List, [], ◌∷◌, ◌++◌, length, get_or, set}
-use Rattle.raw_nodes.proofs.Words.{map, drop, refl, sym, ap, ◌∙◌, subst, arith, length-append, IsSome, ◌≢◌, Option}
-use Rattle.raw_nodes.proofs.Words.{None, Some, is_some, unwrap_or, sum_by, get_or-set_same, get_or-set_other, map-set}
-use Rattle.raw_nodes.proofs.Words.{map-append, length-map, get_or-map, get_or_append_left, set-get_or, sum_by-set}
-use Rattle.raw_nodes.proofs.Words.{sum_by-cons, sum_by_push, IsPlace, NotIn, ats, number_in, after_of, afters_of}
-use Rattle.raw_nodes.proofs.Words.{before_of, befores_of, behind, if_spare, if_free, flag_of, mark_of, marks_of}
-use Rattle.raw_nodes.proofs.Words.{next_of, nexts_of, room_of, IsChain, Record, record_of, if_used, is_used, cell_of}
-use Rattle.raw_nodes.proofs.Words.{cells_of, slot_in, NodePtr, Node}
+use Rattle.raw_nodes.proofs.Common.{◌≡◌, ℕ, ◌<◌, ◌≤◌, ◌+◌, Bool, true, false, List, [], ◌∷◌, ◌++◌, length, get_or, set}
+use Rattle.raw_nodes.proofs.Common.{map, drop, refl, sym, ap, ◌∙◌, subst, arith, length-append, IsSome, ◌≢◌, Option}
+use Rattle.raw_nodes.proofs.Common.{None, Some, is_some, unwrap_or, sum_by, get_or-set_same, get_or-set_other, map-set}
+use Rattle.raw_nodes.proofs.Common.{map-append, length-map, get_or-map, get_or_append_left, set-get_or, sum_by-set}
+use Rattle.raw_nodes.proofs.Common.{sum_by-cons, sum_by_push, IsPlace, NotIn, ats, number_in, after_of, afters_of}
+use Rattle.raw_nodes.proofs.Common.{before_of, befores_of, behind, if_spare, if_free, flag_of, mark_of, marks_of}
+use Rattle.raw_nodes.proofs.Common.{next_of, nexts_of, room_of, IsChain, Record, record_of, if_used, is_used, cell_of}
+use Rattle.raw_nodes.proofs.Common.{cells_of, slot_in, NodePtr, Node}
 use Prim.Native.Nat.{zero, suc, ◌-◌}
 use lib.ListN.{length-set}
 use mathlib.Core.Bool.{false≢true}

@@ -1,5 +1,5 @@
 -- Two nodes never lie at one place. Assumes `Logic`.
-use Rattle.raw_nodes.proofs.Words.{◌≢◌, ◌⊎◌, inl, inr, eqb_tells, τ, el_room, node_owns, nodes_own, NotIn, Node}
+use Rattle.raw_nodes.proofs.Common.{◌≢◌, ◌⊎◌, inl, inr, eqb_tells, τ, el_room, node_owns, nodes_own, NotIn, Node}
 use mathlib.Core.List.{List, [], ◌∷◌, ◌++◌}
 use mathlib.Core.Path.{◌≡◌, refl, sym, ap, subst}
 use lib.ListN.{length}

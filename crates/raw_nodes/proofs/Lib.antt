@@ -1,5 +1,6 @@
 pub mod AsBox
 pub mod ChainLaws
+pub mod Common
 pub mod HeapApart
 pub mod HeapShared
 pub mod HeapSteps
@@ -12,4 +13,3 @@ pub mod RowLaws
 pub mod UpdateLaws
 pub mod WalkSteps
 pub mod WithoutLaws
-pub mod Words

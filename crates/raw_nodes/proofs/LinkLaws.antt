@@ -1,5 +1,5 @@
 -- A link to a node is the name of the node.
-use Rattle.raw_nodes.proofs.Words.{◌≡◌, sym, ap, ◌∙◌, subst, Some, name_at, NodePtr}
+use Rattle.raw_nodes.proofs.Common.{◌≡◌, sym, ap, ◌∙◌, subst, Some, name_at, NodePtr}
 use denote.RawPtr.{Ptr, block_ptr, null_ptr, count_of, InBlock}
 use Rattle.raw_nodes.proofs.PlaceLaws.{name_is}
 

@@ -1,10 +1,10 @@
 -- The map of a store, by name.
-use Rattle.raw_nodes.proofs.Words.{◌≡◌, ℕ, ◌<◌, ◌+◌, Bool, true, false, cond, inl, inr, List, [], ◌∷◌, ◌++◌, length}
-use Rattle.raw_nodes.proofs.Words.{get_or, set, refl, sym, ap, ◌∙◌, subst, arith, ◌≢◌, IfSome, IsSome, Option, None}
-use Rattle.raw_nodes.proofs.Words.{Some, is_some, empty, get, insert, len, remove, get-empty, get-insert, get-remove}
-use Rattle.raw_nodes.proofs.Words.{len-insert, len-remove, empty_of_len, same_map, eq_by_cmp, get_or-set_same}
-use Rattle.raw_nodes.proofs.Words.{get_or-set_other, AreApart, IsPlace, NotIn, ats, name_cmp, number_in, without}
-use Rattle.raw_nodes.proofs.Words.{Record, Records, records_of, NodePtr}
+use Rattle.raw_nodes.proofs.Common.{◌≡◌, ℕ, ◌<◌, ◌+◌, Bool, true, false, cond, inl, inr, List, [], ◌∷◌, ◌++◌, length}
+use Rattle.raw_nodes.proofs.Common.{get_or, set, refl, sym, ap, ◌∙◌, subst, arith, ◌≢◌, IfSome, IsSome, Option, None}
+use Rattle.raw_nodes.proofs.Common.{Some, is_some, empty, get, insert, len, remove, get-empty, get-insert, get-remove}
+use Rattle.raw_nodes.proofs.Common.{len-insert, len-remove, empty_of_len, same_map, eq_by_cmp, get_or-set_same}
+use Rattle.raw_nodes.proofs.Common.{get_or-set_other, AreApart, IsPlace, NotIn, ats, name_cmp, number_in, without}
+use Rattle.raw_nodes.proofs.Common.{Record, Records, records_of, NodePtr}
 use Prim.Native.Nat.{zero, suc, ◌-◌}
 use mathlib.Core.Bool.{false≢true}
 use Rattle.raw_nodes.proofs.PlaceLaws.{apart, name_antisym, name_total, same_number, same_or_other, tied}

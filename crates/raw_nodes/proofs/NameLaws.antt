@@ -1,13 +1,13 @@
 -- What a name says of the node that it leads to, and what a change of the node does.
-use Rattle.raw_nodes.proofs.Words.{◌≡◌, ℕ, ◌<◌, ◌+◌, true, false, List, [], ◌∷◌, ◌++◌, length, get_or, set, map, refl}
-use Rattle.raw_nodes.proofs.Words.{sym, ap, ap₂, ◌∙◌, subst, arith, IfSome, IsSome, Option, None, Some, is_some, Count}
-use Rattle.raw_nodes.proofs.Words.{IsBare, get, insert, remove, sum_by, map-append, map-set, length-map, get_or-map}
-use Rattle.raw_nodes.proofs.Words.{AreApart, IsPlace, ats, node_at, number_in, without, IsChain, after_of, afters_of}
-use Rattle.raw_nodes.proofs.Words.{before_of, befores_of, behind, flag_of, marks_of, nexts_of, room_in, room_of}
-use Rattle.raw_nodes.proofs.Words.{link_name, Record, cell_of, cells_of, if_used, inner_record, is_used, nones, line_in}
-use Rattle.raw_nodes.proofs.Words.{record_in, record_of, records_in, records_of, updated, with_child, slot_in}
-use Rattle.raw_nodes.proofs.Words.{with_line, with_parent, with_slot, with_sum, branch_sum, Link, NodePtr, Held, Node}
-use Rattle.raw_nodes.proofs.Words.{Room}
+use Rattle.raw_nodes.proofs.Common.{◌≡◌, ℕ, ◌<◌, ◌+◌, true, false, List, [], ◌∷◌, ◌++◌, length, get_or, set, map, refl}
+use Rattle.raw_nodes.proofs.Common.{sym, ap, ap₂, ◌∙◌, subst, arith, IfSome, IsSome, Option, None, Some, is_some, Count}
+use Rattle.raw_nodes.proofs.Common.{IsBare, get, insert, remove, sum_by, map-append, map-set, length-map, get_or-map}
+use Rattle.raw_nodes.proofs.Common.{AreApart, IsPlace, ats, node_at, number_in, without, IsChain, after_of, afters_of}
+use Rattle.raw_nodes.proofs.Common.{before_of, befores_of, behind, flag_of, marks_of, nexts_of, room_in, room_of}
+use Rattle.raw_nodes.proofs.Common.{link_name, Record, cell_of, cells_of, if_used, inner_record, is_used, nones}
+use Rattle.raw_nodes.proofs.Common.{line_in, record_in, record_of, records_in, records_of, updated, with_child, slot_in}
+use Rattle.raw_nodes.proofs.Common.{with_line, with_parent, with_slot, with_sum, branch_sum, Link, NodePtr, Held, Node}
+use Rattle.raw_nodes.proofs.Common.{Room}
 use lib.ListN.{length-set}
 use mathlib.Core.Bool.{false≢true}
 use Rattle.segments.specs.Columns.{LineContent}

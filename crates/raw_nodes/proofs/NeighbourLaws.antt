@@ -5,14 +5,14 @@
 --     relinked_less, listed_less   the links once a node has left whose neighbours were linked to each other
 --     content_ .., same_ ..        what doesn't follow the links in the row
 --     left_ ..            all that is kept of the nodes, once such a node has left
-use Rattle.raw_nodes.proofs.Words.{◌≡◌, ℕ, ◌<◌, ◌≤◌, ◌+◌, Bool, true, false, cond, List, [], ◌∷◌, ◌++◌, length, get_or}
-use Rattle.raw_nodes.proofs.Words.{set, map, refl, sym, ap, ◌∙◌, subst, arith, IfSome, ◌≢◌, Option, None, Some, is_some}
-use Rattle.raw_nodes.proofs.Words.{sum, sum_by, get_or-map, get_or_append_left, length-map, map-append, set-append_left}
-use Rattle.raw_nodes.proofs.Words.{sum-map, AreApart, IsPlace, NotIn, ats, name_cmp, node_at, number_in, put_at}
-use Rattle.raw_nodes.proofs.Words.{without, IsChain, after_of, afters_of, before_of, befores_of, behind, content_of}
-use Rattle.raw_nodes.proofs.Words.{contents_of, flag_of, if_free, if_spare, last_left, mark_of, marks_of, next_of}
-use Rattle.raw_nodes.proofs.Words.{nexts_of, room_in, room_of, link_name, if_used, is_used, record_in, records_in}
-use Rattle.raw_nodes.proofs.Words.{records_of, slot_in, Link, NodePtr, Held, Node, eq_by_cmp}
+use Rattle.raw_nodes.proofs.Common.{◌≡◌, ℕ, ◌<◌, ◌≤◌, ◌+◌, Bool, true, false, cond, List, [], ◌∷◌, ◌++◌, length, get_or}
+use Rattle.raw_nodes.proofs.Common.{set, map, refl, sym, ap, ◌∙◌, subst, arith, IfSome, ◌≢◌, Option, None, Some}
+use Rattle.raw_nodes.proofs.Common.{is_some, sum, sum_by, get_or-map, get_or_append_left, length-map, map-append}
+use Rattle.raw_nodes.proofs.Common.{set-append_left, sum-map, AreApart, IsPlace, NotIn, ats, name_cmp, node_at}
+use Rattle.raw_nodes.proofs.Common.{number_in, put_at, without, IsChain, after_of, afters_of, before_of, befores_of}
+use Rattle.raw_nodes.proofs.Common.{behind, content_of, contents_of, flag_of, if_free, if_spare, last_left, mark_of}
+use Rattle.raw_nodes.proofs.Common.{marks_of, next_of, nexts_of, room_in, room_of, link_name, if_used, is_used}
+use Rattle.raw_nodes.proofs.Common.{record_in, records_in, records_of, slot_in, Link, NodePtr, Held, Node, eq_by_cmp}
 use Prim.Native.Nat.{zero, suc, ◌-◌}
 use lib.ListN.{length-set}
 use mathlib.Core.Bool.{false≢true}

@@ -1,8 +1,8 @@
 -- Names in order, and where one stands among others.
-use Rattle.raw_nodes.proofs.Words.{◌≡◌, ℕ, ◌<◌, Bool, true, false, cond, ◌⊎◌, inl, inr, List, [], ◌∷◌, ◌++◌, length}
-use Rattle.raw_nodes.proofs.Words.{get_or, refl, sym, ap, ◌∙◌, subst, arith, ◌≢◌, IsAntisymmetric}
-use Rattle.raw_nodes.proofs.Words.{nat_cmp-IsAntisymmetric, eq_by_cmp, is_eq, get_or-map, length-map, IsPlace, NotIn}
-use Rattle.raw_nodes.proofs.Words.{ats, name_cmp, number_in, NodePtr}
+use Rattle.raw_nodes.proofs.Common.{◌≡◌, ℕ, ◌<◌, Bool, true, false, cond, ◌⊎◌, inl, inr, List, [], ◌∷◌, ◌++◌, length}
+use Rattle.raw_nodes.proofs.Common.{get_or, refl, sym, ap, ◌∙◌, subst, arith, ◌≢◌, IsAntisymmetric}
+use Rattle.raw_nodes.proofs.Common.{nat_cmp-IsAntisymmetric, eq_by_cmp, is_eq, get_or-map, length-map, IsPlace, NotIn}
+use Rattle.raw_nodes.proofs.Common.{ats, name_cmp, number_in, NodePtr}
 use Prim.Native.Nat.{suc}
 use base.Stored.{Coded-set}
 use mathlib.Core.Bool.{false≢true}

@@ -3,9 +3,9 @@
 --     get_or-row      what stands in a slot is the child of that number
 --     somes-row       the names in a row are the children that it was made of; somes, of any number of empty slots
 --     length-row      a row has 12 slots
-use Rattle.raw_nodes.proofs.Words.{◌≡◌, ℕ, zero, suc, ◌+◌, ◌-◌, ◌≤◌, List, [], ◌∷◌, ◌++◌, length, get_or, map}
-use Rattle.raw_nodes.proofs.Words.{replicate, refl, ap, ◌∙◌, arith, Option, None, Some, slice_get, filter_map}
-use Rattle.raw_nodes.proofs.Words.{length-replicate, NodePtr}
+use Rattle.raw_nodes.proofs.Common.{◌≡◌, ℕ, zero, suc, ◌+◌, ◌-◌, ◌≤◌, List, [], ◌∷◌, ◌++◌, length, get_or, map}
+use Rattle.raw_nodes.proofs.Common.{replicate, refl, ap, ◌∙◌, arith, Option, None, Some, slice_get, filter_map}
+use Rattle.raw_nodes.proofs.Common.{length-replicate, NodePtr}
 use Rattle.raw_nodes.specs.Rows.{row}
 
 pub get_or-nones : (n i : ℕ) → get_or (replicate {A = Option NodePtr} n None) i None ≡ None

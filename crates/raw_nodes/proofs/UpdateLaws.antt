@@ -4,9 +4,9 @@
 --     insert-named, remove-named       which names there are after one came or went
 --     len-update                       there are as many records as before
 --     .. -made, -updated, -given       the same by the equations that calls say
-use Rattle.raw_nodes.proofs.Words.{◌≡◌, cond, ◌+◌, ◌⊎◌, inl, inr, refl, sym, ap, ◌∙◌, subst, ◌≢◌, IfSome, IsSome}
-use Rattle.raw_nodes.proofs.Words.{Option, None, Some, is_some, option_map, get, insert, len, len-insert, remove}
-use Rattle.raw_nodes.proofs.Words.{Record, Records, blank, updated, NodePtr}
+use Rattle.raw_nodes.proofs.Common.{◌≡◌, cond, ◌+◌, ◌⊎◌, inl, inr, refl, sym, ap, ◌∙◌, subst, ◌≢◌, IfSome, IsSome}
+use Rattle.raw_nodes.proofs.Common.{Option, None, Some, is_some, option_map, get, insert, len, len-insert, remove}
+use Rattle.raw_nodes.proofs.Common.{Record, Records, blank, updated, NodePtr}
 use mathlib.Core.Bool.{false≢true}
 use Rattle.raw_nodes.specs.Records.{update}
 use Rattle.raw_nodes.proofs.MapLaws.{get_inserted, get_other, get_removed, get_unmoved, kept_insert}

@@ -1,6 +1,6 @@
 -- A list but for one element: how long it is, what is read of it, its sums.
-use Rattle.raw_nodes.proofs.Words.{◌≡◌, ℕ, ◌<◌, ◌+◌, List, [], ◌∷◌, length, get_or, map, refl, ap, arith, sum_by}
-use Rattle.raw_nodes.proofs.Words.{sum_by-cons, without}
+use Rattle.raw_nodes.proofs.Common.{◌≡◌, ℕ, ◌<◌, ◌+◌, List, [], ◌∷◌, length, get_or, map, refl, ap, arith, sum_by}
+use Rattle.raw_nodes.proofs.Common.{sum_by-cons, without}
 use Prim.Native.Nat.{zero, suc}
 
 pub length-without : {X : Type 0} (xs : List X) (i : ℕ) → i < length xs → length (without xs i) + 1 ≡ length xs

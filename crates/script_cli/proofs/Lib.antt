@@ -1,6 +1,6 @@
+pub mod Common
 pub mod RunLaws
 mod SameLaws
 pub mod SendingLaws
 pub mod ToldLaws
 pub mod TurnLaws
-pub mod Words

@@ -1,12 +1,12 @@
 -- A run so far, and whatever the rest of it prints.
-use Rattle.script_cli.proofs.Words.{◌≡◌, ℕ, suc, ◌+◌, ◌<◌, ◌||◌, take, Bool, true, false, not, cond, List, [], ◌∷◌}
-use Rattle.script_cli.proofs.Words.{◌++◌, length, Option, None, Some, ◌⊎◌, inl, inr, refl, sym, ap, ◌∙◌, append_assoc}
-use Rattle.script_cli.proofs.Words.{arith, encode_utf8_all, is_some, is_err, is_ok, Result, Ok, Err, OnOk, OnErr}
-use Rattle.script_cli.proofs.Words.{false≢true, append-nil, encodes-append, LimitTable, IsCommandBefore, Unread}
-use Rattle.script_cli.proofs.Words.{IsNextCommand, HasNoCommand, HasFault, ScriptFault, a_reading, World, step}
-use Rattle.script_cli.proofs.Words.{RunSummary, Met, ReadLog, WriteLog, HandsOut, Takes, piece, memory_line}
-use Rattle.script_cli.proofs.Words.{no_documents, run_output, refused_count, RunsTo, Holds, WritesRun, WritesFront}
-use Rattle.script_cli.proofs.Words.{Feeds, Sends, Gathers, Replies, MeetsCommand, Meets}
+use Rattle.script_cli.proofs.Common.{◌≡◌, ℕ, suc, ◌+◌, ◌<◌, ◌||◌, take, Bool, true, false, not, cond, List, [], ◌∷◌}
+use Rattle.script_cli.proofs.Common.{◌++◌, length, Option, None, Some, ◌⊎◌, inl, inr, refl, sym, ap, ◌∙◌, append_assoc}
+use Rattle.script_cli.proofs.Common.{arith, encode_utf8_all, is_some, is_err, is_ok, Result, Ok, Err, OnOk, OnErr}
+use Rattle.script_cli.proofs.Common.{false≢true, append-nil, encodes-append, LimitTable, IsCommandBefore, Unread}
+use Rattle.script_cli.proofs.Common.{IsNextCommand, HasNoCommand, HasFault, ScriptFault, a_reading, World, step}
+use Rattle.script_cli.proofs.Common.{RunSummary, Met, ReadLog, WriteLog, HandsOut, Takes, piece, memory_line}
+use Rattle.script_cli.proofs.Common.{no_documents, run_output, refused_count, RunsTo, Holds, WritesRun, WritesFront}
+use Rattle.script_cli.proofs.Common.{Feeds, Sends, Gathers, Replies, MeetsCommand, Meets}
 use Rattle.script_cli.specs.declared.summary.RunFault.{RunFault}
 use Rattle.script_cli.specs.Carrying.{RunsBytes, MayFollow, Carries, CarriesOut, Carried, Cuts}
 use Rattle.script_cli.specs.PlainRun.{IsPlain, IsPlainUpToRefusal}

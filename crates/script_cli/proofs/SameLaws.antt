@@ -1,7 +1,7 @@
 -- Two runs of one script.
-use Rattle.script_cli.proofs.Words.{◌≡◌, ℕ, List, [], Option, Some, ◌⊎◌, inl, inr, sym, ap, ◌∙◌, encode_utf8_all}
-use Rattle.script_cli.proofs.Words.{LimitTable, ReadsScript, ScriptFault, one_script, RunSummary, no_documents}
-use Rattle.script_cli.proofs.Words.{run_output, WritesRunOf, WantsMemory}
+use Rattle.script_cli.proofs.Common.{◌≡◌, ℕ, List, [], Option, Some, ◌⊎◌, inl, inr, sym, ap, ◌∙◌, encode_utf8_all}
+use Rattle.script_cli.proofs.Common.{LimitTable, ReadsScript, ScriptFault, one_script, RunSummary, no_documents}
+use Rattle.script_cli.proofs.Common.{run_output, WritesRunOf, WantsMemory}
 use Rattle.std.proofs.lemmas.Option.{same_Some}
 use Rattle.script_cli.proofs.RunLaws.{plain_up_to_refusal}
 

@@ -1,7 +1,7 @@
 -- Bytes that pass one after another, and bytes that wait.
-use Rattle.script_cli.proofs.Words.{◌≡◌, ℕ, ◌+◌, ◌-◌, arith, Bool, true, false, cond, List, [], ◌++◌, Option, None}
-use Rattle.script_cli.proofs.Words.{Some, refl, sym, ap, ◌∙◌, append_assoc, append-nil, ReadLog, WriteLog, Consumes}
-use Rattle.script_cli.proofs.Words.{HandsOut, Appends, Takes, Sends, Gathers}
+use Rattle.script_cli.proofs.Common.{◌≡◌, ℕ, ◌+◌, ◌-◌, arith, Bool, true, false, cond, List, [], ◌++◌, Option, None}
+use Rattle.script_cli.proofs.Common.{Some, refl, sym, ap, ◌∙◌, append_assoc, append-nil, ReadLog, WriteLog, Consumes}
+use Rattle.script_cli.proofs.Common.{HandsOut, Appends, Takes, Sends, Gathers}
 
 Appends-nil : (known : Option (List ℕ)) → Appends known known []
 Appends-nil None = tt

@@ -1,11 +1,11 @@
 -- A run over devices that tell their bytes.
-use Rattle.script_cli.proofs.Words.{◌≡◌, ℕ, ◌+◌, ◌||◌, Bool, true, false, cond, List, [], ◌∷◌, ◌++◌, length, Option}
-use Rattle.script_cli.proofs.Words.{None, Some, inl, inr, refl, ap, ◌∙◌, append_assoc, arith, encode_utf8_all, is_some}
-use Rattle.script_cli.proofs.Words.{is_err, IfSome, Err, false≢true, append-nil, encodes-append, LimitTable}
-use Rattle.script_cli.proofs.Words.{ReadsScript, ReadsFront, ScriptFault, a_reading, World, step, Memory, RunSummary}
-use Rattle.script_cli.proofs.Words.{ReadLog, WriteLog, Consumes, LeavesNone, Appends, piece, no_documents, run_output}
-use Rattle.script_cli.proofs.Words.{refused_count, RunsTo, Holds, WritesRun, WritesFront, WritesRunOf, WritesFrontOf}
-use Rattle.script_cli.proofs.Words.{WritesFrontOfRead}
+use Rattle.script_cli.proofs.Common.{◌≡◌, ℕ, ◌+◌, ◌||◌, Bool, true, false, cond, List, [], ◌∷◌, ◌++◌, length, Option}
+use Rattle.script_cli.proofs.Common.{None, Some, inl, inr, refl, ap, ◌∙◌, append_assoc, arith, encode_utf8_all, is_some}
+use Rattle.script_cli.proofs.Common.{is_err, IfSome, Err, false≢true, append-nil, encodes-append, LimitTable}
+use Rattle.script_cli.proofs.Common.{ReadsScript, ReadsFront, ScriptFault, a_reading, World, step, Memory, RunSummary}
+use Rattle.script_cli.proofs.Common.{ReadLog, WriteLog, Consumes, LeavesNone, Appends, piece, no_documents, run_output}
+use Rattle.script_cli.proofs.Common.{refused_count, RunsTo, Holds, WritesRun, WritesFront, WritesRunOf, WritesFrontOf}
+use Rattle.script_cli.proofs.Common.{WritesFrontOfRead}
 use Rattle.script_cli.proofs.RunLaws.{plain_runs}
 
 -- a front with a fault is the script, however it goes on

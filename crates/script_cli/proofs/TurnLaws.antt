@@ -1,7 +1,8 @@
 -- What a turn of a run prints, and what it leaves.
-use Rattle.script_cli.proofs.Words.{◌≡◌, ◌≢◌, ◌<◌, length, ℕ, Bool, true, List, None, inl, inr, refl, ap, rules, Result}
-use Rattle.script_cli.proofs.Words.{Ok, Err, IfErr, is_err, Unread, TakesCommand, HasFault, StopsAt, ScriptFault, World}
-use Rattle.script_cli.proofs.Words.{step, piece, Replies, MeetsCommand, Meets, goes_on, is_refusal, Met, false≢true}
+use Rattle.script_cli.proofs.Common.{◌≡◌, ◌≢◌, ◌<◌, length, ℕ, Bool, true, List, None, inl, inr, refl, ap, rules}
+use Rattle.script_cli.proofs.Common.{Result, Ok, Err, IfErr, is_err, Unread, TakesCommand, HasFault, StopsAt}
+use Rattle.script_cli.proofs.Common.{ScriptFault, World, step, piece, Replies, MeetsCommand, Meets, goes_on, is_refusal}
+use Rattle.script_cli.proofs.Common.{Met, false≢true}
 use Rattle.command_effects.specs.declared.answers.Answer.{Answer}
 use Rattle.command_effects.specs.declared.answers.Fault.{Fault}
 use Rattle.command_effects.specs.declared.answers.Fault.TheVariants as fault

@@ -1,8 +1,8 @@
 -- The tags at the front of a table.
-use Rattle.tag_table.proofs.Words.{◌≡◌, ℕ, suc, true, false, Some, List, [], ◌∷◌, map, slice_get, refl, sym, ap, ◌∙◌}
-use Rattle.tag_table.proofs.Words.{arith, if◌then◌else◌, ◌==◌, find, bytes_eq, take, Decides-eqb, option_map, none-some}
-use Rattle.tag_table.proofs.Words.{same_Some, bytes_eq-Decides, Named, Names, AreKept, tag, tags_kept, slot_of_number}
-use Rattle.tag_table.proofs.Words.{Tag, Tags, slot_of, is_named, first_slot, sel, ◌+◌, ◌-◌}
+use Rattle.tag_table.proofs.Common.{◌≡◌, ℕ, suc, true, false, Some, List, [], ◌∷◌, map, slice_get, refl, sym, ap, ◌∙◌}
+use Rattle.tag_table.proofs.Common.{arith, if◌then◌else◌, ◌==◌, find, bytes_eq, take, Decides-eqb, option_map}
+use Rattle.tag_table.proofs.Common.{none-some, same_Some, bytes_eq-Decides, Named, Names, AreKept, tag, tags_kept}
+use Rattle.tag_table.proofs.Common.{slot_of_number, Tag, Tags, slot_of, is_named, first_slot, sel, ◌+◌, ◌-◌}
 use Rattle.std.specs.List.{take-map}
 
 number_zero : (number : ℕ) → slot_of_number number ≡ 0 → number ≡ 0

@@ -1,3 +1,3 @@
+pub mod Common
 pub mod FrontLaws
 pub mod TagLaws
-pub mod Words

@@ -1,14 +1,15 @@
 -- Tags as a list of names with numbers, and moves in their order by places.
-use Rattle.tag_table.proofs.Words.{◌≡◌, ◌≢◌, ℕ, zero, suc, ◌+◌, ◌-◌, ◌<◌, ◌≤◌, Bool, true, false, nat_lt, if◌then◌else◌}
-use Rattle.tag_table.proofs.Words.{Option, None, Some, Result, Ok, Err, List, [], ◌∷◌, ◌++◌, length, map, slice_get}
-use Rattle.tag_table.proofs.Words.{Contains, refl, sym, ap, ap₂, ◌∙◌, subst, inl, inr, arith, lit<, true≢false}
-use Rattle.tag_table.proofs.Words.{position, find, insert, remove, is_some, bytes_eq, chars, IsUtf8, IsAscii, IsNone}
-use Rattle.tag_table.proofs.Words.{IfSome, option_map, nat_tests, length-map, none-some, same_Some, slice_get-map}
-use Rattle.tag_table.proofs.Words.{slice_get-get_or, slice_get_within, bytes_eq-Decides, move_index, without}
-use Rattle.tag_table.proofs.Words.{put_behind, put_before, Named, Names, AreNames, AreApart, place_of, bytes_eq-chars}
-use Rattle.tag_table.proofs.Words.{AreKept, tag, tags_kept, slot_of_number, place_above, above_place, place_below}
-use Rattle.tag_table.proofs.Words.{below_place, next_to, raised, raised_tag, lowered, lowered_tag, deleted, Tag, Tags}
-use Rattle.tag_table.proofs.Words.{AreTags, IsLeastFree, names_of, slots_of, slot_of, is_named, sel}
+use Rattle.tag_table.proofs.Common.{◌≡◌, ◌≢◌, ℕ, zero, suc, ◌+◌, ◌-◌, ◌<◌, ◌≤◌, Bool, true, false, nat_lt}
+use Rattle.tag_table.proofs.Common.{if◌then◌else◌, Option, None, Some, Result, Ok, Err, List, [], ◌∷◌, ◌++◌, length}
+use Rattle.tag_table.proofs.Common.{map, slice_get, Contains, refl, sym, ap, ap₂, ◌∙◌, subst, inl, inr, arith, lit<}
+use Rattle.tag_table.proofs.Common.{true≢false, position, find, insert, remove, is_some, bytes_eq, chars, IsUtf8}
+use Rattle.tag_table.proofs.Common.{IsAscii, IsNone, IfSome, option_map, nat_tests, length-map, none-some, same_Some}
+use Rattle.tag_table.proofs.Common.{slice_get-map, slice_get-get_or, slice_get_within, bytes_eq-Decides, move_index}
+use Rattle.tag_table.proofs.Common.{without, put_behind, put_before, Named, Names, AreNames, AreApart, place_of}
+use Rattle.tag_table.proofs.Common.{bytes_eq-chars, AreKept, tag, tags_kept, slot_of_number, place_above, above_place}
+use Rattle.tag_table.proofs.Common.{place_below, below_place, next_to, raised, raised_tag, lowered, lowered_tag}
+use Rattle.tag_table.proofs.Common.{deleted, Tag, Tags, AreTags, IsLeastFree, names_of, slots_of, slot_of, is_named}
+use Rattle.tag_table.proofs.Common.{sel}
 use Rattle.std.proofs.lemmas.Bool.{cases_eq}
 use Rattle.std.proofs.lemmas.Str.{IsUtf8-from_ascii, chars-IsAscii}
 use Rattle.name_list.proofs.PlaceLaws.{stands_move}

@@ -1,9 +1,9 @@
 -- Lists of cells, and where lines begin around a place in a text.
-use Rattle.text_cursor.proofs.Words.{◌≡◌, ℕ, zero, suc, ◌+◌, ◌-◌, ◌<◌, ◌≤◌, Bool, true, false, cond, List, [], ◌∷◌}
-use Rattle.text_cursor.proofs.Words.{◌++◌, length, take, drop, refl, sym, ap, ◌∙◌, arith, length-take, subst}
-use Rattle.text_cursor.proofs.Words.{if◌then◌else◌, length-map, map-id, take-append-drop, Cell, Slots, characters}
-use Rattle.text_cursor.proofs.Words.{slot_sets, is_newline, lines, line_of, line_start, removed, cells_of, lines-cons}
-use Rattle.text_cursor.proofs.Words.{line_of-removed_before, map-map, next_line}
+use Rattle.text_cursor.proofs.Common.{◌≡◌, ℕ, zero, suc, ◌+◌, ◌-◌, ◌<◌, ◌≤◌, Bool, true, false, cond, List, [], ◌∷◌}
+use Rattle.text_cursor.proofs.Common.{◌++◌, length, take, drop, refl, sym, ap, ◌∙◌, arith, length-take, subst}
+use Rattle.text_cursor.proofs.Common.{if◌then◌else◌, length-map, map-id, take-append-drop, Cell, Slots, characters}
+use Rattle.text_cursor.proofs.Common.{slot_sets, is_newline, lines, line_of, line_start, removed, cells_of, lines-cons}
+use Rattle.text_cursor.proofs.Common.{line_of-removed_before, map-map, next_line}
 
 pub length-characters : (cells : List Cell) → length (characters cells) ≡ length cells
 length-characters cells = length-map cells (λ (cell : Cell). cell.character)

@@ -1,15 +1,15 @@
 -- A cursor goes through the parts of a text.
-use Rattle.text_cursor.proofs.Words.{◌≡◌, ℕ, ◌+◌, ◌-◌, ◌<◌, ◌≤◌, List, [], ◌∷◌, ◌++◌, Option, Some, None, map, length}
-use Rattle.text_cursor.proofs.Words.{take, drop, refl, sym, ap, ap₂, ◌∙◌, arith, subst, append_assoc, length-append}
-use Rattle.text_cursor.proofs.Words.{length-drop, reverse, slice_range, sum_by, All, append-nil, map-append, length-map}
-use Rattle.text_cursor.proofs.Words.{length-take-le, drop-drop, drop-append-le, reverse-append, reverse-reverse}
-use Rattle.text_cursor.proofs.Words.{take-append-le, take-append-drop, take_all, take_at, drop_at, nil_from_length}
-use Rattle.text_cursor.proofs.Words.{All-nil, All-cons, All-append, All-push, All-head, All-tail, All-pop, All-same}
-use Rattle.text_cursor.proofs.Words.{All-weaker, sum_by-append, sum_by-cons, take-add, Cell, Slots, cells_of, inserted}
-use Rattle.text_cursor.proofs.Words.{removed, take-removed, drop-removed, Cursor, Part, parts_len, turned_if}
-use Rattle.text_cursor.proofs.Words.{side_parts, Block, cells_between, part_cells, front_cells, behind_cells}
-use Rattle.text_cursor.proofs.Words.{source_len, cursor_cells, cursor_parts, PartFits, IsCursor, Moves, Takes, Puts}
-use Rattle.text_cursor.proofs.Words.{Bool, true, false}
+use Rattle.text_cursor.proofs.Common.{◌≡◌, ℕ, ◌+◌, ◌-◌, ◌<◌, ◌≤◌, List, [], ◌∷◌, ◌++◌, Option, Some, None, map, length}
+use Rattle.text_cursor.proofs.Common.{take, drop, refl, sym, ap, ap₂, ◌∙◌, arith, subst, append_assoc, length-append}
+use Rattle.text_cursor.proofs.Common.{length-drop, reverse, slice_range, sum_by, All, append-nil, map-append}
+use Rattle.text_cursor.proofs.Common.{length-map, length-take-le, drop-drop, drop-append-le, reverse-append}
+use Rattle.text_cursor.proofs.Common.{reverse-reverse, take-append-le, take-append-drop, take_all, take_at, drop_at}
+use Rattle.text_cursor.proofs.Common.{nil_from_length, All-nil, All-cons, All-append, All-push, All-head, All-tail}
+use Rattle.text_cursor.proofs.Common.{All-pop, All-same, All-weaker, sum_by-append, sum_by-cons, take-add, Cell, Slots}
+use Rattle.text_cursor.proofs.Common.{cells_of, inserted, removed, take-removed, drop-removed, Cursor, Part, parts_len}
+use Rattle.text_cursor.proofs.Common.{turned_if, side_parts, Block, cells_between, part_cells, front_cells}
+use Rattle.text_cursor.proofs.Common.{behind_cells, source_len, cursor_cells, cursor_parts, PartFits, IsCursor, Moves}
+use Rattle.text_cursor.proofs.Common.{Takes, Puts, Bool, true, false}
 use Rattle.text_cursor.proofs.RiseLaws.{rise-across, rise-along, rise-cut, rise-dropped, rise-trimmed, rise-put}
 use Rattle.text_cursor.proofs.SideLaws.{len-append, len-cons, turned-len, turned-length}
 

@@ -1,16 +1,16 @@
 -- What a cursor sees around its place: slots, and where lines begin.
-use Rattle.text_cursor.proofs.Words.{◌≡◌, ℕ, zero, suc, ◌+◌, ◌-◌, ◌<◌, ◌≤◌, Bool, true, false, cond, List, [], ◌∷◌}
-use Rattle.text_cursor.proofs.Words.{◌++◌, Option, Some, None, length, get_or, take, drop, refl, sym, ap, ap₂, ◌∙◌}
-use Rattle.text_cursor.proofs.Words.{arith, subst, length-append, length-drop, ne_eqb, append_assoc, slice_range, min}
-use Rattle.text_cursor.proofs.Words.{reverse, if◌then◌else◌, All, append-nil, map-append, length-take-le}
-use Rattle.text_cursor.proofs.Words.{take-append-drop, take_at, drop_at, take_more, drop_more, reverse-reverse}
-use Rattle.text_cursor.proofs.Words.{get_or_append_left, get_or-append-add, get_or-take, get_or-drop, get_or-map}
-use Rattle.text_cursor.proofs.Words.{All-take, All-drop, All-same, All-pop, take-add, Cell, Slots, characters}
-use Rattle.text_cursor.proofs.Words.{slot_sets, is_newline, lines, line_of, line_start, lines-cons, lines-append}
-use Rattle.text_cursor.proofs.Words.{line_start-le, map-map, map-slice_range, Cursor, Part, next_line, shared_slots}
-use Rattle.text_cursor.proofs.Words.{parts_len, turned_if, block_parts, side_parts, cells_between, part_cells}
-use Rattle.text_cursor.proofs.Words.{front_cells, behind_cells, cursor_cells, source_len, slots_in, last_line}
-use Rattle.text_cursor.proofs.Words.{front_text, behind_text, PartFits, IsCursor, IsLastLine, IsSecond, Block}
+use Rattle.text_cursor.proofs.Common.{◌≡◌, ℕ, zero, suc, ◌+◌, ◌-◌, ◌<◌, ◌≤◌, Bool, true, false, cond, List, [], ◌∷◌}
+use Rattle.text_cursor.proofs.Common.{◌++◌, Option, Some, None, length, get_or, take, drop, refl, sym, ap, ap₂, ◌∙◌}
+use Rattle.text_cursor.proofs.Common.{arith, subst, length-append, length-drop, ne_eqb, append_assoc, slice_range, min}
+use Rattle.text_cursor.proofs.Common.{reverse, if◌then◌else◌, All, append-nil, map-append, length-take-le}
+use Rattle.text_cursor.proofs.Common.{take-append-drop, take_at, drop_at, take_more, drop_more, reverse-reverse}
+use Rattle.text_cursor.proofs.Common.{get_or_append_left, get_or-append-add, get_or-take, get_or-drop, get_or-map}
+use Rattle.text_cursor.proofs.Common.{All-take, All-drop, All-same, All-pop, take-add, Cell, Slots, characters}
+use Rattle.text_cursor.proofs.Common.{slot_sets, is_newline, lines, line_of, line_start, lines-cons, lines-append}
+use Rattle.text_cursor.proofs.Common.{line_start-le, map-map, map-slice_range, Cursor, Part, next_line, shared_slots}
+use Rattle.text_cursor.proofs.Common.{parts_len, turned_if, block_parts, side_parts, cells_between, part_cells}
+use Rattle.text_cursor.proofs.Common.{front_cells, behind_cells, cursor_cells, source_len, slots_in, last_line}
+use Rattle.text_cursor.proofs.Common.{front_text, behind_text, PartFits, IsCursor, IsLastLine, IsSecond, Block}
 use Rattle.std.proofs.lemmas.List.Folds.{drop_split}
 use Rattle.text_cursor.proofs.SideLaws.{len-append, len-cons, turned-len, block-push}
 use Rattle.text_cursor.proofs.CursorLaws.{part-length, front-push, behind-push, len-push, front-length, place-is}

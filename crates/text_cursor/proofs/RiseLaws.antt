@@ -1,7 +1,7 @@
 -- The parts of a text on the way stand in the order of the old one.
-use Rattle.text_cursor.proofs.Words.{◌≡◌, ℕ, ◌<◌, ◌≤◌, List, [], ◌∷◌, ◌++◌, Option, Some, None, refl, sym, ap, ◌∙◌}
-use Rattle.text_cursor.proofs.Words.{arith, subst, append_assoc, reverse, reverse-append, reverse-reverse, Slots, Part}
-use Rattle.text_cursor.proofs.Words.{old_place, Rise}
+use Rattle.text_cursor.proofs.Common.{◌≡◌, ℕ, ◌<◌, ◌≤◌, List, [], ◌∷◌, ◌++◌, Option, Some, None, refl, sym, ap, ◌∙◌}
+use Rattle.text_cursor.proofs.Common.{arith, subst, append_assoc, reverse, reverse-append, reverse-reverse, Slots, Part}
+use Rattle.text_cursor.proofs.Common.{old_place, Rise}
 
 -- ---- an earlier border does as well
 

@@ -1,10 +1,10 @@
 -- The parts on one side of a place stay the same when blocks are made of them, or taken apart.
-use Rattle.text_cursor.proofs.Words.{◌≡◌, ℕ, ◌+◌, ◌-◌, ◌<◌, Bool, true, false, List, [], ◌∷◌, ◌++◌, Option, Some, None}
-use Rattle.text_cursor.proofs.Words.{length, take, drop, get_or, refl, sym, ap, ap₂, ◌∙◌, arith, subst, append_assoc}
-use Rattle.text_cursor.proofs.Words.{length-append, reverse, option_to_list, IfSome, append-nil, reverse-append}
-use Rattle.text_cursor.proofs.Words.{reverse-reverse, length-reverse, take-append-drop, take_at, take_all, take_more}
-use Rattle.text_cursor.proofs.Words.{nil_from_length, sum_by-append, sum_by-cons, Block, Part, Side, parts_len}
-use Rattle.text_cursor.proofs.Words.{turned_if, EndsWith, block_parts, side_parts, StaysSide}
+use Rattle.text_cursor.proofs.Common.{◌≡◌, ℕ, ◌+◌, ◌-◌, ◌<◌, Bool, true, false, List, [], ◌∷◌, ◌++◌, Option, Some, None}
+use Rattle.text_cursor.proofs.Common.{length, take, drop, get_or, refl, sym, ap, ap₂, ◌∙◌, arith, subst, append_assoc}
+use Rattle.text_cursor.proofs.Common.{length-append, reverse, option_to_list, IfSome, append-nil, reverse-append}
+use Rattle.text_cursor.proofs.Common.{reverse-reverse, length-reverse, take-append-drop, take_at, take_all, take_more}
+use Rattle.text_cursor.proofs.Common.{nil_from_length, sum_by-append, sum_by-cons, Block, Part, Side, parts_len}
+use Rattle.text_cursor.proofs.Common.{turned_if, EndsWith, block_parts, side_parts, StaysSide}
 
 abbrev pub part_len : Part → ℕ
 part_len part = part.to - part.from

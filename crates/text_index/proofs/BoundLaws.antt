@@ -1,15 +1,15 @@
 -- No index stands for a place behind the end, and numbers up to the greatest that a machine has stand for every place.
-use Rattle.text_index.proofs.Words.{◌≡◌, ◌≢◌, ℕ, zero, suc, ◌+◌, ◌-◌, ◌<◌, ◌≤◌, min, Bool, true, false, not, List, []}
-use Rattle.text_index.proofs.Words.{◌∷◌, length, map, take, drop, refl, sym, ap, ◌∙◌, arith, length-drop, Option}
-use Rattle.text_index.proofs.Words.{Result, Ok, Err, option_and_then, nat_lt, nat_le, ◌&&◌, ◌==◌, slice_index}
-use Rattle.text_index.proofs.Words.{if◌then◌else◌, prefix_len, suffix_len, false≢true, nat_tests, Decides-eqb}
-use Rattle.text_index.proofs.Words.{length-take-le, prefix_len-le-length, lines, line_of, line_start-le}
-use Rattle.text_index.proofs.Words.{lines-le-length, Content, flags, IsView, shown, own_place, shared_place, shown_mark}
-use Rattle.text_index.proofs.Words.{saturated_base, saturated_modifier, WholeIndex, newline_of, in_line, column_of}
-use Rattle.text_index.proofs.Words.{on_line, line_value, unless_end, lines_back, word_front, word_behind, word_end}
-use Rattle.text_index.proofs.Words.{modified, modified_by, or_fault, first_tagged, last_tagged, base_value}
-use Rattle.text_index.proofs.Words.{then_modified, index_value, Meanings, AreWithin, value_of, shown_meanings}
-use Rattle.text_index.proofs.Words.{IndexFault, BadIndex, Base, Some, None}
+use Rattle.text_index.proofs.Common.{◌≡◌, ◌≢◌, ℕ, zero, suc, ◌+◌, ◌-◌, ◌<◌, ◌≤◌, min, Bool, true, false, not, List, []}
+use Rattle.text_index.proofs.Common.{◌∷◌, length, map, take, drop, refl, sym, ap, ◌∙◌, arith, length-drop, Option}
+use Rattle.text_index.proofs.Common.{Result, Ok, Err, option_and_then, nat_lt, nat_le, ◌&&◌, ◌==◌, slice_index}
+use Rattle.text_index.proofs.Common.{if◌then◌else◌, prefix_len, suffix_len, false≢true, nat_tests, Decides-eqb}
+use Rattle.text_index.proofs.Common.{length-take-le, prefix_len-le-length, lines, line_of, line_start-le}
+use Rattle.text_index.proofs.Common.{lines-le-length, Content, flags, IsView, shown, own_place, shared_place}
+use Rattle.text_index.proofs.Common.{shown_mark, saturated_base, saturated_modifier, WholeIndex, newline_of, in_line}
+use Rattle.text_index.proofs.Common.{column_of, on_line, line_value, unless_end, lines_back, word_front, word_behind}
+use Rattle.text_index.proofs.Common.{word_end, modified, modified_by, or_fault, first_tagged, last_tagged, base_value}
+use Rattle.text_index.proofs.Common.{then_modified, index_value, Meanings, AreWithin, value_of, shown_meanings}
+use Rattle.text_index.proofs.Common.{IndexFault, BadIndex, Base, Some, None}
 use Rattle.std.proofs.lemmas.List.Quantifiers.{position-Some}
 use Rattle.text_model.specs.declared.places.Place.{Place}
 use Rattle.mark_table.specs.SharedMarks.{Mark, first_number}

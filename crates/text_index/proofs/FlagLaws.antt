@@ -1,13 +1,13 @@
 -- Where flags change, and what that is in a part of a list of flags.
-use Rattle.text_index.proofs.Words.{◌≡◌, ℕ, zero, suc, ◌+◌, ◌-◌, ◌<◌, ◌≤◌, min, max, Bool, true, false, cond, not, List}
-use Rattle.text_index.proofs.Words.{[], ◌∷◌, ◌++◌, length, take, drop, get_or, None, Some, refl, sym, ap, ap₂, ◌∙◌}
-use Rattle.text_index.proofs.Words.{arith, lt-ltb, le-ltb, length-drop, reverse, slice_range, slice_get, nat_lt}
-use Rattle.text_index.proofs.Words.{if◌then◌else◌, prefix_len, suffix_len, take-append-drop, take-take, drop-take}
-use Rattle.text_index.proofs.Words.{drop-drop, reverse-append, length-reverse, length-take-le, get_or-take, get_or-drop}
-use Rattle.text_index.proofs.Words.{get_or-reverse, length-map, prefix_len_passes, prefix_len_stops}
-use Rattle.text_index.proofs.Words.{prefix_len-le-length, suffix_len-le-length, ltb-true, ltb-false, is_alike, flag_at}
-use Rattle.text_index.proofs.Words.{next_change, previous_change, Cell, Content, flags, IsView, first_tagged}
-use Rattle.text_index.proofs.Words.{last_tagged}
+use Rattle.text_index.proofs.Common.{◌≡◌, ℕ, zero, suc, ◌+◌, ◌-◌, ◌<◌, ◌≤◌, min, max, Bool, true, false, cond, not}
+use Rattle.text_index.proofs.Common.{List, [], ◌∷◌, ◌++◌, length, take, drop, get_or, None, Some, refl, sym, ap, ap₂}
+use Rattle.text_index.proofs.Common.{◌∙◌, arith, lt-ltb, le-ltb, length-drop, reverse, slice_range, slice_get, nat_lt}
+use Rattle.text_index.proofs.Common.{if◌then◌else◌, prefix_len, suffix_len, take-append-drop, take-take, drop-take}
+use Rattle.text_index.proofs.Common.{drop-drop, reverse-append, length-reverse, length-take-le, get_or-take}
+use Rattle.text_index.proofs.Common.{get_or-drop, get_or-reverse, length-map, prefix_len_passes, prefix_len_stops}
+use Rattle.text_index.proofs.Common.{prefix_len-le-length, suffix_len-le-length, ltb-true, ltb-false, is_alike, flag_at}
+use Rattle.text_index.proofs.Common.{next_change, previous_change, Cell, Content, flags, IsView, first_tagged}
+use Rattle.text_index.proofs.Common.{last_tagged}
 use Rattle.std.proofs.lemmas.Option.{get_or_from_slice_get}
 use Rattle.std.specs.FinSet as set
 

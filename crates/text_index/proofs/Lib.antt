@@ -1,4 +1,5 @@
 pub mod BoundLaws
+pub mod Common
 pub mod FlagLaws
 pub mod MeaningLaws
 pub mod MoveLaws
@@ -9,4 +10,3 @@ pub mod RunLaws
 pub mod StartLaws
 pub mod ViewLaws
 pub mod WalkLaws
-pub mod Words

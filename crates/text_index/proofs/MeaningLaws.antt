@@ -1,11 +1,11 @@
 -- A word's place hangs on what its names mean, not on their numbers.
-use Rattle.text_index.proofs.Words.{◌≡◌, ℕ, zero, suc, Bool, true, false, List, length, take, drop, refl, sym, ap, ◌∙◌}
-use Rattle.text_index.proofs.Words.{Option, Result, option_map, option_and_then, bytes_eq, codes, encode_utf8_all}
-use Rattle.text_index.proofs.Words.{nat_eq, ◌==◌, position, if◌then◌else◌, ends_with, place_of, around_dot, number_of}
-use Rattle.text_index.proofs.Words.{place_base, token, of_length, longest, closed_front, longest_front, marked, tagged}
-use Rattle.text_index.proofs.Words.{without_last, base_of, modifiers_of, tokens_of, WholeIndex, base_value, or_fault}
-use Rattle.text_index.proofs.Words.{then_modified, Meanings, MeanTheSame, value_of, word_value, IndexFault, BadIndex}
-use Rattle.text_index.proofs.Words.{NoTaggedCharacters, Base, Some, None}
+use Rattle.text_index.proofs.Common.{◌≡◌, ℕ, zero, suc, Bool, true, false, List, length, take, drop, refl, sym, ap, ◌∙◌}
+use Rattle.text_index.proofs.Common.{Option, Result, option_map, option_and_then, bytes_eq, codes, encode_utf8_all}
+use Rattle.text_index.proofs.Common.{nat_eq, ◌==◌, position, if◌then◌else◌, ends_with, place_of, around_dot, number_of}
+use Rattle.text_index.proofs.Common.{place_base, token, of_length, longest, closed_front, longest_front, marked, tagged}
+use Rattle.text_index.proofs.Common.{without_last, base_of, modifiers_of, tokens_of, WholeIndex, base_value, or_fault}
+use Rattle.text_index.proofs.Common.{then_modified, Meanings, MeanTheSame, value_of, word_value, IndexFault, BadIndex}
+use Rattle.text_index.proofs.Common.{NoTaggedCharacters, Base, Some, None}
 use Rattle.std.specs.Option.{option_or}
 use Rattle.index_grammar.specs.Characters.{closes}
 use Rattle.index_grammar.specs.Grammar.{in_line, first_tagged, last_tagged}

@@ -1,9 +1,9 @@
 -- What a move comes to, by the test that it takes.
-use Rattle.text_index.proofs.Words.{◌≡◌, ℕ, suc, ◌+◌, ◌-◌, ◌<◌, ◌≤◌, Bool, true, false, List, length, take, drop, refl}
-use Rattle.text_index.proofs.Words.{min, max, sym, ap, ◌∙◌, arith, ne_eqb, slice_index, if◌then◌else◌, prefix_len}
-use Rattle.text_index.proofs.Words.{suffix_len, nat_tests, Decides-eqb, prefix_len-drop_yes, prefix_len-drop_no}
-use Rattle.text_index.proofs.Words.{suffix_len-take_yes, suffix_len-take_no, lines, line_of, in_line, column_of}
-use Rattle.text_index.proofs.Words.{lines_back, unless_end, word_front, word_behind, word_end, ◌==◌}
+use Rattle.text_index.proofs.Common.{◌≡◌, ℕ, suc, ◌+◌, ◌-◌, ◌<◌, ◌≤◌, Bool, true, false, List, length, take, drop, refl}
+use Rattle.text_index.proofs.Common.{min, max, sym, ap, ◌∙◌, arith, ne_eqb, slice_index, if◌then◌else◌, prefix_len}
+use Rattle.text_index.proofs.Common.{suffix_len, nat_tests, Decides-eqb, prefix_len-drop_yes, prefix_len-drop_no}
+use Rattle.text_index.proofs.Common.{suffix_len-take_yes, suffix_len-take_no, lines, line_of, in_line, column_of}
+use Rattle.text_index.proofs.Common.{lines_back, unless_end, word_front, word_behind, word_end, ◌==◌}
 use Rattle.text_index.proofs.ViewLaws.{line_of-within}
 
 -- ---- lines back

@@ -1,6 +1,6 @@
 -- The text of a place is its own characters.
-use Rattle.text_index.proofs.Words.{◌≡◌, ℕ, zero, suc, ◌+◌, List, ◌∷◌, ◌++◌, ap, ap₂, ◌∙◌, arith, chars, decimal}
-use Rattle.text_index.proofs.Words.{IsAscii, IsUtf8, chars-IsAscii, IsAscii-append, chars-append, line_of, column_of}
+use Rattle.text_index.proofs.Common.{◌≡◌, ℕ, zero, suc, ◌+◌, List, ◌∷◌, ◌++◌, ap, ap₂, ◌∙◌, arith, chars, decimal}
+use Rattle.text_index.proofs.Common.{IsAscii, IsUtf8, chars-IsAscii, IsAscii-append, chars-append, line_of, column_of}
 use Rattle.text_index.specs.Positions.{position_text}
 
 behind_dot : (text : List ℕ) → IsAscii text → IsAscii (46 ∷ text)

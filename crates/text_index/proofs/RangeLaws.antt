@@ -1,10 +1,10 @@
 -- The ranges of flags: what walks over them, place by place.
-use Rattle.text_index.proofs.Words.{◌≡◌, ℕ, zero, suc, ◌+◌, ◌-◌, ◌<◌, ◌≤◌, Bool, true, false, cond, not, List, [], ◌∷◌}
-use Rattle.text_index.proofs.Words.{Some, None, length, drop, refl, sym, subst, ap, ap₂, ◌∙◌, arith, lt-ltb, le-ltb}
-use Rattle.text_index.proofs.Words.{nat_le, filter, find, IfSome, prefix_len, last_or, le-leb, lt-leb, leb-true}
-use Rattle.text_index.proofs.Words.{is_alike, flag_at, next_change, is_set, ranges_behind, tag_ranges, begins_from}
-use Rattle.text_index.proofs.Words.{begins_before, ranges_from, next_range, previous_range, and_later, begins, TagRange}
-use Rattle.text_index.proofs.Words.{◌&&◌, Option}
+use Rattle.text_index.proofs.Common.{◌≡◌, ℕ, zero, suc, ◌+◌, ◌-◌, ◌<◌, ◌≤◌, Bool, true, false, cond, not, List, [], ◌∷◌}
+use Rattle.text_index.proofs.Common.{Some, None, length, drop, refl, sym, subst, ap, ap₂, ◌∙◌, arith, lt-ltb, le-ltb}
+use Rattle.text_index.proofs.Common.{nat_le, filter, find, IfSome, prefix_len, last_or, le-leb, lt-leb, leb-true}
+use Rattle.text_index.proofs.Common.{is_alike, flag_at, next_change, is_set, ranges_behind, tag_ranges, begins_from}
+use Rattle.text_index.proofs.Common.{begins_before, ranges_from, next_range, previous_range, and_later, begins}
+use Rattle.text_index.proofs.Common.{TagRange, ◌&&◌, Option}
 
 -- whether a range begins at a place of flags behind another flag
 abbrev starts : Bool → List Bool → ℕ → Bool

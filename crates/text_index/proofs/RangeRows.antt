@@ -1,7 +1,7 @@
 -- The ranges of flags that were worked out by hand: `ab`, `cd`, an empty line and `ef`, of which the first character
 -- and the second line have a tag.
-use Rattle.text_index.proofs.Words.{◌≡◌, ℕ, Bool, true, false, List, [], ◌∷◌, Some, None, refl, tag_ranges, ranges_from}
-use Rattle.text_index.proofs.Words.{next_range, previous_range, TagRange}
+use Rattle.text_index.proofs.Common.{◌≡◌, ℕ, Bool, true, false, List, [], ◌∷◌, Some, None, refl, tag_ranges}
+use Rattle.text_index.proofs.Common.{ranges_from, next_range, previous_range, TagRange}
 
 abbrev tagged : List Bool
 tagged = true ∷ false ∷ false ∷ true ∷ true ∷ true ∷ false ∷ false ∷ false ∷ false ∷ []

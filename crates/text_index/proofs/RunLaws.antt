@@ -1,8 +1,8 @@
 -- Runs of characters of a text, in the part of it that a view shows.
-use Rattle.text_index.proofs.Words.{◌≡◌, ℕ, zero, suc, ◌+◌, ◌-◌, ◌≤◌, min, Bool, true, false, cond, List, [], ◌∷◌, ◌++◌}
-use Rattle.text_index.proofs.Words.{length, take, drop, refl, sym, ap, ◌∙◌, arith, length-drop, reverse, slice_range}
-use Rattle.text_index.proofs.Words.{prefix_len, suffix_len, length-reverse, length-take-le, reverse-append, take-take}
-use Rattle.text_index.proofs.Words.{drop-drop}
+use Rattle.text_index.proofs.Common.{◌≡◌, ℕ, zero, suc, ◌+◌, ◌-◌, ◌≤◌, min, Bool, true, false, cond, List, [], ◌∷◌}
+use Rattle.text_index.proofs.Common.{◌++◌, length, take, drop, refl, sym, ap, ◌∙◌, arith, length-drop, reverse}
+use Rattle.text_index.proofs.Common.{slice_range, prefix_len, suffix_len, length-reverse, length-take-le}
+use Rattle.text_index.proofs.Common.{reverse-append, take-take, drop-drop}
 use Rattle.text_index.proofs.ViewLaws.{take-apart}
 
 -- a front of a text ends its run

@@ -1,8 +1,8 @@
 -- Where the lines of a view begin, by those of the text, and which lines it has.
-use Rattle.text_index.proofs.Words.{◌≡◌, ℕ, suc, inl, inr, ◌+◌, ◌-◌, ◌<◌, ◌≤◌, true, false, min, List, Some, length}
-use Rattle.text_index.proofs.Words.{refl, ap, sym, ◌∙◌, arith, nat_lt, slice_range, if◌then◌else◌, cases_lt, nat_tests}
-use Rattle.text_index.proofs.Words.{in_line, line_value, IsLineOf, IsLineStart, lines, line_of, line_start}
-use Rattle.text_index.proofs.Words.{line_start-le, line_start-rises}
+use Rattle.text_index.proofs.Common.{◌≡◌, ℕ, suc, inl, inr, ◌+◌, ◌-◌, ◌<◌, ◌≤◌, true, false, min, List, Some, length}
+use Rattle.text_index.proofs.Common.{refl, ap, sym, ◌∙◌, arith, nat_lt, slice_range, if◌then◌else◌, cases_lt, nat_tests}
+use Rattle.text_index.proofs.Common.{in_line, line_value, IsLineOf, IsLineStart, lines, line_of, line_start}
+use Rattle.text_index.proofs.Common.{line_start-le, line_start-rises}
 use Rattle.text_model.specs.declared.places.LineSpan.{LineSpan}
 use Rattle.text_index.proofs.ViewLaws.{before-end, line_of-within, line_start-add, line_start-before, lines-of-part}
 use Rattle.text_index.proofs.ViewLaws.{lines-part, start-part}

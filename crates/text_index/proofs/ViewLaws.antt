@@ -1,9 +1,9 @@
 -- Lines of the part of a text that a view shows, by those of the text.
-use Rattle.text_index.proofs.Words.{◌≡◌, ℕ, zero, suc, ◌+◌, ◌-◌, ◌<◌, ◌≤◌, min, true, false, cond, List, [], ◌∷◌, ◌++◌}
-use Rattle.text_index.proofs.Words.{length, take, drop, refl, sym, ap, ap₂, ◌∙◌, arith, ne_eqb, length-drop}
-use Rattle.text_index.proofs.Words.{slice_range, if◌then◌else◌, take-take, take-append-drop, length-take-le}
-use Rattle.text_index.proofs.Words.{IsLineStart, is_newline, lines, line_of, line_start, lines-cons, lines-append}
-use Rattle.text_index.proofs.Words.{Content, characters, IsView, shown, in_line, column_of, lines_on}
+use Rattle.text_index.proofs.Common.{◌≡◌, ℕ, zero, suc, ◌+◌, ◌-◌, ◌<◌, ◌≤◌, min, true, false, cond, List, [], ◌∷◌, ◌++◌}
+use Rattle.text_index.proofs.Common.{length, take, drop, refl, sym, ap, ap₂, ◌∙◌, arith, ne_eqb, length-drop}
+use Rattle.text_index.proofs.Common.{slice_range, if◌then◌else◌, take-take, take-append-drop, length-take-le}
+use Rattle.text_index.proofs.Common.{IsLineStart, is_newline, lines, line_of, line_start, lines-cons, lines-append}
+use Rattle.text_index.proofs.Common.{Content, characters, IsView, shown, in_line, column_of, lines_on}
 
 line_start-nil : (line : ℕ) → line_start line [] ≡ 0
 line_start-nil zero = refl

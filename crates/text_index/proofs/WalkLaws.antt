@@ -1,8 +1,8 @@
 -- What a walk over the ranges of flags meets, change by change.
-use Rattle.text_index.proofs.Words.{◌≡◌, ℕ, ◌-◌, ◌<◌, ◌≤◌, Bool, true, false, not, List, length, Some, None, refl, sym}
-use Rattle.text_index.proofs.Words.{ap, ◌∙◌, arith, nat_lt, option_map, false≢true, ltb-true, ltb-false, get_or_past}
-use Rattle.text_index.proofs.Words.{is_alike, flag_at, next_change, previous_change, begins, next_range, previous_range}
-use Rattle.text_index.proofs.Words.{first_tagged, last_tagged, TagRange, Option}
+use Rattle.text_index.proofs.Common.{◌≡◌, ℕ, ◌-◌, ◌<◌, ◌≤◌, Bool, true, false, not, List, length, Some, None, refl, sym}
+use Rattle.text_index.proofs.Common.{ap, ◌∙◌, arith, nat_lt, option_map, false≢true, ltb-true, ltb-false, get_or_past}
+use Rattle.text_index.proofs.Common.{is_alike, flag_at, next_change, previous_change, begins, next_range}
+use Rattle.text_index.proofs.Common.{previous_range, first_tagged, last_tagged, TagRange, Option}
 use Rattle.text_model.proofs.ChangeLaws.{next_change_is, previous_change-below}
 use Rattle.text_index.proofs.FlagLaws.{next-alike, next-other, previous-alike, previous-other, first-set, first-unset}
 use Rattle.text_index.proofs.FlagLaws.{last-set, last-unset}

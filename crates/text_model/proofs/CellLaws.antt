@@ -1,7 +1,7 @@
 -- The characters of a text after each step, and whether its cells have a slot.
-use Rattle.text_model.proofs.Words.{◌≡◌, ℕ, ◌≤◌, Bool, true, false, cond, ◌&&◌, ◌||◌, ◌==◌, not, List, [], ◌∷◌, refl}
-use Rattle.text_model.proofs.Words.{ap, ◌∙◌, arith, nat_cmp_total, unsigned_tied, nat_tests, Cell, Slots, characters}
-use Rattle.text_model.proofs.Words.{inserted, removed, changed, cells_of, set_slot, with_slot, without_slots}
+use Rattle.text_model.proofs.Common.{◌≡◌, ℕ, ◌≤◌, Bool, true, false, cond, ◌&&◌, ◌||◌, ◌==◌, not, List, [], ◌∷◌, refl}
+use Rattle.text_model.proofs.Common.{ap, ◌∙◌, arith, nat_cmp_total, unsigned_tied, nat_tests, Cell, Slots, characters}
+use Rattle.text_model.proofs.Common.{inserted, removed, changed, cells_of, set_slot, with_slot, without_slots}
 use Rattle.text_model.proofs.SpliceLaws.{map-inserted, map-removed, map-changed, changed-same}
 use Rattle.std.specs.FinSet as set
 

@@ -1,10 +1,10 @@
 -- Runs of flags: where they end and begin, cell by cell, and what fixes an answer.
-use Rattle.text_model.proofs.Words.{◌≡◌, ℕ, ◌+◌, ◌-◌, ◌<◌, ◌≤◌, Bool, true, false, not, List, length, get_or, take}
-use Rattle.text_model.proofs.Words.{drop, refl, sym, ap, ap₂, ◌∙◌, arith, length-drop, prefix_len, suffix_len}
-use Rattle.text_model.proofs.Words.{get_or-map, get_or-drop, get_or-take, length-map, length-take-le, drop-map}
-use Rattle.text_model.proofs.Words.{take-map, take_rest, prefix_len-drop_yes, prefix_len-drop_no, prefix_len_is}
-use Rattle.text_model.proofs.Words.{prefix_len-le-length, suffix_len-take_yes, suffix_len-take_no, suffix_len_is, Cell}
-use Rattle.text_model.proofs.Words.{is_alike, flag_at, next_change, previous_change, flags}
+use Rattle.text_model.proofs.Common.{◌≡◌, ℕ, ◌+◌, ◌-◌, ◌<◌, ◌≤◌, Bool, true, false, not, List, length, get_or, take}
+use Rattle.text_model.proofs.Common.{drop, refl, sym, ap, ap₂, ◌∙◌, arith, length-drop, prefix_len, suffix_len}
+use Rattle.text_model.proofs.Common.{get_or-map, get_or-drop, get_or-take, length-map, length-take-le, drop-map}
+use Rattle.text_model.proofs.Common.{take-map, take_rest, prefix_len-drop_yes, prefix_len-drop_no, prefix_len_is}
+use Rattle.text_model.proofs.Common.{prefix_len-le-length, suffix_len-take_yes, suffix_len-take_no, suffix_len_is, Cell}
+use Rattle.text_model.proofs.Common.{is_alike, flag_at, next_change, previous_change, flags}
 use mathlib.Core.Bool.{beq}
 use Rattle.std.specs.FinSet as set
 

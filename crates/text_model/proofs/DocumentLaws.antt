@@ -1,8 +1,8 @@
 -- A document stays a document.
-use Rattle.text_model.proofs.Words.{◌≡◌, ℕ, zero, suc, ◌+◌, ◌<◌, List, [], ◌∷◌, ◌++◌, length, take, drop, refl, ◌∙◌}
-use Rattle.text_model.proofs.Words.{arith, length-drop, IsScalar, All, length-map, All-append, All-cons, All-drop}
-use Rattle.text_model.proofs.Words.{All-nil, All-take, Cell, characters, new_content, IsDocument, ends_in_newline}
-use Rattle.text_model.proofs.Words.{inserted, removed}
+use Rattle.text_model.proofs.Common.{◌≡◌, ℕ, zero, suc, ◌+◌, ◌<◌, List, [], ◌∷◌, ◌++◌, length, take, drop, refl, ◌∙◌}
+use Rattle.text_model.proofs.Common.{arith, length-drop, IsScalar, All, length-map, All-append, All-cons, All-drop}
+use Rattle.text_model.proofs.Common.{All-nil, All-take, Cell, characters, new_content, IsDocument, ends_in_newline}
+use Rattle.text_model.proofs.Common.{inserted, removed}
 
 ends_in_newline-append : (xs ys : List ℕ) → 0 < length ys → ends_in_newline (xs ++ ys) ≡ ends_in_newline ys
 ends_in_newline-append [] ys some = refl

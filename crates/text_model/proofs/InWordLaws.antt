@@ -1,9 +1,10 @@
 -- The slots of sets word by word: in how many words they are, and sets whose slots are in one.
-use Rattle.text_model.proofs.Words.{◌≡◌, ℕ, zero, suc, ◌+◌, ◌-◌, ◌*◌, ◌/◌, ◌%◌, ◌^◌, ◌<◌, ◌≤◌, ◌≢◌, Bool, true, false}
-use Rattle.text_model.proofs.Words.{not, cond, ◌&&◌, ◌||◌, nat_lt, ◌==◌, List, slice_index, refl, sym, ap, ap₂, subst}
-use Rattle.text_model.proofs.Words.{◌∙◌, arith, inl, inr, cases_eq, false≢true, nat_tests, pow_pos, nat_cmp, AreSlots}
-use Rattle.text_model.proofs.Words.{IsOneWord, has_word, in_word, word_bits, word_index, word_count, differing}
-use Rattle.text_model.proofs.Words.{contains-slots_below, word_of_slots, AreWords, has_bit, slot_count, slots_of, WORDS}
+use Rattle.text_model.proofs.Common.{◌≡◌, ℕ, zero, suc, ◌+◌, ◌-◌, ◌*◌, ◌/◌, ◌%◌, ◌^◌, ◌<◌, ◌≤◌, ◌≢◌, Bool, true, false}
+use Rattle.text_model.proofs.Common.{not, cond, ◌&&◌, ◌||◌, nat_lt, ◌==◌, List, slice_index, refl, sym, ap, ap₂, subst}
+use Rattle.text_model.proofs.Common.{◌∙◌, arith, inl, inr, cases_eq, false≢true, nat_tests, pow_pos, nat_cmp, AreSlots}
+use Rattle.text_model.proofs.Common.{IsOneWord, has_word, in_word, word_bits, word_index, word_count, differing}
+use Rattle.text_model.proofs.Common.{contains-slots_below, word_of_slots, AreWords, has_bit, slot_count, slots_of}
+use Rattle.text_model.proofs.Common.{WORDS}
 use Rattle.text_model.specs.OneWord.{words_below}
 use Rattle.text_model.specs.TagBits.{word_below}
 use Rattle.text_model.proofs.OneWordSteps.{contains-in_word, no_word_bits, same_slots}

@@ -1,5 +1,6 @@
 pub mod CellLaws
 pub mod ChangeLaws
+pub mod Common
 pub mod DocumentLaws
 pub mod InWordLaws
 pub mod LineLaws
@@ -12,4 +13,3 @@ pub mod SpliceLaws
 pub mod StepLaws
 pub mod TagSteps
 pub mod TextLaws
-pub mod Words

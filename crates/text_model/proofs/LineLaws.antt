@@ -1,9 +1,9 @@
 -- Where the lines of a text begin, and the lines before an offset after an insertion and a removal.
-use Rattle.text_model.proofs.Words.{◌≡◌, ◌≢◌, ℕ, zero, suc, ◌+◌, ◌-◌, ◌<◌, ◌≤◌, true, false, cond, List, [], ◌∷◌, ◌++◌}
-use Rattle.text_model.proofs.Words.{length, take, drop, get_or, refl, sym, ap, ◌∙◌, arith, add_assoc, if◌then◌else◌}
-use Rattle.text_model.proofs.Words.{drop_more, get_or-map, sum_by-append, sum_by-cons, sum_by-take-drop}
-use Rattle.text_model.proofs.Words.{count_by-le-length, Cell, characters, inserted, removed, is_newline, lines, line_of}
-use Rattle.text_model.proofs.Words.{line_start}
+use Rattle.text_model.proofs.Common.{◌≡◌, ◌≢◌, ℕ, zero, suc, ◌+◌, ◌-◌, ◌<◌, ◌≤◌, true, false, cond, List, [], ◌∷◌, ◌++◌}
+use Rattle.text_model.proofs.Common.{length, take, drop, get_or, refl, sym, ap, ◌∙◌, arith, add_assoc, if◌then◌else◌}
+use Rattle.text_model.proofs.Common.{drop_more, get_or-map, sum_by-append, sum_by-cons, sum_by-take-drop}
+use Rattle.text_model.proofs.Common.{count_by-le-length, Cell, characters, inserted, removed, is_newline, lines}
+use Rattle.text_model.proofs.Common.{line_of, line_start}
 use Rattle.std.proofs.lemmas.Grind.{common_steps}
 use Rattle.text_model.proofs.SpliceLaws.{take-removed}
 

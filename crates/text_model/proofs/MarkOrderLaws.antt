@@ -1,10 +1,10 @@
 -- The marks of a list of places, one place after another.
-use Rattle.text_model.proofs.Words.{◌≡◌, ℕ, ◌<◌, ◌≤◌, min, max, Bool, true, false, cond, nat_lt, nat_le, ◌==◌, List, []}
-use Rattle.text_model.proofs.Words.{◌∷◌, length, map, Option, Some, None, refl, sym, ap, subst, ◌∙◌, inl, inr, arith}
-use Rattle.text_model.proofs.Words.{◌⊎◌, IfSome, All, filter, fold, reduce, find, nat_cmp, eq_by_cmp, cases_lt}
-use Rattle.text_model.proofs.Words.{All-head, All-tail, All-map, All-weaker, All-filter, filter_passes, nat_tests}
-use Rattle.text_model.proofs.Words.{Place, Content, Marks, MarksStand, next_mark, offsets, previous_mark, marks_at}
-use Rattle.text_model.proofs.Words.{places_from, plain_marks}
+use Rattle.text_model.proofs.Common.{◌≡◌, ℕ, ◌<◌, ◌≤◌, min, max, Bool, true, false, cond, nat_lt, nat_le, ◌==◌, List}
+use Rattle.text_model.proofs.Common.{[], ◌∷◌, length, map, Option, Some, None, refl, sym, ap, subst, ◌∙◌, inl, inr}
+use Rattle.text_model.proofs.Common.{arith, ◌⊎◌, IfSome, All, filter, fold, reduce, find, nat_cmp, eq_by_cmp, cases_lt}
+use Rattle.text_model.proofs.Common.{All-head, All-tail, All-map, All-weaker, All-filter, filter_passes, nat_tests}
+use Rattle.text_model.proofs.Common.{Place, Content, Marks, MarksStand, next_mark, offsets, previous_mark, marks_at}
+use Rattle.text_model.proofs.Common.{places_from, plain_marks}
 use Rattle.text_model.specs.declared.places.MarkNo.{MarkNo}
 use Rattle.text_model.proofs.PlaceLaws.{All-entries, entries-plain_marks}
 use Rattle.std.specs.FinMap as finite

@@ -1,13 +1,13 @@
 -- What the operations do to the slots of one word.
-use Rattle.text_model.proofs.Words.{◌≡◌, ℕ, ◌+◌, ◌*◌, ◌/◌, ◌%◌, ◌^◌, ◌<◌, ◌≢◌, Bool, true, false, not, ◌&&◌, ◌||◌}
-use Rattle.text_model.proofs.Words.{nat_lt, nat_eq, ◌==◌, List, length, slice_index, slice_set, bit_and, bit_xor, refl}
-use Rattle.text_model.proofs.Words.{sym, ap, ap₂, ◌∙◌, arith, w64, inl, inr, get_or-set_same, get_or-set_other}
-use Rattle.text_model.proofs.Words.{cases_eq, nat_tests, one_shl, bit_at-zero, bit_at_clear_same, bit_at_clear_other}
-use Rattle.text_model.proofs.Words.{bit_at-pow_same, bit_at-pow_other, shr_and_one, nat_cmp_total, unsigned_tied}
-use Rattle.text_model.proofs.Words.{bit_at, bit_not, nat_cmp, AreBits, IsOneWord, alone, in_word, slots_in, word_bits}
-use Rattle.text_model.proofs.Words.{word_index, alone-other, alone-same, contains-slots_in, word_bits-slots_in}
-use Rattle.text_model.proofs.Words.{word_index-slots_in, differing, contains_inserted, contains-slots_below}
-use Rattle.text_model.proofs.Words.{word_of_bits, has_bit, slot_count, slots_of, WORDS}
+use Rattle.text_model.proofs.Common.{◌≡◌, ℕ, ◌+◌, ◌*◌, ◌/◌, ◌%◌, ◌^◌, ◌<◌, ◌≢◌, Bool, true, false, not, ◌&&◌, ◌||◌}
+use Rattle.text_model.proofs.Common.{nat_lt, nat_eq, ◌==◌, List, length, slice_index, slice_set, bit_and, bit_xor, refl}
+use Rattle.text_model.proofs.Common.{sym, ap, ap₂, ◌∙◌, arith, w64, inl, inr, get_or-set_same, get_or-set_other}
+use Rattle.text_model.proofs.Common.{cases_eq, nat_tests, one_shl, bit_at-zero, bit_at_clear_same, bit_at_clear_other}
+use Rattle.text_model.proofs.Common.{bit_at-pow_same, bit_at-pow_other, shr_and_one, nat_cmp_total, unsigned_tied}
+use Rattle.text_model.proofs.Common.{bit_at, bit_not, nat_cmp, AreBits, IsOneWord, alone, in_word, slots_in, word_bits}
+use Rattle.text_model.proofs.Common.{word_index, alone-other, alone-same, contains-slots_in, word_bits-slots_in}
+use Rattle.text_model.proofs.Common.{word_index-slots_in, differing, contains_inserted, contains-slots_below}
+use Rattle.text_model.proofs.Common.{word_of_bits, has_bit, slot_count, slots_of, WORDS}
 use Rattle.std.specs.Int.Bits.{xor_zero_r}
 use Rattle.text_model.proofs.TagSteps.{slots_of-differing}
 use Rattle.std.specs.FinSet as set

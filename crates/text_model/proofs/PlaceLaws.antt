@@ -1,10 +1,11 @@
 -- Marks that are kept as a list of places by their numbers, and what becomes of each mark.
-use Rattle.text_model.proofs.Words.{◌≡◌, ◌≢◌, ℕ, zero, suc, ◌+◌, ◌<◌, ◌≤◌, Bool, true, false, cond, ◌&&◌, ◌==◌, T, List}
-use Rattle.text_model.proofs.Words.{[], ◌∷◌, ◌++◌, Option, Some, None, map, length, get_or, set, take, drop, replicate}
-use Rattle.text_model.proofs.Words.{refl, sym, ap, ◌∙◌, inl, inr, arith, get_or-set_same, get_or-set_other, option_map}
-use Rattle.text_model.proofs.Words.{IfSome, find, is_sorted, nat_cmp-IsAntisymmetric, All, nat_cmp, eq_by_cmp, is_lt}
-use Rattle.text_model.proofs.Words.{nat_cmp_total, unsigned_tied, cases_eq, nat_tests, get_or_default, get_or_past}
-use Rattle.text_model.proofs.Words.{map_over_more, All-cons, All-nil, Place, Marks, map_marks, places_from, plain_marks}
+use Rattle.text_model.proofs.Common.{◌≡◌, ◌≢◌, ℕ, zero, suc, ◌+◌, ◌<◌, ◌≤◌, Bool, true, false, cond, ◌&&◌, ◌==◌, T}
+use Rattle.text_model.proofs.Common.{List, [], ◌∷◌, ◌++◌, Option, Some, None, map, length, get_or, set, take, drop}
+use Rattle.text_model.proofs.Common.{replicate, refl, sym, ap, ◌∙◌, inl, inr, arith, get_or-set_same, get_or-set_other}
+use Rattle.text_model.proofs.Common.{option_map, IfSome, find, is_sorted, nat_cmp-IsAntisymmetric, All, nat_cmp}
+use Rattle.text_model.proofs.Common.{eq_by_cmp, is_lt, nat_cmp_total, unsigned_tied, cases_eq, nat_tests}
+use Rattle.text_model.proofs.Common.{get_or_default, get_or_past, map_over_more, All-cons, All-nil, Place, Marks}
+use Rattle.text_model.proofs.Common.{map_marks, places_from, plain_marks}
 use Rattle.std.specs.FinMap as finite
 
 abbrev entry_at : (Place → Place) → ℕ × Place → ℕ × Place

@@ -1,9 +1,10 @@
 -- What a plain store contains: at first, and after each step.
-use Rattle.text_model.proofs.Words.{◌≡◌, ℕ, ◌+◌, ◌^◌, ◌<◌, ◌≤◌, Bool, true, false, List, [], ◌++◌, length, map, take}
-use Rattle.text_model.proofs.Words.{drop, Option, Some, None, get_or, sym, ap, subst, ◌∙◌, arith, option_map, nat_cmp}
-use Rattle.text_model.proofs.Words.{take_at, map_over_more, Cell, Step, Place, Slots, map_marks, new_content}
-use Rattle.text_model.proofs.Words.{MarksStand, cells_of, after_removal, after_insertion, with_slot, set_slot, StepFits}
-use Rattle.text_model.proofs.Words.{after_step, inserted, removed, moved, drawn, plain_content, plain_marks, IsPlain}
+use Rattle.text_model.proofs.Common.{◌≡◌, ℕ, ◌+◌, ◌^◌, ◌<◌, ◌≤◌, Bool, true, false, List, [], ◌++◌, length, map, take}
+use Rattle.text_model.proofs.Common.{drop, Option, Some, None, get_or, sym, ap, subst, ◌∙◌, arith, option_map, nat_cmp}
+use Rattle.text_model.proofs.Common.{take_at, map_over_more, Cell, Step, Place, Slots, map_marks, new_content}
+use Rattle.text_model.proofs.Common.{MarksStand, cells_of, after_removal, after_insertion, with_slot, set_slot}
+use Rattle.text_model.proofs.Common.{StepFits, after_step, inserted, removed, moved, drawn, plain_content, plain_marks}
+use Rattle.text_model.proofs.Common.{IsPlain}
 use Rattle.std.proofs.Common.{set as set_at}
 use Rattle.text_model.proofs.PlaceLaws.{get-plain_marks, plain_marks-map, same_marks}
 use Rattle.text_model.proofs.StepLaws.{MarksStand-after_step}

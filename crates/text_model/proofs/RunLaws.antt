@@ -1,9 +1,9 @@
 -- Runs of characters that pass a test: how they go on over cells, and in a part of a text.
-use Rattle.text_model.proofs.Words.{◌≡◌, ℕ, ◌+◌, ◌-◌, ◌<◌, ◌≤◌, Bool, true, false, List, length, get_or, take, drop}
-use Rattle.text_model.proofs.Words.{sym, ap, ◌∙◌, arith, length-drop, length-take, prefix_len, suffix_len, drop-map}
-use Rattle.text_model.proofs.Words.{get_or-map, length-map, take-map, take_rest, prefix_len-drop_yes}
-use Rattle.text_model.proofs.Words.{prefix_len-drop_no, prefix_len-le-length, suffix_len-le-length, suffix_len-take_yes}
-use Rattle.text_model.proofs.Words.{suffix_len-take_no, Cell, characters}
+use Rattle.text_model.proofs.Common.{◌≡◌, ℕ, ◌+◌, ◌-◌, ◌<◌, ◌≤◌, Bool, true, false, List, length, get_or, take, drop}
+use Rattle.text_model.proofs.Common.{sym, ap, ◌∙◌, arith, length-drop, length-take, prefix_len, suffix_len, drop-map}
+use Rattle.text_model.proofs.Common.{get_or-map, length-map, take-map, take_rest, prefix_len-drop_yes}
+use Rattle.text_model.proofs.Common.{prefix_len-drop_no, prefix_len-le-length, suffix_len-le-length}
+use Rattle.text_model.proofs.Common.{suffix_len-take_yes, suffix_len-take_no, Cell, characters}
 
 pub long : (cells : List Cell) → length (characters cells) ≡ length cells
 long cells = length-map cells (λ (cell : Cell). cell.character)

@@ -1,12 +1,12 @@
 -- What an insertion, a removal and a change leave of a list: its length, its elements, its parts, and what a function
 -- makes of each element.
-use Rattle.text_model.proofs.Words.{◌≡◌, ℕ, zero, suc, ◌+◌, ◌-◌, ◌<◌, ◌≤◌, List, [], ◌∷◌, ◌++◌, length, get_or, set}
-use Rattle.text_model.proofs.Words.{take, drop, map, refl, sym, ap, ap₂, ◌∙◌, arith, rules, length-append, length-drop}
-use Rattle.text_model.proofs.Words.{slice_range, places, length-take-le, length-map, map-append, map-id, take-map}
-use Rattle.text_model.proofs.Words.{drop-map, get_or_append_left, get_or-append_right, get_or-take, get_or-drop}
-use Rattle.text_model.proofs.Words.{get_or-map, take-append-le, take-take, drop-append-le, drop_at, drop-drop}
-use Rattle.text_model.proofs.Words.{drop_more, set_split, append_assoc, split_between, Slots, cells_of, inserted}
-use Rattle.text_model.proofs.Words.{removed, changed, Cell}
+use Rattle.text_model.proofs.Common.{◌≡◌, ℕ, zero, suc, ◌+◌, ◌-◌, ◌<◌, ◌≤◌, List, [], ◌∷◌, ◌++◌, length, get_or, set}
+use Rattle.text_model.proofs.Common.{take, drop, map, refl, sym, ap, ap₂, ◌∙◌, arith, rules, length-append, length-drop}
+use Rattle.text_model.proofs.Common.{slice_range, places, length-take-le, length-map, map-append, map-id, take-map}
+use Rattle.text_model.proofs.Common.{drop-map, get_or_append_left, get_or-append_right, get_or-take, get_or-drop}
+use Rattle.text_model.proofs.Common.{get_or-map, take-append-le, take-take, drop-append-le, drop_at, drop-drop}
+use Rattle.text_model.proofs.Common.{drop_more, set_split, append_assoc, split_between, Slots, cells_of, inserted}
+use Rattle.text_model.proofs.Common.{removed, changed, Cell}
 
 pub length-inserted : {A : Type 0} (at : ℕ) (new xs : List A) → at ≤ length xs →
     length (inserted at new xs) ≡ length xs + length new

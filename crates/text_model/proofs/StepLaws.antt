@@ -1,10 +1,10 @@
 -- How long a text is after each step, that marks stand in it, and steps behind others.
-use Rattle.text_model.proofs.Words.{◌≡◌, ℕ, ◌+◌, ◌≤◌, Bool, true, false, cond, List, [], ◌∷◌, ◌++◌, length, Option}
-use Rattle.text_model.proofs.Words.{Some, None, refl, sym, subst, ◌∙◌, arith, option_map, if◌then◌else◌, nat_cmp}
-use Rattle.text_model.proofs.Words.{eq_by_cmp, nat_cmp_total, length-map, Cell, Step, Remove, Insert, SetTag, ClearTags}
-use Rattle.text_model.proofs.Words.{ClearSlot, PutMark, TakeMark, Place, Content, Marks, map_marks, MarksStand}
-use Rattle.text_model.proofs.Words.{inserted, goes_behind, moved, drawn, cells_of, with_slot, without_slots, StepFits}
-use Rattle.text_model.proofs.Words.{Fits, FitsIn, length_after, after_step, after}
+use Rattle.text_model.proofs.Common.{◌≡◌, ℕ, ◌+◌, ◌≤◌, Bool, true, false, cond, List, [], ◌∷◌, ◌++◌, length, Option}
+use Rattle.text_model.proofs.Common.{Some, None, refl, sym, subst, ◌∙◌, arith, option_map, if◌then◌else◌, nat_cmp}
+use Rattle.text_model.proofs.Common.{eq_by_cmp, nat_cmp_total, length-map, Cell, Step, Remove, Insert, SetTag}
+use Rattle.text_model.proofs.Common.{ClearTags, ClearSlot, PutMark, TakeMark, Place, Content, Marks, map_marks}
+use Rattle.text_model.proofs.Common.{MarksStand, inserted, goes_behind, moved, drawn, cells_of, with_slot}
+use Rattle.text_model.proofs.Common.{without_slots, StepFits, Fits, FitsIn, length_after, after_step, after}
 use Rattle.text_model.proofs.PlaceLaws.{get-map_marks}
 use Rattle.text_model.proofs.SpliceLaws.{length-cells_inserted, length-removed, length-changed}
 use Rattle.std.specs.FinMap as finite

@@ -1,13 +1,13 @@
 -- What the operations do to the words, and so to the slots: zeros, a bit that is set, and bits in common.
-use Rattle.text_model.proofs.Words.{◌≡◌, ℕ, zero, suc, ◌+◌, ◌*◌, ◌/◌, ◌%◌, ◌^◌, ◌<◌, ◌≢◌, min, Bool, true, false, ◌&&◌}
-use Rattle.text_model.proofs.Words.{◌||◌, not, cond, nat_lt, nat_eq, ◌==◌, List, length, replicate, slice_index}
-use Rattle.text_model.proofs.Words.{slice_set, bit_and, bit_or, bit_xor, refl, sym, ap, ap₂, ◌∙◌, arith, w64, inl, inr}
-use Rattle.text_model.proofs.Words.{lt-ltb, length-set, get_or-set_same, get_or-set_other, cases_eq, nat_tests}
-use Rattle.text_model.proofs.Words.{length-replicate, or_lt, xor_lt, and_le_l, bit_at-lt, bit_at-zero, bit_at_and}
-use Rattle.text_model.proofs.Words.{bit_at_xor, bit_at_set_same, bit_at_set_other, bit_at_clear_same}
-use Rattle.text_model.proofs.Words.{bit_at_clear_other, shr_and_one, nat_cmp_total, unsigned_tied, bit_at, bit_not}
-use Rattle.text_model.proofs.Words.{nat_cmp, contains_inserted, contains-slots_below, words_of-slots_of, differing}
-use Rattle.text_model.proofs.Words.{WORDS, AreWords, has_bit, slot_count, slots_below, slots_of, words_of}
+use Rattle.text_model.proofs.Common.{◌≡◌, ℕ, zero, suc, ◌+◌, ◌*◌, ◌/◌, ◌%◌, ◌^◌, ◌<◌, ◌≢◌, min, Bool, true, false, ◌&&◌}
+use Rattle.text_model.proofs.Common.{◌||◌, not, cond, nat_lt, nat_eq, ◌==◌, List, length, replicate, slice_index}
+use Rattle.text_model.proofs.Common.{slice_set, bit_and, bit_or, bit_xor, refl, sym, ap, ap₂, ◌∙◌, arith, w64, inl, inr}
+use Rattle.text_model.proofs.Common.{lt-ltb, length-set, get_or-set_same, get_or-set_other, cases_eq, nat_tests}
+use Rattle.text_model.proofs.Common.{length-replicate, or_lt, xor_lt, and_le_l, bit_at-lt, bit_at-zero, bit_at_and}
+use Rattle.text_model.proofs.Common.{bit_at_xor, bit_at_set_same, bit_at_set_other, bit_at_clear_same}
+use Rattle.text_model.proofs.Common.{bit_at_clear_other, shr_and_one, nat_cmp_total, unsigned_tied, bit_at, bit_not}
+use Rattle.text_model.proofs.Common.{nat_cmp, contains_inserted, contains-slots_below, words_of-slots_of, differing}
+use Rattle.text_model.proofs.Common.{WORDS, AreWords, has_bit, slot_count, slots_below, slots_of, words_of}
 use Rattle.std.specs.FinSet as set
 
 not_one : (x : ℕ) (b : Bool) → x ≡ 0 → (b && (x == 1)) ≡ false

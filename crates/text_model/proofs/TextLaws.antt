@@ -1,7 +1,7 @@
 -- A text with one character more, and that characters are Unicode scalar values.
-use Rattle.text_model.proofs.Words.{◌≡◌, ℕ, Bool, true, false, ◌&&◌, List, [], ◌∷◌, ◌++◌, refl, sym, ap, subst, ◌∙◌}
-use Rattle.text_model.proofs.Words.{chars, IsUtf8, encode_utf8, IsScalar, All, All-cons, All-nil, append-nil}
-use Rattle.text_model.proofs.Words.{chars-append, chars_past_char, chars-encodes, chars-nil, IsUtf8-encode}
+use Rattle.text_model.proofs.Common.{◌≡◌, ℕ, Bool, true, false, ◌&&◌, List, [], ◌∷◌, ◌++◌, refl, sym, ap, subst, ◌∙◌}
+use Rattle.text_model.proofs.Common.{chars, IsUtf8, encode_utf8, IsScalar, All, All-cons, All-nil, append-nil}
+use Rattle.text_model.proofs.Common.{chars-append, chars_past_char, chars-encodes, chars-nil, IsUtf8-encode}
 use Rattle.std.specs.Str.{all_scalars}
 
 pub chars-push : (bytes : List ℕ) (c : ℕ) → IsUtf8 bytes → IsScalar c →

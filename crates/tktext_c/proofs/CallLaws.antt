@@ -1,7 +1,8 @@
 -- What a handle's session does, seen from the handle; and a command of a script that is carried out.
-use Rattle.tktext_c.proofs.Words.{◌≡◌, ℕ, List, Option, Some, refl, sym, subst, ap, ◌∙◌, Unread, TakesCommand, Session}
-use Rattle.tktext_c.proofs.Words.{Given, TurnEnd, CallEnd, Gives, Called, Calls, Fed, Feeds, Turns, Takes, status_after}
-use Rattle.tktext_c.proofs.Words.{State, state_of, CalledTold, CallsTold, TurnsTold, TakesTold, option_map}
+use Rattle.tktext_c.proofs.Common.{◌≡◌, ℕ, List, Option, Some, refl, sym, subst, ap, ◌∙◌, Unread, TakesCommand, Session}
+use Rattle.tktext_c.proofs.Common.{Given, TurnEnd, CallEnd, Gives, Called, Calls, Fed, Feeds, Turns, Takes}
+use Rattle.tktext_c.proofs.Common.{status_after, State, state_of, CalledTold, CallsTold, TurnsTold, TakesTold}
+use Rattle.tktext_c.proofs.Common.{option_map}
 use Rattle.tktext_c.specs.declared.ends.FeedEnd.{FeedEnd}
 use Rattle.tktext_c.specs.declared.ends.Given.TheVariants as given
 use Rattle.tktext_c.specs.declared.ends.TurnEnd.TheVariants as turn

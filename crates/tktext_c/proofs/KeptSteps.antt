@@ -1,6 +1,6 @@
 -- The machine values of a `Kept`. Assumes `Logic`.
-use Rattle.tktext_c.proofs.Words.{◌≡◌, ℕ, Option, Some, None, List, [], ◌∷◌, ◌++◌, refl, sym, subst, true≢false, IsSome}
-use Rattle.tktext_c.proofs.Words.{box_owns, Session}
+use Rattle.tktext_c.proofs.Common.{◌≡◌, ℕ, Option, Some, None, List, [], ◌∷◌, ◌++◌, refl, sym, subst, true≢false}
+use Rattle.tktext_c.proofs.Common.{IsSome, box_owns, Session}
 use seplogic.Ra.Ura.{Ura}
 use mir.Raw.{raw as bare}
 use mir.Val.{Val, vstruct, vcons, vnil, of_list}

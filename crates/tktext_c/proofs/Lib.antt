@@ -1,8 +1,8 @@
 mod CallLaws
+pub mod Common
 mod KeptSteps
 mod ReadLaws
 mod RoomLaws
 mod ToldLaws
 mod Values
 mod WordLaws
-pub mod Words

@@ -1,7 +1,7 @@
 -- What C reads of words, of changes and of names.
-use Rattle.tktext_c.proofs.Words.{◌≡◌, ℕ, ◌<◌, ◌≤◌, List, [], length, get_or, refl, sym, ap, subst, ◌∙◌}
-use Rattle.tktext_c.proofs.Words.{encode_utf8_all, option_map, slice_get, encodes-chars, texts_of, bytes_of, mark_told}
-use Rattle.tktext_c.proofs.Words.{word_given, Option, Some, None, chars, IsUtf8, String, string_bytes}
+use Rattle.tktext_c.proofs.Common.{◌≡◌, ℕ, ◌<◌, ◌≤◌, List, [], length, get_or, refl, sym, ap, subst, ◌∙◌}
+use Rattle.tktext_c.proofs.Common.{encode_utf8_all, option_map, slice_get, encodes-chars, texts_of, bytes_of, mark_told}
+use Rattle.tktext_c.proofs.Common.{word_given, Option, Some, None, chars, IsUtf8, String, string_bytes}
 use Rattle.std.proofs.lemmas.Option.{slice_get-map, slice_get_past, slice_get_read}
 
 -- the element at a place of a list, which is another one's

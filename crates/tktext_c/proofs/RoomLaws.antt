@@ -1,6 +1,6 @@
 -- Texts that are copied one behind the other.
-use Rattle.tktext_c.proofs.Words.{◌≡◌, ℕ, suc, zero, ◌+◌, ◌≤◌, min, arith, List, [], ◌∷◌, ◌++◌, length, take, drop}
-use Rattle.tktext_c.proofs.Words.{refl, sym, ap, subst, ◌∙◌, append_assoc, length-append, over, Copied}
+use Rattle.tktext_c.proofs.Common.{◌≡◌, ℕ, suc, zero, ◌+◌, ◌≤◌, min, arith, List, [], ◌∷◌, ◌++◌, length, take, drop}
+use Rattle.tktext_c.proofs.Common.{refl, sym, ap, subst, ◌∙◌, append_assoc, length-append, over, Copied}
 
 pub over-none : (room : List ℕ) → room ≡ over [] room
 over-none [] = refl

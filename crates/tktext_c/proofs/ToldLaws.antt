@@ -1,9 +1,9 @@
 -- What a command makes of a session, where it tells and where it doesn't.
-use Rattle.tktext_c.proofs.Words.{◌≡◌, ◌≢◌, Bool, true, false, ◌⊎◌, inl, inr, List, ℕ, refl, sym, subst, ap, true≢false}
-use Rattle.tktext_c.proofs.Words.{Ok, Result, is_ok, is_err, encode_utf8_all, if◌then◌else◌, Unread, TakesCommand}
-use Rattle.tktext_c.proofs.Words.{StopsAt, HasNoCommand, Given, TurnEnd, CallEnd, Gives, Called, Turns, given_of}
-use Rattle.tktext_c.proofs.Words.{status_after, State, Telling, memory_said, said_text, untold, GivesTold, CalledTold}
-use Rattle.tktext_c.proofs.Words.{IsTold, TurnsTold, cut, words_at, AreLengths, AreTexts, [], None, Err}
+use Rattle.tktext_c.proofs.Common.{◌≡◌, ◌≢◌, Bool, true, false, ◌⊎◌, inl, inr, List, ℕ, refl, sym, subst, ap}
+use Rattle.tktext_c.proofs.Common.{true≢false, Ok, Result, is_ok, is_err, encode_utf8_all, if◌then◌else◌, Unread}
+use Rattle.tktext_c.proofs.Common.{TakesCommand, StopsAt, HasNoCommand, Given, TurnEnd, CallEnd, Gives, Called, Turns}
+use Rattle.tktext_c.proofs.Common.{given_of, status_after, State, Telling, memory_said, said_text, untold, GivesTold}
+use Rattle.tktext_c.proofs.Common.{CalledTold, IsTold, TurnsTold, cut, words_at, AreLengths, AreTexts, [], None, Err}
 use Rattle.tcl_words.specs.declared.fault.ScriptFault.{ScriptFault}
 use Rattle.command_effects.specs.declared.answers.Answer.{Answer}
 use Rattle.command_effects.specs.declared.answers.Fault.{Fault}

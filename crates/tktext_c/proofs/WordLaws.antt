@@ -1,7 +1,7 @@
 -- Words that are read one after another.
-use Rattle.tktext_c.proofs.Words.{◌≡◌, ℕ, ◌+◌, ◌≤◌, arith, List, [], ◌∷◌, ◌++◌, length, take, drop, sym, ap, ◌∙◌}
-use Rattle.tktext_c.proofs.Words.{append_assoc, chars, IsUtf8, String, string_bytes, length-drop, map-append, texts_of}
-use Rattle.tktext_c.proofs.Words.{cut, total, words_at, AreTexts}
+use Rattle.tktext_c.proofs.Common.{◌≡◌, ℕ, ◌+◌, ◌≤◌, arith, List, [], ◌∷◌, ◌++◌, length, take, drop, sym, ap, ◌∙◌}
+use Rattle.tktext_c.proofs.Common.{append_assoc, chars, IsUtf8, String, string_bytes, length-drop, map-append, texts_of}
+use Rattle.tktext_c.proofs.Common.{cut, total, words_at, AreTexts}
 
 -- Of bytes and lengths these are left, and these words were made.
 pub record Reading (lengths bytes left rest : List ℕ) (made : List (List ℕ)) : Type 0 where

@@ -1,6 +1,6 @@
 -- What goes and what comes in its place, where the toggles of both are the same or those of the one are in the other.
-use Rattle.toggle_sums.proofs.Words.{◌≡◌, Bool, true, false, ◌||◌, refl, sym, ap, ◌∙◌, nat_cmp_total, Slots, differing}
-use Rattle.toggle_sums.proofs.Words.{differing-associative, differing-empty, differing-self, same_slots, union-empty}
+use Rattle.toggle_sums.proofs.Common.{◌≡◌, Bool, true, false, ◌||◌, refl, sym, ap, ◌∙◌, nat_cmp_total, Slots, differing}
+use Rattle.toggle_sums.proofs.Common.{differing-associative, differing-empty, differing-self, same_slots, union-empty}
 use Rattle.toggle_sums.specs.Counts.{ArePart, AreSame, Count, IsWithin, counting, less, plus, without}
 use Rattle.std.specs.FinSet as set
 

@@ -1,5 +1,5 @@
+pub mod Common
 pub mod ExchangeLaws
 pub mod ToggleLaws
 pub mod UsedLaws
 pub mod WordSteps
-pub mod Words

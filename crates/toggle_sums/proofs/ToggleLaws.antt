@@ -1,8 +1,8 @@
 -- What lists of toggles add up to.
-use Rattle.toggle_sums.proofs.Words.{◌≡◌, ℕ, zero, suc, ◌+◌, ◌%◌, ◌<◌, Bool, true, false, cond, ◌==◌, List, [], ◌∷◌}
-use Rattle.toggle_sums.proofs.Words.{◌++◌, length, take, sym, ap, ◌∙◌, arith, add-one, nat_tests, nat_cmp, Slots}
-use Rattle.toggle_sums.proofs.Words.{differing, contains-differing, differing-associative, differing-empty, either}
-use Rattle.toggle_sums.proofs.Words.{empty-differing, empty-union, union-associative}
+use Rattle.toggle_sums.proofs.Common.{◌≡◌, ℕ, zero, suc, ◌+◌, ◌%◌, ◌<◌, Bool, true, false, cond, ◌==◌, List, [], ◌∷◌}
+use Rattle.toggle_sums.proofs.Common.{◌++◌, length, take, sym, ap, ◌∙◌, arith, add-one, nat_tests, nat_cmp, Slots}
+use Rattle.toggle_sums.proofs.Common.{differing, contains-differing, differing-associative, differing-empty, either}
+use Rattle.toggle_sums.proofs.Common.{empty-differing, empty-union, union-associative}
 use Rattle.std.proofs.lemmas.List.Sums.{sum_by-cons}
 use Rattle.std.specs.Prelude.{slice_get, Some}
 use Rattle.toggle_sums.specs.Toggles.{parity, presence, tags_from, toggle_count}

@@ -1,8 +1,8 @@
 -- How many words of two lists are used, and that no bit is set behind them.
-use Rattle.toggle_sums.proofs.Words.{◌≡◌, ◌≢◌, ℕ, zero, suc, ◌+◌, ◌<◌, ◌-◌, ◌≤◌, max, true, false, ◌&&◌, ◌==◌}
-use Rattle.toggle_sums.proofs.Words.{if◌then◌else◌, bit_and, bit_or, List, length, replicate, slice_index, slice_set}
-use Rattle.toggle_sums.proofs.Words.{refl, sym, ap, ap₂, ◌∙◌, arith, inl, inr, get_or-set_same, get_or-set_other}
-use Rattle.toggle_sums.proofs.Words.{cases_eq, cases_lt, nat_tests, get_or_past, and_or_self, EndBy, AreUsed, slots_of}
+use Rattle.toggle_sums.proofs.Common.{◌≡◌, ◌≢◌, ℕ, zero, suc, ◌+◌, ◌<◌, ◌-◌, ◌≤◌, max, true, false, ◌&&◌, ◌==◌}
+use Rattle.toggle_sums.proofs.Common.{if◌then◌else◌, bit_and, bit_or, List, length, replicate, slice_index, slice_set}
+use Rattle.toggle_sums.proofs.Common.{refl, sym, ap, ap₂, ◌∙◌, arith, inl, inr, get_or-set_same, get_or-set_other}
+use Rattle.toggle_sums.proofs.Common.{cases_eq, cases_lt, nat_tests, get_or_past, and_or_self, EndBy, AreUsed, slots_of}
 use Rattle.toggle_sums.specs.SlotWords.{last_used}
 use Rattle.toggle_sums.proofs.WordSteps.{AreWords-zeros, same_words, slots_of-none, zeros_at, zeros_of-slots_of}
 use Rattle.std.specs.FinSet as set

@@ -1,12 +1,12 @@
 -- What the operations do to words, and so to the slots: zeros, one bit, and two lists of words bit by bit.
-use Rattle.toggle_sums.proofs.Words.{◌≡◌, ◌≢◌, ℕ, zero, suc, ◌+◌, ◌*◌, ◌/◌, ◌%◌, ◌^◌, ◌<◌, ◌≤◌, max, Bool, true, false}
-use Rattle.toggle_sums.proofs.Words.{◌&&◌, ◌||◌, not, cond, nat_lt, nat_eq, ◌==◌, List, length, replicate, slice_index}
-use Rattle.toggle_sums.proofs.Words.{slice_set, bit_and, bit_or, bit_xor, refl, sym, ap, ap₂, ◌∙◌, arith, w64, inl, inr}
-use Rattle.toggle_sums.proofs.Words.{lt-ltb, mod-eq_of_lt, length-set, get_or-set_same, get_or-set_other, cases_eq}
-use Rattle.toggle_sums.proofs.Words.{cases_lt, nat_tests, length-replicate, or_lt, xor_lt, nat_cmp_total, nat_cmp}
-use Rattle.toggle_sums.proofs.Words.{or_zero_r, alone, slots_in, alone-other, alone-same, differing, EndBy, has_bit}
-use Rattle.toggle_sums.proofs.Words.{WORDS, contains-differing, either, same_slots, AreWords, slots_of, words_of}
-use Rattle.toggle_sums.proofs.Words.{words_of-slots_of}
+use Rattle.toggle_sums.proofs.Common.{◌≡◌, ◌≢◌, ℕ, zero, suc, ◌+◌, ◌*◌, ◌/◌, ◌%◌, ◌^◌, ◌<◌, ◌≤◌, max, Bool, true, false}
+use Rattle.toggle_sums.proofs.Common.{◌&&◌, ◌||◌, not, cond, nat_lt, nat_eq, ◌==◌, List, length, replicate, slice_index}
+use Rattle.toggle_sums.proofs.Common.{slice_set, bit_and, bit_or, bit_xor, refl, sym, ap, ap₂, ◌∙◌, arith, w64, inl}
+use Rattle.toggle_sums.proofs.Common.{inr, lt-ltb, mod-eq_of_lt, length-set, get_or-set_same, get_or-set_other}
+use Rattle.toggle_sums.proofs.Common.{cases_eq, cases_lt, nat_tests, length-replicate, or_lt, xor_lt, nat_cmp_total}
+use Rattle.toggle_sums.proofs.Common.{nat_cmp, or_zero_r, alone, slots_in, alone-other, alone-same, differing, EndBy}
+use Rattle.toggle_sums.proofs.Common.{has_bit, WORDS, contains-differing, either, same_slots, AreWords, slots_of}
+use Rattle.toggle_sums.proofs.Common.{words_of, words_of-slots_of}
 use Rattle.std.proofs.lemmas.Nat.Bits.{bit_at-lt, bit_at-zero, bit_at_or, bit_at_xor, bit_at_set_same, bit_at_set_other}
 use Rattle.std.proofs.lemmas.Nat.Bits.{bit_at-pow_same, bit_at-pow_other, shr_and_one}
 use Rattle.std.proofs.Math.Pow.{pow-lt}

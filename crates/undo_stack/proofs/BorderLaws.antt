@@ -1,9 +1,9 @@
 -- The groups at the border between those that are done and those that are undone.
-use Rattle.undo_stack.proofs.Words.{◌≡◌, ℕ, zero, suc, ◌+◌, ◌-◌, ◌<◌, ◌≤◌, Bool, false, List, [], ◌∷◌, ◌++◌, length}
-use Rattle.undo_stack.proofs.Words.{take, drop, get_or, Option, Some, None, refl, sym, ap, ap₂, ◌∙◌, arith, length-drop}
-use Rattle.undo_stack.proofs.Words.{length-take, sum, slice_get, min, drop-drop, take_more, drop_more, take-append-drop}
-use Rattle.undo_stack.proofs.Words.{get_or-take, get_or_read, Action, EditKind, next_undo, next_redo, after_undo}
-use Rattle.undo_stack.proofs.Words.{grouped, history_of, AreGroups}
+use Rattle.undo_stack.proofs.Common.{◌≡◌, ℕ, zero, suc, ◌+◌, ◌-◌, ◌<◌, ◌≤◌, Bool, false, List, [], ◌∷◌, ◌++◌, length}
+use Rattle.undo_stack.proofs.Common.{take, drop, get_or, Option, Some, None, refl, sym, ap, ap₂, ◌∙◌, arith}
+use Rattle.undo_stack.proofs.Common.{length-drop, length-take, sum, slice_get, min, drop-drop, take_more, drop_more}
+use Rattle.undo_stack.proofs.Common.{take-append-drop, get_or-take, get_or_read, Action, EditKind, next_undo, next_redo}
+use Rattle.undo_stack.proofs.Common.{after_undo, grouped, history_of, AreGroups}
 use Rattle.undo_stack.proofs.GroupLaws.{sum-append, sum-one, take-grouped, grouped-append, slice_get-grouped}
 use Rattle.undo_stack.proofs.RingLaws.{count-groups, part-within}
 

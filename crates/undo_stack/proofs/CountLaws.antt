@@ -1,5 +1,5 @@
 -- One count of so many.
-use Rattle.undo_stack.proofs.Words.{◌≡◌, ℕ, suc, ◌-◌, ◌+◌, ◌<◌, ap, arith, Modified, times}
+use Rattle.undo_stack.proofs.Common.{◌≡◌, ℕ, suc, ◌-◌, ◌+◌, ◌<◌, ap, arith, Modified, times}
 
 pub times-left : (n i : ℕ) (count : Modified → Modified) (modified : Modified) → i < n →
     times (n - i) count modified ≡ times (n - (i + 1)) count (count modified)

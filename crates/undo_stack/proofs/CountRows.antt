@@ -1,5 +1,5 @@
 -- The counts that were worked out by hand: at both ends of their type, and below 0.
-use Rattle.undo_stack.proofs.Words.{◌≡◌, true, false, refl, pos, negsuc, counted_up, counted_down, counted_new, times}
+use Rattle.undo_stack.proofs.Common.{◌≡◌, true, false, refl, pos, negsuc, counted_up, counted_down, counted_new, times}
 
 at-the-greatest : times 1 counted_up (record { count = pos 9223372036854775807; fixed = false })
     ≡ record { count = pos 9223372036854775807; fixed = true }

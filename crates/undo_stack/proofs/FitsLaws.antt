@@ -1,12 +1,12 @@
 -- What fits a text is reverted and repeated to and fro, and goes on fitting as the history changes.
-use Rattle.undo_stack.proofs.Words.{◌≡◌, ℕ, zero, suc, ◌+◌, ◌-◌, ◌<◌, ◌≤◌, Bool, true, false, ◌&&◌, List, [], ◌∷◌, ◌++◌}
-use Rattle.undo_stack.proofs.Words.{length, take, drop, Option, Some, None, refl, sym, ap, ap₂, ◌∙◌, arith, le-leb}
-use Rattle.undo_stack.proofs.Words.{lt-ltb, length-take, length-append, append_assoc, slice_range, slice_get, bytes_eq}
-use Rattle.undo_stack.proofs.Words.{not, nat_lt, nat_le, ◌==◌, option_and_then, IsSome, if◌then◌else◌}
-use Rattle.undo_stack.proofs.Words.{option_and_then_some, take-append-drop, Action, EditKind, History, no_history}
-use Rattle.undo_stack.proofs.Words.{changes_kind, joined, onto_last, newest, noted, separated, next_undo, next_redo}
-use Rattle.undo_stack.proofs.Words.{after_undo, after_redo, limited, put_in, take_out, repeated, reverted}
-use Rattle.undo_stack.proofs.Words.{repeated_group, reverted_group, repeated_groups, reverted_groups, FitsText}
+use Rattle.undo_stack.proofs.Common.{◌≡◌, ℕ, zero, suc, ◌+◌, ◌-◌, ◌<◌, ◌≤◌, Bool, true, false, ◌&&◌, List, [], ◌∷◌}
+use Rattle.undo_stack.proofs.Common.{◌++◌, length, take, drop, Option, Some, None, refl, sym, ap, ap₂, ◌∙◌, arith}
+use Rattle.undo_stack.proofs.Common.{le-leb, lt-ltb, length-take, length-append, append_assoc, slice_range, slice_get}
+use Rattle.undo_stack.proofs.Common.{bytes_eq, not, nat_lt, nat_le, ◌==◌, option_and_then, IsSome, if◌then◌else◌}
+use Rattle.undo_stack.proofs.Common.{option_and_then_some, take-append-drop, Action, EditKind, History, no_history}
+use Rattle.undo_stack.proofs.Common.{changes_kind, joined, onto_last, newest, noted, separated, next_undo, next_redo}
+use Rattle.undo_stack.proofs.Common.{after_undo, after_redo, limited, put_in, take_out, repeated, reverted}
+use Rattle.undo_stack.proofs.Common.{repeated_group, reverted_group, repeated_groups, reverted_groups, FitsText}
 use Rattle.std.specs.List.{AllByRecursion}
 use Rattle.std.proofs.lemmas.Bool.{false≢true, leb-true, ltb-true}
 use Rattle.std.proofs.lemmas.Slice.Eq.{bytes_eq-Decides}

@@ -1,8 +1,8 @@
 -- What a row in groups is, as the row or the lengths change at an end, or the border between two groups moves.
-use Rattle.undo_stack.proofs.Words.{◌≡◌, take_all, ℕ, zero, suc, ◌+◌, ◌<◌, ◌≤◌, List, [], ◌∷◌, ◌++◌, length, take, drop}
-use Rattle.undo_stack.proofs.Words.{get_or, Some, refl, sym, ap, ap₂, ◌∙◌, arith, length-append, length-drop}
-use Rattle.undo_stack.proofs.Words.{length-take, sum, slice_get, drop-drop, take-append-le, drop-append-le}
-use Rattle.undo_stack.proofs.Words.{take-append-drop, drop_of_length-le, Action, onto_last, grouped}
+use Rattle.undo_stack.proofs.Common.{◌≡◌, take_all, ℕ, zero, suc, ◌+◌, ◌<◌, ◌≤◌, List, [], ◌∷◌, ◌++◌, length, take}
+use Rattle.undo_stack.proofs.Common.{drop, get_or, Some, refl, sym, ap, ap₂, ◌∙◌, arith, length-append, length-drop}
+use Rattle.undo_stack.proofs.Common.{length-take, sum, slice_get, drop-drop, take-append-le, drop-append-le}
+use Rattle.undo_stack.proofs.Common.{take-append-drop, drop_of_length-le, Action, onto_last, grouped}
 use Rattle.std.proofs.lemmas.List.Sums.{sum_by-cons, sum_by-append}
 
 pub sum-cons : (n : ℕ) (ns : List ℕ) → sum (n ∷ ns) ≡ n + sum ns

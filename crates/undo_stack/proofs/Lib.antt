@@ -1,8 +1,8 @@
 pub mod BorderLaws
+pub mod Common
 pub mod CountLaws
 pub mod CountRows
 pub mod FitsLaws
 pub mod GroupLaws
 pub mod OriginLaws
 pub mod RingLaws
-pub mod Words

@@ -1,9 +1,9 @@
 -- What a history is, as its rows change.
-use Rattle.undo_stack.proofs.Words.{◌≡◌, take_all, ℕ, suc, ◌+◌, ◌-◌, ◌<◌, ◌≤◌, Bool, true, false, List, [], ◌∷◌, ◌++◌}
-use Rattle.undo_stack.proofs.Words.{length, take, drop, get_or, Option, Some, sym, ap, ap₂, ◌∙◌, ne_eqb, arith}
-use Rattle.undo_stack.proofs.Words.{length-append, length-drop, length-take, sum, slice_index_or, unwrap_or}
-use Rattle.undo_stack.proofs.Words.{option_to_list, if◌then◌else◌, drop-drop, take-append-drop, drop_of_length-le}
-use Rattle.undo_stack.proofs.Words.{Action, EditKind, joined, newest, grouped, history_of, AreGroups}
+use Rattle.undo_stack.proofs.Common.{◌≡◌, take_all, ℕ, suc, ◌+◌, ◌-◌, ◌<◌, ◌≤◌, Bool, true, false, List, [], ◌∷◌, ◌++◌}
+use Rattle.undo_stack.proofs.Common.{length, take, drop, get_or, Option, Some, sym, ap, ap₂, ◌∙◌, ne_eqb, arith}
+use Rattle.undo_stack.proofs.Common.{length-append, length-drop, length-take, sum, slice_index_or, unwrap_or}
+use Rattle.undo_stack.proofs.Common.{option_to_list, if◌then◌else◌, drop-drop, take-append-drop, drop_of_length-le}
+use Rattle.undo_stack.proofs.Common.{Action, EditKind, joined, newest, grouped, history_of, AreGroups}
 use Rattle.undo_stack.proofs.GroupLaws.{sum-cons, sum-append, sum-one, length-grouped, grouped-take, grouped-new}
 use Rattle.undo_stack.proofs.GroupLaws.{grouped-join}
 

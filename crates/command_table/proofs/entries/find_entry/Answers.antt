@@ -1,4 +1,4 @@
-use Rattle.command_table.proofs.Words.{subst, IfSome, IsPlaceOf, texts_of}
+use Rattle.command_table.proofs.Common.{subst, IfSome, IsPlaceOf, texts_of}
 use Rattle.command_table.proofs.PlaceLaws.{entry_at, entry-short}
 use Rattle.command_table.proofs.entries.find_entry.Goals as goal
 

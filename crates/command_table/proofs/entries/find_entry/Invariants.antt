@@ -1,4 +1,4 @@
-use Rattle.command_table.proofs.Words.{◌≡◌, drop, map, find, texts_of, begins, table, entry_rule}
+use Rattle.command_table.proofs.Common.{◌≡◌, drop, map, find, texts_of, begins, table, entry_rule}
 use Rattle.command_table.proofs.entries.find_entry.Given as goal
 
 abbrev pub invariant-loop-entry : goal.invariant-loop-entry

@@ -1,4 +1,4 @@
-use Rattle.command_table.proofs.Words.{◌≡◌, drop, map, list_any, texts_of, begins, table, entry_rule}
+use Rattle.command_table.proofs.Common.{◌≡◌, drop, map, list_any, texts_of, begins, table, entry_rule}
 use Rattle.command_table.proofs.entries.goes_on.Given as goal
 
 abbrev pub invariant-loop-entry : goal.invariant-loop-entry

@@ -1,4 +1,4 @@
-use Rattle.command_table.proofs.Words.{[], ◌∷◌, refl, ap, arith, literal}
+use Rattle.command_table.proofs.Common.{[], ◌∷◌, refl, ap, arith, literal}
 use Rattle.std.specs.Str.{chars}
 use Rattle.command_table.proofs.PlaceLaws.{by_name}
 use Rattle.command_table.proofs.entries.place_in_edit.Goals as goal

@@ -1,4 +1,4 @@
-use Rattle.command_table.proofs.Words.{ap}
+use Rattle.command_table.proofs.Common.{ap}
 use Rattle.std.specs.Str.{chars}
 use Rattle.command_table.proofs.PlaceLaws.{by_family}
 use Rattle.command_table.proofs.entries.place_in_family.Goals as goal

@@ -1,4 +1,4 @@
-use Rattle.command_table.proofs.Words.{arith}
+use Rattle.command_table.proofs.Common.{arith}
 use Rattle.command_table.proofs.PlaceLaws.{by_first, by_second}
 use Rattle.command_table.proofs.entries.place_of.Goals as goal
 

@@ -1,4 +1,4 @@
-use Rattle.command_table.proofs.Words.{[], refl, ap, arith}
+use Rattle.command_table.proofs.Common.{[], refl, ap, arith}
 use Rattle.std.specs.Str.{chars}
 use Rattle.command_table.proofs.PlaceLaws.{by_name}
 use Rattle.command_table.proofs.entries.place_optioned.Goals as goal

@@ -1,4 +1,4 @@
-use Rattle.command_table.proofs.Words.{ap, ◌∙◌, integer_of}
+use Rattle.command_table.proofs.Common.{ap, ◌∙◌, integer_of}
 use Rattle.std.specs.Option.{ok_or}
 use Rattle.command_table.specs.declared.numbers.ValueFault.TheVariants.{ExpectedInteger}
 use Rattle.command_table.proofs.NumberLaws.{integer_of-chars}

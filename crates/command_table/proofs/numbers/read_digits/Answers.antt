@@ -1,4 +1,4 @@
-use Rattle.command_table.proofs.Words.{arith, nat_tests}
+use Rattle.command_table.proofs.Common.{arith, nat_tests}
 use Rattle.command_table.proofs.NumberLaws.{number_of-digits, ten_to_smaller}
 use Rattle.command_table.proofs.numbers.read_digits.Goals as goal
 

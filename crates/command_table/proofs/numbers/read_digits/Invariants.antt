@@ -1,4 +1,4 @@
-use Rattle.command_table.proofs.Words.{◌≡◌, ◌<◌, ◌^◌, take, true, fold, list_all, is_ascii_digit, add_digit}
+use Rattle.command_table.proofs.Common.{◌≡◌, ◌<◌, ◌^◌, take, true, fold, list_all, is_ascii_digit, add_digit}
 use Rattle.command_table.proofs.numbers.read_digits.Given as goal
 
 abbrev pub invariant-loop-digit : goal.invariant-loop-digit

@@ -1,4 +1,4 @@
-use Rattle.command_table.proofs.Words.{sym, ◌∙◌, arith, length-map, chars, string_bytes, texts_of}
+use Rattle.command_table.proofs.Common.{sym, ◌∙◌, arith, length-map, chars, string_bytes, texts_of}
 use Rattle.command_table.proofs.EntryLaws.{unknown-short}
 use Rattle.command_table.proofs.readings.unknown.Goals as goal
 

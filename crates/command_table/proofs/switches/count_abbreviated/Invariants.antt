@@ -1,4 +1,4 @@
-use Rattle.command_table.proofs.Words.{◌≡◌, ◌≤◌, ◌+◌, length, filter, drop, starts_with, lent, is_character, chars}
+use Rattle.command_table.proofs.Common.{◌≡◌, ◌≤◌, ◌+◌, length, filter, drop, starts_with, lent, is_character, chars}
 use Rattle.command_table.proofs.switches.count_abbreviated.Given as goal
 
 abbrev pub invariant-loop-name : goal.invariant-loop-name

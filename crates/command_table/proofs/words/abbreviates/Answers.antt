@@ -1,4 +1,4 @@
-use Rattle.command_table.proofs.Words.{◌∙◌, ap₂, nat_eq, starts_with}
+use Rattle.command_table.proofs.Common.{◌∙◌, ap₂, nat_eq, starts_with}
 use Rattle.command_table.proofs.WordLaws.{starts_with-chars}
 use Rattle.command_table.proofs.words.abbreviates.Goals as goal
 

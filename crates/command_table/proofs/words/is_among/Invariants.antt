@@ -1,4 +1,4 @@
-use Rattle.command_table.proofs.Words.{◌≡◌, drop, lent, is_among, chars}
+use Rattle.command_table.proofs.Common.{◌≡◌, drop, lent, is_among, chars}
 use Rattle.command_table.proofs.words.is_among.Given as goal
 
 abbrev pub invariant-loop-name : goal.invariant-loop-name

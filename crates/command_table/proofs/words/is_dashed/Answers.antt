@@ -1,4 +1,4 @@
-use Rattle.command_table.proofs.Words.{sym, ap, ◌∙◌, is_dashed}
+use Rattle.command_table.proofs.Common.{sym, ap, ◌∙◌, is_dashed}
 use Rattle.command_table.proofs.WordLaws.{is_dashed-chars, is_dashed-none, is_dashed-some}
 use Rattle.command_table.proofs.words.is_dashed.Goals as goal
 

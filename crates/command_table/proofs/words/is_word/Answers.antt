@@ -1,4 +1,4 @@
-use Rattle.command_table.proofs.Words.{◌∙◌}
+use Rattle.command_table.proofs.Common.{◌∙◌}
 use Rattle.command_table.proofs.WordLaws.{bytes_eq-chars}
 use Rattle.command_table.proofs.words.is_word.Goals as goal
 

@@ -1,4 +1,4 @@
-use Rattle.index_grammar.proofs.Words.{ap, ◌∙◌, min}
+use Rattle.index_grammar.proofs.Common.{ap, ◌∙◌, min}
 use Rattle.index_grammar.proofs.BoundLaws.{marks-bound}
 use Rattle.index_grammar.proofs.fronts.behind_marks.Goals as goal
 

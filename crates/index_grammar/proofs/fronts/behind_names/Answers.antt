@@ -1,4 +1,4 @@
-use Rattle.index_grammar.proofs.Words.{◌++◌, sym, ap, ◌∙◌, arith, names_in}
+use Rattle.index_grammar.proofs.Common.{◌++◌, sym, ap, ◌∙◌, arith, names_in}
 use Rattle.std.proofs.lemmas.Option.{slice_get_within}
 use Rattle.index_grammar.proofs.BoundLaws.{next-behind}
 use Rattle.index_grammar.proofs.fronts.behind_names.Goals as goal

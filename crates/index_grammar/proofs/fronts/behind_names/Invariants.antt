@@ -1,5 +1,5 @@
-use Rattle.index_grammar.proofs.Words.{◌≡◌, ℕ, ◌<◌, ◌≤◌, true, List, ◌++◌, length, slice_get, encode_utf8_all, closes}
-use Rattle.index_grammar.proofs.Words.{names_in, Some}
+use Rattle.index_grammar.proofs.Common.{◌≡◌, ℕ, ◌<◌, ◌≤◌, true, List, ◌++◌, length, slice_get, encode_utf8_all, closes}
+use Rattle.index_grammar.proofs.Common.{names_in, Some}
 use Rattle.index_grammar.proofs.fronts.behind_names.Given as goal
 
 abbrev pub invariant-loop-place : goal.invariant-loop-place

@@ -1,5 +1,5 @@
-use Rattle.index_grammar.proofs.Words.{◌≡◌, Some, take, length, get_or, sym, ap, ◌∙◌, arith, drop, ◌+◌, chars, list_all}
-use Rattle.index_grammar.proofs.Words.{is_break, named, saturated_base}
+use Rattle.index_grammar.proofs.Common.{◌≡◌, Some, take, length, get_or, sym, ap, ◌∙◌, arith, drop, ◌+◌, chars}
+use Rattle.index_grammar.proofs.Common.{list_all, is_break, named, saturated_base}
 use Rattle.index_grammar.proofs.TokenLaws.{inside}
 use Rattle.index_grammar.proofs.FindLaws.{step-front, no-front, this-front, range-front}
 use Rattle.index_grammar.proofs.fronts.find_longest.Goals as goal

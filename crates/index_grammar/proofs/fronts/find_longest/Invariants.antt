@@ -1,4 +1,4 @@
-use Rattle.index_grammar.proofs.Words.{named}
+use Rattle.index_grammar.proofs.Common.{named}
 use Rattle.index_grammar.proofs.FindLaws.{IsLookedAt}
 use Rattle.index_grammar.proofs.fronts.find_longest.Given as goal
 

@@ -1,4 +1,4 @@
-use Rattle.index_grammar.proofs.Words.{None, Some, length, sym, ap, ◌∙◌, ◌-◌, nat_eq, ends_with, known_tags}
+use Rattle.index_grammar.proofs.Common.{None, Some, length, sym, ap, ◌∙◌, ◌-◌, nat_eq, ends_with, known_tags}
 use Rattle.index_grammar.proofs.FindLaws.{range-front}
 use Rattle.index_grammar.proofs.TagLaws.{first_bytes, last_bytes, tagged-first, tagged-last, tagged-none}
 use Rattle.index_grammar.proofs.fronts.find_tag.Goals as goal

@@ -1,4 +1,4 @@
-use Rattle.index_grammar.proofs.Words.{◌≡◌, ◌≤◌, true, length, drop, list_all}
+use Rattle.index_grammar.proofs.Common.{◌≡◌, ◌≤◌, true, length, drop, list_all}
 use Rattle.index_grammar.proofs.TokenLaws.{inside}
 use Rattle.index_grammar.proofs.fronts.last_break.Given as goal
 

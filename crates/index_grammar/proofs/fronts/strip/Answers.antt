@@ -1,4 +1,4 @@
-use Rattle.index_grammar.proofs.Words.{◌++◌, None, Some, ◌∙◌, Decides-eqb, strip_prefix_is, append_assoc}
+use Rattle.index_grammar.proofs.Common.{◌++◌, None, Some, ◌∙◌, Decides-eqb, strip_prefix_is, append_assoc}
 use Rattle.index_grammar.proofs.BoundLaws.{stripped}
 use Rattle.index_grammar.proofs.fronts.strip.Goals as goal
 

@@ -1,4 +1,4 @@
-use Rattle.index_grammar.proofs.Words.{◌≡◌, min, take, true, fold, list_all, is_ascii_digit, add_digit}
+use Rattle.index_grammar.proofs.Common.{◌≡◌, min, take, true, fold, list_all, is_ascii_digit, add_digit}
 use Rattle.index_grammar.proofs.numbers.read_number.Given as goal
 
 abbrev pub invariant-loop-digit : goal.invariant-loop-digit

@@ -1,5 +1,5 @@
-use Rattle.index_grammar.proofs.Words.{sym, ap, ◌∙◌, chars, modifiers_of, tokens_of, known_marks, known_tags, found_of}
-use Rattle.index_grammar.proofs.Words.{saturated}
+use Rattle.index_grammar.proofs.Common.{sym, ap, ◌∙◌, chars, modifiers_of, tokens_of, known_marks, known_tags, found_of}
+use Rattle.index_grammar.proofs.Common.{saturated}
 use Rattle.index_grammar.proofs.LowModifierLaws.{modifiers-chars}
 use Rattle.index_grammar.proofs.WholeLaws.{whole-ok, whole-bad}
 use Rattle.index_grammar.proofs.parsing.parse.Goals as goal

@@ -1,5 +1,5 @@
-use Rattle.index_grammar.proofs.Words.{take, None, Some, sym, ap, ◌∙◌, arith, chars, option_map, prefix_len, place_of}
-use Rattle.index_grammar.proofs.Words.{saturated_base, prefix_len-le-length}
+use Rattle.index_grammar.proofs.Common.{take, None, Some, sym, ap, ◌∙◌, arith, chars, option_map, prefix_len, place_of}
+use Rattle.index_grammar.proofs.Common.{saturated_base, prefix_len-le-length}
 use Rattle.index_grammar.proofs.TokenLaws.{inside}
 use Rattle.index_grammar.proofs.CharLaws.{front-boundary, place-read}
 use Rattle.index_grammar.proofs.places.find_place.Goals as goal

@@ -1,5 +1,5 @@
-use Rattle.index_grammar.proofs.Words.{◌+◌, sym, ap, ◌∙◌, take_rest, in_line, around_dot, saturated_base, is_dot}
-use Rattle.index_grammar.proofs.Words.{position, option_map}
+use Rattle.index_grammar.proofs.Common.{◌+◌, sym, ap, ◌∙◌, take_rest, in_line, around_dot, saturated_base, is_dot}
+use Rattle.index_grammar.proofs.Common.{position, option_map}
 use Rattle.index_grammar.proofs.PlaceLaws.{around_dot-none, around_dot-some}
 use Rattle.index_grammar.proofs.places.read_around_dot.Goals as goal
 

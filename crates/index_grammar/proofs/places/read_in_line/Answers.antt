@@ -1,4 +1,4 @@
-use Rattle.index_grammar.proofs.Words.{Some, None, arith, sym, ◌∙◌}
+use Rattle.index_grammar.proofs.Common.{Some, None, arith, sym, ◌∙◌}
 use Rattle.index_grammar.proofs.PlaceLaws.{in_line-end, in_line-number}
 use Rattle.index_grammar.proofs.places.read_in_line.Goals as goal
 

@@ -1,4 +1,4 @@
-use Rattle.index_grammar.proofs.Words.{None, Some, sym, ap, ◌∙◌, tokens_of, stepped}
+use Rattle.index_grammar.proofs.Common.{None, Some, sym, ap, ◌∙◌, tokens_of, stepped}
 use Rattle.index_grammar.proofs.StepLaws.{no-digits, no-unit, counted-found}
 use Rattle.index_grammar.proofs.steps.read_counted.Goals as goal
 

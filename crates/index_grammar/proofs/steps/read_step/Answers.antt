@@ -1,4 +1,4 @@
-use Rattle.index_grammar.proofs.Words.{◌∷◌, Some, sym, ap, ◌∙◌, tokens_of, modifiers_of, token_of, saturated}
+use Rattle.index_grammar.proofs.Common.{◌∷◌, Some, sym, ap, ◌∙◌, tokens_of, modifiers_of, token_of, saturated}
 use Rattle.index_grammar.proofs.StepLaws.{keyword-found}
 use Rattle.index_grammar.proofs.steps.read_step.Goals as goal
 

@@ -1,4 +1,4 @@
-use Rattle.index_grammar.proofs.Words.{refl, Some, sym, ap, ◌∙◌, arith, tokens_of, modifiers_of, saturated, after}
+use Rattle.index_grammar.proofs.Common.{refl, Some, sym, ap, ◌∙◌, arith, tokens_of, modifiers_of, saturated, after}
 use Rattle.index_grammar.proofs.StepLaws.{after-step, after-none}
 use Rattle.index_grammar.proofs.steps.read_steps.Goals as goal
 

@@ -1,5 +1,5 @@
-use Rattle.index_grammar.proofs.Words.{◌≡◌, ◌≤◌, ◌+◌, ◌*◌, ◌/◌, length, vec_len, vec_capacity, modifiers_of, tokens_of}
-use Rattle.index_grammar.proofs.Words.{saturated, after}
+use Rattle.index_grammar.proofs.Common.{◌≡◌, ◌≤◌, ◌+◌, ◌*◌, ◌/◌, length, vec_len, vec_capacity, modifiers_of, tokens_of}
+use Rattle.index_grammar.proofs.Common.{saturated, after}
 use Rattle.index_grammar.proofs.steps.read_steps.Given as goal
 
 abbrev pub invariant-loop-first : goal.invariant-loop-first

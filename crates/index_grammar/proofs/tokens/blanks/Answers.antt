@@ -1,4 +1,4 @@
-use Rattle.index_grammar.proofs.Words.{not, ◌∙◌, is_blank}
+use Rattle.index_grammar.proofs.Common.{not, ◌∙◌, is_blank}
 use Rattle.index_grammar.proofs.FrontLaws.{front-some, front-none, twice}
 use Rattle.index_grammar.proofs.tokens.blanks.Goals as goal
 

@@ -1,6 +1,6 @@
-use Rattle.index_grammar.proofs.Words.{◌<◌, ◌∷◌, ◌==◌, take, length, sym, ap, ◌∙◌, arith, slice_get, is_ascii_digit}
-use Rattle.index_grammar.proofs.Words.{prefix_len, is_blank, prefix_len-le-length, tokens_of, Sign, Digits, Word}
-use Rattle.index_grammar.proofs.Words.{before_rest}
+use Rattle.index_grammar.proofs.Common.{◌<◌, ◌∷◌, ◌==◌, take, length, sym, ap, ◌∙◌, arith, slice_get, is_ascii_digit}
+use Rattle.index_grammar.proofs.Common.{prefix_len, is_blank, prefix_len-le-length, tokens_of, Sign, Digits, Word}
+use Rattle.index_grammar.proofs.Common.{before_rest}
 use Rattle.index_grammar.proofs.TokenLaws.{tokens-blanks, piece-none, piece-sign, piece-digits, piece-word, not-blank}
 use Rattle.index_grammar.proofs.TokenLaws.{inside, piece-bound, word-inside, behind-bound, taken-bound}
 use Rattle.index_grammar.proofs.tokens.next_piece.Goals as goal

@@ -1,4 +1,4 @@
-use Rattle.index_grammar.proofs.Words.{arith, prefix_len-le-length, is_blank}
+use Rattle.index_grammar.proofs.Common.{arith, prefix_len-le-length, is_blank}
 use Rattle.index_grammar.proofs.tokens.skip_blanks.Goals as goal
 
 pub split_at-requires : goal.split_at-requires

@@ -1,4 +1,4 @@
-use Rattle.index_grammar.proofs.Words.{is_break}
+use Rattle.index_grammar.proofs.Common.{is_break}
 use Rattle.index_grammar.proofs.FrontLaws.{front-some, front-none}
 use Rattle.index_grammar.proofs.tokens.unbroken.Goals as goal
 

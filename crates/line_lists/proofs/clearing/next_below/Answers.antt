@@ -1,5 +1,5 @@
-use Rattle.line_lists.proofs.Words.{◌≡◌, ◌-◌, ◌<◌, true, drop, min, subst, sym, take, ap, ◌∙◌, IfSome, slice_get}
-use Rattle.line_lists.proofs.Words.{LineContent, AreFree, has_toggle}
+use Rattle.line_lists.proofs.Common.{◌≡◌, ◌-◌, ◌<◌, true, drop, min, subst, sym, take, ap, ◌∙◌, IfSome, slice_get}
+use Rattle.line_lists.proofs.Common.{LineContent, AreFree, has_toggle}
 use Rattle.line_lists.proofs.ClearingLaws.{below-free, below-stops}
 use Rattle.line_lists.proofs.clearing.next_below.Goals as goal
 

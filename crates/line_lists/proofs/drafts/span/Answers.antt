@@ -1,4 +1,4 @@
-use Rattle.line_lists.proofs.Words.{length, take, drop, sym, ap, arith, whole}
+use Rattle.line_lists.proofs.Common.{length, take, drop, sym, ap, arith, whole}
 use Rattle.line_lists.proofs.CountRows.{count-lines}
 use Rattle.line_lists.proofs.FindLaws.{begin-more}
 use Rattle.line_lists.proofs.drafts.span.Goals as goal

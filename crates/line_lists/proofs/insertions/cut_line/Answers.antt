@@ -1,4 +1,4 @@
-use Rattle.line_lists.proofs.Words.{◌≡◌, IfNone, chars, subst, sym, lines}
+use Rattle.line_lists.proofs.Common.{◌≡◌, IfNone, chars, subst, sym, lines}
 use Rattle.line_lists.proofs.TextCuts.{first-cut, no-lines}
 use Rattle.line_lists.proofs.insertions.cut_line.Goals as goal
 

@@ -1,4 +1,4 @@
-use Rattle.line_lists.proofs.Words.{◌+◌, ◌-◌, subst, sym, arith}
+use Rattle.line_lists.proofs.Common.{◌+◌, ◌-◌, subst, sym, arith}
 use Rattle.line_lists.proofs.ListLaws.{Remains, column-holds, column-more}
 use Rattle.line_lists.proofs.line_vec.find_column.Goals as goal
 

@@ -1,4 +1,4 @@
-use Rattle.line_lists.proofs.Words.{ap, ◌∙◌, Count, has_marks}
+use Rattle.line_lists.proofs.Common.{ap, ◌∙◌, Count, has_marks}
 use Rattle.line_lists.proofs.ListLaws.{no-marks, passed-all, passed-more, passed-stops, some-marks}
 use Rattle.std.specs.FinMap as finite
 use Rattle.line_lists.proofs.line_vec.first_marked.Goals as goal

@@ -1,4 +1,4 @@
-use Rattle.line_lists.proofs.Words.{sym, ap, ◌∙◌, Count, has_toggle}
+use Rattle.line_lists.proofs.Common.{sym, ap, ◌∙◌, Count, has_toggle}
 use Rattle.line_lists.proofs.ListLaws.{passed-all, passed-more, passed-stops}
 use Rattle.std.specs.FinSet as set
 use Rattle.line_lists.proofs.line_vec.first_with.Goals as goal

@@ -1,4 +1,4 @@
-use Rattle.line_lists.proofs.Words.{has_toggle}
+use Rattle.line_lists.proofs.Common.{has_toggle}
 use Rattle.line_lists.proofs.ListLaws.{Passed}
 use Rattle.line_lists.proofs.line_vec.first_with.Given as goal
 

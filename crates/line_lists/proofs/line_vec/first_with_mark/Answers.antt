@@ -1,4 +1,4 @@
-use Rattle.line_lists.proofs.Words.{sym, ap, ◌∙◌, is_some, has_mark}
+use Rattle.line_lists.proofs.Common.{sym, ap, ◌∙◌, is_some, has_mark}
 use Rattle.line_lists.proofs.ListLaws.{passed-all, passed-more, passed-stops}
 use Rattle.line_lists.proofs.line_vec.first_with_mark.Goals as goal
 

@@ -1,4 +1,4 @@
-use Rattle.line_lists.proofs.Words.{ap, ◌∙◌, arith, Count, has_marks}
+use Rattle.line_lists.proofs.Common.{ap, ◌∙◌, arith, Count, has_marks}
 use Rattle.line_lists.proofs.ListLaws.{left-more, left-none, left-stops, no-marks, some-marks}
 use Rattle.line_lists.proofs.line_vec.free_of_marks.Goals.{then-loop-start-test+else-marks-eq0, else-loop-start-test}
 use Rattle.std.specs.FinMap as finite

@@ -1,4 +1,4 @@
-use Rattle.line_lists.proofs.Words.{◌≤◌, length, has_marks}
+use Rattle.line_lists.proofs.Common.{◌≤◌, length, has_marks}
 use Rattle.line_lists.proofs.ListLaws.{Left}
 use Rattle.line_lists.proofs.line_vec.free_of_marks.Given as goal
 

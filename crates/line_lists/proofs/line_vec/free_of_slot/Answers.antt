@@ -1,4 +1,4 @@
-use Rattle.line_lists.proofs.Words.{sym, ap, ◌∙◌, arith, Count, has_toggle}
+use Rattle.line_lists.proofs.Common.{sym, ap, ◌∙◌, arith, Count, has_toggle}
 use Rattle.line_lists.proofs.ListLaws.{left-more, left-none, left-stops}
 use Rattle.line_lists.proofs.line_vec.free_of_slot.Goals.{then-loop-start-test+else-not-has, else-loop-start-test}
 use Rattle.std.specs.FinSet as set

@@ -1,4 +1,4 @@
-use Rattle.line_lists.proofs.Words.{subst₂, sym, ap₂, ◌∙◌, arith, CountsFit, plus}
+use Rattle.line_lists.proofs.Common.{subst₂, sym, ap₂, ◌∙◌, arith, CountsFit, plus}
 use Rattle.line_lists.proofs.ListLaws.{sum-fits, sum-more}
 use Rattle.line_lists.proofs.line_vec.sum_of.Goals as goal
 

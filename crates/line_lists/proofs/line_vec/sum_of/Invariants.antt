@@ -1,4 +1,4 @@
-use Rattle.line_lists.proofs.Words.{◌≡◌, take, count_of}
+use Rattle.line_lists.proofs.Common.{◌≡◌, take, count_of}
 use Rattle.line_lists.proofs.line_vec.sum_of.Given as goal
 
 abbrev pub invariant-loop-line : goal.invariant-loop-line

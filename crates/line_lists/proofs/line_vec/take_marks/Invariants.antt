@@ -1,4 +1,4 @@
-use Rattle.line_lists.proofs.Words.{◌≡◌, ◌++◌, map, take, drop, without_mark}
+use Rattle.line_lists.proofs.Common.{◌≡◌, ◌++◌, map, take, drop, without_mark}
 use Rattle.line_lists.proofs.line_vec.take_marks.Given as goal
 
 abbrev pub invariant-loop-line : goal.invariant-loop-line

@@ -1,4 +1,4 @@
-use Rattle.line_lists.proofs.Words.{◌-◌, min, sym, ap, ◌∙◌}
+use Rattle.line_lists.proofs.Common.{◌-◌, min, sym, ap, ◌∙◌}
 use Rattle.line_lists.proofs.StandLaws.{stands-one}
 use Rattle.line_lists.proofs.marks.mark_column.Goals as goal
 

@@ -1,4 +1,4 @@
-use Rattle.line_lists.proofs.Words.{◌≡◌, ◌≤◌, length, ap, refl, ◌∙◌, arith, Place, LineContent, with_mark, whole}
+use Rattle.line_lists.proofs.Common.{◌≡◌, ◌≤◌, length, ap, refl, ◌∙◌, arith, Place, LineContent, with_mark, whole}
 use Rattle.line_lists.proofs.LineStarts.{at-within, lent-length}
 use Rattle.line_lists.proofs.MoveLaws.{moves-to}
 use Rattle.line_lists.proofs.PlaceRows.{length-content}

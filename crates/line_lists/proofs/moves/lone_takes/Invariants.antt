@@ -1,4 +1,4 @@
-use Rattle.line_lists.proofs.Words.{◌≡◌, map, take, TakeMark}
+use Rattle.line_lists.proofs.Common.{◌≡◌, map, take, TakeMark}
 use Rattle.line_lists.proofs.moves.lone_takes.Given as goal
 
 abbrev pub invariant-loop-step : goal.invariant-loop-step

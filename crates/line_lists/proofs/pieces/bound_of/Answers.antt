@@ -1,5 +1,5 @@
-use Rattle.line_lists.proofs.Words.{◌<◌, subst, arith, All, take_all, All-append, All-weaker, copies_of, copied_lines}
-use Rattle.line_lists.proofs.Words.{numbers_in, numbers_of}
+use Rattle.line_lists.proofs.Common.{◌<◌, subst, arith, All, take_all, All-append, All-weaker, copies_of, copied_lines}
+use Rattle.line_lists.proofs.Common.{numbers_in, numbers_of}
 use Rattle.line_lists.proofs.GatherLaws.{numbers-stop}
 use Rattle.line_lists.proofs.pieces.bound_of.Goals as goal
 

@@ -1,4 +1,4 @@
-use Rattle.line_lists.proofs.Words.{◌<◌, take, All, copies_of, copied_lines, numbers_in}
+use Rattle.line_lists.proofs.Common.{◌<◌, take, All, copies_of, copied_lines, numbers_in}
 use Rattle.line_lists.proofs.pieces.bound_of.Given as goal
 
 abbrev pub invariant-loop-stop : goal.invariant-loop-stop

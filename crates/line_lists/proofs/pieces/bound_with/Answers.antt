@@ -1,4 +1,4 @@
-use Rattle.line_lists.proofs.Words.{◌≡◌, ◌<◌, ◌≤◌, [], Some, ap, subst, sym, ◌∙◌, arith, All, MarkNo, Place}
+use Rattle.line_lists.proofs.Common.{◌≡◌, ◌<◌, ◌≤◌, [], Some, ap, subst, sym, ◌∙◌, arith, All, MarkNo, Place}
 use Rattle.std.specs.Option.{option_map}
 use Rattle.line_lists.proofs.FreedLaws.{all-numbers, number-there, numbers-more}
 use Rattle.line_lists.proofs.GatherLaws.{bound-more}

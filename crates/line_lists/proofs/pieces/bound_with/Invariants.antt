@@ -1,4 +1,4 @@
-use Rattle.line_lists.proofs.Words.{◌≤◌, ◌<◌, take, All, numbers_of}
+use Rattle.line_lists.proofs.Common.{◌≤◌, ◌<◌, take, All, numbers_of}
 use Rattle.line_lists.proofs.pieces.bound_with.Given as goal
 
 abbrev pub invariant-loop-index : goal.invariant-loop-index

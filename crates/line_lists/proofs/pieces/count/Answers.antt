@@ -1,5 +1,5 @@
-use Rattle.line_lists.proofs.Words.{subst, arith, take_all, plus, line_count, copies_of, IsCounted, count_of}
-use Rattle.line_lists.proofs.Words.{copied_lines}
+use Rattle.line_lists.proofs.Common.{subst, arith, take_all, plus, line_count, copies_of, IsCounted, count_of}
+use Rattle.line_lists.proofs.Common.{copied_lines}
 use Rattle.line_lists.proofs.GatherLaws.{count-stop, counted-none, counted-same, numbers-line, numbers-more}
 use Rattle.line_lists.proofs.GatherLaws.{numbers-none}
 use Rattle.line_lists.proofs.pieces.count.Goals as goal

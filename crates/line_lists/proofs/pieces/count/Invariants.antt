@@ -1,4 +1,4 @@
-use Rattle.line_lists.proofs.Words.{take, plus, copies_of, IsCounted, SameNumbers, count_of, copied_lines}
+use Rattle.line_lists.proofs.Common.{take, plus, copies_of, IsCounted, SameNumbers, count_of, copied_lines}
 use Rattle.line_lists.proofs.pieces.count.Given as goal
 
 abbrev pub invariant-loop-stop : goal.invariant-loop-stop

@@ -1,4 +1,4 @@
-use Rattle.line_lists.proofs.Words.{length, sym, ap, ◌∙◌, arith, take_all, Count, whole}
+use Rattle.line_lists.proofs.Common.{length, sym, ap, ◌∙◌, arith, take_all, Count, whole}
 use Rattle.line_lists.proofs.CountRows.{count-characters, count-lines}
 use Rattle.line_lists.proofs.pieces.counts.Goals as goal
 

@@ -1,4 +1,4 @@
-use Rattle.line_lists.proofs.Words.{◌≡◌, ◌+◌, ◌-◌, ◌^◌, length, take, arith}
+use Rattle.line_lists.proofs.Common.{◌≡◌, ◌+◌, ◌-◌, ◌^◌, length, take, arith}
 use Rattle.line_lists.proofs.GrowthLaws.{lines-next, rows-few, rows-next}
 use Rattle.line_lists.proofs.StepTexts.{sum-there}
 use Rattle.line_lists.proofs.pieces.growth_of.Goals as goal

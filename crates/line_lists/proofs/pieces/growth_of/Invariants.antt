@@ -1,4 +1,4 @@
-use Rattle.line_lists.proofs.Words.{◌≡◌, take, lines_more, rows_more}
+use Rattle.line_lists.proofs.Common.{◌≡◌, take, lines_more, rows_more}
 use Rattle.line_lists.proofs.pieces.growth_of.Given as goal
 
 abbrev pub invariant-loop-piece : goal.invariant-loop-piece

@@ -1,4 +1,4 @@
-use Rattle.line_lists.proofs.Words.{◌++◌, ◌∙◌, numbers_in}
+use Rattle.line_lists.proofs.Common.{◌++◌, ◌∙◌, numbers_in}
 use Rattle.line_lists.proofs.GatherLaws.{numbers-piece}
 use Rattle.line_lists.proofs.pieces.numbers_brought.Goals as goal
 

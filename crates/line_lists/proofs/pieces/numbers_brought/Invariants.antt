@@ -1,4 +1,4 @@
-use Rattle.line_lists.proofs.Words.{◌≡◌, take, named, numbers_in, piece_lines}
+use Rattle.line_lists.proofs.Common.{◌≡◌, take, named, numbers_in, piece_lines}
 use Rattle.line_lists.proofs.pieces.numbers_brought.Given as goal
 
 abbrev pub invariant-loop-piece : goal.invariant-loop-piece

@@ -1,6 +1,6 @@
-use Rattle.line_lists.proofs.Words.{◌≡◌, ◌-◌, ◌<◌, ◌++◌, ◌∷◌, [], length, take, sym, ap, subst, ◌∙◌, arith}
-use Rattle.line_lists.proofs.Words.{append_assoc, vec_len, nat_tests, nil_from_length, plus, copies_of, IsCounted}
-use Rattle.line_lists.proofs.Words.{count_of, copied_lines}
+use Rattle.line_lists.proofs.Common.{◌≡◌, ◌-◌, ◌<◌, ◌++◌, ◌∷◌, [], length, take, sym, ap, subst, ◌∙◌, arith}
+use Rattle.line_lists.proofs.Common.{append_assoc, vec_len, nat_tests, nil_from_length, plus, copies_of, IsCounted}
+use Rattle.line_lists.proofs.Common.{count_of, copied_lines}
 use Rattle.line_lists.proofs.CountRows.{count-lines}
 use Rattle.line_lists.proofs.GatherLaws.{Gathers, Goes, Makes, gather-more, gather-new, gathered-all, goes-of}
 use Rattle.line_lists.proofs.GatherLaws.{last-fits, last-of, last-set, next-fits}

@@ -1,4 +1,4 @@
-use Rattle.line_lists.proofs.Words.{◌≡◌, ◌++◌}
+use Rattle.line_lists.proofs.Common.{◌≡◌, ◌++◌}
 use Rattle.line_lists.proofs.GatherLaws.{Gathers}
 use Rattle.line_lists.proofs.pieces.pieces_of.Given as goal
 

@@ -1,5 +1,5 @@
-use Rattle.line_lists.proofs.Words.{subst, sym, ap, ◌∙◌, arith, All, All-weaker, LineContent, NumbersBelow, CanPlace}
-use Rattle.line_lists.proofs.Words.{lines_more, piece_lines, placed, rows_more}
+use Rattle.line_lists.proofs.Common.{subst, sym, ap, ◌∙◌, arith, All, All-weaker, LineContent, NumbersBelow, CanPlace}
+use Rattle.line_lists.proofs.Common.{lines_more, piece_lines, placed, rows_more}
 use Rattle.line_lists.proofs.GatherLaws.{all-pieces}
 use Rattle.line_lists.proofs.GrowthLaws.{room_first}
 use Rattle.line_lists.proofs.PieceLaws.{can-split, placed-snoc}

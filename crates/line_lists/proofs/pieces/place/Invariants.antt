@@ -1,5 +1,5 @@
-use Rattle.line_lists.proofs.Words.{◌≡◌, All, LineContent, NumbersBelow, CanPlace, lines_more, piece_lines, placed}
-use Rattle.line_lists.proofs.Words.{rows_more}
+use Rattle.line_lists.proofs.Common.{◌≡◌, All, LineContent, NumbersBelow, CanPlace, lines_more, piece_lines, placed}
+use Rattle.line_lists.proofs.Common.{rows_more}
 use Rattle.line_lists.proofs.pieces.place.Given as goal
 
 abbrev pub invariant-loop-piece : goal.invariant-loop-piece

@@ -1,4 +1,4 @@
-use Rattle.line_lists.proofs.Words.{◌++◌, ap, ◌∙◌, append_assoc, named, numbers_of}
+use Rattle.line_lists.proofs.Common.{◌++◌, ap, ◌∙◌, append_assoc, named, numbers_of}
 use Rattle.line_lists.proofs.GatherLaws.{numbers-next}
 use Rattle.line_lists.proofs.pieces.push_all_numbers.Goals as goal
 

@@ -1,4 +1,4 @@
-use Rattle.line_lists.proofs.Words.{◌≡◌, ◌++◌, take, named, numbers_in}
+use Rattle.line_lists.proofs.Common.{◌≡◌, ◌++◌, take, named, numbers_in}
 use Rattle.line_lists.proofs.pieces.push_all_numbers.Given as goal
 
 abbrev pub invariant-loop-line : goal.invariant-loop-line

@@ -1,4 +1,4 @@
-use Rattle.line_lists.proofs.Words.{◌++◌, ◌∷◌, [], sym, ap, ◌∙◌, map-append, MarkNo, named}
+use Rattle.line_lists.proofs.Common.{◌++◌, ◌∷◌, [], sym, ap, ◌∙◌, map-append, MarkNo, named}
 use Rattle.line_lists.proofs.FreedLaws.{numbers-all, numbers-more}
 use Rattle.line_lists.proofs.pieces.push_numbers.Goals as goal
 

@@ -1,4 +1,4 @@
-use Rattle.line_lists.proofs.Words.{◌≡◌, ◌-◌, ◌++◌, length, take, named, numbers_of}
+use Rattle.line_lists.proofs.Common.{◌≡◌, ◌-◌, ◌++◌, length, take, named, numbers_of}
 use Rattle.std.specs.FinMap as finite
 use Rattle.line_lists.proofs.pieces.push_numbers.Given as goal
 

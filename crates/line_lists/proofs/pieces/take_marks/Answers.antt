@@ -1,4 +1,4 @@
-use Rattle.line_lists.proofs.Words.{map, ap, ◌∙◌, arith, without_mark}
+use Rattle.line_lists.proofs.Common.{map, ap, ◌∙◌, arith, without_mark}
 use Rattle.line_lists.proofs.GatherLaws.{freed-before}
 use Rattle.line_lists.proofs.pieces.take_marks.Goals as goal
 

@@ -1,4 +1,4 @@
-use Rattle.line_lists.proofs.Words.{◌≡◌, ℕ, ◌≤◌, drop, freed, named}
+use Rattle.line_lists.proofs.Common.{◌≡◌, ℕ, ◌≤◌, drop, freed, named}
 use Rattle.line_lists.proofs.pieces.take_marks.Given as goal
 
 abbrev pub invariant-loop-index : goal.invariant-loop-index

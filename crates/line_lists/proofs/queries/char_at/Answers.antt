@@ -1,4 +1,4 @@
-use Rattle.line_lists.proofs.Words.{◌<◌, subst}
+use Rattle.line_lists.proofs.Common.{◌<◌, subst}
 use Rattle.line_lists.proofs.PlaceRows.{character-at, length-content}
 use Rattle.line_lists.proofs.queries.char_at.Goals as goal
 

@@ -1,5 +1,5 @@
-use Rattle.line_lists.proofs.Words.{◌+◌, ◌-◌, ◌<◌, ◌≤◌, ◌++◌, ◌∙◌, ap, ap₂, refl, sym, arith, length, slice_range}
-use Rattle.line_lists.proofs.Words.{string_bytes, IfOk-weaker, LineContent, characters, whole, chars}
+use Rattle.line_lists.proofs.Common.{◌+◌, ◌-◌, ◌<◌, ◌≤◌, ◌++◌, ◌∙◌, ap, ap₂, refl, sym, arith, length, slice_range}
+use Rattle.line_lists.proofs.Common.{string_bytes, IfOk-weaker, LineContent, characters, whole, chars}
 use Rattle.line_lists.proofs.CountRows.{count-lines}
 use Rattle.line_lists.proofs.LineStarts.{at-within, length_at, lent, lent-length}
 use Rattle.line_lists.proofs.PlaceRows.{length-content}

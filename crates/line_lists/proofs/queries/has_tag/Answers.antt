@@ -1,4 +1,4 @@
-use Rattle.line_lists.proofs.Words.{◌∙◌, ap, sym, content_of, Some}
+use Rattle.line_lists.proofs.Common.{◌∙◌, ap, sym, content_of, Some}
 use Rattle.line_lists.proofs.PlaceRows.{flag-at}
 use Rattle.line_lists.proofs.queries.has_tag.Goals as goal
 

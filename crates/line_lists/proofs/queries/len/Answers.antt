@@ -1,4 +1,4 @@
-use Rattle.line_lists.proofs.Words.{◌∙◌, ap, sym}
+use Rattle.line_lists.proofs.Common.{◌∙◌, ap, sym}
 use Rattle.line_lists.proofs.LineStarts.{start-all, start_of}
 use Rattle.line_lists.proofs.PlaceRows.{length-content}
 use Rattle.line_lists.proofs.queries.len.Goals as goal

@@ -1,4 +1,4 @@
-use Rattle.line_lists.proofs.Words.{◌+◌, ◌-◌, ◌∙◌, suc, refl, ap, arith, length}
+use Rattle.line_lists.proofs.Common.{◌+◌, ◌-◌, ◌∙◌, suc, refl, ap, arith, length}
 use Rattle.line_lists.proofs.CountRows.{count-characters}
 use Rattle.line_lists.proofs.LineSpans.{end-span, held-span}
 use Rattle.line_lists.proofs.LineStarts.{lent-length, start-all, start-next, start-rises}

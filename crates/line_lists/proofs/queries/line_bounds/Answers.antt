@@ -1,4 +1,4 @@
-use Rattle.line_lists.proofs.Words.{◌<◌, ◌∙◌, ap, sym, suc, arith, length, add-one, content_of}
+use Rattle.line_lists.proofs.Common.{◌<◌, ◌∙◌, ap, sym, suc, arith, length, add-one, content_of}
 use Rattle.text_model.specs.Content.{characters}
 use Rattle.text_model.specs.Lines.{line_start}
 use Rattle.line_lists.proofs.CountRows.{count-characters}

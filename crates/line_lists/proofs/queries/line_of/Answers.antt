@@ -1,4 +1,4 @@
-use Rattle.line_lists.proofs.Words.{◌∙◌, sym, arith}
+use Rattle.line_lists.proofs.Common.{◌∙◌, sym, arith}
 use Rattle.line_lists.proofs.NewlineRows.{line_of-end, line_of-located}
 use Rattle.line_lists.proofs.PlaceRows.{length-content}
 use Rattle.line_lists.proofs.queries.line_of.Goals as goal

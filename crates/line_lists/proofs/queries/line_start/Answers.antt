@@ -1,4 +1,4 @@
-use Rattle.line_lists.proofs.Words.{◌∙◌, sym, arith}
+use Rattle.line_lists.proofs.Common.{◌∙◌, sym, arith}
 use Rattle.line_lists.proofs.NewlineRows.{newlines-content, start-content}
 use Rattle.line_lists.proofs.PlaceRows.{length-content, length-front}
 use Rattle.line_lists.proofs.queries.line_start.Goals as goal

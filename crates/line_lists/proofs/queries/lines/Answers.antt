@@ -1,4 +1,4 @@
-use Rattle.line_lists.proofs.Words.{◌∙◌}
+use Rattle.line_lists.proofs.Common.{◌∙◌}
 use Rattle.line_lists.proofs.NewlineRows.{newlines-content}
 use Rattle.line_lists.proofs.queries.lines.Goals as goal
 

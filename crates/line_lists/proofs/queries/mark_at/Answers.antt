@@ -1,4 +1,4 @@
-use Rattle.line_lists.proofs.Words.{◌∙◌, ap, sym, slice_get, marks_at, LineContent}
+use Rattle.line_lists.proofs.Common.{◌∙◌, ap, sym, slice_get, marks_at, LineContent}
 use Rattle.line_lists.proofs.LineStarts.{lent}
 use Rattle.line_lists.proofs.MarksAtRows.{marks-at}
 use Rattle.line_lists.proofs.queries.mark_at.Goals as goal

@@ -1,5 +1,5 @@
-use Rattle.line_lists.proofs.Words.{◌≡◌, ◌+◌, ◌≤◌, ◌∙◌, length, ap, sym, true, false, arith, is_some, Place}
-use Rattle.line_lists.proofs.Words.{LineContent, has_mark}
+use Rattle.line_lists.proofs.Common.{◌≡◌, ◌+◌, ◌≤◌, ◌∙◌, length, ap, sym, true, false, arith, is_some, Place}
+use Rattle.line_lists.proofs.Common.{LineContent, has_mark}
 use Rattle.line_lists.proofs.CountRows.{count-characters}
 use Rattle.line_lists.proofs.LineStarts.{lent, placed-most, start_of}
 use Rattle.line_lists.proofs.MarkPlaces.{mark-nowhere, mark-out}

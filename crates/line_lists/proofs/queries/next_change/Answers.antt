@@ -1,5 +1,5 @@
-use Rattle.line_lists.proofs.Words.{ℕ, ◌+◌, ◌<◌, length, ◌∙◌, ap, sym, subst, suc, arith, refl, add-one, length-map}
-use Rattle.line_lists.proofs.Words.{Cell, flags, next_change-above, has_toggle, next_line, content_of}
+use Rattle.line_lists.proofs.Common.{ℕ, ◌+◌, ◌<◌, length, ◌∙◌, ap, sym, subst, suc, arith, refl, add-one, length-map}
+use Rattle.line_lists.proofs.Common.{Cell, flags, next_change-above, has_toggle, next_line, content_of}
 use Rattle.line_lists.proofs.CountRows.{count-characters, count-lines}
 use Rattle.line_lists.proofs.LineStarts.{lent-inner, near-column, near-most, placed-most}
 use Rattle.line_lists.proofs.NearChanges.{change-here, change-later, change-nowhere, lent-next, lent-none-next}

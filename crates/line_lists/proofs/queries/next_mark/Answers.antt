@@ -1,5 +1,5 @@
-use Rattle.line_lists.proofs.Words.{ℕ, ◌+◌, ◌≤◌, length, ◌∙◌, ap, sym, Some, None, suc, arith, add-one, next_mark}
-use Rattle.line_lists.proofs.Words.{next_mark-above, has_marks, next_line, whole}
+use Rattle.line_lists.proofs.Common.{ℕ, ◌+◌, ◌≤◌, length, ◌∙◌, ap, sym, Some, None, suc, arith, add-one, next_mark}
+use Rattle.line_lists.proofs.Common.{next_mark-above, has_marks, next_line, whole}
 use Rattle.line_lists.proofs.CountRows.{count-characters, count-lines}
 use Rattle.line_lists.proofs.LineStarts.{near-column, near-most, placed-most}
 use Rattle.line_lists.proofs.NearMarks.{if_some, lent-found, next-here, next-later, next-nowhere, next-some}

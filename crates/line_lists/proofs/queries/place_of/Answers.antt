@@ -1,4 +1,4 @@
-use Rattle.line_lists.proofs.Words.{◌-◌, ◌≤◌, ap, arith}
+use Rattle.line_lists.proofs.Common.{◌-◌, ◌≤◌, ap, arith}
 use Rattle.line_lists.proofs.LineStarts.{at-end, at-held}
 use Rattle.line_lists.proofs.PlaceRows.{length-content, length-front}
 use Rattle.line_lists.proofs.queries.place_of.Goals as goal

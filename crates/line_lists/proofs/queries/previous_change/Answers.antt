@@ -1,5 +1,5 @@
-use Rattle.line_lists.proofs.Words.{ℕ, ◌+◌, ◌<◌, ◌≤◌, ◌∙◌, ap, sym, subst, arith, length, refl, length-map, Cell, flags}
-use Rattle.line_lists.proofs.Words.{previous_change-below, has_toggle, content_of, whole}
+use Rattle.line_lists.proofs.Common.{ℕ, ◌+◌, ◌<◌, ◌≤◌, ◌∙◌, ap, sym, subst, arith, length, refl, length-map, Cell}
+use Rattle.line_lists.proofs.Common.{flags, previous_change-below, has_toggle, content_of, whole}
 use Rattle.line_lists.proofs.CountRows.{count-characters}
 use Rattle.line_lists.proofs.LineStarts.{at-within, length_at, lent-length, near-column, placed-most}
 use Rattle.line_lists.proofs.NearChanges.{change-back, change-earlier, change-first, lent-none-previous, lent-previous}

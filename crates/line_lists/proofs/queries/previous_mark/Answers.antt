@@ -1,5 +1,5 @@
-use Rattle.line_lists.proofs.Words.{ℕ, ◌+◌, ◌<◌, ◌≤◌, ◌∙◌, ap, sym, Some, None, suc, arith, length, previous_mark}
-use Rattle.line_lists.proofs.Words.{previous_mark-below, LineContent, has_marks, whole}
+use Rattle.line_lists.proofs.Common.{ℕ, ◌+◌, ◌<◌, ◌≤◌, ◌∙◌, ap, sym, Some, None, suc, arith, length, previous_mark}
+use Rattle.line_lists.proofs.Common.{previous_mark-below, LineContent, has_marks, whole}
 use Rattle.line_lists.proofs.CountRows.{count-characters}
 use Rattle.line_lists.proofs.LineStarts.{length_at, lent, near-column, near-most, placed-most}
 use Rattle.line_lists.proofs.NearMarks.{if_some, lent-found, previous-earlier, previous-here, previous-nowhere}

@@ -1,4 +1,4 @@
-use Rattle.line_lists.proofs.Words.{◌<◌, arith, subst, long, run_end-le, content_of}
+use Rattle.line_lists.proofs.Common.{◌<◌, arith, subst, long, run_end-le, content_of}
 use Rattle.text_model.specs.Content.{characters}
 use Rattle.line_lists.proofs.PlaceRows.{inside, length-content, length-counted}
 use Rattle.line_lists.proofs.RunRows.{run-end}

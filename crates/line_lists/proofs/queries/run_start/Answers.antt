@@ -1,4 +1,4 @@
-use Rattle.line_lists.proofs.Words.{◌≤◌, arith, length, whole}
+use Rattle.line_lists.proofs.Common.{◌≤◌, arith, length, whole}
 use Rattle.line_lists.proofs.LineStarts.{at-within, lent-length}
 use Rattle.line_lists.proofs.PlaceRows.{length-content}
 use Rattle.line_lists.proofs.RunRows.{run-start}

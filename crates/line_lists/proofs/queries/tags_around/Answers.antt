@@ -1,4 +1,4 @@
-use Rattle.line_lists.proofs.Words.{◌<◌, ◌∙◌, ap, ap₂, sym, subst, differing, tags_before, Some}
+use Rattle.line_lists.proofs.Common.{◌<◌, ◌∙◌, ap, ap₂, sym, subst, differing, tags_before, Some}
 use Rattle.line_lists.proofs.BareLaws.{bare-at, bare-before}
 use Rattle.line_lists.proofs.PlaceRows.{length-content, tags-at, tags-before}
 use Rattle.line_lists.proofs.queries.tags_around.Goals as goal

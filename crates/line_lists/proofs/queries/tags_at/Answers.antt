@@ -1,4 +1,4 @@
-use Rattle.line_lists.proofs.Words.{◌<◌, ◌∙◌, sym, ap, subst, differing, tags_before, Some}
+use Rattle.line_lists.proofs.Common.{◌<◌, ◌∙◌, sym, ap, subst, differing, tags_before, Some}
 use Rattle.line_lists.proofs.BareLaws.{bare-at}
 use Rattle.line_lists.proofs.PlaceRows.{length-content, tags-at}
 use Rattle.line_lists.proofs.queries.tags_at.Goals as goal

@@ -1,4 +1,4 @@
-use Rattle.line_lists.proofs.Words.{◌∙◌, ap, sym, Slots}
+use Rattle.line_lists.proofs.Common.{◌∙◌, ap, sym, Slots}
 use Rattle.line_lists.proofs.SwitchLaws.{opposite, same_flag, switched_one, unswitched}
 use Rattle.std.specs.FinSet as set
 use Rattle.line_lists.proofs.steps.switched_slots.Goals as goal

@@ -1,4 +1,4 @@
-use Rattle.line_lists.proofs.Words.{length, sym, ap, ◌∙◌, arith, drafted_at, whole}
+use Rattle.line_lists.proofs.Common.{length, sym, ap, ◌∙◌, arith, drafted_at, whole}
 use Rattle.line_lists.proofs.PlaceRows.{length-cells}
 use Rattle.line_lists.proofs.StoreLaws.{some-text}
 use Rattle.std.specs.FinSet as set

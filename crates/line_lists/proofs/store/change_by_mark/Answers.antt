@@ -1,4 +1,4 @@
-use Rattle.line_lists.proofs.Words.{refl, Change}
+use Rattle.line_lists.proofs.Common.{refl, Change}
 use Rattle.line_lists.proofs.MoveLaws.{Brings, moved-can, moved-new}
 use Rattle.line_lists.proofs.store.change_by_mark.Given.{Over}
 use Rattle.line_lists.proofs.store.change_by_mark.Goals.{In_ok-piece}

@@ -1,4 +1,4 @@
-use Rattle.line_lists.proofs.Words.{refl, Change}
+use Rattle.line_lists.proofs.Common.{refl, Change}
 use Rattle.line_lists.proofs.MoveLaws.{taken-can, taken-new}
 use Rattle.line_lists.proofs.store.change_by_taking.Goals as goal
 

@@ -1,5 +1,5 @@
-use Rattle.line_tree.proofs.Words.{◌≡◌, ◌+◌, ◌-◌, suc, sym, ap, ◌∙◌, subst, arith, None, insert, CanPut, Fills, sum_all}
-use Rattle.line_tree.proofs.Words.{kids, row, plus, records, sum_at}
+use Rattle.line_tree.proofs.Common.{◌≡◌, ◌+◌, ◌-◌, suc, sym, ap, ◌∙◌, subst, arith, None, insert, CanPut, Fills}
+use Rattle.line_tree.proofs.Common.{sum_all, kids, row, plus, records, sum_at}
 use Rattle.line_tree.proofs.BehindLaws.{Base, Climbs, above-of, base-of, climbed, named-behind, parent-behind}
 use Rattle.line_tree.proofs.BehindLaws.{some-parent}
 use Rattle.line_tree.proofs.InsertLaws.{has-now, low-can_put, low-inserts, low-sum, one-fits, one-inserts, one-sum}

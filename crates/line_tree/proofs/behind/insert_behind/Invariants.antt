@@ -1,4 +1,4 @@
-use Rattle.line_tree.proofs.Words.{◌≡◌, ◌≤◌, records, rooms, spares}
+use Rattle.line_tree.proofs.Common.{◌≡◌, ◌≤◌, records, rooms, spares}
 use Rattle.line_tree.proofs.BehindLaws.{Climbs}
 use Rattle.std.specs.FinMap as finite
 use Rattle.line_tree.proofs.behind.insert_behind.Given as goal

@@ -1,4 +1,4 @@
-use Rattle.line_tree.proofs.Words.{◌+◌, sym, ap, ◌∙◌, subst, IsSome, names, records, tree_at, Without}
+use Rattle.line_tree.proofs.Common.{◌+◌, sym, ap, ◌∙◌, subst, IsSome, names, records, tree_at, Without}
 use Rattle.line_tree.proofs.GivingLaws.{no-line, node-room, without-node}
 use Rattle.line_tree.proofs.LowestLaws.{lowest-below}
 use Rattle.line_tree.proofs.RowLaws.{lines_is}

@@ -1,5 +1,5 @@
-use Rattle.line_tree.proofs.Words.{◌+◌, take, sym, ap, ◌∙◌, subst, arith, IsSome, kids, nodes, records, rooms, spares}
-use Rattle.line_tree.proofs.Words.{Without}
+use Rattle.line_tree.proofs.Common.{◌+◌, take, sym, ap, ◌∙◌, subst, arith, IsSome, kids, nodes, records, rooms, spares}
+use Rattle.line_tree.proofs.Common.{Without}
 use Rattle.line_tree.proofs.AmongLaws.{among-take}
 use Rattle.line_tree.proofs.GivingLaws.{gives-line, line-apart, line-named, line-roomless, no-line, without-line}
 use Rattle.line_tree.proofs.RowLaws.{none_of, past}

@@ -1,4 +1,4 @@
-use Rattle.line_tree.proofs.Words.{◌≡◌, ◌+◌, take, kids, nodes, records, rooms, spares, Without}
+use Rattle.line_tree.proofs.Common.{◌≡◌, ◌+◌, take, kids, nodes, records, rooms, spares, Without}
 use Rattle.line_tree.proofs.branches.give_back_lines.Given as goal
 
 abbrev pub invariant-loop-slot : goal.invariant-loop-slot

@@ -1,4 +1,4 @@
-use Rattle.line_tree.proofs.Words.{suc, sym, ap, subst, IsTree, records}
+use Rattle.line_tree.proofs.Common.{suc, sym, ap, subst, IsTree, records}
 use Rattle.line_tree.proofs.LowestLaws.{lowest-before}
 use Rattle.line_tree.proofs.TreeLaws.{row-tree}
 use Rattle.line_tree.proofs.climb.ahead.Goals as goal

@@ -1,5 +1,5 @@
-use Rattle.line_tree.proofs.Words.{◌+◌, ◌≤◌, take, sym, ap, ◌∙◌, arith, sum_by, take-take, sum_by-take-le, kids}
-use Rattle.line_tree.proofs.Words.{lines_at, records}
+use Rattle.line_tree.proofs.Common.{◌+◌, ◌≤◌, take, sym, ap, ◌∙◌, arith, sum_by, take-take, sum_by-take-le, kids}
+use Rattle.line_tree.proofs.Common.{lines_at, records}
 use Rattle.line_tree.proofs.RowLaws.{child_is, lines_is, none_of, step_no, step_yes}
 use Rattle.line_tree.proofs.climb.before.Goals.{in-Some, in_default}
 use Rattle.line_tree.proofs.climb.before.Goals as goal

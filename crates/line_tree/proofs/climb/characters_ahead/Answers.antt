@@ -1,5 +1,5 @@
-use Rattle.line_tree.proofs.Words.{◌≡◌, ℕ, ap, sym, ◌∙◌, arith, sum_by, take_all, NodePtr, Records, kids, lines_at}
-use Rattle.line_tree.proofs.Words.{records, HasRow, characters_at, characters_below, characters_before}
+use Rattle.line_tree.proofs.Common.{◌≡◌, ℕ, ap, sym, ◌∙◌, arith, sum_by, take_all, NodePtr, Records, kids, lines_at}
+use Rattle.line_tree.proofs.Common.{records, HasRow, characters_at, characters_below, characters_before}
 use Rattle.line_tree.proofs.RowLaws.{size_is}
 use Rattle.line_tree.proofs.TreeLaws.{named-row}
 use Rattle.line_tree.proofs.climb.characters_ahead.Goals as goal

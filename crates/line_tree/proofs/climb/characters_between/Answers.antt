@@ -1,5 +1,5 @@
-use Rattle.line_tree.proofs.Words.{◌+◌, ◌≤◌, take, sym, ap, ◌∙◌, arith, sum_by, take-take, sum_by-take-le, kids}
-use Rattle.line_tree.proofs.Words.{records, characters_at}
+use Rattle.line_tree.proofs.Common.{◌+◌, ◌≤◌, take, sym, ap, ◌∙◌, arith, sum_by, take-take, sum_by-take-le, kids}
+use Rattle.line_tree.proofs.Common.{records, characters_at}
 use Rattle.line_tree.proofs.RowLaws.{child_is, none_of, size_is, step_no, step_yes}
 use Rattle.line_tree.proofs.climb.characters_between.Goals.{in-Some, in_default}
 use Rattle.line_tree.proofs.climb.characters_between.Goals as goal

@@ -1,4 +1,4 @@
-use Rattle.line_tree.proofs.Words.{◌≡◌, ◌+◌, records, characters_before}
+use Rattle.line_tree.proofs.Common.{◌≡◌, ◌+◌, records, characters_before}
 use Rattle.line_tree.proofs.climb.characters_between.Given as goal
 
 abbrev pub invariant-loop-i : goal.invariant-loop-i

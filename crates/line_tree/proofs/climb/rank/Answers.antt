@@ -1,5 +1,5 @@
-use Rattle.line_tree.proofs.Words.{◌≡◌, ℕ, ◌+◌, ◌-◌, suc, subst, arith, slice_get_within, NodePtr, Records, kids}
-use Rattle.line_tree.proofs.Words.{lines_in, records, IsLineAt, Sits}
+use Rattle.line_tree.proofs.Common.{◌≡◌, ℕ, ◌+◌, ◌-◌, suc, subst, arith, slice_get_within, NodePtr, Records, kids}
+use Rattle.line_tree.proofs.Common.{lines_in, records, IsLineAt, Sits}
 use Rattle.line_tree.proofs.PlaceLaws.{Up, child-named, child-parent, level, line-within, sits, up_from}
 use Rattle.line_tree.proofs.TreeLaws.{row-tree}
 use Rattle.line_tree.proofs.climb.rank.Given.{Over}

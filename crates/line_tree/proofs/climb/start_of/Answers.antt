@@ -1,5 +1,5 @@
-use Rattle.line_tree.proofs.Words.{◌≡◌, ℕ, ◌+◌, ◌-◌, suc, ap, subst, arith, slice_get_within, NodePtr, Records, kids}
-use Rattle.line_tree.proofs.Words.{lines_in, records, Begins, IsLineAt}
+use Rattle.line_tree.proofs.Common.{◌≡◌, ℕ, ◌+◌, ◌-◌, suc, ap, subst, arith, slice_get_within, NodePtr, Records, kids}
+use Rattle.line_tree.proofs.Common.{lines_in, records, Begins, IsLineAt}
 use Rattle.line_tree.proofs.BeginLaws.{BeginsUp, begins-level, begins-named, begins-up, first-characters}
 use Rattle.line_tree.proofs.LocateLaws.{size-below}
 use Rattle.line_tree.proofs.PlaceLaws.{child-named, child-parent}

@@ -1,4 +1,4 @@
-use Rattle.line_tree.proofs.Words.{◌≡◌, ℕ, ◌+◌, ◌-◌, take, lines_in, records, total, Begins, IsLineAt}
+use Rattle.line_tree.proofs.Common.{◌≡◌, ℕ, ◌+◌, ◌-◌, take, lines_in, records, total, Begins, IsLineAt}
 use Rattle.line_tree.proofs.climb.start_of.Given as goal
 
 abbrev pub invariant-loop-level : goal.invariant-loop-level

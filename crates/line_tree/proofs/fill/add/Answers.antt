@@ -1,5 +1,5 @@
-use Rattle.line_tree.proofs.Words.{◌≡◌, sym, ap, ◌∙◌, subst, IfSome, Count, CountsFit, plus, FitsSum, NodePtr, Records}
-use Rattle.line_tree.proofs.Words.{with_sum, records, sum_at, sum_of, HasRow}
+use Rattle.line_tree.proofs.Common.{◌≡◌, sym, ap, ◌∙◌, subst, IfSome, Count, CountsFit, plus, FitsSum, NodePtr, Records}
+use Rattle.line_tree.proofs.Common.{with_sum, records, sum_at, sum_of, HasRow}
 use Rattle.line_tree.proofs.KeptLaws.{update-as}
 use Rattle.line_tree.proofs.SumLaws.{fits-both}
 use Rattle.line_tree.proofs.UpdateLaws.{inner-row}

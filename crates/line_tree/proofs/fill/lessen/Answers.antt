@@ -1,5 +1,5 @@
-use Rattle.line_tree.proofs.Words.{sym, ap, ◌∙◌, subst, arith, IfSome, Count, HasCounts, counting, less, kids, row}
-use Rattle.line_tree.proofs.Words.{records, sum_of, sums, with_sum}
+use Rattle.line_tree.proofs.Common.{sym, ap, ◌∙◌, subst, arith, IfSome, Count, HasCounts, counting, less, kids, row}
+use Rattle.line_tree.proofs.Common.{records, sum_of, sums, with_sum}
 use Rattle.line_tree.proofs.KeptLaws.{update-as}
 use Rattle.line_tree.proofs.LessLaws.{less-plus}
 use Rattle.line_tree.proofs.UpdateLaws.{inner-row}

@@ -1,4 +1,4 @@
-use Rattle.line_tree.proofs.Words.{sym, ap, ◌∙◌, arith, Count, less, records, sums}
+use Rattle.line_tree.proofs.Common.{sym, ap, ◌∙◌, arith, Count, less, records, sums}
 use Rattle.line_tree.proofs.LessLaws.{less-plus}
 use Rattle.line_tree.proofs.fill.lessen_sum.Goals as goal
 

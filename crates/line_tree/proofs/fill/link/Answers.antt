@@ -1,5 +1,5 @@
-use Rattle.line_tree.proofs.Words.{sym, ap, ◌∙◌, subst, Some, IsSome, link_one, records, update, with_child}
-use Rattle.line_tree.proofs.Words.{with_parent, named-update}
+use Rattle.line_tree.proofs.Common.{sym, ap, ◌∙◌, subst, Some, IsSome, link_one, records, update, with_child}
+use Rattle.line_tree.proofs.Common.{with_parent, named-update}
 use Rattle.line_tree.proofs.RowLaws.{none_of}
 use Rattle.std.specs.FinMap as finite
 use Rattle.line_tree.proofs.fill.link.Goals as goal

@@ -1,7 +1,7 @@
-use Rattle.line_tree.proofs.Words.{◌≡◌, ◌-◌, ◌≤◌, ℕ, List, Some, length, take, drop, ap, refl, sym, ◌∙◌, subst, arith}
-use Rattle.line_tree.proofs.Words.{length-drop, None, not, IfSome, IsSome, slice_get, Option, insert, take_all}
-use Rattle.line_tree.proofs.Words.{length-insert, Among, CanFill, CanPut, FitsSum, Stay, refilled, sum_all, sums, Count}
-use Rattle.line_tree.proofs.Words.{plus, NodePtr, Records, blank, kids, row, records, sum_at, HasRow}
+use Rattle.line_tree.proofs.Common.{◌≡◌, ◌-◌, ◌≤◌, ℕ, List, Some, length, take, drop, ap, refl, sym, ◌∙◌, subst, arith}
+use Rattle.line_tree.proofs.Common.{length-drop, None, not, IfSome, IsSome, slice_get, Option, insert, take_all}
+use Rattle.line_tree.proofs.Common.{length-insert, Among, CanFill, CanPut, FitsSum, Stay, refilled, sum_all, sums}
+use Rattle.line_tree.proofs.Common.{Count, plus, NodePtr, Records, blank, kids, row, records, sum_at, HasRow}
 use Rattle.line_tree.proofs.AmongLaws.{among-drop, among-take, get-among}
 use Rattle.line_tree.proofs.FillLaws.{row-some, sums-row}
 use Rattle.line_tree.proofs.RowLaws.{sum_is}

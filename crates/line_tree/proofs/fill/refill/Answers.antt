@@ -1,4 +1,4 @@
-use Rattle.line_tree.proofs.Words.{ap, sym, ◌∙◌, subst, slice_get, records, relinked, update, with_sum, HasRow}
+use Rattle.line_tree.proofs.Common.{ap, sym, ◌∙◌, subst, slice_get, records, relinked, update, with_sum, HasRow}
 use Rattle.line_tree.proofs.AmongLaws.{get-among}
 use Rattle.line_tree.proofs.FillLaws.{relinked-has_row, row-some, sum-relinked, sums-same}
 use Rattle.line_tree.proofs.UpdateLaws.{inner-fill, inner-row}

@@ -1,4 +1,4 @@
-use Rattle.line_tree.proofs.Words.{◌≡◌, drop, IsInner, IsName, records, rooms, spares, NodePtr, relinked}
+use Rattle.line_tree.proofs.Common.{◌≡◌, drop, IsInner, IsName, records, rooms, spares, NodePtr, relinked}
 use Rattle.line_tree.proofs.fill.relink.Given as goal
 
 abbrev pub invariant-loop-slot : goal.invariant-loop-slot

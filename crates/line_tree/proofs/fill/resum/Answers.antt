@@ -1,4 +1,4 @@
-use Rattle.line_tree.proofs.Words.{ap, ◌∙◌, records, update, with_sum}
+use Rattle.line_tree.proofs.Common.{ap, ◌∙◌, records, update, with_sum}
 use Rattle.line_tree.proofs.UpdateLaws.{inner-row}
 use Rattle.line_tree.proofs.fill.resum.Goals as goal
 

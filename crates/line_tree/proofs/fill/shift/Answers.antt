@@ -1,4 +1,4 @@
-use Rattle.line_tree.proofs.Words.{◌+◌, sym, ◌∙◌, subst, arith, refl, IsSome, same_Some, records}
+use Rattle.line_tree.proofs.Common.{◌+◌, sym, ◌∙◌, subst, arith, refl, IsSome, same_Some, records}
 use Rattle.line_tree.proofs.RowLaws.{none_of}
 use Rattle.line_tree.proofs.ShiftLaws.{Shifting, shift-child, shift-first, shift-last, shift-named, shift-next}
 use Rattle.line_tree.proofs.ShiftLaws.{shift-within}

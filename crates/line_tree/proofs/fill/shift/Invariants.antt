@@ -1,4 +1,4 @@
-use Rattle.line_tree.proofs.Words.{◌≡◌, ◌-◌, records, rooms, spares}
+use Rattle.line_tree.proofs.Common.{◌≡◌, ◌-◌, records, rooms, spares}
 use Rattle.line_tree.proofs.ShiftLaws.{Shifting}
 use Rattle.line_tree.proofs.fill.shift.Given as goal
 

@@ -1,7 +1,7 @@
-use Rattle.line_tree.proofs.Words.{◌≡◌, ◌+◌, ◌≤◌, ◌<◌, ℕ, drop, length, sym, ap, ◌∙◌, subst, Some, None, arith}
-use Rattle.line_tree.proofs.Words.{slice_get, Option, drop_all, no_text-plus, plus-associative, plus-no_text, CountsFit}
-use Rattle.line_tree.proofs.Words.{plus, FitsSum, sum_or_none, sums, NodePtr, Records, kids, row, records, sum_at}
-use Rattle.line_tree.proofs.Words.{length-row, HasRow}
+use Rattle.line_tree.proofs.Common.{◌≡◌, ◌+◌, ◌≤◌, ◌<◌, ℕ, drop, length, sym, ap, ◌∙◌, subst, Some, None, arith}
+use Rattle.line_tree.proofs.Common.{slice_get, Option, drop_all, no_text-plus, plus-associative, plus-no_text}
+use Rattle.line_tree.proofs.Common.{CountsFit, plus, FitsSum, sum_or_none, sums, NodePtr, Records, kids, row, records}
+use Rattle.line_tree.proofs.Common.{sum_at, length-row, HasRow}
 use Rattle.line_tree.proofs.RowLaws.{added_is, asks, child_is, none_of, sums-step}
 use Rattle.line_tree.proofs.SumLaws.{fits-both, fits-left}
 use Rattle.line_tree.proofs.fill.sum_below.Goals.{in-Some, in_default}

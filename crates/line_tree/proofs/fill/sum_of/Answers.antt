@@ -1,7 +1,7 @@
-use Rattle.line_tree.proofs.Words.{◌≡◌, ◌+◌, ◌≤◌, ◌<◌, ℕ, List, drop, length, get_or, sym, ap, ◌∙◌, subst, Some, None}
-use Rattle.line_tree.proofs.Words.{arith, slice_get, Option, at_drop_more, drop_all, slice_get-get_or, no_text-plus}
-use Rattle.line_tree.proofs.Words.{plus-associative, plus-no_text, CountsFit, plus, FitsSum, sum_or_none, sums, NodePtr}
-use Rattle.line_tree.proofs.Words.{Records, records, sum_at}
+use Rattle.line_tree.proofs.Common.{◌≡◌, ◌+◌, ◌≤◌, ◌<◌, ℕ, List, drop, length, get_or, sym, ap, ◌∙◌, subst, Some, None}
+use Rattle.line_tree.proofs.Common.{arith, slice_get, Option, at_drop_more, drop_all, slice_get-get_or, no_text-plus}
+use Rattle.line_tree.proofs.Common.{plus-associative, plus-no_text, CountsFit, plus, FitsSum, sum_or_none, sums}
+use Rattle.line_tree.proofs.Common.{NodePtr, Records, records, sum_at}
 use Rattle.line_tree.proofs.RowLaws.{added_is, asks, none_of}
 use Rattle.line_tree.proofs.SumLaws.{fits-both, fits-left}
 use Rattle.line_tree.proofs.fill.sum_of.Goals.{in-Some, in_default}

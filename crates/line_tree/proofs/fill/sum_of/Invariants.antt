@@ -1,4 +1,4 @@
-use Rattle.line_tree.proofs.Words.{◌≡◌, drop, plus, records, sums}
+use Rattle.line_tree.proofs.Common.{◌≡◌, drop, plus, records, sums}
 use Rattle.line_tree.proofs.fill.sum_of.Given as goal
 
 abbrev pub invariant-loop-slot : goal.invariant-loop-slot

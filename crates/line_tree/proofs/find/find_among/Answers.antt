@@ -1,5 +1,5 @@
-use Rattle.line_tree.proofs.Words.{◌≡◌, ℕ, ◌-◌, take, sym, ap, subst, arith, NodePtr, Records, kids, records}
-use Rattle.line_tree.proofs.Words.{nothing-adds, Finds, Reaches, sum_below}
+use Rattle.line_tree.proofs.Common.{◌≡◌, ℕ, ◌-◌, take, sym, ap, subst, arith, NodePtr, Records, kids, records}
+use Rattle.line_tree.proofs.Common.{nothing-adds, Finds, Reaches, sum_below}
 use Rattle.line_tree.specs.declared.search.Reached.{Reached}
 use Rattle.line_tree.proofs.SearchLaws.{wide-all}
 use Rattle.line_tree.proofs.find.find_among.Goals.{then-k-lines, else-k-lines}

@@ -1,6 +1,6 @@
-use Rattle.line_tree.proofs.Words.{◌≡◌, ℕ, ◌-◌, ◌<◌, ◌≤◌, suc, sym, subst, arith, None, Some, ◌+◌, ap, ◌∙◌, Option}
-use Rattle.line_tree.proofs.Words.{length, option_to_list, insert, slice_get_within, Count, plus, NodePtr, Records}
-use Rattle.line_tree.proofs.Words.{kids, row, records, sum_all, sum_at, Leads, CanInsert, Inserts, Respreads, Found}
+use Rattle.line_tree.proofs.Common.{◌≡◌, ℕ, ◌-◌, ◌<◌, ◌≤◌, suc, sym, subst, arith, None, Some, ◌+◌, ap, ◌∙◌, Option}
+use Rattle.line_tree.proofs.Common.{length, option_to_list, insert, slice_get_within, Count, plus, NodePtr, Records}
+use Rattle.line_tree.proofs.Common.{kids, row, records, sum_all, sum_at, Leads, CanInsert, Inserts, Respreads, Found}
 use Rattle.line_tree.proofs.InsertLaws.{can-child, has-node, has-now, low-can_put, low-inserts, low-sum, one-fits}
 use Rattle.line_tree.proofs.InsertLaws.{one-inserts, one-sum, two-can_put, two-inserts, two-sum}
 use Rattle.line_tree.proofs.RoomLaws.{len-puts, len-resummed}

@@ -1,4 +1,4 @@
-use Rattle.line_tree.proofs.Words.{sym, ap, ◌∙◌, subst, arith, records, sum_at, CanInsert, Inserts}
+use Rattle.line_tree.proofs.Common.{sym, ap, ◌∙◌, subst, arith, records, sum_at, CanInsert, Inserts}
 use Rattle.line_tree.proofs.insert.insert_next.Goals as goal
 
 pub insert_in-requires : goal.insert_in-requires

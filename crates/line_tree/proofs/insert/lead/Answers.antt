@@ -1,4 +1,4 @@
-use Rattle.line_tree.proofs.Words.{refl, sym, ◌∙◌, subst, IsSome, slice_get-get_or, kids, records}
+use Rattle.line_tree.proofs.Common.{refl, sym, ◌∙◌, subst, IsSome, slice_get-get_or, kids, records}
 use Rattle.line_tree.proofs.RowLaws.{child_is}
 use Rattle.line_tree.proofs.insert.lead.Goals as goal
 

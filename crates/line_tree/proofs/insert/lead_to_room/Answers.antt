@@ -1,5 +1,5 @@
-use Rattle.line_tree.proofs.Words.{◌≡◌, ℕ, ◌-◌, ◌<◌, sym, suc, arith, subst, Bool, NodePtr, Records, records, Found}
-use Rattle.line_tree.proofs.Words.{CanInsert, Moves, Respreads}
+use Rattle.line_tree.proofs.Common.{◌≡◌, ℕ, ◌-◌, ◌<◌, sym, suc, arith, subst, Bool, NodePtr, Records, records, Found}
+use Rattle.line_tree.proofs.Common.{CanInsert, Moves, Respreads}
 use Rattle.line_tree.proofs.InsertLaws.{has-node, some-kids, within-kids}
 use Rattle.line_tree.proofs.SpreadLaws.{can-spread, can-yet, len-moves, moved, unmoved}
 use Rattle.line_tree.proofs.TreeLaws.{whole-below}

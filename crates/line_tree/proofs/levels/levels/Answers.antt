@@ -1,4 +1,4 @@
-use Rattle.line_tree.proofs.Words.{◌≤◌, ◌<◌, ◌*◌, ◌^◌, sym, subst}
+use Rattle.line_tree.proofs.Common.{◌≤◌, ◌<◌, ◌*◌, ◌^◌, sym, subst}
 use Rattle.line_tree.proofs.LevelLaws.{levels-log, low-levels}
 use Rattle.line_tree.proofs.levels.levels.Goals as goal
 

@@ -1,4 +1,4 @@
-use Rattle.line_tree.proofs.Words.{◌≡◌, length, subst, vec_len, arith, NumbersBelow}
+use Rattle.line_tree.proofs.Common.{◌≡◌, length, subst, vec_len, arith, NumbersBelow}
 use Rattle.line_tree.proofs.WalkLaws.{Passes, all-forgotten, forgets, forgets-within}
 use Rattle.line_tree.proofs.mark_names.forget.Goals as goal
 

@@ -1,4 +1,4 @@
-use Rattle.line_tree.proofs.Words.{sym, subst, ◌∙◌, MatchOption, AreBare, IsMarkedBelow}
+use Rattle.line_tree.proofs.Common.{sym, subst, ◌∙◌, MatchOption, AreBare, IsMarkedBelow}
 use Rattle.line_tree.proofs.HolderLaws.{bare-next, bare-rest, bare-until}
 use Rattle.line_tree.proofs.mark_names.marked_below.Goals as goal
 

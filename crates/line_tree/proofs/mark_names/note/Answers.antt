@@ -1,4 +1,4 @@
-use Rattle.line_tree.proofs.Words.{sym, subst, arith, NumbersBelow}
+use Rattle.line_tree.proofs.Common.{sym, subst, arith, NumbersBelow}
 use Rattle.line_tree.proofs.WalkLaws.{Passes, all-known, notes, notes-within}
 use Rattle.line_tree.proofs.mark_names.note.Goals as goal
 

@@ -1,4 +1,4 @@
-use Rattle.line_tree.proofs.Words.{◌≡◌, ◌-◌, ◌≤◌, vec_len, IsTable, lines_without}
+use Rattle.line_tree.proofs.Common.{◌≡◌, ◌-◌, ◌≤◌, vec_len, IsTable, lines_without}
 use Rattle.line_tree.proofs.mark_names.note.Given as goal
 
 abbrev pub invariant-loop-index : goal.invariant-loop-index

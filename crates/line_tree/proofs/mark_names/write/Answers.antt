@@ -1,4 +1,4 @@
-use Rattle.line_tree.proofs.Words.{sym, subst, vec_len, arith, NumbersBelow}
+use Rattle.line_tree.proofs.Common.{sym, subst, vec_len, arith, NumbersBelow}
 use Rattle.line_tree.proofs.TableLaws.{index-below, index-within, number-below, written-all, written-more}
 use Rattle.line_tree.proofs.mark_names.write.Goals as goal
 

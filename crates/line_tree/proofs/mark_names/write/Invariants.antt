@@ -1,4 +1,4 @@
-use Rattle.line_tree.proofs.Words.{◌≡◌, ◌-◌, length, vec_len, take}
+use Rattle.line_tree.proofs.Common.{◌≡◌, ◌-◌, length, vec_len, take}
 use Rattle.line_tree.proofs.TableLaws.{Written}
 use Rattle.std.specs.FinMap as finite
 use Rattle.line_tree.proofs.mark_names.write.Given as goal

@@ -1,6 +1,6 @@
-use Rattle.line_tree.proofs.Words.{◌≡◌, ℕ, ◌+◌, ◌-◌, suc, min, sym, ap, ◌∙◌, subst, arith, slice_get, None, Some}
-use Rattle.line_tree.proofs.Words.{IsTree, lines_at, lines_in, NodePtr, Records, contents, kids, records, previous_line}
-use Rattle.line_tree.proofs.Words.{FailFrom, passes, shows, lines_before, Wanted}
+use Rattle.line_tree.proofs.Common.{◌≡◌, ℕ, ◌+◌, ◌-◌, suc, min, sym, ap, ◌∙◌, subst, arith, slice_get, None, Some}
+use Rattle.line_tree.proofs.Common.{IsTree, lines_at, lines_in, NodePtr, Records, contents, kids, records}
+use Rattle.line_tree.proofs.Common.{previous_line, FailFrom, passes, shows, lines_before, Wanted}
 use Rattle.line_tree.proofs.NearestLaws.{Reaches, child-is, first-previous, last-before, line-previous, none-previous}
 use Rattle.line_tree.proofs.NearestLaws.{previous-end, previous-hit, previous-missed, reaches}
 use Rattle.line_tree.proofs.RowLaws.{child_is, lines_is, none_of, said, step_no, step_yes}

@@ -1,4 +1,4 @@
-use Rattle.line_tree.proofs.Words.{◌≡◌, ◌≤◌, contents, lines_in, records, FailFrom, passes, lines_before}
+use Rattle.line_tree.proofs.Common.{◌≡◌, ◌≤◌, contents, lines_in, records, FailFrom, passes, lines_before}
 use Rattle.line_tree.proofs.nearest.+previous.Given as goal
 
 abbrev pub invariant-loop-slot : goal.invariant-loop-slot

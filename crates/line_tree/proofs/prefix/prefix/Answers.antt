@@ -1,5 +1,5 @@
-use Rattle.line_tree.proofs.Words.{◌≡◌, ◌-◌, suc, take, sym, ap, ◌∙◌, subst, arith, no_text-plus, Count, no_text}
-use Rattle.line_tree.proofs.Words.{FitsSum, IsTree, lines_in, records, total, sum-adds, sum_behind}
+use Rattle.line_tree.proofs.Common.{◌≡◌, ◌-◌, suc, take, sym, ap, ◌∙◌, subst, arith, no_text-plus, Count, no_text}
+use Rattle.line_tree.proofs.Common.{FitsSum, IsTree, lines_in, records, total, sum-adds, sum_behind}
 use Rattle.line_tree.specs.declared.aims.SumBefore.{SumBefore}
 use Rattle.line_tree.proofs.PrefixLaws.{all-lines, some-left}
 use Rattle.line_tree.proofs.RowLaws.{sum_is}

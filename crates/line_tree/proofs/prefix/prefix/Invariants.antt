@@ -1,4 +1,4 @@
-use Rattle.line_tree.proofs.Words.{IsTree, lines_in, no_text, records, sum_behind}
+use Rattle.line_tree.proofs.Common.{IsTree, lines_in, no_text, records, sum_behind}
 use Rattle.line_tree.proofs.SearchLaws.{Passes}
 use Rattle.line_tree.proofs.prefix.prefix.Given as goal
 

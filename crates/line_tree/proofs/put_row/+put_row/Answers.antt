@@ -1,6 +1,6 @@
-use Rattle.line_tree.proofs.Words.{◌≡◌, ℕ, suc, ◌+◌, ◌-◌, ◌<◌, List, ◌++◌, take, drop, refl, sym, ap, ◌∙◌, subst, arith}
-use Rattle.line_tree.proofs.Words.{slice_get_within, NodePtr, Records, kids, kids_of, records, Leads, CanRaise}
-use Rattle.line_tree.proofs.Words.{CanTakeRow, TakesRow, Found}
+use Rattle.line_tree.proofs.Common.{◌≡◌, ℕ, suc, ◌+◌, ◌-◌, ◌<◌, List, ◌++◌, take, drop, refl, sym, ap, ◌∙◌, subst}
+use Rattle.line_tree.proofs.Common.{arith, slice_get_within, NodePtr, Records, kids, kids_of, records, Leads, CanRaise}
+use Rattle.line_tree.proofs.Common.{CanTakeRow, TakesRow, Found}
 use Rattle.line_tree.proofs.TakeRowLaws.{can-child, low-can, low-takes, low-within, node-same, slots-now, slots-of-row}
 use Rattle.line_tree.proofs.TakeRowLaws.{some-kids, up-can, up-takes, within-kids}
 use Rattle.line_tree.proofs.TreeLaws.{row-tree, whole-below}

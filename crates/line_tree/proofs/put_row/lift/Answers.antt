@@ -1,5 +1,5 @@
-use Rattle.line_tree.proofs.Words.{◌≡◌, ℕ, suc, ◌+◌, ◌-◌, ◌*◌, ◌≤◌, ◌++◌, inl, inr, length, sym, ap, ◌∙◌, subst, arith}
-use Rattle.line_tree.proofs.Words.{cases_lt, nodes, records, rooms, spares, CanRaise, Lifted, Raises, levels_at_most}
+use Rattle.line_tree.proofs.Common.{◌≡◌, ℕ, suc, ◌+◌, ◌-◌, ◌*◌, ◌≤◌, ◌++◌, inl, inr, length, sym, ap, ◌∙◌, subst, arith}
+use Rattle.line_tree.proofs.Common.{cases_lt, nodes, records, rooms, spares, CanRaise, Lifted, Raises, levels_at_most}
 use Rattle.line_tree.proofs.LevelLaws.{low-levels}
 use Rattle.line_tree.proofs.LiftLaws.{lift-can, lift-levels, lift-more}
 use Rattle.line_tree.proofs.put_row.lift.Goals as goal

@@ -1,5 +1,5 @@
-use Rattle.line_tree.proofs.Words.{◌≡◌, ◌+◌, ◌-◌, ◌*◌, ◌<◌, ◌≤◌, length, vec_capacity, nodes, records, rooms, spares}
-use Rattle.line_tree.proofs.Words.{Lifted, levels_at_most}
+use Rattle.line_tree.proofs.Common.{◌≡◌, ◌+◌, ◌-◌, ◌*◌, ◌<◌, ◌≤◌, length, vec_capacity, nodes, records, rooms, spares}
+use Rattle.line_tree.proofs.Common.{Lifted, levels_at_most}
 use Rattle.line_tree.proofs.put_row.lift.Given as goal
 
 abbrev pub invariant-loop-below : goal.invariant-loop-below

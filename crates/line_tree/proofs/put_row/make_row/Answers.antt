@@ -1,5 +1,5 @@
-use Rattle.line_tree.proofs.Words.{[], ◌∷◌, length, reverse, sym, ap, ◌∙◌, subst, arith, length_push, contents, records}
-use Rattle.line_tree.proofs.Words.{lines_of, Becomes, trees_at}
+use Rattle.line_tree.proofs.Common.{[], ◌∷◌, length, reverse, sym, ap, ◌∙◌, subst, arith, length_push, contents}
+use Rattle.line_tree.proofs.Common.{records, lines_of, Becomes, trees_at}
 use Rattle.line_tree.proofs.NewRowLaws.{last-left, reversed, row-lines, row-more}
 use Rattle.line_tree.proofs.RoomLaws.{len-line}
 use Rattle.line_tree.proofs.put_row.make_row.Goals as goal

@@ -1,5 +1,5 @@
-use Rattle.line_tree.proofs.Words.{◌≡◌, ◌+◌, ◌≤◌, [], length, reverse, take, drop, vec_capacity, contents, nodes}
-use Rattle.line_tree.proofs.Words.{records, rooms, spares, lines_of, Becomes, trees_at}
+use Rattle.line_tree.proofs.Common.{◌≡◌, ◌+◌, ◌≤◌, [], length, reverse, take, drop, vec_capacity, contents, nodes}
+use Rattle.line_tree.proofs.Common.{records, rooms, spares, lines_of, Becomes, trees_at}
 use Rattle.line_tree.proofs.put_row.make_row.Given as goal
 
 abbrev pub invariant-loop-lines : goal.invariant-loop-lines

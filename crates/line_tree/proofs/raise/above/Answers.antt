@@ -1,5 +1,5 @@
-use Rattle.line_tree.proofs.Words.{◌≤◌, length, take, drop, length-take, sym, ap, ◌∙◌, subst, arith, slice_get, CanFill}
-use Rattle.line_tree.proofs.Words.{FitsSum, sums, records}
+use Rattle.line_tree.proofs.Common.{◌≤◌, length, take, drop, length-take, sym, ap, ◌∙◌, subst, arith, slice_get}
+use Rattle.line_tree.proofs.Common.{CanFill, FitsSum, sums, records}
 use Rattle.line_tree.proofs.AmongLaws.{get-among}
 use Rattle.line_tree.proofs.FillLaws.{row-some, sums-row}
 use Rattle.line_tree.proofs.RoomLaws.{len-refilled}

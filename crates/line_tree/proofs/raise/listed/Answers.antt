@@ -1,4 +1,4 @@
-use Rattle.line_tree.proofs.Words.{◌≡◌, get_or, None, ap, ◌∙◌, kids, records, at_some, get_or-row}
+use Rattle.line_tree.proofs.Common.{◌≡◌, get_or, None, ap, ◌∙◌, kids, records, at_some, get_or-row}
 use Rattle.std.specs.FinMap as finite
 use Rattle.line_tree.proofs.raise.listed.Goals as goal
 

@@ -1,4 +1,4 @@
-use Rattle.line_tree.proofs.Words.{◌≡◌, ◌++◌, take, vec_capacity}
+use Rattle.line_tree.proofs.Common.{◌≡◌, ◌++◌, take, vec_capacity}
 use Rattle.line_tree.proofs.raise.push_all.Given as goal
 
 abbrev pub invariant-loop-i : goal.invariant-loop-i

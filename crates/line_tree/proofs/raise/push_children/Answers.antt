@@ -1,5 +1,5 @@
-use Rattle.line_tree.proofs.Words.{◌++◌, sym, ap, ◌∙◌, arith, vec_capacity, Vec, option_to_list, append-nil, NodePtr}
-use Rattle.line_tree.proofs.Words.{kids, records}
+use Rattle.line_tree.proofs.Common.{◌++◌, sym, ap, ◌∙◌, arith, vec_capacity, Vec, option_to_list, append-nil, NodePtr}
+use Rattle.line_tree.proofs.Common.{kids, records}
 use Rattle.std.specs.Global.{Global}
 use Rattle.line_tree.proofs.RaiseLaws.{grown}
 use Rattle.line_tree.proofs.raise.push_children.Goals.{in-Some, in_default}

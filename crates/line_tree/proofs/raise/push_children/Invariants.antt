@@ -1,4 +1,4 @@
-use Rattle.line_tree.proofs.Words.{◌≡◌, ◌-◌, ◌≤◌, ◌++◌, take, drop, vec_capacity, kids, records}
+use Rattle.line_tree.proofs.Common.{◌≡◌, ◌-◌, ◌≤◌, ◌++◌, take, drop, vec_capacity, kids, records}
 use Rattle.line_tree.proofs.raise.push_children.Given as goal
 
 abbrev pub invariant-loop-slot : goal.invariant-loop-slot

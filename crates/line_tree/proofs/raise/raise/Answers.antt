@@ -1,6 +1,6 @@
-use Rattle.line_tree.proofs.Words.{◌≡◌, ℕ, ◌+◌, ◌-◌, ◌*◌, ◌<◌, ◌≤◌, inl, inr, List, [], ◌∷◌, ◌++◌, length, take, drop}
-use Rattle.line_tree.proofs.Words.{sym, ap, ◌∙◌, subst, arith, length-take, length-drop, cases_lt, length_push}
-use Rattle.line_tree.proofs.Words.{take_all, NodePtr, records, CanRaise, Raises}
+use Rattle.line_tree.proofs.Common.{◌≡◌, ℕ, ◌+◌, ◌-◌, ◌*◌, ◌<◌, ◌≤◌, inl, inr, List, [], ◌∷◌, ◌++◌, length, take, drop}
+use Rattle.line_tree.proofs.Common.{sym, ap, ◌∙◌, subst, arith, length-take, length-drop, cases_lt, length_push}
+use Rattle.line_tree.proofs.Common.{take_all, NodePtr, records, CanRaise, Raises}
 use Rattle.line_tree.proofs.RaiseLaws.{next-fits, next-there, raises-more, three-parts, two-parts}
 use Rattle.line_tree.proofs.raise.raise.Goals as goal
 

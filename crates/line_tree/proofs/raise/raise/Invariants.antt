@@ -1,5 +1,5 @@
-use Rattle.line_tree.proofs.Words.{◌≡◌, ℕ, ◌+◌, ◌-◌, ◌*◌, ◌≤◌, ◌<◌, length, take, vec_capacity, nodes, records, rooms}
-use Rattle.line_tree.proofs.Words.{spares, CanRaise, Raises}
+use Rattle.line_tree.proofs.Common.{◌≡◌, ℕ, ◌+◌, ◌-◌, ◌*◌, ◌≤◌, ◌<◌, length, take, vec_capacity, nodes, records, rooms}
+use Rattle.line_tree.proofs.Common.{spares, CanRaise, Raises}
 use Rattle.line_tree.proofs.raise.raise.Given as goal
 
 abbrev pub invariant-loop-from : goal.invariant-loop-from

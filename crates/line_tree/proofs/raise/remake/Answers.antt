@@ -1,5 +1,5 @@
-use Rattle.line_tree.proofs.Words.{◌≡◌, List, ◌++◌, length, take, drop, sym, ap, ◌∙◌, subst, arith, NodePtr, kids}
-use Rattle.line_tree.proofs.Words.{records, CanRaise, Raises}
+use Rattle.line_tree.proofs.Common.{◌≡◌, List, ◌++◌, length, take, drop, sym, ap, ◌∙◌, subst, arith, NodePtr, kids}
+use Rattle.line_tree.proofs.Common.{records, CanRaise, Raises}
 use Rattle.line_tree.proofs.raise.remake.Goals as goal
 
 pub raise-requires-clause-raise : goal.raise-requires-clause-raise

@@ -1,4 +1,4 @@
-use Rattle.line_tree.proofs.Words.{◌≤◌, length, take, drop, arith, length-take}
+use Rattle.line_tree.proofs.Common.{◌≤◌, length, take, drop, arith, length-take}
 use Rattle.line_tree.proofs.FillLaws.{same_row}
 use Rattle.line_tree.proofs.raise.slots_of.Goals as goal
 

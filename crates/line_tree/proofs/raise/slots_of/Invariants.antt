@@ -1,4 +1,4 @@
-use Rattle.line_tree.proofs.Words.{◌≡◌, ℕ, ◌<◌, length, get_or, take, drop, None, slice_get}
+use Rattle.line_tree.proofs.Common.{◌≡◌, ℕ, ◌<◌, length, get_or, take, drop, None, slice_get}
 use Rattle.line_tree.proofs.raise.slots_of.Given as goal
 
 abbrev pub invariant-loop-i : goal.invariant-loop-i

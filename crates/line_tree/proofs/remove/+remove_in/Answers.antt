@@ -1,7 +1,7 @@
-use Rattle.line_tree.proofs.Words.{◌≡◌, ℕ, zero, suc, ◌+◌, ◌-◌, ◌<◌, ◌≤◌, ◌⊎◌, inl, inr, length, refl, sym, subst}
-use Rattle.line_tree.proofs.Words.{arith, Some, None, ap, ◌∙◌, IsSome, remove, FitsSum, resummed, sum_all, IsTree}
-use Rattle.line_tree.proofs.Words.{Links, lines_in, sum_at, sum_of, NodePtr, Records, kids, row, plus, records}
-use Rattle.line_tree.proofs.Words.{same_Some, Found, CanRemove, Cleans, Removes, Settles}
+use Rattle.line_tree.proofs.Common.{◌≡◌, ℕ, zero, suc, ◌+◌, ◌-◌, ◌<◌, ◌≤◌, ◌⊎◌, inl, inr, length, refl, sym, subst}
+use Rattle.line_tree.proofs.Common.{arith, Some, None, ap, ◌∙◌, IsSome, remove, FitsSum, resummed, sum_all, IsTree}
+use Rattle.line_tree.proofs.Common.{Links, lines_in, sum_at, sum_of, NodePtr, Records, kids, row, plus, records}
+use Rattle.line_tree.proofs.Common.{same_Some, Found, CanRemove, Cleans, Removes, Settles}
 use Rattle.line_tree.proofs.FillLaws.{sums-row}
 use Rattle.line_tree.proofs.KeptLaws.{kept-whole}
 use Rattle.line_tree.proofs.RowLaws.{lines_is, sum_is}

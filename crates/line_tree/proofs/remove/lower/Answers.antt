@@ -1,7 +1,7 @@
-use Rattle.line_tree.proofs.Words.{◌≡◌, ℕ, ◌-◌, ◌<◌, suc, length, [], ◌∷◌, refl, sym, ap, ◌∙◌, subst, arith, None}
-use Rattle.line_tree.proofs.Words.{IsSome, length-map, slice_get-get_or, IsBalancedRoot, NodePtr, Records, update}
-use Rattle.line_tree.proofs.Words.{with_parent, kids, records, tree_at, len-update, named-update, HasRow, CanLower}
-use Rattle.line_tree.proofs.Words.{Lowers}
+use Rattle.line_tree.proofs.Common.{◌≡◌, ℕ, ◌-◌, ◌<◌, suc, length, [], ◌∷◌, refl, sym, ap, ◌∙◌, subst, arith, None}
+use Rattle.line_tree.proofs.Common.{IsSome, length-map, slice_get-get_or, IsBalancedRoot, NodePtr, Records, update}
+use Rattle.line_tree.proofs.Common.{with_parent, kids, records, tree_at, len-update, named-update, HasRow, CanLower}
+use Rattle.line_tree.proofs.Common.{Lowers}
 use Rattle.line_tree.proofs.LowerLaws.{lowers-child, lowers-same, only-child}
 use Rattle.line_tree.proofs.PutLaws.{count-row}
 use Rattle.line_tree.proofs.RoomLaws.{len-gone}

@@ -1,5 +1,5 @@
-use Rattle.line_tree.proofs.Words.{◌≡◌, sym, ap, ◌∙◌, subst, arith, IfSome, CanExchange, Count, IsWithin, exchanged}
-use Rattle.line_tree.proofs.Words.{plus, without, FitsSum, sums, kids, row, records, sum_of, with_sum, same_slots}
+use Rattle.line_tree.proofs.Common.{◌≡◌, sym, ap, ◌∙◌, subst, arith, IfSome, CanExchange, Count, IsWithin, exchanged}
+use Rattle.line_tree.proofs.Common.{plus, without, FitsSum, sums, kids, row, records, sum_of, with_sum, same_slots}
 use Rattle.toggle_sums.proofs.ExchangeLaws.{union-part}
 use Rattle.line_tree.proofs.KeptLaws.{update-as}
 use Rattle.line_tree.proofs.LessLaws.{without-plus}

@@ -1,4 +1,4 @@
-use Rattle.line_tree.proofs.Words.{◌≡◌, ap, sym, ◌∙◌, subst, OnSome, WroteLine, at_some, line_of}
+use Rattle.line_tree.proofs.Common.{◌≡◌, ap, sym, ◌∙◌, subst, OnSome, WroteLine, at_some, line_of}
 use Rattle.std.proofs.Common.{option_map}
 use Rattle.line_tree.proofs.replacing.put_over.Goals as goal
 

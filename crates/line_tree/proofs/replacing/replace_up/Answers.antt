@@ -1,4 +1,4 @@
-use Rattle.line_tree.proofs.Words.{◌∙◌, subst, arith, records, Changes}
+use Rattle.line_tree.proofs.Common.{◌∙◌, subst, arith, records, Changes}
 use Rattle.line_tree.proofs.ClimbingLaws.{above-of, climbed, has-parent, line-can, line-tree, root-can, starts}
 use Rattle.line_tree.proofs.ClimbingLaws.{still-named}
 use Rattle.line_tree.proofs.ReplacingLaws.{came-here, fits-here, puts-line, replaces-here, row-here, sum-here}

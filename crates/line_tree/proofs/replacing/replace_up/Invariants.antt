@@ -1,4 +1,4 @@
-use Rattle.line_tree.proofs.Words.{◌≡◌, ℕ, ◌≤◌, IsWithin, lines_in, records, rooms, spares, total, IsLineAt}
+use Rattle.line_tree.proofs.Common.{◌≡◌, ℕ, ◌≤◌, IsWithin, lines_in, records, rooms, spares, total, IsLineAt}
 use Rattle.line_tree.proofs.ClimbingLaws.{Climbs}
 use Rattle.line_tree.proofs.replacing.replace_up.Given as goal
 

@@ -1,4 +1,4 @@
-use Rattle.line_tree.proofs.Words.{◌≡◌, ◌+◌, ◌-◌, ◌*◌, ◌≤◌, suc, subst, arith, IsTree, lines_in, records}
+use Rattle.line_tree.proofs.Common.{◌≡◌, ◌+◌, ◌-◌, ◌*◌, ◌≤◌, suc, subst, arith, IsTree, lines_in, records}
 use Rattle.line_tree.proofs.PrefixLaws.{sum-below}
 use Rattle.line_tree.proofs.SearchLaws.{Passes, passes-below, passes-fits, passes-line, passes-start, passes-step}
 use Rattle.line_tree.proofs.SearchLaws.{steps-deeper}

@@ -1,4 +1,4 @@
-use Rattle.line_tree.proofs.Words.{◌≡◌, ◌+◌, ◌-◌, ◌*◌, ◌≤◌, IfSome, IsTree, lines_in, sum_at, records}
+use Rattle.line_tree.proofs.Common.{◌≡◌, ◌+◌, ◌-◌, ◌*◌, ◌≤◌, IfSome, IsTree, lines_in, sum_at, records}
 use Rattle.line_tree.proofs.SearchLaws.{Passes}
 use Rattle.line_tree.proofs.search.descend.Given as goal
 

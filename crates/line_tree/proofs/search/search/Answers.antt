@@ -1,4 +1,4 @@
-use Rattle.line_tree.proofs.Words.{◌+◌, sym, ap, ◌∙◌, subst, arith, kids, records, sum_at}
+use Rattle.line_tree.proofs.Common.{◌+◌, sym, ap, ◌∙◌, subst, arith, kids, records, sum_at}
 use Rattle.line_tree.proofs.PrefixLaws.{sum-none}
 use Rattle.line_tree.proofs.RowLaws.{asks, child_is, none_of, said}
 use Rattle.line_tree.proofs.SearchLaws.{behind-more, fits-child, steps-more, steps-within, wide-more}

@@ -1,4 +1,4 @@
-use Rattle.line_tree.proofs.Words.{◌≡◌, ◌+◌, ◌*◌, ◌≤◌, records, sum_before}
+use Rattle.line_tree.proofs.Common.{◌≡◌, ◌+◌, ◌*◌, ◌≤◌, records, sum_before}
 use Rattle.line_tree.proofs.search.search.Given as goal
 
 abbrev pub invariant-loop-slot : goal.invariant-loop-slot

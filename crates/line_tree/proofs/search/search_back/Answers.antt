@@ -1,4 +1,4 @@
-use Rattle.line_tree.proofs.Words.{◌≡◌, ◌+◌, ◌-◌, sym, ap, ◌∙◌, arith, take, take_all, kids, records, sum_all, sum_at}
+use Rattle.line_tree.proofs.Common.{◌≡◌, ◌+◌, ◌-◌, sym, ap, ◌∙◌, arith, take, take_all, kids, records, sum_all, sum_at}
 use Rattle.line_tree.proofs.PrefixLaws.{sum-none}
 use Rattle.line_tree.proofs.RowLaws.{asks, child_is, none_of, said}
 use Rattle.line_tree.proofs.SearchLaws.{behind-last, steps-more, steps-within, wide-more}

@@ -1,4 +1,4 @@
-use Rattle.line_tree.proofs.Words.{◌≡◌, ◌+◌, ◌-◌, ◌*◌, ◌<◌, ◌≤◌, records, sum_before, sum_below}
+use Rattle.line_tree.proofs.Common.{◌≡◌, ◌+◌, ◌-◌, ◌*◌, ◌<◌, ◌≤◌, records, sum_before, sum_below}
 use Rattle.line_tree.proofs.search.search_back.Given as goal
 
 abbrev pub invariant-loop-back : goal.invariant-loop-back

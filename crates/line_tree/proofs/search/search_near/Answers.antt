@@ -1,4 +1,4 @@
-use Rattle.line_tree.proofs.Words.{records}
+use Rattle.line_tree.proofs.Common.{records}
 use Rattle.line_tree.proofs.TreeLaws.{named-row}
 use Rattle.line_tree.proofs.search.search_near.Goals as goal
 

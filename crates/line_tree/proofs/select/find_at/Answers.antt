@@ -1,5 +1,5 @@
-use Rattle.line_tree.proofs.Words.{◌≡◌, ℕ, ◌≤◌, ◌<◌, suc, length, refl, sym, ◌∙◌, subst, arith, IsSome}
-use Rattle.line_tree.proofs.Words.{slice_get-get_or, IsTree, NodePtr, Records, kids, records, lines_below}
+use Rattle.line_tree.proofs.Common.{◌≡◌, ℕ, ◌≤◌, ◌<◌, suc, length, refl, sym, ◌∙◌, subst, arith, IsSome}
+use Rattle.line_tree.proofs.Common.{slice_get-get_or, IsTree, NodePtr, Records, kids, records, lines_below}
 use Rattle.line_tree.proofs.LowestLaws.{lowest-before, lowest-below, lowest-child, one-line}
 use Rattle.line_tree.proofs.RowLaws.{child_is}
 use Rattle.line_tree.proofs.TreeLaws.{child-tree, named-tree, row-tree}

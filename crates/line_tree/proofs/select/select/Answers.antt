@@ -1,5 +1,5 @@
-use Rattle.line_tree.proofs.Words.{◌≡◌, ◌-◌, ◌<◌, suc, length, sym, ap, ◌∙◌, subst, arith, slice_get, option_map}
-use Rattle.line_tree.proofs.Words.{IsTree, lines_in, records}
+use Rattle.line_tree.proofs.Common.{◌≡◌, ◌-◌, ◌<◌, suc, length, sym, ap, ◌∙◌, subst, arith, slice_get, option_map}
+use Rattle.line_tree.proofs.Common.{IsTree, lines_in, records}
 use Rattle.line_tree.proofs.TreeLaws.{at_line, below-tree, count-tree, descends}
 use Rattle.line_tree.proofs.select.select.Goals as goal
 

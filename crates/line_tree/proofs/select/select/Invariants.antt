@@ -1,4 +1,4 @@
-use Rattle.line_tree.proofs.Words.{◌≡◌, ◌+◌, ◌*◌, ◌≤◌, ◌<◌, length, slice_get, IsTree, lines_in, records}
+use Rattle.line_tree.proofs.Common.{◌≡◌, ◌+◌, ◌*◌, ◌≤◌, ◌<◌, length, slice_get, IsTree, lines_in, records}
 use Rattle.line_tree.proofs.select.select.Given as goal
 
 abbrev pub invariant-loop-level : goal.invariant-loop-level

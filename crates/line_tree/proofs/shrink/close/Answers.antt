@@ -1,4 +1,4 @@
-use Rattle.line_tree.proofs.Words.{◌≡◌, ◌+◌, ◌∙◌, length, refl, sym, subst, arith, IfSome, IsSome, records}
+use Rattle.line_tree.proofs.Common.{◌≡◌, ◌+◌, ◌∙◌, length, refl, sym, subst, arith, IfSome, IsSome, records}
 use Rattle.line_tree.proofs.ClosingLaws.{Closing, close-first, close-last, close-next, close-read}
 use Rattle.line_tree.proofs.RowLaws.{none_of}
 use Rattle.line_tree.proofs.shrink.close.Goals as goal

@@ -1,4 +1,4 @@
-use Rattle.line_tree.proofs.Words.{◌≡◌, ◌-◌, suc, slice_get, kids, records, rooms, spares}
+use Rattle.line_tree.proofs.Common.{◌≡◌, ◌-◌, suc, slice_get, kids, records, rooms, spares}
 use Rattle.line_tree.proofs.ClosingLaws.{Closing}
 use Rattle.line_tree.proofs.shrink.close.Given as goal
 

@@ -1,6 +1,6 @@
-use Rattle.line_tree.proofs.Words.{◌≡◌, List, refl, sym, ap, subst, ◌∙◌, IsSome, remove, slice_get-get_or, CanFill}
-use Rattle.line_tree.proofs.Words.{FitsSum, relinked, resummed, sum_all, sums, NodePtr, Records, kids, row, plus}
-use Rattle.line_tree.proofs.Words.{records, sum_at, HasRow}
+use Rattle.line_tree.proofs.Common.{◌≡◌, List, refl, sym, ap, subst, ◌∙◌, IsSome, remove, slice_get-get_or, CanFill}
+use Rattle.line_tree.proofs.Common.{FitsSum, relinked, resummed, sum_all, sums, NodePtr, Records, kids, row, plus}
+use Rattle.line_tree.proofs.Common.{records, sum_at, HasRow}
 use Rattle.line_tree.proofs.FillLaws.{relinked-has_row, relinked-sums, sum-relinked}
 use Rattle.line_tree.proofs.shrink.drop_child.Goals as goal
 

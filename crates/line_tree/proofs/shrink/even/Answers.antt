@@ -1,6 +1,6 @@
-use Rattle.line_tree.proofs.Words.{◌≡◌, ◌+◌, ◌/◌, ◌≤◌, ◌++◌, ℕ, List, length, take, drop, sym, ap, subst, ◌∙◌, arith}
-use Rattle.line_tree.proofs.Words.{length-append, IfSome, take-append-le, take_all, CanEven, FitsSum, Halves, refilled}
-use Rattle.line_tree.proofs.Words.{sum_all, sums, Count, CountsFit, plus, NodePtr, Records, kids, row, records, sum_at}
+use Rattle.line_tree.proofs.Common.{◌≡◌, ◌+◌, ◌/◌, ◌≤◌, ◌++◌, ℕ, List, length, take, drop, sym, ap, subst, ◌∙◌, arith}
+use Rattle.line_tree.proofs.Common.{length-append, IfSome, take-append-le, take_all, CanEven, FitsSum, Halves, refilled}
+use Rattle.line_tree.proofs.Common.{sum_all, sums, Count, CountsFit, plus, NodePtr, Records, kids, row, records, sum_at}
 use Rattle.line_tree.proofs.EvenLaws.{fill-whole, kept-part, whole-sum}
 use Rattle.line_tree.proofs.FillLaws.{sums-row}
 use Rattle.line_tree.proofs.PutLaws.{count-row}

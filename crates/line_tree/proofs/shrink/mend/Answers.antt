@@ -1,6 +1,6 @@
-use Rattle.line_tree.proofs.Words.{◌≡◌, ◌<◌, ◌+◌, ◌-◌, length, refl, sym, ap, subst, ◌∙◌, arith, suc, inl, inr, ℕ, zero}
-use Rattle.line_tree.proofs.Words.{◌⊎◌, List, IsSome, slice_get, Option, slice_get-get_or, Evens, NodePtr, kids}
-use Rattle.line_tree.proofs.Words.{records}
+use Rattle.line_tree.proofs.Common.{◌≡◌, ◌<◌, ◌+◌, ◌-◌, length, refl, sym, ap, subst, ◌∙◌, arith, suc, inl, inr, ℕ}
+use Rattle.line_tree.proofs.Common.{zero, ◌⊎◌, List, IsSome, slice_get, Option, slice_get-get_or, Evens, NodePtr, kids}
+use Rattle.line_tree.proofs.Common.{records}
 use Rattle.line_tree.proofs.shrink.mend.Goals as goal
 
 some-at : (cs : List NodePtr) (o : Option NodePtr) (i : ℕ) (d : NodePtr) → o ≡ slice_get cs i → i < length cs → IsSome o

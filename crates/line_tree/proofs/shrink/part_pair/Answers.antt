@@ -1,4 +1,4 @@
-use Rattle.line_tree.proofs.Words.{◌≤◌, ◌++◌, length, take, drop, arith, length-take, kids, records}
+use Rattle.line_tree.proofs.Common.{◌≤◌, ◌++◌, length, take, drop, arith, length-take, kids, records}
 use Rattle.line_tree.proofs.FillLaws.{same_row}
 use Rattle.line_tree.proofs.PutLaws.{count-row}
 use Rattle.line_tree.proofs.shrink.part_pair.Goals as goal

@@ -1,4 +1,4 @@
-use Rattle.line_tree.proofs.Words.{◌≡◌, ℕ, ◌<◌, ◌++◌, length, get_or, take, drop, None, slice_get, kids, records}
+use Rattle.line_tree.proofs.Common.{◌≡◌, ℕ, ◌<◌, ◌++◌, length, get_or, take, drop, None, slice_get, kids, records}
 use Rattle.line_tree.proofs.shrink.part_pair.Given as goal
 
 abbrev pub invariant-loop-i : goal.invariant-loop-i

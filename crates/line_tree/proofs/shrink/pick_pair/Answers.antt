@@ -1,4 +1,4 @@
-use Rattle.line_tree.proofs.Words.{◌-◌, sym, ◌∙◌, arith, kids, records}
+use Rattle.line_tree.proofs.Common.{◌-◌, sym, ◌∙◌, arith, kids, records}
 use Rattle.line_tree.proofs.EvenLaws.{pair-past}
 use Rattle.line_tree.proofs.RowLaws.{child_is}
 use Rattle.line_tree.proofs.TreeLaws.{get-left, get-right}

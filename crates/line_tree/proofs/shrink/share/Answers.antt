@@ -1,6 +1,6 @@
-use Rattle.line_tree.proofs.Words.{◌≡◌, ◌+◌, ◌≤◌, ◌++◌, ℕ, List, length, take, drop, refl, sym, ap, subst, ◌∙◌, arith}
-use Rattle.line_tree.proofs.Words.{length-drop, take-append-le, take_all, CanFill, refilled, sums, NodePtr, kids, row}
-use Rattle.line_tree.proofs.Words.{records}
+use Rattle.line_tree.proofs.Common.{◌≡◌, ◌+◌, ◌≤◌, ◌++◌, ℕ, List, length, take, drop, refl, sym, ap, subst, ◌∙◌, arith}
+use Rattle.line_tree.proofs.Common.{length-drop, take-append-le, take_all, CanFill, refilled, sums, NodePtr, kids, row}
+use Rattle.line_tree.proofs.Common.{records}
 use Rattle.line_tree.proofs.EvenLaws.{back-sums, fill-back, fill-front, kept-part}
 use Rattle.line_tree.proofs.FillLaws.{sums-row}
 use Rattle.line_tree.proofs.KeptLaws.{take-short}

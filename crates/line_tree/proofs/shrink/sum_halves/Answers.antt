@@ -1,6 +1,6 @@
-use Rattle.line_tree.proofs.Words.{◌≡◌, ◌-◌, ◌<◌, ◌≤◌, ◌++◌, ℕ, List, length, take, drop, sym, ap, subst, ◌∙◌, arith}
-use Rattle.line_tree.proofs.Words.{IfSome, Option, take-append-drop, plus-commutative, CanEven, FitsSum, sum_all, sums}
-use Rattle.line_tree.proofs.Words.{Count, plus, NodePtr, Records, kids, row, records}
+use Rattle.line_tree.proofs.Common.{◌≡◌, ◌-◌, ◌<◌, ◌≤◌, ◌++◌, ℕ, List, length, take, drop, sym, ap, subst, ◌∙◌, arith}
+use Rattle.line_tree.proofs.Common.{IfSome, Option, take-append-drop, plus-commutative, CanEven, FitsSum, sum_all, sums}
+use Rattle.line_tree.proofs.Common.{Count, plus, NodePtr, Records, kids, row, records}
 use Rattle.line_tree.proofs.AmongLaws.{among-drop, among-take}
 use Rattle.line_tree.proofs.EvenLaws.{halves, named-part}
 use Rattle.line_tree.proofs.FillLaws.{sum_all-append, sums-row}

@@ -1,4 +1,4 @@
-use Rattle.line_tree.proofs.Words.{◌∙◌, ap, kids, records}
+use Rattle.line_tree.proofs.Common.{◌∙◌, ap, kids, records}
 use mathlib.Core.Bool.{not}
 use Rattle.line_tree.proofs.SpreadLaws.{room-none, room-some}
 use Rattle.line_tree.proofs.spread.has_room.Goals as goal

@@ -1,4 +1,4 @@
-use Rattle.line_tree.proofs.Words.{◌∙◌, sym}
+use Rattle.line_tree.proofs.Common.{◌∙◌, sym}
 use Rattle.line_tree.proofs.spread.is_roomy.Goals as goal
 
 pub has_room-requires-clause-row : goal.has_room-requires-clause-row

@@ -1,6 +1,6 @@
-use Rattle.line_tree.proofs.Words.{◌≡◌, ◌+◌, ℕ, ◌++◌, ◌∙◌, ◌≤◌, Bool, inl, inr, refl, sym, ap, suc, arith, subst}
-use Rattle.line_tree.proofs.Words.{length, length-append, IsSome, List, Some, slice_get, slice_get-get_or}
-use Rattle.line_tree.proofs.Words.{slice_get_within, Halves, NodePtr, Records, kids, records, first_part}
+use Rattle.line_tree.proofs.Common.{◌≡◌, ◌+◌, ℕ, ◌++◌, ◌∙◌, ◌≤◌, Bool, inl, inr, refl, sym, ap, suc, arith, subst}
+use Rattle.line_tree.proofs.Common.{length, length-append, IsSome, List, Some, slice_get, slice_get-get_or}
+use Rattle.line_tree.proofs.Common.{slice_get_within, Halves, NodePtr, Records, kids, records, first_part}
 use Rattle.line_tree.proofs.PutLaws.{count-row}
 use Rattle.line_tree.proofs.SpreadLaws.{enough, halves-first, not-more}
 use Rattle.line_tree.proofs.spread.spread.Given.{Over}

@@ -1,5 +1,5 @@
-use Rattle.line_tree.proofs.Words.{true, ◌≡◌, take, refl, sym, ap, ◌∙◌, arith, differing, empty-differing, Count}
-use Rattle.line_tree.proofs.Words.{IsBare, lines_in, sum_at, records, total, SlotsBefore}
+use Rattle.line_tree.proofs.Common.{true, ◌≡◌, take, refl, sym, ap, ◌∙◌, arith, differing, empty-differing, Count}
+use Rattle.line_tree.proofs.Common.{IsBare, lines_in, sum_at, records, total, SlotsBefore}
 use Rattle.line_tree.proofs.BareLaws.{bare-front}
 use Rattle.line_tree.proofs.PrefixLaws.{all-lines, some-left}
 use Rattle.line_tree.proofs.RowLaws.{lines_is, said, tells}

@@ -1,4 +1,4 @@
-use Rattle.line_tree.proofs.Words.{ap, subst, arith, lines_in, records, IsLineAt, CharactersBefore}
+use Rattle.line_tree.proofs.Common.{ap, subst, arith, lines_in, records, IsLineAt, CharactersBefore}
 use Rattle.line_tree.proofs.SearchLaws.{arrives-at, arrives-before, arrives-named}
 use Rattle.line_tree.proofs.TreeLaws.{total-lines}
 use Rattle.line_tree.proofs.starts.place.Goals as goal

@@ -1,4 +1,4 @@
-use Rattle.line_tree.proofs.Words.{ℕ, refl, ap, ◌∙◌, Count, records, sum_at}
+use Rattle.line_tree.proofs.Common.{ℕ, refl, ap, ◌∙◌, Count, records, sum_at}
 use Rattle.line_tree.proofs.PrefixLaws.{all-lines, some-left}
 use Rattle.line_tree.proofs.RowLaws.{size_is}
 use Rattle.line_tree.proofs.TreeLaws.{named-tree}

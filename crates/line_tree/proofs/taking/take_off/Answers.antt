@@ -1,5 +1,5 @@
-use Rattle.line_tree.proofs.Words.{◌≡◌, ap, sym, ◌∙◌, subst, OnSome, length, option_to_list, without_mark, LineContent}
-use Rattle.line_tree.proofs.Words.{line_of, records, update, WroteLine, at_some}
+use Rattle.line_tree.proofs.Common.{◌≡◌, ap, sym, ◌∙◌, subst, OnSome, length, option_to_list, without_mark, LineContent}
+use Rattle.line_tree.proofs.Common.{line_of, records, update, WroteLine, at_some}
 use Rattle.raw_nodes.specs.Records.{with_line}
 use Rattle.std.proofs.Common.{option_map}
 use Rattle.line_tree.proofs.TakingLaws.{how-many}

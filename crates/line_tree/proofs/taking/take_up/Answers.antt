@@ -1,4 +1,4 @@
-use Rattle.line_tree.proofs.Words.{◌∙◌, arith, counting, no_text, records, without_mark}
+use Rattle.line_tree.proofs.Common.{◌∙◌, arith, counting, no_text, records, without_mark}
 use Rattle.line_tree.proofs.ClimbingLaws.{above-of, climbed, has-parent, line-can, line-tree, root-can, starts}
 use Rattle.line_tree.proofs.ClimbingLaws.{still-named}
 use Rattle.line_tree.proofs.TakingLaws.{inner-here, marks-here, takes-here, takes-line}

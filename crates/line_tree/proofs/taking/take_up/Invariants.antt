@@ -1,5 +1,5 @@
-use Rattle.line_tree.proofs.Words.{◌≡◌, ℕ, ◌≤◌, counting, no_text, lines_in, records, rooms, spares, without_mark}
-use Rattle.line_tree.proofs.Words.{IsLineAt}
+use Rattle.line_tree.proofs.Common.{◌≡◌, ℕ, ◌≤◌, counting, no_text, lines_in, records, rooms, spares, without_mark}
+use Rattle.line_tree.proofs.Common.{IsLineAt}
 use Rattle.line_tree.proofs.ClimbingLaws.{Climbs}
 use Rattle.line_tree.proofs.taking.take_up.Given as goal
 

@@ -1,5 +1,5 @@
-use Rattle.line_tree.proofs.Words.{◌+◌, sym, ap, ◌∙◌, arith, option_map, slice_get_past, Named, lines_in, tree_at}
-use Rattle.line_tree.proofs.Words.{records}
+use Rattle.line_tree.proofs.Common.{◌+◌, sym, ap, ◌∙◌, arith, option_map, slice_get_past, Named, lines_in, tree_at}
+use Rattle.line_tree.proofs.Common.{records}
 use Rattle.line_tree.proofs.NextLaws.{balanced-high}
 use Rattle.line_tree.proofs.walk.behind.Goals as goal
 

@@ -1,5 +1,5 @@
-use Rattle.line_tree.proofs.Words.{ℕ, ◌+◌, ◌-◌, suc, refl, sym, ◌∙◌, arith, none-some, slice_get_within, kids, lines_in}
-use Rattle.line_tree.proofs.Words.{records, HasRow, IsLineAt}
+use Rattle.line_tree.proofs.Common.{ℕ, ◌+◌, ◌-◌, suc, refl, sym, ◌∙◌, arith, none-some, slice_get_within, kids}
+use Rattle.line_tree.proofs.Common.{lines_in, records, HasRow, IsLineAt}
 use Rattle.line_tree.proofs.PlaceLaws.{child-named, child-parent}
 use Rattle.line_tree.proofs.PutLaws.{count-row}
 use Rattle.line_tree.proofs.RowLaws.{child_is, past}

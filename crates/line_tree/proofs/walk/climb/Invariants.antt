@@ -1,4 +1,4 @@
-use Rattle.line_tree.proofs.Words.{ℕ, ◌+◌, ◌-◌, ◌≤◌, lines_in, records, IsLineAt}
+use Rattle.line_tree.proofs.Common.{ℕ, ◌+◌, ◌-◌, ◌≤◌, lines_in, records, IsLineAt}
 use Rattle.line_tree.proofs.NextLaws.{Ends}
 use Rattle.line_tree.proofs.walk.climb.Given as goal
 

@@ -1,5 +1,5 @@
-use Rattle.line_tree.proofs.Words.{◌≡◌, ◌-◌, ◌<◌, suc, length, sym, ap, ◌∙◌, subst, arith, slice_get, option_map}
-use Rattle.line_tree.proofs.Words.{IsBalanced, IsTree, lines_in, tree_at, records}
+use Rattle.line_tree.proofs.Common.{◌≡◌, ◌-◌, ◌<◌, suc, length, sym, ap, ◌∙◌, subst, arith, slice_get, option_map}
+use Rattle.line_tree.proofs.Common.{IsBalanced, IsTree, lines_in, tree_at, records}
 use Rattle.line_tree.proofs.RowLaws.{child_is}
 use Rattle.line_tree.proofs.TreeLaws.{at_line, named-tree, row-tree}
 use Rattle.line_tree.proofs.NextLaws.{first-child, has-child, some-line}

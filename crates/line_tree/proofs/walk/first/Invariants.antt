@@ -1,4 +1,4 @@
-use Rattle.line_tree.proofs.Words.{◌≡◌, ◌+◌, ◌≤◌, slice_get, IsBalanced, IsTree, lines_in, tree_at, records}
+use Rattle.line_tree.proofs.Common.{◌≡◌, ◌+◌, ◌≤◌, slice_get, IsBalanced, IsTree, lines_in, tree_at, records}
 use Rattle.line_tree.proofs.walk.first.Given as goal
 
 abbrev pub invariant-loop-level : goal.invariant-loop-level

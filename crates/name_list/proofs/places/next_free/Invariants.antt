@@ -1,4 +1,4 @@
-use Rattle.name_list.proofs.Words.{◌≡◌, ℕ, ◌-◌, ◌<◌, ◌≤◌, true, length, is_taken}
+use Rattle.name_list.proofs.Common.{◌≡◌, ℕ, ◌-◌, ◌<◌, ◌≤◌, true, length, is_taken}
 use Rattle.name_list.proofs.places.next_free.Given as goal
 
 abbrev pub invariant-loop-number : goal.invariant-loop-number

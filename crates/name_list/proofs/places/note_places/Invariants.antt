@@ -1,4 +1,4 @@
-use Rattle.name_list.proofs.Words.{IsIndexTo}
+use Rattle.name_list.proofs.Common.{IsIndexTo}
 use Rattle.std.specs.HashMap.{values}
 use Rattle.name_list.proofs.places.note_places.Given as goal
 

@@ -1,4 +1,4 @@
-use Rattle.name_list.proofs.Words.{◌≡◌, ℕ, ◌≤◌, false, length, is_taken}
+use Rattle.name_list.proofs.Common.{◌≡◌, ℕ, ◌≤◌, false, length, is_taken}
 use Rattle.name_list.proofs.places.places_needed.Given as goal
 
 abbrev pub invariant-loop-needed : goal.invariant-loop-needed

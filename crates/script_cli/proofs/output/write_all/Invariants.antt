@@ -1,4 +1,4 @@
-use Rattle.script_cli.proofs.Words.{◌≡◌, length, ◌-◌, ◌≤◌, take, false, Takes}
+use Rattle.script_cli.proofs.Common.{◌≡◌, length, ◌-◌, ◌≤◌, take, false, Takes}
 use Rattle.script_cli.proofs.output.write_all.Given as goal
 
 abbrev pub invariant-loop-sent : goal.invariant-loop-sent

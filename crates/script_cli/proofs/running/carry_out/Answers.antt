@@ -1,4 +1,4 @@
-use Rattle.script_cli.proofs.Words.{◌≡◌, true, false, refl, ap, ◌∙◌, arith, Unread, is_fault}
+use Rattle.script_cli.proofs.Common.{◌≡◌, true, false, refl, ap, ◌∙◌, arith, Unread, is_fault}
 use Rattle.script_cli.proofs.RunLaws.{turned, so_far_none, answers_more, refuses_more, closes_at_end, closes_at_fault}
 use Rattle.script_cli.proofs.RunLaws.{closed_ok, closed_err, cuts}
 use Rattle.script_cli.specs.declared.turns.Met.TheVariants as kinds

@@ -1,4 +1,4 @@
-use Rattle.script_cli.proofs.Words.{◌≡◌, ◌+◌, ◌≤◌, false, length}
+use Rattle.script_cli.proofs.Common.{◌≡◌, ◌+◌, ◌≤◌, false, length}
 use Rattle.script_cli.proofs.RunLaws.{SoFar}
 use Rattle.script_cli.proofs.running.carry_out.Given as goal
 

@@ -1,5 +1,5 @@
-use Rattle.script_cli.proofs.Words.{◌≡◌, ℕ, ◌+◌, false, length, refl, ap, ◌∙◌, arith, length-append, Result, Ok, Err}
-use Rattle.script_cli.proofs.Words.{OnErr, Unread, Feeds, is_end}
+use Rattle.script_cli.proofs.Common.{◌≡◌, ℕ, ◌+◌, false, length, refl, ap, ◌∙◌, arith, length-append, Result, Ok, Err}
+use Rattle.script_cli.proofs.Common.{OnErr, Unread, Feeds, is_end}
 use Rattle.script_cli.proofs.RunLaws.{running_none, running_lost, running_stops, running_cut, running_more}
 use Rattle.script_cli.proofs.RunLaws.{run_to_fault, run_to_end}
 use Rattle.script_cli.proofs.running.run_reads.Goals as goal

@@ -1,4 +1,4 @@
-use Rattle.script_cli.proofs.Words.{◌≡◌, ◌+◌, ◌*◌, ◌≤◌, [], false, length, unread}
+use Rattle.script_cli.proofs.Common.{◌≡◌, ◌+◌, ◌*◌, ◌≤◌, [], false, length, unread}
 use Rattle.script_cli.proofs.RunLaws.{Running}
 use Rattle.script_cli.proofs.running.run_reads.Given as goal
 

@@ -1,4 +1,4 @@
-use Rattle.script_cli.proofs.Words.{texts_of, piece}
+use Rattle.script_cli.proofs.Common.{texts_of, piece}
 use Rattle.script_cli.proofs.TurnLaws.{replies}
 use Rattle.script_cli.proofs.turns.answer.Goals as goal
 

@@ -1,4 +1,4 @@
-use Rattle.script_cli.proofs.Words.{true, refl, ap, [], Some, inr, Err, Ok, Memory, piece, last_piece, Meets}
+use Rattle.script_cli.proofs.Common.{true, refl, ap, [], Some, inr, Err, Ok, Memory, piece, last_piece, Meets}
 use Rattle.script_cli.proofs.TurnLaws.{meets, meets_fault}
 use Rattle.script_cli.specs.declared.turns.Met.TheVariants as met
 use Rattle.script_cli.proofs.turns.refuse.Goals as goal

@@ -1,4 +1,4 @@
-use Rattle.script_cli.proofs.Words.{refl, ap, Some, Ok, Err, last_piece, Meets, is_refusal, texts_of}
+use Rattle.script_cli.proofs.Common.{refl, ap, Some, Ok, Err, last_piece, Meets, is_refusal, texts_of}
 use Rattle.script_cli.proofs.TurnLaws.{meets, meets_command, meets_fault}
 use Rattle.script_cli.specs.declared.turns.Met.TheVariants as met
 use Rattle.script_cli.proofs.turns.take_turn.Goals as goal

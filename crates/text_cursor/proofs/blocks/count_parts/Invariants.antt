@@ -1,4 +1,4 @@
-use Rattle.text_cursor.proofs.Words.{◌≡◌, take, parts_len}
+use Rattle.text_cursor.proofs.Common.{◌≡◌, take, parts_len}
 use Rattle.text_cursor.proofs.blocks.count_parts.Given as goal
 
 abbrev pub invariant-loop-part : goal.invariant-loop-part

@@ -1,4 +1,4 @@
-use Rattle.text_cursor.proofs.Words.{◌≡◌, ◌+◌, drop, line_start}
+use Rattle.text_cursor.proofs.Common.{◌≡◌, ◌+◌, drop, line_start}
 use Rattle.text_cursor.proofs.cursors.first_newline.Given as goal
 
 abbrev pub invariant-loop-index : goal.invariant-loop-index

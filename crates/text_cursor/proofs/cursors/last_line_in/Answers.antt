@@ -1,4 +1,4 @@
-use Rattle.text_cursor.proofs.Words.{◌-◌, ◌≤◌, ap, sym, subst, ◌∙◌, last_line}
+use Rattle.text_cursor.proofs.Common.{◌-◌, ◌≤◌, ap, sym, subst, ◌∙◌, last_line}
 use Rattle.text_cursor.proofs.LookLaws.{old-last-in, new-text, last-bound}
 use Rattle.text_cursor.proofs.cursors.last_line_in.Goals as goal
 

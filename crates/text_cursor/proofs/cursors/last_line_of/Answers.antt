@@ -1,4 +1,4 @@
-use Rattle.text_cursor.proofs.Words.{◌+◌, ◌-◌, ◌<◌, sym, subst, ◌∙◌, arith, IsLastLine, front_text, parts_len}
+use Rattle.text_cursor.proofs.Common.{◌+◌, ◌-◌, ◌<◌, sym, subst, ◌∙◌, arith, IsLastLine, front_text, parts_len}
 use Rattle.text_cursor.proofs.LookLaws.{line-step}
 use Rattle.text_cursor.proofs.cursors.last_line_of.Goals as goal
 

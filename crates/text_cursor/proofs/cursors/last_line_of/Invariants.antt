@@ -1,4 +1,4 @@
-use Rattle.text_cursor.proofs.Words.{◌-◌, parts_len}
+use Rattle.text_cursor.proofs.Common.{◌-◌, parts_len}
 use Rattle.text_cursor.proofs.LookLaws.{LineSoFar}
 use Rattle.text_cursor.proofs.cursors.last_line_of.Given as goal
 

@@ -1,4 +1,4 @@
-use Rattle.text_cursor.proofs.Words.{◌+◌, take, ap, sym, ◌∙◌, eq-eqb, ne_eqb, if◌then◌else◌, is_newline, last_line}
+use Rattle.text_cursor.proofs.Common.{◌+◌, take, ap, sym, ◌∙◌, eq-eqb, ne_eqb, if◌then◌else◌, is_newline, last_line}
 use Rattle.text_cursor.proofs.LookLaws.{last-more}
 use Rattle.text_cursor.proofs.cursors.last_newline.Goals.{then-character-eq10, else-character-eq10}
 use Rattle.text_cursor.proofs.cursors.last_newline.Goals as goal

@@ -1,4 +1,4 @@
-use Rattle.text_cursor.proofs.Words.{◌≡◌, take, last_line}
+use Rattle.text_cursor.proofs.Common.{◌≡◌, take, last_line}
 use Rattle.text_cursor.proofs.cursors.last_newline.Given as goal
 
 abbrev pub invariant-loop-index : goal.invariant-loop-index

@@ -1,4 +1,4 @@
-use Rattle.text_cursor.proofs.Words.{◌+◌, ◌<◌, sym, subst, ◌∙◌, arith, IsSecond, behind_text}
+use Rattle.text_cursor.proofs.Common.{◌+◌, ◌<◌, sym, subst, ◌∙◌, arith, IsSecond, behind_text}
 use Rattle.text_cursor.proofs.LookLaws.{back-step}
 use Rattle.text_cursor.proofs.cursors.next_line_back.Goals as goal
 

@@ -1,4 +1,4 @@
-use Rattle.text_cursor.proofs.Words.{◌-◌, ◌≤◌, ap, sym, subst, ◌∙◌, line_start}
+use Rattle.text_cursor.proofs.Common.{◌-◌, ◌≤◌, ap, sym, subst, ◌∙◌, line_start}
 use Rattle.text_cursor.proofs.LookLaws.{old-next-in, new-text, first-bound}
 use Rattle.text_cursor.proofs.cursors.next_line_in.Goals as goal
 

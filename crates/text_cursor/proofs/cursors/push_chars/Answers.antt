@@ -1,4 +1,4 @@
-use Rattle.text_cursor.proofs.Words.{sym, ap, ◌∙◌, ◌++◌, map-id}
+use Rattle.text_cursor.proofs.Common.{sym, ap, ◌∙◌, ◌++◌, map-id}
 use Rattle.std.proofs.lemmas.Iterator.{YieldsList-from_chars}
 use Rattle.std.proofs.lemmas.Iterator.Consumers.{YieldsList-end}
 use Rattle.text_cursor.proofs.cursors.push_chars.Goals as goal

@@ -1,4 +1,4 @@
-use Rattle.text_cursor.proofs.Words.{◌≡◌, ◌++◌}
+use Rattle.text_cursor.proofs.Common.{◌≡◌, ◌++◌}
 use Rattle.text_cursor.proofs.cursors.push_chars.Given as goal
 
 abbrev pub invariant-loop-character : goal.invariant-loop-character

@@ -1,5 +1,5 @@
-use Rattle.text_index.proofs.Words.{◌≡◌, ◌<◌, ◌≤◌, ◌+◌, Some, refl, sym, arith, ◌∙◌, chars, IfOk, length-map, Cell}
-use Rattle.text_index.proofs.Words.{index_of, shown, is_word, shown_meanings, Err, Ok, length}
+use Rattle.text_index.proofs.Common.{◌≡◌, ◌<◌, ◌≤◌, ◌+◌, Some, refl, sym, arith, ◌∙◌, chars, IfOk, length-map, Cell}
+use Rattle.text_index.proofs.Common.{index_of, shown, is_word, shown_meanings, Err, Ok, length}
 use Rattle.text_index.proofs.ViewLaws.{length-shown}
 use Rattle.text_index.proofs.BoundLaws.{shown-within, index_value-saturated, value_of-le}
 use Rattle.text_index.proofs.locating.locate.Goals as goal

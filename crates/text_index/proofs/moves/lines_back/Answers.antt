@@ -1,4 +1,4 @@
-use Rattle.text_index.proofs.Words.{sym, ◌∙◌, shown}
+use Rattle.text_index.proofs.Common.{sym, ◌∙◌, shown}
 use Rattle.text_index.proofs.MoveLaws.{back-to-last, back-within, back-in-line}
 use Rattle.text_index.proofs.moves.lines_back.Goals as goal
 

@@ -1,4 +1,4 @@
-use Rattle.text_index.proofs.Words.{◌≡◌, ◌<◌, ◌+◌, ◌-◌, ◌^◌, min, sym, ◌∙◌, arith, characters, lines, line_of, shown}
+use Rattle.text_index.proofs.Common.{◌≡◌, ◌<◌, ◌+◌, ◌-◌, ◌^◌, min, sym, ◌∙◌, arith, characters, lines, line_of, shown}
 use Rattle.text_index.proofs.ViewLaws.{some-line, length-shown, lines_on-is}
 use Rattle.text_index.proofs.moves.lines_on.Goals as goal
 

@@ -1,4 +1,4 @@
-use Rattle.text_index.proofs.Words.{◌∙◌, characters, is_word}
+use Rattle.text_index.proofs.Common.{◌∙◌, characters, is_word}
 use Rattle.text_index.proofs.RunLaws.{run_start-part}
 use Rattle.text_index.proofs.moves.run_begin.Goals as goal
 

@@ -1,4 +1,4 @@
-use Rattle.text_index.proofs.Words.{◌-◌, ap, ◌∙◌, characters, is_word}
+use Rattle.text_index.proofs.Common.{◌-◌, ap, ◌∙◌, characters, is_word}
 use Rattle.text_index.proofs.RunLaws.{run_end-part}
 use Rattle.text_index.proofs.moves.run_end.Goals as goal
 

@@ -1,4 +1,4 @@
-use Rattle.text_index.proofs.Words.{◌<◌, ◌≤◌, ◌-◌, length, ◌∙◌, arith, shown, is_word}
+use Rattle.text_index.proofs.Common.{◌<◌, ◌≤◌, ◌-◌, length, ◌∙◌, arith, shown, is_word}
 use Rattle.text_index.proofs.ViewLaws.{length-shown}
 use Rattle.text_index.proofs.MoveLaws.{end-of-last, end-of-run}
 use Rattle.text_index.proofs.moves.word_end.Goals as goal

@@ -1,4 +1,4 @@
-use Rattle.text_index.proofs.Words.{◌<◌, length, sym, ◌∙◌, arith, shown, word_front, is_word}
+use Rattle.text_index.proofs.Common.{◌<◌, length, sym, ◌∙◌, arith, shown, word_front, is_word}
 use Rattle.text_index.proofs.ViewLaws.{length-shown}
 use Rattle.text_index.proofs.MoveLaws.{front-of-run, moves, stays}
 use Rattle.text_index.proofs.moves.word_start.Goals as goal

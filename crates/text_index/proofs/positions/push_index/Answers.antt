@@ -1,4 +1,4 @@
-use Rattle.text_index.proofs.Words.{shown}
+use Rattle.text_index.proofs.Common.{shown}
 use Rattle.text_index.proofs.positions.push_index.Goals as goal
 
 pub returns-clause-ok : goal.returns-clause-ok

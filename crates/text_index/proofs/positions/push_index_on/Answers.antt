@@ -1,4 +1,4 @@
-use Rattle.text_index.proofs.Words.{string_bytes, ◌-◌, ap, ◌∙◌, IsUtf8-string_bytes, line_start}
+use Rattle.text_index.proofs.Common.{string_bytes, ◌-◌, ap, ◌∙◌, IsUtf8-string_bytes, line_start}
 use Rattle.text_index.proofs.PositionLaws.{chars-behind}
 use Rattle.text_index.proofs.positions.push_index_on.Goals as goal
 

@@ -1,4 +1,4 @@
-use Rattle.text_index.proofs.Words.{◌≡◌, ◌-◌, ap, arith, true, ◌∙◌, flag_at, shown_flags}
+use Rattle.text_index.proofs.Common.{◌≡◌, ◌-◌, ap, arith, true, ◌∙◌, flag_at, shown_flags}
 use Rattle.text_index.proofs.WalkLaws.{range-passed, range-ends, unset-there}
 use Rattle.text_index.proofs.ranges.behind_range.Goals as goal
 

@@ -1,4 +1,4 @@
-use Rattle.text_index.proofs.Words.{◌≡◌, ◌-◌, length, arith, false, flag_at, flags, shown_flags}
+use Rattle.text_index.proofs.Common.{◌≡◌, ◌-◌, length, arith, false, flag_at, flags, shown_flags}
 use Rattle.text_index.proofs.FlagLaws.{flags-within, length-part}
 use Rattle.text_index.proofs.WalkLaws.{tagged-passed, tagged-here}
 use Rattle.text_index.proofs.ranges.behind_tagged.Goals as goal

@@ -1,4 +1,4 @@
-use Rattle.text_index.proofs.Words.{◌≤◌, ◌-◌, max, length, ap, ◌∙◌, flags}
+use Rattle.text_index.proofs.Common.{◌≤◌, ◌-◌, max, length, ap, ◌∙◌, flags}
 use Rattle.text_index.proofs.FlagLaws.{part-previous, flags-within}
 use Rattle.text_index.proofs.ranges.change_before.Goals as goal
 

@@ -1,4 +1,4 @@
-use Rattle.text_index.proofs.Words.{◌≤◌, ◌-◌, min, length, ap, ◌∙◌, flags}
+use Rattle.text_index.proofs.Common.{◌≤◌, ◌-◌, min, length, ap, ◌∙◌, flags}
 use Rattle.text_index.proofs.FlagLaws.{part-next, flags-within}
 use Rattle.text_index.proofs.ranges.change_behind.Goals as goal
 

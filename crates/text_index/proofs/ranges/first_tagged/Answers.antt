@@ -1,4 +1,4 @@
-use Rattle.text_index.proofs.Words.{None, Some, ◌∙◌, shown_flags}
+use Rattle.text_index.proofs.Common.{None, Some, ◌∙◌, shown_flags}
 use Rattle.text_index.proofs.WalkLaws.{first-start}
 use Rattle.text_index.proofs.ranges.first_tagged.Goals as goal
 

@@ -1,4 +1,4 @@
-use Rattle.text_index.proofs.Words.{flags}
+use Rattle.text_index.proofs.Common.{flags}
 use Rattle.text_index.proofs.FlagLaws.{part-flag}
 use Rattle.text_index.proofs.ranges.is_tagged.Goals as goal
 

@@ -1,4 +1,4 @@
-use Rattle.text_index.proofs.Words.{◌≡◌, ◌-◌, length, None, Some, sym, ap, ◌∙◌, flags, previous_range, shown_flags}
+use Rattle.text_index.proofs.Common.{◌≡◌, ◌-◌, length, None, Some, sym, ap, ◌∙◌, flags, previous_range, shown_flags}
 use Rattle.text_index.proofs.FlagLaws.{flags-within, length-part}
 use Rattle.text_index.proofs.ViewLaws.{length-shown}
 use Rattle.text_index.proofs.WalkLaws.{last-end}

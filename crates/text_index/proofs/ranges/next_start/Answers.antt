@@ -1,4 +1,4 @@
-use Rattle.text_index.proofs.Words.{◌≡◌, true, false, refl, ltb-true, ltb-false, begins, shown_flags, nat_lt}
+use Rattle.text_index.proofs.Common.{◌≡◌, true, false, refl, ltb-true, ltb-false, begins, shown_flags, nat_lt}
 use Rattle.text_index.proofs.ranges.next_start.Goals as goal
 
 pub returns-clause-passed : goal.returns-clause-passed

@@ -1,4 +1,4 @@
-use Rattle.text_index.proofs.Words.{sym, ap, ◌∙◌, and_later, shown_flags}
+use Rattle.text_index.proofs.Common.{sym, ap, ◌∙◌, and_later, shown_flags}
 use Rattle.text_index.proofs.RangeLaws.{ranges_from-step}
 use Rattle.text_index.proofs.ranges.range_behind.Goals as goal
 

@@ -1,4 +1,4 @@
-use Rattle.text_index.proofs.Words.{◌-◌, ◌≡◌, length, arith, flags, shown_flags}
+use Rattle.text_index.proofs.Common.{◌-◌, ◌≡◌, length, arith, flags, shown_flags}
 use Rattle.text_index.proofs.FlagLaws.{flags-within, length-part}
 use Rattle.text_index.proofs.WalkLaws.{start-passed, start-here}
 use Rattle.text_index.proofs.ranges.start_behind.Goals as goal

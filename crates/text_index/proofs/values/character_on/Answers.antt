@@ -1,4 +1,4 @@
-use Rattle.text_index.proofs.Words.{◌≡◌, ◌≤◌, length, sym, ◌∙◌, characters, lines, line_start, shown}
+use Rattle.text_index.proofs.Common.{◌≡◌, ◌≤◌, length, sym, ◌∙◌, characters, lines, line_start, shown}
 use Rattle.text_index.proofs.StartLaws.{none-on, past-start}
 use Rattle.text_index.proofs.ViewLaws.{length-shown}
 use Rattle.text_index.proofs.values.character_on.Goals as goal

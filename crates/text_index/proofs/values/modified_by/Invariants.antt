@@ -1,4 +1,4 @@
-use Rattle.text_index.proofs.Words.{◌≡◌, ◌≤◌, ◌+◌, drop, shown, modified_by, is_word}
+use Rattle.text_index.proofs.Common.{◌≡◌, ◌≤◌, ◌+◌, drop, shown, modified_by, is_word}
 use Rattle.text_index.proofs.values.modified_by.Given as goal
 
 abbrev pub invariant-loop-modifier : goal.invariant-loop-modifier

@@ -1,4 +1,4 @@
-use Rattle.text_model.proofs.Words.{◌≡◌, ◌+◌, drop, prefix_len, is_alike, flags}
+use Rattle.text_model.proofs.Common.{◌≡◌, ◌+◌, drop, prefix_len, is_alike, flags}
 use Rattle.text_model.proofs.plain_store.alike_from_first.Given as goal
 
 abbrev pub invariant-loop-count : goal.invariant-loop-count

@@ -1,4 +1,4 @@
-use Rattle.text_model.proofs.Words.{◌≡◌, take, sym, ap, ◌∙◌, arith, suffix_len, Cell, is_alike, flags}
+use Rattle.text_model.proofs.Common.{◌≡◌, take, sym, ap, ◌∙◌, arith, suffix_len, Cell, is_alike, flags}
 use Rattle.text_model.proofs.ChangeLaws.{last_more, last_stops}
 use Rattle.text_model.proofs.plain_store.alike_from_last.Goals.{then-loop-start-test+else-has-is_on}
 use Rattle.text_model.proofs.plain_store.alike_from_last.Goals.{else-loop-start-test}

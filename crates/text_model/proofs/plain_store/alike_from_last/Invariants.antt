@@ -1,4 +1,4 @@
-use Rattle.text_model.proofs.Words.{◌≡◌, ◌+◌, ◌≤◌, length, take, suffix_len, is_alike, flags}
+use Rattle.text_model.proofs.Common.{◌≡◌, ◌+◌, ◌≤◌, length, take, suffix_len, is_alike, flags}
 use Rattle.text_model.proofs.plain_store.alike_from_last.Given as goal
 
 abbrev pub invariant-loop-start : goal.invariant-loop-start

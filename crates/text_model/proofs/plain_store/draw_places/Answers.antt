@@ -1,4 +1,4 @@
-use Rattle.text_model.proofs.Words.{Some, ap, ◌∙◌, drawn}
+use Rattle.text_model.proofs.Common.{Some, ap, ◌∙◌, drawn}
 use Rattle.text_model.proofs.PlaceLaws.{place_more}
 use Rattle.text_model.proofs.plain_store.draw_places.Goals.{in-None, in-Some}
 use Rattle.text_model.proofs.plain_store.draw_places.Goals as goal

@@ -1,4 +1,4 @@
-use Rattle.text_model.proofs.Words.{◌≢◌, arith, nat_tests}
+use Rattle.text_model.proofs.Common.{◌≢◌, arith, nat_tests}
 use Rattle.text_model.proofs.LineLaws.{line_start-next}
 use Rattle.text_model.proofs.plain_store.find_line.Goals.{then-cell-eq10, else-cell-eq10}
 use Rattle.text_model.proofs.plain_store.find_line.Goals as goal

@@ -1,4 +1,4 @@
-use Rattle.text_model.proofs.Words.{◌≡◌, ◌+◌, drop, characters, line_start}
+use Rattle.text_model.proofs.Common.{◌≡◌, ◌+◌, drop, characters, line_start}
 use Rattle.text_model.proofs.plain_store.find_line.Given as goal
 
 abbrev pub invariant-loop-offset : goal.invariant-loop-offset

@@ -1,4 +1,4 @@
-use Rattle.text_model.proofs.Words.{ap, slice_get}
+use Rattle.text_model.proofs.Common.{ap, slice_get}
 use Rattle.text_model.proofs.MarkOrderLaws.{marks_at_from}
 use Rattle.text_model.proofs.plain_store.find_mark.Goals as goal
 

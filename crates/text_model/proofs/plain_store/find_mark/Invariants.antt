@@ -1,4 +1,4 @@
-use Rattle.text_model.proofs.Words.{◌≡◌, drop, slice_get, marks_at, plain_marks}
+use Rattle.text_model.proofs.Common.{◌≡◌, drop, slice_get, marks_at, plain_marks}
 use Rattle.text_model.proofs.MarkOrderLaws.{marks_from}
 use Rattle.text_model.proofs.plain_store.find_mark.Given as goal
 

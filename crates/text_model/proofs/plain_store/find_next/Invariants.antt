@@ -1,4 +1,4 @@
-use Rattle.text_model.proofs.Words.{◌≡◌, min, drop, next_mark, plain_marks}
+use Rattle.text_model.proofs.Common.{◌≡◌, min, drop, next_mark, plain_marks}
 use Rattle.text_model.proofs.MarkOrderLaws.{offsets_above, reduced_from}
 use Rattle.text_model.proofs.plain_store.find_next.Given as goal
 

@@ -1,4 +1,4 @@
-use Rattle.text_model.proofs.Words.{◌≡◌, max, drop, previous_mark, plain_marks}
+use Rattle.text_model.proofs.Common.{◌≡◌, max, drop, previous_mark, plain_marks}
 use Rattle.text_model.proofs.MarkOrderLaws.{offsets_below, reduced_from}
 use Rattle.text_model.proofs.plain_store.find_previous.Given as goal
 

@@ -1,6 +1,6 @@
-use Rattle.text_model.proofs.Words.{◌≡◌, ◌-◌, ◌<◌, ◌++◌, length, map, take, drop, set, None, Some, get_or, subst, sym}
-use Rattle.text_model.proofs.Words.{ap, ◌∙◌, arith, option_map, length-map, PutMark, TakeMark, plain_content}
-use Rattle.text_model.proofs.Words.{plain_marks, moved, drawn, StepFits, after_step, cells_of, without_slots}
+use Rattle.text_model.proofs.Common.{◌≡◌, ◌-◌, ◌<◌, ◌++◌, length, map, take, drop, set, None, Some, get_or, subst, sym}
+use Rattle.text_model.proofs.Common.{ap, ◌∙◌, arith, option_map, length-map, PutMark, TakeMark, plain_content}
+use Rattle.text_model.proofs.Common.{plain_marks, moved, drawn, StepFits, after_step, cells_of, without_slots}
 use Rattle.text_model.proofs.PlaceLaws.{get-plain_marks}
 use Rattle.text_model.proofs.PlainLaws.{all_written, plain_content-removed, plain_content-inserted, IsPlain-after_step}
 use Rattle.text_model.proofs.SpliceLaws.{length-inserted, length-cells_of, changed-one}

@@ -1,4 +1,4 @@
-use Rattle.text_model.proofs.Words.{◌≡◌, ◌++◌, map, take, drop, option_map, moved}
+use Rattle.text_model.proofs.Common.{◌≡◌, ◌++◌, map, take, drop, option_map, moved}
 use Rattle.text_model.proofs.plain_store.move_places.Given as goal
 
 abbrev pub invariant-loop-place : goal.invariant-loop-place

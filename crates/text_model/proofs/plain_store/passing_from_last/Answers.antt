@@ -1,4 +1,4 @@
-use Rattle.text_model.proofs.Words.{◌≡◌, take, ap, arith, ◌∙◌, sym, suffix_len, Cell, characters}
+use Rattle.text_model.proofs.Common.{◌≡◌, take, ap, arith, ◌∙◌, sym, suffix_len, Cell, characters}
 use Rattle.text_model.proofs.RunLaws.{last_more, last_stops}
 use Rattle.text_model.proofs.plain_store.passing_from_last.Goals.{then-loop-start-test+else-passes}
 use Rattle.text_model.proofs.plain_store.passing_from_last.Goals.{else-loop-start-test}

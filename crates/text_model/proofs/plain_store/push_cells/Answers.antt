@@ -1,4 +1,4 @@
-use Rattle.text_model.proofs.Words.{sym, ap, ◌∙◌, ◌++◌, map-id, cells_of}
+use Rattle.text_model.proofs.Common.{sym, ap, ◌∙◌, ◌++◌, map-id, cells_of}
 use Rattle.std.proofs.lemmas.Iterator.{YieldsList-from_chars}
 use Rattle.std.proofs.lemmas.Iterator.Consumers.{YieldsList-end}
 use Rattle.text_model.proofs.plain_store.push_cells.Goals as goal

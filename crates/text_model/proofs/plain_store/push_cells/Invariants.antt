@@ -1,4 +1,4 @@
-use Rattle.text_model.proofs.Words.{◌≡◌, ◌++◌, cells_of}
+use Rattle.text_model.proofs.Common.{◌≡◌, ◌++◌, cells_of}
 use Rattle.text_model.proofs.plain_store.push_cells.Given as goal
 
 abbrev pub invariant-loop-character : goal.invariant-loop-character

@@ -1,4 +1,4 @@
-use Rattle.text_model.proofs.Words.{ap, ◌∙◌, chars, IsUtf8-string_bytes}
+use Rattle.text_model.proofs.Common.{ap, ◌∙◌, chars, IsUtf8-string_bytes}
 use Rattle.text_model.proofs.TextLaws.{chars-push}
 use Rattle.text_model.proofs.plain_store.push_char.Goals as goal
 

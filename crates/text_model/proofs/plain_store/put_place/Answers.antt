@@ -1,5 +1,5 @@
-use Rattle.text_model.proofs.Words.{◌≡◌, ◌+◌, ◌-◌, ◌≤◌, ◌++◌, length, vec_len, replicate, None, ap, ◌∙◌, arith}
-use Rattle.text_model.proofs.Words.{take_all, plain_marks}
+use Rattle.text_model.proofs.Common.{◌≡◌, ◌+◌, ◌-◌, ◌≤◌, ◌++◌, length, vec_len, replicate, None, ap, ◌∙◌, arith}
+use Rattle.text_model.proofs.Common.{take_all, plain_marks}
 use Rattle.text_model.proofs.PlaceLaws.{plain_marks-put, plain_marks-padded}
 use Rattle.text_model.proofs.plain_store.put_place.Goals.{then-len-index+in_ok-resize, else-len-index}
 use Rattle.std.specs.FinMap as finite

@@ -1,4 +1,4 @@
-use Rattle.text_model.proofs.Words.{sym, ◌∙◌}
+use Rattle.text_model.proofs.Common.{sym, ◌∙◌}
 use Rattle.text_model.proofs.PlainLaws.{cell_more, set_slot-on, set_slot-off}
 use Rattle.text_model.proofs.plain_store.set_tag.Goals.{then-is_on, else-is_on}
 use Rattle.text_model.proofs.plain_store.set_tag.Goals as goal

@@ -1,4 +1,4 @@
-use Rattle.text_model.proofs.Words.{◌≡◌, ◌++◌, map, take, drop, with_slot}
+use Rattle.text_model.proofs.Common.{◌≡◌, ◌++◌, map, take, drop, with_slot}
 use Rattle.text_model.proofs.plain_store.set_tag.Given as goal
 
 abbrev pub invariant-loop-cell : goal.invariant-loop-cell

@@ -1,5 +1,5 @@
-use Rattle.text_model.proofs.Words.{◌≡◌, ℕ, zero, suc, ◌-◌, ◌≤◌, ◌≢◌, List, get_or, length, refl, sym, ap, ◌∙◌, arith}
-use Rattle.text_model.proofs.Words.{get_or-map, slots_left_of, Cell}
+use Rattle.text_model.proofs.Common.{◌≡◌, ℕ, zero, suc, ◌-◌, ◌≤◌, ◌≢◌, List, get_or, length, refl, sym, ap, ◌∙◌, arith}
+use Rattle.text_model.proofs.Common.{get_or-map, slots_left_of, Cell}
 use Rattle.std.specs.FinSet as set
 use Rattle.text_model.proofs.plain_store.tags_left_of.Goals as goal
 

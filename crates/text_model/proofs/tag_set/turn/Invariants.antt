@@ -1,4 +1,4 @@
-use Rattle.text_model.proofs.Words.{◌≡◌, ℕ, ◌<◌, ◌≤◌, length, slice_index, bit_xor, WORDS}
+use Rattle.text_model.proofs.Common.{◌≡◌, ℕ, ◌<◌, ◌≤◌, length, slice_index, bit_xor, WORDS}
 use Rattle.text_model.proofs.tag_set.turn.Given as goal
 
 abbrev pub invariant-loop-index : goal.invariant-loop-index

@@ -1,4 +1,4 @@
-use Rattle.tktext_c.proofs.Words.{Some, sym, ap, ◌∙◌}
+use Rattle.tktext_c.proofs.Common.{Some, sym, ap, ◌∙◌}
 use Rattle.tktext_c.proofs.CallLaws.{takes-held, takes_told-held}
 use Rattle.tktext_c.proofs.exports.take_turn.Goals as goal
 

@@ -1,4 +1,4 @@
-use Rattle.tktext_c.proofs.Words.{[], ◌++◌, ◌∙◌}
+use Rattle.tktext_c.proofs.Common.{[], ◌++◌, ◌∙◌}
 use Rattle.tktext_c.proofs.RoomLaws.{copied-none, copied-text, grouped}
 use Rattle.tktext_c.proofs.room.copy_line.Goals as goal
 

@@ -1,4 +1,4 @@
-use Rattle.tktext_c.proofs.Words.{arith, ◌∙◌, ap, ◌++◌, take, drop, over}
+use Rattle.tktext_c.proofs.Common.{arith, ◌∙◌, ap, ◌++◌, take, drop, over}
 use Rattle.tktext_c.proofs.RoomLaws.{copied-more}
 use Rattle.tktext_c.proofs.room.copy_next.Goals as goal
 

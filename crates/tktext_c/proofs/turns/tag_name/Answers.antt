@@ -1,4 +1,4 @@
-use Rattle.tktext_c.proofs.Words.{Bool, ap, sym, if◌then◌else◌}
+use Rattle.tktext_c.proofs.Common.{Bool, ap, sym, if◌then◌else◌}
 use Rattle.std.specs.Str.{chars}
 use Rattle.documents.specs.Documents.{sel}
 use Rattle.tktext_c.proofs.turns.tag_name.Goals as goal

@@ -1,4 +1,4 @@
-use Rattle.tktext_c.proofs.Words.{◌+◌, drop, get_or, refl, rules, ◌∙◌, drop_more, IsUtf8-drop, IsUtf8-take, texts_of}
+use Rattle.tktext_c.proofs.Common.{◌+◌, drop, get_or, refl, rules, ◌∙◌, drop_more, IsUtf8-drop, IsUtf8-take, texts_of}
 use Rattle.tktext_c.proofs.WordLaws.{reading-more, texts-more}
 use Rattle.tktext_c.proofs.words.cut_text.Goals as goal
 

@@ -1,4 +1,4 @@
-use Rattle.tktext_c.proofs.Words.{drop, IsUtf8, texts_of}
+use Rattle.tktext_c.proofs.Common.{drop, IsUtf8, texts_of}
 use Rattle.tktext_c.proofs.WordLaws.{Reading}
 use Rattle.tktext_c.proofs.words.cut_text.Given as goal
 

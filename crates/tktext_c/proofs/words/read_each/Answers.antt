@@ -1,4 +1,4 @@
-use Rattle.tktext_c.proofs.Words.{◌+◌, drop, rules, ◌∙◌, texts_of, drop_more}
+use Rattle.tktext_c.proofs.Common.{◌+◌, drop, rules, ◌∙◌, texts_of, drop_more}
 use Rattle.tktext_c.proofs.WordLaws.{reading-more, texts-more}
 use Rattle.tktext_c.proofs.words.read_each.Goals as goal
 

@@ -1,4 +1,4 @@
-use Rattle.tktext_c.proofs.Words.{drop, texts_of}
+use Rattle.tktext_c.proofs.Common.{drop, texts_of}
 use Rattle.tktext_c.proofs.WordLaws.{Reading}
 use Rattle.tktext_c.proofs.words.read_each.Given as goal
 

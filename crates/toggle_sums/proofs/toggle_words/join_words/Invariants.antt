@@ -1,4 +1,4 @@
-use Rattle.toggle_sums.proofs.Words.{bit_or}
+use Rattle.toggle_sums.proofs.Common.{bit_or}
 use Rattle.toggle_sums.proofs.WordSteps.{SoFar}
 use Rattle.toggle_sums.proofs.toggle_words.join_words.Given as goal
 

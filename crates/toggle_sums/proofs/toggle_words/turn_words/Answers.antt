@@ -1,4 +1,4 @@
-use Rattle.toggle_sums.proofs.Words.{bit_xor, arith, xor_zero_r}
+use Rattle.toggle_sums.proofs.Common.{bit_xor, arith, xor_zero_r}
 use Rattle.toggle_sums.proofs.WordSteps.{SoFar-all, SoFar-more}
 use Rattle.toggle_sums.proofs.toggle_words.turn_words.Goals as goal
 

@@ -1,4 +1,4 @@
-use Rattle.toggle_sums.proofs.Words.{bit_xor}
+use Rattle.toggle_sums.proofs.Common.{bit_xor}
 use Rattle.toggle_sums.proofs.WordSteps.{SoFar}
 use Rattle.toggle_sums.proofs.toggle_words.turn_words.Given as goal
 

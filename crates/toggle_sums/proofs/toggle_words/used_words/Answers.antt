@@ -1,4 +1,4 @@
-use Rattle.toggle_sums.proofs.Words.{◌≡◌, suc, ◌-◌, sym, ap, ◌∙◌, arith, last_used}
+use Rattle.toggle_sums.proofs.Common.{◌≡◌, suc, ◌-◌, sym, ap, ◌∙◌, arith, last_used}
 use Rattle.toggle_sums.proofs.UsedLaws.{last_used-below, last_used-first, last_used-none, last_used-second}
 use Rattle.toggle_sums.proofs.UsedLaws.{last_used-zero}
 use Rattle.toggle_sums.proofs.toggle_words.used_words.Goals as goal

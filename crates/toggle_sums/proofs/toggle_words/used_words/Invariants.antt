@@ -1,4 +1,4 @@
-use Rattle.toggle_sums.proofs.Words.{◌≡◌, ◌≤◌, last_used}
+use Rattle.toggle_sums.proofs.Common.{◌≡◌, ◌≤◌, last_used}
 use Rattle.toggle_sums.proofs.toggle_words.used_words.Given as goal
 
 abbrev pub invariant-loop-used : goal.invariant-loop-used

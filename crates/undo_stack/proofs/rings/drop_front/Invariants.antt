@@ -1,4 +1,4 @@
-use Rattle.undo_stack.proofs.Words.{◌≡◌, ◌+◌, drop}
+use Rattle.undo_stack.proofs.Common.{◌≡◌, ◌+◌, drop}
 use Rattle.std.specs.VecDeque.{deque_len, deque_capacity}
 use Rattle.undo_stack.proofs.rings.drop_front.Given as goal
 

@@ -1,5 +1,5 @@
-use Rattle.command_table.proofs.Words.{drop, sym, ap, ap₂, ◌∙◌, take_rest, drop-map, take-map, chars, string_bytes}
-use Rattle.command_table.proofs.Words.{texts_of, decided, entry_rule}
+use Rattle.command_table.proofs.Common.{drop, sym, ap, ap₂, ◌∙◌, take_rest, drop-map, take-map, chars, string_bytes}
+use Rattle.command_table.proofs.Common.{texts_of, decided, entry_rule}
 use Rattle.command_table.proofs.entries.Entry.read.Goals as goal
 
 pub returns-clause-value : goal.returns-clause-value

@@ -1,4 +1,4 @@
-use Rattle.command_table.proofs.Words.{◌≡◌, drop, find, enumerate_from, texts_of, is_bad_option, option_rule}
+use Rattle.command_table.proofs.Common.{◌≡◌, drop, find, enumerate_from, texts_of, is_bad_option, option_rule}
 use Rattle.command_table.proofs.options.Options.first_bad.Given as goal
 
 abbrev pub invariant-loop-place : goal.invariant-loop-place

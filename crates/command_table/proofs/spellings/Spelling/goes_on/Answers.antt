@@ -1,4 +1,4 @@
-use Rattle.command_table.proofs.Words.{length, ap, arith, spelled}
+use Rattle.command_table.proofs.Common.{length, ap, arith, spelled}
 use Rattle.command_table.proofs.EntryLaws.{begins-too_many}
 use Rattle.command_table.proofs.spellings.Spelling.goes_on.Goals as goal
 

@@ -1,4 +1,4 @@
-use Rattle.command_table.proofs.Words.{sym, ap, ◌∙◌, is_dashed, ends_switches, switch_rule, chars}
+use Rattle.command_table.proofs.Common.{sym, ap, ◌∙◌, is_dashed, ends_switches, switch_rule, chars}
 use Rattle.command_table.proofs.EntryLaws.{run_goes_on, run_ends}
 use Rattle.command_table.proofs.switches.Switches.count.Goals as goal
 

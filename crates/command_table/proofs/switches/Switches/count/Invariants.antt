@@ -1,4 +1,4 @@
-use Rattle.command_table.proofs.Words.{◌≡◌, ◌++◌, drop, take, texts_of, dashed_words, switch_rule}
+use Rattle.command_table.proofs.Common.{◌≡◌, ◌++◌, drop, take, texts_of, dashed_words, switch_rule}
 use Rattle.command_table.proofs.switches.Switches.count.Given as goal
 
 abbrev pub invariant-loop-index : goal.invariant-loop-index

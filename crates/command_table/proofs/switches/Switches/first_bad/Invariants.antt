@@ -1,4 +1,4 @@
-use Rattle.command_table.proofs.Words.{◌≡◌, ◌+◌, drop, Some, texts_of, bad_switch, switch_rule}
+use Rattle.command_table.proofs.Common.{◌≡◌, ◌+◌, drop, Some, texts_of, bad_switch, switch_rule}
 use Rattle.command_table.proofs.switches.Switches.first_bad.Given as goal
 
 abbrev pub invariant-loop-index : goal.invariant-loop-index

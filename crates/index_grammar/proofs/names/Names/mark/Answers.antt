@@ -1,4 +1,4 @@
-use Rattle.index_grammar.proofs.Words.{◌∙◌}
+use Rattle.index_grammar.proofs.Common.{◌∙◌}
 use Rattle.index_grammar.proofs.NameLaws.{known-insert, known-current, known-shared}
 use Rattle.index_grammar.proofs.names.Names.mark.Goals as goal
 

@@ -1,4 +1,4 @@
-use Rattle.line_lists.proofs.Words.{take, sym, ap, ◌∙◌, differing, differing-empty, count_of}
+use Rattle.line_lists.proofs.Common.{take, sym, ap, ◌∙◌, differing, differing-empty, count_of}
 use Rattle.line_lists.proofs.drafts.Before.turn.Goals as goal
 
 pub returns-then-line-eq0-clause-turned : goal.returns-then-line-eq0-clause-turned

@@ -1,4 +1,4 @@
-use Rattle.line_lists.proofs.Words.{subst, sym, ap, ◌∙◌, arith, text_in, AreRows, whole}
+use Rattle.line_lists.proofs.Common.{subst, sym, ap, ◌∙◌, arith, text_in, AreRows, whole}
 use Rattle.line_lists.proofs.ClearingLaws.{clears-on}
 use Rattle.line_lists.proofs.drafts.Draft.clear.Goals as goal
 

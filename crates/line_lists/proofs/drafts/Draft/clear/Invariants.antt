@@ -1,4 +1,4 @@
-use Rattle.line_lists.proofs.Words.{◌≡◌, ◌≤◌, ◌-◌, IsTextIn, text_in, with_cleared}
+use Rattle.line_lists.proofs.Common.{◌≡◌, ◌≤◌, ◌-◌, IsTextIn, text_in, with_cleared}
 use Rattle.line_lists.proofs.drafts.Draft.clear.Given as goal
 
 abbrev pub invariant-loop-at : goal.invariant-loop-at

@@ -1,5 +1,5 @@
-use Rattle.line_lists.proofs.Words.{◌≡◌, ◌<◌, ◌+◌, ◌-◌, ◌++◌, ◌∷◌, [], min, length, subst, sym, ap, ◌∙◌, lines_in}
-use Rattle.line_lists.proofs.Words.{text_in, IsText, place_of, text_at, with_cleared}
+use Rattle.line_lists.proofs.Common.{◌≡◌, ◌<◌, ◌+◌, ◌-◌, ◌++◌, ◌∷◌, [], min, length, subst, sym, ap, ◌∙◌, lines_in}
+use Rattle.line_lists.proofs.Common.{text_in, IsText, place_of, text_at, with_cleared}
 use Rattle.line_lists.proofs.ClearingLaws.{ClearsLine, clears-line}
 use Rattle.line_lists.proofs.drafts.Draft.clear_line.Given.{Over}
 use Rattle.line_lists.proofs.drafts.Draft.clear_line.Goals.{After-clear}

@@ -1,4 +1,4 @@
-use Rattle.line_lists.proofs.Words.{length, sym, ap, ◌∙◌, on_ok_weaker, with_cleared, whole}
+use Rattle.line_lists.proofs.Common.{length, sym, ap, ◌∙◌, on_ok_weaker, with_cleared, whole}
 use Rattle.line_lists.proofs.ClearingLaws.{cleared-all}
 use Rattle.line_lists.proofs.drafts.Draft.clear_slot.Goals as goal
 

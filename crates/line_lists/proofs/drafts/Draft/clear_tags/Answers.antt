@@ -1,4 +1,4 @@
-use Rattle.line_lists.proofs.Words.{◌+◌, length, sym, ap, ◌∙◌, IfOk-equal, text_in, with_toggled, whole}
+use Rattle.line_lists.proofs.Common.{◌+◌, length, sym, ap, ◌∙◌, IfOk-equal, text_in, with_toggled, whole}
 use Rattle.line_lists.proofs.StepTexts.{bare-made, toggled-long}
 use Rattle.line_lists.proofs.drafts.Draft.clear_tags.Goals as goal
 

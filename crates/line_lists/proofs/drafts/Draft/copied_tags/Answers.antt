@@ -1,6 +1,6 @@
-use Rattle.line_lists.proofs.Words.{◌≡◌, ◌-◌, ◌≤◌, ◌++◌, ◌∷◌, [], length, take, drop, subst, sym, ap, ap₂, ◌∙◌, arith}
-use Rattle.line_lists.proofs.Words.{option_copied, slice_get, differing, IsDraft, copies_of, drafted_at, tags_after}
-use Rattle.line_lists.proofs.Words.{used, whole, tags_left_of}
+use Rattle.line_lists.proofs.Common.{◌≡◌, ◌-◌, ◌≤◌, ◌++◌, ◌∷◌, [], length, take, drop, subst, sym, ap, ap₂, ◌∙◌, arith}
+use Rattle.line_lists.proofs.Common.{option_copied, slice_get, differing, IsDraft, copies_of, drafted_at, tags_after}
+use Rattle.line_lists.proofs.Common.{used, whole, tags_left_of}
 use Rattle.line_lists.proofs.ClearingLaws.{copied-tags}
 use Rattle.line_lists.proofs.DraftLaws.{can-follow, last_is}
 use Rattle.line_lists.proofs.FindLaws.{IsLast, the-last}

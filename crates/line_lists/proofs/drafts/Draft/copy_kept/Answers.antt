@@ -1,5 +1,5 @@
-use Rattle.line_lists.proofs.Words.{Vec, Global, ℕ, List, ◌≡◌, ◌+◌, ◌-◌, ◌++◌, ◌∷◌, [], Some, refl, sym, ap, ◌∙◌, arith}
-use Rattle.line_lists.proofs.Words.{LineContent, Copied, Stop, IsTaken, StandsAt, drafted_at, taken_lines}
+use Rattle.line_lists.proofs.Common.{Vec, Global, ℕ, List, ◌≡◌, ◌+◌, ◌-◌, ◌++◌, ◌∷◌, [], Some, refl, sym, ap, ◌∙◌}
+use Rattle.line_lists.proofs.Common.{arith, LineContent, Copied, Stop, IsTaken, StandsAt, drafted_at, taken_lines}
 use Rattle.line_lists.proofs.CountRows.{count-lines}
 use Rattle.line_lists.proofs.FindLaws.{IsKept, begin-le, kept-within, opened, opened-before, opened-kept, opened-stands}
 use Rattle.line_lists.proofs.FindLaws.{opened-stop, still, taken-kept}

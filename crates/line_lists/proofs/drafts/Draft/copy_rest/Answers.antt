@@ -1,5 +1,5 @@
-use Rattle.line_lists.proofs.Words.{Vec, Global, List, ◌≡◌, ◌-◌, [], Some, sym, ap, ◌∙◌, arith, reverse, LineContent}
-use Rattle.line_lists.proofs.Words.{Copied, Stop, IsTaken, StandsAt, drafted_at, taken_lines, used}
+use Rattle.line_lists.proofs.Common.{Vec, Global, List, ◌≡◌, ◌-◌, [], Some, sym, ap, ◌∙◌, arith, reverse, LineContent}
+use Rattle.line_lists.proofs.Common.{Copied, Stop, IsTaken, StandsAt, drafted_at, taken_lines, used}
 use Rattle.line_lists.proofs.FindLaws.{IsKept, opened, opened-rest, opened-stands, opened-stop, rest-within, still}
 use Rattle.line_lists.proofs.drafts.Draft.copy_rest.Given.{Over}
 use Rattle.line_lists.proofs.drafts.Draft.copy_rest.Goals.{In_ok-try_clone}

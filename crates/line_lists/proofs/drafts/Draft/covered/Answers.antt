@@ -1,5 +1,5 @@
-use Rattle.line_lists.proofs.Words.{◌-◌, length, take, refl, subst, sym, ap, ◌∙◌, arith, slice_get, IsDraft, copies_of}
-use Rattle.line_lists.proofs.Words.{made_lines, place_of, whole}
+use Rattle.line_lists.proofs.Common.{◌-◌, length, take, refl, subst, sym, ap, ◌∙◌, arith, slice_get, IsDraft, copies_of}
+use Rattle.line_lists.proofs.Common.{made_lines, place_of, whole}
 use Rattle.line_lists.proofs.DraftLaws.{can-follow, last-start, last_is, no_last}
 use Rattle.line_lists.proofs.FindLaws.{last-starts}
 use Rattle.line_lists.proofs.drafts.Draft.covered.Goals as goal

@@ -1,5 +1,5 @@
-use Rattle.line_lists.proofs.Words.{◌≡◌, ◌+◌, ◌<◌, None, get_or, length, take, ap, subst, ◌∙◌, arith, nat_cmp, take_all}
-use Rattle.line_lists.proofs.Words.{copies_of, made_lines, whole}
+use Rattle.line_lists.proofs.Common.{◌≡◌, ◌+◌, ◌<◌, None, get_or, length, take, ap, subst, ◌∙◌, arith, nat_cmp}
+use Rattle.line_lists.proofs.Common.{take_all, copies_of, made_lines, whole}
 use Rattle.line_lists.proofs.StandLaws.{AtCopy, at-front, front-more, none-more, stands-at, stands-found}
 use Rattle.line_lists.proofs.drafts.Draft.find_before.Given.{Over}
 use Rattle.line_lists.proofs.drafts.Draft.find_before.Goals.{After-stop-item}

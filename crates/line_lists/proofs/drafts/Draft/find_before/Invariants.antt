@@ -1,4 +1,4 @@
-use Rattle.line_lists.proofs.Words.{◌≡◌, None, take, copies_of, made_lines, whole}
+use Rattle.line_lists.proofs.Common.{◌≡◌, None, take, copies_of, made_lines, whole}
 use Rattle.std.specs.FinMap as finite
 use Rattle.line_lists.proofs.drafts.Draft.find_before.Given as goal
 

@@ -1,5 +1,5 @@
-use Rattle.line_lists.proofs.Words.{◌≡◌, ◌+◌, ◌-◌, ◌<◌, None, length, subst, arith, lines_in, IsReached, made_lines}
-use Rattle.line_lists.proofs.Words.{StandsIn, whole}
+use Rattle.line_lists.proofs.Common.{◌≡◌, ◌+◌, ◌-◌, ◌<◌, None, length, subst, arith, lines_in, IsReached, made_lines}
+use Rattle.line_lists.proofs.Common.{StandsIn, whole}
 use Rattle.line_lists.proofs.StandLaws.{AtCopy, at-back, back-more, back-none, copies_to, none-more, none-rest}
 use Rattle.line_lists.proofs.StandLaws.{stands-at, stands-found, stands-rest}
 use Rattle.line_lists.proofs.drafts.Draft.find_behind.Given.{Over}

@@ -1,4 +1,4 @@
-use Rattle.line_lists.proofs.Words.{◌≡◌, None, IsReached, made_lines, whole}
+use Rattle.line_lists.proofs.Common.{◌≡◌, None, IsReached, made_lines, whole}
 use Rattle.line_lists.proofs.StandLaws.{copies_to}
 use Rattle.std.specs.FinMap as finite
 use Rattle.line_lists.proofs.drafts.Draft.find_behind.Given as goal

@@ -1,4 +1,4 @@
-use Rattle.line_lists.proofs.Words.{arith}
+use Rattle.line_lists.proofs.Common.{arith}
 use Rattle.line_lists.proofs.CountRows.{count-lines}
 use Rattle.line_lists.proofs.StandLaws.{copied-none, kept-found, kept-nowhere, stands-copied}
 use Rattle.line_lists.proofs.drafts.Draft.find_copied.Goals as goal

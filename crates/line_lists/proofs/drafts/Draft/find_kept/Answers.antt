@@ -1,4 +1,4 @@
-use Rattle.line_lists.proofs.Words.{◌≡◌, ◌+◌, ◌-◌, inl, inr, sym, ap, ◌∙◌, arith}
+use Rattle.line_lists.proofs.Common.{◌≡◌, ◌+◌, ◌-◌, inl, inr, sym, ap, ◌∙◌, arith}
 use Rattle.line_lists.proofs.CountRows.{count-characters}
 use Rattle.line_lists.proofs.FindLaws.{begin, begin-more}
 use Rattle.line_lists.proofs.StandLaws.{kept-before, kept-behind, kept-counted, kept-none, kept-there, line-some}

@@ -1,4 +1,4 @@
-use Rattle.line_lists.proofs.Words.{◌+◌, ◌-◌, subst, ap, arith, IfSome, IsSeen}
+use Rattle.line_lists.proofs.Common.{◌+◌, ◌-◌, subst, ap, arith, IfSome, IsSeen}
 use Rattle.line_lists.proofs.CountRows.{count-characters}
 use Rattle.line_lists.proofs.FindLaws.{found, seen-holds}
 use Rattle.line_lists.proofs.drafts.Draft.find_line.Goals as goal

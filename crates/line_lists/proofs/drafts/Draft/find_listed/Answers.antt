@@ -1,4 +1,4 @@
-use Rattle.line_lists.proofs.Words.{arith, has_mark}
+use Rattle.line_lists.proofs.Common.{arith, has_mark}
 use Rattle.line_lists.proofs.CountRows.{count-characters}
 use Rattle.line_lists.proofs.MarkPlaces.{mark-nowhere}
 use Rattle.line_lists.proofs.SearchRows.{next-none}

@@ -1,5 +1,5 @@
-use Rattle.line_lists.proofs.Words.{◌≡◌, ◌<◌, min, length, sym, ap, subst, ◌∙◌, arith, eqb-true, nil_from_length}
-use Rattle.line_lists.proofs.Words.{text_in, drafted_at, with_cleared, whole, vec_len}
+use Rattle.line_lists.proofs.Common.{◌≡◌, ◌<◌, min, length, sym, ap, subst, ◌∙◌, arith, eqb-true, nil_from_length}
+use Rattle.line_lists.proofs.Common.{text_in, drafted_at, with_cleared, whole, vec_len}
 use Rattle.line_lists.proofs.BeginLaws.{BeginsFree, behind-above, behind-within, free-line, free-lines}
 use Rattle.line_lists.proofs.CountRows.{count-lines}
 use Rattle.line_lists.proofs.FindLaws.{rest-within}

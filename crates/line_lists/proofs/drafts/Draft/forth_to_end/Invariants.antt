@@ -1,4 +1,4 @@
-use Rattle.line_lists.proofs.Words.{◌≡◌, vec_len, IsDraftIn, lines_in}
+use Rattle.line_lists.proofs.Common.{◌≡◌, vec_len, IsDraftIn, lines_in}
 use Rattle.line_lists.proofs.drafts.Draft.forth_to_end.Given as goal
 
 abbrev pub invariant-loop-self : goal.invariant-loop-self

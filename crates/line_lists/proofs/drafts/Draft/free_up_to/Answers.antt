@@ -1,5 +1,5 @@
-use Rattle.line_lists.proofs.Words.{◌≡◌, ◌-◌, ◌+◌, true, Some, length, take, drop, sym, ap, ◌∙◌, arith, slice_get}
-use Rattle.line_lists.proofs.Words.{free_end, CanFollow, has_toggle, whole}
+use Rattle.line_lists.proofs.Common.{◌≡◌, ◌-◌, ◌+◌, true, Some, length, take, drop, sym, ap, ◌∙◌, arith, slice_get}
+use Rattle.line_lists.proofs.Common.{free_end, CanFollow, has_toggle, whole}
 use Rattle.line_lists.proofs.ClearingLaws.{end-kept, end-passed, end-rest, end-within}
 use Rattle.line_lists.proofs.CountRows.{count-lines}
 use Rattle.line_lists.proofs.DraftLaws.{can-follow-next, last_is, no_last}

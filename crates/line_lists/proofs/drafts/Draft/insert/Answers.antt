@@ -1,4 +1,4 @@
-use Rattle.line_lists.proofs.Words.{chars, ◌∙◌, on_ok_weaker, text_in}
+use Rattle.line_lists.proofs.Common.{chars, ◌∙◌, on_ok_weaker, text_in}
 use Rattle.line_lists.proofs.OpenLaws.{partly-first}
 use Rattle.line_lists.proofs.drafts.Draft.insert.Goals as goal
 

@@ -1,5 +1,5 @@
-use Rattle.line_lists.proofs.Words.{◌≡◌, ◌+◌, ◌<◌, ◌^◌, length, chars, ap, ◌∙◌, arith, differing, after_text, text_in}
-use Rattle.line_lists.proofs.Words.{whole}
+use Rattle.line_lists.proofs.Common.{◌≡◌, ◌+◌, ◌<◌, ◌^◌, length, chars, ap, ◌∙◌, arith, differing, after_text, text_in}
+use Rattle.line_lists.proofs.Common.{whole}
 use Rattle.std.proofs.lemmas.Iterator.{YieldsList-from_chars}
 use Rattle.std.proofs.lemmas.Iterator.Consumers.{count_from_yields_List}
 use Rattle.line_lists.proofs.StepTexts.{inserted-long, inserted-made, more-there, toggled-long}

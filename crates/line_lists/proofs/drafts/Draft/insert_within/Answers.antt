@@ -1,4 +1,4 @@
-use Rattle.line_lists.proofs.Words.{length, ap, ◌∙◌, arith, LineContent, after_text, lines_in, taken_in, whole, chars}
+use Rattle.line_lists.proofs.Common.{length, ap, ◌∙◌, arith, LineContent, after_text, lines_in, taken_in, whole, chars}
 use Rattle.line_lists.proofs.EditLaws.{inserted-makes, length-text}
 use Rattle.line_lists.proofs.RowLaws.{Makes, made-text}
 use Rattle.line_lists.proofs.drafts.Draft.insert_within.Given.{Over}

@@ -1,4 +1,4 @@
-use Rattle.line_lists.proofs.Words.{◌-◌, ◌≤◌, length, take, ap, ◌∙◌, arith, slice_get, nat_tests}
+use Rattle.line_lists.proofs.Common.{◌-◌, ◌≤◌, length, take, ap, ◌∙◌, arith, slice_get, nat_tests}
 use Rattle.line_lists.proofs.DraftLaws.{begins-by, last-start, last_is}
 use Rattle.line_lists.proofs.drafts.Draft.is_begun.Goals as goal
 

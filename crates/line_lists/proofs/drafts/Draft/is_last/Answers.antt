@@ -1,5 +1,5 @@
-use Rattle.line_lists.proofs.Words.{◌≡◌, ◌<◌, ◌+◌, ◌-◌, ◌≤◌, length, take, ap, ◌∙◌, arith, slice_get, nat_tests}
-use Rattle.line_lists.proofs.Words.{line_start}
+use Rattle.line_lists.proofs.Common.{◌≡◌, ◌<◌, ◌+◌, ◌-◌, ◌≤◌, length, take, ap, ◌∙◌, arith, slice_get, nat_tests}
+use Rattle.line_lists.proofs.Common.{line_start}
 use Rattle.line_lists.proofs.DraftLaws.{begins-by, last-begins-behind, last_is}
 use Rattle.line_lists.proofs.FindLaws.{last-starts}
 use Rattle.line_lists.proofs.drafts.Draft.is_last.Given.{Over}

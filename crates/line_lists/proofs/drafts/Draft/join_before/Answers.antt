@@ -1,6 +1,6 @@
-use Rattle.line_lists.proofs.Words.{◌≡◌, ◌+◌, ◌-◌, ◌<◌, ◌++◌, ◌∷◌, [], drop, take, refl, sym, ap, subst, ◌∙◌, arith}
-use Rattle.line_lists.proofs.Words.{reverse, reverse-append, joined, Copied, copies_of, covered, lines_behind, used}
-use Rattle.line_lists.proofs.Words.{JoinsNext, whole}
+use Rattle.line_lists.proofs.Common.{◌≡◌, ◌+◌, ◌-◌, ◌<◌, ◌++◌, ◌∷◌, [], drop, take, refl, sym, ap, subst, ◌∙◌, arith}
+use Rattle.line_lists.proofs.Common.{reverse, reverse-append, joined, Copied, copies_of, covered, lines_behind, used}
+use Rattle.line_lists.proofs.Common.{JoinsNext, whole}
 use Rattle.line_lists.proofs.CountRows.{count-lines}
 use Rattle.line_lists.proofs.JoinLaws.{behind-copied, both_ok, behind-kept, joins, kept-there, still-placed}
 use Rattle.line_lists.proofs.drafts.Draft.join_before.Goals as goal

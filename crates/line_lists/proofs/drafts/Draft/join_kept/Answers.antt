@@ -1,4 +1,4 @@
-use Rattle.line_lists.proofs.Words.{◌≡◌, ◌+◌, ap, sym, ◌∙◌, arith, slice_get, joined, covered}
+use Rattle.line_lists.proofs.Common.{◌≡◌, ◌+◌, ap, sym, ◌∙◌, arith, slice_get, joined, covered}
 use Rattle.line_lists.proofs.CountRows.{count-lines}
 use Rattle.line_lists.proofs.JoinLaws.{first-line}
 use Rattle.line_lists.proofs.drafts.Draft.join_kept.Goals as goal

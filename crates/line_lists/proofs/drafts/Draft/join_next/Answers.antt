@@ -1,6 +1,6 @@
-use Rattle.line_lists.proofs.Words.{◌≡◌, ◌+◌, ◌<◌, [], None, Some, drop, length, take, sym, ap, subst, ◌∙◌, arith}
-use Rattle.line_lists.proofs.Words.{reverse, append-nil, joined, IsTaken, copies_of, covered, lines_behind, used}
-use Rattle.line_lists.proofs.Words.{JoinsNext, whole}
+use Rattle.line_lists.proofs.Common.{◌≡◌, ◌+◌, ◌<◌, [], None, Some, drop, length, take, sym, ap, subst, ◌∙◌, arith}
+use Rattle.line_lists.proofs.Common.{reverse, append-nil, joined, IsTaken, copies_of, covered, lines_behind, used}
+use Rattle.line_lists.proofs.Common.{JoinsNext, whole}
 use Rattle.line_lists.proofs.JoinLaws.{none_popped, behind-rest, both_ok, joins, rest-there, still-placed}
 use Rattle.line_lists.proofs.drafts.Draft.join_next.Goals as goal
 

@@ -1,5 +1,5 @@
-use Rattle.line_lists.proofs.Words.{◌-◌, ◌≤◌, List, length, take, drop, subst, ap, ap₂, sym, ◌∙◌, Slots, differing}
-use Rattle.line_lists.proofs.Words.{LineContent, copies_of, tags_after, used, whole, tags_left_of}
+use Rattle.line_lists.proofs.Common.{◌-◌, ◌≤◌, List, length, take, drop, subst, ap, ap₂, sym, ◌∙◌, Slots, differing}
+use Rattle.line_lists.proofs.Common.{LineContent, copies_of, tags_after, used, whole, tags_left_of}
 use Rattle.line_lists.proofs.ClearingLaws.{kept-ends, kept-tags}
 use Rattle.line_lists.proofs.FindLaws.{reached-there}
 use Rattle.line_lists.proofs.KnownLaws.{draft-there}

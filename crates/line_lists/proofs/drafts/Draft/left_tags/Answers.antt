@@ -1,4 +1,4 @@
-use Rattle.line_lists.proofs.Words.{sym, ap₂, ◌∙◌, differing, lines_in}
+use Rattle.line_lists.proofs.Common.{sym, ap₂, ◌∙◌, differing, lines_in}
 use Rattle.line_lists.proofs.StepTexts.{tags-left}
 use Rattle.line_lists.proofs.drafts.Draft.left_tags.Goals as goal
 

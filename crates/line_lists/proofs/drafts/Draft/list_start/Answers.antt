@@ -1,4 +1,4 @@
-use Rattle.line_lists.proofs.Words.{◌+◌, subst, ap, arith, IfSome, IsSeen}
+use Rattle.line_lists.proofs.Common.{◌+◌, subst, ap, arith, IfSome, IsSeen}
 use Rattle.line_lists.proofs.CountRows.{count-characters, count-lines}
 use Rattle.line_lists.proofs.FindLaws.{begin, begin-le, seen-next}
 use Rattle.line_lists.proofs.drafts.Draft.list_start.Goals as goal

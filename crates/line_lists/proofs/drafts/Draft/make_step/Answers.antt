@@ -1,4 +1,4 @@
-use Rattle.line_lists.proofs.Words.{subst, Remove, ClearTags, StepFitsIn, text_in}
+use Rattle.line_lists.proofs.Common.{subst, Remove, ClearTags, StepFitsIn, text_in}
 use Rattle.line_lists.proofs.StepTexts.{made-long}
 use Rattle.line_lists.proofs.drafts.Draft.make_step.Goals as goal
 

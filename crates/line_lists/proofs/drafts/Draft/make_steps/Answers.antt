@@ -1,4 +1,4 @@
-use Rattle.line_lists.proofs.Words.{◌+◌, drop, ◌∙◌, text_in}
+use Rattle.line_lists.proofs.Common.{◌+◌, drop, ◌∙◌, text_in}
 use Rattle.line_lists.proofs.StepTexts.{goes-at, goes-on, step-fits}
 use Rattle.line_lists.proofs.drafts.Draft.make_steps.Goals as goal
 

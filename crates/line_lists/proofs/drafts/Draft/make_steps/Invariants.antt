@@ -1,4 +1,4 @@
-use Rattle.line_lists.proofs.Words.{◌≡◌, drop, IsTextIn, text_in}
+use Rattle.line_lists.proofs.Common.{◌≡◌, drop, IsTextIn, text_in}
 use Rattle.line_lists.proofs.StepTexts.{Goes}
 use Rattle.line_lists.proofs.drafts.Draft.make_steps.Given as goal
 

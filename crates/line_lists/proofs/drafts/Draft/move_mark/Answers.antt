@@ -1,4 +1,4 @@
-use Rattle.line_lists.proofs.Words.{ap, ◌∙◌, IfOk-equal, text_in, with_mark}
+use Rattle.line_lists.proofs.Common.{ap, ◌∙◌, IfOk-equal, text_in, with_mark}
 use Rattle.line_lists.proofs.StepTexts.{mark-free, mark-moved}
 use Rattle.line_lists.proofs.drafts.Draft.move_mark.Goals as goal
 

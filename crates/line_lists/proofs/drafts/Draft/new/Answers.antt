@@ -1,4 +1,4 @@
-use Rattle.line_lists.proofs.Words.{[], subst, sym, IsDraft}
+use Rattle.line_lists.proofs.Common.{[], subst, sym, IsDraft}
 use Rattle.line_lists.proofs.DraftLaws.{draft-none}
 use Rattle.line_lists.proofs.drafts.Draft.new.Goals as goal
 

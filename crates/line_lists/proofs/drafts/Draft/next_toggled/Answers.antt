@@ -1,4 +1,4 @@
-use Rattle.line_lists.proofs.Words.{◌<◌, length, ap, ◌∙◌, arith, free_end}
+use Rattle.line_lists.proofs.Common.{◌<◌, length, ap, ◌∙◌, arith, free_end}
 use Rattle.line_lists.proofs.ClearingLaws.{passed-end}
 use Rattle.line_lists.proofs.drafts.Draft.next_toggled.Goals as goal
 

@@ -1,4 +1,4 @@
-use Rattle.line_lists.proofs.Words.{◌≡◌, vec_len, free_end, IsDraftIn, lines_in, IsReached, copies_of}
+use Rattle.line_lists.proofs.Common.{◌≡◌, vec_len, free_end, IsDraftIn, lines_in, IsReached, copies_of}
 use Rattle.line_lists.proofs.drafts.Draft.next_toggled.Given as goal
 
 abbrev pub invariant-loop-reached : goal.invariant-loop-reached

@@ -1,4 +1,4 @@
-use Rattle.line_lists.proofs.Words.{◌++◌, ◌∷◌, [], refl, subst, sym, ap, ◌∙◌, Stop, IsDraft}
+use Rattle.line_lists.proofs.Common.{◌++◌, ◌∷◌, [], refl, subst, sym, ap, ◌∙◌, Stop, IsDraft}
 use Rattle.line_lists.proofs.DraftLaws.{can-follow-next, draft-forth, stop_of}
 use Rattle.line_lists.proofs.drafts.Draft.pass.Goals as goal
 

@@ -1,4 +1,4 @@
-use Rattle.line_lists.proofs.Words.{subst, sym, ap, ◌∙◌, IsDraft, drafted_at}
+use Rattle.line_lists.proofs.Common.{subst, sym, ap, ◌∙◌, IsDraft, drafted_at}
 use Rattle.line_lists.proofs.FindLaws.{put-back, taken-is}
 use Rattle.line_lists.proofs.drafts.Draft.put.Goals as goal
 

@@ -1,5 +1,5 @@
-use Rattle.line_lists.proofs.Words.{◌≡◌, ◌+◌, length, ap, ◌∙◌, arith, Place, LineContent, lines_in, taken_in, with_mark}
-use Rattle.line_lists.proofs.Words.{whole}
+use Rattle.line_lists.proofs.Common.{◌≡◌, ◌+◌, length, ap, ◌∙◌, arith, Place, LineContent, lines_in, taken_in}
+use Rattle.line_lists.proofs.Common.{with_mark, whole}
 use Rattle.line_lists.proofs.FoundMarks.{draft-some, last-makes}
 use Rattle.line_lists.proofs.RowLaws.{Makes, made-text}
 use Rattle.line_lists.proofs.drafts.Draft.put_last_mark.Given.{Over}

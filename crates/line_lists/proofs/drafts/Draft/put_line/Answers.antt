@@ -1,5 +1,5 @@
-use Rattle.line_lists.proofs.Words.{◌++◌, ◌∷◌, [], chars, subst, sym, ap, ◌∙◌, Stop, IsReached, copies_of, place_of}
-use Rattle.line_lists.proofs.Words.{text_at, Opens}
+use Rattle.line_lists.proofs.Common.{◌++◌, ◌∷◌, [], chars, subst, sym, ap, ◌∙◌, Stop, IsReached, copies_of, place_of}
+use Rattle.line_lists.proofs.Common.{text_at, Opens}
 use Rattle.line_lists.proofs.OpenLaws.{line-opens, new_stop}
 use Rattle.line_lists.proofs.drafts.Draft.put_line.Goals as goal
 

@@ -1,4 +1,4 @@
-use Rattle.line_lists.proofs.Words.{rules, ap, subst, ◌∙◌, chars, arith, place_of, text_at, Opens}
+use Rattle.line_lists.proofs.Common.{rules, ap, subst, ◌∙◌, chars, arith, place_of, text_at, Opens}
 use Rattle.line_lists.proofs.OpenLaws.{partly-next}
 use Rattle.line_lists.proofs.drafts.Draft.put_lines.Goals as goal
 

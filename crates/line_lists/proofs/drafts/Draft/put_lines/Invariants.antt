@@ -1,4 +1,4 @@
-use Rattle.line_lists.proofs.Words.{◌≡◌, ◌+◌, ◌≤◌, chars, length, text_in, place_of, IsPartly}
+use Rattle.line_lists.proofs.Common.{◌≡◌, ◌+◌, ◌≤◌, chars, length, text_in, place_of, IsPartly}
 use denote.Text.{Utf8}
 use denote.Shadow.{shadow}
 use Rattle.line_lists.proofs.drafts.Draft.put_lines.Given as goal

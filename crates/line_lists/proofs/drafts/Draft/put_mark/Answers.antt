@@ -1,5 +1,5 @@
-use Rattle.line_lists.proofs.Words.{◌≡◌, length, ap, ◌∙◌, arith, Place, LineContent, lines_in, taken_in, with_mark}
-use Rattle.line_lists.proofs.Words.{whole}
+use Rattle.line_lists.proofs.Common.{◌≡◌, length, ap, ◌∙◌, arith, Place, LineContent, lines_in, taken_in, with_mark}
+use Rattle.line_lists.proofs.Common.{whole}
 use Rattle.line_lists.proofs.EditLaws.{marked-makes}
 use Rattle.line_lists.proofs.RowLaws.{Makes, made-text}
 use Rattle.line_lists.proofs.drafts.Draft.put_mark.Given.{Over}

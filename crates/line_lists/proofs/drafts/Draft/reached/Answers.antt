@@ -1,5 +1,5 @@
-use Rattle.line_lists.proofs.Words.{◌≡◌, ◌+◌, ◌-◌, ◌<◌, ◌^◌, ◌++◌, ◌∷◌, [], length, take, subst, sym, ap, ◌∙◌, arith}
-use Rattle.line_lists.proofs.Words.{slice_get, Reached, CanFollow, IsDraft, IsReached, copies_of, covered}
+use Rattle.line_lists.proofs.Common.{◌≡◌, ◌+◌, ◌-◌, ◌<◌, ◌^◌, ◌++◌, ◌∷◌, [], length, take, subst, sym, ap, ◌∙◌, arith}
+use Rattle.line_lists.proofs.Common.{slice_get, Reached, CanFollow, IsDraft, IsReached, copies_of, covered}
 use Rattle.line_lists.proofs.CountRows.{count-lines}
 use Rattle.line_lists.proofs.DraftLaws.{can-follow, copies-snoc, last-start, last_is, no_last, reached-more, stops-last}
 use Rattle.line_lists.proofs.drafts.Draft.reached.Given.{Over}

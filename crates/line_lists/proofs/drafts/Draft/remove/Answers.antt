@@ -1,4 +1,4 @@
-use Rattle.line_lists.proofs.Words.{◌-◌, length, ap, arith, LineContent, held_at, held_text, whole}
+use Rattle.line_lists.proofs.Common.{◌-◌, length, ap, arith, LineContent, held_at, held_text, whole}
 use Rattle.line_lists.proofs.HeldLaws.{length-removal}
 use Rattle.line_lists.proofs.drafts.Draft.remove.Goals as goal
 

@@ -1,4 +1,4 @@
-use Rattle.line_lists.proofs.Words.{Vec, Global, ◌≡◌, ap, ◌∙◌, arith, Stop, held_at, held_text}
+use Rattle.line_lists.proofs.Common.{Vec, Global, ◌≡◌, ap, ◌∙◌, arith, Stop, held_at, held_text}
 use Rattle.line_lists.proofs.HeldLaws.{at-same, left-long, left-same, none-left}
 use Rattle.line_lists.proofs.drafts.Draft.remove_behind.Goals as goal
 

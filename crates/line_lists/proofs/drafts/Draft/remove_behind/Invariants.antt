@@ -1,4 +1,4 @@
-use Rattle.line_lists.proofs.Words.{◌≡◌, ◌+◌, after_removal, HoldsMore, IsHeld, held_at, held_text}
+use Rattle.line_lists.proofs.Common.{◌≡◌, ◌+◌, after_removal, HoldsMore, IsHeld, held_at, held_text}
 use Rattle.line_lists.proofs.drafts.Draft.remove_behind.Given as goal
 
 abbrev pub invariant-loop-left : goal.invariant-loop-left

@@ -1,5 +1,5 @@
-use Rattle.line_lists.proofs.Words.{Vec, Global, ◌≡◌, ◌+◌, ◌-◌, ◌<◌, ◌≤◌, length, sym, ap, ◌∙◌, arith, after_removal}
-use Rattle.line_lists.proofs.Words.{Stop, held_at, held_text}
+use Rattle.line_lists.proofs.Common.{Vec, Global, ◌≡◌, ◌+◌, ◌-◌, ◌<◌, ◌≤◌, length, sym, ap, ◌∙◌, arith, after_removal}
+use Rattle.line_lists.proofs.Common.{Stop, held_at, held_text}
 use Rattle.line_lists.proofs.HeldLaws.{Leaves, leaves-joined, leaves-within, next-there, with_line}
 use Rattle.line_lists.proofs.drafts.Draft.remove_some.Given.{Over}
 use Rattle.line_lists.proofs.drafts.Draft.remove_some.Goals.{In_ok-remove_range, In_ok-remove_range-2}

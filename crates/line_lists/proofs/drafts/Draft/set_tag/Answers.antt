@@ -1,4 +1,4 @@
-use Rattle.line_lists.proofs.Words.{ap, ◌∙◌, IfOk-equal, set_slot, text_in, with_cleared, whole, switched}
+use Rattle.line_lists.proofs.Common.{ap, ◌∙◌, IfOk-equal, set_slot, text_in, with_cleared, whole, switched}
 use Rattle.line_lists.proofs.StepTexts.{cleared-long, tagged-made}
 use Rattle.line_lists.proofs.drafts.Draft.set_tag.Goals as goal
 

@@ -1,4 +1,4 @@
-use Rattle.line_lists.proofs.Words.{◌++◌, ◌∷◌, [], chars, sym, ap, subst, ◌∙◌, lines_in, Opens, whole}
+use Rattle.line_lists.proofs.Common.{◌++◌, ◌∷◌, [], chars, sym, ap, subst, ◌∙◌, lines_in, Opens, whole}
 use Rattle.line_lists.proofs.OpenLaws.{new_copy, split-opens}
 use Rattle.line_lists.proofs.drafts.Draft.split.Goals as goal
 

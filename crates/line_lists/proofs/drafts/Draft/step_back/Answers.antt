@@ -1,4 +1,4 @@
-use Rattle.line_lists.proofs.Words.{◌≤◌, ◌++◌, ◌∷◌, [], length, subst, sym, ap, ◌∙◌, IsDraft, copies_of, used}
+use Rattle.line_lists.proofs.Common.{◌≤◌, ◌++◌, ◌∷◌, [], length, subst, sym, ap, ◌∙◌, IsDraft, copies_of, used}
 use Rattle.line_lists.proofs.DraftLaws.{draft-back}
 use Rattle.line_lists.proofs.KnownLaws.{draft-there}
 use Rattle.line_lists.proofs.drafts.Draft.step_back.Goals as goal

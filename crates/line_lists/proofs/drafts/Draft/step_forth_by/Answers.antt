@@ -1,5 +1,5 @@
-use Rattle.line_lists.proofs.Words.{◌-◌, ◌++◌, ◌∷◌, [], length, take, subst, sym, ap, ◌∙◌, arith, slice_get, Stop}
-use Rattle.line_lists.proofs.Words.{BeginsBy, IsDraft}
+use Rattle.line_lists.proofs.Common.{◌-◌, ◌++◌, ◌∷◌, [], length, take, subst, sym, ap, ◌∙◌, arith, slice_get, Stop}
+use Rattle.line_lists.proofs.Common.{BeginsBy, IsDraft}
 use Rattle.line_lists.proofs.DraftLaws.{begins-behind, can-follow-next, forth-by, last_is}
 use Rattle.line_lists.proofs.drafts.Draft.step_forth_by.Given.{Over}
 use Rattle.line_lists.proofs.drafts.Draft.step_forth_by.Goals.{After-push_reserved}

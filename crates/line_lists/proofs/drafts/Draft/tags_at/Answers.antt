@@ -1,4 +1,4 @@
-use Rattle.line_lists.proofs.Words.{sym, ap, ◌∙◌, differing, tags_before, lines_in}
+use Rattle.line_lists.proofs.Common.{sym, ap, ◌∙◌, differing, tags_before, lines_in}
 use Rattle.line_lists.proofs.StepTexts.{tags-taken}
 use Rattle.line_lists.proofs.drafts.Draft.tags_at.Goals as goal
 

@@ -1,4 +1,4 @@
-use Rattle.line_lists.proofs.Words.{take, drop, sym, ap, ◌∙◌, differing, copies_of, tags_after, whole, tags_left_of}
+use Rattle.line_lists.proofs.Common.{take, drop, sym, ap, ◌∙◌, differing, copies_of, tags_after, whole, tags_left_of}
 use Rattle.line_lists.proofs.ClearingLaws.{tags-before}
 use Rattle.line_lists.proofs.drafts.Draft.tags_up_to.Goals as goal
 

@@ -1,5 +1,5 @@
-use Rattle.line_lists.proofs.Words.{◌≡◌, ◌≤◌, ◌++◌, ◌∷◌, [], length, subst, sym, ap, ◌∙◌, arith, option_to_list}
-use Rattle.line_lists.proofs.Words.{IsDraft, copies_of, drafted_at, used}
+use Rattle.line_lists.proofs.Common.{◌≡◌, ◌≤◌, ◌++◌, ◌∷◌, [], length, subst, sym, ap, ◌∙◌, arith, option_to_list}
+use Rattle.line_lists.proofs.Common.{IsDraft, copies_of, drafted_at, used}
 use Rattle.line_lists.proofs.FindLaws.{IsLast, taken-is, taken-last, the-last}
 use Rattle.line_lists.proofs.KnownLaws.{draft-there}
 use Rattle.line_lists.proofs.drafts.Draft.take_last.Given.{Over}

@@ -1,4 +1,4 @@
-use Rattle.line_lists.proofs.Words.{sym, lines_in, text_in}
+use Rattle.line_lists.proofs.Common.{sym, lines_in, text_in}
 use Rattle.line_lists.proofs.FreedLaws.{same-line}
 use Rattle.line_lists.proofs.StandLaws.{stands-found}
 use Rattle.line_lists.proofs.drafts.Draft.take_mark.Goals as goal

@@ -1,4 +1,4 @@
-use Rattle.line_lists.proofs.Words.{◌≡◌, length, ap, ◌∙◌, arith, LineContent, lines_in, taken_in, without_mark, whole}
+use Rattle.line_lists.proofs.Common.{◌≡◌, length, ap, ◌∙◌, arith, LineContent, lines_in, taken_in, without_mark, whole}
 use Rattle.line_lists.proofs.EditLaws.{taken-makes}
 use Rattle.line_lists.proofs.RowLaws.{Makes, made-text}
 use Rattle.line_lists.proofs.drafts.Draft.take_mark_at.Given.{Over}

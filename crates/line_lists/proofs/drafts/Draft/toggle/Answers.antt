@@ -1,4 +1,4 @@
-use Rattle.line_lists.proofs.Words.{◌≡◌, length, ap, ◌∙◌, arith, LineContent, lines_in, taken_in, with_toggled, whole}
+use Rattle.line_lists.proofs.Common.{◌≡◌, length, ap, ◌∙◌, arith, LineContent, lines_in, taken_in, with_toggled, whole}
 use Rattle.line_lists.proofs.RowLaws.{Makes, made-text, toggled-line, toggled-makes}
 use Rattle.line_lists.proofs.WholeLaws.{length-toggled}
 use Rattle.line_lists.proofs.drafts.Draft.toggle.Given.{Over}

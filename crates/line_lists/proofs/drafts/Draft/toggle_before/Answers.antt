@@ -1,4 +1,4 @@
-use Rattle.line_lists.proofs.Words.{arith, text_in}
+use Rattle.line_lists.proofs.Common.{arith, text_in}
 use Rattle.line_lists.proofs.StepTexts.{toggled-empty, toggled-end}
 use Rattle.line_lists.proofs.drafts.Draft.toggle_before.Goals.{then-len-offset-via-then-len-offset}
 use Rattle.line_lists.proofs.drafts.Draft.toggle_before.Goals.{then-len-offset-via-else-len-offset+then-is_empty}

@@ -1,4 +1,4 @@
-use Rattle.line_lists.proofs.Words.{ap, ◌∙◌, IfOk-equal, text_in, with_toggled}
+use Rattle.line_lists.proofs.Common.{ap, ◌∙◌, IfOk-equal, text_in, with_toggled}
 use Rattle.line_lists.proofs.StepTexts.{toggled-long, toggled-swap}
 use Rattle.line_lists.proofs.drafts.Draft.toggle_ends.Goals as goal
 

@@ -1,4 +1,4 @@
-use Rattle.line_lists.proofs.Words.{◌-◌, ◌≤◌, min, IsKnown}
+use Rattle.line_lists.proofs.Common.{◌-◌, ◌≤◌, min, IsKnown}
 use Rattle.line_lists.proofs.drafts.Known.back_to.Given as goal
 
 abbrev pub invariant-loop-self : goal.invariant-loop-self

@@ -1,4 +1,4 @@
-use Rattle.line_lists.proofs.Words.{◌<◌, ◌+◌, length, arith, refl, slice_get_read}
+use Rattle.line_lists.proofs.Common.{◌<◌, ◌+◌, length, arith, refl, slice_get_read}
 use Rattle.line_lists.proofs.KnownLaws.{known-forth, stop-there}
 use Rattle.line_lists.proofs.drafts.Known.forth_to.Goals as goal
 

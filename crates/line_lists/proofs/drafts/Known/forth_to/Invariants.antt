@@ -1,4 +1,4 @@
-use Rattle.line_lists.proofs.Words.{◌-◌, ◌≤◌, max, IsKnown}
+use Rattle.line_lists.proofs.Common.{◌-◌, ◌≤◌, max, IsKnown}
 use Rattle.line_lists.proofs.drafts.Known.forth_to.Given as goal
 
 abbrev pub invariant-loop-self : goal.invariant-loop-self

@@ -1,5 +1,5 @@
-use Rattle.line_lists.proofs.Words.{◌+◌, take, drop, sym, ap, ◌∙◌, arith, differing, differing-associative}
-use Rattle.line_lists.proofs.Words.{differing-empty, count_of, whole, tags_left_of}
+use Rattle.line_lists.proofs.Common.{◌+◌, take, drop, sym, ap, ◌∙◌, arith, differing, differing-associative}
+use Rattle.line_lists.proofs.Common.{differing-empty, count_of, whole, tags_left_of}
 use Rattle.line_lists.proofs.CountRows.{count-lines}
 use Rattle.line_lists.proofs.DraftLaws.{parity-between}
 use Rattle.line_lists.proofs.drafts.Reached.turn_kept.Goals as goal

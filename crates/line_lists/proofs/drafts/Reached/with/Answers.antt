@@ -1,4 +1,4 @@
-use Rattle.line_lists.proofs.Words.{arith}
+use Rattle.line_lists.proofs.Common.{arith}
 use Rattle.line_lists.proofs.CountRows.{count-lines}
 use Rattle.line_lists.proofs.DraftLaws.{reached-more}
 use Rattle.line_lists.proofs.drafts.Reached.with.Goals as goal

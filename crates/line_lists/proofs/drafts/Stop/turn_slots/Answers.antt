@@ -1,4 +1,4 @@
-use Rattle.line_lists.proofs.Words.{take, drop, sym, ap, ◌∙◌, differing, differing-associative, whole, tags_left_of}
+use Rattle.line_lists.proofs.Common.{take, drop, sym, ap, ◌∙◌, differing, differing-associative, whole, tags_left_of}
 use Rattle.line_lists.proofs.KnownLaws.{copy-tags}
 use Rattle.line_lists.proofs.drafts.Stop.turn_slots.Goals as goal
 

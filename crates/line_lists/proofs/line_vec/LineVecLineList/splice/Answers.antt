@@ -1,4 +1,4 @@
-use Rattle.line_lists.proofs.Words.{subst, sym, ap, ◌∙◌, arith, inserted, AreLines}
+use Rattle.line_lists.proofs.Common.{subst, sym, ap, ◌∙◌, arith, inserted, AreLines}
 use Rattle.line_lists.proofs.VecLaws.{spliced-made}
 use Rattle.line_lists.proofs.line_vec.LineVecLineList.splice.Goals as goal
 

@@ -1,4 +1,4 @@
-use Rattle.line_lists.proofs.Words.{take, ap, ◌∙◌, Count, count_of}
+use Rattle.line_lists.proofs.Common.{take, ap, ◌∙◌, Count, count_of}
 use Rattle.line_lists.proofs.CountRows.{count-characters}
 use Rattle.line_lists.proofs.VecLaws.{counted-front}
 use Rattle.line_lists.proofs.line_vec.LineVecLineList.start.Goals as goal

@@ -1,4 +1,4 @@
-use Rattle.line_lists.proofs.Words.{length, map, subst, sym, ap, ◌∙◌, arith, length-map, without_mark, AreLines}
+use Rattle.line_lists.proofs.Common.{length, map, subst, sym, ap, ◌∙◌, arith, length-map, without_mark, AreLines}
 use Rattle.line_lists.proofs.VecLaws.{lines-are-without, written-over}
 use Rattle.line_lists.proofs.line_vec.LineVecLineList.take_mark.Goals as goal
 

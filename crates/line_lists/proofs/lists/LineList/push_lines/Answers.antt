@@ -1,4 +1,4 @@
-use Rattle.line_lists.proofs.Words.{◌≡◌, ◌++◌, ◌∙◌, ap, arith, slice_range, string_bytes, characters, whole, chars}
+use Rattle.line_lists.proofs.Common.{◌≡◌, ◌++◌, ◌∙◌, ap, arith, slice_range, string_bytes, characters, whole, chars}
 use Rattle.line_lists.proofs.TextRows.{pushed-line, pushed-none}
 use Rattle.line_lists.proofs.lists.LineList.push_lines.Goals as goal
 

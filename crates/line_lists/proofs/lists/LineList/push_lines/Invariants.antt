@@ -1,4 +1,4 @@
-use Rattle.line_lists.proofs.Words.{◌≡◌, ◌++◌, slice_range, string_bytes, characters, whole, chars}
+use Rattle.line_lists.proofs.Common.{◌≡◌, ◌++◌, slice_range, string_bytes, characters, whole, chars}
 use Rattle.line_lists.proofs.lists.LineList.push_lines.Given as goal
 
 abbrev pub invariant-loop-index : goal.invariant-loop-index

@@ -1,4 +1,4 @@
-use Rattle.line_lists.proofs.Words.{◌≤◌}
+use Rattle.line_lists.proofs.Common.{◌≤◌}
 use Rattle.line_lists.proofs.pieces.Rows.of.Given as goal
 
 abbrev pub invariant-loop-stop : goal.invariant-loop-stop

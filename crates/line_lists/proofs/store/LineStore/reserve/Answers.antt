@@ -1,4 +1,4 @@
-use Rattle.line_lists.proofs.Words.{◌<◌, subst, subst₂, sym, CanPlace, freed, named, numbers_in, piece_lines}
+use Rattle.line_lists.proofs.Common.{◌<◌, subst, subst₂, sym, CanPlace, freed, named, numbers_in, piece_lines}
 use Rattle.line_lists.proofs.StoreLaws.{all-names, below-lines}
 use Rattle.line_lists.proofs.store.LineStore.reserve.Goals as goal
 

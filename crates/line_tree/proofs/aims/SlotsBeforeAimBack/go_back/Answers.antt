@@ -1,5 +1,5 @@
-use Rattle.line_tree.proofs.Words.{◌≡◌, ap, ◌∙◌, Slots, differing, differing-associative, differing-empty}
-use Rattle.line_tree.proofs.Words.{differing-self, Count, records, sum_at, slots_behind, SlotsBefore}
+use Rattle.line_tree.proofs.Common.{◌≡◌, ap, ◌∙◌, Slots, differing, differing-associative, differing-empty}
+use Rattle.line_tree.proofs.Common.{differing-self, Count, records, sum_at, slots_behind, SlotsBefore}
 use Rattle.line_tree.proofs.RowLaws.{said}
 use Rattle.line_tree.proofs.aims.SlotsBeforeAimBack.go_back.Goals as goal
 

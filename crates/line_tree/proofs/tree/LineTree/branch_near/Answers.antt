@@ -1,4 +1,4 @@
-use Rattle.line_tree.proofs.Words.{ap, sym, subst, records, IsLineAt}
+use Rattle.line_tree.proofs.Common.{ap, sym, subst, records, IsLineAt}
 use Rattle.line_tree.proofs.GivingLaws.{node-above}
 use Rattle.line_tree.proofs.RootLaws.{positive-root}
 use Rattle.line_tree.proofs.tree.LineTree.branch_near.Goals as goal

@@ -1,4 +1,5 @@
-use Rattle.line_tree.proofs.Words.{◌≡◌, true, sym, ap, subst, ◌∙◌, Count, IsBare, contents, lines_in, records, count_of}
+use Rattle.line_tree.proofs.Common.{◌≡◌, true, sym, ap, subst, ◌∙◌, Count, IsBare, contents, lines_in, records}
+use Rattle.line_tree.proofs.Common.{count_of}
 use Rattle.line_tree.proofs.PrefixLaws.{count-contents}
 use Rattle.line_tree.proofs.RowLaws.{tells}
 use Rattle.line_tree.proofs.TreeLaws.{named-tree, sum-tree}

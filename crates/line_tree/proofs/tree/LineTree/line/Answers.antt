@@ -1,4 +1,4 @@
-use Rattle.line_tree.proofs.Words.{sym, ap, ◌∙◌, subst, Some, slice_get, entry, records, lines_in, at_some, IsLineAt}
+use Rattle.line_tree.proofs.Common.{sym, ap, ◌∙◌, subst, Some, slice_get, entry, records, lines_in, at_some, IsLineAt}
 use Rattle.line_tree.proofs.LineNodes.{lent-same, lent-some, named-line, stands-at}
 use Rattle.line_tree.proofs.tree.LineTree.line.Goals as goal
 

@@ -1,4 +1,4 @@
-use Rattle.line_tree.proofs.Words.{records}
+use Rattle.line_tree.proofs.Common.{records}
 use Rattle.line_tree.proofs.RootLaws.{stands-few}
 use Rattle.line_tree.proofs.tree.LineTree.locate_line.Goals as goal
 

@@ -1,4 +1,4 @@
-use Rattle.line_tree.proofs.Words.{sym, ap, ◌∙◌, Count, contents, lines_in, records, count_of}
+use Rattle.line_tree.proofs.Common.{sym, ap, ◌∙◌, Count, contents, lines_in, records, count_of}
 use Rattle.line_tree.proofs.PrefixLaws.{count-contents}
 use Rattle.line_tree.proofs.RowLaws.{marks_is}
 use Rattle.line_tree.proofs.TreeLaws.{named-tree, sum-tree}

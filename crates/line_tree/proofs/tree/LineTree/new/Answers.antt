@@ -1,5 +1,5 @@
-use Rattle.line_tree.proofs.Words.{◌≡◌, ap, sym, ◌∙◌, [], ◌∷◌, length, subst, get-empty, FitsSum, line_count}
-use Rattle.line_tree.proofs.Words.{plain_line, records, name_cmp}
+use Rattle.line_tree.proofs.Common.{◌≡◌, ap, sym, ◌∙◌, [], ◌∷◌, length, subst, get-empty, FitsSum, line_count}
+use Rattle.line_tree.proofs.Common.{plain_line, records, name_cmp}
 use Rattle.line_tree.proofs.GrowLaws.{unnamed}
 use Rattle.line_tree.proofs.RootLaws.{first-root, first-root-alone, lone-fits, lone-line, new-line, new-sum}
 use Rattle.line_tree.proofs.TreeLaws.{named-tree}

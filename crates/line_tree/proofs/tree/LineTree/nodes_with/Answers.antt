@@ -1,4 +1,4 @@
-use Rattle.line_tree.proofs.Words.{◌≡◌, ◌≤◌, ◌+◌, ◌/◌, subst, arith, rules, names, records, tree_at}
+use Rattle.line_tree.proofs.Common.{◌≡◌, ◌≤◌, ◌+◌, ◌/◌, subst, arith, rules, names, records, tree_at}
 use Rattle.line_tree.proofs.CountLaws.{names-few-root}
 use Rattle.line_tree.proofs.RoomLaws.{len-within}
 use Rattle.line_tree.proofs.tree.LineTree.nodes_with.Goals as goal

@@ -1,4 +1,4 @@
-use Rattle.line_tree.proofs.Words.{take, sym, ap, ◌∙◌, Count, contents, lines_in, records, count_of}
+use Rattle.line_tree.proofs.Common.{take, sym, ap, ◌∙◌, Count, contents, lines_in, records, count_of}
 use Rattle.line_tree.proofs.PrefixLaws.{count-first}
 use Rattle.line_tree.proofs.tree.LineTree.odd_slots.Goals as goal
 

@@ -1,5 +1,5 @@
-use Rattle.line_tree.proofs.Words.{length, take, sym, ap, ◌∙◌, Count, contents, lines_in, records, whole}
-use Rattle.line_tree.proofs.Words.{count-characters}
+use Rattle.line_tree.proofs.Common.{length, take, sym, ap, ◌∙◌, Count, contents, lines_in, records, whole}
+use Rattle.line_tree.proofs.Common.{count-characters}
 use Rattle.line_tree.proofs.PrefixLaws.{count-first}
 use Rattle.line_tree.proofs.tree.LineTree.place.Goals as goal
 

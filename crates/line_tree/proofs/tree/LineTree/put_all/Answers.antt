@@ -1,5 +1,5 @@
-use Rattle.line_tree.proofs.Words.{◌≡◌, ◌+◌, ◌-◌, ◌++◌, length, take, drop, min, ap, sym, ◌∙◌, subst, arith, FitsSum}
-use Rattle.line_tree.proofs.Words.{plus, total, count_of, more_lines, PutsRoom, length-take}
+use Rattle.line_tree.proofs.Common.{◌≡◌, ◌+◌, ◌-◌, ◌++◌, length, take, drop, min, ap, sym, ◌∙◌, subst, arith, FitsSum}
+use Rattle.line_tree.proofs.Common.{plus, total, count_of, more_lines, PutsRoom, length-take}
 use Rattle.line_tree.proofs.SpendingLaws.{puts-none, room-alone, room-row, spends-alone, spends-keeps, spends-row}
 use Rattle.line_tree.proofs.SpliceLaws.{all-in, few-lines, no-fewer, rest-fits, then-fits}
 use Rattle.line_tree.proofs.tree.LineTree.put_all.Goals as goal

@@ -1,6 +1,6 @@
-use Rattle.line_tree.proofs.Words.{◌≡◌, ◌≤◌, ◌+◌, ◌-◌, suc, length, ap, sym, ◌∙◌, subst, arith, Some, [], ◌∷◌, insert}
-use Rattle.line_tree.proofs.Words.{length-insert, FitsSum, Records, blank, line_count, lines_in, sum_of, plus, records}
-use Rattle.line_tree.proofs.Words.{spares, total, get_inserted, Inserts, StandsAlone, IsLineAt, levels_at_most}
+use Rattle.line_tree.proofs.Common.{◌≡◌, ◌≤◌, ◌+◌, ◌-◌, suc, length, ap, sym, ◌∙◌, subst, arith, Some, [], ◌∷◌, insert}
+use Rattle.line_tree.proofs.Common.{length-insert, FitsSum, Records, blank, line_count, lines_in, sum_of, plus, records}
+use Rattle.line_tree.proofs.Common.{spares, total, get_inserted, Inserts, StandsAlone, IsLineAt, levels_at_most}
 use Rattle.line_tree.proofs.LevelLaws.{levels-held}
 use Rattle.line_tree.proofs.LineRoomLaws.{one-more, room-falls}
 use Rattle.line_tree.proofs.RoomLaws.{len-line, len-root}

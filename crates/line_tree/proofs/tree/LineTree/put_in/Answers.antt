@@ -1,6 +1,6 @@
-use Rattle.line_tree.proofs.Words.{◌≡◌, ◌∷◌, [], ◌+◌, ◌-◌, ◌++◌, length, ap, sym, ◌∙◌, subst, arith, append_assoc}
-use Rattle.line_tree.proofs.Words.{length-append, drop, min, take, append-nil, nil_from_length, none-some, IsLineAt}
-use Rattle.line_tree.proofs.Words.{FitsSum, plus, total, count_of, PutsRoom}
+use Rattle.line_tree.proofs.Common.{◌≡◌, ◌∷◌, [], ◌+◌, ◌-◌, ◌++◌, length, ap, sym, ◌∙◌, subst, arith, append_assoc}
+use Rattle.line_tree.proofs.Common.{length-append, drop, min, take, append-nil, nil_from_length, none-some, IsLineAt}
+use Rattle.line_tree.proofs.Common.{FitsSum, plus, total, count_of, PutsRoom}
 use Rattle.line_tree.proofs.SpendingLaws.{keeps-self, puts-kept, puts-on}
 use Rattle.line_tree.proofs.SpliceLaws.{few-lines, in-length, next-fits, next-in, none-in, went-within}
 use Rattle.line_tree.proofs.tree.LineTree.put_in.Goals as goal

@@ -1,4 +1,4 @@
-use Rattle.line_tree.proofs.Words.{◌≡◌, ◌+◌, ◌-◌, ◌≤◌, min, subst, arith, PutsRoom, levels_at_most}
+use Rattle.line_tree.proofs.Common.{◌≡◌, ◌+◌, ◌-◌, ◌≤◌, min, subst, arith, PutsRoom, levels_at_most}
 use Rattle.line_tree.proofs.SpendingLaws.{puts-kept, puts-one}
 use Rattle.line_tree.proofs.SpliceLaws.{put-named, still-named}
 use Rattle.line_tree.proofs.tree.LineTree.put_line.Goals as goal

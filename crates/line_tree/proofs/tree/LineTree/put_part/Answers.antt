@@ -1,7 +1,7 @@
-use Rattle.line_tree.proofs.Words.{◌≡◌, ◌≤◌, List, [], ◌∷◌, length, get_or, take, drop, refl, sym, ap, ◌∙◌, subst}
-use Rattle.line_tree.proofs.Words.{append_assoc, arith, length-drop, length-map, length_push, FitsSum, LineContent}
-use Rattle.line_tree.proofs.Words.{Named, contents, total, NodePtr, lines_in, tree_at, plus, records, spares, count_of}
-use Rattle.line_tree.proofs.Words.{lines_of, Lifts, trees_at, with_lines, levels_at_most}
+use Rattle.line_tree.proofs.Common.{◌≡◌, ◌≤◌, List, [], ◌∷◌, length, get_or, take, drop, refl, sym, ap, ◌∙◌, subst}
+use Rattle.line_tree.proofs.Common.{append_assoc, arith, length-drop, length-map, length_push, FitsSum, LineContent}
+use Rattle.line_tree.proofs.Common.{Named, contents, total, NodePtr, lines_in, tree_at, plus, records, spares, count_of}
+use Rattle.line_tree.proofs.Common.{lines_of, Lifts, trees_at, with_lines, levels_at_most}
 use Rattle.line_tree.proofs.InsertLaws.{length-lines}
 use Rattle.line_tree.proofs.LevelLaws.{levels-held}
 use Rattle.line_tree.proofs.NewRowLaws.{drop-length}

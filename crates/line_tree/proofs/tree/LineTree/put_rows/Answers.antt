@@ -1,6 +1,6 @@
-use Rattle.line_tree.proofs.Words.{◌≡◌, ℕ, ◌+◌, ◌-◌, ◌*◌, ◌/◌, ◌<◌, ◌≤◌, ◌++◌, length, take, drop, sym, ap, ◌∙◌, subst}
-use Rattle.line_tree.proofs.Words.{append_assoc, arith, inl, inr, length-take, cases_lt, levels_at_most, most_in_row}
-use Rattle.line_tree.proofs.Words.{nodes_above}
+use Rattle.line_tree.proofs.Common.{◌≡◌, ℕ, ◌+◌, ◌-◌, ◌*◌, ◌/◌, ◌<◌, ◌≤◌, ◌++◌, length, take, drop, sym, ap, ◌∙◌, subst}
+use Rattle.line_tree.proofs.Common.{append_assoc, arith, inl, inr, length-take, cases_lt, levels_at_most, most_in_row}
+use Rattle.line_tree.proofs.Common.{nodes_above}
 use Rattle.line_tree.proofs.LevelLaws.{low-levels}
 use Rattle.line_tree.proofs.RowsLaws.{left-first, left-last, more-contents, more-rows, part-fits}
 use Rattle.line_tree.proofs.tree.LineTree.put_rows.Goals as goal

@@ -1,5 +1,5 @@
-use Rattle.line_tree.proofs.Words.{◌≡◌, ◌+◌, ◌-◌, ◌<◌, ◌≤◌, List, length, take, drop, with_lines, nodes_above, Named}
-use Rattle.line_tree.proofs.Words.{contents}
+use Rattle.line_tree.proofs.Common.{◌≡◌, ◌+◌, ◌-◌, ◌<◌, ◌≤◌, List, length, take, drop, with_lines, nodes_above, Named}
+use Rattle.line_tree.proofs.Common.{contents}
 use Rattle.line_tree.proofs.tree.LineTree.put_rows.Given as goal
 
 abbrev pub invariant-loop-lines : goal.invariant-loop-lines

@@ -1,4 +1,4 @@
-use Rattle.line_tree.proofs.Words.{◌≡◌, ◌+◌, length, ap, ◌∙◌, arith, lines_in, records, removed}
+use Rattle.line_tree.proofs.Common.{◌≡◌, ◌+◌, length, ap, ◌∙◌, arith, lines_in, records, removed}
 use Rattle.line_tree.proofs.GivingLaws.{Out, branch-out}
 use Rattle.line_tree.proofs.LineRoomLaws.{fewer-lines, length-removed, room-grows}
 use Rattle.line_tree.proofs.LowerLaws.{branch-after, can-lower, can-remove}

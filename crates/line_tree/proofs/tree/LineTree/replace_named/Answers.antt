@@ -1,5 +1,5 @@
-use Rattle.line_tree.proofs.Words.{◌+◌, length, ap, sym, ◌∙◌, subst, FitsSum, line_count, lines_in, plus, records}
-use Rattle.line_tree.proofs.Words.{total, IsLineAt, line_room, changed}
+use Rattle.line_tree.proofs.Common.{◌+◌, length, ap, sym, ◌∙◌, subst, FitsSum, line_count, lines_in, plus, records}
+use Rattle.line_tree.proofs.Common.{total, IsLineAt, line_room, changed}
 use Rattle.line_tree.proofs.ChangingLaws.{length-changed, stands-changed}
 use Rattle.line_tree.proofs.LineRoomLaws.{room-stays}
 use Rattle.line_tree.proofs.PlaceLaws.{line-within}

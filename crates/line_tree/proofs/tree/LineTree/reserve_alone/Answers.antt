@@ -1,5 +1,5 @@
-use Rattle.line_tree.proofs.Words.{◌≡◌, ◌≤◌, ◌+◌, ◌*◌, ◌/◌, length, ap, sym, ◌∙◌, subst, arith, mul-le-mul_left}
-use Rattle.line_tree.proofs.Words.{lines_in, records, spares, Stands, levels_at_most}
+use Rattle.line_tree.proofs.Common.{◌≡◌, ◌≤◌, ◌+◌, ◌*◌, ◌/◌, length, ap, sym, ◌∙◌, subst, arith, mul-le-mul_left}
+use Rattle.line_tree.proofs.Common.{lines_in, records, spares, Stands, levels_at_most}
 use Rattle.std.proofs.lemmas.Result.{on_ok_weaker}
 use Rattle.line_tree.proofs.LevelLaws.{many-records, more-lines}
 use Rattle.line_tree.proofs.LineRoomLaws.{on_ok_two, steep-room, wide-room}

@@ -1,5 +1,5 @@
-use Rattle.line_tree.proofs.Words.{◌≡◌, ◌≤◌, ◌<◌, ◌+◌, ◌*◌, ◌/◌, ◌^◌, ap, sym, ◌∙◌, subst, arith, rules}
-use Rattle.line_tree.proofs.Words.{mul-le-mul_left, levels_at_most}
+use Rattle.line_tree.proofs.Common.{◌≡◌, ◌≤◌, ◌<◌, ◌+◌, ◌*◌, ◌/◌, ◌^◌, ap, sym, ◌∙◌, subst, arith, rules}
+use Rattle.line_tree.proofs.Common.{mul-le-mul_left, levels_at_most}
 use Rattle.line_tree.proofs.LevelLaws.{more-lines}
 use Rattle.line_tree.proofs.LineRoomLaws.{on_ok_two}
 use Rattle.line_tree.proofs.SpendingLaws.{flat-room}

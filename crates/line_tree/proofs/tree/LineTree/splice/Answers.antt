@@ -1,5 +1,5 @@
-use Rattle.line_tree.proofs.Words.{◌≡◌, ◌+◌, ◌++◌, length, take, drop, min, ap, ◌∙◌, arith, length-map, more_lines}
-use Rattle.line_tree.proofs.Words.{row_of}
+use Rattle.line_tree.proofs.Common.{◌≡◌, ◌+◌, ◌++◌, length, take, drop, min, ap, ◌∙◌, arith, length-map, more_lines}
+use Rattle.line_tree.proofs.Common.{row_of}
 use Rattle.line_tree.proofs.SpendingLaws.{spends-keeps}
 use Rattle.line_tree.proofs.SpliceLaws.{few-lines, taken-behind}
 use Rattle.line_tree.proofs.tree.LineTree.splice.Goals as goal

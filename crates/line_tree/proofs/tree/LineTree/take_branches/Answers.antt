@@ -1,4 +1,4 @@
-use Rattle.line_tree.proofs.Words.{◌≡◌, ◌+◌, ◌-◌, subst, arith, Leaves}
+use Rattle.line_tree.proofs.Common.{◌≡◌, ◌+◌, ◌-◌, subst, arith, Leaves}
 use Rattle.line_tree.proofs.LeavingLaws.{leaves-all, leaves-fewer, leaves-long}
 use Rattle.line_tree.proofs.tree.LineTree.take_branches.Goals as goal
 

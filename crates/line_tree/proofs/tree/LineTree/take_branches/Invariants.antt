@@ -1,4 +1,4 @@
-use Rattle.line_tree.proofs.Words.{◌-◌, ◌≤◌, Leaves}
+use Rattle.line_tree.proofs.Common.{◌-◌, ◌≤◌, Leaves}
 use Rattle.line_tree.proofs.tree.LineTree.take_branches.Given as goal
 
 abbrev pub invariant-loop-end : goal.invariant-loop-end

@@ -1,4 +1,4 @@
-use Rattle.line_tree.proofs.Words.{arith}
+use Rattle.line_tree.proofs.Common.{arith}
 use Rattle.line_tree.proofs.SpendingLaws.{keeps-on, keeps-out}
 use Rattle.line_tree.proofs.SpliceLaws.{next-out}
 use Rattle.line_tree.proofs.tree.LineTree.take_lines.Goals as goal

@@ -1,4 +1,4 @@
-use Rattle.line_tree.proofs.Words.{◌≡◌, ◌+◌, ◌++◌, take, drop, KeepsRoom}
+use Rattle.line_tree.proofs.Common.{◌≡◌, ◌+◌, ◌++◌, take, drop, KeepsRoom}
 use Rattle.line_tree.proofs.tree.LineTree.take_lines.Given as goal
 
 abbrev pub invariant-loop : goal.invariant-loop

@@ -1,5 +1,5 @@
-use Rattle.line_tree.proofs.Words.{◌+◌, length, ap, sym, ◌∙◌, subst, counting, no_text, lines_in, records, total}
-use Rattle.line_tree.proofs.Words.{without_mark, IsLineAt, line_room, changed}
+use Rattle.line_tree.proofs.Common.{◌+◌, length, ap, sym, ◌∙◌, subst, counting, no_text, lines_in, records, total}
+use Rattle.line_tree.proofs.Common.{without_mark, IsLineAt, line_room, changed}
 use Rattle.line_tree.proofs.ChangingLaws.{length-changed, stands-changed}
 use Rattle.line_tree.proofs.LineRoomLaws.{room-stays}
 use Rattle.line_tree.proofs.PlaceLaws.{line-within}

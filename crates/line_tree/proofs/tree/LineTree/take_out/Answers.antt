@@ -1,4 +1,4 @@
-use Rattle.line_tree.proofs.Words.{◌∙◌, arith}
+use Rattle.line_tree.proofs.Common.{◌∙◌, arith}
 use Rattle.line_tree.proofs.LeavingLaws.{leaves-long, rest-out}
 use Rattle.line_tree.proofs.SpendingLaws.{keeps-on}
 use Rattle.line_tree.proofs.tree.LineTree.take_out.Goals as goal

@@ -1,4 +1,4 @@
-use Rattle.line_tree.proofs.Words.{◌≡◌, length, vec_len, subst, sym, arith, AreLines, NumbersBelow}
+use Rattle.line_tree.proofs.Common.{◌≡◌, length, vec_len, subst, sym, arith, AreLines, NumbersBelow}
 use Rattle.line_tree.proofs.OverLaws.{fits-one, over-below, over-contents, over-table}
 use Rattle.line_tree.proofs.tree_lines.TreeLines.replace_line.Goals as goal
 

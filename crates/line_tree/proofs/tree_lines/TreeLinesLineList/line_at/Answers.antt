@@ -1,4 +1,4 @@
-use Rattle.line_tree.proofs.Words.{arith}
+use Rattle.line_tree.proofs.Common.{arith}
 use Rattle.line_tree.proofs.ListedLaws.{characters-in, listed, place-holds}
 use Rattle.line_tree.proofs.tree_lines.TreeLinesLineList.line_at.Goals as goal
 

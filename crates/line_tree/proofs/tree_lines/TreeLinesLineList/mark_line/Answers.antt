@@ -1,4 +1,4 @@
-use Rattle.line_tree.proofs.Words.{◌≡◌, Some, sym, ap, ◌∙◌, holder, noted}
+use Rattle.line_tree.proofs.Common.{◌≡◌, Some, sym, ap, ◌∙◌, holder, noted}
 use Rattle.line_tree.proofs.ListedLaws.{held, held-name, held-next, nowhere}
 use Rattle.line_tree.proofs.tree_lines.TreeLinesLineList.mark_line.Goals as goal
 

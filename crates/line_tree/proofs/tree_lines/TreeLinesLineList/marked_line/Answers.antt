@@ -1,4 +1,4 @@
-use Rattle.line_tree.proofs.Words.{◌≡◌, sym, ap, ◌∙◌, holder, noted}
+use Rattle.line_tree.proofs.Common.{◌≡◌, sym, ap, ◌∙◌, holder, noted}
 use Rattle.line_tree.proofs.ListedLaws.{held, held-name, held-next, listed, nowhere}
 use Rattle.line_tree.proofs.tree_lines.TreeLinesLineList.marked_line.Goals as goal
 

@@ -1,5 +1,5 @@
-use Rattle.line_tree.proofs.Words.{◌≡◌, ◌+◌, ◌++◌, ◌∙◌, ap, arith, chars, slice_range, string_bytes, characters}
-use Rattle.line_tree.proofs.Words.{contents, whole}
+use Rattle.line_tree.proofs.Common.{◌≡◌, ◌+◌, ◌++◌, ◌∙◌, ap, arith, chars, slice_range, string_bytes, characters}
+use Rattle.line_tree.proofs.Common.{contents, whole}
 use Rattle.line_lists.proofs.TextRows.{pushed-line, pushed-none}
 use Rattle.line_tree.proofs.ListedLaws.{listed, walked}
 use Rattle.line_tree.proofs.NearestLaws.{long}

@@ -1,5 +1,5 @@
-use Rattle.line_tree.proofs.Words.{◌≡◌, ◌++◌, IfSome, chars, slice_range, string_bytes, characters, contents, whole}
-use Rattle.line_tree.proofs.Words.{IsLineAt}
+use Rattle.line_tree.proofs.Common.{◌≡◌, ◌++◌, IfSome, chars, slice_range, string_bytes, characters, contents, whole}
+use Rattle.line_tree.proofs.Common.{IsLineAt}
 use Rattle.line_tree.proofs.tree_lines.TreeLinesLineList.push_lines.Given as goal
 
 abbrev pub invariant-loop-index : goal.invariant-loop-index

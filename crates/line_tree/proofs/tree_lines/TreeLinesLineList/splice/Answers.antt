@@ -1,5 +1,6 @@
-use Rattle.line_tree.proofs.Words.{◌≡◌, ◌+◌, length, vec_len, subst, sym, ap, ◌∙◌, arith, slice_range, All, LineContent}
-use Rattle.line_tree.proofs.Words.{contents, AreLines, NumbersBelow, more_lines, row_of, HasRoom, holder, lines_without}
+use Rattle.line_tree.proofs.Common.{◌≡◌, ◌+◌, length, vec_len, subst, sym, ap, ◌∙◌, arith, slice_range, All}
+use Rattle.line_tree.proofs.Common.{LineContent, contents, AreLines, NumbersBelow, more_lines, row_of, HasRoom, holder}
+use Rattle.line_tree.proofs.Common.{lines_without}
 use Rattle.line_tree.proofs.ListedLaws.{Comes, comes-below, comes-contents, comes-long, comes-others, end-fits}
 use Rattle.line_tree.proofs.ListedLaws.{fits-counted, gone-fits, some-left}
 use Rattle.line_tree.proofs.SpendingLaws.{keeps-room}

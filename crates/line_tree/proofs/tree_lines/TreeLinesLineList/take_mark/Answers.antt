@@ -1,4 +1,4 @@
-use Rattle.line_tree.proofs.Words.{◌≡◌, ap, sym, ◌∙◌, arith, holder, noted}
+use Rattle.line_tree.proofs.Common.{◌≡◌, ap, sym, ◌∙◌, arith, holder, noted}
 use Rattle.line_tree.proofs.ListedLaws.{held, held-name}
 use Rattle.line_tree.proofs.TakeLaws.{noted-there, only-in, same-contents, taken-are, taken-lines, taken-table}
 use Rattle.line_tree.proofs.tree_lines.TreeLinesLineList.take_mark.Goals as goal

@@ -1,4 +1,4 @@
-use Rattle.mark_table.proofs.Words.{ap, sym, ◌∙◌, chars, option_map}
+use Rattle.mark_table.proofs.Common.{ap, sym, ◌∙◌, chars, option_map}
 use Rattle.mark_table.proofs.MarkLaws.{place_of_mark, number_there, no_number}
 use Rattle.mark_table.proofs.marks.MarkTable.find.Goals as goal
 

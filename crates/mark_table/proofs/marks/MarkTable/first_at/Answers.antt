@@ -1,4 +1,4 @@
-use Rattle.mark_table.proofs.Words.{length, sym, ◌∙◌, arith, length-map, slice_get_within, marks_at, Mark, numbers_of}
+use Rattle.mark_table.proofs.Common.{length, sym, ◌∙◌, arith, length-map, slice_get_within, marks_at, Mark, numbers_of}
 use Rattle.mark_table.proofs.StoreLaws.{mark_at_index}
 use Rattle.mark_table.proofs.OneOffset.{Found-more, Least-more, IsFirstAt-all, first-here, none-behind, none-more}
 use Rattle.mark_table.proofs.marks.MarkTable.first_at.Goals as goal

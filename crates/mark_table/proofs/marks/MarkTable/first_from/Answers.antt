@@ -1,4 +1,4 @@
-use Rattle.mark_table.proofs.Words.{numbers_of}
+use Rattle.mark_table.proofs.Common.{numbers_of}
 use Rattle.mark_table.proofs.OrderLaws.{IsFirst-usable}
 use Rattle.mark_table.proofs.marks.MarkTable.first_from.Goals as goal
 

@@ -1,4 +1,4 @@
-use Rattle.mark_table.proofs.Words.{ap, ◌∙◌, marks_kept}
+use Rattle.mark_table.proofs.Common.{ap, ◌∙◌, marks_kept}
 use Rattle.mark_table.proofs.MarkLaws.{marks-take}
 use Rattle.mark_table.proofs.marks.MarkTable.give_back_room.Goals as goal
 

@@ -1,5 +1,5 @@
-use Rattle.mark_table.proofs.Words.{refl, ap, sym, ◌∙◌, ◌<◌, ◌≡◌, Some, length, slice_get, arith, chars, slice_get_read}
-use Rattle.mark_table.proofs.Words.{SharedMarks, gravity_of}
+use Rattle.mark_table.proofs.Common.{refl, ap, sym, ◌∙◌, ◌<◌, ◌≡◌, Some, length, slice_get, arith, chars}
+use Rattle.mark_table.proofs.Common.{slice_get_read, SharedMarks, gravity_of}
 use Rattle.mark_table.proofs.MarkLaws.{place_of_mark, no_gravity, gravity_there}
 use Rattle.mark_table.proofs.marks.MarkTable.gravity.Goals as goal
 

@@ -1,5 +1,5 @@
-use Rattle.mark_table.proofs.Words.{sym, ◌∙◌, arith, inl, inr, cases_lt, length-map, slice_get_within, marks_at, Mark}
-use Rattle.mark_table.proofs.Words.{numbers_of}
+use Rattle.mark_table.proofs.Common.{sym, ◌∙◌, arith, inl, inr, cases_lt, length-map, slice_get_within, marks_at, Mark}
+use Rattle.mark_table.proofs.Common.{numbers_of}
 use Rattle.mark_table.proofs.StoreLaws.{mark_at_index}
 use Rattle.mark_table.proofs.OneOffset.{FoundBack-more, Greatest-all, Greatest-more, last-here, last_within}
 use Rattle.mark_table.proofs.OneOffset.{none-before}

@@ -1,4 +1,4 @@
-use Rattle.mark_table.proofs.Words.{◌≡◌, ◌-◌, ◌<◌, ◌≤◌, ℕ, Some, length, slice_get, MarkNo, marks_at, numbers_of, IsAt}
+use Rattle.mark_table.proofs.Common.{◌≡◌, ◌-◌, ◌<◌, ◌≤◌, ℕ, Some, length, slice_get, MarkNo, marks_at, numbers_of, IsAt}
 use Rattle.mark_table.proofs.marks.MarkTable.last_at.Given as goal
 
 abbrev pub invariant-loop-number : goal.invariant-loop-number

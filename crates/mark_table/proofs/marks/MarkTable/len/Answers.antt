@@ -1,4 +1,4 @@
-use Rattle.mark_table.proofs.Words.{subst, AreMarks}
+use Rattle.mark_table.proofs.Common.{subst, AreMarks}
 use Rattle.mark_table.proofs.MarkLaws.{AreMarks-kept}
 use Rattle.mark_table.proofs.marks.MarkTable.len.Goals as goal
 

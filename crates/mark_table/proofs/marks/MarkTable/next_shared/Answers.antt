@@ -1,4 +1,4 @@
-use Rattle.mark_table.proofs.Words.{◌+◌, max, inl, inr, sym, subst, ◌∙◌, arith, numbers_of}
+use Rattle.mark_table.proofs.Common.{◌+◌, max, inl, inr, sym, subst, ◌∙◌, arith, numbers_of}
 use Rattle.mark_table.proofs.SharedWalk.{Passed, Passed-more, Passed-next, Passed-start, Turns-bound, Turns-next}
 use Rattle.mark_table.proofs.SharedWalk.{IsFirst-found, IsFirst-no_next, IsFirst-none}
 use Rattle.mark_table.proofs.marks.MarkTable.next_shared.Goals.{then-offset-bound, else-offset-bound}

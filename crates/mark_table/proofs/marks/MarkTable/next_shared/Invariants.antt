@@ -1,4 +1,4 @@
-use Rattle.mark_table.proofs.Words.{◌+◌, ◌-◌, ◌≤◌, numbers_of}
+use Rattle.mark_table.proofs.Common.{◌+◌, ◌-◌, ◌≤◌, numbers_of}
 use Rattle.mark_table.proofs.SharedWalk.{Passed, Turns}
 use Rattle.mark_table.proofs.marks.MarkTable.next_shared.Given as goal
 

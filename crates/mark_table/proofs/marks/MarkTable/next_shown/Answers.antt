@@ -1,4 +1,4 @@
-use Rattle.mark_table.proofs.Words.{ap, sym, ◌∙◌, next_shown, usable, numbers_of}
+use Rattle.mark_table.proofs.Common.{ap, sym, ◌∙◌, next_shown, usable, numbers_of}
 use Rattle.mark_table.proofs.OrderLaws.{next_from_place, next_from_mark}
 use Rattle.mark_table.proofs.marks.MarkTable.next_shown.Goals as goal
 

@@ -1,4 +1,4 @@
-use Rattle.mark_table.proofs.Words.{ap, ◌∙◌, ◌+◌, Some, sym, option_map, slice_get-map, first_number}
+use Rattle.mark_table.proofs.Common.{ap, ◌∙◌, ◌+◌, Some, sym, option_map, slice_get-map, first_number}
 use Rattle.mark_table.proofs.MarkLaws.{numbers_seen}
 use Rattle.mark_table.proofs.marks.MarkTable.number.Goals as goal
 

@@ -1,4 +1,4 @@
-use Rattle.mark_table.proofs.Words.{SharedMarks, numbers_of, Contains, subst, Some, ◌≡◌, slice_get, MatchOption}
+use Rattle.mark_table.proofs.Common.{SharedMarks, numbers_of, Contains, subst, Some, ◌≡◌, slice_get, MatchOption}
 use Rattle.mark_table.proofs.MarkLaws.{mark_with, no_mark_with, taken_off, not_taken_off}
 use Rattle.mark_table.proofs.marks.MarkTable.place.Goals as goal
 

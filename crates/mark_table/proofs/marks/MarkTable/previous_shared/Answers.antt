@@ -1,4 +1,4 @@
-use Rattle.mark_table.proofs.Words.{sym, ◌∙◌, arith, length-map, Mark, numbers_of}
+use Rattle.mark_table.proofs.Common.{sym, ◌∙◌, arith, length-map, Mark, numbers_of}
 use Rattle.mark_table.proofs.SharedWalk.{Ahead-start, TurnsBack-bound, TurnsBack-previous, Ahead-previous, IsLast-found}
 use Rattle.mark_table.proofs.SharedWalk.{IsLast-none, IsLast-no_previous}
 use Rattle.mark_table.proofs.marks.MarkTable.previous_shared.Goals.{then-offset-bound, else-offset-bound}

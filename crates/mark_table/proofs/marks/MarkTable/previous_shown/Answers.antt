@@ -1,4 +1,4 @@
-use Rattle.mark_table.proofs.Words.{ap, sym, ◌∙◌, previous_shown, usable, numbers_of}
+use Rattle.mark_table.proofs.Common.{ap, sym, ◌∙◌, previous_shown, usable, numbers_of}
 use Rattle.mark_table.proofs.OrderLaws.{previous_from_place, previous_from_mark}
 use Rattle.mark_table.proofs.marks.MarkTable.previous_shown.Goals as goal
 

@@ -1,4 +1,4 @@
-use Rattle.mark_table.proofs.Words.{ap, sym, ◌∙◌, ◌<◌, length, arith, chars, is_some, SharedMarks, turned}
+use Rattle.mark_table.proofs.Common.{ap, sym, ◌∙◌, ◌<◌, length, arith, chars, is_some, SharedMarks, turned}
 use Rattle.mark_table.proofs.MarkLaws.{place_of_mark, no_gravity, gravity_known, marks-turned}
 use Rattle.mark_table.proofs.marks.MarkTable.set_gravity.Goals as goal
 

@@ -1,4 +1,4 @@
-use Rattle.mark_table.proofs.Words.{ap, sym, ◌∙◌, arith, nat_tests, none-some, same_Some, Place, numbers_of}
+use Rattle.mark_table.proofs.Common.{ap, sym, ◌∙◌, arith, nat_tests, none-some, same_Some, Place, numbers_of}
 use Rattle.mark_table.proofs.StoreLaws.{stands-here, stands-there}
 use Rattle.mark_table.proofs.marks.MarkTable.stands_at.Goals as goal
 

@@ -1,4 +1,4 @@
-use Rattle.mark_table.proofs.Words.{ap, sym, ◌∙◌, chars, without, marks_kept, SharedMarks, is_named}
+use Rattle.mark_table.proofs.Common.{ap, sym, ◌∙◌, chars, without, marks_kept, SharedMarks, is_named}
 use Rattle.mark_table.proofs.MarkLaws.{place_of_mark, marks-remove, marks-keep, AreKept-remove}
 use Rattle.mark_table.proofs.marks.MarkTable.unset.Goals as goal
 

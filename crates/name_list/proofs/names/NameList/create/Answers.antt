@@ -1,5 +1,5 @@
-use Rattle.name_list.proofs.Words.{◌∙◌, Some, ap, arith, length-set, map, slice_set, subst, sym, values_of, length-map}
-use Rattle.name_list.proofs.Words.{map_push, AreKept, named}
+use Rattle.name_list.proofs.Common.{◌∙◌, Some, ap, arith, length-set, map, slice_set, subst, sym, values_of, length-map}
+use Rattle.name_list.proofs.Common.{map_push, AreKept, named}
 use Rattle.name_list.proofs.PlaceLaws.{free_below, AreKept-placed, AreKept-push}
 use Rattle.name_list.proofs.ViewLaws.{entries-new, numbers_seen}
 use Rattle.name_list.proofs.names.NameList.create.Goals as goal

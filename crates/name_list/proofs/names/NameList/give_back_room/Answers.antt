@@ -1,4 +1,4 @@
-use Rattle.name_list.proofs.Words.{ap, subst, sym, values_of, AreKept}
+use Rattle.name_list.proofs.Common.{ap, subst, sym, values_of, AreKept}
 use Rattle.name_list.proofs.PlaceLaws.{AreKept-trimmed}
 use Rattle.name_list.proofs.names.NameList.give_back_room.Goals as goal
 

@@ -1,4 +1,4 @@
-use Rattle.name_list.proofs.Words.{subst, AreNames}
+use Rattle.name_list.proofs.Common.{subst, AreNames}
 use Rattle.name_list.proofs.ViewLaws.{AreNames-kept}
 use Rattle.name_list.proofs.names.NameList.len.Goals as goal
 

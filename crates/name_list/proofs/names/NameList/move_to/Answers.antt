@@ -1,5 +1,5 @@
-use Rattle.name_list.proofs.Words.{◌≡◌, length, sym, ap, ◌∙◌, subst, slice_get, map, arith, values_of, AreApart}
-use Rattle.name_list.proofs.Words.{AreKept, IsIndex, IsIndexTo, named}
+use Rattle.name_list.proofs.Common.{◌≡◌, length, sym, ap, ◌∙◌, subst, slice_get, map, arith, values_of, AreApart}
+use Rattle.name_list.proofs.Common.{AreKept, IsIndex, IsIndexTo, named}
 use Rattle.name_list.proofs.PlaceLaws.{AreApart-index, AreApart-move, within_index, stood_before_move, IsIndexTo-move}
 use Rattle.name_list.proofs.PlaceLaws.{AreKept-move, whole_written}
 use Rattle.name_list.proofs.ViewLaws.{map-move_index, number_at}

@@ -1,4 +1,4 @@
-use Rattle.name_list.proofs.Words.{Some, ap, sym, ◌∙◌, option_map, chars, slice_get-map, Named, named}
+use Rattle.name_list.proofs.Common.{Some, ap, sym, ◌∙◌, option_map, chars, slice_get-map, Named, named}
 use Rattle.name_list.proofs.names.NameList.name.Goals as goal
 
 pub returns : goal.returns

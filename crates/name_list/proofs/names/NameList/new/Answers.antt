@@ -1,4 +1,4 @@
-use Rattle.name_list.proofs.Words.{arith}
+use Rattle.name_list.proofs.Common.{arith}
 use Rattle.name_list.proofs.PlaceLaws.{AreKept-none}
 use Rattle.name_list.proofs.names.NameList.new.Goals as goal
 

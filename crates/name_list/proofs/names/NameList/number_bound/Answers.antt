@@ -1,4 +1,4 @@
-use Rattle.name_list.proofs.Words.{arith}
+use Rattle.name_list.proofs.Common.{arith}
 use Rattle.name_list.proofs.PlaceLaws.{within_index}
 use Rattle.name_list.proofs.ViewLaws.{numbers_seen}
 use Rattle.name_list.proofs.names.NameList.number_bound.Goals as goal

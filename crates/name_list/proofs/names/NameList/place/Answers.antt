@@ -1,4 +1,4 @@
-use Rattle.name_list.proofs.Words.{sym, subst, ◌∙◌, AreNames}
+use Rattle.name_list.proofs.Common.{sym, subst, ◌∙◌, AreNames}
 use Rattle.name_list.proofs.ViewLaws.{AreNames-kept, place_seen}
 use Rattle.name_list.proofs.names.NameList.place.Goals as goal
 

@@ -1,4 +1,4 @@
-use Rattle.name_list.proofs.Words.{rules, tests, sym, ◌∙◌, Global, bytes_eq, string_bytes, String}
+use Rattle.name_list.proofs.Common.{rules, tests, sym, ◌∙◌, Global, bytes_eq, string_bytes, String}
 use Rattle.std.proofs.lemmas.Iterator.Consumers.{YieldsList-from_rest}
 use Rattle.std.proofs.lemmas.Iterator.Search.{position_from_yields_List}
 use Rattle.name_list.proofs.ViewLaws.{place_seen}

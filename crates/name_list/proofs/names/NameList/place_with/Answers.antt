@@ -1,5 +1,5 @@
-use Rattle.name_list.proofs.Words.{None, Some, sym, ap, ◌∙◌, none-some, same_Some, slice_get_past, slice_get-get_or}
-use Rattle.name_list.proofs.Words.{MatchOption-at_none}
+use Rattle.name_list.proofs.Common.{None, Some, sym, ap, ◌∙◌, none-some, same_Some, slice_get_past, slice_get-get_or}
+use Rattle.name_list.proofs.Common.{MatchOption-at_none}
 use Rattle.name_list.proofs.PlaceLaws.{unnoted}
 use Rattle.name_list.proofs.ViewLaws.{numbers_seen}
 use Rattle.name_list.proofs.names.NameList.place_with.Goals as goal

@@ -1,6 +1,6 @@
-use Rattle.name_list.proofs.Words.{◌≡◌, None, length, sym, ap, ◌∙◌, subst, slice_get, slice_set, map, length-set, arith}
-use Rattle.name_list.proofs.Words.{values_of, option_map, slice_get-map, slice_get_within, AreApart, AreKept, IsIndex}
-use Rattle.name_list.proofs.Words.{IsIndexTo, named}
+use Rattle.name_list.proofs.Common.{◌≡◌, None, length, sym, ap, ◌∙◌, subst, slice_get, slice_set, map, length-set}
+use Rattle.name_list.proofs.Common.{arith, values_of, option_map, slice_get-map, slice_get_within, AreApart, AreKept}
+use Rattle.name_list.proofs.Common.{IsIndex, IsIndexTo, named}
 use Rattle.name_list.proofs.ListLaws.{AreApart-remove, get_remove, before_removal}
 use Rattle.name_list.proofs.PlaceLaws.{AreApart-index, within_index, IsIndexTo-remove, AreKept-remove, whole_written}
 use Rattle.name_list.proofs.ViewLaws.{map-remove}

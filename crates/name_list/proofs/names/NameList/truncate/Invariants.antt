@@ -1,4 +1,4 @@
-use Rattle.name_list.proofs.Words.{◌≡◌, ◌≤◌, length, take, min}
+use Rattle.name_list.proofs.Common.{◌≡◌, ◌≤◌, length, take, min}
 use Rattle.name_list.proofs.names.NameList.truncate.Given as goal
 
 abbrev pub invariant-loop-self : goal.invariant-loop-self

@@ -1,4 +1,4 @@
-use Rattle.raw_nodes.proofs.Words.{◌+◌, sym}
+use Rattle.raw_nodes.proofs.Common.{◌+◌, sym}
 use Rattle.toggle_sums.specs.CountLaws.{differing-empty, union-empty}
 use Rattle.raw_nodes.proofs.branch.Branch.add_counts.Goals as goal
 

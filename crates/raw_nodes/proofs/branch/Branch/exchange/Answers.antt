@@ -1,4 +1,4 @@
-use Rattle.raw_nodes.proofs.Words.{◌∙◌, ap, branch_sum, counting, less, plus}
+use Rattle.raw_nodes.proofs.Common.{◌∙◌, ap, branch_sum, counting, less, plus}
 use Rattle.toggle_sums.proofs.ExchangeLaws.{levelled}
 use Rattle.raw_nodes.proofs.branch.Branch.exchange.Goals as goal
 

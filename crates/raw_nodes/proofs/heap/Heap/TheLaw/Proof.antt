@@ -1,5 +1,5 @@
 -- A `&` to the heap is made where one to each node is.
-use Rattle.raw_nodes.proofs.Words.{ats}
+use Rattle.raw_nodes.proofs.Common.{ats}
 use denote.Struct.Lending.{of_Lends}
 use Rattle.raw_nodes.proofs.heap.Heap.TheLaw.Statement.{statement}
 use Rattle.raw_nodes.proofs.HeapShared.{nodes_lent_laws, Lends-nodes}

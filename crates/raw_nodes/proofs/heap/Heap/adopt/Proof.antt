@@ -1,6 +1,6 @@
 -- `adopt` moves what the parts own into the heap.
-use Rattle.raw_nodes.proofs.Words.{length-map, map-append, proved_at, leaves, D, B, word, box_typed, box_out, ats}
-use Rattle.raw_nodes.proofs.Words.{nodes_own, NotIn}
+use Rattle.raw_nodes.proofs.Common.{length-map, map-append, proved_at, leaves, D, B, word, box_typed, box_out, ats}
+use Rattle.raw_nodes.proofs.Common.{nodes_own, NotIn}
 use Rattle.raw_nodes.proofs.WalkSteps.{◌≡◌, List, [], ◌∷◌, refl, sym, ap, ◌∙◌, rewrite, ftrue, flft, named, fact, id⊢}
 use Rattle.raw_nodes.proofs.WalkSteps.{tables, ‵, raw, ◌⊛◌, ◌$◌, ◌∵◌, !, qed, move, keep, use2, split, join, fsplit}
 use Rattle.raw_nodes.proofs.WalkSteps.{fsplit3, fjoin, feq_i, feq_l, suffices, group, enter, of_opd, stop, fld, no_more}

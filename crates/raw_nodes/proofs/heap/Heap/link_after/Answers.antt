@@ -1,5 +1,5 @@
-use Rattle.raw_nodes.proofs.Words.{◌∙◌, ap, refl, subst, sym, map-set, IfSome, IsPlace, number_in, put_at, after_of}
-use Rattle.raw_nodes.proofs.Words.{afters_of, before_of, content_of, link_name, NodePtr, Option}
+use Rattle.raw_nodes.proofs.Common.{◌∙◌, ap, refl, subst, sym, map-set, IfSome, IsPlace, number_in, put_at, after_of}
+use Rattle.raw_nodes.proofs.Common.{afters_of, before_of, content_of, link_name, NodePtr, Option}
 use Rattle.raw_nodes.proofs.ChainLaws.{same_at}
 use Rattle.raw_nodes.proofs.heap.Heap.link_after.Goals as goal
 

@@ -1,5 +1,5 @@
-use Rattle.raw_nodes.proofs.Words.{◌∙◌, ap, refl, subst, sym, map-set, IfSome, IsPlace, number_in, put_at, before_of}
-use Rattle.raw_nodes.proofs.Words.{befores_of, after_of, content_of, link_name, NodePtr, Option}
+use Rattle.raw_nodes.proofs.Common.{◌∙◌, ap, refl, subst, sym, map-set, IfSome, IsPlace, number_in, put_at, before_of}
+use Rattle.raw_nodes.proofs.Common.{befores_of, after_of, content_of, link_name, NodePtr, Option}
 use Rattle.raw_nodes.proofs.ChainLaws.{same_at}
 use Rattle.raw_nodes.proofs.heap.Heap.link_before.Goals as goal
 

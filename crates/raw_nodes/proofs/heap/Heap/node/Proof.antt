@@ -1,5 +1,5 @@
 -- `node` lends the node that the name leads to.
-use Rattle.raw_nodes.proofs.Words.{IsPlace, ats, number_in}
+use Rattle.raw_nodes.proofs.Common.{IsPlace, ats, number_in}
 use Rattle.raw_nodes.proofs.WalkSteps.{◌≡◌, List, [], ◌∷◌, refl, sym, ap, ◌∙◌, proved, ftrue, flft, named, arith, fact}
 use Rattle.raw_nodes.proofs.WalkSteps.{tables, ‵, raw, ◌⊛◌, at_ret, ◌$◌, ◌∵◌, !, qed, done, move, keep, drop, use1}
 use Rattle.raw_nodes.proofs.WalkSteps.{split, join, fsplit, fjoin, feq_i, suffices, enter, of_opd, addr, stop, fld}

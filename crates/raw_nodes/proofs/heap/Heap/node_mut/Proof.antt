@@ -1,5 +1,5 @@
 -- `node_mut` lends the node that the name leads to, and the heap follows it.
-use Rattle.raw_nodes.proofs.Words.{IsPlace, ats, number_in, node_right, node_owns, nodes_own, without, NodePtr, Node}
+use Rattle.raw_nodes.proofs.Common.{IsPlace, ats, number_in, node_right, node_owns, nodes_own, without, NodePtr, Node}
 use Rattle.raw_nodes.proofs.WalkSteps.{◌≡◌, ℕ, List, [], ◌∷◌, refl, sym, ap, ◌∙◌, proved, full_share, ftrue, flft}
 use Rattle.raw_nodes.proofs.WalkSteps.{named, arith, fact, tables, ‵, raw, ◌⊛◌, some, later, at_ret, ◌$◌, ◌∵◌, !, qed}
 use Rattle.raw_nodes.proofs.WalkSteps.{done, move, keep, use1, use2, split, join, fsplit, fsplit3, fjoin, pick, await}

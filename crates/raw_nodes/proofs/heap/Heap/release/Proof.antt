@@ -1,6 +1,6 @@
 -- `release` moves what the heap owns of a node into parts.
-use Rattle.raw_nodes.proofs.Words.{proved_at, leaves, handle_tells, D, word, box_typed, box_in, IsPlace, ats}
-use Rattle.raw_nodes.proofs.Words.{node_right, node_owns, nodes_own, number_in, without}
+use Rattle.raw_nodes.proofs.Common.{proved_at, leaves, handle_tells, D, word, box_typed, box_in, IsPlace, ats}
+use Rattle.raw_nodes.proofs.Common.{node_right, node_owns, nodes_own, number_in, without}
 use Rattle.raw_nodes.proofs.WalkSteps.{◌≡◌, List, [], ◌∷◌, refl, sym, ap, ◌∙◌, ftrue, flft, named, arith, fact, id⊢}
 use Rattle.raw_nodes.proofs.WalkSteps.{tables, ‵, raw, ◌⊛◌, ◌$◌, ◌∵◌, !, qed, move, keep, use1, split, join, fsplit}
 use Rattle.raw_nodes.proofs.WalkSteps.{fsplit3, fjoin, feq_i, feq_l, suffices, rewrite, group, enter, of_opd, stop, fld}

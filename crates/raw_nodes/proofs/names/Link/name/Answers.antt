@@ -1,4 +1,4 @@
-use Rattle.raw_nodes.proofs.Words.{sym, ◌∙◌}
+use Rattle.raw_nodes.proofs.Common.{sym, ◌∙◌}
 use Rattle.raw_nodes.proofs.LinkLaws.{named_at}
 use Rattle.raw_nodes.proofs.names.Link.name.Goals as goal
 

@@ -1,4 +1,4 @@
-use Rattle.raw_nodes.proofs.Words.{sym, refl, ◌∙◌}
+use Rattle.raw_nodes.proofs.Common.{sym, refl, ◌∙◌}
 use Rattle.raw_nodes.proofs.LinkLaws.{named_at}
 use Rattle.raw_nodes.proofs.names.Link.of.Goals as goal
 

@@ -1,4 +1,4 @@
-use Rattle.raw_nodes.proofs.Words.{◌≡◌, ap, get_or, map, sym, ◌∙◌, link_name, record_in, Room, None}
+use Rattle.raw_nodes.proofs.Common.{◌≡◌, ap, get_or, map, sym, ◌∙◌, link_name, record_in, Room, None}
 use Rattle.raw_nodes.specs.Names.{records}
 use Rattle.raw_nodes.proofs.NameLaws.{childless, in_use, name_place, none_at, read_entry}
 use Rattle.raw_nodes.proofs.store.NodeStore.child.Goals as goal

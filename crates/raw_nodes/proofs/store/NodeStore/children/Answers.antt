@@ -1,4 +1,4 @@
-use Rattle.raw_nodes.proofs.Words.{◌≡◌, ap, count_by, map, sym, ◌∙◌, link_name, record_in, Room, is_some}
+use Rattle.raw_nodes.proofs.Common.{◌≡◌, ap, count_by, map, sym, ◌∙◌, link_name, record_in, Room, is_some}
 use Rattle.raw_nodes.specs.Names.{records}
 use Rattle.raw_nodes.proofs.NameLaws.{childless, in_use, name_place, read_entry}
 use Rattle.raw_nodes.proofs.store.NodeStore.children.Goals as goal

@@ -1,5 +1,5 @@
-use Rattle.raw_nodes.proofs.Words.{◌∙◌, List, [], ◌∷◌, ◌++◌, ap, arith, length, map, subst, sym, length-map, None, Some}
-use Rattle.raw_nodes.proofs.Words.{AreApart, ats, before_of, befores_of, NodePtr, Node}
+use Rattle.raw_nodes.proofs.Common.{◌∙◌, List, [], ◌∷◌, ◌++◌, ap, arith, length, map, subst, sym, length-map, None}
+use Rattle.raw_nodes.proofs.Common.{Some, AreApart, ats, before_of, befores_of, NodePtr, Node}
 use Rattle.raw_nodes.proofs.ChainLaws.{listed_none}
 use Rattle.raw_nodes.proofs.NeighbourLaws.{apart_had, apart_without, end_left, last_number}
 use Rattle.raw_nodes.proofs.WithoutLaws.{length-without}

@@ -1,4 +1,4 @@
-use Rattle.raw_nodes.proofs.Words.{◌≡◌, [], ◌∷◌, ◌++◌, length, map, None, Some, AreApart, ats, befores_of}
+use Rattle.raw_nodes.proofs.Common.{◌≡◌, [], ◌∷◌, ◌++◌, length, map, None, Some, AreApart, ats, befores_of}
 use Rattle.raw_nodes.proofs.store.NodeStore.drop.Given as goal
 
 abbrev pub invariant-loop-last : goal.invariant-loop-last

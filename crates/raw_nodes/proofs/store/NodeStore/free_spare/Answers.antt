@@ -1,8 +1,8 @@
-use Rattle.raw_nodes.proofs.Words.{◌≡◌, ◌∙◌, ◌-◌, List, [], ◌∷◌, ◌++◌, ap, arith, get_or, length, map, subst, sym}
-use Rattle.raw_nodes.proofs.Words.{sum_by, IfSome, None, Some, AreApart, IsPlace, ats, number_in, put_at, without}
-use Rattle.raw_nodes.proofs.Words.{IsChain, after_of, afters_of, before_of, befores_of, behind, flag_of, last_left}
-use Rattle.raw_nodes.proofs.Words.{marks_of, next_of, nexts_of, room_of, link_name, records_in, Link, NodePtr, Held}
-use Rattle.raw_nodes.proofs.Words.{Node, Option}
+use Rattle.raw_nodes.proofs.Common.{◌≡◌, ◌∙◌, ◌-◌, List, [], ◌∷◌, ◌++◌, ap, arith, get_or, length, map, subst, sym}
+use Rattle.raw_nodes.proofs.Common.{sum_by, IfSome, None, Some, AreApart, IsPlace, ats, number_in, put_at, without}
+use Rattle.raw_nodes.proofs.Common.{IsChain, after_of, afters_of, before_of, befores_of, behind, flag_of, last_left}
+use Rattle.raw_nodes.proofs.Common.{marks_of, next_of, nexts_of, room_of, link_name, records_in, Link, NodePtr, Held}
+use Rattle.raw_nodes.proofs.Common.{Node, Option}
 use Rattle.raw_nodes.specs.Names.{records}
 use Rattle.raw_nodes.proofs.ChainLaws.{chain_head, is_spare}
 use Rattle.raw_nodes.proofs.NameLaws.{place_within}

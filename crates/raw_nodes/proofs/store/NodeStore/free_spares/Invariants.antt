@@ -1,4 +1,4 @@
-use Rattle.raw_nodes.proofs.Words.{◌≡◌, min, records, rooms, spares}
+use Rattle.raw_nodes.proofs.Common.{◌≡◌, min, records, rooms, spares}
 use Rattle.raw_nodes.proofs.store.NodeStore.free_spares.Given as goal
 
 abbrev pub invariant-loop-self : goal.invariant-loop-self

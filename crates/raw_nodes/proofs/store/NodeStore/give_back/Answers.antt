@@ -1,5 +1,5 @@
-use Rattle.raw_nodes.proofs.Words.{◌≡◌, ◌+◌, ap, arith, set, sym, refl, ◌∙◌, number_in, room_in, is_used, line_in}
-use Rattle.raw_nodes.proofs.Words.{records_in, slot_in, Node}
+use Rattle.raw_nodes.proofs.Common.{◌≡◌, ◌+◌, ap, arith, set, sym, refl, ◌∙◌, number_in, room_in, is_used, line_in}
+use Rattle.raw_nodes.proofs.Common.{records_in, slot_in, Node}
 use lib.ListN.{length-set}
 use Rattle.raw_nodes.specs.Names.{records}
 use Rattle.raw_nodes.proofs.ChainLaws.{count-le, followed_set, given_chain, given_count, listed_set, room_moved}

@@ -1,7 +1,7 @@
-use Rattle.raw_nodes.proofs.Words.{◌≡◌, ◌+◌, ◌^◌, ◌<◌, false, List, [], ◌∷◌, ◌++◌, ap, arith, length-append, map, sym}
-use Rattle.raw_nodes.proofs.Words.{subst, ◌∙◌, refl, nat_tests, IfSome, None, Some, AreApart, IsPlace, ats, put_at}
-use Rattle.raw_nodes.proofs.Words.{IsChain, after_of, afters_of, before_of, befores_of, behind, contents_of, marks_of}
-use Rattle.raw_nodes.proofs.Words.{next_of, nexts_of, room_of, is_used, records_in, slot_in, NodePtr, Node}
+use Rattle.raw_nodes.proofs.Common.{◌≡◌, ◌+◌, ◌^◌, ◌<◌, false, List, [], ◌∷◌, ◌++◌, ap, arith, length-append, map, sym}
+use Rattle.raw_nodes.proofs.Common.{subst, ◌∙◌, refl, nat_tests, IfSome, None, Some, AreApart, IsPlace, ats, put_at}
+use Rattle.raw_nodes.proofs.Common.{IsChain, after_of, afters_of, before_of, befores_of, behind, contents_of, marks_of}
+use Rattle.raw_nodes.proofs.Common.{next_of, nexts_of, room_of, is_used, records_in, slot_in, NodePtr, Node}
 use Rattle.raw_nodes.specs.Names.{records}
 use Rattle.raw_nodes.proofs.ChainLaws.{count-le, grown_chain, grown_count, listed_grown, room_grown}
 use Rattle.raw_nodes.proofs.NameLaws.{grown_records}

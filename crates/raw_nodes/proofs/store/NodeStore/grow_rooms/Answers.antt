@@ -1,4 +1,4 @@
-use Rattle.raw_nodes.proofs.Words.{refl}
+use Rattle.raw_nodes.proofs.Common.{refl}
 use Rattle.raw_nodes.specs.Names.{records}
 use Rattle.raw_nodes.proofs.store.NodeStore.grow_rooms.Goals as goal
 

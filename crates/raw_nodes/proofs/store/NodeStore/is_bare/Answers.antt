@@ -1,4 +1,4 @@
-use Rattle.raw_nodes.proofs.Words.{◌≡◌, ap, sym, ◌∙◌, subst, true, false, IsBare, link_name, is_used, record_in}
+use Rattle.raw_nodes.proofs.Common.{◌≡◌, ap, sym, ◌∙◌, subst, true, false, IsBare, link_name, is_used, record_in}
 use Rattle.raw_nodes.specs.Names.{records}
 use Rattle.raw_nodes.proofs.NameLaws.{bare_branch, bare_room, in_use, name_place, read_entry}
 use mathlib.Core.Bool.{false≢true}

@@ -1,4 +1,4 @@
-use Rattle.raw_nodes.proofs.Words.{◌≡◌, ap, sym, ◌∙◌, link_name, record_in}
+use Rattle.raw_nodes.proofs.Common.{◌≡◌, ap, sym, ◌∙◌, link_name, record_in}
 use Rattle.raw_nodes.specs.Names.{records}
 use Rattle.raw_nodes.proofs.NameLaws.{in_use, line_off, line_said, name_place, read_entry}
 use Rattle.raw_nodes.proofs.store.NodeStore.line.Goals as goal

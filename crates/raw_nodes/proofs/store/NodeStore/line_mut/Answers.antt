@@ -1,5 +1,5 @@
-use Rattle.raw_nodes.proofs.Words.{◌≡◌, ap, sym, refl, ◌∙◌, room_in, link_name, is_some, Node, line_in, record_in}
-use Rattle.raw_nodes.proofs.Words.{with_line, Some, None}
+use Rattle.raw_nodes.proofs.Common.{◌≡◌, ap, sym, refl, ◌∙◌, room_in, link_name, is_some, Node, line_in, record_in}
+use Rattle.raw_nodes.proofs.Common.{with_line, Some, None}
 use Rattle.raw_nodes.specs.Names.{records}
 use Rattle.raw_nodes.proofs.NameLaws.{followed_kept, listed_kept, whole_kept, chain_kept, count_kept, in_use, line_if}
 use Rattle.raw_nodes.proofs.NameLaws.{line_said, lined, name_place, name_within, no_line, read_entry, rewritten}

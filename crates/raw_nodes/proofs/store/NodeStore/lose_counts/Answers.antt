@@ -1,5 +1,5 @@
-use Rattle.raw_nodes.proofs.Words.{◌≡◌, ap, sym, refl, subst, room_in, record_in, with_sum, link_name, HasCounts}
-use Rattle.raw_nodes.proofs.Words.{counting, less, Room}
+use Rattle.raw_nodes.proofs.Common.{◌≡◌, ap, sym, refl, subst, room_in, record_in, with_sum, link_name, HasCounts}
+use Rattle.raw_nodes.proofs.Common.{counting, less, Room}
 use Rattle.raw_nodes.specs.Names.{records}
 use Rattle.raw_nodes.proofs.NameLaws.{followed_kept, listed_kept, whole_kept, chain_kept, count_kept, in_use}
 use Rattle.raw_nodes.proofs.NameLaws.{name_place, rewritten, recounted, room_if, rooms_kept, told_entry}

@@ -1,5 +1,5 @@
-use Rattle.raw_nodes.proofs.Words.{◌≡◌, ◌+◌, ◌-◌, ap, arith, set, subst, sym, refl, ◌∙◌, number_in, IsChain, marks_of}
-use Rattle.raw_nodes.proofs.Words.{nexts_of, blank, record_in, records_in, NodePtr, Node, Option}
+use Rattle.raw_nodes.proofs.Common.{◌≡◌, ◌+◌, ◌-◌, ap, arith, set, subst, sym, refl, ◌∙◌, number_in, IsChain, marks_of}
+use Rattle.raw_nodes.proofs.Common.{nexts_of, blank, record_in, records_in, NodePtr, Node, Option}
 use lib.ListN.{length-set}
 use Rattle.raw_nodes.specs.Names.{records}
 use Rattle.raw_nodes.proofs.ChainLaws.{chain_head, followed_set, is_spare, listed_set, made_chain, made_count}

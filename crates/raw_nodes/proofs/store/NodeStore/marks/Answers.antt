@@ -1,4 +1,4 @@
-use Rattle.raw_nodes.proofs.Words.{◌≡◌, ap, sym, ◌∙◌, link_name, is_used, record_in}
+use Rattle.raw_nodes.proofs.Common.{◌≡◌, ap, sym, ◌∙◌, link_name, is_used, record_in}
 use Rattle.raw_nodes.specs.Names.{records}
 use Rattle.raw_nodes.proofs.NameLaws.{in_use, name_place, read_entry}
 use mathlib.Core.Bool.{false≢true}

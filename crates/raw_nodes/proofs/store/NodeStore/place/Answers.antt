@@ -1,4 +1,4 @@
-use Rattle.raw_nodes.proofs.Words.{◌∙◌, arith, sym, ats}
+use Rattle.raw_nodes.proofs.Common.{◌∙◌, arith, sym, ats}
 use Rattle.raw_nodes.proofs.NeighbourLaws.{apart_had, before_first, before_number}
 use Rattle.raw_nodes.proofs.store.NodeStore.place.Goals as goal
 

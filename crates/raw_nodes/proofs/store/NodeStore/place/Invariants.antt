@@ -1,4 +1,4 @@
-use Rattle.raw_nodes.proofs.Words.{◌≡◌, ◌+◌, IsPlace, number_in}
+use Rattle.raw_nodes.proofs.Common.{◌≡◌, ◌+◌, IsPlace, number_in}
 use Rattle.raw_nodes.proofs.store.NodeStore.place.Given as goal
 
 abbrev pub invariant-loop-before : goal.invariant-loop-before

@@ -1,4 +1,4 @@
-use Rattle.raw_nodes.proofs.Words.{◌≡◌, ◌≤◌, ◌-◌, max, records, rooms, spares}
+use Rattle.raw_nodes.proofs.Common.{◌≡◌, ◌≤◌, ◌-◌, max, records, rooms, spares}
 use Rattle.raw_nodes.proofs.store.NodeStore.reserve_lines.Given as goal
 
 abbrev pub invariant-loop-self : goal.invariant-loop-self

@@ -1,4 +1,4 @@
-use Rattle.raw_nodes.proofs.Words.{◌≡◌, ap, arith, sym, ◌∙◌, nat_tests, number_in}
+use Rattle.raw_nodes.proofs.Common.{◌≡◌, ap, arith, sym, ◌∙◌, nat_tests, number_in}
 use Rattle.raw_nodes.specs.Names.{records}
 use Rattle.raw_nodes.proofs.NameLaws.{name_place}
 use Rattle.raw_nodes.proofs.PlaceLaws.{same_number}

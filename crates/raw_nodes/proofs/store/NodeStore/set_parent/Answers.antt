@@ -1,4 +1,4 @@
-use Rattle.raw_nodes.proofs.Words.{ap, refl, ◌∙◌, room_in, link_name, is_used, record_in, with_parent, with_slot}
+use Rattle.raw_nodes.proofs.Common.{ap, refl, ◌∙◌, room_in, link_name, is_used, record_in, with_parent, with_slot}
 use Rattle.raw_nodes.specs.Names.{records}
 use Rattle.raw_nodes.proofs.NameLaws.{followed_kept, listed_kept, whole_kept, chain_kept, count_kept, in_use}
 use Rattle.raw_nodes.proofs.NameLaws.{name_place, parented, rewritten, room_slot, rooms_kept, used_slot}

@@ -1,4 +1,4 @@
-use Rattle.raw_nodes.proofs.Words.{◌≡◌, ap, sym, refl, room_in, with_sum}
+use Rattle.raw_nodes.proofs.Common.{◌≡◌, ap, sym, refl, room_in, with_sum}
 use Rattle.raw_nodes.specs.Names.{records}
 use Rattle.raw_nodes.proofs.NameLaws.{followed_kept, listed_kept, whole_kept, chain_kept, count_kept, in_use}
 use Rattle.raw_nodes.proofs.NameLaws.{name_place, rewritten, room_if, rooms_kept, told_entry, summed}

@@ -1,4 +1,4 @@
-use Rattle.raw_nodes.proofs.Words.{◌≡◌, ◌∙◌}
+use Rattle.raw_nodes.proofs.Common.{◌≡◌, ◌∙◌}
 use Rattle.raw_nodes.specs.Names.{records}
 use Rattle.raw_nodes.proofs.NameLaws.{in_use, name_place, read_entry, slot_said}
 use Rattle.raw_nodes.proofs.store.NodeStore.slot.Goals as goal

@@ -1,4 +1,4 @@
-use Rattle.script_cli.proofs.Words.{◌++◌, false}
+use Rattle.script_cli.proofs.Common.{◌++◌, false}
 use Rattle.script_cli.proofs.SendingLaws.{Gathers-then, Gathers-stop}
 use Rattle.script_cli.proofs.output.Output.push_line.Goals as goal
 

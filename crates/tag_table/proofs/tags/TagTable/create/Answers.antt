@@ -1,5 +1,5 @@
-use Rattle.tag_table.proofs.Words.{ap, sym, ◌∙◌, subst, map, chars, string_bytes, map_push, Names, AreKept, tag}
-use Rattle.tag_table.proofs.Words.{deleted, Tags, slot_of, slots_of, IsLeastFree}
+use Rattle.tag_table.proofs.Common.{ap, sym, ◌∙◌, subst, map, chars, string_bytes, map_push, Names, AreKept, tag}
+use Rattle.tag_table.proofs.Common.{deleted, Tags, slot_of, slots_of, IsLeastFree}
 use Rattle.tag_table.proofs.TagLaws.{no_place, AreKept-push, IsLeastFree-slot, deleted-push, sel_number}
 use Rattle.tag_table.proofs.tags.TagTable.create.Goals as goal
 

@@ -1,5 +1,5 @@
-use Rattle.tag_table.proofs.Words.{ap, sym, ◌∙◌, subst, map-remove, chars, remove, AreKept, tag, tags_kept, deleted}
-use Rattle.tag_table.proofs.Words.{Tags, ◌-◌}
+use Rattle.tag_table.proofs.Common.{ap, sym, ◌∙◌, subst, map-remove, chars, remove, AreKept, tag, tags_kept, deleted}
+use Rattle.tag_table.proofs.Common.{Tags, ◌-◌}
 use Rattle.tag_table.proofs.TagLaws.{place_of_tag, is_sel, deleted-sel, deleted-at, deleted-none, AreKept-remove}
 use Rattle.tag_table.proofs.tags.TagTable.delete.Goals as goal
 

@@ -1,4 +1,4 @@
-use Rattle.tag_table.proofs.Words.{ap, sym, ◌∙◌, chars, option_map}
+use Rattle.tag_table.proofs.Common.{ap, sym, ◌∙◌, chars, option_map}
 use Rattle.tag_table.proofs.TagLaws.{place_of_tag, slot_at, no_slot}
 use Rattle.tag_table.proofs.tags.TagTable.find.Goals as goal
 

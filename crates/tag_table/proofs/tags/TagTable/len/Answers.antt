@@ -1,4 +1,4 @@
-use Rattle.tag_table.proofs.Words.{subst, AreTags}
+use Rattle.tag_table.proofs.Common.{subst, AreTags}
 use Rattle.tag_table.proofs.TagLaws.{AreTags-kept}
 use Rattle.tag_table.proofs.tags.TagTable.len.Goals as goal
 

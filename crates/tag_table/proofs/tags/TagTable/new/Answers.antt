@@ -1,5 +1,5 @@
-use Rattle.tag_table.proofs.Words.{Some, ◌≡◌, ◌+◌, ap, ap₂, ◌-◌, sym, ◌∙◌, subst, arith, [], ◌∷◌, chars, string_bytes}
-use Rattle.tag_table.proofs.Words.{AreKept, tags_kept}
+use Rattle.tag_table.proofs.Common.{Some, ◌≡◌, ◌+◌, ap, ap₂, ◌-◌, sym, ◌∙◌, subst, arith, [], ◌∷◌, chars, string_bytes}
+use Rattle.tag_table.proofs.Common.{AreKept, tags_kept}
 use Rattle.tag_table.proofs.TagLaws.{first_name, chars_of_sel}
 use Rattle.tag_table.proofs.tags.TagTable.new.Goals as goal
 

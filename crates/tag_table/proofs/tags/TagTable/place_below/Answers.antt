@@ -1,4 +1,4 @@
-use Rattle.tag_table.proofs.Words.{ap, sym, ◌∙◌, Ok, if◌then◌else◌, lt-ltb, le-ltb, ◌-◌, option_map, chars}
+use Rattle.tag_table.proofs.Common.{ap, sym, ◌∙◌, Ok, if◌then◌else◌, lt-ltb, le-ltb, ◌-◌, option_map, chars}
 use Rattle.tag_table.proofs.TagLaws.{place_of_tag, below_is}
 use Rattle.tag_table.proofs.tags.TagTable.place_below.Goals as goal
 

@@ -1,5 +1,5 @@
-use Rattle.tag_table.proofs.Words.{ap, sym, ◌∙◌, Ok, map, length, ◌<◌, subst, chars, length-map, err_from_is_err_and}
-use Rattle.tag_table.proofs.Words.{map-move_index, move_index, Names, AreKept, tag, Tags}
+use Rattle.tag_table.proofs.Common.{ap, sym, ◌∙◌, Ok, map, length, ◌<◌, subst, chars, length-map, err_from_is_err_and}
+use Rattle.tag_table.proofs.Common.{map-move_index, move_index, Names, AreKept, tag, Tags}
 use Rattle.tag_table.proofs.TagLaws.{place_of_tag, raised-unknown, raised-to, raised-fault, AreKept-move}
 use Rattle.tag_table.proofs.tags.TagTable.raise.Goals as goal
 

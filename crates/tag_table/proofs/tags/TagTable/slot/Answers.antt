@@ -1,4 +1,4 @@
-use Rattle.tag_table.proofs.Words.{ap, ◌∙◌, Some, sym, option_map, slice_get-map, slot_of_number}
+use Rattle.tag_table.proofs.Common.{ap, ◌∙◌, Some, sym, option_map, slice_get-map, slot_of_number}
 use Rattle.tag_table.proofs.TagLaws.{slots_seen}
 use Rattle.tag_table.proofs.tags.TagTable.slot.Goals as goal
 

@@ -1,4 +1,4 @@
-use Rattle.tag_table.proofs.Words.{ap, sym, ◌∙◌, subst, AreKept, tags_kept}
+use Rattle.tag_table.proofs.Common.{ap, sym, ◌∙◌, subst, AreKept, tags_kept}
 use Rattle.tag_table.proofs.FrontLaws.{AreKept-front, tags_kept-front}
 use Rattle.tag_table.proofs.tags.TagTable.truncate.Goals as goal
 

@@ -1,4 +1,4 @@
-use Rattle.text_cursor.proofs.Words.{◌/◌, ap, arith, sum_by-take-le, parts_len}
+use Rattle.text_cursor.proofs.Common.{◌/◌, ap, arith, sum_by-take-le, parts_len}
 use Rattle.text_cursor.proofs.SideLaws.{part_len}
 use Rattle.text_cursor.proofs.blocks.Block.is_half_passed.Goals as goal
 

@@ -1,4 +1,4 @@
-use Rattle.text_cursor.proofs.Words.{ap, ◌∙◌, arith, parts_len}
+use Rattle.text_cursor.proofs.Common.{ap, ◌∙◌, arith, parts_len}
 use Rattle.text_cursor.proofs.SideLaws.{turned-len}
 use Rattle.text_cursor.proofs.blocks.Block.of.Goals as goal
 

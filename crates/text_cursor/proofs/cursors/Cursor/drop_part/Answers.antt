@@ -1,4 +1,4 @@
-use Rattle.text_cursor.proofs.Words.{refl, ◌∙◌, side_parts}
+use Rattle.text_cursor.proofs.Common.{refl, ◌∙◌, side_parts}
 use Rattle.text_cursor.proofs.CursorLaws.{takes-part, takes-some}
 use Rattle.text_cursor.proofs.cursors.Cursor.drop_part.Goals as goal
 

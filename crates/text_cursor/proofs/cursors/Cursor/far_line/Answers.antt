@@ -1,5 +1,5 @@
-use Rattle.text_cursor.proofs.Words.{◌-◌, length, ap, ap₂, sym, subst, ◌∙◌, arith, IsLastLine, front_text, last_line}
-use Rattle.text_cursor.proofs.Words.{parts_len}
+use Rattle.text_cursor.proofs.Common.{◌-◌, length, ap, ap₂, sym, subst, ◌∙◌, arith, IsLastLine, front_text, last_line}
+use Rattle.text_cursor.proofs.Common.{parts_len}
 use Rattle.text_cursor.proofs.LookLaws.{far-fit, far-line-step, fit-both, last-same}
 use Rattle.text_cursor.proofs.cursors.Cursor.far_line.Goals as goal
 

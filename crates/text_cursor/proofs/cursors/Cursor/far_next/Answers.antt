@@ -1,4 +1,4 @@
-use Rattle.text_cursor.proofs.Words.{◌≡◌, length, ap, ap₂, sym, subst, ◌∙◌, arith, lines, front_text, parts_len}
+use Rattle.text_cursor.proofs.Common.{◌≡◌, length, ap, ap₂, sym, subst, ◌∙◌, arith, lines, front_text, parts_len}
 use Rattle.text_cursor.proofs.LookLaws.{FarPassed, far-behind-fit, far-none, far-small, far-step, fit-both, second-same}
 use Rattle.text_cursor.proofs.cursors.Cursor.far_next.Goals as goal
 

@@ -1,4 +1,4 @@
-use Rattle.text_cursor.proofs.Words.{refl, arith, side_parts}
+use Rattle.text_cursor.proofs.Common.{refl, arith, side_parts}
 use Rattle.text_cursor.proofs.CursorLaws.{leaps-back, front-block}
 use Rattle.text_cursor.proofs.cursors.Cursor.leap_back.Goals as goal
 

@@ -1,4 +1,4 @@
-use Rattle.text_cursor.proofs.Words.{length, ap, ap₂, sym, ◌∙◌, arith, front_text, last_line, parts_len}
+use Rattle.text_cursor.proofs.Common.{length, ap, ap₂, sym, ◌∙◌, arith, front_text, last_line, parts_len}
 use Rattle.text_cursor.proofs.LookLaws.{near-line, fit-both, last-same}
 use Rattle.text_cursor.proofs.cursors.Cursor.line.Goals as goal
 

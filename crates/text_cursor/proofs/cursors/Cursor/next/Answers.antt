@@ -1,5 +1,5 @@
-use Rattle.text_cursor.proofs.Words.{◌≡◌, ◌+◌, length, drop, ap, ap₂, sym, ◌∙◌, arith, characters, lines, line_start}
-use Rattle.text_cursor.proofs.Words.{behind_text, cursor_cells, parts_len}
+use Rattle.text_cursor.proofs.Common.{◌≡◌, ◌+◌, length, drop, ap, ap₂, sym, ◌∙◌, arith, characters, lines, line_start}
+use Rattle.text_cursor.proofs.Common.{behind_text, cursor_cells, parts_len}
 use Rattle.text_cursor.proofs.LookLaws.{fit-both, near-next, second-same-back}
 use Rattle.text_cursor.proofs.cursors.Cursor.next.Goals as goal
 

@@ -1,4 +1,4 @@
-use Rattle.text_cursor.proofs.Words.{◌≡◌, ◌+◌, ◌++◌, ◌∷◌, [], length, Some, refl, ap, ap₂, ◌∙◌, arith, side_parts}
+use Rattle.text_cursor.proofs.Common.{◌≡◌, ◌+◌, ◌++◌, ◌∷◌, [], length, Some, refl, ap, ap₂, ◌∙◌, arith, side_parts}
 use Rattle.text_cursor.proofs.CursorLaws.{puts-some}
 use Rattle.text_cursor.proofs.cursors.Cursor.put.Goals as goal
 

@@ -1,4 +1,4 @@
-use Rattle.text_cursor.proofs.Words.{arith}
+use Rattle.text_cursor.proofs.Common.{arith}
 use Rattle.text_cursor.proofs.CursorLaws.{takes-none, takes-both}
 use Rattle.text_cursor.proofs.cursors.Cursor.remove.Goals as goal
 

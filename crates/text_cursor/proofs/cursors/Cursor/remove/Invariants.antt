@@ -1,4 +1,4 @@
-use Rattle.text_cursor.proofs.Words.{◌≤◌, Takes}
+use Rattle.text_cursor.proofs.Common.{◌≤◌, Takes}
 use Rattle.text_cursor.proofs.cursors.Cursor.remove.Given as goal
 
 abbrev pub invariant-loop-self : goal.invariant-loop-self

@@ -1,4 +1,4 @@
-use Rattle.text_cursor.proofs.Words.{Moves}
+use Rattle.text_cursor.proofs.Common.{Moves}
 use Rattle.text_cursor.proofs.cursors.Cursor.seek_back.Given as goal
 
 abbrev pub invariant-loop-self : goal.invariant-loop-self

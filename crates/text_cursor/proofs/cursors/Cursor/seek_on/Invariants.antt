@@ -1,4 +1,4 @@
-use Rattle.text_cursor.proofs.Words.{◌≡◌, ◌-◌, ◌≤◌, false, Moves}
+use Rattle.text_cursor.proofs.Common.{◌≡◌, ◌-◌, ◌≤◌, false, Moves}
 use Rattle.text_cursor.proofs.cursors.Cursor.seek_on.Given as goal
 
 abbrev pub invariant-loop-self : goal.invariant-loop-self

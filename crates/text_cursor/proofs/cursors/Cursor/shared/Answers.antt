@@ -1,4 +1,4 @@
-use Rattle.text_cursor.proofs.Words.{◌-◌, length, take, ap₂, sym, ◌∙◌, side_parts}
+use Rattle.text_cursor.proofs.Common.{◌-◌, length, take, ap₂, sym, ◌∙◌, side_parts}
 use Rattle.text_cursor.proofs.LookLaws.{shared-is}
 use Rattle.std.specs.FinSet as set
 use Rattle.text_cursor.proofs.cursors.Cursor.shared.Goals as goal

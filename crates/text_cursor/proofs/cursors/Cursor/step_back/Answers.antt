@@ -1,4 +1,4 @@
-use Rattle.text_cursor.proofs.Words.{◌++◌, ◌∷◌, [], refl, ap, ◌∙◌}
+use Rattle.text_cursor.proofs.Common.{◌++◌, ◌∷◌, [], refl, ap, ◌∙◌}
 use Rattle.text_cursor.proofs.CursorLaws.{moves-back}
 use Rattle.text_cursor.proofs.cursors.Cursor.step_back.Goals as goal
 

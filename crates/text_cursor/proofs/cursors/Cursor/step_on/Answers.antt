@@ -1,4 +1,4 @@
-use Rattle.text_cursor.proofs.Words.{◌+◌, ◌++◌, ◌∷◌, [], refl, ap, ◌∙◌, Part, side_parts}
+use Rattle.text_cursor.proofs.Common.{◌+◌, ◌++◌, ◌∷◌, [], refl, ap, ◌∙◌, Part, side_parts}
 use Rattle.text_cursor.proofs.CursorLaws.{moves-over, moves-in}
 use Rattle.text_cursor.proofs.cursors.Cursor.step_on.Goals as goal
 

@@ -1,4 +1,4 @@
-use Rattle.text_cursor.proofs.Words.{◌≡◌, ◌++◌, length, reverse, side_parts}
+use Rattle.text_cursor.proofs.Common.{◌≡◌, ◌++◌, length, reverse, side_parts}
 use Rattle.text_cursor.proofs.sides.Side.empty_into.Given as goal
 
 abbrev pub invariant-loop-part : goal.invariant-loop-part

@@ -1,4 +1,4 @@
-use Rattle.text_cursor.proofs.Words.{arith, block_parts}
+use Rattle.text_cursor.proofs.Common.{arith, block_parts}
 use Rattle.text_cursor.proofs.SideLaws.{ends-behind, ends-read, last-block}
 use Rattle.text_cursor.proofs.sides.Side.last.Goals as goal
 

@@ -1,4 +1,4 @@
-use Rattle.text_cursor.proofs.Words.{refl, arith}
+use Rattle.text_cursor.proofs.Common.{refl, arith}
 use Rattle.text_cursor.proofs.SideLaws.{open-stays}
 use Rattle.text_cursor.proofs.sides.Side.open.Goals as goal
 

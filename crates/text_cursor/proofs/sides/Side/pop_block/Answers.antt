@@ -1,4 +1,4 @@
-use Rattle.text_cursor.proofs.Words.{refl, arith, Side}
+use Rattle.text_cursor.proofs.Common.{refl, arith, Side}
 use Rattle.text_cursor.proofs.SideLaws.{popped-block}
 use Rattle.text_cursor.proofs.sides.Side.pop_block.Goals as goal
 

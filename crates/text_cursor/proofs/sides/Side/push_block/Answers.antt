@@ -1,4 +1,4 @@
-use Rattle.text_cursor.proofs.Words.{◌++◌, refl, ap₂, ◌∙◌, Side, turned_if}
+use Rattle.text_cursor.proofs.Common.{◌++◌, refl, ap₂, ◌∙◌, Side, turned_if}
 use Rattle.text_cursor.proofs.SideLaws.{side-block}
 use Rattle.text_cursor.proofs.sides.Side.push_block.Goals as goal
 

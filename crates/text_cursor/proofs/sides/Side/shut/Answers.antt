@@ -1,4 +1,4 @@
-use Rattle.text_cursor.proofs.Words.{refl, ap, ◌∙◌}
+use Rattle.text_cursor.proofs.Common.{refl, ap, ◌∙◌}
 use Rattle.text_cursor.proofs.SideLaws.{shut-stays}
 use Rattle.text_cursor.proofs.sides.Side.shut.Goals as goal
 

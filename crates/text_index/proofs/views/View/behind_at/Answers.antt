@@ -1,4 +1,4 @@
-use Rattle.text_index.proofs.Words.{◌+◌, ap, ◌∙◌, arith, characters, line_start}
+use Rattle.text_index.proofs.Common.{◌+◌, ap, ◌∙◌, arith, characters, line_start}
 use Rattle.text_index.proofs.StartLaws.{place-behind}
 use Rattle.text_index.proofs.ViewLaws.{length-shown}
 use Rattle.text_index.proofs.views.View.behind_at.Goals as goal

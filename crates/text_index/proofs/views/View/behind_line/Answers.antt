@@ -1,4 +1,4 @@
-use Rattle.text_index.proofs.Words.{◌≡◌, ◌+◌, ◌-◌, ap, ◌∙◌, arith, characters, line_of, line_start}
+use Rattle.text_index.proofs.Common.{◌≡◌, ◌+◌, ◌-◌, ap, ◌∙◌, arith, characters, line_of, line_start}
 use Rattle.text_index.proofs.StartLaws.{ends-behind, ends-within, none-shown, start-after}
 use Rattle.text_index.proofs.ViewLaws.{length-shown}
 use Rattle.text_index.proofs.views.View.behind_line.Goals as goal

@@ -1,5 +1,5 @@
-use Rattle.text_index.proofs.Words.{◌≡◌, ℕ, ◌+◌, ◌-◌, ap, ap₂, subst, sym, ◌∙◌, arith, characters, IsLineOf, line_of}
-use Rattle.text_index.proofs.Words.{line_start, shown}
+use Rattle.text_index.proofs.Common.{◌≡◌, ℕ, ◌+◌, ◌-◌, ap, ap₂, subst, sym, ◌∙◌, arith, characters, IsLineOf, line_of}
+use Rattle.text_index.proofs.Common.{line_start, shown}
 use Rattle.text_index.proofs.StartLaws.{line-shown, place-start, start-after}
 use Rattle.text_index.proofs.ViewLaws.{length-shown, lines-part}
 use Rattle.text_index.proofs.views.View.line_at.Goals as goal

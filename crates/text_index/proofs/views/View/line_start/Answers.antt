@@ -1,4 +1,4 @@
-use Rattle.text_index.proofs.Words.{◌≡◌, ◌+◌, ap, sym, ◌∙◌, arith, characters, line_of, line_start}
+use Rattle.text_index.proofs.Common.{◌≡◌, ◌+◌, ap, sym, ◌∙◌, arith, characters, line_of, line_start}
 use Rattle.text_index.proofs.StartLaws.{none-shown, start-after, start-shown}
 use Rattle.text_index.proofs.ViewLaws.{length-shown}
 use Rattle.text_index.proofs.views.View.line_start.Goals as goal

@@ -1,4 +1,4 @@
-use Rattle.text_index.proofs.Words.{arith, characters}
+use Rattle.text_index.proofs.Common.{arith, characters}
 use Rattle.text_index.proofs.ViewLaws.{lines-of-part}
 use Rattle.text_index.proofs.views.View.lines.Goals as goal
 

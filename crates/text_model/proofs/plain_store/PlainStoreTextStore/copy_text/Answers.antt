@@ -1,5 +1,5 @@
-use Rattle.text_model.proofs.Words.{sym, ap, ◌∙◌, ◌-◌, take, drop, chars, chars-nil, take_all, take-map, drop-map, Cell}
-use Rattle.text_model.proofs.Words.{characters}
+use Rattle.text_model.proofs.Common.{sym, ap, ◌∙◌, ◌-◌, take, drop, chars, chars-nil, take_all, take-map, drop-map}
+use Rattle.text_model.proofs.Common.{Cell, characters}
 use Rattle.text_model.proofs.plain_store.PlainStoreTextStore.copy_text.Goals as goal
 
 pub loop-cell-init : goal.loop-cell-init

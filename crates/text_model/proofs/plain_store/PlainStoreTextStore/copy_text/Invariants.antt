@@ -1,4 +1,4 @@
-use Rattle.text_model.proofs.Words.{◌≡◌, take, chars, string_bytes, characters}
+use Rattle.text_model.proofs.Common.{◌≡◌, take, chars, string_bytes, characters}
 use Rattle.text_model.proofs.plain_store.PlainStoreTextStore.copy_text.Given as goal
 
 abbrev pub invariant-loop-cell : goal.invariant-loop-cell

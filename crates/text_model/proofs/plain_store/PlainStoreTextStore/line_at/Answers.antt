@@ -1,4 +1,4 @@
-use Rattle.text_model.proofs.Words.{◌+◌, sym, ap, ◌∙◌, take, take-map, Cell, characters, line_start, lines}
+use Rattle.text_model.proofs.Common.{◌+◌, sym, ap, ◌∙◌, take, take-map, Cell, characters, line_start, lines}
 use Rattle.text_model.proofs.plain_store.PlainStoreTextStore.line_at.Goals as goal
 
 pub returns : goal.returns

@@ -1,4 +1,4 @@
-use Rattle.text_model.proofs.Words.{sym, ap, ◌∙◌, take, take-map, Cell, characters, lines}
+use Rattle.text_model.proofs.Common.{sym, ap, ◌∙◌, take, take-map, Cell, characters, lines}
 use Rattle.text_model.proofs.plain_store.PlainStoreTextStore.line_of.Goals as goal
 
 pub returns : goal.returns

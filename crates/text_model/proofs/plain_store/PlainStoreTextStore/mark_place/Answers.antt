@@ -1,4 +1,4 @@
-use Rattle.text_model.proofs.Words.{None, get_or, sym, ap, ◌∙◌, get_or_past}
+use Rattle.text_model.proofs.Common.{None, get_or, sym, ap, ◌∙◌, get_or_past}
 use Rattle.text_model.proofs.PlaceLaws.{get-plain_marks, stands_if_some}
 use Rattle.text_model.proofs.plain_store.PlainStoreTextStore.mark_place.Goals as goal
 

@@ -1,4 +1,4 @@
-use Rattle.text_model.proofs.Words.{◌∷◌, [], ap₂, ◌++◌, ◌∙◌}
+use Rattle.text_model.proofs.Common.{◌∷◌, [], ap₂, ◌++◌, ◌∙◌}
 use Rattle.text_model.proofs.PlainLaws.{IsPlain-new, plain_content-new}
 use Rattle.text_model.proofs.plain_store.PlainStoreTextStore.new.Goals as goal
 

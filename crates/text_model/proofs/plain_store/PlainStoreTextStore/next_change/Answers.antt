@@ -1,4 +1,4 @@
-use Rattle.text_model.proofs.Words.{arith, length-map, Cell, flags}
+use Rattle.text_model.proofs.Common.{arith, length-map, Cell, flags}
 use Rattle.text_model.proofs.ChangeLaws.{next_change_found, next_change-le}
 use Rattle.std.specs.FinSet as set
 use Rattle.text_model.proofs.plain_store.PlainStoreTextStore.next_change.Goals as goal

@@ -1,4 +1,4 @@
-use Rattle.text_model.proofs.Words.{plain_content, plain_marks}
+use Rattle.text_model.proofs.Common.{plain_content, plain_marks}
 use Rattle.text_model.proofs.MarkOrderLaws.{next_mark-above, next_mark-within}
 use Rattle.text_model.proofs.plain_store.PlainStoreTextStore.next_mark.Goals as goal
 

@@ -1,4 +1,4 @@
-use Rattle.text_model.proofs.Words.{◌≡◌, drop, plain_content, IsPlain, Fits, after}
+use Rattle.text_model.proofs.Common.{◌≡◌, drop, plain_content, IsPlain, Fits, after}
 use Rattle.text_model.proofs.plain_store.PlainStoreTextStore.prepare.Given as goal
 
 abbrev pub invariant-loop-step : goal.invariant-loop-step

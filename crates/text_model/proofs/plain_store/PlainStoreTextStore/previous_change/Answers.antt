@@ -1,4 +1,4 @@
-use Rattle.text_model.proofs.Words.{take, length-take, arith, length-map, suffix_len-le-length, Cell, is_alike, flags}
+use Rattle.text_model.proofs.Common.{take, length-take, arith, length-map, suffix_len-le-length, Cell, is_alike, flags}
 use Rattle.text_model.proofs.ChangeLaws.{previous_change_found}
 use Rattle.std.specs.FinSet as set
 use Rattle.text_model.proofs.plain_store.PlainStoreTextStore.previous_change.Goals as goal

@@ -1,4 +1,4 @@
-use Rattle.text_model.proofs.Words.{plain_content, plain_marks}
+use Rattle.text_model.proofs.Common.{plain_content, plain_marks}
 use Rattle.text_model.proofs.MarkOrderLaws.{previous_mark-below, previous_mark-within}
 use Rattle.text_model.proofs.plain_store.PlainStoreTextStore.previous_mark.Goals as goal
 

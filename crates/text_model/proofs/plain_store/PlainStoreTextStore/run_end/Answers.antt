@@ -1,4 +1,4 @@
-use Rattle.text_model.proofs.Words.{arith, characters}
+use Rattle.text_model.proofs.Common.{arith, characters}
 use Rattle.text_model.proofs.RunLaws.{long, run_end-le, run_end_found}
 use Rattle.text_model.proofs.plain_store.PlainStoreTextStore.run_end.Goals as goal
 

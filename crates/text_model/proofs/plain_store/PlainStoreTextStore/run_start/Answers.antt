@@ -1,4 +1,4 @@
-use Rattle.text_model.proofs.Words.{◌≡◌, ◌-◌, take, ap, arith, suffix_len, characters}
+use Rattle.text_model.proofs.Common.{◌≡◌, ◌-◌, take, ap, arith, suffix_len, characters}
 use Rattle.text_model.proofs.RunLaws.{run_start-le, run_start_found}
 use Rattle.text_model.proofs.plain_store.PlainStoreTextStore.run_start.Goals as goal
 

@@ -1,4 +1,4 @@
-use Rattle.text_model.proofs.Words.{◌∙◌, ap, sym, slots_in, word_index, word_index-slots_in}
+use Rattle.text_model.proofs.Common.{◌∙◌, ap, sym, slots_in, word_index, word_index-slots_in}
 use Rattle.text_model.proofs.slot_word.SlotWord.bits.Goals as goal
 
 pub returns : goal.returns

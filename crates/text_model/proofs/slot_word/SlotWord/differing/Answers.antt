@@ -1,4 +1,4 @@
-use Rattle.text_model.proofs.Words.{◌≡◌, ◌∙◌, ap, ap₂, sym, slots_in, word_index, word_index-slots_in, differing}
+use Rattle.text_model.proofs.Common.{◌≡◌, ◌∙◌, ap, ap₂, sym, slots_in, word_index, word_index-slots_in, differing}
 use Rattle.text_model.proofs.OneWordSteps.{slots_in-differing}
 use Rattle.text_model.proofs.slot_word.SlotWord.differing.Goals as goal
 

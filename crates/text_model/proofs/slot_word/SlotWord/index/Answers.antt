@@ -1,4 +1,4 @@
-use Rattle.text_model.proofs.Words.{◌∙◌, ap, sym, subst, IsOneWord, word_index, word_index-slots_in}
+use Rattle.text_model.proofs.Common.{◌∙◌, ap, sym, subst, IsOneWord, word_index, word_index-slots_in}
 use Rattle.text_model.proofs.OneWordSteps.{one_word}
 use Rattle.text_model.proofs.slot_word.SlotWord.index.Goals as goal
 

@@ -1,4 +1,4 @@
-use Rattle.text_model.proofs.Words.{◌≡◌, ◌∙◌, ℕ, true, nat_eq, sym, arith, nat_tests}
+use Rattle.text_model.proofs.Common.{◌≡◌, ◌∙◌, ℕ, true, nat_eq, sym, arith, nat_tests}
 use Rattle.text_model.proofs.OneWordSteps.{bits-none, slots_in-none}
 use Rattle.text_model.proofs.slot_word.SlotWord.is_empty.Goals as goal
 

@@ -1,4 +1,4 @@
-use Rattle.text_model.proofs.Words.{◌∙◌}
+use Rattle.text_model.proofs.Common.{◌∙◌}
 use Rattle.text_model.proofs.OneWordSteps.{one_slot}
 use Rattle.text_model.proofs.slot_word.SlotWord.of.Goals as goal
 

@@ -1,4 +1,4 @@
-use Rattle.text_model.proofs.Words.{arith}
+use Rattle.text_model.proofs.Common.{arith}
 use Rattle.text_model.proofs.OneWordSteps.{one_word}
 use Rattle.text_model.proofs.slot_word.SlotWord.of_bits.Goals.{then-bits-eq0, else-bits-eq0}
 use Rattle.text_model.proofs.slot_word.SlotWord.of_bits.Goals as goal

@@ -1,4 +1,4 @@
-use Rattle.text_model.proofs.Words.{◌∙◌, subst, IsOneWord}
+use Rattle.text_model.proofs.Common.{◌∙◌, subst, IsOneWord}
 use Rattle.text_model.proofs.OneWordSteps.{one_word, slot_cleared, slot_kept}
 use Rattle.text_model.proofs.slot_word.SlotWord.without.Goals as goal
 

@@ -1,4 +1,4 @@
-use Rattle.text_model.proofs.Words.{arith}
+use Rattle.text_model.proofs.Common.{arith}
 use Rattle.text_model.proofs.TagSteps.{slots_of-common}
 use Rattle.text_model.proofs.tag_set.TagSet.common.Goals as goal
 

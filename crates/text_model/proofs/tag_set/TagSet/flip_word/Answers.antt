@@ -1,4 +1,4 @@
-use Rattle.text_model.proofs.Words.{◌<◌, ◌∙◌, ap, ap₂, length, length-set, slots_in, AreWords-alone, differing, WORDS}
+use Rattle.text_model.proofs.Common.{◌<◌, ◌∙◌, ap, ap₂, length, length-set, slots_in, AreWords-alone, differing, WORDS}
 use Rattle.text_model.proofs.OneWordSteps.{slots_of-turned, turned-word}
 use Rattle.text_model.proofs.TagSteps.{AreWords-differing}
 use Rattle.text_model.proofs.tag_set.TagSet.flip_word.Goals as goal

@@ -1,4 +1,4 @@
-use Rattle.text_model.proofs.Words.{◌∙◌, ap, sym, replicate, slot_count, slots_of, WORDS}
+use Rattle.text_model.proofs.Common.{◌∙◌, ap, sym, replicate, slot_count, slots_of, WORDS}
 use Rattle.std.proofs.lemmas.Slice.Eq.{bytes_eq-Decides}
 use Rattle.text_model.proofs.TagSteps.{slots_below-zeros, zeros_of-slots_of}
 use Rattle.text_model.proofs.tag_set.TagSet.is_empty.Goals as goal

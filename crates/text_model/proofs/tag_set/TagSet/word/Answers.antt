@@ -1,4 +1,4 @@
-use Rattle.text_model.proofs.Words.{◌∙◌, ap, in_word}
+use Rattle.text_model.proofs.Common.{◌∙◌, ap, in_word}
 use Rattle.text_model.proofs.OneWordSteps.{slots_of-word}
 use Rattle.text_model.proofs.tag_set.TagSet.word.Goals as goal
 

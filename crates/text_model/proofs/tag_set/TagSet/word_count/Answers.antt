@@ -1,4 +1,4 @@
-use Rattle.text_model.proofs.Words.{◌≡◌, ℕ, ap, cond, refl, subst, arith, AreSlots, has_word, slots_of}
+use Rattle.text_model.proofs.Common.{◌≡◌, ℕ, ap, cond, refl, subst, arith, AreSlots, has_word, slots_of}
 use Rattle.text_model.specs.OneWord.{words_below}
 use Rattle.text_model.proofs.InWordLaws.{counts_none, counts_word, slots_are, words_below-le, words_below-more}
 use Rattle.text_model.proofs.tag_set.TagSet.word_count.Goals.{then-self-index-ne0, else-self-index-ne0}

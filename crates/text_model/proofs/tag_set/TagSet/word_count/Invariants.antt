@@ -1,4 +1,4 @@
-use Rattle.text_model.proofs.Words.{◌≡◌, words_below}
+use Rattle.text_model.proofs.Common.{◌≡◌, words_below}
 use Rattle.text_model.proofs.tag_set.TagSet.word_count.Given as goal
 
 abbrev pub invariant-loop-index : goal.invariant-loop-index

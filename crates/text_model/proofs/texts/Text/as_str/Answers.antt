@@ -1,4 +1,4 @@
-use Rattle.text_model.proofs.Words.{sym, ap, ◌∙◌, encode_utf8_all, chars, encodes-chars}
+use Rattle.text_model.proofs.Common.{sym, ap, ◌∙◌, encode_utf8_all, chars, encodes-chars}
 use Rattle.text_model.proofs.texts.Text.as_str.Goals as goal
 
 pub returns-clause-bytes : goal.returns-clause-bytes

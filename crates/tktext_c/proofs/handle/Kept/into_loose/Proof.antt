@@ -1,6 +1,6 @@
 -- `into_loose` gives the pointer back with what it owns.
-use Rattle.tktext_c.proofs.Words.{◌≡◌, Some, List, [], ◌∷◌, ◌++◌, refl, sym, subst, Goes-blank, handle_tells, proved_at}
-use Rattle.tktext_c.proofs.Words.{leaves, IsSome}
+use Rattle.tktext_c.proofs.Common.{◌≡◌, Some, List, [], ◌∷◌, ◌++◌, refl, sym, subst, Goes-blank, handle_tells}
+use Rattle.tktext_c.proofs.Common.{proved_at, leaves, IsSome}
 use mir.Val.{Val, vptr}
 use base.Logic.{SProp, ent, emp, id⊢}
 use prog.Wp.{WpFn}

@@ -1,5 +1,5 @@
 -- `nothing` keeps no session.
-use Rattle.tktext_c.proofs.Words.{◌≡◌, Option, None, [], ◌∷◌, refl, Ptr-Good, proved_at, leaves}
+use Rattle.tktext_c.proofs.Common.{◌≡◌, Option, None, [], ◌∷◌, refl, Ptr-Good, proved_at, leaves}
 use mir.Val.{Val}
 use base.Logic.{SProp, emp}
 use types.Kit.{‵, raw, ◌⊛◌, ◌$◌, ◌∵◌, !, qed, by, keep, split, use0}

@@ -1,5 +1,5 @@
 -- `of_loose` keeps the pointer, and what it owns.
-use Rattle.tktext_c.proofs.Words.{◌≡◌, Some, List, [], ◌∷◌, ◌++◌, refl, sym, subst, Goes-blank, proved_at, leaves}
+use Rattle.tktext_c.proofs.Common.{◌≡◌, Some, List, [], ◌∷◌, ◌++◌, refl, sym, subst, Goes-blank, proved_at, leaves}
 use mir.Val.{Val, vptr}
 use base.Logic.{SProp, ent, emp, id⊢}
 use prog.Wp.{WpFn}

@@ -1,6 +1,6 @@
 -- `spent` gives the pointer back with what it owns.
-use Rattle.tktext_c.proofs.Words.{List, [], ◌∷◌, ◌++◌, refl, sym, subst, Goes-blank, proved_at, leaves, Ptr-Good}
-use Rattle.tktext_c.proofs.Words.{and_tt}
+use Rattle.tktext_c.proofs.Common.{List, [], ◌∷◌, ◌++◌, refl, sym, subst, Goes-blank, proved_at, leaves, Ptr-Good}
+use Rattle.tktext_c.proofs.Common.{and_tt}
 use mir.Val.{Val, vunit}
 use base.Logic.{SProp, ent, id⊢}
 use prog.Wp.{WpFn}

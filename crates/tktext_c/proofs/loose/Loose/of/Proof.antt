@@ -1,6 +1,6 @@
 -- `of` takes the box apart.
-use Rattle.tktext_c.proofs.Words.{◌≡◌, List, [], ◌∷◌, ◌++◌, refl, sym, ap, ◌∙◌, subst, Goes-blank, handle_tells, fm}
-use Rattle.tktext_c.proofs.Words.{box_owns, box_out, box_in, proved_at, leaves}
+use Rattle.tktext_c.proofs.Common.{◌≡◌, List, [], ◌∷◌, ◌++◌, refl, sym, ap, ◌∙◌, subst, Goes-blank, handle_tells, fm}
+use Rattle.tktext_c.proofs.Common.{box_owns, box_out, box_in, proved_at, leaves}
 use mir.Syntax.{a_type, dcons, dnil}
 use mir.Raw.{raw as bare}
 use mir.Val.{Val, vptr, vstruct, of_list}

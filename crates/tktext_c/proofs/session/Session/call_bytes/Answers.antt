@@ -1,4 +1,4 @@
-use Rattle.tktext_c.proofs.Words.{ap, refl, Err, texts_of, state_of, memory_said}
+use Rattle.tktext_c.proofs.Common.{ap, refl, Err, texts_of, state_of, memory_said}
 use Rattle.tktext_c.proofs.ToldLaws.{called-both, called_otherwise-both, memory-no_answer, not_text-no_answer}
 use Rattle.tktext_c.proofs.ToldLaws.{wrong_lengths-no_answer}
 use Rattle.tktext_c.specs.declared.ends.Given.TheVariants as given

@@ -1,4 +1,4 @@
-use Rattle.tktext_c.proofs.Words.{ap, texts_of, state_of}
+use Rattle.tktext_c.proofs.Common.{ap, texts_of, state_of}
 use Rattle.tktext_c.proofs.ToldLaws.{gives_told-answer, gives_told-fault}
 use Rattle.tktext_c.proofs.session.Session.call_told.Goals as goal
 

@@ -1,4 +1,4 @@
-use Rattle.tktext_c.proofs.Words.{place_of}
+use Rattle.tktext_c.proofs.Common.{place_of}
 use Rattle.tktext_c.proofs.ReadLaws.{read-found, read-none}
 use Rattle.tktext_c.proofs.session.Session.change_place.Goals as goal
 

@@ -1,4 +1,4 @@
-use Rattle.tktext_c.proofs.Words.{◌∙◌, spot_in}
+use Rattle.tktext_c.proofs.Common.{◌∙◌, spot_in}
 use Rattle.tktext_c.proofs.ReadLaws.{read-found, read-none}
 use Rattle.tktext_c.proofs.session.Session.change_spot.Goals as goal
 

@@ -1,4 +1,4 @@
-use Rattle.tktext_c.proofs.Words.{sym, ◌∙◌, option_map, bytes_of, text_told}
+use Rattle.tktext_c.proofs.Common.{sym, ◌∙◌, option_map, bytes_of, text_told}
 use Rattle.edit_ops.specs.declared.changes.TextChange.{TextChange}
 use Rattle.tktext_c.proofs.ReadLaws.{read-found, read-none}
 use Rattle.tktext_c.proofs.RoomLaws.{copied-as, copied-nothing}

@@ -1,4 +1,4 @@
-use Rattle.tktext_c.proofs.Words.{mark_told}
+use Rattle.tktext_c.proofs.Common.{mark_told}
 use Rattle.tktext_c.proofs.ReadLaws.{mark-found, no-mark}
 use Rattle.tktext_c.proofs.RoomLaws.{copied-as, copied-nothing}
 use Rattle.tktext_c.proofs.session.Session.copy_mark.Goals as goal

@@ -1,5 +1,5 @@
-use Rattle.tktext_c.proofs.Words.{sym, ap, ◌∙◌, encodes-chars, encode_utf8_all, option_map, bytes_of, tag_widget}
-use Rattle.tktext_c.proofs.Words.{widget_told}
+use Rattle.tktext_c.proofs.Common.{sym, ap, ◌∙◌, encodes-chars, encode_utf8_all, option_map, bytes_of, tag_widget}
+use Rattle.tktext_c.proofs.Common.{widget_told}
 use Rattle.tktext_c.proofs.ReadLaws.{read-found, read-none}
 use Rattle.tktext_c.proofs.RoomLaws.{copied-as, copied-nothing}
 use Rattle.tktext_c.proofs.session.Session.copy_tag_widget.Goals as goal

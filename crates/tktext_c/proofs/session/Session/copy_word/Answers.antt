@@ -1,4 +1,4 @@
-use Rattle.tktext_c.proofs.Words.{texts_of, word_given}
+use Rattle.tktext_c.proofs.Common.{texts_of, word_given}
 use Rattle.tktext_c.proofs.ReadLaws.{word-found, no-word}
 use Rattle.tktext_c.proofs.RoomLaws.{copied-as, copied-nothing}
 use Rattle.tktext_c.proofs.session.Session.copy_word.Goals as goal

@@ -1,4 +1,4 @@
-use Rattle.tktext_c.proofs.Words.{span_in}
+use Rattle.tktext_c.proofs.Common.{span_in}
 use Rattle.tktext_c.proofs.ReadLaws.{read-found, read-none}
 use Rattle.tktext_c.proofs.session.Session.tag_span.Goals as goal
 

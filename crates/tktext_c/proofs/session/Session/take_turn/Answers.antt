@@ -1,4 +1,4 @@
-use Rattle.tktext_c.proofs.Words.{◌≢◌, [], ap, rules, Err, texts_of, state_of}
+use Rattle.tktext_c.proofs.Common.{◌≢◌, [], ap, rules, Err, texts_of, state_of}
 use Rattle.tcl_words.specs.declared.fault.ScriptFault.TheVariants.{Memory}
 use Rattle.tktext_c.proofs.ToldLaws.{turned-both, turned_otherwise-both, turns-back, turns-end, turns-fault}
 use Rattle.tktext_c.proofs.ToldLaws.{end-no_answer}

@@ -1,4 +1,4 @@
-use Rattle.toggle_sums.proofs.Words.{sym, ap, ◌∙◌}
+use Rattle.toggle_sums.proofs.Common.{sym, ap, ◌∙◌}
 use Rattle.toggle_sums.proofs.ExchangeLaws.{part-same, part_of-union}
 use Rattle.toggle_sums.proofs.exchange.Exchange.compare.Goals.{then-self, else-self}
 use Rattle.std.specs.FinSet as set

@@ -1,4 +1,4 @@
-use Rattle.toggle_sums.proofs.Words.{◌+◌, sym, differing-empty, union-empty}
+use Rattle.toggle_sums.proofs.Common.{◌+◌, sym, differing-empty, union-empty}
 use Rattle.toggle_sums.proofs.sums.Sums.add_counts.Goals as goal
 
 pub returns : goal.returns

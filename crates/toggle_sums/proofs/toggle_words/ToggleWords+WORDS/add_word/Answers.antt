@@ -1,6 +1,6 @@
-use Rattle.toggle_sums.proofs.Words.{◌≡◌, ◌<◌, ◌∙◌, ap, sym, bit_or, bit_xor, length, length-set, slice_index}
-use Rattle.toggle_sums.proofs.Words.{slice_set, alone, slots_in, AreWords-alone, differing, WORDS, differing-empty}
-use Rattle.toggle_sums.proofs.Words.{union-empty, slots_of}
+use Rattle.toggle_sums.proofs.Common.{◌≡◌, ◌<◌, ◌∙◌, ap, sym, bit_or, bit_xor, length, length-set, slice_index}
+use Rattle.toggle_sums.proofs.Common.{slice_set, alone, slots_in, AreWords-alone, differing, WORDS, differing-empty}
+use Rattle.toggle_sums.proofs.Common.{union-empty, slots_of}
 use Rattle.text_model.proofs.OneWordSteps.{turned-word}
 use Rattle.toggle_sums.proofs.UsedLaws.{last_used-set, some_of}
 use Rattle.toggle_sums.proofs.WordSteps.{AreWords-differing, AreWords-joined, joined-word, slots_in-none}

@@ -1,4 +1,4 @@
-use Rattle.toggle_sums.proofs.Words.{WORDS}
+use Rattle.toggle_sums.proofs.Common.{WORDS}
 use Rattle.toggle_sums.proofs.UsedLaws.{ends-parity, used-le}
 use Rattle.toggle_sums.proofs.toggle_words.ToggleWords+WORDS.turn_odd_slots.Goals as goal
 

@@ -1,5 +1,5 @@
-use Rattle.toggle_sums.proofs.Words.{rules, ap, bit_or, bit_xor, refl, sym, ◌∙◌, differing, differing-empty}
-use Rattle.toggle_sums.proofs.Words.{union-empty, ToggleSets}
+use Rattle.toggle_sums.proofs.Common.{rules, ap, bit_or, bit_xor, refl, sym, ◌∙◌, differing, differing-empty}
+use Rattle.toggle_sums.proofs.Common.{union-empty, ToggleSets}
 use Rattle.toggle_sums.proofs.UsedLaws.{EndBy-both, ends-parity, ends-presence, max-le, none_toggled, used-le}
 use Rattle.toggle_sums.proofs.WordSteps.{AreWords-differing, AreWords-joined, slots_of-differing, slots_of-joined}
 use Rattle.std.specs.FinSet as set

@@ -1,4 +1,4 @@
-use Rattle.toggle_sums.proofs.Words.{◌∙◌, ap, sym, arith, nat_tests, ToggleSets}
+use Rattle.toggle_sums.proofs.Common.{◌∙◌, ap, sym, arith, nat_tests, ToggleSets}
 use Rattle.toggle_sums.proofs.UsedLaws.{none_toggled, none_used}
 use Rattle.toggle_sums.proofs.toggle_words.ToggleWords.is_bare.Goals as goal
 

@@ -1,4 +1,4 @@
-use Rattle.toggle_sums.proofs.Words.{◌∙◌, ap, sym, bytes_eq-Decides, ToggleSets, slots_of}
+use Rattle.toggle_sums.proofs.Common.{◌∙◌, ap, sym, bytes_eq-Decides, ToggleSets, slots_of}
 use Rattle.toggle_sums.proofs.UsedLaws.{same_used}
 use Rattle.toggle_sums.proofs.WordSteps.{same_words}
 use Rattle.toggle_sums.proofs.toggle_words.ToggleWords.is_level.Goals as goal

@@ -1,5 +1,5 @@
-use Rattle.toggle_sums.proofs.Words.{rules, ◌≡◌, ◌∙◌, ap, sym, bytes_eq-Decides, ToggleSets, slots_of, words_of}
-use Rattle.toggle_sums.proofs.Words.{words_of-slots_of}
+use Rattle.toggle_sums.proofs.Common.{rules, ◌≡◌, ◌∙◌, ap, sym, bytes_eq-Decides, ToggleSets, slots_of, words_of}
+use Rattle.toggle_sums.proofs.Common.{words_of-slots_of}
 use Rattle.toggle_sums.proofs.UsedLaws.{ends-presence, used-le}
 use Rattle.toggle_sums.proofs.WordSteps.{AreWords-joined, slots_of-joined}
 use Rattle.std.specs.FinSet as set

@@ -1,5 +1,5 @@
-use Rattle.toggle_sums.proofs.Words.{rules, ap, bit_xor, refl, sym, ◌∙◌, differing, differing-empty, ToggleSets}
-use Rattle.toggle_sums.proofs.Words.{slots_of}
+use Rattle.toggle_sums.proofs.Common.{rules, ap, bit_xor, refl, sym, ◌∙◌, differing, differing-empty, ToggleSets}
+use Rattle.toggle_sums.proofs.Common.{slots_of}
 use Rattle.toggle_sums.proofs.UsedLaws.{EndBy-both, EndBy-max, ends-parity, ends-presence, max-le, none_toggled}
 use Rattle.toggle_sums.proofs.UsedLaws.{used-le}
 use Rattle.toggle_sums.proofs.WordSteps.{AreWords-differing, slots_of-differing}

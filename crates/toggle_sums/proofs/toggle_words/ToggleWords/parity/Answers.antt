@@ -1,4 +1,4 @@
-use Rattle.toggle_sums.proofs.Words.{◌∙◌, ap, ToggleSets}
+use Rattle.toggle_sums.proofs.Common.{◌∙◌, ap, ToggleSets}
 use Rattle.toggle_sums.proofs.WordSteps.{found_bit}
 use Rattle.std.specs.FinSet as set
 use Rattle.toggle_sums.proofs.toggle_words.ToggleWords.parity.Goals as goal

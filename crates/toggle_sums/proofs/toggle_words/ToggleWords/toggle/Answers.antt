@@ -1,4 +1,4 @@
-use Rattle.toggle_sums.proofs.Words.{rules, ◌/◌, arith}
+use Rattle.toggle_sums.proofs.Common.{rules, ◌/◌, arith}
 use Rattle.toggle_sums.proofs.UsedLaws.{EndBy-set, ends-parity, ends-presence, max-le, used-le}
 use Rattle.toggle_sums.proofs.WordSteps.{AreWords-or, AreWords-xor, slots_of-or, slots_of-xor}
 use Rattle.toggle_sums.proofs.toggle_words.ToggleWords.toggle.Goals as goal

@@ -1,4 +1,4 @@
-use Rattle.undo_stack.proofs.Words.{◌≡◌, ◌+◌, ◌-◌, sym, ap, ◌∙◌, arith, times, counted_up}
+use Rattle.undo_stack.proofs.Common.{◌≡◌, ◌+◌, ◌-◌, sym, ap, ◌∙◌, arith, times, counted_up}
 use Rattle.undo_stack.proofs.CountLaws.{times-left}
 use Rattle.undo_stack.proofs.counts.ModifiedCount.repeat.Goals as goal
 

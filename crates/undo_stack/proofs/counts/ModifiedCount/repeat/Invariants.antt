@@ -1,4 +1,4 @@
-use Rattle.undo_stack.proofs.Words.{◌≡◌, ◌-◌, times, counted_up}
+use Rattle.undo_stack.proofs.Common.{◌≡◌, ◌-◌, times, counted_up}
 use Rattle.undo_stack.proofs.counts.ModifiedCount.repeat.Given as goal
 
 abbrev pub invariant-loop : goal.invariant-loop

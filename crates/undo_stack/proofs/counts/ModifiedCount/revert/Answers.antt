@@ -1,4 +1,4 @@
-use Rattle.undo_stack.proofs.Words.{◌≡◌, ◌+◌, ◌-◌, sym, ap, ◌∙◌, arith, times, counted_down}
+use Rattle.undo_stack.proofs.Common.{◌≡◌, ◌+◌, ◌-◌, sym, ap, ◌∙◌, arith, times, counted_down}
 use Rattle.undo_stack.proofs.CountLaws.{times-left}
 use Rattle.undo_stack.proofs.counts.ModifiedCount.revert.Goals as goal
 

@@ -1,4 +1,4 @@
-use Rattle.undo_stack.proofs.Words.{◌+◌, ◌∙◌, false, ap, ap₂, joined, Kept, history_of}
+use Rattle.undo_stack.proofs.Common.{◌+◌, ◌∙◌, false, ap, ap₂, joined, Kept, history_of}
 use Rattle.undo_stack.proofs.RingLaws.{none-undone, begins-group, begun}
 use Rattle.undo_stack.proofs.stack.UndoStack.begin_group.Goals as goal
 

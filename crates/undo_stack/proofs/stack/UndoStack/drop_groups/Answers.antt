@@ -1,4 +1,4 @@
-use Rattle.undo_stack.proofs.Words.{◌≡◌, ◌-◌, List, length, drop, ap, ◌∙◌, arith, length-drop, Action, History}
+use Rattle.undo_stack.proofs.Common.{◌≡◌, ◌-◌, List, length, drop, ap, ◌∙◌, arith, length-drop, Action, History}
 use Rattle.undo_stack.proofs.RingLaws.{drop-one_more}
 use Rattle.undo_stack.proofs.stack.UndoStack.drop_groups.Goals as goal
 

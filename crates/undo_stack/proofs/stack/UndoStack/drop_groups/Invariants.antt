@@ -1,4 +1,4 @@
-use Rattle.undo_stack.proofs.Words.{◌≡◌, ◌≤◌, drop}
+use Rattle.undo_stack.proofs.Common.{◌≡◌, ◌≤◌, drop}
 use Rattle.undo_stack.proofs.stack.UndoStack.drop_groups.Given as goal
 
 abbrev pub invariant-loop : goal.invariant-loop

@@ -1,4 +1,4 @@
-use Rattle.undo_stack.proofs.Words.{◌≡◌, ◌<◌, ◌-◌, length, drop, sym, ap, ◌∙◌, arith, Kept, history_of}
+use Rattle.undo_stack.proofs.Common.{◌≡◌, ◌<◌, ◌-◌, length, drop, sym, ap, ◌∙◌, arith, Kept, history_of}
 use Rattle.undo_stack.proofs.RingLaws.{pops, count-groups, first-within, oldest-goes, oldest-gone}
 use Rattle.undo_stack.proofs.stack.UndoStack.drop_oldest.Goals as goal
 

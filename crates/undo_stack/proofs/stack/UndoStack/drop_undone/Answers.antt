@@ -1,4 +1,4 @@
-use Rattle.undo_stack.proofs.Words.{◌∙◌, [], ap, ap₂, arith, Kept, history_of}
+use Rattle.undo_stack.proofs.Common.{◌∙◌, [], ap, ap₂, arith, Kept, history_of}
 use Rattle.undo_stack.proofs.RingLaws.{undone-goes, part-within}
 use Rattle.undo_stack.proofs.stack.UndoStack.drop_undone.Goals as goal
 

@@ -1,4 +1,4 @@
-use Rattle.undo_stack.proofs.Words.{◌≡◌, length, drop, sym, ap, ◌∙◌, arith, newest, Kept}
+use Rattle.undo_stack.proofs.Common.{◌≡◌, length, drop, sym, ap, ◌∙◌, arith, newest, Kept}
 use Rattle.undo_stack.proofs.RingLaws.{count-groups, newest-past}
 use Rattle.undo_stack.proofs.stack.UndoStack.extra_groups.Goals as goal
 

@@ -1,4 +1,4 @@
-use Rattle.undo_stack.proofs.Words.{◌+◌, ◌∙◌, true, ap, ap₂, arith, joined, Kept, history_of}
+use Rattle.undo_stack.proofs.Common.{◌+◌, ◌∙◌, true, ap, ap₂, arith, joined, Kept, history_of}
 use Rattle.undo_stack.proofs.RingLaws.{none-undone, joins-group, joined-on, pops-last}
 use Rattle.undo_stack.proofs.stack.UndoStack.join_group.Goals as goal
 

@@ -1,4 +1,4 @@
-use Rattle.undo_stack.proofs.Words.{◌<◌, Some, length, sym, ap, ◌∙◌, arith, next_redo, Kept}
+use Rattle.undo_stack.proofs.Common.{◌<◌, Some, length, sym, ap, ◌∙◌, arith, next_redo, Kept}
 use Rattle.undo_stack.proofs.BorderLaws.{next-moves}
 use Rattle.undo_stack.proofs.stack.UndoStack.last_redo.Goals as goal
 

@@ -1,4 +1,4 @@
-use Rattle.undo_stack.proofs.Words.{Some, sym, ap, ◌∙◌, next_undo, Kept}
+use Rattle.undo_stack.proofs.Common.{Some, sym, ap, ◌∙◌, next_undo, Kept}
 use Rattle.undo_stack.proofs.BorderLaws.{last-moves}
 use Rattle.undo_stack.proofs.stack.UndoStack.last_undo.Goals as goal
 

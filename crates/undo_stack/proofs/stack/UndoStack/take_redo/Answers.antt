@@ -1,5 +1,5 @@
-use Rattle.undo_stack.proofs.Words.{◌<◌, length, take, drop, sym, ap, ap₂, ◌∙◌, arith, next_redo, after_redo, limited}
-use Rattle.undo_stack.proofs.Words.{times, counted_up, Kept}
+use Rattle.undo_stack.proofs.Common.{◌<◌, length, take, drop, sym, ap, ap₂, ◌∙◌, arith, next_redo, after_redo, limited}
+use Rattle.undo_stack.proofs.Common.{times, counted_up, Kept}
 use Rattle.undo_stack.proofs.BorderLaws.{next-moves}
 use Rattle.undo_stack.proofs.stack.UndoStack.take_redo.Goals as goal
 

@@ -1,5 +1,5 @@
-use Rattle.undo_stack.proofs.Words.{◌-◌, take, drop, refl, sym, ap, ap₂, ◌∙◌, next_undo, after_undo, times}
-use Rattle.undo_stack.proofs.Words.{counted_down, Kept}
+use Rattle.undo_stack.proofs.Common.{◌-◌, take, drop, refl, sym, ap, ap₂, ◌∙◌, next_undo, after_undo, times}
+use Rattle.undo_stack.proofs.Common.{counted_down, Kept}
 use Rattle.undo_stack.proofs.BorderLaws.{last-moves}
 use Rattle.undo_stack.proofs.stack.UndoStack.take_undo.Goals as goal
 

@@ -1,4 +1,4 @@
--- The words that most proofs of this crate cite, passed on from one place. Declares nothing.
+-- The names that most proofs of this crate cite, passed on from one place. Declares nothing.
 pub use Rattle.std.proofs.Common.{[], true≢false, ℕ, ◌++◌, ◌+◌, ◌<◌, ◌∙◌, ◌∷◌, ◌≡◌, ◌≢◌, ◌≤◌, ◌⊎◌, Bool, Err, IsSome}
 pub use Rattle.std.proofs.Common.{IsUtf8, List, None, Option, Some, String, ap, append_assoc, arith, chars, drop, false}
 pub use Rattle.std.proofs.Common.{get_or, inl, inr, length, min, option_map, refl, rules, string_bytes, subst, suc, sym}

@@ -1,4 +1,4 @@
--- The words that most proofs of this crate cite, passed on from one place. Declares nothing.
+-- The names that most proofs of this crate cite, passed on from one place. Declares nothing.
 pub use Rattle.std.proofs.Common.{[], ap₂, ℕ, ◌&&◌, ◌++◌, ◌+◌, ◌-◌, ◌<◌, ◌==◌, ◌^◌, ◌∙◌, ◌∷◌, ◌≡◌, ◌≢◌, ◌≤◌, Bool, Err}
 pub use Rattle.std.proofs.Common.{List, None, Ok, Option, Some, ap, arith, cond, drop, drop-drop, false, get_or, inl}
 pub use Rattle.std.proofs.Common.{inr, le-ltb, length, length-drop, lt-ltb, map, max, min, nat_lt, ne_eqb, not, refl}

@@ -1,4 +1,4 @@
--- The words that most proofs of this crate cite, passed on from one place. Declares nothing.
+-- The names that most proofs of this crate cite, passed on from one place. Declares nothing.
 pub use Rattle.std.proofs.Common.{[], ℕ, ◌*◌, ◌++◌, ◌+◌, ◌-◌, ◌<◌, ◌||◌, ◌∙◌, ◌∷◌, ◌≡◌, ◌≢◌, ◌≤◌, ◌⊎◌, Bool, List, None}
 pub use Rattle.std.proofs.Common.{Option, Some, ap, append_assoc, arith, cond, encode_utf8_all, false, inl, inr, length}
 pub use Rattle.std.proofs.Common.{length-append, not, refl, rules, suc, sym, take, true}

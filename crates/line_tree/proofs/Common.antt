@@ -1,4 +1,4 @@
--- The words that most proofs of this crate cite, passed on from one place. Declares nothing.
+-- The names that most proofs of this crate cite, passed on from one place. Declares nothing.
 pub use Rattle.std.proofs.Common.{[], ap₂, lit≤, ℕ, ◌*◌, ◌++◌, ◌+◌, ◌-◌, ◌/◌, ◌<◌, ◌^◌, ◌||◌, ◌∙◌, ◌∷◌, ◌≡◌, ◌≢◌, ◌≤◌}
 pub use Rattle.std.proofs.Common.{◌⊎◌, Bool, Err, IfSome, IsSome, List, MatchOption, None, Ok, OnOk, OnSome, Option}
 pub use Rattle.std.proofs.Common.{Result, Some, Vec, ap, append_assoc, arith, chars, cond, drop, drop-drop, false}

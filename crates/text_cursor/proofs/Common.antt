@@ -1,4 +1,4 @@
--- The words that most proofs of this crate cite, passed on from one place. Declares nothing.
+-- The names that most proofs of this crate cite, passed on from one place. Declares nothing.
 pub use Rattle.std.proofs.Common.{[], ap₂, ℕ, ◌++◌, ◌+◌, ◌-◌, ◌/◌, ◌<◌, ◌∙◌, ◌∷◌, ◌≡◌, ◌≤◌, Bool, List, None, Option}
 pub use Rattle.std.proofs.Common.{Some, ap, append_assoc, arith, cond, drop, eq-eqb, false, get_or, length}
 pub use Rattle.std.proofs.Common.{length-append, length-drop, length-take, map, ne_eqb, refl, subst, suc, sym, take}

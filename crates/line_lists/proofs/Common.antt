@@ -1,4 +1,4 @@
--- The words that most proofs of this crate cite, passed on from one place. Declares nothing.
+-- The names that most proofs of this crate cite, passed on from one place. Declares nothing.
 pub use Rattle.std.proofs.Common.{[], ap₂, subst₂, ℕ, ◌&&◌, ◌++◌, ◌+◌, ◌-◌, ◌<◌, ◌==◌, ◌^◌, ◌||◌, ◌∙◌, ◌∷◌, ◌≡◌, ◌≢◌}
 pub use Rattle.std.proofs.Common.{◌≤◌, ◌⊎◌, Bool, Err, Global, IfNone, IfSome, List, None, Ok, Option, Result, Some, T}
 pub use Rattle.std.proofs.Common.{Vec, add-one, ap, append_assoc, arith, chars, cond, drop, eqb-true, false, get_or}

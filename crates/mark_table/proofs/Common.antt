@@ -1,4 +1,4 @@
--- The words that most proofs of this crate cite, passed on from one place. Declares nothing.
+-- The names that most proofs of this crate cite, passed on from one place. Declares nothing.
 pub use Rattle.std.proofs.Common.{[], ap₂, if◌then◌else◌, true≢false, ℕ, ◌&&◌, ◌*◌, ◌++◌, ◌+◌, ◌-◌, ◌<◌, ◌==◌, ◌∙◌, ◌∷◌}
 pub use Rattle.std.proofs.Common.{◌≡◌, ◌≢◌, ◌≤◌, ◌⊎◌, Bool, Contains, List, None, Option, Ordering, Some, T, ap, arith}
 pub use Rattle.std.proofs.Common.{cond, eq-eqb, false, inl, inr, le-ltb, length, length-append, length-set, lt-ltb, map}

@@ -1,4 +1,4 @@
--- The words that most proofs of this crate cite, passed on from one place. Declares nothing.
+-- The names that most proofs of this crate cite, passed on from one place. Declares nothing.
 pub use Rattle.std.proofs.Common.{[], ap₂, ℕ, ◌&&◌, ◌++◌, ◌+◌, ◌-◌, ◌<◌, ◌∙◌, ◌∷◌, ◌≡◌, ◌≤◌, Bool, List, None, Option}
 pub use Rattle.std.proofs.Common.{Some, ap, append_assoc, arith, drop, false, get_or, le-leb, length, length-append}
 pub use Rattle.std.proofs.Common.{length-drop, length-take, lt-ltb, ne_eqb, refl, suc, sym, take, take_all, true, zero}

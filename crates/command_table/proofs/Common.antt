@@ -1,4 +1,4 @@
--- The words that most proofs of this crate cite, passed on from one place. Declares nothing.
+-- The names that most proofs of this crate cite, passed on from one place. Declares nothing.
 pub use Rattle.std.proofs.Common.{[], ap₂, ℕ, ◌&&◌, ◌++◌, ◌+◌, ◌<◌, ◌^◌, ◌∙◌, ◌∷◌, ◌≡◌, ◌≤◌, Bool, List, None, Option}
 pub use Rattle.std.proofs.Common.{Some, add-one, ap, append_assoc, arith, chars, cond, drop, false, filter, get_or}
 pub use Rattle.std.proofs.Common.{le-leb, length, map, refl, subst, suc, sym, take, take_all, to_z, true, w32, zero}

@@ -1,4 +1,4 @@
--- The words that most proofs of this crate cite, passed on from one place. Declares nothing.
+-- The names that most proofs of this crate cite, passed on from one place. Declares nothing.
 pub use Rattle.std.proofs.Common.{[], if◌then◌else◌, ℕ, ◌&&◌, ◌*◌, ◌++◌, ◌+◌, ◌-◌, ◌/◌, ◌<◌, ◌==◌, ◌||◌, ◌∙◌, ◌∷◌, ◌≡◌}
 pub use Rattle.std.proofs.Common.{◌≢◌, ◌≤◌, Bool, List, None, Option, Some, ap, append_assoc, arith, cond, drop, false}
 pub use Rattle.std.proofs.Common.{get_or, length, length-drop, map, min, not, refl, suc, sym, take, true, vec_len, zero}

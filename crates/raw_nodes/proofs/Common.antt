@@ -1,4 +1,4 @@
--- The words that most proofs of this crate cite, passed on from one place. Declares nothing.
+-- The names that most proofs of this crate cite, passed on from one place. Declares nothing.
 pub use Rattle.std.proofs.Common.{[], ap₂, ℕ, ◌++◌, ◌+◌, ◌-◌, ◌<◌, ◌^◌, ◌∙◌, ◌∷◌, ◌≡◌, ◌≤◌, ◌⊎◌, Bool, List, None}
 pub use Rattle.std.proofs.Common.{Option, Some, ap, arith, cond, count_by, drop, false, get_or, inl, inr, is_some}
 pub use Rattle.std.proofs.Common.{length, length-append, map, max, min, refl, replicate, set, subst, suc, sym, true}
