@@ -1,4 +1,4 @@
-use Rattle.text_index.proofs.Common.{◌≡◌, ◌≤◌, length, sym, ◌∙◌, characters, lines, line_start, shown}
+use Rattle.text_index.proofs.Common.{◌≡◌, ◌≤◌, length, sym, ◌∙◌, lines, line_start, shown}
 use Rattle.text_index.proofs.StartLaws.{none-on, past-start}
 use Rattle.text_index.proofs.ViewLaws.{length-shown}
 use Rattle.text_index.proofs.values.character_on.Goals as goal
@@ -10,7 +10,6 @@ returns-in-None-clause-value g c =
     let text = shown content view.s view.e in
     let long = length-shown content view.s view.e c.requires in
     let past : lines text ≤ c.args.line → line_start c.args.line text ≡ length text =
-    λ over. past-start (characters content.cells) view.s view.e c.requires.first c.requires.behind c.requires.ordered
-    long c.args.line over ∙ sym long in
+    λ over. past-start c.requires c.args.line over ∙ sym long in
     let over = c.line_bounds.ensures.none c.in-None.is in
     none-on text c.args.line c.args.character c.len.result past over (c.len.ensures ∙ sym (past over))

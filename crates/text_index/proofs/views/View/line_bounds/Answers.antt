@@ -1,134 +1,45 @@
-use Rattle.text_index.proofs.Common.{◌≡◌, ◌+◌, ◌-◌, ap, ◌∙◌, arith, characters, line_of, line_start}
-use Rattle.text_index.proofs.StartLaws.{ends-behind, ends-within, none-shown, start-after, start-within}
-use Rattle.text_index.proofs.ViewLaws.{length-shown}
+use Rattle.text_index.proofs.StartLaws.{begins-after, ends-after, ends-behind, ends-within, none-shown, number-is}
+use Rattle.text_index.proofs.StartLaws.{start-within}
 use Rattle.text_index.proofs.views.View.line_bounds.Goals as goal
 
 pub returns-then-number-lines-clause-none : goal.returns-then-number-lines-clause-none
-returns-then-number-lines-clause-none g c =
-    let view = c.args.self.now in
-    let content = g.S.TextStore.content view.store.now in
-    let text = characters content.cells in
-    λ _. (none-shown text view.s view.e c.requires.first c.requires.behind c.requires.ordered
-    (length-shown content view.s view.e c.requires) c.args.line
-    (omega (arith, c.if-number-lines.true, c.saturating_add-number.ensures, c.first_line.ensures, c.lines.ensures))).0
+returns-then-number-lines-clause-none g c = λ _.
+    (none-shown c.requires c.args.line c.first_line.ensures c.saturating_add-number.ensures c.lines.ensures
+    c.if-number-lines.true).0
 
 pub returns-then-self-behind-clause-none : goal.returns-then-self-behind-clause-none
-returns-then-self-behind-clause-none g c =
-    let view = c.args.self.now in
-    let content = g.S.TextStore.content view.store.now in
-    let text = characters content.cells in
-    let number : c.saturating_add-number.result + 1 ≡ line_of text view.s + c.args.line + 1 =
-    omega (
-      arith,
-      c.if-number-lines.false,
-      c.saturating_add-number.ensures,
-      c.first_line.ensures,
-      c.lines.ensures,
-      c.lines.type_inv,
-    ) in
-    let is = c.line_bounds-start.ensures.end ∙ ap (λ k. line_start k text) number in
-    λ _. ends-behind text view.s view.e c.requires.first c.requires.behind c.requires.ordered
-    (length-shown content view.s view.e c.requires) c.args.line (omega (arith, c.if-self-behind.true, is))
+returns-then-self-behind-clause-none g c = λ _.
+    let number = number-is c.requires c.args.line c.first_line.ensures c.saturating_add-number.ensures c.lines.ensures
+    c.lines.type_inv c.if-number-lines.false in
+    ends-behind c.requires number c.line_bounds-start.ensures.end c.if-self-behind.true
 
 pub overflow_sub-result : goal.overflow_sub-result
 overflow_sub-result g c =
-    let view = c.args.self.now in
-    let content = g.S.TextStore.content view.store.now in
-    let text = characters content.cells in
-    let number : c.saturating_add-number.result ≡ line_of text view.s + c.args.line =
-    omega (
-      arith,
-      c.if-number-lines.false,
-      c.saturating_add-number.ensures,
-      c.first_line.ensures,
-      c.lines.ensures,
-      c.lines.type_inv,
-    ) in
-    let is = c.line_bounds-start.ensures.start ∙ ap (λ k. line_start k text) number in
-    omega (
-      arith,
-      start-after text view.s view.e c.requires.first c.requires.behind c.requires.ordered
-          (length-shown content view.s view.e c.requires) c.args.line,
-      is,
-    )
+    let number = number-is c.requires c.args.line c.first_line.ensures c.saturating_add-number.ensures c.lines.ensures
+    c.lines.type_inv c.if-number-lines.false in
+    begins-after c.requires number c.line_bounds-start.ensures.start
 
 pub overflow_sub-result-2 : goal.overflow_sub-result-2
 overflow_sub-result-2 g c =
-    let view = c.args.self.now in
-    let content = g.S.TextStore.content view.store.now in
-    let text = characters content.cells in
-    let number : c.saturating_add-number.result + 1 ≡ line_of text view.s + (c.args.line + 1) =
-    omega (
-      arith,
-      c.if-number-lines.false,
-      c.saturating_add-number.ensures,
-      c.first_line.ensures,
-      c.lines.ensures,
-      c.lines.type_inv,
-    ) in
-    let is = c.line_bounds-start.ensures.end ∙ ap (λ k. line_start k text) number in
-    omega (
-      arith,
-      start-after text view.s view.e c.requires.first c.requires.behind c.requires.ordered
-          (length-shown content view.s view.e c.requires) (c.args.line + 1),
-      is,
-    )
+    let number = number-is c.requires c.args.line c.first_line.ensures c.saturating_add-number.ensures c.lines.ensures
+    c.lines.type_inv c.if-number-lines.false in
+    ends-after c.requires number c.line_bounds-start.ensures.end
 
 pub returns-clause-some : goal.returns-clause-some
 returns-clause-some g c =
-    let view = c.args.self.now in
-    let content = g.S.TextStore.content view.store.now in
-    let text = characters content.cells in
-    let number : c.saturating_add-number.result + 1 ≡ line_of text view.s + c.args.line + 1 =
-    omega (
-      arith,
-      c.if-number-lines.false,
-      c.saturating_add-number.ensures,
-      c.first_line.ensures,
-      c.lines.ensures,
-      c.lines.type_inv,
-    ) in
-    let is = c.line_bounds-start.ensures.end ∙ ap (λ k. line_start k text) number in
-    (ends-within text view.s view.e c.requires.first c.requires.behind c.requires.ordered
-    (length-shown content view.s view.e c.requires) c.args.line
-    (omega (arith, c.if-number-lines.false, c.lines.ensures, number)) (omega (arith, c.if-self-behind.false, is))).0
+    let number = number-is c.requires c.args.line c.first_line.ensures c.saturating_add-number.ensures c.lines.ensures
+    c.lines.type_inv c.if-number-lines.false in
+    (ends-within c.requires number c.line_bounds-start.ensures.end c.if-self-behind.false).0
 
 pub returns-clause-start : goal.returns-clause-start
 returns-clause-start g c =
-    let view = c.args.self.now in
-    let content = g.S.TextStore.content view.store.now in
-    let text = characters content.cells in
-    let number : c.saturating_add-number.result ≡ line_of text view.s + c.args.line =
-    omega (
-      arith,
-      c.if-number-lines.false,
-      c.saturating_add-number.ensures,
-      c.first_line.ensures,
-      c.lines.ensures,
-      c.lines.type_inv,
-    ) in
-    let behind = c.line_bounds-start.ensures.end ∙ ap (λ k. line_start (k + 1) text) number in
-    ap (λ n. n - view.s) (c.line_bounds-start.ensures.start ∙ ap (λ k. line_start k text) number)
-    ∙ start-within text view.s view.e c.requires.first c.requires.behind c.requires.ordered
-    (length-shown content view.s view.e c.requires) c.args.line
-    (omega (arith, c.if-number-lines.false, c.lines.ensures, number)) (omega (arith, c.if-self-behind.false, behind))
+    let number = number-is c.requires c.args.line c.first_line.ensures c.saturating_add-number.ensures c.lines.ensures
+    c.lines.type_inv c.if-number-lines.false in
+    start-within c.requires number c.line_bounds-start.ensures.end c.line_bounds-start.ensures.start
+    c.if-self-behind.false
 
 pub returns-clause-end : goal.returns-clause-end
 returns-clause-end g c =
-    let view = c.args.self.now in
-    let content = g.S.TextStore.content view.store.now in
-    let text = characters content.cells in
-    let number : c.saturating_add-number.result + 1 ≡ line_of text view.s + c.args.line + 1 =
-    omega (
-      arith,
-      c.if-number-lines.false,
-      c.saturating_add-number.ensures,
-      c.first_line.ensures,
-      c.lines.ensures,
-      c.lines.type_inv,
-    ) in
-    let is = c.line_bounds-start.ensures.end ∙ ap (λ k. line_start k text) number in
-    ap (λ n. n - view.s) is
-    ∙ (ends-within text view.s view.e c.requires.first c.requires.behind c.requires.ordered
-    (length-shown content view.s view.e c.requires) c.args.line
-    (omega (arith, c.if-number-lines.false, c.lines.ensures, number)) (omega (arith, c.if-self-behind.false, is))).1
+    let number = number-is c.requires c.args.line c.first_line.ensures c.saturating_add-number.ensures c.lines.ensures
+    c.lines.type_inv c.if-number-lines.false in
+    (ends-within c.requires number c.line_bounds-start.ensures.end c.if-self-behind.false).1

@@ -1,40 +1,16 @@
-use Rattle.text_index.proofs.Common.{ap, ◌∙◌, arith, characters, line_start}
+use Rattle.text_index.proofs.Common.{arith}
 use Rattle.text_index.proofs.StartLaws.{place-start}
-use Rattle.text_index.proofs.ViewLaws.{length-shown}
 use Rattle.text_index.proofs.views.View.start_at.Goals as goal
 
 pub overflow_sub-result : goal.overflow_sub-result
 overflow_sub-result g c =
-    let view = c.args.self.now in
-    let content = g.S.TextStore.content view.store.now in
-    let text = characters content.cells in
-    let there = c.line_at.ensures.start ∙ ap (λ k. line_start k text) c.line_at.ensures.number in
-    omega (
-      arith,
-      there,
-      (place-start text view.s view.e c.requires.view.first c.requires.view.behind c.requires.view.ordered
-          (length-shown content view.s view.e c.requires.view) c.args.place c.requires.within).0,
-    )
+    (place-start c.requires.view c.args.place c.line_at.result c.line_at.ensures c.requires.within).0
 
 pub returns-clause-value : goal.returns-clause-value
 returns-clause-value g c =
-    let view = c.args.self.now in
-    let content = g.S.TextStore.content view.store.now in
-    let text = characters content.cells in
-    let there = c.line_at.ensures.start ∙ ap (λ k. line_start k text) c.line_at.ensures.number in
-    omega (
-      arith,
-      there,
-      (place-start text view.s view.e c.requires.view.first c.requires.view.behind c.requires.view.ordered
-          (length-shown content view.s view.e c.requires.view) c.args.place c.requires.within).2,
-    )
+    (place-start c.requires.view c.args.place c.line_at.result c.line_at.ensures c.requires.within).2
 
 pub returns-clause-bound : goal.returns-clause-bound
 returns-clause-bound g c =
-    let view = c.args.self.now in
-    let content = g.S.TextStore.content view.store.now in
-    let text = characters content.cells in
-    let there = c.line_at.ensures.start ∙ ap (λ k. line_start k text) c.line_at.ensures.number in
-    let is = place-start text view.s view.e c.requires.view.first c.requires.view.behind c.requires.view.ordered
-    (length-shown content view.s view.e c.requires.view) c.args.place c.requires.within in
-    omega (arith, there, is.0, is.1, c.requires.within)
+    let begins = place-start c.requires.view c.args.place c.line_at.result c.line_at.ensures c.requires.within in
+    omega (arith, begins.0, begins.1, c.requires.within)
