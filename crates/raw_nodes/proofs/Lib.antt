@@ -10,6 +10,7 @@ pub mod NameLaws
 pub mod NeighbourLaws
 pub mod PlaceLaws
 pub mod RowLaws
+pub mod StoreLaws
 pub mod UpdateLaws
 pub mod WalkSteps
 pub mod WithoutLaws

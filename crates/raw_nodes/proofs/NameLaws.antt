@@ -7,15 +7,13 @@ use Rattle.raw_nodes.proofs.Common.{before_of, befores_of, behind, flag_of, mark
 use Rattle.raw_nodes.proofs.Common.{link_name, Record, cell_of, cells_of, if_used, inner_record, is_used, nones}
 use Rattle.raw_nodes.proofs.Common.{line_in, record_in, record_of, records_in, records_of, updated, with_child, slot_in}
 use Rattle.raw_nodes.proofs.Common.{with_line, with_parent, with_slot, with_sum, branch_sum, Link, NodePtr, Held, Node}
-use Rattle.raw_nodes.proofs.Common.{Room}
+use Rattle.raw_nodes.proofs.Common.{Room, IsLine, IsRoom, Spare, Line, Inner}
 use lib.ListN.{length-set}
 use mathlib.Core.Bool.{false≢true}
 use Rattle.segments.specs.Columns.{LineContent}
 use Rattle.toggle_sums.specs.ToggleSets.{AreBare, ToggleSets}
-use Rattle.raw_nodes.specs.HeldLending.{IsLine, IsRoom}
 use Rattle.raw_nodes.specs.Records.{update}
 use Rattle.raw_nodes.specs.declared.branch.Branch.{Branch}
-use Rattle.raw_nodes.specs.declared.nodes.Held.TheVariants.{Spare, Line, Inner}
 use Rattle.raw_nodes.proofs.ChainLaws.{cell_is, followed_set, given_cells, made_cells, is_used_at, listed_set}
 use Rattle.raw_nodes.proofs.ChainLaws.{room_moved, used_chain, used_count}
 use Rattle.raw_nodes.proofs.HeapSteps.{any_default}

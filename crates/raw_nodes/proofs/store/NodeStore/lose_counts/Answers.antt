@@ -1,55 +1,33 @@
-use Rattle.raw_nodes.proofs.Common.{◌≡◌, ap, sym, refl, subst, room_in, record_in, with_sum, link_name, HasCounts}
-use Rattle.raw_nodes.proofs.Common.{counting, less, Room}
+use Rattle.raw_nodes.proofs.Common.{ap, refl, sym, subst, less, room_in, record_in, with_sum, link_name, counting}
+use Rattle.raw_nodes.proofs.Common.{HasCounts, Room}
 use Rattle.raw_nodes.specs.Names.{records}
-use Rattle.raw_nodes.proofs.NameLaws.{followed_kept, listed_kept, whole_kept, chain_kept, count_kept, in_use}
-use Rattle.raw_nodes.proofs.NameLaws.{name_place, rewritten, recounted, room_if, rooms_kept, told_entry}
+use Rattle.raw_nodes.proofs.NameLaws.{recounted}
+use Rattle.raw_nodes.proofs.StoreLaws.{changed, has_room, kept, place_of, told}
 use Rattle.raw_nodes.proofs.store.NodeStore.lose_counts.Goals as goal
 
 pub node_mut-requires : goal.node_mut-requires
-unfolding records
-node_mut-requires g c = let h = c.args.self.now.heap in
-    name_place h.places h.values c.args.name h.paired c.requires.name.0
+node_mut-requires g c = place_of c.args.self.now c.args.name c.requires.name.0
 
 pub branch_mut-branch-requires : goal.branch_mut-branch-requires
-unfolding records
 branch_mut-branch-requires g c =
-    let h = c.args.self.now.heap in let p = c.args.name in let x = c.node_mut.result.now in
-    let e = c.node_mut.ensures.value in
-    room_if x.held _ (in_use h.places h.values p x h.paired c.requires.name.0 e)
-    (told_entry h.places h.values p x h.paired c.requires.name.0 e (λ r. r.line ≡ _) c.requires.name.1)
+    has_room c.args.self.now c.args.name c.requires.name.0 c.node_mut.ensures.value c.requires.name.1
 
 pub invariant_of-self : goal.invariant_of-self
-unfolding records
 invariant_of-self g c =
-    let a = c.args.self.now in let h = a.heap in let p = c.args.name in let named = c.requires.name.0 in
-    let x = c.node_mut.result.now in let e = c.node_mut.ensures.value in
-    record {
-      listed = listed_kept h.places h.values p x _ h.paired named e refl a.last refl a.listed;
-      whole = whole_kept h.places h.values p x _ h.paired named e refl a.count a.whole;
-      small = a.small;
-      chained = chain_kept h.places h.values p x _ h.paired named e refl a.spares a.first_spare a.chained;
-      counted = count_kept h.places h.values p x _ h.paired named e refl a.spares a.counted;
-      followed = followed_kept h.places h.values p x _ h.paired named e refl refl a.followed;
-      apart = a.apart;
-      roomed = rooms_kept h.places h.values p x _ h.paired named e refl _ a.room_count
-          (sym (ap room_in c.branch_mut-branch.ensures.value)) a.roomed;
-      fitting = a.fitting;
-    }
+    kept c.args.self.now c.args.name c.requires.name.0 c.node_mut.ensures.value _ refl refl refl
+    (sym (ap room_in c.branch_mut-branch.ensures.value))
 
 pub returns-clause-records : goal.returns-clause-records
 unfolding records
 returns-clause-records g c =
-    let a = c.args.self.now in let h = a.heap in let p = c.args.name in let named = c.requires.name.0 in
-    let x = c.node_mut.result.now in let e = c.node_mut.ensures.value in
-    rewritten h.places h.values p x _ h.paired named e refl (λ r. with_sum r (less c.args.lines c.args.characters c.args.marks r.sum))
-    (recounted x.held c.branch_mut-branch.result.now c.lose_counts.new.self _ (less c.args.lines c.args.characters c.args.marks)
+    let rest = less c.args.lines c.args.characters c.args.marks in
+    changed c.args.self.now c.args.name c.requires.name.0 c.node_mut.ensures.value _ refl (λ r. with_sum r (rest r.sum))
+    (recounted c.node_mut.result.now.held c.branch_mut-branch.result.now c.lose_counts.new.self _ rest
     c.branch_mut-branch.ensures.value (ap (λ (z : Room). z.children) c.lose_counts.ensures.room)
     c.lose_counts.ensures.sum)
 
 pub lose_counts-requires : goal.lose_counts-requires
-unfolding records
 lose_counts-requires g c =
-    let h = c.args.self.now.heap in let p = c.args.name in let x = c.node_mut.result.now in
-    let e = c.node_mut.ensures.value in let gone = counting c.args.lines c.args.characters c.args.marks in
-    subst (λ k. HasCounts gone (record_in k (link_name x.parent)).sum) c.branch_mut-branch.ensures.value
-    (told_entry h.places h.values p x h.paired c.requires.name.0 e (λ r. HasCounts gone r.sum) c.requires.counts)
+    let gone = counting c.args.lines c.args.characters c.args.marks in
+    subst (λ k. HasCounts gone (record_in k (link_name c.node_mut.result.now.parent)).sum) c.branch_mut-branch.ensures.value
+    (told c.args.self.now c.args.name c.requires.name.0 c.node_mut.ensures.value (λ r. HasCounts gone r.sum) c.requires.counts)

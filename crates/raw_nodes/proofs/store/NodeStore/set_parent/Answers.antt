@@ -1,41 +1,24 @@
-use Rattle.raw_nodes.proofs.Common.{ap, refl, ◌∙◌, room_in, link_name, is_used, record_in, with_parent, with_slot}
+use Rattle.raw_nodes.proofs.Common.{ap, refl, ◌∙◌, is_used, link_name, record_in, room_in, with_parent, with_slot}
 use Rattle.raw_nodes.specs.Names.{records}
-use Rattle.raw_nodes.proofs.NameLaws.{followed_kept, listed_kept, whole_kept, chain_kept, count_kept, in_use}
-use Rattle.raw_nodes.proofs.NameLaws.{name_place, parented, rewritten, room_slot, rooms_kept, used_slot}
+use Rattle.raw_nodes.proofs.NameLaws.{parented, room_slot, used_slot}
+use Rattle.raw_nodes.proofs.StoreLaws.{changed, kept, place_of, used}
 use Rattle.raw_nodes.proofs.store.NodeStore.set_parent.Goals as goal
 
 pub node_mut-node-requires : goal.node_mut-node-requires
-unfolding records
-node_mut-node-requires g c = let h = c.args.self.now.heap in
-    name_place h.places h.values c.args.name h.paired c.requires
+node_mut-node-requires g c = place_of c.args.self.now c.args.name c.requires
 
 pub invariant_of-self : goal.invariant_of-self
-unfolding records
 invariant_of-self g c =
-    let a = c.args.self.now in let h = a.heap in let p = c.args.name in let x = c.node_mut-node.result.now in
-    let e = c.node_mut-node.ensures.value in
-    let used = in_use h.places h.values p x h.paired c.requires e in
-    let kept = ap is_used c.set_slot.ensures ∙ used_slot x.held _ ∙ used in
-    record {
-      listed = listed_kept h.places h.values p x _ h.paired c.requires e kept a.last refl a.listed;
-      whole = whole_kept h.places h.values p x _ h.paired c.requires e kept a.count a.whole;
-      small = a.small;
-      chained = chain_kept h.places h.values p x _ h.paired c.requires e kept a.spares a.first_spare a.chained;
-      counted = count_kept h.places h.values p x _ h.paired c.requires e kept a.spares a.counted;
-      followed = followed_kept h.places h.values p x _ h.paired c.requires e kept refl a.followed;
-      apart = a.apart;
-      roomed = rooms_kept h.places h.values p x _ h.paired c.requires e kept _ a.room_count
-          (ap room_in c.set_slot.ensures ∙ room_slot x.held _) a.roomed;
-      fitting = a.fitting;
-    }
+    let held = c.node_mut-node.result.now.held in
+    let stays = ap is_used c.set_slot.ensures ∙ used_slot held _ ∙ used c.args.self.now c.args.name c.requires c.node_mut-node.ensures.value in
+    kept c.args.self.now c.args.name c.requires c.node_mut-node.ensures.value _ stays refl refl (ap room_in c.set_slot.ensures ∙ room_slot held _)
 
 pub returns-clause-records : goal.returns-clause-records
 unfolding records
 returns-clause-records g c =
-    let a = c.args.self.now in let h = a.heap in let p = c.args.name in let x = c.node_mut-node.result.now in
-    let e = c.node_mut-node.ensures.value in
-    let used = in_use h.places h.values p x h.paired c.requires e in
-    let kept = ap is_used c.set_slot.ensures ∙ used_slot x.held _ ∙ used in
-    rewritten h.places h.values p x _ h.paired c.requires e kept (λ r. with_parent r c.args.parent c.args.slot)
+    let held = c.node_mut-node.result.now.held in
+    let used = used c.args.self.now c.args.name c.requires c.node_mut-node.ensures.value in
+    let stays = ap is_used c.set_slot.ensures ∙ used_slot held _ ∙ used in
+    changed c.args.self.now c.args.name c.requires c.node_mut-node.ensures.value _ stays (λ r. with_parent r c.args.parent c.args.slot)
     (ap (λ k. record_in k (link_name c.of-node.result)) c.set_slot.ensures
-    ∙ ap (record_in (with_slot x.held c.args.slot)) c.of-node.ensures ∙ parented x.held _ c.args.parent c.args.slot used)
+    ∙ ap (record_in (with_slot held c.args.slot)) c.of-node.ensures ∙ parented held _ c.args.parent c.args.slot used)
