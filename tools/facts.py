@@ -7,8 +7,8 @@ The commands stand in `command_table/specs/Table.antt`; `docs/model.md` and the 
 the random scripts begin a form with each.  The limits stand in `text_model/specs/LimitTable.antt`.  The crates stand in
 `crates.txt`; the pages on architecture and on what is proved speak of each, and the page of each (`crates/NAME/README.md`)
 of its files of definitions.  A line of code, of a definition or of a page has at most 120 characters, and no name is
-brought in for a contract, a definition or a proof that isn't used there.  Ends in a line `N passed, M failed`; the exit
-status is 1 if anything failed.
+brought in for a contract, a definition or a proof that isn't used there, nor passed on for proofs of which none does.
+Ends in a line `N passed, M failed`; the exit status is 1 if anything failed.
 """
 
 import glob
@@ -32,6 +32,7 @@ OUTPUTS = {os.path.join("docs", name) for name in ("tour.md", "performance.svg",
 LITERAL = re.compile(r'literal "([^"]*)"')
 # Names that a line brings in from the language of proofs: in a file of code one that begins with `ghost`.
 BROUGHT_IN = {".rt": re.compile(r"^\s*ghost use \S+\.\{(.*)\};$"), ".antt": re.compile(r"^\s*use \S+\.\{(.*)\}$")}
+PASSED_ON = re.compile(r"^pub use \S+\.\{(.*)\}$", re.MULTILINE)
 COMMENT = re.compile(r"^\s*(--|//).*$", re.MULTILINE)
 NAME = re.compile(r"[^\W\d][^\s(){}\[\];,.:]*")
 OPERATOR = re.compile(r"◌|^\W")
@@ -262,6 +263,19 @@ def check_names(tally):
                 tally.check(not unused, f"{name} brings in {', '.join(unused)}, and doesn't use it")
 
 
+def check_passed_on(tally):
+    """Each name that the proofs of a crate pass on for one another is brought in from there."""
+    for path in glob.glob(os.path.join(TOP, "crates", "*", "proofs", "Common.antt")):
+        folder = os.path.dirname(path)
+        crate = os.path.basename(os.path.dirname(folder))
+        brought = re.compile(rf"^use Rattle\.{crate}\.proofs\.Common\.\{{(.*)\}}$", re.MULTILINE)
+        files = map(text_of, glob.glob(os.path.join(folder, "**", "*.antt"), recursive=True))
+        used = {name for text in files for names in brought.findall(text) for name in names.split(", ")}
+        passed = [name for names in PASSED_ON.findall(text_of(path)) for name in names.split(", ")]
+        idle = [name for name in passed if name not in used]
+        tally.check(not idle, f"crates/{crate}/proofs/Common.antt passes on {', '.join(idle)}, which no file brings in")
+
+
 def main():
     tally = Tally()
     check_commands(tally)
@@ -270,6 +284,7 @@ def main():
     check_crate_pages(tally)
     check_lines(tally)
     check_names(tally)
+    check_passed_on(tally)
     return tally.close()
 
 

@@ -20,12 +20,15 @@ pub returns-clause-records : goal.returns-clause-records
 unfolding records
 returns-clause-records g c =
     let more = c.args.more.now in
-    changed c.args.self.now c.args.name c.requires.name.0 c.node_mut.ensures.value _ refl (λ r. with_sum r (plus r.sum more))
+    changed c.args.self.now c.args.name c.requires.name.0 c.node_mut.ensures.value _ refl
+    (λ r. with_sum r (plus r.sum more))
     (recounted c.node_mut.result.now.held c.branch_mut-branch.result.now c.add_sum.new.self _ (λ s. plus s more)
     c.branch_mut-branch.ensures.value c.add_sum.ensures.children c.add_sum.ensures.sum)
 
 pub add_sum-requires : goal.add_sum-requires
 add_sum-requires g c =
     let more = c.args.more.now in
-    subst (λ k. CountsFit (record_in k (link_name c.node_mut.result.now.parent)).sum more) c.branch_mut-branch.ensures.value
-    (told c.args.self.now c.args.name c.requires.name.0 c.node_mut.ensures.value (λ r. CountsFit r.sum more) c.requires.fits)
+    subst (λ k. CountsFit (record_in k (link_name c.node_mut.result.now.parent)).sum more)
+    c.branch_mut-branch.ensures.value
+    (told c.args.self.now c.args.name c.requires.name.0 c.node_mut.ensures.value (λ r. CountsFit r.sum more)
+    c.requires.fits)

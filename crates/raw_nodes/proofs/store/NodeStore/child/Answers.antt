@@ -15,7 +15,8 @@ pub returns-in_default : goal.returns-in_default
 returns-in_default g c =
     let used = used c.args.self.now c.args.name c.requires.name c.node.ensures in
     record {
-      value = read c.args.self.now c.args.name c.requires.name c.node.ensures (λ r. None ≡ get_or r.children c.args.i None)
+      value = read c.args.self.now c.args.name c.requires.name c.node.ensures
+          (λ r. None ≡ get_or r.children c.args.i None)
           (none_at _ c.args.i (childless c.node.result.now.held _ used c.in_default.not-Inner));
       tick = c.tick.ensures;
     }

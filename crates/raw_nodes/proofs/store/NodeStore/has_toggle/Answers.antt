@@ -8,13 +8,16 @@ node-requires g c = place_of c.args.self.now c.args.name c.requires.name
 
 pub returns-in-Line-clause-value : goal.returns-in-Line-clause-value
 returns-in-Line-clause-value g c =
-    says c.args.self.now c.args.name c.requires.name c.node.ensures (λ r. set.contains r.sum.presence c.args.slot.0) c.in-Line.is
+    says c.args.self.now c.args.name c.requires.name c.node.ensures (λ r. set.contains r.sum.presence c.args.slot.0)
+    c.in-Line.is
     c.has_toggle.ensures
 
 pub returns-in-Inner-clause-value : goal.returns-in-Inner-clause-value
 returns-in-Inner-clause-value g c =
-    says c.args.self.now c.args.name c.requires.name c.node.ensures (λ r. set.contains r.sum.presence c.args.slot.0) c.in-Inner.is
+    says c.args.self.now c.args.name c.requires.name c.node.ensures (λ r. set.contains r.sum.presence c.args.slot.0)
+    c.in-Inner.is
     (c.has.ensures ∙ ap (λ z. set.contains z.toggles.presence c.args.slot.0) c.deref.ensures)
 
 pub returns-in-Spare-clause-value : goal.returns-in-Spare-clause-value
-returns-in-Spare-clause-value g c = absurd (never_spare c.args.self.now c.args.name c.requires.name c.node.ensures c.in-Spare.is)
+returns-in-Spare-clause-value g c =
+    absurd (never_spare c.args.self.now c.args.name c.requires.name c.node.ensures c.in-Spare.is)

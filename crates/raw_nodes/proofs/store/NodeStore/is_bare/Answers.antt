@@ -14,7 +14,8 @@ returns-in-Line-clause-yes g c =
 
 pub returns-in-Inner-clause-yes : goal.returns-in-Inner-clause-yes
 returns-in-Inner-clause-yes g c =
-    read c.args.self.now c.args.name c.requires c.node.ensures (λ r. c.is_bare-in-Inner.result ≡ true → IsBare r.sum) (λ yes.
+    read c.args.self.now c.args.name c.requires c.node.ensures
+    (λ r. c.is_bare-in-Inner.result ≡ true → IsBare r.sum) (λ yes.
     subst IsBare (sym (ap (λ k. (record_in k (link_name c.node.result.now.parent)).sum) c.in-Inner.is))
     (bare_branch c.in-Inner.branch _ c.deref.ensures (c.is_bare-in-Inner.ensures.yes yes)))
 
@@ -26,9 +27,11 @@ returns-in-Line-clause-no g c =
 
 pub returns-in-Inner-clause-no : goal.returns-in-Inner-clause-no
 returns-in-Inner-clause-no g c =
-    read c.args.self.now c.args.name c.requires c.node.ensures (λ r. IsBare r.sum → c.is_bare-in-Inner.result ≡ true) (λ bare.
+    read c.args.self.now c.args.name c.requires c.node.ensures
+    (λ r. IsBare r.sum → c.is_bare-in-Inner.result ≡ true) (λ bare.
     c.is_bare-in-Inner.ensures.no (bare_room c.in-Inner.branch _ c.deref.ensures
     (subst IsBare (ap (λ k. (record_in k (link_name c.node.result.now.parent)).sum) c.in-Inner.is) bare)))
 
 pub returns-in-Spare-clause-no : goal.returns-in-Spare-clause-no
-returns-in-Spare-clause-no g c = absurd (never_spare c.args.self.now c.args.name c.requires c.node.ensures c.in-Spare.is)
+returns-in-Spare-clause-no g c =
+    absurd (never_spare c.args.self.now c.args.name c.requires c.node.ensures c.in-Spare.is)

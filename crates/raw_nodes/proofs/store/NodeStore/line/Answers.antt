@@ -13,4 +13,5 @@ pub returns-in_default : goal.returns-in_default
 returns-in_default g c =
     let held = c.node.result.now.held in
     read c.args.self.now c.args.name c.requires c.node.ensures (λ r. _ ≡ r.line)
-    (sym (line_said held _ (used c.args.self.now c.args.name c.requires c.node.ensures) ∙ line_off held c.in_default.not-Line))
+    (sym (line_said held _ (used c.args.self.now c.args.name c.requires c.node.ensures)
+    ∙ line_off held c.in_default.not-Line))

@@ -18,7 +18,8 @@ returns-then-not-is_line g c =
       record {
         writes_back = tt;
         value = read c.args.self.now c.args.name c.requires c.node.ensures (λ r. None ≡ r.line)
-            (sym (line_said held _ (used c.args.self.now c.args.name c.requires c.node.ensures) ∙ no_line held (sym c.if-not-is_line.ensures)));
+            (sym (line_said held _ (used c.args.self.now c.args.name c.requires c.node.ensures)
+            ∙ no_line held (sym c.if-not-is_line.ensures)));
       },
     )
 
@@ -33,7 +34,8 @@ line_mut-requires g c =
 
 pub invariant_of-self-lent : goal.invariant_of-self-lent
 invariant_of-self-lent g c = λ w.
-    let a = kept c.args.self.now c.args.name c.requires c.node_mut.ensures.value _ refl refl refl (sym (ap room_in c.line_mut.ensures.value)) in
+    let a = kept c.args.self.now c.args.name c.requires c.node_mut.ensures.value _ refl refl refl
+    (sym (ap room_in c.line_mut.ensures.value)) in
     (a.listed, (a.whole, (a.small, (a.chained, (a.counted, (a.followed, (a.apart, (a.roomed, (a.fitting, tt)))))))))
 
 pub returns : goal.returns
@@ -52,7 +54,8 @@ returns g c =
       ),
       record {
         writes_back = tt;
-        value = read c.args.self.now c.args.name c.requires c.node_mut.ensures.value (λ r. Some c.line_mut.result.now ≡ r.line)
+        value = read c.args.self.now c.args.name c.requires c.node_mut.ensures.value
+            (λ r. Some c.line_mut.result.now ≡ r.line)
             (sym (ap (λ k. (record_in k (link_name x.parent)).line) c.line_mut.ensures.value));
       },
     )

@@ -6,10 +6,13 @@ pub node-requires : goal.node-requires
 node-requires g c = place_of c.args.self.now c.args.name c.requires
 
 pub returns-in-Line-clause-value : goal.returns-in-Line-clause-value
-returns-in-Line-clause-value g c = says c.args.self.now c.args.name c.requires c.node.ensures (λ r. r.sum.lines) c.in-Line.is refl
+returns-in-Line-clause-value g c =
+    says c.args.self.now c.args.name c.requires c.node.ensures (λ r. r.sum.lines) c.in-Line.is refl
 
 pub returns-in-Inner-clause-value : goal.returns-in-Inner-clause-value
-returns-in-Inner-clause-value g c = says c.args.self.now c.args.name c.requires c.node.ensures (λ r. r.sum.lines) c.in-Inner.is refl
+returns-in-Inner-clause-value g c =
+    says c.args.self.now c.args.name c.requires c.node.ensures (λ r. r.sum.lines) c.in-Inner.is refl
 
 pub returns-in-Spare-clause-value : goal.returns-in-Spare-clause-value
-returns-in-Spare-clause-value g c = absurd (never_spare c.args.self.now c.args.name c.requires c.node.ensures c.in-Spare.is)
+returns-in-Spare-clause-value g c =
+    absurd (never_spare c.args.self.now c.args.name c.requires c.node.ensures c.in-Spare.is)

@@ -29,5 +29,7 @@ returns-clause-records g c =
 pub lose_counts-requires : goal.lose_counts-requires
 lose_counts-requires g c =
     let gone = counting c.args.lines c.args.characters c.args.marks in
-    subst (λ k. HasCounts gone (record_in k (link_name c.node_mut.result.now.parent)).sum) c.branch_mut-branch.ensures.value
-    (told c.args.self.now c.args.name c.requires.name.0 c.node_mut.ensures.value (λ r. HasCounts gone r.sum) c.requires.counts)
+    subst (λ k. HasCounts gone (record_in k (link_name c.node_mut.result.now.parent)).sum)
+    c.branch_mut-branch.ensures.value
+    (told c.args.self.now c.args.name c.requires.name.0 c.node_mut.ensures.value (λ r. HasCounts gone r.sum)
+    c.requires.counts)

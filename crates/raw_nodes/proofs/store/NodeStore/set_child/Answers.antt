@@ -19,6 +19,8 @@ invariant_of-self g c =
 pub returns-clause-records : goal.returns-clause-records
 unfolding records
 returns-clause-records g c =
-    changed c.args.self.now c.args.name c.requires.name.0 c.node_mut.ensures.value _ refl (λ r. with_child r c.args.i c.args.child)
-    (lodged c.node_mut.result.now.held c.branch_mut-branch.result.now c.set_child.new.self _ c.args.i c.of.result c.args.child
+    changed c.args.self.now c.args.name c.requires.name.0 c.node_mut.ensures.value _ refl
+    (λ r. with_child r c.args.i c.args.child)
+    (lodged c.node_mut.result.now.held c.branch_mut-branch.result.now c.set_child.new.self _ c.args.i c.of.result
+    c.args.child
     c.branch_mut-branch.ensures.value c.set_child.ensures.children c.set_child.ensures.sum c.of.ensures)

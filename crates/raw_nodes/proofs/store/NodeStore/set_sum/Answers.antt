@@ -19,5 +19,6 @@ pub returns-clause-records : goal.returns-clause-records
 unfolding records
 returns-clause-records g c =
     changed c.args.self.now c.args.name c.requires.0 c.node_mut.ensures.value _ refl (λ r. with_sum r c.args.sum.now)
-    (summed c.node_mut.result.now.held c.branch_mut.result.now c.set_sum.new.self _ c.args.sum.now c.branch_mut.ensures.value
+    (summed c.node_mut.result.now.held c.branch_mut.result.now c.set_sum.new.self _ c.args.sum.now
+    c.branch_mut.ensures.value
     c.set_sum.ensures.children c.set_sum.ensures.sum)
