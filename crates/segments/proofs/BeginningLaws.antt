@@ -1,10 +1,10 @@
 -- What the bytes at which characters begin say of the characters of a text.
-use Rattle.segments.proofs.Words.{◌≡◌, ℕ, ◌+◌, ◌%◌, ◌^◌, ◌<◌, ◌≤◌, List, [], ◌∷◌, ◌++◌, Bool, true, false, cond, length}
-use Rattle.segments.proofs.Words.{take, drop, get_or, map, replicate, ltb, count_by, count_ones, Fits, w8, refl, sym}
-use Rattle.segments.proofs.Words.{ap, ap₂, ◌∙◌, arith, ◌-◌, ◌/◌, length-take, take-add, take-append-drop, chars}
-use Rattle.segments.proofs.Words.{encode_utf8, encode_utf8_all, IsUtf8, IsCharBoundary, nat_tests, length-map}
-use Rattle.segments.proofs.Words.{count_by-le-length, sum_by-append, sum_by-cons, bitmask_splat, map-map, ones-mask_l}
-use Rattle.segments.proofs.Words.{zip2_splat, chars-append, encodes-chars, IsUtf8-take, begins_character, beginnings}
+use Rattle.segments.proofs.Common.{◌≡◌, ℕ, ◌+◌, ◌%◌, ◌^◌, ◌<◌, ◌≤◌, List, [], ◌∷◌, ◌++◌, Bool, true, false, cond}
+use Rattle.segments.proofs.Common.{length, take, drop, get_or, map, replicate, ltb, count_by, count_ones, Fits, w8}
+use Rattle.segments.proofs.Common.{refl, sym, ap, ap₂, ◌∙◌, arith, ◌-◌, ◌/◌, length-take, take-add, take-append-drop}
+use Rattle.segments.proofs.Common.{chars, encode_utf8, encode_utf8_all, IsUtf8, IsCharBoundary, nat_tests, length-map}
+use Rattle.segments.proofs.Common.{count_by-le-length, sum_by-append, sum_by-cons, bitmask_splat, map-map, ones-mask_l}
+use Rattle.segments.proofs.Common.{zip2_splat, chars-append, encodes-chars, IsUtf8-take, begins_character, beginnings}
 use lib.Lanes.{Each1, chunk, mask_l, top, zip2}
 use lib.Seq.{drop-append_seam}
 use lib.Utf8.{encode}

@@ -1,9 +1,10 @@
 -- The columns that other toggles make.
-use Rattle.segments.proofs.Words.{◌≡◌, ℕ, zero, suc, ◌+◌, ◌-◌, ◌<◌, ◌≤◌, ◌≢◌, nat_le, nat_lt, ◌&&◌, Bool, true, false}
-use Rattle.segments.proofs.Words.{◌==◌, ◌||◌, List, [], ◌∷◌, ◌++◌, length, map, take, drop, inl, inr, refl, sym, ap}
-use Rattle.segments.proofs.Words.{ap₂, subst, ◌∙◌, arith, cond, if◌then◌else◌, cases_eq, nat_tests, nat_cmp_total}
-use Rattle.segments.proofs.Words.{unsigned_tied, nat_cmp, set_slot, contains-differing, either, same_slots, Slots}
-use Rattle.segments.proofs.Words.{differing, changed, Toggled, Column, flipped, slots_cleared, toggled_at, columns_from}
+use Rattle.segments.proofs.Common.{◌≡◌, ℕ, zero, suc, ◌+◌, ◌-◌, ◌<◌, ◌≤◌, ◌≢◌, nat_le, nat_lt, ◌&&◌, Bool, true, false}
+use Rattle.segments.proofs.Common.{◌==◌, ◌||◌, List, [], ◌∷◌, ◌++◌, length, map, take, drop, inl, inr, refl, sym, ap}
+use Rattle.segments.proofs.Common.{ap₂, subst, ◌∙◌, arith, cond, if◌then◌else◌, cases_eq, nat_tests, nat_cmp_total}
+use Rattle.segments.proofs.Common.{unsigned_tied, nat_cmp, set_slot, contains-differing, either, same_slots, Slots}
+use Rattle.segments.proofs.Common.{differing, changed, Toggled, Column, flipped, slots_cleared, toggled_at}
+use Rattle.segments.proofs.Common.{columns_from}
 use Rattle.text_model.proofs.CellLaws.{contains-set_slot}
 use Rattle.std.specs.FinSet as finset
 

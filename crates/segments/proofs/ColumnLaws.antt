@@ -1,14 +1,14 @@
 -- The columns that characters and toggles make.
-use Rattle.segments.proofs.Words.{◌≡◌, ℕ, zero, suc, ◌+◌, ◌*◌, ◌<◌, ◌≤◌, min, Bool, true, false, ◌||◌, List, [], ◌∷◌}
-use Rattle.segments.proofs.Words.{◌++◌, length, take, drop, inl, inr, refl, sym, ap, ap₂, ◌∙◌, arith, length-take}
-use Rattle.segments.proofs.Words.{take-append-drop, cases_eq, false≢true, take_all, nat_cmp_total, Slots, differing}
-use Rattle.segments.proofs.Words.{WORDS, parity, presence, contains-differing, differing-associative, either}
-use Rattle.segments.proofs.Words.{empty-differing, empty-union, same_slots, union-associative, Toggled, Column}
-use Rattle.segments.proofs.Words.{characters, plain_columns, tags_before, toggles, LieIn, RiseIn, any_of, odd_of}
-use Rattle.segments.proofs.Words.{place_of, toggled_at, columns_from}
-use Rattle.std.specs.FinSet as set
+use Rattle.segments.proofs.Common.{◌≡◌, ℕ, zero, suc, ◌+◌, ◌*◌, ◌<◌, ◌≤◌, min, Bool, true, false, ◌||◌, List, [], ◌∷◌}
+use Rattle.segments.proofs.Common.{◌++◌, length, take, drop, inl, inr, refl, sym, ap, ap₂, ◌∙◌, arith, length-take}
+use Rattle.segments.proofs.Common.{take-append-drop, cases_eq, false≢true, take_all, nat_cmp_total, Slots, differing}
+use Rattle.segments.proofs.Common.{WORDS, parity, presence, contains-differing, differing-associative, either}
+use Rattle.segments.proofs.Common.{empty-differing, empty-union, same_slots, union-associative, Toggled, Column}
+use Rattle.segments.proofs.Common.{characters, plain_columns, tags_before, toggles, LieIn, RiseIn, any_of, odd_of}
+use Rattle.segments.proofs.Common.{place_of, toggled_at, columns_from}
 use Rattle.segments.proofs.EntryLaws.{LieIn-both, RiseIn-take, front_alone, met, none_before, none_below, own_slot}
 use Rattle.segments.proofs.EntryLaws.{passed}
+use Rattle.std.specs.FinSet as set
 
 pub length-columns : (at : ℕ) (text : List ℕ) (entries : List Toggled) →
     length (columns_from at text entries) ≡ length text
@@ -175,12 +175,6 @@ front-entries text entries count n lie front behind =
     ∙ parity-columns 0 (min n (length text)) (take n text) (take count entries) sum
     (LieIn-both 0 n (length text) (take count entries) front
     (RiseIn-take (WORDS * 0) (WORDS * length text) count entries lie)))
-
--- and those up to a column
-pub tags-entries : (text : List ℕ) (entries : List Toggled) (count at : ℕ) → LieIn 0 (length text) entries →
-    LieIn 0 (at + 1) (take count entries) → LieIn (at + 1) (length text) (drop count entries)
-    → odd_of (take count entries) ≡ tags_before at (columns_from 0 text entries)
-tags-entries text entries count at lie front behind = front-entries text entries count (at + 1) lie front behind
 
 -- and at the end of the line those of all entries
 pub tags-whole : (text : List ℕ) (entries : List Toggled) → LieIn 0 (length text) entries →

@@ -1,10 +1,10 @@
 -- The toggles of a line: where they lie, and what they are at a column.
-use Rattle.segments.proofs.Words.{◌≡◌, ℕ, zero, suc, ◌+◌, ◌*◌, ◌/◌, ◌<◌, ◌≤◌, ◌≢◌, min, true, false, inl, inr, subst}
-use Rattle.segments.proofs.Words.{◌==◌, List, [], ◌∷◌, ◌++◌, length, take, drop, get_or, refl, Bool, ltb, sym, ap, ap₂}
-use Rattle.segments.proofs.Words.{◌∙◌, arith, if◌then◌else◌, All, IsNonDecreasingBy, cases_eq, nat_tests, drop_more}
-use Rattle.segments.proofs.Words.{All-cons, All-nil, nat_cmp, Slots, word_index, differing, WORDS, contains-differing}
-use Rattle.segments.proofs.Words.{differing-associative, either, union-associative, Toggled, HasOneWord, LieIn, RiseIn}
-use Rattle.segments.proofs.Words.{any_of, odd_of, place_of, toggled_at}
+use Rattle.segments.proofs.Common.{◌≡◌, ℕ, zero, suc, ◌+◌, ◌*◌, ◌/◌, ◌<◌, ◌≤◌, ◌≢◌, min, true, false, inl, inr, subst}
+use Rattle.segments.proofs.Common.{◌==◌, List, [], ◌∷◌, ◌++◌, length, take, drop, get_or, refl, Bool, ltb, sym, ap, ap₂}
+use Rattle.segments.proofs.Common.{◌∙◌, arith, if◌then◌else◌, All, IsNonDecreasingBy, cases_eq, nat_tests, drop_more}
+use Rattle.segments.proofs.Common.{All-cons, All-nil, nat_cmp, Slots, word_index, differing, WORDS, contains-differing}
+use Rattle.segments.proofs.Common.{differing-associative, either, union-associative, Toggled, HasOneWord, LieIn, RiseIn}
+use Rattle.segments.proofs.Common.{any_of, odd_of, place_of, toggled_at}
 use Rattle.std.specs.FinSet as set
 
 -- no entry stands below the first place
@@ -102,11 +102,6 @@ none_above from to (entry ∷ entries) at rise behind =
     passed entry entries at (omega (arith, rise.1, behind))
     ∙ none_above (suc (place_of entry)) to entries at rise.3 behind
 
-pub none_behind : (from to : ℕ) (entries : List Toggled) (at : ℕ) → LieIn from to entries → to ≤ at →
-    toggled_at entries at ≡ set.empty
-none_behind from to entries at lie behind =
-    none_above (WORDS * from) (WORDS * to) entries at lie (omega (arith, behind))
-
 pub front_alone : (front behind : List Toggled) (at : ℕ) → toggled_at behind at ≡ set.empty →
     toggled_at (front ++ behind) at ≡ toggled_at front at
 front_alone [] behind at none = none
@@ -194,11 +189,6 @@ RiseIn-wide from middle to (entry ∷ entries) rise wide =
 pub RiseIn-low : (low from to : ℕ) (entries : List Toggled) → RiseIn low to entries → from ≤ low → RiseIn from to entries
 RiseIn-low low from to [] rise near = tt
 RiseIn-low low from to (entry ∷ entries) rise near = (omega (arith, rise.0), rise.1, rise.2, rise.3)
-
-pub LieIn-wide : (from middle to : ℕ) (entries : List Toggled) → LieIn from middle entries → middle ≤ to →
-    LieIn from to entries
-LieIn-wide from middle to entries lie wide = RiseIn-wide (WORDS * from) (WORDS * middle) (WORDS * to) entries lie
-    (omega (arith, wide))
 
 pub all_words : (from to : ℕ) (entries : List Toggled) → RiseIn from to entries → All HasOneWord entries
 all_words from to [] rise = All-nil HasOneWord

@@ -1,16 +1,16 @@
 -- The columns of a line after an insertion and after a removal.
-use Rattle.segments.proofs.Words.{◌≡◌, ℕ, suc, ◌+◌, ◌-◌, ◌<◌, ◌≤◌, List, [], ◌∷◌, ◌++◌, length, map, take, drop, refl}
-use Rattle.segments.proofs.Words.{sym, ap, ap₂, ◌∙◌, arith, length-append, length-drop, slice_range, length-take-le}
-use Rattle.segments.proofs.Words.{differing, inserted, removed, parity, Toggled, Column, plain_columns, toggled_first}
-use Rattle.segments.proofs.Words.{toggles, without_columns, LieIn, entries_in, moved_on, odd_of, toggled_at}
-use Rattle.segments.proofs.Words.{without_span, columns_from}
-use Rattle.std.specs.FinSet as finset
+use Rattle.segments.proofs.Common.{◌≡◌, ℕ, suc, ◌+◌, ◌-◌, ◌<◌, ◌≤◌, List, [], ◌∷◌, ◌++◌, length, map, take, drop, refl}
+use Rattle.segments.proofs.Common.{sym, ap, ap₂, ◌∙◌, arith, length-append, length-drop, slice_range, length-take-le}
+use Rattle.segments.proofs.Common.{differing, inserted, removed, parity, Toggled, Column, plain_columns, toggled_first}
+use Rattle.segments.proofs.Common.{toggles, without_columns, LieIn, entries_in, moved_on, odd_of, toggled_at}
+use Rattle.segments.proofs.Common.{without_span, columns_from, ◌*◌, WORDS}
 use Rattle.segments.proofs.ChangeLaws.{columns_same}
 use Rattle.segments.proofs.ColumnLaws.{columns-append, columns-plain, drop-columns, parity-columns, take-columns}
-use Rattle.segments.proofs.EntryLaws.{LieIn-wide, front_alone, none_before}
+use Rattle.segments.proofs.EntryLaws.{RiseIn-wide, front_alone, none_before}
 use Rattle.segments.proofs.MovedLaws.{LieIn-moved_on, rest_alone, toggled-moved_on, toggled_front, toggled_rest}
 use Rattle.segments.proofs.SpanLaws.{in_lies, span_behind, span_there, toggled_in}
 use Rattle.segments.proofs.ToggleLaws.{LieIn-append}
+use Rattle.std.specs.FinSet as finset
 
 -- the entries from a column on move on by some columns
 module _ (column len at count : ℕ) (entries : List Toggled) (before : LieIn 0 column (take at entries))
@@ -18,7 +18,7 @@ module _ (column len at count : ℕ) (entries : List Toggled) (before : LieIn 0 
   pub moved_lie : LieIn 0 (len + count) (take at entries ++ map (moved_on count) (drop at entries))
   moved_lie =
       LieIn-append 0 (column + count) (len + count) (take at entries) (map (moved_on count) (drop at entries))
-      (LieIn-wide 0 column (column + count) (take at entries) before (omega arith))
+      (RiseIn-wide (WORDS * 0) (WORDS * column) (WORDS * (column + count)) (take at entries) before (omega arith))
       (LieIn-moved_on column len count (drop at entries) behind) (omega arith) (omega arith)
 
   moved_none : (k : ℕ) → k < column + count → toggled_at (map (moved_on count) (drop at entries)) k ≡ finset.empty
@@ -80,7 +80,7 @@ gathered_parity from to text entries ordered within lie =
     let place : (0 + from) + k ≡ from + k = omega arith in
     ap (toggled_at entries) place ∙ sym (toggled_in from to entries (from + k) (omega arith) (omega (arith, long)))))
     ∙ parity-columns from to part (entries_in from to entries) (omega (arith, long))
-    (in_lies from to 0 (length text) entries lie)
+    (in_lies from to (WORDS * 0) (WORDS * length text) entries lie)
 
 -- the columns from one to another are taken out, and what they toggle is toggled behind them
 module _ (from to len : ℕ) (entries new : List Toggled) (ordered : from ≤ to)

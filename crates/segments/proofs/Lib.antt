@@ -1,6 +1,7 @@
 pub mod BeginningLaws
 pub mod ChangeLaws
 pub mod ColumnLaws
+pub mod Common
 pub mod EntryLaws
 pub mod InsertionLaws
 pub mod MarkLaws
@@ -11,8 +12,8 @@ pub mod NextLaws
 pub mod PartLaws
 pub mod PlainLaws
 pub mod PreviousLaws
+pub mod RichLaws
 pub mod SpanLaws
 pub mod SumLaws
 pub mod TextLaws
 pub mod ToggleLaws
-pub mod Words

@@ -1,17 +1,17 @@
 -- The marks of a line by their numbers.
-use Rattle.segments.proofs.Words.{◌≡◌, ◌≢◌, ℕ, zero, suc, ◌+◌, ◌<◌, ◌≤◌, Bool, true, false, cond, ◌&&◌, not, T, List}
-use Rattle.segments.proofs.Words.{[], ◌∷◌, ◌++◌, Option, None, Some, length, get_or, set, take, drop, refl, sym, ap}
-use Rattle.segments.proofs.Words.{ap₂, subst, subst₂, ◌∙◌, append_assoc, arith, nat_tests, append-nil, drop_all}
-use Rattle.segments.proofs.Words.{drop_more, All-cons, All-head, All-nil, All-push, All-tail, All-weaker, slice_get-map}
-use Rattle.segments.proofs.Words.{eq_by_cmp_equiv, nat_cmp_is, nat_cmp_total, unsigned_tied, find, is_sorted}
-use Rattle.segments.proofs.Words.{nat_cmp-IsAntisymmetric, put, below_all, by_order, find-where_key, is_sorted-put}
-use Rattle.segments.proofs.Words.{is_sorted-where_key, where_key, All, insert, remove, IsNonDecreasingBy, eq_by_cmp}
-use Rattle.segments.proofs.Words.{is_eq, is_lt, nat_cmp, ⊤, option_map, slice_get, Place, Marks, map_marks}
-use Rattle.segments.proofs.Words.{get-map_marks, same_marks, Mark, joined_marks, later, Below, Rise, entries_of}
-use Rattle.segments.proofs.Words.{entry_of, marks_of}
-use Rattle.std.specs.FinMap as finite
+use Rattle.segments.proofs.Common.{◌≡◌, ◌≢◌, ℕ, zero, suc, ◌+◌, ◌<◌, ◌≤◌, Bool, true, false, cond, ◌&&◌, not, T, List}
+use Rattle.segments.proofs.Common.{[], ◌∷◌, ◌++◌, Option, None, Some, length, get_or, set, take, drop, refl, sym, ap}
+use Rattle.segments.proofs.Common.{ap₂, subst, subst₂, ◌∙◌, append_assoc, arith, nat_tests, append-nil, drop_all}
+use Rattle.segments.proofs.Common.{drop_more, All-cons, All-head, All-nil, All-push, All-tail, All-weaker}
+use Rattle.segments.proofs.Common.{slice_get-map, eq_by_cmp_equiv, nat_cmp_is, nat_cmp_total, unsigned_tied, find}
+use Rattle.segments.proofs.Common.{is_sorted, nat_cmp-IsAntisymmetric, put, below_all, by_order, find-where_key}
+use Rattle.segments.proofs.Common.{is_sorted-put, is_sorted-where_key, where_key, All, insert, remove}
+use Rattle.segments.proofs.Common.{IsNonDecreasingBy, eq_by_cmp, is_eq, is_lt, nat_cmp, ⊤, option_map, slice_get, Place}
+use Rattle.segments.proofs.Common.{Marks, map_marks, get-map_marks, same_marks, Mark, joined_marks, later, Below, Rise}
+use Rattle.segments.proofs.Common.{entries_of, entry_of, marks_of, ◌==◌}
+use Rattle.std.specs.declared.cmp.Ordering.{Ordering}
 use Rattle.std.specs.declared.cmp.Ordering.TheVariants.{Less, Equal, Greater}
-use Rattle.std.specs.Prelude.{◌==◌}
+use Rattle.std.specs.FinMap as finite
 
 pub marks_of-nil : marks_of [] ≡ finite.empty
 marks_of-nil = finite.same_map nat_cmp_total finite.nat_cmp-IsAntisymmetric _ _ (λ q.
@@ -57,11 +57,11 @@ risen a b is = grind (arith, nat_tests)
 rising : (a b : ℕ) → T (is_lt (nat_cmp a b)) → a < b
 rising a b holds = risen a b (is_true (is_lt (nat_cmp a b)) holds)
 
-first_part : (first rest : Bool) → T (first && rest) → T first
+pub first_part : (first rest : Bool) → T (first && rest) → T first
 first_part true rest both = tt
 first_part false rest both = absurd both
 
-second_part : (first rest : Bool) → T (first && rest) → T rest
+pub second_part : (first rest : Bool) → T (first && rest) → T rest
 second_part true rest both = both
 second_part false rest both = absurd both
 
@@ -117,6 +117,27 @@ pub above_end : (marks : List Mark) (k number : ℕ) → length marks ≤ k →
 above_end marks k number past = subst (λ rest. All (λ (m : Mark). number < m.number.0) (take 1 rest))
     (sym (drop_all k marks past)) (All-nil (λ (m : Mark). number < m.number.0))
 
+-- an entry goes before one with a higher number, in the place of its own, and behind one with a lower
+module _ (number : ℕ) (place : Place) (m : Mark) (marks : List Mark) where
+  put_by : (order : Ordering) → nat_cmp number m.number.0 ≡ order →
+      put nat_cmp number place (entries_of (m ∷ marks))
+      ≡ by_order order ((number, place) ∷ entries_of (m ∷ marks)) ((m.number.0, place) ∷ entries_of marks)
+      (entry_of m ∷ put nat_cmp number place (entries_of marks))
+  put_by order is = ap (λ order. by_order order ((number, place) ∷ entries_of (m ∷ marks))
+      ((m.number.0, place) ∷ entries_of marks) (entry_of m ∷ put nat_cmp number place (entries_of marks))) is
+
+  put_before : number < m.number.0 → put nat_cmp number place (entries_of (m ∷ marks))
+      ≡ (number, place) ∷ entries_of (m ∷ marks)
+  put_before less = put_by Less (is_less number m.number.0 less)
+
+  put_here : number ≡ m.number.0 → put nat_cmp number place (entries_of (m ∷ marks))
+      ≡ (m.number.0, place) ∷ entries_of marks
+  put_here same = put_by Equal (is_equal number m.number.0 same)
+
+  put_behind : m.number.0 < number → put nat_cmp number place (entries_of (m ∷ marks))
+      ≡ entry_of m ∷ put nat_cmp number place (entries_of marks)
+  put_behind less = put_by Greater (is_greater number m.number.0 less)
+
 -- a mark behind those with a lower number, before one with a higher number
 pub put_new : (marks : List Mark) (k : ℕ) (mark : Mark) → All (Below mark.number.0) (take k marks) →
     All (λ (m : Mark). mark.number.0 < m.number.0) (take 1 (drop k marks))
@@ -124,16 +145,10 @@ pub put_new : (marks : List Mark) (k : ℕ) (mark : Mark) → All (Below mark.nu
 put_new [] zero mark below above = refl
 put_new [] (suc k) mark below above = refl
 put_new (m ∷ marks) zero mark below above =
-    sym (ap (λ order. by_order order (entry_of mark ∷ entry_of m ∷ entries_of marks)
-    ((m.number.0, mark.place) ∷ entries_of marks) (entry_of m
-    ∷ put nat_cmp mark.number.0 mark.place (entries_of marks)))
-    (is_less mark.number.0 m.number.0 (All-head (λ (m : Mark). mark.number.0 < m.number.0) m [] above)))
+    sym (put_before mark.number.0 mark.place m marks (All-head (λ (m : Mark). mark.number.0 < m.number.0) m [] above))
 put_new (m ∷ marks) (suc k) mark below above =
     ap (λ es. entry_of m ∷ es) (put_new marks k mark (All-tail (Below mark.number.0) m (take k marks) below) above)
-    ∙ sym (ap (λ order. by_order order (entry_of mark ∷ entry_of m ∷ entries_of marks)
-    ((m.number.0, mark.place) ∷ entries_of marks) (entry_of m
-    ∷ put nat_cmp mark.number.0 mark.place (entries_of marks)))
-    (is_greater mark.number.0 m.number.0 (All-head (Below mark.number.0) m (take k marks) below)))
+    ∙ sym (put_behind mark.number.0 mark.place m marks (All-head (Below mark.number.0) m (take k marks) below))
 
 -- a place in the place of that of a mark with the number
 pub put_same : (marks : List Mark) (k : ℕ) (mark : Mark) (number : ℕ) (place : Place) → k < length marks →
@@ -143,15 +158,11 @@ pub put_same : (marks : List Mark) (k : ℕ) (mark : Mark) (number : ℕ) (place
 put_same [] k mark number place within below is same = absurd (omega arith)
 put_same (m ∷ marks) zero mark number place within below is same =
     ap (λ (x : Mark). (x.number.0, place) ∷ entries_of marks) is
-    ∙ sym (ap (λ order. by_order order ((number, place) ∷ entry_of m ∷ entries_of marks)
-    ((m.number.0, place) ∷ entries_of marks) (entry_of m ∷ put nat_cmp number place (entries_of marks)))
-    (is_equal number m.number.0 (sym same ∙ ap (λ (x : Mark). x.number.0) is)))
+    ∙ sym (put_here number place m marks (sym same ∙ ap (λ (x : Mark). x.number.0) is))
 put_same (m ∷ marks) (suc k) mark number place within below is same =
     ap (λ es. entry_of m ∷ es) (put_same marks k mark number place (omega arith)
     (All-tail (Below number) m (take k marks) below) is same)
-    ∙ sym (ap (λ order. by_order order ((number, place) ∷ entry_of m ∷ entries_of marks)
-    ((m.number.0, place) ∷ entries_of marks) (entry_of m ∷ put nat_cmp number place (entries_of marks)))
-    (is_greater number m.number.0 (All-head (Below number) m (take k marks) below)))
+    ∙ sym (put_behind number place m marks (All-head (Below number) m (take k marks) below))
 
 pub put_rise : (old new : List Mark) (number : ℕ) (place : Place) → Rise old →
     entries_of new ≡ put nat_cmp number place (entries_of old) → Rise new
@@ -180,6 +191,13 @@ kept_all number low (e ∷ es) few all =
     (apart number e.0 (λ same. omega (arith, same)))
     ∙ ap (λ rest. e ∷ rest) (kept_all number low es few (second_part _ _ all))
 
+kept_past : (number : ℕ) (m : Mark) (marks : List Mark) → number ≢ m.number.0 →
+    where_key nat_cmp (other_than number) (entries_of (m ∷ marks))
+    ≡ entry_of m ∷ where_key nat_cmp (other_than number) (entries_of marks)
+kept_past number m marks other =
+    let rest = where_key nat_cmp (other_than number) (entries_of marks) in
+    ap (λ b. cond (not b) (entry_of m ∷ rest) rest) (apart number m.number.0 other)
+
 pub take_same : (marks : List Mark) (k : ℕ) (mark : Mark) (number : ℕ) → Rise marks → k < length marks →
     All (Below number) (take k marks) → mark ≡ get_or marks k mark → mark.number.0 ≡ number
     → entries_of (remove marks k) ≡ where_key nat_cmp (other_than number) (entries_of marks)
@@ -191,30 +209,23 @@ take_same (m ∷ marks) zero mark number rise within below is same =
     sym (ap (λ b. cond (not b) (entry_of m ∷ rest) rest) (tied number m.number.0 here)
     ∙ kept_all number m.number.0 (entries_of marks) low (first_part _ _ rise))
 take_same (m ∷ marks) (suc k) mark number rise within below is same =
-    let rest = where_key nat_cmp (other_than number) (entries_of marks) in
-    let lower = All-head (Below number) m (take k marks) below in
     ap (λ es. entry_of m ∷ es) (take_same marks k mark number (second_part _ _ rise) (omega arith)
     (All-tail (Below number) m (take k marks) below) is same)
-    ∙ sym (ap (λ b. cond (not b) (entry_of m ∷ rest) rest)
-    (apart number m.number.0 (λ here. omega (arith, here, lower))))
+    ∙ sym (kept_past number m marks (λ here. omega (arith, here, All-head (Below number) m (take k marks) below)))
 
 pub take_none : (marks : List Mark) (k number : ℕ) → Rise marks → All (Below number) (take k marks) →
     All (λ (m : Mark). number < m.number.0) (take 1 (drop k marks))
     → entries_of marks ≡ where_key nat_cmp (other_than number) (entries_of marks)
 take_none [] k number rise below above = refl
 take_none (m ∷ marks) zero number rise below above =
-    let rest = where_key nat_cmp (other_than number) (entries_of marks) in
     let higher = All-head (λ (m : Mark). number < m.number.0) m [] above in
     let low : number ≤ m.number.0 = omega (arith, higher) in
-    sym (ap (λ b. cond (not b) (entry_of m ∷ rest) rest) (apart number m.number.0 (λ here. omega (arith, here, higher)))
+    sym (kept_past number m marks (λ here. omega (arith, here, higher))
     ∙ ap (λ es. entry_of m ∷ es) (kept_all number m.number.0 (entries_of marks) low (first_part _ _ rise)))
 take_none (m ∷ marks) (suc k) number rise below above =
-    let rest = where_key nat_cmp (other_than number) (entries_of marks) in
-    let lower = All-head (Below number) m (take k marks) below in
     ap (λ es. entry_of m ∷ es) (take_none marks k number (second_part _ _ rise)
     (All-tail (Below number) m (take k marks) below) above)
-    ∙ sym (ap (λ b. cond (not b) (entry_of m ∷ rest) rest)
-    (apart number m.number.0 (λ here. omega (arith, here, lower))))
+    ∙ sym (kept_past number m marks (λ here. omega (arith, here, All-head (Below number) m (take k marks) below)))
 
 pub take_rise : (old new : List Mark) (number : ℕ) → Rise old →
     entries_of new ≡ where_key nat_cmp (other_than number) (entries_of old) → Rise new
@@ -250,6 +261,11 @@ none_behind q low (e ∷ es) few all =
     ap (λ b. cond b (Some e.1) (find nat_cmp q es)) (apart q e.0 (λ same. omega (arith, same)))
     ∙ none_behind q low es few (second_part _ _ all)
 
+find_past : (number : ℕ) (m : Mark) (marks : List Mark) → number ≢ m.number.0 →
+    find nat_cmp number (entries_of (m ∷ marks)) ≡ find nat_cmp number (entries_of marks)
+find_past number m marks other =
+    ap (λ b. cond b (Some m.place) (find nat_cmp number (entries_of marks))) (apart number m.number.0 other)
+
 -- the place of a mark with the number, behind those with a lower number
 pub find_here : (marks : List Mark) (k : ℕ) (mark : Mark) (number : ℕ) → k < length marks →
     All (Below number) (take k marks) → mark ≡ get_or marks k mark → mark.number.0 ≡ number
@@ -260,9 +276,7 @@ find_here (m ∷ marks) zero mark number within below is same =
     (tied number m.number.0 (sym same ∙ ap (λ (x : Mark). x.number.0) is))
     ∙ ap (λ (x : Mark). Some x.place) (sym is)
 find_here (m ∷ marks) (suc k) mark number within below is same =
-    let lower = All-head (Below number) m (take k marks) below in
-    ap (λ b. cond b (Some m.place) (find nat_cmp number (entries_of marks)))
-    (apart number m.number.0 (λ here. omega (arith, here, lower)))
+    find_past number m marks (λ here. omega (arith, here, All-head (Below number) m (take k marks) below))
     ∙ find_here marks k mark number (omega arith) (All-tail (Below number) m (take k marks) below) is same
 
 pub find_none : (marks : List Mark) (k number : ℕ) → Rise marks → All (Below number) (take k marks) →
@@ -272,13 +286,10 @@ find_none [] k number rise below above = refl
 find_none (m ∷ marks) zero number rise below above =
     let higher = All-head (λ (m : Mark). number < m.number.0) m [] above in
     let low : number ≤ m.number.0 = omega (arith, higher) in
-    ap (λ b. cond b (Some m.place) (find nat_cmp number (entries_of marks)))
-    (apart number m.number.0 (λ here. omega (arith, here, higher)))
+    find_past number m marks (λ here. omega (arith, here, higher))
     ∙ none_behind number m.number.0 (entries_of marks) low (first_part _ _ rise)
 find_none (m ∷ marks) (suc k) number rise below above =
-    let lower = All-head (Below number) m (take k marks) below in
-    ap (λ b. cond b (Some m.place) (find nat_cmp number (entries_of marks)))
-    (apart number m.number.0 (λ here. omega (arith, here, lower)))
+    find_past number m marks (λ here. omega (arith, here, All-head (Below number) m (take k marks) below))
     ∙ find_none marks k number (second_part _ _ rise) (All-tail (Below number) m (take k marks) below) above
 
 find_both : (q : ℕ) (es fs : List (ℕ × Place)) → find nat_cmp q (es ++ fs)
@@ -313,10 +324,7 @@ push_put : (marks : List Mark) (mark : Mark) → All (Below mark.number.0) marks
 push_put [] mark below = refl
 push_put (m ∷ marks) mark below =
     ap (λ es. entry_of m ∷ es) (push_put marks mark (All-tail (Below mark.number.0) m marks below))
-    ∙ sym (ap (λ order. by_order order (entry_of mark ∷ entry_of m ∷ entries_of marks)
-    ((m.number.0, mark.place) ∷ entries_of marks) (entry_of m
-    ∷ put nat_cmp mark.number.0 mark.place (entries_of marks)))
-    (is_greater mark.number.0 m.number.0 (All-head (Below mark.number.0) m marks below)))
+    ∙ sym (put_behind mark.number.0 mark.place m marks (All-head (Below mark.number.0) m marks below))
 
 -- each of some marks has a lower number than the first of others
 abbrev pub Before : List Mark → List Mark → Type 0
@@ -390,7 +398,7 @@ none_higher (m ∷ marks) mark q rise before tie =
     let same = tied_same q mark.number.0 tie in
     let less = All-head (Below m.number.0) mark [] before in
     let low : q ≤ m.number.0 = omega (arith, same, less) in
-    ap (λ b. cond b (Some m.place) (place_in marks q)) (apart q m.number.0 (λ here. omega (arith, here, same, less)))
+    find_past q m marks (λ here. omega (arith, here, same, less))
     ∙ none_behind q m.number.0 (entries_of marks) low (first_part _ _ rise)
 
 first_goes : (tie : Bool) (place : Place) (found old : Option Place) → (tie ≡ true → found ≡ None) →
@@ -398,29 +406,22 @@ first_goes : (tie : Bool) (place : Place) (found old : Option Place) → (tie �
 first_goes true place found old none = ap (λ found. or_else found (Some place)) (none refl)
 first_goes false place found old none = refl
 
-second_goes : (tie : Bool) (len : ℕ) (place : Place) (found other old : Option Place) → (tie ≡ true → found ≡ None) →
-    (tie ≡ true → other ≡ None)
+second_goes : (tie : Bool) (len : ℕ) (place : Place) (found other all old : Option Place) →
+    (tie ≡ true → found ≡ None) → (tie ≡ true → other ≡ None) → (tie ≡ false → all ≡ other)
     → place_joined len found (or_else other (cond tie (Some (later len place)) old))
-    ≡ place_joined len (cond tie (Some place) found) (or_else other old)
-second_goes true len place found other old none free =
+    ≡ place_joined len (cond tie (Some place) found) (or_else all old)
+second_goes true len place found other all old none free same =
     ap₂ (λ one two. place_joined len one (or_else two (Some (later len place)))) (none refl) (free refl)
-second_goes false len place found other old none free = refl
-
-both_go : (tie : Bool) (len : ℕ) (place first : Place) (found other old : Option Place) → (tie ≡ true → found ≡ None) →
-    (tie ≡ true → other ≡ None)
-    → place_joined len found (or_else other (cond tie (Some (later len place)) old))
-    ≡ place_joined len (cond tie (Some place) found) (or_else (cond tie (Some first) other) old)
-both_go true len place first found other old none free =
-    ap₂ (λ one two. place_joined len one (or_else two (Some (later len place)))) (none refl) (free refl)
-both_go false len place first found other old none free = refl
+second_goes false len place found other all old none free same =
+    ap (λ one. place_joined len found (or_else one old)) (sym (same refl))
 
 abbrev pub moved_mark : ℕ → Mark → Mark
 moved_mark len mark = record mark { place = later len mark.place }
 
-merge_first : (len : ℕ) (first second marks one two : List Mark) (mark : Mark) →
+merge_first : {len : ℕ} {first second marks one two : List Mark} (mark : Mark) →
     Merges len first second marks (mark ∷ one) two → Before (mark ∷ []) two →
     Merges len first second (marks ++ mark ∷ []) one two
-merge_first len first second marks one two mark merges before = record {
+merge_first {len} {marks = marks} {one = one} {two = two} mark merges before = record {
   rise = push_rise marks mark merges.rise merges.before_one;
   rise_one = second_part _ _ merges.rise_one;
   rise_two = merges.rise_two;
@@ -435,47 +436,26 @@ merge_first len first second marks one two mark merges before = record {
       ∙ merges.found q;
 }
 
-merge_second : (len : ℕ) (first second marks one two : List Mark) (mark : Mark) →
-    Merges len first second marks one (mark ∷ two) → Before (mark ∷ []) one
+-- one of the second goes, and of the first what has its number
+merge_second : {len : ℕ} {first second marks all two : List Mark} (one : List Mark) (mark : Mark) →
+    Merges len first second marks all (mark ∷ two) → Rise one → Before (mark ∷ []) one →
+    ((q : ℕ) → eq_by_cmp nat_cmp q mark.number.0 ≡ false → place_in all q ≡ place_in one q)
     → Merges len first second (marks ++ moved_mark len mark ∷ []) one two
-merge_second len first second marks one two mark merges before = record {
-  rise = push_rise marks (moved_mark len mark) merges.rise merges.before_two;
-  rise_one = merges.rise_one;
-  rise_two = second_part _ _ merges.rise_two;
-  before_one = push_before marks one (moved_mark len mark) merges.before_two
-      (still_before mark (moved_mark len mark) one refl before);
-  before_two = push_before marks two (moved_mark len mark) merges.before_two
-      (still_before mark (moved_mark len mark) two refl (next_before mark two merges.rise_two));
-  found = λ q.
-      ap (λ old. place_joined len (place_in two q) (or_else (place_in one q) old))
-      (get-push marks (moved_mark len mark) q merges.rise merges.before_two)
-      ∙ second_goes (eq_by_cmp nat_cmp q mark.number.0) len mark.place (place_in two q) (place_in one q)
-      (finite.get (marks_of marks) q) (none_later mark two q merges.rise_two)
-      (none_higher one mark q merges.rise_one before)
-      ∙ merges.found q;
-}
-
-merge_both : (len : ℕ) (first second marks one two : List Mark) (gone mark : Mark) →
-    Merges len first second marks (gone ∷ one) (mark ∷ two) → gone.number.0 ≡ mark.number.0
-    → Merges len first second (marks ++ moved_mark len mark ∷ []) one two
-merge_both len first second marks one two gone mark merges same =
-    let before = still_before gone (moved_mark len mark) one same (next_before gone one merges.rise_one) in
+merge_second {len} {marks = marks} {all = all} {two = two} one mark merges rise before same =
+    let new = moved_mark len mark in
     record {
-      rise = push_rise marks (moved_mark len mark) merges.rise merges.before_two;
-      rise_one = second_part _ _ merges.rise_one;
+      rise = push_rise marks new merges.rise merges.before_two;
+      rise_one = rise;
       rise_two = second_part _ _ merges.rise_two;
-      before_one = push_before marks one (moved_mark len mark) merges.before_two before;
-      before_two = push_before marks two (moved_mark len mark) merges.before_two
-          (still_before mark (moved_mark len mark) two refl (next_before mark two merges.rise_two));
+      before_one = push_before marks one new merges.before_two (still_before mark new one refl before);
+      before_two = push_before marks two new merges.before_two
+          (still_before mark new two refl (next_before mark two merges.rise_two));
       found = λ q.
           ap (λ old. place_joined len (place_in two q) (or_else (place_in one q) old))
-          (get-push marks (moved_mark len mark) q merges.rise merges.before_two)
-          ∙ both_go (eq_by_cmp nat_cmp q mark.number.0) len mark.place gone.place (place_in two q) (place_in one q)
-          (finite.get (marks_of marks) q) (none_later mark two q merges.rise_two)
-          (none_higher one (moved_mark len mark) q (second_part _ _ merges.rise_one) before)
-          ∙ ap (λ n. place_joined len (place_in (mark ∷ two) q)
-          (or_else (cond (eq_by_cmp nat_cmp q n) (Some gone.place) (place_in one q))
-          (finite.get (marks_of marks) q))) (sym same)
+          (get-push marks new q merges.rise merges.before_two)
+          ∙ second_goes (eq_by_cmp nat_cmp q mark.number.0) len mark.place (place_in two q) (place_in one q)
+          (place_in all q) (finite.get (marks_of marks) q) (none_later mark two q merges.rise_two)
+          (none_higher one mark q rise before) (same q)
           ∙ merges.found q;
     }
 
@@ -503,23 +483,23 @@ merge_start len first second rise_one rise_two = record {
 }
 
 -- what is left of the first goes behind them
-merge_rest : (len : ℕ) (first second marks one : List Mark) → Merges len first second marks one [] →
+merge_rest : {len : ℕ} {first second : List Mark} (marks one : List Mark) → Merges len first second marks one [] →
     Merges len first second (marks ++ one) [] []
-merge_rest len first second marks [] merges =
+merge_rest {len} {first} {second} marks [] merges =
     subst (λ all. Merges len first second all [] []) (sym (append-nil marks)) merges
-merge_rest len first second marks (mark ∷ one) merges =
+merge_rest {len} {first} {second} marks (mark ∷ one) merges =
     subst (λ all. Merges len first second all [] []) (append_assoc marks (mark ∷ []) one)
-    (merge_rest len first second (marks ++ mark ∷ []) one (merge_first len first second marks one [] mark merges tt))
+    (merge_rest (marks ++ mark ∷ []) one (merge_first mark merges tt))
 
-pub merge_end : (len : ℕ) (first second marks : List Mark) (i j : ℕ) → length second ≤ j →
+pub merge_end : {len : ℕ} {first second marks : List Mark} (i j : ℕ) → length second ≤ j →
     MergesAt len first second i j marks → Merges len first second (marks ++ drop i first) [] []
-merge_end len first second marks i j all merges =
-    merge_rest len first second marks (drop i first)
+merge_end {len} {first} {second} {marks} i j all merges =
+    merge_rest marks (drop i first)
     (subst (Merges len first second marks (drop i first)) (drop_all j second all) merges)
 
-pub merged : (len : ℕ) (first second marks : List Mark) → Rise first → Rise second →
+pub merged : {len : ℕ} {first second marks : List Mark} → Rise first → Rise second →
     Merges len first second marks [] [] → marks_of marks ≡ joined_marks len (marks_of first) (marks_of second)
-merged len first second marks rise_one rise_two merges =
+merged {len} {first} {second} {marks} rise_one rise_two merges =
     same_marks _ _ (λ q.
     merges.found q
     ∙ ap₂ (place_joined len) (sym (get-marks_of second q rise_two)) (sym (get-marks_of first q rise_one))
@@ -533,30 +513,33 @@ before_at (other ∷ others) zero mark d less =
     All-cons (Below other.number.0) mark [] (less (omega arith)) (All-nil (Below other.number.0))
 before_at (other ∷ others) (suc j) mark d less = before_at others j mark d (λ within. less (omega (arith, within)))
 
-pub merge_first_at : (len : ℕ) (first second marks : List Mark) (i j : ℕ) (d : Mark) → i < length first →
+pub merge_first_at : {len : ℕ} {first second marks : List Mark} (i j : ℕ) (d : Mark) → i < length first →
     (j < length second → (get_or first i d).number.0 < (get_or second j d).number.0)
     → MergesAt len first second i j marks → MergesAt len first second (i + 1) j (marks ++ get_or first i d ∷ [])
-merge_first_at len first second marks i j d within less merges =
-    let mark = get_or first i d in
-    merge_first len first second marks (drop (i + 1) first) (drop j second) mark
+merge_first_at {len} {first} {second} {marks} i j d within less merges =
+    merge_first (get_or first i d)
     (subst (λ one. Merges len first second marks one (drop j second)) (drop_more first i d within) merges)
-    (before_at second j mark d less)
+    (before_at second j (get_or first i d) d less)
 
-pub merge_second_at : (len : ℕ) (first second marks : List Mark) (i j : ℕ) (d : Mark) → j < length second →
+pub merge_second_at : {len : ℕ} {first second marks : List Mark} (i j : ℕ) (d : Mark) → j < length second →
     (i < length first → (get_or second j d).number.0 < (get_or first i d).number.0)
     → MergesAt len first second i j marks →
     MergesAt len first second i (j + 1) (marks ++ moved_mark len (get_or second j d) ∷ [])
-merge_second_at len first second marks i j d within less merges =
-    let mark = get_or second j d in
-    merge_second len first second marks (drop i first) (drop (j + 1) second) mark
-    (subst (λ two. Merges len first second marks (drop i first) two) (drop_more second j d within) merges)
-    (before_at first i mark d less)
+merge_second_at {len} {first} {second} {marks} i j d within less merges =
+    merge_second (drop i first) (get_or second j d)
+    (subst (Merges len first second marks (drop i first)) (drop_more second j d within) merges) merges.rise_one
+    (before_at first i (get_or second j d) d less) (λ q other. refl)
 
-pub merge_both_at : (len : ℕ) (first second marks : List Mark) (i j : ℕ) (d : Mark) → i < length first →
+pub merge_both_at : {len : ℕ} {first second marks : List Mark} (i j : ℕ) (d : Mark) → i < length first →
     j < length second → (get_or first i d).number.0 ≡ (get_or second j d).number.0
     → MergesAt len first second i j marks →
     MergesAt len first second (i + 1) (j + 1) (marks ++ moved_mark len (get_or second j d) ∷ [])
-merge_both_at len first second marks i j d within there same merges =
-    merge_both len first second marks (drop (i + 1) first) (drop (j + 1) second) (get_or first i d) (get_or second j d)
-    (subst₂ (λ one two. Merges len first second marks one two) (drop_more first i d within) (drop_more second j d there)
-    merges) same
+merge_both_at {len} {first} {second} {marks} i j d within there same merges =
+    let gone = get_or first i d in
+    let mark = get_or second j d in
+    let one = drop (i + 1) first in
+    let both = subst₂ (Merges len first second marks) (drop_more first i d within) (drop_more second j d there) merges
+    in
+    merge_second one mark both (second_part _ _ both.rise_one)
+    (still_before gone mark one same (next_before gone one both.rise_one))
+    (λ q other. ap (λ b. cond b (Some gone.place) (place_in one q)) (ap (eq_by_cmp nat_cmp q) same ∙ other))

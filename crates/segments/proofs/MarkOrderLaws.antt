@@ -1,12 +1,12 @@
 -- The marks of a line by where they stand.
-use Rattle.segments.proofs.Words.{◌≡◌, ℕ, ◌≤◌, min, max, true, false, cond, nat_le, nat_lt, ◌==◌, List, [], ◌∷◌, None}
-use Rattle.segments.proofs.Words.{Some, map, sym, ap, subst, ◌∙◌, arith, IfSome, find, eq_by_cmp, nat_cmp, All-head}
-use Rattle.segments.proofs.Words.{All-tail, IfSome_then, filter, reduce, Place, marks_at, next_mark, previous_mark}
-use Rattle.segments.proofs.Words.{IsMarked, next_mark-marked, previous_mark-marked, reduced_from, Mark, Rise, StandIn}
-use Rattle.segments.proofs.Words.{entries_of, marks_of}
-use Rattle.std.specs.FinMap as finite
+use Rattle.segments.proofs.Common.{◌≡◌, ℕ, ◌≤◌, min, max, true, false, cond, nat_le, nat_lt, ◌==◌, List, [], ◌∷◌, None}
+use Rattle.segments.proofs.Common.{Some, map, sym, ap, subst, ◌∙◌, arith, IfSome, find, eq_by_cmp, nat_cmp, All-head}
+use Rattle.segments.proofs.Common.{All-tail, IfSome_then, filter, reduce, Place, marks_at, next_mark, previous_mark}
+use Rattle.segments.proofs.Common.{IsMarked, next_mark-marked, previous_mark-marked, reduced_from, Mark, Rise, StandIn}
+use Rattle.segments.proofs.Common.{entries_of, marks_of}
 use Rattle.text_model.specs.declared.places.MarkNo.{MarkNo}
 use Rattle.segments.proofs.MarkLaws.{entries-marks_of, get-marks_of}
+use Rattle.std.specs.FinMap as finite
 
 -- the numbers of the marks at a column
 abbrev pub numbers_at : ℕ → List Mark → List MarkNo

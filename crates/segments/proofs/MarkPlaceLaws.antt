@@ -1,13 +1,12 @@
 -- The marks of a line as a map, and what moving them makes of it.
-use Rattle.segments.proofs.Words.{◌≡◌, ℕ, ◌+◌, ◌<◌, ◌≤◌, T, ◌&&◌, ◌++◌, List, [], ◌∷◌, true, false, length, map, take}
-use Rattle.segments.proofs.Words.{drop, refl, sym, ap, ap₂, subst, ◌∙◌, arith, All, if◌then◌else◌, length-map}
-use Rattle.segments.proofs.Words.{take-append-le, take_all, nat_tests, All-head, All-map, All-tail, All-weaker}
-use Rattle.segments.proofs.Words.{nat_cmp_total, is_sorted, below_all, is_lt, nat_cmp, Place, map_marks, drawn}
-use Rattle.segments.proofs.Words.{is_right, moved, Mark, AreKept, AreMarks, Rise, StandIn, entries_of, entry_of}
-use Rattle.segments.proofs.Words.{marks_of, with_place}
-use Rattle.std.specs.Prelude.{◌==◌, ◌||◌, nat_lt}
-use Rattle.std.specs.FinMap as finite
+use Rattle.segments.proofs.Common.{◌≡◌, ℕ, ◌+◌, ◌<◌, ◌≤◌, T, ◌&&◌, ◌++◌, List, [], ◌∷◌, true, false, length, map, take}
+use Rattle.segments.proofs.Common.{drop, refl, sym, ap, ap₂, subst, ◌∙◌, arith, All, if◌then◌else◌, length-map}
+use Rattle.segments.proofs.Common.{take-append-le, take_all, nat_tests, All-head, All-map, All-tail, All-weaker}
+use Rattle.segments.proofs.Common.{nat_cmp_total, is_sorted, below_all, is_lt, nat_cmp, Place, map_marks, drawn}
+use Rattle.segments.proofs.Common.{is_right, moved, Mark, AreKept, Rise, StandIn, entries_of, entry_of, marks_of}
+use Rattle.segments.proofs.Common.{with_place, ◌==◌, ◌||◌, nat_lt}
 use Rattle.text_model.proofs.StepLaws.{moved_le}
+use Rattle.std.specs.FinMap as finite
 
 pub len-marks : (marks : List Mark) → Rise marks → finite.len (marks_of marks) ≡ length marks
 len-marks marks rise = finite.len-entries (marks_of marks)
@@ -61,12 +60,6 @@ pub StandIn-placed : (f : Place → Place) (marks : List Mark) (len new_len : �
 StandIn-placed f marks len new_len keeps stand =
     All-map (λ (mark : Mark). mark.place.offset ≤ new_len) (with_place f) marks (λ k d small. keeps _ (stand k d small))
 
-pub AreMarks-placed : (f : Place → Place) (marks : List Mark) (len new_len : ℕ) →
-    ((place : Place) → place.offset ≤ len → (f place).offset ≤ new_len) → AreMarks len marks →
-    AreMarks new_len (map (with_place f) marks)
-AreMarks-placed f marks len new_len keeps are =
-    record { rise = Rise-placed f marks are.rise; stand = StandIn-placed f marks len new_len keeps are.stand }
-
 -- where none stands at a place that an insertion changes, none moves
 all_stay : (f : Place → Place) (marks : List Mark) → All (λ (mark : Mark). f mark.place ≡ mark.place) marks →
     map (with_place f) marks ≡ marks
@@ -114,12 +107,8 @@ moved_stand at count reach marks stand =
 -- marks that are kept stand in their line
 pub kept_stand : (len reach : ℕ) (marks : List Mark) → AreKept len reach marks → StandIn len marks
 kept_stand len reach marks kept =
-    let within = kept.within in
     All-weaker (λ (mark : Mark). mark.place.offset ≤ reach) (λ (mark : Mark). mark.place.offset ≤ len)
-    (λ mark low. omega (arith, low, within)) marks kept.stand
-
-pub kept_marks : (len reach : ℕ) (marks : List Mark) → AreKept len reach marks → AreMarks len marks
-kept_marks len reach marks kept = record { rise = kept.rise; stand = kept_stand len reach marks kept }
+    (λ mark low. omega (arith, low, kept.within)) marks kept.stand
 
 -- marks written over all of a list
 pub written_over : (count : ℕ) (new old : List Mark) → length new ≡ count →

@@ -1,34 +1,24 @@
 -- Toggles that move on or back by some columns.
-use Rattle.segments.proofs.Words.{◌≡◌, ℕ, suc, ◌+◌, ◌-◌, ◌*◌, ◌<◌, ◌≤◌, ◌^◌, ◌==◌, Bool, List, [], ◌∷◌, ◌++◌, map, take}
-use Rattle.segments.proofs.Words.{drop, refl, sym, ap, ap₂, subst, ◌∙◌, arith, take-append-drop, if◌then◌else◌, All}
-use Rattle.segments.proofs.Words.{nat_tests, All-cons, All-nil, differing, WORDS, empty-differing, Toggled, CanMoveBack}
-use Rattle.segments.proofs.Words.{CanMoveOn, LieIn, RiseIn, moved_back, moved_on, place_of, toggled_at}
-use Rattle.segments.proofs.EntryLaws.{front_alone, none_before, none_behind}
+use Rattle.segments.proofs.Common.{◌≡◌, ℕ, suc, ◌+◌, ◌-◌, ◌*◌, ◌<◌, ◌≤◌, ◌^◌, ◌==◌, Bool, List, [], ◌∷◌, ◌++◌, map}
+use Rattle.segments.proofs.Common.{take, drop, refl, sym, ap, ap₂, subst, ◌∙◌, arith, take-append-drop, if◌then◌else◌}
+use Rattle.segments.proofs.Common.{All, nat_tests, All-cons, All-nil, differing, WORDS, empty-differing, Toggled}
+use Rattle.segments.proofs.Common.{CanMoveBack, CanMoveOn, LieIn, RiseIn, moved_back, moved_on, place_of, toggled_at}
+use Rattle.segments.proofs.EntryLaws.{front_alone, none_above, none_before}
 use Rattle.segments.proofs.ToggleLaws.{toggled-append}
 
-can_rise_back : (low high count : ℕ) (entries : List Toggled) → RiseIn low high entries → WORDS * count ≤ low →
+pub can_move_back : (low high count : ℕ) (entries : List Toggled) → RiseIn low high entries → WORDS * count ≤ low →
     All (CanMoveBack count) entries
-can_rise_back low high count [] rise room = All-nil (CanMoveBack count)
-can_rise_back low high count (entry ∷ entries) rise room =
+can_move_back low high count [] rise room = All-nil (CanMoveBack count)
+can_move_back low high count (entry ∷ entries) rise room =
     All-cons (CanMoveBack count) entry entries (omega (arith, rise.0, room, rise.2.within))
-    (can_rise_back (suc (place_of entry)) high count entries rise.3 (omega (arith, rise.0, room)))
+    (can_move_back (suc (place_of entry)) high count entries rise.3 (omega (arith, rise.0, room)))
 
-pub can_move_back : (low high count : ℕ) (entries : List Toggled) → LieIn low high entries → count ≤ low →
-    All (CanMoveBack count) entries
-can_move_back low high count entries lie room =
-    can_rise_back (WORDS * low) (WORDS * high) count entries lie (omega (arith, room))
-
-can_rise_on : (low high count : ℕ) (entries : List Toggled) → RiseIn low high entries →
+pub can_move_on : (low high count : ℕ) (entries : List Toggled) → RiseIn low high entries →
     high + WORDS * count < WORDS * 2 ^ 64 → All (CanMoveOn count) entries
-can_rise_on low high count [] rise room = All-nil (CanMoveOn count)
-can_rise_on low high count (entry ∷ entries) rise room =
+can_move_on low high count [] rise room = All-nil (CanMoveOn count)
+can_move_on low high count (entry ∷ entries) rise room =
     All-cons (CanMoveOn count) entry entries (omega (arith, rise.1, room))
-    (can_rise_on (suc (place_of entry)) high count entries rise.3 room)
-
-pub can_move_on : (low high count : ℕ) (entries : List Toggled) → LieIn low high entries → high + count < 2 ^ 64 →
-    All (CanMoveOn count) entries
-can_move_on low high count entries lie room =
-    can_rise_on (WORDS * low) (WORDS * high) count entries lie (omega (arith, room))
+    (can_move_on (suc (place_of entry)) high count entries rise.3 room)
 
 RiseIn-moved_back : (low high count : ℕ) (entries : List Toggled) → RiseIn low high entries → WORDS * count ≤ low →
     RiseIn (low - WORDS * count) (high - WORDS * count) (map (moved_back count) entries)
@@ -112,7 +102,7 @@ pub rest_alone : (from column : ℕ) (front behind : List Toggled) (at : ℕ) �
     toggled_at (front ++ behind) at ≡ toggled_at behind at
 rest_alone from column front behind at lie far =
     toggled-append front behind at ∙ ap (λ s. differing s (toggled_at behind at))
-    (none_behind from column front at lie far) ∙ empty-differing (toggled_at behind at)
+    (none_above (WORDS * from) (WORDS * column) front at lie (omega (arith, far))) ∙ empty-differing (toggled_at behind at)
 
 pub toggled_rest : (from column count : ℕ) (entries : List Toggled) (at : ℕ) → LieIn from column (take count entries) →
     column ≤ at → toggled_at (drop count entries) at ≡ toggled_at entries at

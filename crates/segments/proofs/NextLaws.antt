@@ -1,16 +1,15 @@
 -- The next and the last column with a toggle of a slot, by the entries and by the columns.
-use Rattle.segments.proofs.Words.{◌≡◌, ℕ, zero, suc, ◌+◌, ◌-◌, ◌*◌, ◌<◌, ◌≤◌, Bool, true, false, cond, not, ◌&&◌}
-use Rattle.segments.proofs.Words.{nat_lt, Option, Some, None, List, [], ◌∷◌, length, get_or, take, drop, inl, inr, refl}
-use Rattle.segments.proofs.Words.{sym, ap, ap₂, subst, ◌∙◌, arith, length-drop, IfSome, if◌then◌else◌, option_map}
-use Rattle.segments.proofs.Words.{cases_order, false≢true, nat_tests, suffix_len-take_no, suffix_len-take_yes, position}
-use Rattle.segments.proofs.Words.{prefix_len, nat_cmp, WORDS, contains-differing, either, Toggled, Column, free_behind}
-use Rattle.segments.proofs.Words.{next_toggle, previous_toggle, LieIn, RiseIn, later_of, next_entry, place_of}
-use Rattle.segments.proofs.Words.{previous_entry, toggled_at, columns_from}
-use Rattle.std.specs.Prelude.{nat_le}
-use Rattle.std.specs.FinSet as finset
+use Rattle.segments.proofs.Common.{◌≡◌, ℕ, zero, suc, ◌+◌, ◌-◌, ◌*◌, ◌<◌, ◌≤◌, Bool, true, false, cond, not, ◌&&◌}
+use Rattle.segments.proofs.Common.{nat_lt, Option, Some, None, List, [], ◌∷◌, length, get_or, take, drop, inl, inr}
+use Rattle.segments.proofs.Common.{refl, sym, ap, ap₂, subst, ◌∙◌, arith, length-drop, IfSome, if◌then◌else◌}
+use Rattle.segments.proofs.Common.{option_map, cases_order, false≢true, nat_tests, suffix_len-take_no}
+use Rattle.segments.proofs.Common.{suffix_len-take_yes, position, prefix_len, nat_cmp, WORDS, contains-differing}
+use Rattle.segments.proofs.Common.{either, Toggled, Column, free_behind, next_toggle, previous_toggle, LieIn, RiseIn}
+use Rattle.segments.proofs.Common.{later_of, next_entry, place_of, previous_entry, toggled_at, columns_from, nat_le}
 use Rattle.segments.proofs.ColumnLaws.{drop-columns, length-columns}
 use Rattle.segments.proofs.EntryLaws.{met, none_below, own_slot, passed}
 use Rattle.segments.proofs.PreviousLaws.{behind_none, own}
+use Rattle.std.specs.FinSet as finset
 
 none_has : (slot from to at : ℕ) (entries : List Toggled) → RiseIn from to entries → WORDS * suc at ≤ from →
     finset.contains (toggled_at entries at) slot ≡ false
@@ -56,6 +55,11 @@ rest_hasn't : (slot at : ℕ) (entry : Toggled) (entries : List Toggled) → ent
 rest_hasn't slot at entry entries here none =
     the_other (finset.contains entry.slots slot) (finset.contains (toggled_at entries at) slot) none
     ∙ sym (has_at slot at entry entries here)
+
+-- entries that begin further on
+raised : (from low high : ℕ) (entry : Toggled) (entries : List Toggled) → RiseIn low high (entry ∷ entries) →
+    from ≤ place_of entry → RiseIn from high (entry ∷ entries)
+raised from low high entry entries rise above = (above, rise.1, rise.2, rise.3)
 
 -- the next entry's column
 next_low : (slot first second low high : ℕ) (entries : List Toggled) → RiseIn low high entries → WORDS * first ≤ low →
@@ -107,12 +111,8 @@ next_here slot at low high (entry ∷ entries) rise has =
             ∙ next_here slot at (suc (place_of entry)) high entries rise.3
             (ap (λ s. finset.contains s slot) (sym (passed entry entries at (omega (arith, before)))) ∙ has)
         | inr behind ↦ absurd
-            (false≢true (sym (none_has slot (place_of entry) high at (entry ∷ entries) (
-              omega arith,
-              rise.1,
-              rise.2,
-              rise.3,
-            ) (omega (arith, behind)))
+            (false≢true (sym (none_has slot (WORDS * suc at) high at (entry ∷ entries)
+            (raised (WORDS * suc at) low high entry entries rise (omega (arith, behind))) (omega arith))
             ∙ has))
       ]
     ]
@@ -141,12 +141,8 @@ next_skip slot at low high (entry ∷ entries) rise hasn't =
             (ap (λ s. finset.contains s slot) (sym (passed entry entries at (omega (arith, before)))) ∙ hasn't)
             ∙ ap (λ b. if b && finset.contains entry.slots slot then Some entry.column
             else next_entry slot (suc at) entries) (sym two)
-        | inr behind ↦ next_low slot at (suc at) (WORDS * suc at) high (entry ∷ entries) (
-          omega (arith, behind),
-          rise.1,
-          rise.2,
-          rise.3,
-        ) (omega arith) (omega arith)
+        | inr behind ↦ next_low slot at (suc at) (WORDS * suc at) high (entry ∷ entries)
+            (raised (WORDS * suc at) low high entry entries rise (omega (arith, behind))) (omega arith) (omega arith)
       ]
     ]
 
@@ -232,19 +228,15 @@ next_above slot at (entry ∷ entries) =
       | false ↦ λ isn't. next_above slot at entries
     ] refl
 
-rises_below : (slot at low high : ℕ) (entries : List Toggled) → RiseIn low (WORDS * high) entries →
+pub next_below : (slot at low high : ℕ) (entries : List Toggled) → RiseIn low (WORDS * high) entries →
     IfSome (next_entry slot at entries) (λ next. next < high)
-rises_below slot at low high [] rise = tt
-rises_below slot at low high (entry ∷ entries) rise =
+next_below slot at low high [] rise = tt
+next_below slot at low high (entry ∷ entries) rise =
     elim (nat_le at entry.column && finset.contains entry.slots slot) as (λ b.
     IfSome (if b then Some entry.column else next_entry slot at entries) (λ next. next < high)) [
       | true ↦ omega (arith, rise.1)
-      | false ↦ rises_below slot at (suc (place_of entry)) high entries rise.3
+      | false ↦ next_below slot at (suc (place_of entry)) high entries rise.3
     ]
-
-pub next_below : (slot at low high : ℕ) (entries : List Toggled) → LieIn low high entries →
-    IfSome (next_entry slot at entries) (λ next. next < high)
-next_below slot at low high entries lie = rises_below slot at (WORDS * low) high entries lie
 
 -- the last entry's column below another
 own_none : (slot at : ℕ) (entry : Toggled) (test : Bool) → finset.contains entry.slots slot ≡ false →
@@ -273,12 +265,7 @@ previous_skip slot at low high (entry ∷ entries) rise hasn't =
             (previous_skip slot at (suc (place_of entry)) high entries rise.3
             (ap (λ s. finset.contains s slot) (sym (passed entry entries at (omega (arith, before)))) ∙ hasn't))
         | inr behind ↦
-            let rising : RiseIn (WORDS * suc at) high (entry ∷ entries) = (
-              omega (arith, behind),
-              rise.1,
-              rise.2,
-              rise.3,
-            ) in
+            let rising = raised (WORDS * suc at) low high entry entries rise (omega (arith, behind)) in
             behind_none slot (suc at) (WORDS * suc at) high (entry ∷ entries) rising (omega arith)
             ∙ sym (behind_none slot at (WORDS * suc at) high (entry ∷ entries) rising (omega arith))
       ]
@@ -317,12 +304,8 @@ previous_here slot at low high (entry ∷ entries) rise has =
             (previous_here slot at (suc (place_of entry)) high entries rise.3
             (ap (λ s. finset.contains s slot) (sym (passed entry entries at (omega (arith, before)))) ∙ has))
         | inr behind ↦ absurd
-            (false≢true (sym (none_has slot (WORDS * suc at) high at (entry ∷ entries) (
-              omega (arith, behind),
-              rise.1,
-              rise.2,
-              rise.3,
-            ) (omega arith))
+            (false≢true (sym (none_has slot (WORDS * suc at) high at (entry ∷ entries)
+            (raised (WORDS * suc at) low high entry entries rise (omega (arith, behind))) (omega arith))
             ∙ has))
       ]
     ]

@@ -1,47 +1,35 @@
 -- A line in two parts: its columns and its marks before a column and from it on, and those of two lines joined.
-use Rattle.segments.proofs.Words.{◌≡◌, ℕ, ◌+◌, ◌-◌, ◌≤◌, min, Bool, true, false, cond, ◌&&◌, T, nat_le, nat_lt, List}
-use Rattle.segments.proofs.Words.{[], ◌∷◌, ◌++◌, length, map, take, drop, refl, sym, ap, ap₂, subst, ◌∙◌, arith}
-use Rattle.segments.proofs.Words.{length-take, take-append-drop, drop-append_seam, take-append_seam, nat_tests}
-use Rattle.segments.proofs.Words.{append-nil, take_rest, All-filter, All-weaker, filter_passes, nat_cmp_total}
-use Rattle.segments.proofs.Words.{is_sorted, below_all, filter, nat_cmp, OnOk, Result, Ok, Err, Place, map_marks}
-use Rattle.segments.proofs.Words.{same_marks, Mark, Toggled, Column, earlier, marks_where, plain_columns, LieIn}
-use Rattle.segments.proofs.Words.{moved_back, moved_on, toggled_at, AreMarks, columns_from, Rise, entries_of, entry_of}
-use Rattle.segments.proofs.Words.{marks_of, with_place}
-use Rattle.std.specs.FinMap as finite
+use Rattle.segments.proofs.Common.{◌≡◌, ℕ, ◌+◌, ◌-◌, ◌≤◌, min, Bool, true, false, cond, ◌&&◌, T, nat_le, nat_lt, List}
+use Rattle.segments.proofs.Common.{[], ◌∷◌, ◌++◌, length, map, take, drop, refl, sym, ap, ap₂, subst, ◌∙◌, arith}
+use Rattle.segments.proofs.Common.{length-take, take-append-drop, drop-append_seam, take-append_seam, nat_tests}
+use Rattle.segments.proofs.Common.{append-nil, take_rest, All-filter, filter_passes, nat_cmp_total, is_sorted}
+use Rattle.segments.proofs.Common.{below_all, filter, nat_cmp, OnOk, Result, Ok, Err, Place, map_marks, same_marks}
+use Rattle.segments.proofs.Common.{Mark, Toggled, Column, earlier, marks_where, plain_columns, LieIn, moved_back}
+use Rattle.segments.proofs.Common.{moved_on, toggled_at, columns_from, Rise, entries_of, entry_of, marks_of, with_place}
+use Rattle.segments.proofs.Common.{AreKept, get_or}
 use Rattle.std.specs.Result.{is_err}
 use Rattle.segments.proofs.ChangeLaws.{columns_same}
 use Rattle.segments.proofs.ColumnLaws.{columns-append, columns-front, columns-plain, drop-columns, take-columns}
-use Rattle.segments.proofs.MarkLaws.{entries-marks_of, get-marks_of}
-use Rattle.segments.proofs.MarkPlaceLaws.{AreMarks-placed, marks_of-placed}
+use Rattle.segments.proofs.MarkLaws.{entries-marks_of, first_part, get-marks_of, second_part}
+use Rattle.segments.proofs.MarkPlaceLaws.{Rise-placed, StandIn-placed, marks_of-placed}
 use Rattle.segments.proofs.MovedLaws.{LieIn-moved_back, LieIn-moved_on, rest_alone, toggled-moved_back}
 use Rattle.segments.proofs.MovedLaws.{toggled-moved_on, toggled_rest}
 use Rattle.segments.proofs.ToggleLaws.{LieIn-append}
+use Rattle.std.specs.FinMap as finite
 
 zero_on : (n : ℕ) → 0 + n ≡ n
 zero_on n = omega arith
 
--- what is read of the entries before a column, and of those from it on
-pub before_lies : (column to count : ℕ) (entries read : List Toggled) → read ≡ entries → LieIn 0 to entries →
-    ((low high : ℕ) → LieIn low high read → LieIn low column (take count read)) → LieIn 0 column (take count entries)
-before_lies column to count entries read is lie before =
-    subst (λ es. LieIn 0 column (take count es)) is (before 0 to (subst (LieIn 0 to) (sym is) lie))
-
-pub behind_lies : (column to count : ℕ) (entries read : List Toggled) → read ≡ entries → LieIn 0 to entries →
-    ((low high : ℕ) → LieIn low high read → low ≤ column → LieIn column high (drop count read)) →
-    LieIn column to (drop count entries)
-behind_lies column to count entries read is lie behind =
-    subst (λ es. LieIn column to (drop count es)) is (behind 0 to (subst (LieIn 0 to) (sym is) lie) (omega arith))
-
-pub rest_read : (count : ℕ) (entries read rest : List Toggled) → read ≡ entries →
+-- what is read of the entries from an index on
+pub rest_read : {entries read rest : List Toggled} (count : ℕ) → read ≡ entries →
     rest ≡ take (length read - count) (drop count read) → rest ≡ drop count entries
-rest_read count entries read rest is found = found ∙ take_rest read count ∙ ap (drop count) is
+rest_read {read = read} count is found = found ∙ take_rest read count ∙ ap (drop count) is
 
 -- the columns before one, of the entries before it, and those from it on
 pub columns_before : (n to count : ℕ) (text : List ℕ) (entries : List Toggled) → LieIn n to (drop count entries) →
     columns_from 0 (take n text) (take count entries) ≡ take n (columns_from 0 text entries)
 columns_before n to count text entries behind =
-    let long : length (take n text) ≡ min n (length text) = length-take n text in
-    let within : 0 + length (take n text) ≤ n = omega (arith, long) in
+    let within : 0 + length (take n text) ≤ n = omega (arith, length-take n text) in
     sym (take-columns n 0 text entries ∙ ap (columns_from 0 (take n text)) (sym (take-append-drop count entries))
     ∙ columns-front 0 n to (take n text) (take count entries) (drop count entries) behind within)
 
@@ -69,10 +57,10 @@ pub rest_added : (count : ℕ) (front behind both : List Toggled) → count ≡ 
     drop count both ≡ behind
 rest_added count front behind both long is = ap₂ drop long is ∙ drop-append_seam front behind
 
-pub rest_moved : (count len : ℕ) (front behind both : List Toggled) → count ≡ length front → both ≡ front ++ behind →
-    take count both ++ map (moved_on len) (drop count both) ≡ front ++ map (moved_on len) behind
-rest_moved count len front behind both long is =
-    ap₂ (λ (xs ys : List Toggled). xs ++ map (moved_on len) ys) (ap₂ take long is
+pub rest_moved : (f : Toggled → Toggled) (count : ℕ) (front behind both : List Toggled) → count ≡ length front →
+    both ≡ front ++ behind → take count both ++ map f (drop count both) ≡ front ++ map f behind
+rest_moved f count front behind both long is =
+    ap₂ (λ (xs ys : List Toggled). xs ++ map f ys) (ap₂ take long is
     ∙ take-append_seam front behind) (rest_added count front behind both long is)
 
 -- the columns of two lines, of which the second begins where the first ends
@@ -129,14 +117,6 @@ both_parts : (first rest : Bool) → T first → T rest → T (first && rest)
 both_parts true rest one other = other
 both_parts false rest one other = one
 
-first_part : (first rest : Bool) → T (first && rest) → T first
-first_part true rest both = tt
-first_part false rest both = absurd both
-
-second_part : (first rest : Bool) → T (first && rest) → T rest
-second_part true rest both = both
-second_part false rest both = absurd both
-
 below-passing : (test : Place → Bool) (low : ℕ) (entries : List (ℕ × Place)) → T (below_all nat_cmp low entries) →
     T (below_all nat_cmp low (entries_passing test entries))
 below-passing test low [] all = tt
@@ -167,32 +147,38 @@ Rise-passing test marks rise = subst (λ es. T (is_sorted nat_cmp es)) (sym (ent
 pub marks_of-passing : (test : Place → Bool) (marks : List Mark) → Rise marks →
     marks_of (filter (λ (mark : Mark). test mark.place) marks) ≡ marks_where test (marks_of marks)
 marks_of-passing test marks rise =
-    let entries = entries_of (passing test marks) in
     same_marks _ _ (λ q. get-marks_of (passing test marks) q (Rise-passing test marks rise)
-    ∙ sym (finite.get-from_entries nat_cmp_total entries q))
+    ∙ sym (finite.get-from_entries nat_cmp_total (entries_of (passing test marks)) q))
     ∙ ap finite.from_entries (entries-passing test marks
     ∙ ap (entries_passing test) (sym (entries-marks_of marks rise)))
 
 -- the marks before a column, and those from it on, in columns from there
-pub marks_before : (n len : ℕ) (marks : List Mark) → AreMarks len marks →
-    AreMarks n (filter (λ (mark : Mark). nat_lt mark.place.offset n) marks)
-marks_before n len marks are =
+pub kept_before : (n : ℕ) {len reach long most : ℕ} {marks new : List Mark} → AreKept len reach marks → long ≡ n →
+    most ≡ min reach n → new ≡ filter (λ (mark : Mark). nat_lt mark.place.offset n) marks → AreKept long most new
+kept_before n {reach = reach} {long = long} {most = most} {marks = marks} kept is least passed =
     let test : Mark → Bool = λ mark. nat_lt mark.place.offset n in
     let low : (mark : Mark) → test mark ≡ true → mark.place.offset ≤ n = λ mark is. grind (arith, nat_tests) in
-    record {
-      rise = Rise-passing (λ place. nat_lt place.offset n) marks are.rise;
-      stand = All-weaker (λ mark. test mark ≡ true) (λ (mark : Mark). mark.place.offset
-          ≤ n) low (filter test marks) (filter_passes test marks);
-    }
+    subst (AreKept long most) (sym passed) (record {
+      rise = Rise-passing (λ place. nat_lt place.offset n) marks kept.rise;
+      stand = λ k d small.
+          let other = All-filter test (λ (mark : Mark). mark.place.offset ≤ reach) marks kept.stand k d small in
+          omega (arith, low (get_or (filter test marks) k d) (filter_passes test marks k d small), other, least);
+      within = omega (arith, is, least);
+    })
 
-pub marks_behind : (n len : ℕ) (marks : List Mark) → AreMarks len marks →
-    AreMarks (len - n) (map (with_place (earlier n)) (filter (λ (mark : Mark). nat_le n mark.place.offset) marks))
-marks_behind n len marks are =
-    AreMarks-placed (earlier n) (passing (λ place. nat_le n place.offset) marks) len (len - n) (λ place within.
-    omega (arith, within)) (record {
-      rise = Rise-passing (λ place. nat_le n place.offset) marks are.rise;
-      stand = All-filter (λ (mark : Mark). nat_le n mark.place.offset) (λ (mark : Mark). mark.place.offset
-          ≤ len) marks are.stand;
+pub kept_behind : (n : ℕ) {len reach long most : ℕ} {marks new : List Mark} → AreKept len reach marks →
+    long ≡ len - n → most ≡ reach - n →
+    new ≡ map (with_place (earlier n)) (filter (λ (mark : Mark). nat_le n mark.place.offset) marks) →
+    AreKept long most new
+kept_behind n {reach = reach} {long = long} {most = most} {marks = marks} kept is least passed =
+    let test : Mark → Bool = λ mark. nat_le n mark.place.offset in
+    let within = kept.within in
+    subst (AreKept long most) (sym passed) (record {
+      rise = Rise-placed (earlier n) (filter test marks)
+          (Rise-passing (λ place. nat_le n place.offset) marks kept.rise);
+      stand = StandIn-placed (earlier n) (filter test marks) reach most (λ place low. omega (arith, low, least))
+          (All-filter test (λ (mark : Mark). mark.place.offset ≤ reach) marks kept.stand);
+      within = omega (arith, is, least, within);
     })
 
 pub marks_of-behind : (n : ℕ) (marks : List Mark) → Rise marks

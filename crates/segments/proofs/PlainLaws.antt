@@ -1,15 +1,13 @@
 -- Lines without toggles and marks.
-use Rattle.segments.proofs.Words.{◌≡◌, ℕ, ◌+◌, ◌-◌, ◌<◌, ◌≤◌, ◌==◌, ◌&&◌, Bool, true, false, cond, min, max, nat_le}
-use Rattle.segments.proofs.Words.{nat_lt, List, [], ◌∷◌, ◌++◌, None, length, map, take, drop, refl, sym, ap, ap₂, ◌∙◌}
-use Rattle.segments.proofs.Words.{arith, slice_get, slice_range, nat_cmp_total, filter, reduce, eq_by_cmp, nat_cmp}
-use Rattle.segments.proofs.Words.{Place, Marks, Slots, map_marks, marks_at, next_mark, previous_mark, differing}
-use Rattle.segments.proofs.Words.{changed, inserted, moved, removed, set_slot, same_marks, differing-empty, counting}
-use Rattle.segments.proofs.Words.{parity, presence, Mark, Toggled, Column, after_removal, after_text, characters}
-use Rattle.segments.proofs.Words.{joined, line_before, line_behind, line_count, marks_where, next_toggle, plain_columns}
-use Rattle.segments.proofs.Words.{plain_line, previous_toggle, toggled_first, toggled_more, toggles, with_toggle}
-use Rattle.segments.proofs.Words.{without_columns, columns_from, marks_of}
-use Rattle.std.specs.FinMap as finite
-use Rattle.std.specs.FinSet as set
+use Rattle.segments.proofs.Common.{◌≡◌, ℕ, ◌+◌, ◌-◌, ◌<◌, ◌≤◌, ◌==◌, ◌&&◌, Bool, true, false, cond, min, max, nat_le}
+use Rattle.segments.proofs.Common.{nat_lt, List, [], ◌∷◌, ◌++◌, None, length, map, take, drop, refl, sym, ap, ap₂, ◌∙◌}
+use Rattle.segments.proofs.Common.{arith, slice_get, slice_range, nat_cmp_total, filter, reduce, eq_by_cmp, nat_cmp}
+use Rattle.segments.proofs.Common.{Place, Marks, Slots, map_marks, marks_at, next_mark, previous_mark, differing}
+use Rattle.segments.proofs.Common.{changed, inserted, moved, removed, set_slot, same_marks, differing-empty, counting}
+use Rattle.segments.proofs.Common.{parity, presence, Mark, Toggled, Column, after_removal, after_text, characters}
+use Rattle.segments.proofs.Common.{joined, line_before, line_behind, line_count, marks_where, next_toggle}
+use Rattle.segments.proofs.Common.{plain_columns, plain_line, previous_toggle, toggled_first, toggled_more, toggles}
+use Rattle.segments.proofs.Common.{with_toggle, without_columns, columns_from, marks_of}
 use Rattle.segments.proofs.ChangeLaws.{columns_changed, columns_cleared, slots_kept}
 use Rattle.segments.proofs.ColumnLaws.{characters-columns, columns-plain, drop-columns, length-columns, parity-columns}
 use Rattle.segments.proofs.ColumnLaws.{presence-columns, take-columns}
@@ -17,6 +15,8 @@ use Rattle.segments.proofs.MarkLaws.{entries-marks_of, joined_none, marks_of-nil
 use Rattle.segments.proofs.MarkPlaceLaws.{len-marks, marks_of-placed}
 use Rattle.segments.proofs.NextLaws.{next_column, previous_column}
 use Rattle.segments.proofs.PartLaws.{marks_of-passing}
+use Rattle.std.specs.FinMap as finite
+use Rattle.std.specs.FinSet as set
 
 abbrev no_slots : Slots
 no_slots = set.empty

@@ -1,8 +1,8 @@
 -- The last column with a toggle of a slot among the entries of a line.
-use Rattle.segments.proofs.Words.{◌≡◌, ℕ, zero, suc, ◌*◌, ◌<◌, ◌≤◌, true, false, ◌&&◌, nat_lt, Option, Some, None, List}
-use Rattle.segments.proofs.Words.{[], ◌∷◌, ◌++◌, length, take, drop, get_or, refl, sym, ap, ◌∙◌, arith}
-use Rattle.segments.proofs.Words.{take-append-drop, if◌then◌else◌, nat_tests, Toggled, WORDS, LieIn, RiseIn, later_of}
-use Rattle.segments.proofs.Words.{place_of, previous_entry}
+use Rattle.segments.proofs.Common.{◌≡◌, ℕ, zero, suc, ◌*◌, ◌<◌, ◌≤◌, true, false, ◌&&◌, nat_lt, Option, Some, None}
+use Rattle.segments.proofs.Common.{List, [], ◌∷◌, ◌++◌, length, take, drop, get_or, refl, sym, ap, ◌∙◌, arith}
+use Rattle.segments.proofs.Common.{take-append-drop, if◌then◌else◌, nat_tests, Toggled, WORDS, LieIn, RiseIn, later_of}
+use Rattle.segments.proofs.Common.{place_of, previous_entry}
 use Rattle.std.specs.FinSet as set
 
 abbrev pub own : ℕ → ℕ → Toggled → Option ℕ

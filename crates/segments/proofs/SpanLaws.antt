@@ -1,17 +1,16 @@
 -- The toggles of the columns from one to another, and what is left without these.
-use Rattle.segments.proofs.Words.{◌≡◌, ℕ, zero, suc, ◌+◌, ◌-◌, ◌*◌, ◌<◌, ◌≤◌, ◌≢◌, ◌⊎◌, Bool, true, false, ◌&&◌, ◌==◌}
-use Rattle.segments.proofs.Words.{nat_lt, List, [], ◌∷◌, ◌++◌, length, map, take, drop, inl, inr, refl, sym, ap, ap₂}
-use Rattle.segments.proofs.Words.{subst, ◌∙◌, arith, if◌then◌else◌, slice_range, All, cases_eq, cases_lt, false≢true}
-use Rattle.segments.proofs.Words.{nat_tests, append-nil, split_between, All-head, All-tail, filter-append, nat_cmp}
-use Rattle.segments.proofs.Words.{Slots, AreSlots, words_below, differing, WORDS, words_below-differing}
-use Rattle.segments.proofs.Words.{words_below-none, words_below-one, contains-differing, differing-associative}
-use Rattle.segments.proofs.Words.{differing-empty, Toggled, HasOneWord, LieIn, RiseIn, entries_in, flipped, moved_back}
-use Rattle.segments.proofs.Words.{odd_of, place_of, toggled_at, without_span}
-use Rattle.std.specs.Prelude.{nat_le}
-use Rattle.std.specs.FinSet as finset
+use Rattle.segments.proofs.Common.{◌≡◌, ℕ, zero, suc, ◌+◌, ◌-◌, ◌*◌, ◌<◌, ◌≤◌, ◌≢◌, ◌⊎◌, Bool, true, false, ◌&&◌, ◌==◌}
+use Rattle.segments.proofs.Common.{nat_lt, List, [], ◌∷◌, ◌++◌, length, map, take, drop, inl, inr, refl, sym, ap, ap₂}
+use Rattle.segments.proofs.Common.{subst, ◌∙◌, arith, if◌then◌else◌, slice_range, All, cases_eq, cases_lt, false≢true}
+use Rattle.segments.proofs.Common.{nat_tests, append-nil, split_between, All-head, All-tail, filter-append, nat_cmp}
+use Rattle.segments.proofs.Common.{Slots, AreSlots, words_below, differing, WORDS, words_below-differing}
+use Rattle.segments.proofs.Common.{words_below-none, words_below-one, contains-differing, differing-associative}
+use Rattle.segments.proofs.Common.{differing-empty, Toggled, HasOneWord, LieIn, RiseIn, entries_in, flipped, moved_back}
+use Rattle.segments.proofs.Common.{odd_of, place_of, toggled_at, without_span, nat_le}
 use Rattle.segments.proofs.EntryLaws.{RiseIn-low, RiseIn-take, front_alone, met, none_before, passed}
 use Rattle.segments.proofs.MovedLaws.{LieIn-moved_back, rest_alone, toggled-moved_back, toggled_front, toggled_rest}
 use Rattle.segments.proofs.ToggleLaws.{LieIn-append, differing_first, either_of}
+use Rattle.std.specs.FinSet as finset
 
 -- the toggles of a range of columns, among those before it and behind it
 none_in_front : (from to low high : ℕ) (entries : List Toggled) → RiseIn low high entries → high ≤ WORDS * from →
@@ -38,24 +37,17 @@ in-append from to front behind =
     filter-append (λ (entry : Toggled). nat_le from entry.column && nat_lt entry.column to) front behind
 
 -- how many stand before one place, and before another
-rise_counts : (low from to high : ℕ) (entries : List Toggled) (start end : ℕ) →
+pub counts_rise : (low from to high : ℕ) (entries : List Toggled) (start end : ℕ) →
     RiseIn low from (take start entries) → RiseIn to high (drop end entries) → from ≤ to → start ≤ length entries →
     start ≤ end
-rise_counts low from to high entries zero end before behind ordered within = omega arith
-rise_counts low from to high [] (suc start) end before behind ordered within = absurd (omega arith)
-rise_counts low from to high (entry ∷ entries) (suc start) zero before behind ordered within =
+counts_rise low from to high entries zero end before behind ordered within = omega arith
+counts_rise low from to high [] (suc start) end before behind ordered within = absurd (omega arith)
+counts_rise low from to high (entry ∷ entries) (suc start) zero before behind ordered within =
     absurd (omega (arith, before.1, behind.0))
-rise_counts low from to high (entry ∷ entries) (suc start) (suc end) before behind ordered within = omega (
+counts_rise low from to high (entry ∷ entries) (suc start) (suc end) before behind ordered within = omega (
   arith,
-  rise_counts (suc (place_of entry)) from to high entries start end before.3 behind ordered (omega arith),
+  counts_rise (suc (place_of entry)) from to high entries start end before.3 behind ordered (omega arith),
 )
-
-pub counts_rise : (low from to high : ℕ) (entries : List Toggled) (start end : ℕ) →
-    LieIn low from (take start entries) → LieIn to high (drop end entries) → from ≤ to → start ≤ length entries →
-    start ≤ end
-counts_rise low from to high entries start end before behind ordered within =
-    rise_counts (WORDS * low) (WORDS * from) (WORDS * to) (WORDS * high) entries start end before behind
-    (omega (arith, ordered)) within
 
 raised : (low to from high : ℕ) (entries : List Toggled) → RiseIn low to entries → RiseIn from high entries →
     RiseIn from to entries
@@ -114,24 +106,20 @@ in_above from to low high (entry ∷ entries) rise near =
           (omega (arith, behind)))) tt)
     ]
 
-in_rise : (from to low high : ℕ) (entries : List Toggled) → RiseIn low high entries →
+pub in_lies : (from to low high : ℕ) (entries : List Toggled) → RiseIn low high entries →
     LieIn from to (entries_in from to entries)
-in_rise from to low high [] rise = tt
-in_rise from to low high (entry ∷ entries) rise =
+in_lies from to low high [] rise = tt
+in_lies from to low high (entry ∷ entries) rise =
     let rest = entries_in from to entries in
     elim (cases_lt entry.column from) [
       | inl below ↦
           let test : (nat_le from entry.column && nat_lt entry.column to) ≡ false = grind (arith, nat_tests, below) in
           subst (λ (b : Bool). LieIn from to (if b then entry ∷ rest else rest)) (sym test)
-          (in_rise from to (suc (place_of entry)) high entries rise.3)
+          (in_lies from to (suc (place_of entry)) high entries rise.3)
       | inr above ↦ RiseIn-low (place_of entry) (WORDS * from) (WORDS * to) (entries_in from to (entry ∷ entries))
           (in_above from to (place_of entry) high (entry ∷ entries) (omega arith, rise.1, rise.2, rise.3)
           (omega (arith, above))) (omega (arith, above))
     ]
-
-pub in_lies : (from to low high : ℕ) (entries : List Toggled) → LieIn low high entries →
-    LieIn from to (entries_in from to entries)
-in_lies from to low high entries lie = in_rise from to (WORDS * low) (WORDS * high) entries lie
 
 apart : (from to column at : ℕ) → (column < from) ⊎ (to ≤ column) → from ≤ at → at < to → column ≢ at
 apart from to column at (inl below) above small = omega arith

@@ -1,13 +1,10 @@
 -- Where the columns of a text begin in its bytes.
-use Rattle.segments.proofs.Words.{◌≡◌, ℕ, zero, suc, ◌+◌, ◌-◌, ◌<◌, ◌≤◌, List, [], ◌∷◌, ◌++◌, length, take, drop, sym}
-use Rattle.segments.proofs.Words.{ap, ap₂, ◌∙◌, arith, length-append, length-drop, drop-drop, take-append-drop, chars}
-use Rattle.segments.proofs.Words.{encode_utf8, encode_utf8_all, slice_get, IsUtf8, IsAscii, IsCharBoundary, inserted}
-use Rattle.segments.proofs.Words.{removed, nat_tests, append_cancel_right, chars-append, chars_from_encodes, chars-nil}
-use Rattle.segments.proofs.Words.{chars_past_char, drop_past_char, encode_ascii, encodes-append, encodes-chars}
-use Rattle.segments.proofs.Words.{IsCharBoundary-past_char, IsUtf8-append, IsUtf8-drop, IsUtf8-nil, IsUtf8-take}
-use Rattle.segments.proofs.Words.{length-encode, length-le-encodes, len_utf8_bounds}
-use Rattle.std.proofs.Common.{append-nil, length-take-le}
-use Rattle.std.specs.Prelude.{Some}
+use Rattle.segments.proofs.Common.{◌≡◌, ℕ, zero, suc, ◌+◌, ◌-◌, ◌<◌, ◌≤◌, List, [], ◌∷◌, ◌++◌, length, take, drop, sym}
+use Rattle.segments.proofs.Common.{ap, ap₂, ◌∙◌, arith, length-append, drop-drop, take-append-drop, chars, encode_utf8}
+use Rattle.segments.proofs.Common.{encode_utf8_all, slice_get, IsUtf8, IsAscii, IsCharBoundary, inserted, removed}
+use Rattle.segments.proofs.Common.{nat_tests, append_cancel_right, chars-append, chars_from_encodes, chars-nil}
+use Rattle.segments.proofs.Common.{encode_ascii, encodes-append, encodes-chars, IsUtf8-append, IsUtf8-nil, IsUtf8-take}
+use Rattle.segments.proofs.Common.{length-encode, length-le-encodes, len_utf8_bounds, append-nil, Some}
 use Rattle.std.specs.Char.{len_utf8}
 
 pub some_bytes : (bytes : List ℕ) → 0 < length (chars bytes) → 0 < length bytes
@@ -25,18 +22,6 @@ chars-behind text front c utf8 also is =
     sym (chars_from_encodes (chars front ++ c ∷ []) text utf8
     (encodes-append (chars front) (c ∷ []) ∙ ap (λ bytes. bytes ++ (encode_utf8 c ++ [])) (encodes-chars front also)
     ∙ ap (λ bytes. front ++ bytes) (append-nil (encode_utf8 c)) ∙ sym is))
-
--- a column further on, past a character
-pub column_on : (text rest : List ℕ) (byte column c : ℕ) → IsUtf8 text → IsCharBoundary text byte →
-    chars (drop byte text) ≡ drop column (chars text) → drop byte text ≡ encode_utf8 c ++ rest
-    → IsCharBoundary text (byte + len_utf8 c) × (chars (drop (byte + len_utf8 c) text) ≡ drop (column + 1) (chars text))
-column_on text rest byte column c utf8 boundary behind is =
-    let later = IsUtf8-drop text byte utf8 boundary in (
-      IsCharBoundary-past_char text rest byte c boundary.0 later is,
-      ap chars (drop_past_char text rest byte c is)
-          ∙ ap (drop 1) (sym (chars_past_char (drop byte text) rest c later is) ∙ behind)
-          ∙ drop-drop 1 column (chars text),
-    )
 
 -- what stands before a column
 pub front_of : (text : List ℕ) (byte column : ℕ) → IsUtf8 text → IsCharBoundary text byte →
@@ -60,10 +45,9 @@ ascii_encoded : (characters : List ℕ) → length characters ≡ length (encode
     IsAscii (encode_utf8_all characters)
 ascii_encoded [] same = λ i. omega arith
 ascii_encoded (c ∷ characters) same =
-    let least = length-le-encodes characters in
     let bounds = len_utf8_bounds c in
     let long = length-append (encode_utf8 c) (encode_utf8_all characters) in
-    let one : len_utf8 c ≡ 1 = omega (arith, same, least, bounds.0, long, length-encode c) in
+    let one : len_utf8 c ≡ 1 = omega (arith, same, length-le-encodes characters, bounds.0, long, length-encode c) in
     let small = one_byte c one in
     rw (encode_ascii c small) (ascii_more c (encode_utf8_all characters) small
     (ascii_encoded characters (omega (arith, same, one, long, length-encode c))))
@@ -93,21 +77,21 @@ chars-replaced text new start end from to utf8 also boundary front behind =
     chars-append (take start text ++ new) (drop end text) (IsUtf8-append (take start text) new before also)
     ∙ ap₂ (λ xs ys. xs ++ ys) (chars-append (take start text) new before ∙ ap (λ xs. xs ++ chars new) front) behind
 
-pub inserted_text : (old text new found : List ℕ) (byte column : ℕ) → text ≡ old → IsUtf8 text → IsUtf8 new →
+pub inserted_text : {old text found : List ℕ} (new : List ℕ) (byte column : ℕ) → text ≡ old → IsUtf8 text → IsUtf8 new →
     IsCharBoundary text byte → chars (take byte text) ≡ take column (chars text) →
     chars (drop byte text) ≡ drop column (chars text)
     → found ≡ (take byte old ++ new) ++ drop byte old → chars found ≡ inserted column (chars new) (chars old)
-inserted_text old text new found byte column same utf8 also boundary front behind is =
+inserted_text {text = text} new byte column same utf8 also boundary front behind is =
     ap chars (is ∙ ap (λ t. (take byte t ++ new) ++ drop byte t) (sym same))
     ∙ chars-replaced text new byte byte column column utf8 also boundary front behind
     ∙ ap (λ t. inserted column (chars new) (chars t)) same
 
-pub removed_text : (old text rest found : List ℕ) (start long from to : ℕ) → text ≡ old → IsUtf8 text →
+pub removed_text : {old text rest found : List ℕ} (start long from to : ℕ) → text ≡ old → IsUtf8 text →
     IsCharBoundary text start → chars (take start text) ≡ take from (chars text) →
     chars (drop start text) ≡ drop from (chars text)
     → rest ≡ drop start text → chars (drop long rest) ≡ drop (to - from) (chars rest) → from ≤ to
     → found ≡ (take start old ++ []) ++ drop (start + long) old → chars found ≡ removed from to (chars old)
-removed_text old text rest found start long from to same utf8 boundary front behind rest_is rest_behind ordered is =
+removed_text {text = text} {rest = rest} start long from to same utf8 boundary front behind rest_is rest_behind ordered is =
     let further : chars (drop (start + long) text) ≡ drop to (chars text) =
     ap chars (sym (drop-drop long start text) ∙ ap (drop long) (sym rest_is))
     ∙ rest_behind
@@ -119,20 +103,3 @@ removed_text old text rest found start long from to same utf8 boundary front beh
     ∙ ap (λ xs. xs ++ drop to (chars text)) (ap (λ xs. take from (chars text) ++ xs) chars-nil
     ∙ append-nil (take from (chars text)))
     ∙ ap (λ t. removed from to (chars t)) same
-
-pub length-inserted : (characters new : List ℕ) (column : ℕ) → column ≤ length characters →
-    length (inserted column new characters) ≡ length characters + length new
-length-inserted characters new column within =
-    omega (
-      arith,
-      length-append (take column characters ++ new) (drop column characters),
-      length-append (take column characters) new,
-      length-take-le column characters within,
-      length-drop column characters,
-    )
-
-pub length-removed : (characters : List ℕ) (from to : ℕ) → from ≤ to → to ≤ length characters →
-    length (removed from to characters) ≡ length characters - (to - from)
-length-removed characters from to ordered within =
-    let front : length (take from characters) ≡ from = length-take-le from characters (omega arith) in
-    omega (arith, length-append (take from characters) (drop to characters), front, length-drop to characters)

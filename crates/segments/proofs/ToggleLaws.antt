@@ -1,16 +1,16 @@
 -- The toggles of a column among the entries of a line.
-use Rattle.segments.proofs.Words.{◌≡◌, ℕ, zero, suc, ◌+◌, ◌*◌, ◌/◌, ◌<◌, ◌≤◌, ◌≢◌, ◌⊎◌, nat_le, nat_lt, not, ◌&&◌, Bool}
-use Rattle.segments.proofs.Words.{true, false, ◌==◌, List, [], ◌∷◌, ◌++◌, length, take, drop, get_or, set, inl, inr}
-use Rattle.segments.proofs.Words.{refl, sym, ap, ap₂, subst, ◌∙◌, arith, take-append-drop, if◌then◌else◌, drop-cons}
-use Rattle.segments.proofs.Words.{cases_eq, false≢true, nat_tests, set_split, nat_cmp, Slots, IsOneWord, word_index}
-use Rattle.segments.proofs.Words.{differing, WORDS, word_of, contains-differing, differing-associative}
-use Rattle.segments.proofs.Words.{differing-commutative, differing-empty, either, empty-differing, same_slots, Toggled}
-use Rattle.segments.proofs.Words.{HasOneWord, LieIn, RiseIn, flipped, place_of, slots_cleared, toggled_at}
-use Rattle.std.specs.FinSet as finset
+use Rattle.segments.proofs.Common.{◌≡◌, ℕ, zero, suc, ◌+◌, ◌*◌, ◌/◌, ◌<◌, ◌≤◌, ◌≢◌, ◌⊎◌, nat_le, nat_lt, not, ◌&&◌}
+use Rattle.segments.proofs.Common.{Bool, true, false, ◌==◌, List, [], ◌∷◌, ◌++◌, length, take, drop, get_or, set, inl}
+use Rattle.segments.proofs.Common.{inr, refl, sym, ap, ap₂, subst, ◌∙◌, arith, take-append-drop, if◌then◌else◌}
+use Rattle.segments.proofs.Common.{drop-cons, cases_eq, false≢true, nat_tests, set_split, nat_cmp, Slots, IsOneWord}
+use Rattle.segments.proofs.Common.{word_index, differing, WORDS, word_of, contains-differing, differing-associative}
+use Rattle.segments.proofs.Common.{differing-commutative, differing-empty, either, empty-differing, same_slots, Toggled}
+use Rattle.segments.proofs.Common.{HasOneWord, LieIn, RiseIn, flipped, place_of, slots_cleared, toggled_at}
 use Rattle.std.specs.List.Retain.{RetainsInTurn}
 use Rattle.text_model.proofs.OneWordSteps.{contains-removed}
 use Rattle.segments.proofs.ChangeLaws.{slots_kept}
 use Rattle.segments.proofs.EntryLaws.{RiseIn-low, apart_from, met, passed, slot_below}
+use Rattle.std.specs.FinSet as finset
 
 -- the slots of joined entries are those of both
 joined_test : (test : Bool) (slots front behind : Slots) →
@@ -119,8 +119,7 @@ pub behind_none : (place to : ℕ) (entries : List Toggled) (i : ℕ) (d : Toggl
 behind_none place to [] zero d rise other = tt
 behind_none place to [] (suc i) d rise other = tt
 behind_none place to (entry ∷ entries) zero d rise other =
-    let no : place_of entry ≢ place = other (omega arith) in
-    (omega (arith, rise.0, no), rise.1, rise.2, rise.3)
+    (omega (arith, rise.0, other (omega arith)), rise.1, rise.2, rise.3)
 behind_none place to (entry ∷ entries) (suc i) d rise other =
     behind_none place to entries i d rise (λ within. other (omega arith))
 
@@ -141,11 +140,10 @@ module _ (column : ℕ) (slots : Slots) (entries : List Toggled) (i : ℕ) (d : 
       → toggled_at (set entries i new) at ≡ flipped column slots at (toggled_at entries at)
   flips_changed new at within is new_is left =
       let entry = get_or entries i d in
-      let was = toggled-one column entry is in
       ap (λ es. toggled_at es at) (set_split entries i new within)
       ∙ flips column slots (take i entries) (entry ∷ []) (new ∷ []) (drop (suc i) entries) at
       (none_else column entry at is) (none_else column new at new_is) (toggled-one column new new_is ∙ left
-      ∙ differing-commutative entry.slots slots ∙ sym (ap (differing slots) was))
+      ∙ differing-commutative entry.slots slots ∙ sym (ap (differing slots) (toggled-one column entry is)))
       ∙ ap (λ es. flipped column slots at (toggled_at es at)) (split_here entries i d within)
 
 -- and the places still rise

@@ -123,12 +123,12 @@ popped : (P : Part → Type 0) (all rest : List Part) (part : Part) → all ≡ 
     All P rest × P part
 popped P all rest part is fit = All-pop P all rest (Some part) is fit
 
-pub moves-back : (before now : Cursor) (part : Part) → IsCursor before → SameWays before now →
+pub moves-back : {before now : Cursor} (part : Part) → IsCursor before → SameWays before now →
     side_parts before.front ≡ side_parts now.front ++ part ∷ []
     → side_parts now.behind ≡ side_parts before.behind ++ part ∷ []
     → now.fresh.items ≡ before.fresh.items → now.old_len ≡ before.old_len → now.len ≡ before.len →
     now.at ≡ before.at - (part.to - part.from) → Moves before now
-moves-back before now part is ways front behind fresh old_len len at =
+moves-back {before} {now} part is ways front behind fresh old_len len at =
     let P = PartFits before.old_len (length before.fresh.items) in
     let parts = popped P (side_parts before.front) (side_parts now.front) part front is.front in
     let fits_same : PartFits now.old_len (length now.fresh.items)
@@ -160,12 +160,12 @@ moves-back before now part is ways front behind fresh old_len len at =
           ++ behind_cells old before.fresh.items (side_parts before.behind)) (sym front);
     }
 
-pub moves-over : (before now : Cursor) (part : Part) → IsCursor before → SameWays before now →
+pub moves-over : {before now : Cursor} (part : Part) → IsCursor before → SameWays before now →
     side_parts before.behind ≡ side_parts now.behind ++ part ∷ []
     → side_parts now.front ≡ side_parts before.front ++ part ∷ []
     → now.fresh.items ≡ before.fresh.items → now.old_len ≡ before.old_len → now.len ≡ before.len →
     now.at ≡ before.at + (part.to - part.from) → Moves before now
-moves-over before now part is ways behind front fresh old_len len at =
+moves-over {before} {now} part is ways behind front fresh old_len len at =
     let P = PartFits before.old_len (length before.fresh.items) in
     let parts = popped P (side_parts before.behind) (side_parts now.behind) part behind is.behind in
     let fits_same : PartFits now.old_len (length now.fresh.items)
@@ -197,14 +197,14 @@ moves-over before now part is ways behind front fresh old_len len at =
           ++ behind_cells old before.fresh.items parts) (sym behind);
     }
 
-pub moves-in : (before now : Cursor) (part : Part) (rest : List Part) (most : ℕ) → IsCursor before →
+pub moves-in : {before now : Cursor} (part : Part) (rest : List Part) (most : ℕ) → IsCursor before →
     SameWays before now →
     side_parts before.behind ≡ rest ++ part ∷ [] → 0 < most → most < part.to - part.from
     → side_parts now.behind ≡ rest ++ record part { from = part.from + most } ∷ [] →
     side_parts now.front ≡ side_parts before.front ++ record part { to = part.from + most } ∷ []
     → now.fresh.items ≡ before.fresh.items → now.old_len ≡ before.old_len → now.len ≡ before.len →
     now.at ≡ before.at + most → Moves before now
-moves-in before now part rest most is ways behind some short behind_is front_is fresh old_len len at =
+moves-in {before} {now} part rest most is ways behind some short behind_is front_is fresh old_len len at =
     let P = PartFits before.old_len (length before.fresh.items) in
     let parts = popped P (side_parts before.behind) rest part behind is.behind in
     let fits = parts.1 in let within = fits.within in
@@ -322,30 +322,30 @@ block-fits old new all rest turned block fit is =
     let sum = ap parts_len is ∙ len-append rest parts in
     (omega (arith, above, len, counted), omega (arith, sum, len, counted))
 
-pub front-block : (cursor : Cursor) (rest : List Part) (block : Block) → IsCursor cursor
+pub front-block : {cursor : Cursor} (rest : List Part) (block : Block) → IsCursor cursor
     → side_parts cursor.front ≡ rest ++ turned_if cursor.front.turned block.parts.items →
     (0 < block.count) × (block.count ≤ cursor.at)
-front-block cursor rest block is front =
+front-block {cursor} rest block is front =
     let fits = block-fits cursor.old_len (length cursor.fresh.items) (side_parts cursor.front) rest
     cursor.front.turned block is.front front in
     let sum = fits.1 in let place = is.place in
     (fits.0, omega (arith, sum, place))
 
-pub behind-block : (cursor : Cursor) (rest : List Part) (block : Block) → IsCursor cursor
+pub behind-block : {cursor : Cursor} (rest : List Part) (block : Block) → IsCursor cursor
     → side_parts cursor.behind ≡ rest ++ turned_if cursor.behind.turned block.parts.items →
     (0 < block.count) × (cursor.at + block.count ≤ cursor.len)
-behind-block cursor rest block is behind =
+behind-block {cursor} rest block is behind =
     let fits = block-fits cursor.old_len (length cursor.fresh.items) (side_parts cursor.behind) rest
     cursor.behind.turned block is.behind behind in
     let sum = fits.1 in let whole = is.whole in
     (fits.0, omega (arith, sum, whole))
 
-pub leaps-back : (before now : Cursor) (block : Block) → IsCursor before → SameWays before now
+pub leaps-back : {before now : Cursor} (block : Block) → IsCursor before → SameWays before now
     → side_parts before.front ≡ side_parts now.front ++ turned_if before.front.turned block.parts.items
     → side_parts now.behind ≡ side_parts before.behind ++ turned_if before.behind.turned block.parts.items
     → now.fresh.items ≡ before.fresh.items → now.old_len ≡ before.old_len → now.len ≡ before.len →
     now.at ≡ before.at - block.count → Moves before now
-leaps-back before now block is ways front_has behind_has fresh old_len len at =
+leaps-back {before} {now} block is ways front_has behind_has fresh old_len len at =
     let P = PartFits before.old_len (length before.fresh.items) in
     let parts = block.parts.items in
     let front = front_has ∙ ap (λ ps. side_parts now.front ++ ps) (ahead-parts before.front.turned parts is.ahead) in
@@ -383,12 +383,12 @@ leaps-back before now block is ways front_has behind_has fresh old_len len at =
           ++ behind_cells old before.fresh.items (side_parts before.behind)) (sym front);
     }
 
-pub leaps-on : (before now : Cursor) (block : Block) → IsCursor before → SameWays before now
+pub leaps-on : {before now : Cursor} (block : Block) → IsCursor before → SameWays before now
     → side_parts before.behind ≡ side_parts now.behind ++ turned_if before.behind.turned block.parts.items
     → side_parts now.front ≡ side_parts before.front ++ turned_if before.front.turned block.parts.items
     → now.fresh.items ≡ before.fresh.items → now.old_len ≡ before.old_len → now.len ≡ before.len →
     now.at ≡ before.at + block.count → Moves before now
-leaps-on before now block is ways behind_has front_has fresh old_len len at =
+leaps-on {before} {now} block is ways behind_has front_has fresh old_len len at =
     let P = PartFits before.old_len (length before.fresh.items) in
     let parts = block.parts.items in
     let front = front_has
@@ -457,17 +457,16 @@ pub same-fit : (cursor : Cursor) (old : List Cell) (parts : List Part) → lengt
     All (PartFits cursor.old_len (length cursor.fresh.items)) parts → Fit cursor old parts
 same-fit cursor old parts long fit = subst (λ n. All (PartFits n (length cursor.fresh.items)) parts) (sym long) fit
 
-pub place-is : (cursor : Cursor) (old : List Cell) → IsCursor cursor → length old ≡ cursor.old_len →
+pub place-is : {cursor : Cursor} (old : List Cell) → IsCursor cursor → length old ≡ cursor.old_len →
     length (front_cells old cursor.fresh.items (side_parts cursor.front)) ≡ cursor.at
-place-is cursor old is long = front-length old cursor.fresh.items (side_parts cursor.front)
+place-is {cursor} old is long = front-length old cursor.fresh.items (side_parts cursor.front)
     (same-fit cursor old (side_parts cursor.front) long is.front) ∙ is.place
 
 pub whole-is : (cursor : Cursor) (old : List Cell) → IsCursor cursor → length old ≡ cursor.old_len →
     length (cursor_cells old cursor) ≡ cursor.len
 whole-is cursor old is long =
     length-append (front_cells old cursor.fresh.items (side_parts cursor.front))
-    (behind_cells old cursor.fresh.items (side_parts cursor.behind))
-    ∙ ap₂ (λ m n. m + n) (place-is cursor old is long)
+    (behind_cells old cursor.fresh.items (side_parts cursor.behind)) ∙ ap₂ (λ m n. m + n) (place-is old is long)
     (behind-length old cursor.fresh.items (side_parts cursor.behind)
     (same-fit cursor old (side_parts cursor.behind) long is.behind))
     ∙ is.whole
@@ -493,8 +492,8 @@ removed-twice at n m xs within =
     (drop-removed at (at + n) xs (at + m) within (omega arith) (omega arith)
     ∙ ap (λ k. drop k xs) (let e : at + m + (at + n - at) ≡ at + (n + m) = omega arith in e))
 
-pub takes-none : (before : Cursor) → IsCursor before → Takes before before
-takes-none before is = record {
+pub takes-none : {before : Cursor} → IsCursor before → Takes before before
+takes-none {before} is = record {
   is = is;
   old_len = refl;
   at = refl;
@@ -502,8 +501,8 @@ takes-none before is = record {
   cells = λ old long. removed-none before.at (cursor_cells old before) (before.len - before.len) (omega arith);
 }
 
-pub takes-both : (first before now : Cursor) → IsCursor first → Takes first before → Takes before now → Takes first now
-takes-both first before now is one two =
+pub takes-both : {first before now : Cursor} → IsCursor first → Takes first before → Takes before now → Takes first now
+takes-both {first} {before} {now} is one two =
     let a = one.fewer in let b = two.fewer in
     record {
       is = two.is;
@@ -523,13 +522,13 @@ takes-both first before now is one two =
           e);
     }
 
-pub takes-part : (before now : Cursor) (part : Part) → IsCursor before → SameWays before now →
+pub takes-part : {before now : Cursor} (part : Part) → IsCursor before → SameWays before now →
     side_parts before.behind ≡ side_parts now.behind ++ part ∷ []
     → side_parts now.front ≡ side_parts before.front →
     now.fresh.items ≡ before.fresh.items
     → now.old_len ≡ before.old_len → now.at ≡ before.at → now.len ≡ before.len - (part.to - part.from) →
     Takes before now
-takes-part before now part is ways behind front fresh old_len at len =
+takes-part {before} {now} part is ways behind front fresh old_len at len =
     let P = PartFits before.old_len (length before.fresh.items) in
     let parts = popped P (side_parts before.behind) (side_parts now.behind) part behind is.behind in
     let fits_same : PartFits now.old_len (length now.fresh.items)
@@ -556,7 +555,7 @@ takes-part before now part is ways behind front fresh old_len at len =
           let new = before.fresh.items in
           ap₂ (λ fs ps. front_cells old fs ps ++ behind_cells old fs (side_parts now.behind)) fresh front
           ∙ removed-behind (front_cells old new (side_parts before.front)) (part_cells old new part)
-          (behind_cells old new (side_parts now.behind)) before.at (before.len - now.len) (place-is before old is long)
+          (behind_cells old new (side_parts now.behind)) before.at (before.len - now.len) (place-is old is long)
           (part-length old new part (subst (λ n. PartFits n (length new) part) (sym long) parts.1)
           ∙ omega (arith, behind_len, whole, len))
           ∙ ap (λ cells. removed before.at (before.at + (before.len - now.len))
@@ -565,14 +564,14 @@ takes-part before now part is ways behind front fresh old_len at len =
           ∙ ap (behind_cells old new) (sym behind));
     }
 
-pub takes-some : (before now : Cursor) (part : Part) (rest : List Part) (most : ℕ) → IsCursor before →
+pub takes-some : {before now : Cursor} (part : Part) (rest : List Part) (most : ℕ) → IsCursor before →
     SameWays before now →
     side_parts before.behind ≡ rest ++ part ∷ [] → most < part.to - part.from
     → side_parts now.behind ≡ rest ++ record part { from = part.from + most } ∷ [] →
     side_parts now.front ≡ side_parts before.front →
     now.fresh.items ≡ before.fresh.items
     → now.old_len ≡ before.old_len → now.at ≡ before.at → now.len ≡ before.len - most → Takes before now
-takes-some before now part rest most is ways behind short behind_is front fresh old_len at len =
+takes-some {before} {now} part rest most is ways behind short behind_is front fresh old_len at len =
     let P = PartFits before.old_len (length before.fresh.items) in
     let parts = popped P (side_parts before.behind) rest part behind is.behind in
     let fits = parts.1 in let within = fits.within in
@@ -616,8 +615,7 @@ takes-some before now part rest most is ways behind short behind_is front fresh 
           ∙ behind-push old new rest last)
           ∙ removed-behind (front_cells old new (side_parts before.front)) (part_cells old new first)
           (part_cells old new last ++ behind_cells old new rest) before.at (before.len - now.len)
-          (place-is before old is long) gone
-          ∙ ap (λ cells. removed before.at (before.at + (before.len - now.len))
+          (place-is old is long) gone ∙ ap (λ cells. removed before.at (before.at + (before.len - now.len))
           (front_cells old new (side_parts before.front) ++ cells))
           (sym (append_assoc (part_cells old new first) (part_cells old new last) (behind_cells old new rest))
           ∙ ap (λ cells. cells ++ behind_cells old new rest)
@@ -670,9 +668,9 @@ fit-more old new more parts fit =
 put-in : {A : Type 0} (xs ys zs : List A) (n : ℕ) → length xs ≡ n → xs ++ ys ++ zs ≡ inserted n ys (xs ++ zs)
 put-in xs ys zs n is = ap₂ (λ a b. a ++ ys ++ b) (sym (take_at xs zs n is)) (sym (drop_at xs zs n is))
 
-pub puts-none : (text : List ℕ) (slots : Slots) (before : Cursor) → IsCursor before → length text ≡ 0 →
+pub puts-none : {before : Cursor} (text : List ℕ) (slots : Slots) → IsCursor before → length text ≡ 0 →
     Puts text slots before before
-puts-none text slots before is none = record {
+puts-none {before} text slots is none = record {
   is = is;
   old_len = refl;
   len = omega (arith, none);
@@ -684,7 +682,7 @@ puts-none text slots before is none = record {
       ∙ take-append-drop before.at (cursor_cells old before));
 }
 
-pub puts-some : (text : List ℕ) (slots : Slots) (before now : Cursor) → IsCursor before → 0 < length text →
+pub puts-some : {before now : Cursor} (text : List ℕ) (slots : Slots) → IsCursor before → 0 < length text →
     SameWays before now →
     now.fresh.items ≡ before.fresh.items ++ text
     → side_parts now.front ≡ side_parts before.front ++ record {
@@ -695,7 +693,7 @@ pub puts-some : (text : List ℕ) (slots : Slots) (before now : Cursor) → IsCu
     → side_parts now.behind ≡ side_parts before.behind → now.old_len ≡ before.old_len →
     now.at ≡ before.at + length text →
     now.len ≡ before.len + length text → Puts text slots before now
-puts-some text slots before now is some ways fresh front behind old_len at len =
+puts-some {before} {now} text slots is some ways fresh front behind old_len at len =
     let new = before.fresh.items in
     let longer : length now.fresh.items ≡ length new + length text = ap length fresh ∙ length-append new text in
     let part : Part = record { from = length new; to = length now.fresh.items; slots = Some slots } in
@@ -741,7 +739,7 @@ puts-some text slots before now is some ways fresh front behind old_len at len =
           (ap (λ ts. cells_of ts slots) (ap (slice_range (new ++ text) (length new)) longer ∙ slice-last new text)))
           (behind-more old new text (side_parts before.behind) b)
           ∙ put-in (front_cells old new (side_parts before.front)) (cells_of text slots)
-          (behind_cells old new (side_parts before.behind)) before.at (place-is before old is long);
+          (behind_cells old new (side_parts before.behind)) before.at (place-is old is long);
     }
 
 -- ---- what the text is made of
@@ -755,9 +753,9 @@ made-of cursor none first turned all none_is first_is turned_is all_is =
     all_is ∙ ap (λ ps. ps ++ reverse (side_parts cursor.behind))
     (turned_is ∙ ap reverse (first_is ∙ ap (λ ps. ps ++ reverse front) none_is) ∙ reverse-reverse front)
 
-pub parts-fit : (cursor : Cursor) (all : List Part) → IsCursor cursor → all ≡ cursor_parts cursor →
+pub parts-fit : {cursor : Cursor} (all : List Part) → IsCursor cursor → all ≡ cursor_parts cursor →
     All (PartFits cursor.old_len (length cursor.fresh.items)) all
-parts-fit cursor all is all_is =
+parts-fit {cursor} all is all_is =
     let P = PartFits cursor.old_len (length cursor.fresh.items) in
     let front = side_parts cursor.front in let behind = side_parts cursor.behind in
     All-same P all (cursor_parts cursor) all_is

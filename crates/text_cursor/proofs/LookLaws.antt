@@ -168,42 +168,42 @@ pub new-text : (part : Part) (slots : Slots) (old : List Cell) (new : List ℕ) 
 new-text part slots old new is = ap (λ s. characters (cells_between s old new part.from part.to)) is
     ∙ between-text (Some slots) old new part.from part.to
 
-pub old-within : (part : Part) (old new : ℕ) → part.slots ≡ None → PartFits old new part → part.to ≤ old
-old-within part old new is fits = subst (λ slots. part.to ≤ source_len slots old new) is fits.within
+pub old-within : {part : Part} {old new : ℕ} → part.slots ≡ None → PartFits old new part → part.to ≤ old
+old-within {part} {old} {new} is fits = subst (λ slots. part.to ≤ source_len slots old new) is fits.within
 
-pub old-last-in : (part : Part) (old : List Cell) (new : List ℕ) → part.slots ≡ None →
+pub old-last-in : {part : Part} (old : List Cell) (new : List ℕ) → part.slots ≡ None →
     PartFits (length old) (length new) part
     → line_start (line_of (characters old) part.to) (characters old) - part.from
     ≡ last_line (characters (part_cells old new part))
-old-last-in part old new is fits =
-    let within = old-within part (length old) (length new) is fits in let long = length-characters old in
+old-last-in {part} old new is fits =
+    let within = old-within is fits in let long = length-characters old in
     old-last (characters old) part.from part.to fits.some (omega (arith, within, long))
     ∙ ap last_line (sym (old-text part old new is))
 
-pub old-next-in : (part : Part) (old : List Cell) (new : List ℕ) (behind : ℕ) → part.slots ≡ None →
+pub old-next-in : {part : Part} (old : List Cell) (new : List ℕ) (behind : ℕ) → part.slots ≡ None →
     PartFits (length old) (length new) part → behind ≡ next_line (characters old) part.from
     → (part.from ≤ min behind part.to) × (min behind part.to - part.from
     ≡ line_start 1 (characters (part_cells old new part)))
-old-next-in part old new behind is fits behind_is =
-    let within = old-within part (length old) (length new) is fits in let long = length-characters old in
+old-next-in {part} old new behind is fits behind_is =
+    let within = old-within is fits in let long = length-characters old in
     let found = old-next (characters old) part.from part.to behind fits.some (omega (arith, within, long)) behind_is in
     (found.0, found.1 ∙ ap (line_start 1) (sym (old-text part old new is)))
 
-pub part-text-length : (part : Part) (old : List Cell) (new : List ℕ) → PartFits (length old) (length new) part →
+pub part-text-length : {part : Part} (old : List Cell) (new : List ℕ) → PartFits (length old) (length new) part →
     length (characters (part_cells old new part)) ≡ part.to - part.from
-part-text-length part old new fits = length-characters (part_cells old new part) ∙ part-length old new part fits
+part-text-length {part} old new fits = length-characters (part_cells old new part) ∙ part-length old new part fits
 
-pub last-bound : (part : Part) (old : List Cell) (new : List ℕ) → PartFits (length old) (length new) part →
+pub last-bound : {part : Part} (old : List Cell) (new : List ℕ) → PartFits (length old) (length new) part →
     last_line (characters (part_cells old new part)) ≤ part.to - part.from
-last-bound part old new fits =
-    let long = part-text-length part old new fits in
+last-bound {part} old new fits =
+    let long = part-text-length old new fits in
     let bound = line_start-le (characters (part_cells old new part)) (lines (characters (part_cells old new part))) in
     omega (arith, long, bound)
 
-pub first-bound : (part : Part) (old : List Cell) (new : List ℕ) → PartFits (length old) (length new) part →
+pub first-bound : {part : Part} (old : List Cell) (new : List ℕ) → PartFits (length old) (length new) part →
     line_start 1 (characters (part_cells old new part)) ≤ part.to - part.from
-first-bound part old new fits =
-    let long = part-text-length part old new fits in
+first-bound {part} old new fits =
+    let long = part-text-length old new fits in
     let bound = line_start-le (characters (part_cells old new part)) 1 in
     omega (arith, long, bound)
 
@@ -225,10 +225,10 @@ pub record LineStep (old : List Cell) (new : List ℕ) (parts : List Part) (from
       IsLastLine (front_text old new parts) from
       (end - (part.to - part.from) + last_line (characters (part_cells old new part)))
 
-pub line-step : (old : List Cell) (new : List ℕ) (parts : List Part) (from left end : ℕ) (part : Part) →
+pub line-step : {old : List Cell} {new : List ℕ} {parts : List Part} {from left end : ℕ} (part : Part) →
     All (PartFits (length old) (length new)) parts → LineSoFar old new parts from left end → 0 < left
     → part ≡ get_or parts (left - 1) part → LineStep old new parts from left end part
-line-step old new parts from left end part fit so_far some is =
+line-step {old} {new} {parts} {left} part fit so_far some is =
     let P = PartFits (length old) (length new) in
     let within = so_far.within in
     let place = so_far.place in
@@ -260,23 +260,23 @@ line-step old new parts from left end part fit so_far some is =
     }
 
 -- the line of the place is the last one before it
-pub place-line : (cursor : Cursor) (old : List Cell) → IsCursor cursor → length old ≡ cursor.old_len
+pub place-line : {cursor : Cursor} (old : List Cell) → IsCursor cursor → length old ≡ cursor.old_len
     → line_start (line_of (characters (cursor_cells old cursor)) cursor.at) (characters (cursor_cells old cursor))
     ≡ last_line (characters (front_cells old cursor.fresh.items (side_parts cursor.front)))
-place-line cursor old is long =
+place-line {cursor} old is long =
     let front = front_cells old cursor.fresh.items (side_parts cursor.front) in
     let behind = behind_cells old cursor.fresh.items (side_parts cursor.behind) in
     front-line (characters (front ++ behind)) cursor.at
     ∙ ap (λ xs. last_line (take cursor.at xs)) (map-append (λ (cell : Cell). cell.character) front behind)
     ∙ ap last_line (take_at (characters front) (characters behind) cursor.at (length-characters front
-    ∙ place-is cursor old is long))
+    ∙ place-is old is long))
 
 -- ---- on over the parts behind it
 
 -- the second line of a text behind one that has none
-second-behind : (xs ys zs : List ℕ) (n : ℕ) → lines xs ≡ 0 → IsSecond ys n →
+second-behind : {ys : List ℕ} {n : ℕ} (xs zs : List ℕ) → lines xs ≡ 0 → IsSecond ys n →
     IsSecond (xs ++ (ys ++ zs)) (length xs + n)
-second-behind xs ys zs n none second =
+second-behind {ys} xs zs none second =
     let some = second.some in
     record {
       some = let h = lines-append xs (ys ++ zs) in let k = lines-append ys zs in omega (arith, h, k, some);
@@ -312,21 +312,21 @@ fit-both old new new' parts parts' new_is parts_is fit =
     subst (λ (xs : List ℕ). All (PartFits old (length xs)) parts') (sym new_is)
     (All-same (PartFits old (length new)) parts' parts parts_is fit)
 
-pub last-same : (old : List Cell) (new new' : List ℕ) (parts parts' : List Part) (end line : ℕ) → new' ≡ new →
+pub last-same : {line : ℕ} (old : List Cell) (new new' : List ℕ) (parts parts' : List Part) (end : ℕ) → new' ≡ new →
     parts' ≡ parts → IsLastLine (front_text old new' parts') (end - parts_len parts') line →
     IsLastLine (front_text old new parts) (end - parts_len parts) line
-last-same old new new' parts parts' end line new_is parts_is last =
+last-same {line} old new new' parts parts' end new_is parts_is last =
     subst (λ n. IsLastLine (front_text old new parts) (end - n) line) (ap parts_len parts_is)
     (subst (λ text. IsLastLine text (end - parts_len parts') line) (ap₂ (front_text old) new_is parts_is) last)
 
-pub second-same : (old : List Cell) (new new' : List ℕ) (parts parts' : List Part) (n : ℕ) → new' ≡ new →
+pub second-same : {n : ℕ} (old : List Cell) (new new' : List ℕ) (parts parts' : List Part) → new' ≡ new →
     parts' ≡ parts → IsSecond (front_text old new' parts') n → IsSecond (front_text old new parts) n
-second-same old new new' parts parts' n new_is parts_is second =
+second-same {n} old new new' parts parts' new_is parts_is second =
     subst (λ text. IsSecond text n) (ap₂ (front_text old) new_is parts_is) second
 
-pub second-same-back : (old : List Cell) (new new' : List ℕ) (parts parts' : List Part) (n : ℕ) → new' ≡ new →
+pub second-same-back : {n : ℕ} (old : List Cell) (new new' : List ℕ) (parts parts' : List Part) → new' ≡ new →
     parts' ≡ parts → IsSecond (behind_text old new' parts') n → IsSecond (behind_text old new parts) n
-second-same-back old new new' parts parts' n new_is parts_is second =
+second-same-back {n} old new new' parts parts' new_is parts_is second =
     subst (λ text. IsSecond text n) (ap₂ (behind_text old) new_is parts_is) second
 
 one-text : (old : List Cell) (new : List ℕ) (part : Part) →
@@ -354,10 +354,10 @@ pub record OnStep (old : List Cell) (new : List ℕ) (parts : List Part) (index 
   pub some : 0 < last_line (characters (part_cells old new part)) →
       IsSecond (front_text old new parts) (far + line_start 1 (characters (part_cells old new part)))
 
-pub on-step : (old : List Cell) (new : List ℕ) (parts : List Part) (index far : ℕ) (part : Part) →
+pub on-step : {old : List Cell} {new : List ℕ} {parts : List Part} {index far : ℕ} (part : Part) →
     All (PartFits (length old) (length new)) parts → PassedOn old new parts index far → index < length parts
     → part ≡ get_or parts index part → OnStep old new parts index far part
-on-step old new parts index far part fit passed within is =
+on-step {old} {new} {parts} {index} {far} part fit passed within is =
     let P = PartFits (length old) (length new) in
     let front = take index parts in let rest = drop (index + 1) parts in
     let text = characters (part_cells old new part) in
@@ -388,7 +388,7 @@ on-step old new parts index far part fit passed within is =
           (map-append (λ (cell : Cell). cell.character) (part_cells old new part) (front_cells old new rest)) in
           subst (λ n. IsSecond (front_text old new parts) (n + line_start 1 text)) long
           (subst (λ t. IsSecond t (length (front_text old new front) + line_start 1 text)) (sym whole)
-          (second-behind (front_text old new front) text (front_text old new rest) (line_start 1 text) passed.none
+          (second-behind (front_text old new front) (front_text old new rest) passed.none
           second));
     }
 
@@ -406,10 +406,10 @@ pub record BackStep (old : List Cell) (new : List ℕ) (parts : List Part) (left
   pub some : 0 < last_line (characters (part_cells old new part)) →
       IsSecond (behind_text old new parts) (far + line_start 1 (characters (part_cells old new part)))
 
-pub back-step : (old : List Cell) (new : List ℕ) (parts : List Part) (left far : ℕ) (part : Part) →
+pub back-step : {old : List Cell} {new : List ℕ} {parts : List Part} {left far : ℕ} (part : Part) →
     All (PartFits (length old) (length new)) parts → PassedBack old new parts left far → 0 < left
     → part ≡ get_or parts (left - 1) part → BackStep old new parts left far part
-back-step old new parts left far part fit passed some is =
+back-step {old} {new} {parts} {left} {far} part fit passed some is =
     let P = PartFits (length old) (length new) in
     let within = passed.within in
     let far_is = passed.far_is in
@@ -447,19 +447,19 @@ back-step old new parts left far part fit passed some is =
           ∙ append_assoc (behind_text old new rest) text (behind_text old new front) in
           subst (λ n. IsSecond (behind_text old new parts) (n + line_start 1 text)) long
           (subst (λ t. IsSecond t (length (behind_text old new rest) + line_start 1 text)) (sym whole)
-          (second-behind (behind_text old new rest) text (behind_text old new front) (line_start 1 text) passed.none
+          (second-behind (behind_text old new rest) (behind_text old new front) passed.none
           second));
     }
 
-pub place-next : (cursor : Cursor) (old : List Cell) → IsCursor cursor → length old ≡ cursor.old_len
+pub place-next : {cursor : Cursor} (old : List Cell) → IsCursor cursor → length old ≡ cursor.old_len
     → line_start 1 (drop cursor.at (characters (cursor_cells old cursor)))
     ≡ line_start 1 (characters (behind_cells old cursor.fresh.items (side_parts cursor.behind)))
-place-next cursor old is long =
+place-next {cursor} old is long =
     let front = front_cells old cursor.fresh.items (side_parts cursor.front) in
     let behind = behind_cells old cursor.fresh.items (side_parts cursor.behind) in
     ap (λ xs. line_start 1 (drop cursor.at xs)) (map-append (λ (cell : Cell). cell.character) front behind)
     ∙ ap (line_start 1) (drop_at (characters front) (characters behind) cursor.at (length-characters front
-    ∙ place-is cursor old is long))
+    ∙ place-is old is long))
 
 -- ---- the same over blocks
 
@@ -486,10 +486,10 @@ pub record FarLineStep (old : List Cell) (new : List ℕ) (blocks : List Block) 
   pub some : (line : ℕ) → IsLastLine (front_text old new block.parts.items) (end - block.count) line →
       line ≡ last_line (front_text old new (block_parts false blocks))
 
-pub far-line-step : (old : List Cell) (new : List ℕ) (blocks : List Block) (left end : ℕ) (block : Block) →
+pub far-line-step : {old : List Cell} {new : List ℕ} {blocks : List Block} {left end : ℕ} (block : Block) →
     All (PartFits (length old) (length new)) (block_parts false blocks) → FarLine old new blocks left end → 0 < left
     → block ≡ get_or blocks (left - 1) block → FarLineStep old new blocks left end block
-far-line-step old new blocks left end block fit so_far some is =
+far-line-step {old} {new} {blocks} {left} {end} block fit so_far some is =
     let P = PartFits (length old) (length new) in
     let within = so_far.within in let place = so_far.place in let counted = block.counted in
     let parts = block.parts.items in
@@ -540,25 +540,25 @@ pub record NearLine (old : List Cell) (cursor : Cursor) : Type 0 where
       → last_line (front_text old cursor.fresh.items (block_parts false cursor.front.far.items))
       ≡ line_start (line_of (characters (cursor_cells old cursor)) cursor.at) (characters (cursor_cells old cursor))
 
-pub far-fit : (cursor : Cursor) (old : List Cell) → IsCursor cursor → length old ≡ cursor.old_len →
+pub far-fit : {cursor : Cursor} (old : List Cell) → IsCursor cursor → length old ≡ cursor.old_len →
     All (PartFits (length old) (length cursor.fresh.items)) (block_parts false cursor.front.far.items)
-far-fit cursor old is long =
+far-fit {cursor} old is long =
     let P = PartFits (length old) (length cursor.fresh.items) in
     subst (λ t. All P (block_parts t cursor.front.far.items)) is.ahead
     (split-fit P (block_parts cursor.front.turned cursor.front.far.items) cursor.front.near.items
     (same-fit cursor old (side_parts cursor.front) long is.front)).0
 
-pub far-behind-fit : (cursor : Cursor) (old : List Cell) → IsCursor cursor → length old ≡ cursor.old_len →
+pub far-behind-fit : {cursor : Cursor} (old : List Cell) → IsCursor cursor → length old ≡ cursor.old_len →
     All (PartFits (length old) (length cursor.fresh.items)) (block_parts true cursor.behind.far.items)
-far-behind-fit cursor old is long =
+far-behind-fit {cursor} old is long =
     let P = PartFits (length old) (length cursor.fresh.items) in
     subst (λ t. All P (block_parts t cursor.behind.far.items)) is.turned
     (split-fit P (block_parts cursor.behind.turned cursor.behind.far.items) cursor.behind.near.items
     (same-fit cursor old (side_parts cursor.behind) long is.behind)).0
 
-pub near-line : (cursor : Cursor) (old : List Cell) → IsCursor cursor → length old ≡ cursor.old_len →
+pub near-line : {cursor : Cursor} (old : List Cell) → IsCursor cursor → length old ≡ cursor.old_len →
     NearLine old cursor
-near-line cursor old is long =
+near-line {cursor} old is long =
     let new = cursor.fresh.items in
     let P = PartFits (length old) (length new) in
     let near = cursor.front.near.items in
@@ -568,8 +568,7 @@ near-line cursor old is long =
     let near_fit = (split-fit P (block_parts cursor.front.turned cursor.front.far.items) near
     (same-fit cursor old (side_parts cursor.front) long is.front)).1 in
     let sum : cursor.at ≡ parts_len far + parts_len near = sym is.place ∙ ap parts_len parts ∙ len-append far near in
-    let counted = front-text-length old new far (far-fit cursor old is long) in
-    let text = place-line cursor old is long
+    let counted = front-text-length old new far (far-fit old is long) in let text = place-line old is long
     ∙ ap (λ ps. last_line (front_text old new ps)) parts ∙ ap last_line (front-both old new far near) in
     record {
       fit = near_fit;
@@ -582,9 +581,8 @@ near-line cursor old is long =
       none = λ none. sym (text ∙ last-none (front_text old new far) (front_text old new near) none);
     }
 
-pub far-small : (cursor : Cursor) → IsCursor cursor →
-    parts_len (block_parts true cursor.behind.far.items) ≤ cursor.len
-far-small cursor is =
+pub far-small : {cursor : Cursor} → IsCursor cursor → parts_len (block_parts true cursor.behind.far.items) ≤ cursor.len
+far-small {cursor} is =
     let sum = ap (λ t. parts_len (block_parts t cursor.behind.far.items ++ cursor.behind.near.items)) is.turned
     ∙ len-append (block_parts true cursor.behind.far.items) cursor.behind.near.items in
     let whole = is.whole in
@@ -609,10 +607,10 @@ turned-text : (old : List Cell) (new : List ℕ) (parts : List Part) →
     behind_text old new (reverse parts) ≡ front_text old new parts
 turned-text old new parts = ap characters (behind-reverse old new parts)
 
-pub far-step : (old : List Cell) (new : List ℕ) (blocks : List Block) (left far : ℕ) (block : Block) →
+pub far-step : {old : List Cell} {new : List ℕ} {blocks : List Block} {left far : ℕ} (block : Block) →
     All (PartFits (length old) (length new)) (block_parts true blocks) → FarPassed old new blocks left far → 0 < left
     → block ≡ get_or blocks (left - 1) block → FarStep old new blocks left far block
-far-step old new blocks left far block fit passed some is =
+far-step {old} {new} {blocks} {left} {far} block fit passed some is =
     let P = PartFits (length old) (length new) in
     let within = passed.within in let far_is = passed.far_is in let counted = block.counted in
     let parts = block.parts.items in
@@ -651,8 +649,7 @@ far-step old new blocks left far block fit passed some is =
       some = λ n second.
           let found : IsSecond (behind_text old new rest ++ (front_text old new parts ++ behind_text old new front))
           (length (behind_text old new rest) + n) =
-          second-behind (behind_text old new rest) (front_text old new parts) (behind_text old new front) n
-          passed.none second in
+          second-behind (behind_text old new rest) (behind_text old new front) passed.none second in
           ap (λ m. m + n) (sym long) ∙ found.is
           ∙ sym (ap (λ ps. line_start 1 (behind_text old new ps)) whole
           ∙ ap (line_start 1) (behind-both old new front (reverse parts ++ rest)
@@ -665,10 +662,10 @@ far-step old new blocks left far block fit passed some is =
     }
 
 -- no line begins behind the first one, in no block
-pub far-none : (old : List Cell) (new : List ℕ) (blocks : List Block) (far : ℕ) →
+pub far-none : {old : List Cell} {new : List ℕ} {blocks : List Block} {far : ℕ} →
     All (PartFits (length old) (length new)) (block_parts true blocks) → FarPassed old new blocks 0 far →
     far ≡ line_start 1 (behind_text old new (block_parts true blocks))
-far-none old new blocks far fit passed =
+far-none {old} {new} {blocks} fit passed =
     let none = passed.none in
     passed.far_is ∙ sym (behind-text-length old new (block_parts true blocks) fit)
     ∙ sym (line_start-past (behind_text old new (block_parts true blocks)) 1 (omega (arith, none)))
@@ -685,9 +682,9 @@ pub record NearNext (old : List Cell) (cursor : Cursor) : Type 0 where
       ≡ line_start 1 (drop cursor.at (characters (cursor_cells old cursor)))
   pub bound : cursor.at + line_start 1 (drop cursor.at (characters (cursor_cells old cursor))) ≤ cursor.len
 
-pub near-next : (cursor : Cursor) (old : List Cell) → IsCursor cursor → length old ≡ cursor.old_len →
+pub near-next : {cursor : Cursor} (old : List Cell) → IsCursor cursor → length old ≡ cursor.old_len →
     NearNext old cursor
-near-next cursor old is long =
+near-next {cursor} old is long =
     let new = cursor.fresh.items in
     let P = PartFits (length old) (length new) in
     let near = cursor.behind.near.items in
@@ -700,7 +697,7 @@ near-next cursor old is long =
     let sum : parts_len (side_parts cursor.behind) ≡ parts_len far + parts_len near =
     ap parts_len parts ∙ len-append far near in
     let counted = behind-text-length old new near near_fit in
-    let place = place-next cursor old is long in
+    let place = place-next old is long in
     let text : line_start 1 (drop cursor.at (characters (cursor_cells old cursor)))
     ≡ line_start 1 (behind_text old new near ++ behind_text old new far) = place
     ∙ ap (λ ps. line_start 1 (behind_text old new ps)) parts ∙ ap (line_start 1) (behind-both old new far near) in
@@ -731,12 +728,12 @@ between-slots (Some slots) old new from to i inside within =
     ∙ get_or-map (λ _. slots) (slice_range new from to) i 0 set.empty
     (let long = slice-length from to new (omega (arith, inside)) within in omega (arith, long, inside))
 
-pub shared-is : (cursor : Cursor) (old : List Cell) (fronts behinds : List Part) (before behind : Part) →
+pub shared-is : {cursor : Cursor} (old : List Cell) (fronts behinds : List Part) (before behind : Part) →
     IsCursor cursor → length old ≡ cursor.old_len
     → side_parts cursor.front ≡ fronts ++ before ∷ [] → side_parts cursor.behind ≡ behinds ++ behind ∷ []
     → set.intersection (slots_in before.slots old (before.to - 1)) (slots_in behind.slots old behind.from)
     ≡ shared_slots cursor.at (cursor_cells old cursor)
-shared-is cursor old fronts behinds before behind is long front_is behind_is =
+shared-is {cursor} old fronts behinds before behind is long front_is behind_is =
     let new = cursor.fresh.items in
     let P = PartFits (length old) (length new) in
     let front_fit = All-pop P (side_parts cursor.front) fronts (Some before) front_is
@@ -756,8 +753,7 @@ shared-is cursor old fronts behinds before behind is long front_is behind_is =
     let place : length (fs ++ p) ≡ cursor.at =
     sym (ap length (map-append tags (front_cells old new fronts) (part_cells old new before)))
     ∙ length-slot_sets (front_cells old new fronts ++ part_cells old new before)
-    ∙ ap length (sym (ap (front_cells old new) front_is ∙ front-push old new fronts before))
-    ∙ place-is cursor old is long in
+    ∙ ap length (sym (ap (front_cells old new) front_is ∙ front-push old new fronts before)) ∙ place-is old is long in
     let p_long : length p ≡ before.to - before.from = length-slot_sets (part_cells old new before)
     ∙ part-length old new before one in
     let q_long : length q ≡ behind.to - behind.from = length-slot_sets (part_cells old new behind)

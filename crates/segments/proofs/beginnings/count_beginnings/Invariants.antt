@@ -1,4 +1,4 @@
-use Rattle.segments.proofs.Words.{◌≡◌, ◌≤◌, ◌-◌, length, take, beginnings}
+use Rattle.segments.proofs.Common.{◌≡◌, ◌≤◌, ◌-◌, length, take, beginnings}
 use Rattle.segments.proofs.beginnings.count_beginnings.Given as goal
 
 abbrev pub invariant-loop-start : goal.invariant-loop-start

@@ -1,4 +1,4 @@
-use Rattle.segments.proofs.Words.{◌≡◌, ◌≤◌, take, beginnings}
+use Rattle.segments.proofs.Common.{◌≡◌, ◌≤◌, take, beginnings}
 use Rattle.segments.proofs.beginnings.count_each.Given as goal
 
 abbrev pub invariant-loop-byte : goal.invariant-loop-byte

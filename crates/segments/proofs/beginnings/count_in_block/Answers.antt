@@ -1,4 +1,4 @@
-use Rattle.segments.proofs.Words.{w8, chunk-fits, length-chunk}
+use Rattle.segments.proofs.Common.{w8, chunk-fits, length-chunk}
 use Rattle.std.specs.Simd.Lanes.{chunk}
 use Rattle.segments.proofs.BeginningLaws.{block_count}
 use Rattle.segments.proofs.beginnings.count_in_block.Goals as goal

@@ -1,4 +1,4 @@
-use Rattle.segments.proofs.Words.{◌≡◌, ◌+◌, ◌≤◌, ◌-◌, length, take, beginnings}
+use Rattle.segments.proofs.Common.{◌≡◌, ◌+◌, ◌≤◌, ◌-◌, length, take, beginnings}
 use Rattle.segments.proofs.beginnings.next_beginning.Given as goal
 
 abbrev pub invariant-loop-at : goal.invariant-loop-at

@@ -1,13 +1,12 @@
-use Rattle.segments.proofs.Words.{arith}
+use Rattle.segments.proofs.Common.{arith}
 use Rattle.segments.proofs.BeginningLaws.{more_beginnings}
 use Rattle.segments.proofs.beginnings.skip_blocks.Goals as goal
 
 pub loop-start-preserved : goal.loop-start-preserved
 loop-start-preserved c =
     let so_far = c.loop-start.invariant in
-    let here = c.count_in_block-here.ensures in
     let more = more_beginnings c.args.bytes.now c.loop-start.start 32 in
     record {
       within = omega (arith, so_far.within, c.loop-start-test.true);
-      left = omega (arith, so_far.left, here, more, c.if-left-here.false);
+      left = omega (arith, so_far.left, c.count_in_block-here.ensures, more, c.if-left-here.false);
     }

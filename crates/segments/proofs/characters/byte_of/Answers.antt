@@ -1,5 +1,6 @@
-use Rattle.segments.proofs.Words.{◌≡◌, ◌≤◌, length, drop, sym, ap, subst, ◌∙◌, arith, chars, IsCharBoundary, drop_all}
-use Rattle.segments.proofs.Words.{chars-IsAscii, chars-nil, IsAscii-drop, IsCharBoundary-end, IsCharBoundary-from_ascii}
+use Rattle.segments.proofs.Common.{◌≡◌, ◌≤◌, length, drop, sym, ap, subst, ◌∙◌, arith, chars, IsCharBoundary, drop_all}
+use Rattle.segments.proofs.Common.{chars-IsAscii, chars-nil, IsAscii-drop, IsCharBoundary-end}
+use Rattle.segments.proofs.Common.{IsCharBoundary-from_ascii}
 use Rattle.segments.proofs.TextLaws.{front_of, is_ascii}
 use Rattle.segments.proofs.characters.byte_of.Goals as goal
 

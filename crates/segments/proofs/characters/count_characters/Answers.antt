@@ -1,4 +1,4 @@
-use Rattle.segments.proofs.Words.{ap, ◌∙◌, beginnings}
+use Rattle.segments.proofs.Common.{ap, ◌∙◌, beginnings}
 use Rattle.segments.proofs.BeginningLaws.{beginnings-chars}
 use Rattle.segments.proofs.characters.count_characters.Goals as goal
 

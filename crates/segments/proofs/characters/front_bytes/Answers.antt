@@ -1,4 +1,4 @@
-use Rattle.segments.proofs.Words.{◌≤◌, take, sym, ap, ◌∙◌, subst, IsCharBoundary, beginnings}
+use Rattle.segments.proofs.Common.{◌≤◌, take, sym, ap, ◌∙◌, subst, IsCharBoundary, beginnings}
 use Rattle.segments.proofs.BeginningLaws.{beginnings-chars, behind_beginnings, cut_at_beginning}
 use Rattle.segments.proofs.characters.front_bytes.Goals as goal
 
@@ -15,7 +15,6 @@ returns-clause-behind c =
     let byte = c.find_beginning.result in
     let column = c.args.column in
     let bytes = c.as_bytes.ensures.value in
-    let many = ap beginnings bytes ∙ beginnings-chars text c.utf8.text in
-    let within = subst (λ n. column ≤ n) (sym many) c.requires in
+    let within = subst (λ n. column ≤ n) (sym (ap beginnings bytes ∙ beginnings-chars text c.utf8.text)) c.requires in
     behind_beginnings text byte column c.utf8.text (returns-clause-boundary c)
     (ap (λ t. beginnings (take byte t)) (sym bytes) ∙ c.find_beginning.ensures.count within)

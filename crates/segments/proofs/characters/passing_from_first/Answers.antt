@@ -1,4 +1,4 @@
-use Rattle.segments.proofs.Words.{arith, chars, prefix_len-le-length}
+use Rattle.segments.proofs.Common.{arith, chars, prefix_len-le-length}
 use Rattle.segments.proofs.characters.passing_from_first.Goals as goal
 
 pub returns : goal.returns

@@ -1,4 +1,4 @@
-use Rattle.segments.proofs.Words.{◌≡◌, ◌+◌, prefix_len, chars}
+use Rattle.segments.proofs.Common.{◌≡◌, ◌+◌, prefix_len, chars}
 use denote.Shadow.{shadow}
 use denote.Text.{Utf8}
 use Rattle.segments.proofs.characters.passing_from_first.Given as goal

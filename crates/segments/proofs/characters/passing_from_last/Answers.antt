@@ -1,4 +1,4 @@
-use Rattle.segments.proofs.Words.{arith, chars, suffix_len-le-length}
+use Rattle.segments.proofs.Common.{arith, chars, suffix_len-le-length}
 use Rattle.segments.proofs.characters.passing_from_last.Goals as goal
 
 pub returns : goal.returns

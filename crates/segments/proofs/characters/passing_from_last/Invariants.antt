@@ -1,4 +1,4 @@
-use Rattle.segments.proofs.Words.{◌≡◌, ◌+◌, suffix_len, chars}
+use Rattle.segments.proofs.Common.{◌≡◌, ◌+◌, suffix_len, chars}
 use denote.Shadow.{shadow}
 use denote.Text.{Utf8}
 use Rattle.segments.proofs.characters.passing_from_last.Given as goal

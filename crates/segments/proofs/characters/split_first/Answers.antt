@@ -1,4 +1,4 @@
-use Rattle.segments.proofs.Words.{◌∙◌, ◌++◌, ap, sym, encode_utf8, chars_past_char}
+use Rattle.segments.proofs.Common.{◌∙◌, ◌++◌, ap, sym, encode_utf8, chars_past_char}
 use Rattle.segments.proofs.characters.split_first.Goals as goal
 
 pub returns-clause-some : goal.returns-clause-some

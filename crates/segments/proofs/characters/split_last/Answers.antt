@@ -1,4 +1,4 @@
-use Rattle.segments.proofs.Words.{◌∙◌, ◌++◌, ap, length, sym, encode_utf8}
+use Rattle.segments.proofs.Common.{◌∙◌, ◌++◌, ap, length, sym, encode_utf8}
 use Rattle.segments.proofs.TextLaws.{chars-behind, no_characters}
 use Rattle.segments.proofs.characters.split_last.Goals as goal
 

@@ -1,8 +1,8 @@
-use Rattle.segments.proofs.Words.{◌≡◌, true, false, ltb, ltb-true, ltb-false, arith, rules}
-use Rattle.segments.proofs.Words.{IsPartitionPoint-from_clause, IsPartitionedBy-ltb, IsPartitionPoint, Mark}
+use Rattle.segments.proofs.Common.{◌≡◌, true, false, ltb, ltb-true, ltb-false, arith, rules}
+use Rattle.segments.proofs.Common.{IsPartitionPoint-from_clause, IsPartitionedBy-ltb, IsPartitionPoint, Mark}
 use Rattle.segments.proofs.MarkLaws.{all_below, next_above, numbers_rise}
-use Rattle.segments.proofs.marks.count_below.Goals as goal
 use Rattle.segments.proofs.marks.count_below.Goals.{After-partition_point}
+use Rattle.segments.proofs.marks.count_below.Goals as goal
 
 -- the marks before the place have lower numbers, and those from it on haven't
 parted : (c : After-partition_point)
@@ -16,12 +16,10 @@ parted c =
 
 pub returns-clause-below : goal.returns-clause-below
 returns-clause-below c =
-    let point = parted c in
     all_below c.args.marks.now c.partition_point.result c.args.number.0 c.partition_point.ensures.bound (λ k d less.
-    ltb-true _ _ (point.0 k d (omega arith) less))
+    ltb-true _ _ ((parted c).0 k d (omega arith) less))
 
 pub returns-clause-above : goal.returns-clause-above
 returns-clause-above c =
-    let point = parted c in
     next_above c.args.marks.now c.partition_point.result c.args.number.0 (λ k d order within.
-    ltb-false _ _ (point.1 k d order within))
+    ltb-false _ _ ((parted c).1 k d order within))

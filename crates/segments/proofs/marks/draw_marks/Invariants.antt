@@ -1,4 +1,4 @@
-use Rattle.segments.proofs.Words.{◌≡◌, ◌++◌, map, take, drop, drawn, with_place}
+use Rattle.segments.proofs.Common.{◌≡◌, ◌++◌, map, take, drop, drawn, with_place}
 use Rattle.segments.proofs.marks.draw_marks.Given as goal
 
 abbrev pub invariant-loop-mark : goal.invariant-loop-mark

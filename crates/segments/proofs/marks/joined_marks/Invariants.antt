@@ -1,4 +1,4 @@
-use Rattle.segments.proofs.Words.{ℕ, ◌+◌, ◌-◌, ◌≤◌, length, StandIn}
+use Rattle.segments.proofs.Common.{ℕ, ◌+◌, ◌-◌, ◌≤◌, length, StandIn}
 use Rattle.segments.proofs.MarkLaws.{MergesAt}
 use Rattle.segments.proofs.marks.joined_marks.Given as goal
 

@@ -1,4 +1,4 @@
-use Rattle.segments.proofs.Words.{rules}
+use Rattle.segments.proofs.Common.{rules}
 use Rattle.std.proofs.lemmas.Fn.{filter_same}
 use Rattle.segments.proofs.marks.keep_before.Goals as goal
 

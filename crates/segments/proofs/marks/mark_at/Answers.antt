@@ -1,4 +1,4 @@
-use Rattle.segments.proofs.Words.{ap, slice_get}
+use Rattle.segments.proofs.Common.{ap, slice_get}
 use Rattle.segments.proofs.MarkOrderLaws.{marks_at-marks_of}
 use Rattle.segments.proofs.marks.mark_at.Goals as goal
 

@@ -1,4 +1,4 @@
-use Rattle.segments.proofs.Words.{◌≡◌, drop, slice_get, marks_at, marks_of}
+use Rattle.segments.proofs.Common.{◌≡◌, drop, slice_get, marks_at, marks_of}
 use Rattle.segments.proofs.MarkOrderLaws.{numbers_at}
 use Rattle.segments.proofs.marks.mark_at.Given as goal
 

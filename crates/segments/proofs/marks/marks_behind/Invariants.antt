@@ -1,4 +1,4 @@
-use Rattle.segments.proofs.Words.{◌≡◌, map, take, nat_le, filter, Mark, earlier, with_place}
+use Rattle.segments.proofs.Common.{◌≡◌, map, take, nat_le, filter, Mark, earlier, with_place}
 use Rattle.segments.proofs.marks.marks_behind.Given as goal
 
 abbrev pub invariant-loop-mark : goal.invariant-loop-mark

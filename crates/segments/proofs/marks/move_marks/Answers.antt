@@ -1,5 +1,5 @@
-use Rattle.segments.proofs.Words.{◌<◌, length, set, get_or, ap, ◌∙◌, arith, get_or_default, map_over_more, Left, Place}
-use Rattle.segments.proofs.Words.{moved, Mark, with_place}
+use Rattle.segments.proofs.Common.{◌<◌, length, set, get_or, ap, ◌∙◌, arith, get_or_default, map_over_more, Left, Place}
+use Rattle.segments.proofs.Common.{moved, Mark, with_place}
 use Rattle.segments.proofs.MarkPlaceLaws.{none_moved}
 use Rattle.segments.proofs.marks.move_marks.Goals as goal
 

@@ -1,4 +1,4 @@
-use Rattle.segments.proofs.Words.{◌≡◌, ◌++◌, map, take, drop, moved, with_place}
+use Rattle.segments.proofs.Common.{◌≡◌, ◌++◌, map, take, drop, moved, with_place}
 use Rattle.segments.proofs.marks.move_marks.Given as goal
 
 abbrev pub invariant-loop-mark : goal.invariant-loop-mark

@@ -1,4 +1,4 @@
-use Rattle.segments.proofs.Words.{◌≡◌, min, drop, next_mark, reduced_from, marks_of}
+use Rattle.segments.proofs.Common.{◌≡◌, min, drop, next_mark, reduced_from, marks_of}
 use Rattle.segments.proofs.MarkOrderLaws.{offsets_above}
 use Rattle.segments.proofs.marks.next_mark.Given as goal
 

@@ -1,4 +1,4 @@
-use Rattle.segments.proofs.Words.{◌≡◌, max, drop, previous_mark, reduced_from, marks_of}
+use Rattle.segments.proofs.Common.{◌≡◌, max, drop, previous_mark, reduced_from, marks_of}
 use Rattle.segments.proofs.MarkOrderLaws.{offsets_below}
 use Rattle.segments.proofs.marks.previous_mark.Given as goal
 

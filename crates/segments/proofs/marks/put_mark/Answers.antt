@@ -1,10 +1,10 @@
-use Rattle.segments.proofs.Words.{◌≡◌, ◌<◌, ◌≤◌, length, set, take, drop, sym, ap, subst, ◌∙◌, arith, get_or_default}
-use Rattle.segments.proofs.Words.{All, put, nat_cmp, Mark, Below, entries_of}
+use Rattle.segments.proofs.Common.{◌≡◌, ◌<◌, ◌≤◌, length, set, take, drop, sym, ap, subst, ◌∙◌, arith, get_or_default}
+use Rattle.segments.proofs.Common.{All, put, nat_cmp, Mark, Below, entries_of}
 use Rattle.segments.proofs.MarkLaws.{above_end, above_other, put_marks, put_new, put_rise, put_same}
-use Rattle.segments.proofs.marks.put_mark.Goals as goal
 use Rattle.segments.proofs.marks.put_mark.Goals.{After-index_mut, In_ok-insert}
 use Rattle.segments.proofs.marks.put_mark.Goals.{else-index-len-via-then-index-len+else-index-number}
 use Rattle.segments.proofs.marks.put_mark.Goals.{else-index-len-via-else-index-len}
+use Rattle.segments.proofs.marks.put_mark.Goals as goal
 
 -- the mark of the number is there
 replaced : (c : After-index_mut)

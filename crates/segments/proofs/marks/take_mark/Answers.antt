@@ -1,9 +1,9 @@
-use Rattle.segments.proofs.Words.{◌≡◌, ◌<◌, ◌≤◌, take, drop, ap, subst, ◌∙◌, arith, All, where_key, nat_cmp, Mark}
-use Rattle.segments.proofs.Words.{Below, entries_of}
+use Rattle.segments.proofs.Common.{◌≡◌, ◌<◌, ◌≤◌, take, drop, ap, subst, ◌∙◌, arith, All, where_key, nat_cmp, Mark}
+use Rattle.segments.proofs.Common.{Below, entries_of}
 use Rattle.segments.proofs.MarkLaws.{above_end, above_other, other_than, take_marks, take_none, take_rise, take_same}
-use Rattle.segments.proofs.marks.take_mark.Goals as goal
 use Rattle.segments.proofs.marks.take_mark.Goals.{After-remove, else-index-len-via-then-index-len+else-index-number}
 use Rattle.segments.proofs.marks.take_mark.Goals.{else-index-len-via-else-index-len}
+use Rattle.segments.proofs.marks.take_mark.Goals as goal
 
 taken : (c : After-remove) → entries_of c.remove.new.self.items
     ≡ where_key nat_cmp (other_than c.args.number.0) (entries_of c.args.marks.now.items)

@@ -1,4 +1,4 @@
-use Rattle.segments.proofs.Words.{◌*◌, rules, WORDS}
+use Rattle.segments.proofs.Common.{◌*◌, rules, WORDS}
 use Rattle.segments.proofs.ToggleLaws.{lies_cleared, slots_stay_cleared}
 use Rattle.segments.proofs.toggles.clear.Goals as goal
 

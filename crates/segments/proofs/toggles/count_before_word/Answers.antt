@@ -1,9 +1,9 @@
-use Rattle.segments.proofs.Words.{◌≡◌, ℕ, ◌+◌, ◌*◌, true, false, ltb, ltb-true, ltb-false, arith, rules}
-use Rattle.segments.proofs.Words.{IsPartitionPoint-from_clause, IsPartitionedBy-ltb, IsPartitionPoint, WORDS, Toggled}
-use Rattle.segments.proofs.Words.{RiseIn, place_of}
+use Rattle.segments.proofs.Common.{◌≡◌, ℕ, ◌+◌, ◌*◌, true, false, ltb, ltb-true, ltb-false, arith, rules}
+use Rattle.segments.proofs.Common.{IsPartitionPoint-from_clause, IsPartitionedBy-ltb, IsPartitionPoint, WORDS, Toggled}
+use Rattle.segments.proofs.Common.{RiseIn, place_of}
 use Rattle.segments.proofs.EntryLaws.{before_point, behind_point, places_rise, told}
-use Rattle.segments.proofs.toggles.count_before_word.Goals as goal
 use Rattle.segments.proofs.toggles.count_before_word.Goals.{After-partition_point}
+use Rattle.segments.proofs.toggles.count_before_word.Goals as goal
 
 -- the entries before the index stand before the place, and those from it on don't
 parted : (c : After-partition_point) (from to : ℕ) → RiseIn from to c.args.toggles.now
@@ -19,13 +19,10 @@ parted c from to rise =
 pub returns-clause-before : goal.returns-clause-before
 returns-clause-before c = λ from to rise.
     let place = WORDS * c.args.column + c.args.word in
-    let point = parted c from to rise in
     before_point from to place c.args.toggles.now c.partition_point.result rise c.partition_point.ensures.bound
-    (λ k d less. ltb-true _ _ (point.0 k d (omega arith) less))
+    (λ k d less. ltb-true _ _ ((parted c from to rise).0 k d (omega arith) less))
 
 pub returns-clause-behind : goal.returns-clause-behind
 returns-clause-behind c = λ from to rise above.
-    let place = WORDS * c.args.column + c.args.word in
-    let point = parted c from to rise in
-    behind_point from to place c.args.toggles.now c.partition_point.result rise
-    (λ k d order within. ltb-false _ _ (point.1 k d order within))
+    behind_point from to (WORDS * c.args.column + c.args.word) c.args.toggles.now c.partition_point.result rise
+    (λ k d order within. ltb-false _ _ ((parted c from to rise).1 k d order within))

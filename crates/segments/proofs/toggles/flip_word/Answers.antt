@@ -1,14 +1,14 @@
-use Rattle.segments.proofs.Words.{◌≡◌, ℕ, ◌+◌, ◌*◌, ◌<◌, ◌≢◌, List, length, get_or, sym, ap, ap₂, subst, ◌∙◌, arith}
-use Rattle.segments.proofs.Words.{false≢true, get_or_default, IsOneWord, word_index, differing, WORDS, Toggled, LieIn}
-use Rattle.segments.proofs.Words.{place_of, toggled_at}
+use Rattle.segments.proofs.Common.{◌≡◌, ℕ, ◌+◌, ◌*◌, ◌<◌, ◌≢◌, List, length, get_or, sym, ap, ap₂, subst, ◌∙◌, arith}
+use Rattle.segments.proofs.Common.{false≢true, get_or_default, IsOneWord, word_index, differing, WORDS, Toggled, LieIn}
+use Rattle.segments.proofs.Common.{place_of, toggled_at}
 use Rattle.segments.proofs.EntryLaws.{all_words}
 use Rattle.segments.proofs.ToggleLaws.{flips_changed, flips_inserted, flips_removed, left_word, lies_changed}
 use Rattle.segments.proofs.ToggleLaws.{lies_inserted, lies_removed}
-use Rattle.segments.proofs.toggles.flip_word.Goals as goal
 use Rattle.segments.proofs.toggles.flip_word.Goals.{then-is_empty, else-is_empty}
 use Rattle.segments.proofs.toggles.flip_word.Goals.{else-index-len-via-then-index-len+then-index-column+else-index-word}
 use Rattle.segments.proofs.toggles.flip_word.Goals.{else-index-len-via-then-index-len+else-index-column}
 use Rattle.segments.proofs.toggles.flip_word.Goals.{else-index-len-via-else-index-len}
+use Rattle.segments.proofs.toggles.flip_word.Goals as goal
 
 -- an entry that was read is the list's
 entry_of : (entries : List Toggled) (i : ℕ) (read d : Toggled) → i < length entries → read ≡ get_or entries i read →

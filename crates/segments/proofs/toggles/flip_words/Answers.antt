@@ -1,11 +1,10 @@
-use Rattle.segments.proofs.Words.{◌≡◌, ℕ, cond, true, sym, ap, subst, ◌∙◌, arith, false≢true, vec_capacity, vec_len}
-use Rattle.segments.proofs.Words.{has_word, differing, WORDS, before_word, before_word-all, before_word-more}
-use Rattle.segments.proofs.Words.{before_word-none, counts_among, word-none, word-some, words_below-more}
-use Rattle.segments.proofs.Words.{empty-differing, LieIn, flipped, toggled_at}
+use Rattle.segments.proofs.Common.{◌≡◌, ℕ, cond, true, sym, ap, ◌∙◌, arith, false≢true, has_word, differing, WORDS}
+use Rattle.segments.proofs.Common.{before_word, before_word-all, before_word-more, before_word-none, counts_among}
+use Rattle.segments.proofs.Common.{word-none, word-some, words_below-more, empty-differing, flipped, toggled_at}
 use Rattle.text_model.specs.OneWord.{words_below}
 use Rattle.segments.proofs.ToggleLaws.{flips_both, flips_none}
-use Rattle.segments.proofs.toggles.flip_words.Goals as goal
 use Rattle.segments.proofs.toggles.flip_words.Goals.{then-not-is_empty, else-not-is_empty}
+use Rattle.segments.proofs.toggles.flip_words.Goals as goal
 
 pub loop-index-init : goal.loop-index-init
 unfolding words_below
@@ -22,8 +21,7 @@ flip_word-requires c =
     let slots = c.args.slots.now in
     let has : has_word index slots ≡ true = word-some index slots (λ none.
     false≢true (sym c.if-not-is_empty.true ∙ c.is_empty.ensures.some (c.word-word.ensures.slots ∙ none))) in
-    let more = counts_among index slots c.loop-index-test.true has in
-    record { room = omega (arith, c.loop-index.invariant.room, more) }
+    record { room = omega (arith, c.loop-index.invariant.room, counts_among index slots c.loop-index-test.true has) }
 
 pub loop-index-preserved : goal.loop-index-preserved
 loop-index-preserved c =
@@ -37,39 +35,30 @@ loop-index-preserved c =
           let has : has_word index slots ≡ true = word-some index slots (λ none.
           false≢true (sym w.if-not-is_empty.true ∙ c.is_empty.ensures.some (c.word-word.ensures.slots ∙ none))) in
           let one : cond (has_word index slots) 1 0 ≡ 1 = ap {B = ℕ} (λ b. cond b 1 0) has in
-          let len : vec_len c.if-not-is_empty.toggles ≡ vec_len w.flip_word.new.toggles = ap (λ v. vec_len v) w.toggles-is in
-          let capacity : vec_capacity c.if-not-is_empty.toggles ≡ vec_capacity w.flip_word.new.toggles =
-          ap (λ v. vec_capacity v) w.toggles-is in
-          record {
-            room = omega (arith, kept.room, more, one, len, capacity, w.flip_word.ensures.len, w.flip_word.ensures.capacity);
-            lie = λ from to lie above below. subst (LieIn from to) (sym (ap (λ v. v.items) w.toggles-is))
-                (w.flip_word.ensures.lie from to (kept.lie from to lie above below) above below);
+          rw w.toggles-is (record {
+            room = omega (arith, kept.room, more, one, w.flip_word.ensures.len, w.flip_word.ensures.capacity);
+            lie = λ from to lie above below.
+                w.flip_word.ensures.lie from to (kept.lie from to lie above below) above below;
             slots = λ at.
                 let old = toggled_at c.args.toggles.now.items at in
-                ap (λ v. toggled_at v.items at) w.toggles-is
-                ∙ w.flip_word.ensures.slots at
+                w.flip_word.ensures.slots at
                 ∙ ap (flipped column c.word-word.result at) (kept.slots at)
                 ∙ flips_both column c.word-word.result (before_word index slots) at old
                 ∙ ap (λ s. flipped column s at old)
                 (ap (λ s. differing s (before_word index slots)) c.word-word.ensures.slots
                 ∙ sym (before_word-more index slots));
-          }
+          })
       | else-not-is_empty w ↦
           let none = sym c.word-word.ensures.slots ∙ c.is_empty.ensures.none w.if-not-is_empty.false in
           let no : cond (has_word index slots) 1 0 ≡ 0 = ap {B = ℕ} (λ b. cond b 1 0) (word-none index slots none) in
-          let len : vec_len c.if-not-is_empty.toggles ≡ vec_len c.loop-index.toggles = ap (λ v. vec_len v) w.toggles-is in
-          let capacity : vec_capacity c.if-not-is_empty.toggles ≡ vec_capacity c.loop-index.toggles =
-          ap (λ v. vec_capacity v) w.toggles-is in
-          record {
-            room = omega (arith, kept.room, more, no, len, capacity);
-            lie = λ from to lie above below. subst (LieIn from to) (sym (ap (λ v. v.items) w.toggles-is))
-                (kept.lie from to lie above below);
-            slots = λ at.
-                ap (λ v. toggled_at v.items at) w.toggles-is ∙ kept.slots at
+          rw w.toggles-is (record {
+            room = omega (arith, kept.room, more, no);
+            lie = kept.lie;
+            slots = λ at. kept.slots at
                 ∙ ap (λ s. flipped column s at (toggled_at c.args.toggles.now.items at))
                 (sym (before_word-more index slots ∙ ap (λ s. differing s (before_word index slots)) none
                 ∙ empty-differing (before_word index slots)));
-          }
+          })
     ]
 
 pub returns-clause-slots : goal.returns-clause-slots

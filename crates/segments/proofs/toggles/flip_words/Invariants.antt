@@ -1,5 +1,5 @@
-use Rattle.segments.proofs.Words.{◌≡◌, ℕ, ◌+◌, ◌<◌, ◌≤◌, vec_capacity, vec_len, word_count, words_below, before_word}
-use Rattle.segments.proofs.Words.{LieIn, flipped, toggled_at}
+use Rattle.segments.proofs.Common.{◌≡◌, ℕ, ◌+◌, ◌<◌, ◌≤◌, vec_capacity, vec_len, word_count, words_below, before_word}
+use Rattle.segments.proofs.Common.{LieIn, flipped, toggled_at}
 use Rattle.segments.proofs.toggles.flip_words.Given as goal
 
 abbrev pub invariant-loop-index : goal.invariant-loop-index

@@ -1,10 +1,10 @@
-use Rattle.segments.proofs.Words.{◌≡◌, ◌*◌, ◌<◌, get_or, length, sym, ap, ◌∙◌, arith, get_or_default, WORDS, Toggled}
-use Rattle.std.specs.FinSet as set
+use Rattle.segments.proofs.Common.{◌≡◌, ◌*◌, ◌<◌, get_or, length, sym, ap, ◌∙◌, arith, get_or_default, WORDS, Toggled}
 use Rattle.segments.proofs.EntryLaws.{RiseIn-low}
 use Rattle.segments.proofs.ToggleLaws.{told_by, told_none}
-use Rattle.segments.proofs.toggles.has_toggle.Goals as goal
 use Rattle.segments.proofs.toggles.has_toggle.Goals.{else-index-toggles-via-then-index-toggles+else-toggles-index}
 use Rattle.segments.proofs.toggles.has_toggle.Goals.{else-index-toggles-via-else-index-toggles}
+use Rattle.std.specs.FinSet as set
+use Rattle.segments.proofs.toggles.has_toggle.Goals as goal
 
 pub returns-then-toggles-index : goal.returns-then-toggles-index
 returns-then-toggles-index c = λ from to lie.

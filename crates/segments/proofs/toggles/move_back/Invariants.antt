@@ -1,4 +1,4 @@
-use Rattle.segments.proofs.Words.{◌≡◌, ◌++◌, map, take, drop, moved_back}
+use Rattle.segments.proofs.Common.{◌≡◌, ◌++◌, map, take, drop, moved_back}
 use Rattle.segments.proofs.toggles.move_back.Given as goal
 
 abbrev pub invariant-loop-entry : goal.invariant-loop-entry

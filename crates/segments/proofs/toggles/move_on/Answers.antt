@@ -1,4 +1,4 @@
-use Rattle.segments.proofs.Words.{set, sym, ap, ◌∙◌, map_over_more, Toggled, moved_on}
+use Rattle.segments.proofs.Common.{set, sym, ap, ◌∙◌, map_over_more, Toggled, moved_on}
 use Rattle.segments.proofs.toggles.move_on.Goals as goal
 
 pub loop-entry-preserved : goal.loop-entry-preserved

@@ -1,4 +1,4 @@
-use Rattle.segments.proofs.Words.{◌≡◌, ◌++◌, map, take, drop, moved_on}
+use Rattle.segments.proofs.Common.{◌≡◌, ◌++◌, map, take, drop, moved_on}
 use Rattle.segments.proofs.toggles.move_on.Given as goal
 
 abbrev pub invariant-loop-entry : goal.invariant-loop-entry

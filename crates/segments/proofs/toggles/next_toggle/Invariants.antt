@@ -1,4 +1,4 @@
-use Rattle.segments.proofs.Words.{◌≡◌, drop, next_entry}
+use Rattle.segments.proofs.Common.{◌≡◌, drop, next_entry}
 use Rattle.segments.proofs.toggles.next_toggle.Given as goal
 
 abbrev pub invariant-loop-entry : goal.invariant-loop-entry

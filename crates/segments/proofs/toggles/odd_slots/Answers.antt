@@ -1,4 +1,4 @@
-use Rattle.segments.proofs.Words.{◌∙◌, ap, empty-differing, differing, odd_of}
+use Rattle.segments.proofs.Common.{◌∙◌, ap, empty-differing, differing, odd_of}
 use Rattle.segments.proofs.toggles.odd_slots.Goals as goal
 
 pub returns : goal.returns

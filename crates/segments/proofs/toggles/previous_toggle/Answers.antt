@@ -1,4 +1,4 @@
-use Rattle.segments.proofs.Words.{◌≡◌, suc, ◌-◌, ◌*◌, take, sym, ap, subst, ◌∙◌, arith, WORDS, LieIn, previous_entry}
+use Rattle.segments.proofs.Common.{◌≡◌, suc, ◌-◌, ◌*◌, take, sym, ap, subst, ◌∙◌, arith, WORDS, LieIn, previous_entry}
 use Rattle.segments.proofs.EntryLaws.{RiseIn-low}
 use Rattle.segments.proofs.PreviousLaws.{RiseIn-less, previous_front, previous_last, previous_less}
 use Rattle.segments.proofs.toggles.previous_toggle.Goals as goal
@@ -20,13 +20,12 @@ returns-then-has c = λ from to lie.
     let index = c.loop-index.index in
     let next : index ≡ suc (index - 1) = omega (arith, c.loop-index-test.true) in
     let kept = c.loop-index.invariant.1 from to lie in
-    let has = sym c.has.ensures ∙ c.if-has.true in
     sym (kept.1
     ∙ ap (λ n. previous_entry c.args.slot.0 c.args.column (take n toggles)) next
     ∙ previous_last c.args.slot.0 c.args.column (WORDS * from) (index - 1) toggles c.index-toggles-index-then-has.result
     c.index-toggles-index.result
     (subst (λ n. LieIn from c.args.column (take n toggles)) next kept.0) (omega (arith, next, c.loop-index.invariant.0))
-    has)
+    (sym c.has.ensures ∙ c.if-has.true))
 
 pub loop-index-preserved : goal.loop-index-preserved
 loop-index-preserved c = (

@@ -1,4 +1,4 @@
-use Rattle.segments.proofs.Words.{◌≡◌, ℕ, ◌≤◌, length, take, LieIn, previous_entry}
+use Rattle.segments.proofs.Common.{◌≡◌, ℕ, ◌≤◌, length, take, LieIn, previous_entry}
 use Rattle.segments.proofs.toggles.previous_toggle.Given as goal
 
 abbrev pub invariant-loop-index : goal.invariant-loop-index

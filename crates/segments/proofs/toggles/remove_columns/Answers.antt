@@ -1,13 +1,12 @@
-use Rattle.segments.proofs.Words.{◌≡◌, ◌+◌, ◌-◌, ◌*◌, ◌≤◌, ◌++◌, length, map, take, drop, sym, ap, ap₂, subst, ◌∙◌}
-use Rattle.segments.proofs.Words.{arith, take-append_seam, length-take-le, All, WORDS, CanMoveBack, LieIn, flipped}
-use Rattle.segments.proofs.Words.{moved_back, toggled_at}
+use Rattle.segments.proofs.Common.{◌≡◌, ◌+◌, ◌-◌, ◌*◌, ◌≤◌, ◌++◌, length, map, take, drop, sym, ap, subst, ◌∙◌, arith}
+use Rattle.segments.proofs.Common.{length-take-le, All, WORDS, CanMoveBack, LieIn, flipped, moved_back, toggled_at}
 use Rattle.segments.proofs.EntryLaws.{all_words}
 use Rattle.segments.proofs.MovedLaws.{can_move_back, toggled_front}
-use Rattle.segments.proofs.PartLaws.{rest_added}
+use Rattle.segments.proofs.PartLaws.{rest_added, rest_moved}
 use Rattle.segments.proofs.SpanLaws.{counts_rise, drawn_lies, removed_behind, removed_front}
-use Rattle.segments.proofs.toggles.remove_columns.Goals as goal
 use Rattle.segments.proofs.toggles.remove_columns.Goals.{After-count_before-end, After-move_rest_back}
 use Rattle.segments.proofs.toggles.remove_columns.Goals.{After-take_range-slots}
+use Rattle.segments.proofs.toggles.remove_columns.Goals as goal
 
 pub returns-then-to-len-clause-lie : goal.returns-then-to-len-clause-lie
 returns-then-to-len-clause-lie c =
@@ -44,8 +43,9 @@ within c = omega (arith, c.count_before-start.ensures.bound, c.deref.ensures.len
 
 rises : (c : After-count_before-end) → c.count_before-start.result ≤ c.count_before-end.result
 rises c =
-    counts_rise 0 c.args.from (c.args.to + 1) c.args.len c.args.toggles.now.items c.count_before-start.result
-    c.count_before-end.result (before c) (behind c) (omega (arith, c.requires.ordered)) (within c)
+    counts_rise (WORDS * 0) (WORDS * c.args.from) (WORDS * (c.args.to + 1)) (WORDS * c.args.len)
+    c.args.toggles.now.items c.count_before-start.result c.count_before-end.result (before c) (behind c)
+    (omega (arith, c.requires.ordered)) (within c)
 
 pub take_range-slots-requires-clause-ordered : goal.take_range-slots-requires-clause-ordered
 take_range-slots-requires-clause-ordered c =
@@ -70,7 +70,7 @@ move_rest_back-requires-clause-room c =
     let place = (goal.at.move_rest_back-requires-clause-room c).After-count_before-end in
     subst (All (CanMoveBack (c.args.to - c.args.from)))
     (sym (rest (goal.at.move_rest_back-requires-clause-room c).After-take_range-slots (within place)))
-    (can_move_back (c.args.to + 1) c.args.len (c.args.to - c.args.from)
+    (can_move_back (WORDS * (c.args.to + 1)) (WORDS * c.args.len) (c.args.to - c.args.from)
     (drop c.count_before-end.result c.args.toggles.now.items) (behind place) (omega arith))
 
 pub flip_words-requires-clause-room : goal.flip_words-requires-clause-room
@@ -82,29 +82,25 @@ flip_words-requires-clause-room c =
       c.move_rest_back.ensures.capacity,
     )
 
-drawn_is : (c : After-move_rest_back) → c.count_before-start.result ≤ length c.args.toggles.now.items →
-    drop c.count_before-start.result c.take_range-slots.new.toggles.items
-    ≡ drop c.count_before-end.result c.args.toggles.now.items
+drawn_is : (c : After-move_rest_back) → c.count_before-start.result ≤ length c.args.toggles.now.items
     → c.move_rest_back.new.toggles.items
     ≡ take c.count_before-start.result c.args.toggles.now.items
     ++ map (moved_back (c.args.to - c.args.from)) (drop c.count_before-end.result c.args.toggles.now.items)
-drawn_is c small same =
+drawn_is c small =
     let entries = c.args.toggles.now.items in
     let start = c.count_before-start.result in
-    let end = c.count_before-end.result in
-    let long : start ≡ length (take start entries) = sym (length-take-le start entries small) in
     c.move_rest_back.ensures.items
-    ∙ ap₂ (λ xs ys. xs ++ map (moved_back (c.args.to - c.args.from)) ys)
-    (ap₂ take long c.take_range-slots.ensures.items ∙ take-append_seam (take start entries) (drop end entries)) same
+    ∙ rest_moved (moved_back (c.args.to - c.args.from)) start (take start entries)
+    (drop c.count_before-end.result entries) c.take_range-slots.new.toggles.items
+    (sym (length-take-le start entries small)) c.take_range-slots.ensures.items
 
 pub returns-clause-lie : goal.returns-clause-lie
 returns-clause-lie c =
     let place = (goal.at.returns-clause-lie c).After-count_before-end in
-    let same = rest (goal.at.returns-clause-lie c).After-take_range-slots (within place) in
     let to_small = c.if-to-len.false in
     c.flip_words.ensures.lie 0 (c.args.from + (c.args.len - c.args.to))
     (subst (LieIn 0 (c.args.from + (c.args.len - c.args.to)))
-    (sym (drawn_is (goal.at.returns-clause-lie c).After-move_rest_back (within place) same))
+    (sym (drawn_is (goal.at.returns-clause-lie c).After-move_rest_back (within place)))
     (drawn_lies c.args.from c.args.to c.args.len c.args.toggles.now.items c.count_before-start.result
     c.count_before-end.result c.requires.ordered (omega (arith, c.requires.within, to_small)) (before place)
     (high place) (front place) (behind place) (rises place)))
@@ -113,11 +109,9 @@ returns-clause-lie c =
 pub returns-clause-front : goal.returns-clause-front
 returns-clause-front c = λ at small.
     let place = (goal.at.returns-clause-front c).After-count_before-end in
-    let same = rest (goal.at.returns-clause-front c).After-take_range-slots (within place) in
-    let is = drawn_is (goal.at.returns-clause-front c).After-move_rest_back (within place) same in
-    let to_small = c.if-to-len.false in
+    let is = drawn_is (goal.at.returns-clause-front c).After-move_rest_back (within place) in
     removed_front c.args.from c.args.to c.args.len c.args.toggles.now.items c.count_before-start.result
-    c.count_before-end.result c.requires.ordered (omega (arith, c.requires.within, to_small)) (before place)
+    c.count_before-end.result c.requires.ordered (omega (arith, c.requires.within, c.if-to-len.false)) (before place)
     (high place) (front place) (behind place) (rises place) c.flip_words.new.toggles.items c.take_range-slots.result
     c.take_range-slots.ensures.odd
     (λ k. c.flip_words.ensures.slots k ∙ ap (λ es. flipped c.args.from c.take_range-slots.result k (toggled_at es k)) is)
@@ -126,11 +120,9 @@ returns-clause-front c = λ at small.
 pub returns-clause-behind : goal.returns-clause-behind
 returns-clause-behind c = λ at above small.
     let place = (goal.at.returns-clause-behind c).After-count_before-end in
-    let same = rest (goal.at.returns-clause-behind c).After-take_range-slots (within place) in
-    let is = drawn_is (goal.at.returns-clause-behind c).After-move_rest_back (within place) same in
-    let to_small = c.if-to-len.false in
+    let is = drawn_is (goal.at.returns-clause-behind c).After-move_rest_back (within place) in
     removed_behind c.args.from c.args.to c.args.len c.args.toggles.now.items c.count_before-start.result
-    c.count_before-end.result c.requires.ordered (omega (arith, c.requires.within, to_small)) (before place)
+    c.count_before-end.result c.requires.ordered (omega (arith, c.requires.within, c.if-to-len.false)) (before place)
     (high place) (front place) (behind place) (rises place) c.flip_words.new.toggles.items c.take_range-slots.result
     c.take_range-slots.ensures.odd
     (λ k. c.flip_words.ensures.slots k ∙ ap (λ es. flipped c.args.from c.take_range-slots.result k (toggled_at es k)) is)

@@ -1,5 +1,5 @@
-use Rattle.segments.proofs.Words.{◌≡◌, ◌-◌, drop, sym, ap, subst, ◌∙◌, arith, length-take, All, slice_range, All-drop}
-use Rattle.segments.proofs.Words.{All-take, AreSlots, word_count, WORDS, HasOneWord, odd_of}
+use Rattle.segments.proofs.Common.{◌≡◌, ◌-◌, drop, sym, ap, subst, ◌∙◌, arith, length-take, All, slice_range, All-drop}
+use Rattle.segments.proofs.Common.{All-take, AreSlots, word_count, WORDS, HasOneWord, odd_of}
 use Rattle.segments.proofs.SpanLaws.{slots_of_odd, words_of_odd}
 use Rattle.segments.proofs.toggles.take_range.Goals as goal
 

@@ -1,4 +1,4 @@
-use Rattle.segments.proofs.Words.{◌+◌, drop, sym, ◌∙◌, ap, drop_all, differing-empty, differing, Toggled, odd_of}
+use Rattle.segments.proofs.Common.{◌+◌, drop, sym, ◌∙◌, ap, drop_all, differing-empty, differing, Toggled, odd_of}
 use Rattle.segments.proofs.EntryLaws.{odd_more}
 use Rattle.segments.proofs.toggles.turn_odd.Goals as goal
 
@@ -13,9 +13,8 @@ loop-entry-preserved c =
 
 pub returns : goal.returns
 returns c =
-    let toggles = c.args.toggles.now in
     let slots = c.loop-entry.slots in
     sym (differing-empty slots)
     ∙ ap (λ entries. differing slots (odd_of entries))
-    (sym (drop_all c.loop-entry.entry-index toggles c.loop-entry-test.false))
+    (sym (drop_all c.loop-entry.entry-index c.args.toggles.now c.loop-entry-test.false))
     ∙ c.loop-entry.invariant

@@ -1,4 +1,4 @@
-use Rattle.segments.proofs.Words.{◌≡◌, drop, differing, odd_of}
+use Rattle.segments.proofs.Common.{◌≡◌, drop, differing, odd_of}
 use Rattle.segments.proofs.toggles.turn_odd.Given as goal
 
 abbrev pub invariant-loop-entry : goal.invariant-loop-entry

@@ -6,15 +6,14 @@ pub returns-in-None-clause-value : goal.returns-in-None-clause-value
 returns-in-None-clause-value g c =
     let cells = (g.S.TextStore.content c.args.store.now).cells in
     c.saturating_sub.ensures ∙ ap (λ n. n - c.args.part.now.from) c.line_at.ensures
-    ∙ old-last-in c.args.part.now cells c.args.fresh.now c.in-None.is c.requires
+    ∙ old-last-in cells c.args.fresh.now c.in-None.is c.requires
 
 pub returns-in-None-clause-bound : goal.returns-in-None-clause-bound
 returns-in-None-clause-bound g c =
     let cells = (g.S.TextStore.content c.args.store.now).cells in
     subst (λ n. n ≤ c.args.part.now.to - c.args.part.now.from)
     (sym (c.saturating_sub.ensures ∙ ap (λ n. n - c.args.part.now.from) c.line_at.ensures
-    ∙ old-last-in c.args.part.now cells c.args.fresh.now c.in-None.is c.requires))
-    (last-bound c.args.part.now cells c.args.fresh.now c.requires)
+    ∙ old-last-in cells c.args.fresh.now c.in-None.is c.requires)) (last-bound cells c.args.fresh.now c.requires)
 
 pub returns-in-Some-clause-value : goal.returns-in-Some-clause-value
 returns-in-Some-clause-value g c =
@@ -28,4 +27,4 @@ returns-in-Some-clause-bound g c =
     subst (λ n. n ≤ c.args.part.now.to - c.args.part.now.from)
     (sym (c.last_newline.ensures
     ∙ ap last_line (sym (new-text c.args.part.now c.in-Some.field-0 cells c.args.fresh.now c.in-Some.is))))
-    (last-bound c.args.part.now cells c.args.fresh.now c.requires)
+    (last-bound cells c.args.fresh.now c.requires)

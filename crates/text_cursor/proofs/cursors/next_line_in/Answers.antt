@@ -6,15 +6,13 @@ pub overflow_sub-result : goal.overflow_sub-result
 overflow_sub-result g c =
     let cells = (g.S.TextStore.content c.args.store.now).cells in
     subst (λ n. c.args.part.now.from ≤ n) (sym c.min.ensures)
-    (old-next-in c.args.part.now cells c.args.fresh.now c.line_behind.result c.in-None.is c.requires
-    c.line_behind.ensures).0
+    (old-next-in cells c.args.fresh.now c.line_behind.result c.in-None.is c.requires c.line_behind.ensures).0
 
 pub returns-in-None-clause-value : goal.returns-in-None-clause-value
 returns-in-None-clause-value g c =
     let cells = (g.S.TextStore.content c.args.store.now).cells in
     ap (λ n. n - c.args.part.now.from) c.min.ensures
-    ∙ (old-next-in c.args.part.now cells c.args.fresh.now c.line_behind.result c.in-None.is c.requires
-    c.line_behind.ensures).1
+    ∙ (old-next-in cells c.args.fresh.now c.line_behind.result c.in-None.is c.requires c.line_behind.ensures).1
 
 pub returns-in-Some-clause-value : goal.returns-in-Some-clause-value
 returns-in-Some-clause-value g c =
@@ -29,4 +27,4 @@ returns-in-Some-clause-bound g c =
     subst (λ n. n ≤ c.args.part.now.to - c.args.part.now.from)
     (sym (c.first_newline.ensures
     ∙ ap (line_start 1) (sym (new-text c.args.part.now c.in-Some.field-0 cells c.args.fresh.now c.in-Some.is))))
-    (first-bound c.args.part.now cells c.args.fresh.now c.requires)
+    (first-bound cells c.args.fresh.now c.requires)

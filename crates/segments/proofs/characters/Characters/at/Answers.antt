@@ -1,5 +1,5 @@
-use Rattle.segments.proofs.Words.{◌≡◌, ◌∷◌, ◌++◌, drop, sym, ap, ◌∙◌, chars, encode_utf8, slice_get, chars_past_char}
-use Rattle.segments.proofs.Words.{IsUtf8-drop}
+use Rattle.segments.proofs.Common.{◌≡◌, ◌∷◌, ◌++◌, drop, sym, ap, ◌∙◌, chars, encode_utf8, slice_get, chars_past_char}
+use Rattle.segments.proofs.Common.{IsUtf8-drop}
 use Rattle.segments.proofs.TextLaws.{found_at}
 use Rattle.segments.proofs.characters.Characters.at.Goals as goal
 

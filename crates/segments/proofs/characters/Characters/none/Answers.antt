@@ -1,4 +1,4 @@
-use Rattle.segments.proofs.Words.{sym, ap, ◌∙◌, length, chars, chars-nil}
+use Rattle.segments.proofs.Common.{sym, ap, ◌∙◌, length, chars, chars-nil}
 use Rattle.segments.proofs.characters.Characters.none.Goals as goal
 
 pub invariant_of-result : goal.invariant_of-result

@@ -1,4 +1,4 @@
-use Rattle.segments.proofs.Words.{◌++◌, ap, ◌∙◌, chars, string_bytes, chars-append, IsUtf8-string_bytes}
+use Rattle.segments.proofs.Common.{◌++◌, ap, ◌∙◌, chars, string_bytes, chars-append, IsUtf8-string_bytes}
 use Rattle.segments.proofs.characters.Characters.push.Goals as goal
 
 pub returns : goal.returns

@@ -1,4 +1,4 @@
-use Rattle.segments.proofs.Words.{◌≡◌, take, drop, ap, ◌∙◌, arith, suffix_len, chars, run_start-le}
+use Rattle.segments.proofs.Common.{◌≡◌, take, drop, ap, ◌∙◌, arith, suffix_len, chars, run_start-le}
 use Rattle.segments.proofs.characters.Characters.run_start.Goals as goal
 
 pub overflow_sub-result : goal.overflow_sub-result

@@ -1,4 +1,4 @@
-use Rattle.segments.proofs.Words.{◌≤◌, false, length, sym, ap, ◌∙◌, arith, changed, LineContent, with_toggle, content}
+use Rattle.segments.proofs.Common.{◌≤◌, false, length, sym, ap, ◌∙◌, arith, changed, LineContent, with_toggle, content}
 use Rattle.segments.proofs.PlainLaws.{length-plain, cleared-plain}
 use Rattle.segments.proofs.form.Form.clear.Goals as goal
 

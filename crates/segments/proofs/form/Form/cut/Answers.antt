@@ -1,4 +1,4 @@
-use Rattle.segments.proofs.Words.{sym, ap, ◌∙◌, line_before, line_behind, plain_line, content}
+use Rattle.segments.proofs.Common.{sym, ap, ◌∙◌, line_before, line_behind, plain_line, content}
 use Rattle.segments.proofs.PlainLaws.{before-plain, behind-plain}
 use Rattle.segments.proofs.form.Form.cut.Goals as goal
 

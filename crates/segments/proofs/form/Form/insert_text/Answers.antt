@@ -1,4 +1,4 @@
-use Rattle.segments.proofs.Words.{sym, ap, ◌∙◌, chars, on_ok_weaker, after_text, plain_line, content}
+use Rattle.segments.proofs.Common.{sym, ap, ◌∙◌, chars, on_ok_weaker, after_text, plain_line, content}
 use Rattle.segments.proofs.PlainLaws.{inserted-plain}
 use Rattle.segments.proofs.form.Form.insert_text.Goals as goal
 

@@ -1,4 +1,4 @@
-use Rattle.segments.proofs.Words.{sym, ap, ap₂, ◌∙◌, on_ok_weaker, joined, plain_line, content}
+use Rattle.segments.proofs.Common.{sym, ap, ap₂, ◌∙◌, on_ok_weaker, joined, plain_line, content}
 use Rattle.segments.proofs.PlainLaws.{joined-plain}
 use Rattle.segments.proofs.form.Form.join_copy.Goals as goal
 

@@ -1,4 +1,4 @@
-use Rattle.segments.proofs.Words.{sym, ap, ◌∙◌, on_ok_weaker, after_removal, plain_line, content}
+use Rattle.segments.proofs.Common.{sym, ap, ◌∙◌, on_ok_weaker, after_removal, plain_line, content}
 use Rattle.segments.proofs.PlainLaws.{removed-plain}
 use Rattle.segments.proofs.form.Form.remove_range.Goals as goal
 

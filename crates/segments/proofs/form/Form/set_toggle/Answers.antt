@@ -1,6 +1,5 @@
-use Rattle.segments.proofs.Words.{◌+◌, ◌<◌, Bool, true, false, length, refl, sym, ap, ◌∙◌, arith, changed, LineContent}
-use Rattle.segments.proofs.Words.{with_toggle, content, is_plain}
-use Rattle.std.specs.Prelude.{◌≡◌}
+use Rattle.segments.proofs.Common.{◌+◌, ◌<◌, Bool, true, false, length, refl, sym, ap, ◌∙◌, arith, changed, LineContent}
+use Rattle.segments.proofs.Common.{with_toggle, content, is_plain, ◌≡◌}
 use Rattle.segments.proofs.PlainLaws.{length-plain, set-plain}
 use Rattle.segments.proofs.form.Form.set_toggle.Goals as goal
 

@@ -1,6 +1,6 @@
-use Rattle.segments.proofs.Words.{sym, ap, ◌∙◌, LineContent, content}
-use Rattle.std.specs.FinMap as finite
+use Rattle.segments.proofs.Common.{sym, ap, ◌∙◌, LineContent, content}
 use Rattle.segments.proofs.PlainLaws.{take-none}
+use Rattle.std.specs.FinMap as finite
 use Rattle.segments.proofs.form.Form.take_mark.Goals as goal
 
 pub returns-in-Plain-clause-marks : goal.returns-in-Plain-clause-marks

@@ -1,5 +1,5 @@
-use Rattle.segments.proofs.Words.{◌+◌, ◌<◌, length, sym, ap, ◌∙◌, arith, changed, LineContent, toggled_more, content}
-use Rattle.segments.proofs.Words.{is_plain}
+use Rattle.segments.proofs.Common.{◌+◌, ◌<◌, length, sym, ap, ◌∙◌, arith, changed, LineContent, toggled_more, content}
+use Rattle.segments.proofs.Common.{is_plain}
 use Rattle.segments.proofs.PlainLaws.{length-plain, toggled-plain}
 use Rattle.segments.proofs.form.Form.toggle.Goals as goal
 

@@ -1,4 +1,4 @@
-use Rattle.segments.proofs.Words.{sym, ap, ◌∙◌, Count, counting, plus, line_count, content}
+use Rattle.segments.proofs.Common.{sym, ap, ◌∙◌, Count, counting, plus, line_count, content}
 use Rattle.segments.proofs.PlainLaws.{sum-plain}
 use Rattle.segments.proofs.line.Line.add_to.Goals as goal
 

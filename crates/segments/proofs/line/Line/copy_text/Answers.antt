@@ -1,5 +1,5 @@
-use Rattle.segments.proofs.Words.{◌≡◌, sym, ap, subst, ◌∙◌, IfOk, chars, slice_range, string_bytes, LineContent}
-use Rattle.segments.proofs.Words.{characters, content}
+use Rattle.segments.proofs.Common.{◌≡◌, sym, ap, subst, ◌∙◌, IfOk, chars, slice_range, string_bytes, LineContent}
+use Rattle.segments.proofs.Common.{characters, content}
 use Rattle.segments.proofs.PlainLaws.{characters-plain}
 use Rattle.segments.proofs.line.Line.copy_text.Goals as goal
 

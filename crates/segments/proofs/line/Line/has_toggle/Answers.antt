@@ -1,6 +1,6 @@
-use Rattle.segments.proofs.Words.{sym, ap, ◌∙◌, nat_cmp, Count, line_count, content}
-use Rattle.std.specs.FinSet as set
+use Rattle.segments.proofs.Common.{sym, ap, ◌∙◌, nat_cmp, Count, line_count, content}
 use Rattle.segments.proofs.PlainLaws.{sum-plain}
+use Rattle.std.specs.FinSet as set
 use Rattle.segments.proofs.line.Line.has_toggle.Goals as goal
 
 pub returns-in-Plain : goal.returns-in-Plain

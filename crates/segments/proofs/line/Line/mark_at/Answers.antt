@@ -1,4 +1,4 @@
-use Rattle.segments.proofs.Words.{sym, ap, ◌∙◌, slice_get, marks_at, LineContent, content}
+use Rattle.segments.proofs.Common.{sym, ap, ◌∙◌, slice_get, marks_at, LineContent, content}
 use Rattle.segments.proofs.PlainLaws.{mark_at-none}
 use Rattle.segments.proofs.line.Line.mark_at.Goals as goal
 

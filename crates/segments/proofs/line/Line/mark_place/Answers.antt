@@ -1,6 +1,6 @@
-use Rattle.segments.proofs.Words.{sym, ap, ◌∙◌, LineContent, content}
-use Rattle.std.specs.FinMap as finite
+use Rattle.segments.proofs.Common.{sym, ap, ◌∙◌, LineContent, content}
 use Rattle.segments.proofs.PlainLaws.{place-none}
+use Rattle.std.specs.FinMap as finite
 use Rattle.segments.proofs.line.Line.mark_place.Goals as goal
 
 pub returns-in-Plain-clause-value : goal.returns-in-Plain-clause-value

@@ -1,4 +1,4 @@
-use Rattle.segments.proofs.Words.{sym, ap, ◌∙◌, Count, line_count, content}
+use Rattle.segments.proofs.Common.{sym, ap, ◌∙◌, Count, line_count, content}
 use Rattle.segments.proofs.PlainLaws.{sum-plain}
 use Rattle.segments.proofs.line.Line.marks.Goals as goal
 

@@ -1,4 +1,4 @@
-use Rattle.segments.proofs.Words.{sym, ap, ◌∙◌, next_mark, LineContent, content}
+use Rattle.segments.proofs.Common.{sym, ap, ◌∙◌, next_mark, LineContent, content}
 use Rattle.segments.proofs.PlainLaws.{next_mark-none}
 use Rattle.segments.proofs.line.Line.next_mark.Goals as goal
 

@@ -1,4 +1,4 @@
-use Rattle.segments.proofs.Words.{◌≤◌, length, sym, ap, ◌∙◌, arith, LineContent, next_toggle, content}
+use Rattle.segments.proofs.Common.{◌≤◌, length, sym, ap, ◌∙◌, arith, LineContent, next_toggle, content}
 use Rattle.segments.proofs.PlainLaws.{length-plain, next-plain}
 use Rattle.segments.proofs.line.Line.next_toggle.Goals as goal
 

@@ -1,4 +1,4 @@
-use Rattle.segments.proofs.Words.{sym, ap, ◌∙◌, previous_mark, LineContent, content}
+use Rattle.segments.proofs.Common.{sym, ap, ◌∙◌, previous_mark, LineContent, content}
 use Rattle.segments.proofs.PlainLaws.{previous_mark-none}
 use Rattle.segments.proofs.line.Line.previous_mark.Goals as goal
 

@@ -1,4 +1,4 @@
-use Rattle.segments.proofs.Words.{◌≤◌, length, sym, ap, ◌∙◌, arith, LineContent, previous_toggle, content}
+use Rattle.segments.proofs.Common.{◌≤◌, length, sym, ap, ◌∙◌, arith, LineContent, previous_toggle, content}
 use Rattle.segments.proofs.PlainLaws.{length-plain, previous-plain}
 use Rattle.segments.proofs.line.Line.previous_toggle.Goals as goal
 

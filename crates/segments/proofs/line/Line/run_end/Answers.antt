@@ -1,4 +1,4 @@
-use Rattle.segments.proofs.Words.{◌+◌, drop, sym, ap, ◌∙◌, prefix_len, LineContent, characters, content}
+use Rattle.segments.proofs.Common.{◌+◌, drop, sym, ap, ◌∙◌, prefix_len, LineContent, characters, content}
 use Rattle.segments.proofs.PlainLaws.{characters-plain}
 use Rattle.segments.proofs.line.Line.run_end.Goals as goal
 

@@ -1,4 +1,4 @@
-use Rattle.segments.proofs.Words.{◌-◌, take, sym, ap, ◌∙◌, suffix_len, LineContent, characters, content}
+use Rattle.segments.proofs.Common.{◌-◌, take, sym, ap, ◌∙◌, suffix_len, LineContent, characters, content}
 use Rattle.segments.proofs.PlainLaws.{characters-plain}
 use Rattle.segments.proofs.line.Line.run_start.Goals as goal
 

@@ -1,4 +1,4 @@
-use Rattle.segments.proofs.Words.{sym, ap, ◌∙◌, counting, line_count, content}
+use Rattle.segments.proofs.Common.{sym, ap, ◌∙◌, counting, line_count, content}
 use Rattle.segments.proofs.PlainLaws.{sum-plain}
 use Rattle.segments.proofs.line.Line.sum_to.Goals as goal
 

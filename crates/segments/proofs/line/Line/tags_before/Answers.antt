@@ -1,4 +1,4 @@
-use Rattle.segments.proofs.Words.{◌+◌, sym, ap, ◌∙◌, LineContent, tags_before, content}
+use Rattle.segments.proofs.Common.{◌+◌, sym, ap, ◌∙◌, LineContent, tags_before, content}
 use Rattle.segments.proofs.PlainLaws.{front-plain}
 use Rattle.segments.proofs.line.Line.tags_before.Goals as goal
 

@@ -1,4 +1,4 @@
-use Rattle.segments.proofs.Words.{take, sym, ap, ◌∙◌, parity, LineContent, toggles, content}
+use Rattle.segments.proofs.Common.{take, sym, ap, ◌∙◌, parity, LineContent, toggles, content}
 use Rattle.segments.proofs.PlainLaws.{front-plain}
 use Rattle.segments.proofs.line.Line.tags_left_of.Goals as goal
 

@@ -1,9 +1,8 @@
-use Rattle.segments.proofs.Words.{◌≡◌, ◌+◌, drop, length, sym, ap, ◌∙◌, arith, drop_all, differing, differing-empty}
-use Rattle.segments.proofs.Words.{union-empty, Count, with_toggles_of, parity, presence, Toggled, line_count, toggles}
-use Rattle.segments.proofs.Words.{any_of, odd_of, columns_from}
-use Rattle.std.specs.FinSet as set
-use Rattle.segments.proofs.ColumnLaws.{parity-columns, presence-columns}
+use Rattle.segments.proofs.Common.{◌≡◌, ◌+◌, drop, sym, ap, ◌∙◌, drop_all, differing, differing-empty, union-empty}
+use Rattle.segments.proofs.Common.{Count, parity, presence, Toggled, toggles, any_of, odd_of}
 use Rattle.segments.proofs.EntryLaws.{any_more, odd_more}
+use Rattle.segments.proofs.RichLaws.{same_parity, same_presence}
+use Rattle.std.specs.FinSet as set
 use Rattle.segments.proofs.rich.RichLine.add_toggles.Goals as goal
 
 pub loop-entry-preserved : goal.loop-entry-preserved
@@ -31,30 +30,27 @@ loop-entry-preserved c =
 
 pub returns : goal.returns
 returns c =
-    let text = c.self.inside.text in
-    let kept = c.self.inside.toggles.items in
-    let entries = c.deref-entry-items.result.now in
+    let line = c.args.self.now in
     let old = c.args.sum.now in
     let sum = c.loop-entry.sum in
     let inv = c.loop-entry.invariant in
-    let all = drop_all c.loop-entry.entry-index entries c.loop-entry-test.false in
-    let odd : sum.parity ≡ differing old.parity (parity (toggles (columns_from 0 text kept))) =
+    let all = drop_all c.loop-entry.entry-index c.deref-entry-items.result.now c.loop-entry-test.false in
+    let odd : sum.parity ≡ differing old.parity (parity (toggles line.columns)) =
     sym (differing-empty sum.parity)
     ∙ ap (λ es. differing sum.parity (odd_of es)) (sym all)
     ∙ inv.parity
     ∙ ap (differing old.parity) (ap odd_of c.deref-entry-items.ensures.value
-    ∙ sym (parity-columns 0 (length text) text kept (omega arith) c.self.invariant.0)) in
-    let any : sum.presence ≡ set.union old.presence (presence (toggles (columns_from 0 text kept))) =
+    ∙ sym (same_parity c.self.inside c.self.view_is c.self.invariant.0)) in
+    let any : sum.presence ≡ set.union old.presence (presence (toggles line.columns)) =
     sym (union-empty sum.presence)
     ∙ ap (λ es. set.union sum.presence (any_of es)) (sym all)
     ∙ inv.presence
     ∙ ap (set.union old.presence) (ap any_of c.deref-entry-items.ensures.value
-    ∙ sym (presence-columns 0 (length text) text kept (omega arith) c.self.invariant.0)) in
-    (λ i. record {
+    ∙ sym (same_presence c.self.inside c.self.view_is c.self.invariant.0)) in
+    λ i. record {
       lines = inv.lines i;
       characters = inv.characters i;
       marks = inv.marks i;
       parity = odd i;
       presence = any i;
-    })
-    ∙ ap (λ line. with_toggles_of (line_count line) old) c.self.view_is
+    }

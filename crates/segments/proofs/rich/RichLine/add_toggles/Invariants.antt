@@ -1,4 +1,4 @@
-use Rattle.segments.proofs.Words.{◌≡◌, drop, differing, any_of, odd_of}
+use Rattle.segments.proofs.Common.{◌≡◌, drop, differing, any_of, odd_of}
 use Rattle.std.specs.FinSet as set
 use Rattle.segments.proofs.rich.RichLine.add_toggles.Given as goal
 

@@ -1,18 +1,10 @@
-use Rattle.segments.proofs.Words.{length, sym, ap, ◌∙◌, arith, slice_get, LineContent, characters}
-use Rattle.segments.proofs.ColumnLaws.{characters-columns, length-columns}
+use Rattle.segments.proofs.Common.{ap, ◌∙◌, arith, slice_get}
+use Rattle.segments.proofs.RichLaws.{as_long, same_text}
 use Rattle.segments.proofs.rich.RichLine.char_at.Goals as goal
 
 pub at-requires : goal.at-requires
-at-requires c =
-    omega (
-      arith,
-      c.requires,
-      ap (λ (line : LineContent). length line.columns) c.self.view_is,
-      length-columns 0 c.self.inside.text c.self.inside.toggles.items,
-    )
+at-requires c = omega (arith, c.requires, as_long c.self.inside c.self.view_is)
 
 pub returns : goal.returns
 returns c =
-    ap (λ (line : LineContent). slice_get (characters line.columns) c.args.column) (sym c.self.view_is)
-    ∙ ap (λ text. slice_get text c.args.column) (characters-columns 0 c.self.inside.text c.self.inside.toggles.items)
-    ∙ c.at.ensures
+    ap (λ text. slice_get text c.args.column) (same_text c.self.inside c.self.view_is) ∙ c.at.ensures

@@ -1,4 +1,4 @@
-use Rattle.segments.proofs.Words.{◌≡◌, drop, any_of}
+use Rattle.segments.proofs.Common.{◌≡◌, drop, any_of}
 use Rattle.std.specs.FinSet as set
 use Rattle.segments.proofs.rich.RichLine.has_toggle.Given as goal
 

@@ -1,32 +1,20 @@
-use Rattle.segments.proofs.Words.{◌≡◌, ◌+◌, ◌-◌, ◌≤◌, ◌++◌, length, map, take, drop, refl, sym, ap, subst, ◌∙◌, arith}
-use Rattle.segments.proofs.Words.{chars, length-map, map_marks, inserted, moved, length-inserted, LineContent}
-use Rattle.segments.proofs.Words.{after_text, LieIn, AreKept, columns_from, StandIn, marks_of, with_place}
-use Rattle.segments.proofs.ColumnLaws.{length-columns}
+use Rattle.segments.proofs.Common.{◌≡◌, ◌+◌, ◌-◌, ◌≤◌, ◌++◌, length, map, take, drop, refl, sym, ap, subst, ◌∙◌, arith}
+use Rattle.segments.proofs.Common.{chars, length-map, map_marks, inserted, moved, length-inserted, after_text, LieIn}
+use Rattle.segments.proofs.Common.{AreKept, columns_from, StandIn, marks_of, with_place, ◌*◌, WORDS}
 use Rattle.segments.proofs.InsertionLaws.{columns_inserted, moved_lie}
 use Rattle.segments.proofs.MarkPlaceLaws.{Rise-placed, marks_of-placed, moved_reach, moved_stand, moved_within}
 use Rattle.segments.proofs.MarkPlaceLaws.{written_over}
 use Rattle.segments.proofs.MovedLaws.{can_move_on}
-use Rattle.segments.proofs.rich.RichLine.insert_text.Goals as goal
+use Rattle.segments.proofs.RichLaws.{as_long}
 use Rattle.segments.proofs.rich.RichLine.insert_text.Goals.{After-count_before-start, After-len-len}
 use Rattle.segments.proofs.rich.RichLine.insert_text.Goals.{After-move_marks-self-inside}
+use Rattle.segments.proofs.rich.RichLine.insert_text.Goals as goal
 
 within : (c : After-len-len) → c.args.column ≤ length c.self.inside.text
-within c =
-    omega (
-      arith,
-      c.requires,
-      ap (λ (line : LineContent). length line.columns) c.self.view_is,
-      length-columns 0 c.self.inside.text c.self.inside.toggles.items,
-    )
+within c = omega (arith, c.requires, as_long c.self.inside c.self.view_is)
 
 pub insert-requires : goal.insert-requires
-insert-requires c =
-    omega (
-      arith,
-      c.requires,
-      ap (λ (line : LineContent). length line.columns) c.self.view_is,
-      length-columns 0 c.self.inside.text c.self.inside.toggles.items,
-    )
+insert-requires c = within (goal.at.insert-requires c).After-len-len
 
 -- how many characters there are then
 longer : (c : After-count_before-start) → c.args.column ≤ length c.self.inside.text →
@@ -48,7 +36,7 @@ pub move_rest_on-requires-clause-room : goal.move_rest_on-requires-clause-room
 move_rest_on-requires-clause-room c =
     let place = (goal.at.move_rest_on-requires-clause-room c).After-count_before-start in
     let small = within (goal.at.move_rest_on-requires-clause-room c).After-len-len in
-    can_move_on c.args.column (length c.self.inside.text) (c.len.result - c.len-len.result)
+    can_move_on (WORDS * c.args.column) (WORDS * length c.self.inside.text) (c.len.result - c.len-len.result)
     (drop c.count_before-start.result c.self.inside.toggles.items) (behind place)
     (omega (arith, c.len.ensures, c.len-len.ensures, c.len.type_inv, longer place small))
 
@@ -71,7 +59,6 @@ invariant_of-self-2 c =
     let kept = c.self.invariant.1 in
     let marks = c.self.inside.marks.items in
     let count = c.len.result - c.len-len.result in
-    let low = kept.within in
     let new = c.move_marks-self-inside.ensures.reach in
     let long : len + count ≡ length c.insert.new.self = omega (
       arith,
@@ -90,7 +77,7 @@ invariant_of-self-2 c =
             stand = subst (λ n. StandIn n (map (with_place (moved c.args.column count)) marks)) (sym new)
                 (moved_stand c.args.column count c.self.inside.reach marks kept.stand);
             within = rw (← sym new) (subst (λ n. moved_reach c.args.column count c.self.inside.reach ≤ n) long
-                (moved_within c.args.column count c.self.inside.reach len low));
+                (moved_within c.args.column count c.self.inside.reach len kept.within));
           }),
     )
 

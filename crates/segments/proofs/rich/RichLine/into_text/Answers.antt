@@ -1,7 +1,6 @@
-use Rattle.segments.proofs.Words.{sym, ap, ◌∙◌, LineContent, characters}
-use Rattle.segments.proofs.ColumnLaws.{characters-columns}
+use Rattle.segments.proofs.Common.{sym}
+use Rattle.segments.proofs.RichLaws.{same_text}
 use Rattle.segments.proofs.rich.RichLine.into_text.Goals as goal
 
 pub returns : goal.returns
-returns c = sym (characters-columns 0 c.self.inside.text c.self.inside.toggles.items)
-    ∙ ap (λ (line : LineContent). characters line.columns) c.self.view_is
+returns c = sym (same_text c.self.inside c.self.view_is)

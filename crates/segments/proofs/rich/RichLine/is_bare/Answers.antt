@@ -1,5 +1,5 @@
-use Rattle.segments.proofs.Words.{◌≡◌, ℕ, true, nat_eq, length, sym, ap, ◌∙◌, arith, nat_tests, LineContent, characters}
-use Rattle.segments.proofs.Words.{plain_line}
+use Rattle.segments.proofs.Common.{◌≡◌, ℕ, true, nat_eq, length, sym, ap, ◌∙◌, arith, nat_tests, LineContent}
+use Rattle.segments.proofs.Common.{characters, plain_line}
 use Rattle.segments.proofs.PlainLaws.{bare}
 use Rattle.segments.proofs.rich.RichLine.is_bare.Goals as goal
 

@@ -1,12 +1,12 @@
-use Rattle.segments.proofs.Words.{◌≡◌, ◌+◌, ◌<◌, ◌^◌, List, [], ◌∷◌, length, refl, sym, ap, ap₂, subst, ◌∙◌, arith}
-use Rattle.segments.proofs.Words.{length-append, nat_tests, on_ok_weaker, Mark, LineContent, joined_marks, StandIn}
-use Rattle.segments.proofs.Words.{marks_of}
-use Rattle.std.specs.FinMap as finite
-use Rattle.segments.proofs.ColumnLaws.{length-columns}
+use Rattle.segments.proofs.Common.{◌≡◌, ◌+◌, ◌<◌, ◌^◌, List, [], ◌∷◌, length, refl, sym, ap, ap₂, subst, ◌∙◌, arith}
+use Rattle.segments.proofs.Common.{length-append, nat_tests, on_ok_weaker, Mark, LineContent, joined_marks, StandIn}
+use Rattle.segments.proofs.Common.{marks_of}
 use Rattle.segments.proofs.MarkLaws.{joined_none, marks_of-nil}
 use Rattle.segments.proofs.MarkPlaceLaws.{kept_stand}
-use Rattle.segments.proofs.rich.RichLine.join_copy.Goals as goal
+use Rattle.segments.proofs.RichLaws.{as_long}
 use Rattle.segments.proofs.rich.RichLine.join_copy.Goals.{Else-len}
+use Rattle.std.specs.FinMap as finite
+use Rattle.segments.proofs.rich.RichLine.join_copy.Goals as goal
 
 -- there are no more characters than a number counts
 room : (c : Else-len) → length c.args.self.now.columns + length c.args.other.now.columns < 2 ^ 64
@@ -16,10 +16,8 @@ room c = omega (
   c.len.ensures,
   c.len-len.ensures,
   c.len-len.type_inv,
-  ap (λ (line : LineContent). length line.columns) c.self.view_is,
-  ap (λ (line : LineContent). length line.columns) c.other.view_is,
-  length-columns 0 c.self.inside.text c.self.inside.toggles.items,
-  length-columns 0 c.other.inside.text c.other.inside.toggles.items,
+  as_long c.self.inside c.self.view_is,
+  as_long c.other.inside c.other.view_is,
 )
 
 pub join_columns-requires : goal.join_columns-requires
@@ -47,45 +45,35 @@ returns-then-is_empty-clause-new c =
 
 pub invariant_of-self : goal.invariant_of-self
 invariant_of-self c =
-    let kept = c.self.invariant.1 in
     let others = c.other.invariant.1 in
     let first = c.self.inside.text in
     let len = c.len-len.ensures in
-    let low = others.within in
     let long : length c.self-2.inside.text ≡ length first + length c.other.inside.text =
-    sym (length-columns 0 c.self-2.inside.text c.self-2.inside.toggles.items)
-    ∙ ap (λ (line : LineContent). length line.columns) c.self-2.view_is
-    ∙ ap length c.in_ok-join_columns.ensures.columns
+    as_long c.self-2.inside c.self-2.view_is ∙ ap length c.in_ok-join_columns.ensures.columns
     ∙ length-append c.args.self.now.columns c.args.other.now.columns
-    ∙ ap₂ (λ a b. a + b) (ap (λ (line : LineContent). length line.columns) (sym c.self.view_is)
-    ∙ length-columns 0 first c.self.inside.toggles.items)
-    (ap (λ (line : LineContent). length line.columns) (sym c.other.view_is)
-    ∙ length-columns 0 c.other.inside.text c.other.inside.toggles.items) in (
+    ∙ sym (ap₂ (λ a b. a + b) (as_long c.self.inside c.self.view_is) (as_long c.other.inside c.other.view_is)) in (
       c.self-2.invariant.0,
       record {
         rise = c.in_ok-marks.ensures.rise;
         stand = c.in_ok-marks.ensures.stand c.other.inside.reach
             (subst (λ n. StandIn n c.deref.result.now) (sym len)
             (subst (StandIn (length first)) (sym c.deref.ensures.value)
-            (kept_stand (length first) c.self.inside.reach c.self.inside.marks.items kept)))
+            (kept_stand (length first) c.self.inside.reach c.self.inside.marks.items c.self.invariant.1)))
             (subst (StandIn c.other.inside.reach) (sym c.deref-2.ensures.value) others.stand);
-        within = omega (arith, len, low, long);
+        within = omega (arith, len, others.within, long);
       },
     )
 
 pub returns-clause-new : goal.returns-clause-new
 returns-clause-new c =
-    let first = c.self.inside.text in
-    let entries = c.self.inside.toggles.items in
     let marks = c.self.inside.marks.items in
-    let more = c.other.inside.marks.items in
     let columns = ap (λ (line : LineContent). line.columns) c.self-2.view_is ∙ c.in_ok-join_columns.ensures.columns in
     let both : marks_of c.in_ok-marks.marks.items
     ≡ joined_marks (length c.args.self.now.columns) c.args.self.now.marks c.args.other.now.marks =
     c.in_ok-marks.ensures.marks
     ∙ ap₂ (λ xs ys. joined_marks c.len-len.result (marks_of xs) (marks_of ys)) c.deref.ensures.value
     c.deref-2.ensures.value
-    ∙ ap (λ n. joined_marks n (marks_of marks) (marks_of more)) (c.len-len.ensures
-    ∙ sym (length-columns 0 first entries))
-    ∙ ap₂ (λ (one two : LineContent). joined_marks (length one.columns) one.marks two.marks) c.self.view_is
+    ∙ ap (λ n. joined_marks n (marks_of marks) (marks_of c.other.inside.marks.items)) (c.len-len.ensures
+    ∙ as_long c.self.inside c.self.view_is)
+    ∙ ap₂ (λ (one two : LineContent). joined_marks (length c.args.self.now.columns) one.marks two.marks) c.self.view_is
     c.other.view_is in λ i. record { columns = columns i; marks = both i }

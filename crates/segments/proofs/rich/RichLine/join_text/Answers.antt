@@ -1,9 +1,9 @@
-use Rattle.segments.proofs.Words.{◌≡◌, ◌+◌, ◌++◌, length, sym, ap, ◌∙◌, arith, length-append, joined, joined_marks}
-use Rattle.segments.proofs.Words.{plain_columns, plain_line, columns_from, marks_of}
-use Rattle.std.specs.FinMap as finite
-use Rattle.segments.proofs.EntryLaws.{LieIn-wide}
+use Rattle.segments.proofs.Common.{◌≡◌, ◌+◌, ◌++◌, length, sym, ap, ◌∙◌, arith, length-append, joined, joined_marks}
+use Rattle.segments.proofs.Common.{plain_columns, plain_line, columns_from, marks_of, ◌*◌, WORDS}
+use Rattle.segments.proofs.EntryLaws.{RiseIn-wide}
 use Rattle.segments.proofs.MarkLaws.{joined_none}
 use Rattle.segments.proofs.PartLaws.{joined_text}
+use Rattle.std.specs.FinMap as finite
 use Rattle.segments.proofs.rich.RichLine.join_text.Goals as goal
 
 pub invariant_of-self-2 : goal.invariant_of-self-2
@@ -12,8 +12,8 @@ invariant_of-self-2 c =
     let kept = c.self.invariant.1 in
     let longer : length text + length c.args.other.now ≡ length c.join.new.self = sym (ap length c.in_ok-join.ensures.new
     ∙ length-append text c.args.other.now) in (
-      LieIn-wide 0 (length text) (length c.join.new.self) c.self.inside.toggles.items c.self.invariant.0
-          (omega (arith, longer)),
+      RiseIn-wide (WORDS * 0) (WORDS * length text) (WORDS * length c.join.new.self) c.self.inside.toggles.items
+          c.self.invariant.0 (omega (arith, longer)),
       record { rise = kept.rise; stand = kept.stand; within = let low = kept.within in omega (arith, low, longer) },
     )
 

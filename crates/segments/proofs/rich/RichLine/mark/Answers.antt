@@ -1,9 +1,8 @@
-use Rattle.segments.proofs.Words.{◌<◌, ◌≤◌, length, get_or, refl, sym, ap, subst, ◌∙◌, slice_get_past, slice_get_read}
-use Rattle.segments.proofs.Words.{option_map, slice_get, Mark, LineContent, entry_of}
-use Rattle.std.specs.FinMap as finite
-use Rattle.segments.proofs.ColumnLaws.{length-columns}
+use Rattle.segments.proofs.Common.{◌<◌, ◌≤◌, length, get_or, refl, sym, ap, subst, ◌∙◌, slice_get_past, slice_get_read}
+use Rattle.segments.proofs.Common.{option_map, slice_get, Mark, LineContent, entry_of}
 use Rattle.segments.proofs.MarkLaws.{slice_get-marks_of}
-use Rattle.segments.proofs.MarkPlaceLaws.{kept_stand}
+use Rattle.segments.proofs.RichLaws.{marks_within}
+use Rattle.std.specs.FinMap as finite
 use Rattle.segments.proofs.rich.RichLine.mark.Goals as goal
 
 pub returns-in-Some-clause-value : goal.returns-in-Some-clause-value
@@ -20,15 +19,11 @@ pub returns-in-Some-clause-bound : goal.returns-in-Some-clause-bound
 returns-in-Some-clause-bound c =
     let index = c.args.index in
     let mark = c.in-Some.mark.now in
-    let text = c.self.inside.text in
     let found = c.in-Some.ensures.lookup in
     let within = subst (λ marks. index < length marks) c.deref.ensures.value found.3.0 in
     let here = found.1 ∙ ap (λ marks. get_or marks index mark) c.deref.ensures.value in
-    let long = sym (length-columns 0 text c.self.inside.toggles.items)
-    ∙ ap (λ (line : LineContent). length line.columns) c.self.view_is in
-    let stand = kept_stand (length text) c.self.inside.reach c.self.inside.marks.items c.self.invariant.1 in
-    subst (λ len. mark.place.offset ≤ len) long
-    (subst (λ (m : Mark). m.place.offset ≤ length text) (sym here) (stand index mark within))
+    subst (λ (m : Mark). m.place.offset ≤ length c.args.self.now.columns) (sym here)
+    (marks_within c.self.inside c.self.view_is c.self.invariant.1 index mark within)
 
 pub returns-in-None-clause-value : goal.returns-in-None-clause-value
 returns-in-None-clause-value c =

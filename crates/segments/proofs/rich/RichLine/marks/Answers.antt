@@ -1,4 +1,4 @@
-use Rattle.segments.proofs.Words.{sym, ap, ◌∙◌, line_count}
+use Rattle.segments.proofs.Common.{sym, ap, ◌∙◌, line_count}
 use Rattle.segments.proofs.MarkPlaceLaws.{len-marks}
 use Rattle.segments.proofs.rich.RichLine.marks.Goals as goal
 

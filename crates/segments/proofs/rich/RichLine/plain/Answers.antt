@@ -1,7 +1,7 @@
-use Rattle.segments.proofs.Words.{◌≡◌, ap, ◌∙◌, columns_from, marks_of}
-use Rattle.std.specs.FinMap as finite
+use Rattle.segments.proofs.Common.{◌≡◌, ap, ◌∙◌, columns_from, marks_of}
 use Rattle.segments.proofs.ColumnLaws.{columns-plain}
 use Rattle.segments.proofs.MarkLaws.{marks_of-nil}
+use Rattle.std.specs.FinMap as finite
 use Rattle.segments.proofs.rich.RichLine.plain.Goals as goal
 
 pub returns : goal.returns

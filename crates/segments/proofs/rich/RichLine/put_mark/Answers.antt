@@ -1,18 +1,15 @@
-use Rattle.segments.proofs.Words.{◌≡◌, ◌≤◌, length, max, sym, ap, subst, ◌∙◌, arith, All-weaker, Mark, LineContent}
-use Rattle.segments.proofs.ColumnLaws.{length-columns}
+use Rattle.segments.proofs.Common.{◌≡◌, ◌≤◌, max, arith, All-weaker, Mark}
+use Rattle.segments.proofs.RichLaws.{as_long}
 use Rattle.segments.proofs.rich.RichLine.put_mark.Goals as goal
 
 pub invariant_of-self : goal.invariant_of-self
 invariant_of-self c =
     let kept = c.self.invariant in
     let low = kept.1.within in
-    let text = c.self.inside.text in
     let offset = c.args.place.offset in
     let reach = c.self.inside.reach in
-    let long = ap (λ (line : LineContent). length line.columns) (sym c.self.view_is)
-    ∙ length-columns 0 text c.self.inside.toggles.items in
     let most : c.max-self-inside.result ≡ max reach offset = c.max-self-inside.ensures in
-    let within : offset ≤ length text = subst (λ len. offset ≤ len) long c.requires in (
+    let long = as_long c.self.inside c.self.view_is in (
       kept.0,
       record {
         rise = c.put_mark.ensures.rise;
@@ -20,6 +17,6 @@ invariant_of-self c =
             (All-weaker (λ (mark : Mark). mark.place.offset ≤ reach) (λ (mark : Mark). mark.place.offset
             ≤ c.max-self-inside.result) (λ mark low. omega (arith, low, most)) c.self.inside.marks.items kept.1.stand)
             (omega (arith, most));
-        within = omega (arith, low, within, most);
+        within = omega (arith, low, c.requires, long, most);
       },
     )

@@ -1,29 +1,22 @@
-use Rattle.segments.proofs.Words.{◌≡◌, ◌+◌, ◌-◌, ◌≤◌, ◌++◌, length, map, take, drop, sym, ap, subst, ◌∙◌, arith}
-use Rattle.segments.proofs.Words.{length-map, drawn, length-removed, LineContent, after_removal, LieIn, AreKept}
-use Rattle.segments.proofs.Words.{columns_from, marks_of, with_place}
-use Rattle.segments.proofs.ColumnLaws.{length-columns}
+use Rattle.segments.proofs.Common.{◌≡◌, ◌+◌, ◌-◌, ◌≤◌, ◌++◌, length, map, take, drop, sym, ap, subst, ◌∙◌, arith}
+use Rattle.segments.proofs.Common.{length-map, drawn, length-removed, after_removal, LieIn, AreKept, columns_from}
+use Rattle.segments.proofs.Common.{marks_of, with_place}
 use Rattle.segments.proofs.InsertionLaws.{columns_removed}
 use Rattle.segments.proofs.MarkPlaceLaws.{Rise-placed, StandIn-placed, marks_of-placed, written_over}
-use Rattle.segments.proofs.rich.RichLine.remove_range.Goals as goal
+use Rattle.segments.proofs.RichLaws.{as_long}
 use Rattle.segments.proofs.rich.RichLine.remove_range.Goals.{After-draw_marks-self-inside, After-len-len}
 use Rattle.segments.proofs.rich.RichLine.remove_range.Goals.{After-remove_columns}
+use Rattle.segments.proofs.rich.RichLine.remove_range.Goals as goal
 
 within : (c : After-len-len) → c.args.to ≤ length c.self.inside.text
-within c =
-    omega (
-      arith,
-      c.requires.within,
-      ap (λ (line : LineContent). length line.columns) c.self.view_is,
-      length-columns 0 c.self.inside.text c.self.inside.toggles.items,
-    )
+within c = omega (arith, c.requires.within, as_long c.self.inside c.self.view_is)
 
 pub remove-requires-clause-within : goal.remove-requires-clause-within
 remove-requires-clause-within c = within (goal.at.remove-requires-clause-within c).After-len-len
 
 pub remove_columns-requires-clause-within : goal.remove_columns-requires-clause-within
 remove_columns-requires-clause-within c =
-    let small = within (goal.at.remove_columns-requires-clause-within c).After-len-len in
-    omega (arith, c.len-len.ensures, small)
+    omega (arith, c.len-len.ensures, within (goal.at.remove_columns-requires-clause-within c).After-len-len)
 
 -- how many characters there are then
 shorter : (c : After-remove_columns) → c.args.to ≤ length c.self.inside.text →
@@ -49,10 +42,8 @@ invariant_of-self-2 c =
     let short = shorter (goal.at.invariant_of-self-2 c).After-remove_columns small in
     let kept = c.self.invariant.1 in
     let marks = c.self.inside.marks.items in
-    let reach = c.self.inside.reach in
     let from = c.args.from in
     let to = c.args.to in
-    let low = kept.within in
     let new = c.draw_marks-self-inside.ensures.reach in
     let len = length c.self.inside.text in
     let long : c.args.from + (c.len-len.result - c.args.to)
@@ -62,23 +53,22 @@ invariant_of-self-2 c =
           (sym (marks_are (goal.at.invariant_of-self-2 c).After-draw_marks-self-inside))
           (record {
             rise = Rise-placed (drawn from to) marks kept.rise;
-            stand = StandIn-placed (drawn from to) marks reach c.draw_marks-self-inside.result
+            stand = StandIn-placed (drawn from to) marks c.self.inside.reach c.draw_marks-self-inside.result
                 (λ place there. omega (arith, there, new)) kept.stand;
-            within = omega (arith, low, new, short, small, c.requires.ordered);
+            within = omega (arith, kept.within, new, short, small, c.requires.ordered);
           }),
     )
 
 pub returns-clause-new : goal.returns-clause-new
 returns-clause-new c =
     let small = within (goal.at.returns-clause-new c).After-len-len in
-    let text = c.self.inside.text in
     let entries = c.self.inside.toggles.items in
     let from = c.args.from in
     let to = c.args.to in
     let columns =
     ap (λ t. columns_from 0 t c.remove_columns.new.toggles.items) c.in_ok-remove.ensures.new
     ∙ columns_removed from to c.len-len.result entries c.remove_columns.new.toggles.items c.requires.ordered
-    c.remove_columns.ensures.front c.remove_columns.ensures.behind text (sym c.len-len.ensures) small
+    c.remove_columns.ensures.front c.remove_columns.ensures.behind c.self.inside.text (sym c.len-len.ensures) small
     c.self.invariant.0 in
     let marks =
     ap marks_of (marks_are (goal.at.returns-clause-new c).After-draw_marks-self-inside)

@@ -1,19 +1,13 @@
-use Rattle.segments.proofs.Words.{◌≡◌, ◌+◌, ◌<◌, length, refl, sym, ap, ◌∙◌, arith, false≢true, on_ok_weaker}
-use Rattle.segments.proofs.Words.{booleans_Decides, changed, set_slot, LineContent, with_toggle, toggled_at}
-use Rattle.std.specs.FinSet as finset
+use Rattle.segments.proofs.Common.{◌≡◌, ◌+◌, ◌<◌, length, refl, sym, ap, ◌∙◌, arith, false≢true, on_ok_weaker}
+use Rattle.segments.proofs.Common.{booleans_Decides, changed, set_slot, LineContent, with_toggle, toggled_at}
 use Rattle.segments.proofs.ChangeLaws.{columns_changed, columns_turned, slots_kept}
-use Rattle.segments.proofs.ColumnLaws.{length-columns}
-use Rattle.segments.proofs.rich.RichLine.set_toggle.Goals as goal
+use Rattle.segments.proofs.RichLaws.{as_long}
 use Rattle.segments.proofs.rich.RichLine.set_toggle.Goals.{After-has_toggle}
+use Rattle.std.specs.FinSet as finset
+use Rattle.segments.proofs.rich.RichLine.set_toggle.Goals as goal
 
 within : (c : After-has_toggle) → c.args.column < length c.self.inside.text
-within c =
-    omega (
-      arith,
-      c.requires.within,
-      ap (λ (line : LineContent). length line.columns) c.self.view_is,
-      length-columns 0 c.self.inside.text c.self.inside.toggles.items,
-    )
+within c = omega (arith, c.requires.within, as_long c.self.inside c.self.view_is)
 
 -- what was asked is whether the slot is toggled at the column
 asked : (c : After-has_toggle) → c.has_toggle.result
@@ -25,13 +19,12 @@ returns-then-has_toggle-is_toggled-clause-columns c =
     let text = c.self.inside.text in
     let entries = c.self.inside.toggles.items in
     let column = c.args.column in
-    let slots = toggled_at entries column in
     let place = (goal.at.returns-then-has_toggle-is_toggled-clause-columns c).After-has_toggle in
     let is = sym (asked place)
     ∙ (booleans_Decides c.has_toggle.result c.args.is_toggled).0 c.if-has_toggle-is_toggled.true in
     ap (λ (line : LineContent). line.columns) (sym c.self.view_is)
     ∙ columns_changed column (set_slot c.args.slot.0 c.args.is_toggled) text entries entries (within place)
-    (slots_kept c.args.slot.0 c.args.is_toggled slots is) (λ k other. refl)
+    (slots_kept c.args.slot.0 c.args.is_toggled (toggled_at entries column) is) (λ k other. refl)
     ∙ ap (λ (line : LineContent). changed (with_toggle c.args.slot.0 c.args.is_toggled) column (column + 1)
     line.columns) c.self.view_is
 
@@ -48,9 +41,8 @@ returns-clause-columns c =
     let entries = c.self.inside.toggles.items in
     let new = c.flip_slot.new.toggles.items in
     let column = c.args.column in
-    let slots = toggled_at entries column in
     let place = (goal.at.returns-clause-columns c).After-has_toggle in
-    let other : finset.contains slots c.args.slot.0 ≡ c.args.is_toggled → ⊥ =
+    let other : finset.contains (toggled_at entries column) c.args.slot.0 ≡ c.args.is_toggled → ⊥ =
     λ same. false≢true (sym c.if-has_toggle-is_toggled.false
     ∙ (booleans_Decides c.has_toggle.result c.args.is_toggled).1 (asked place ∙ same)) in
     on_ok_weaker c.flip_slot.result (λ flips.

@@ -1,4 +1,4 @@
-use Rattle.segments.proofs.Words.{◌∙◌, ap, empty-differing, differing, tags_before}
+use Rattle.segments.proofs.Common.{◌∙◌, ap, empty-differing, differing, tags_before}
 use Rattle.segments.proofs.rich.RichLine.tags_before.Goals as goal
 
 pub returns : goal.returns

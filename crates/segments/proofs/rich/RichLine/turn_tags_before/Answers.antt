@@ -1,6 +1,7 @@
-use Rattle.segments.proofs.Words.{length, take, sym, ap, ◌∙◌, arith, differing, LineContent, tags_before, odd_of}
-use Rattle.segments.proofs.Words.{columns_from}
-use Rattle.segments.proofs.ColumnLaws.{length-columns, tags-entries, tags-whole}
+use Rattle.segments.proofs.Common.{length, take, sym, ap, ◌∙◌, arith, differing, LineContent, tags_before, odd_of}
+use Rattle.segments.proofs.Common.{columns_from, ◌+◌}
+use Rattle.segments.proofs.ColumnLaws.{front-entries, tags-whole}
+use Rattle.segments.proofs.RichLaws.{as_long}
 use Rattle.segments.proofs.rich.RichLine.turn_tags_before.Goals as goal
 
 pub returns-then-column-len : goal.returns-then-column-len
@@ -17,7 +18,6 @@ returns-then-column-len c =
 pub returns : goal.returns
 returns c =
     let text = c.self.inside.text in
-    let entries = c.self.inside.toggles.items in
     let count = c.count_before-count.result in
     let lie = c.self.invariant.0 in
     let before = rw c.deref-2.ensures.value at (c.count_before-count.ensures.before 0 (length text)) in
@@ -25,15 +25,9 @@ returns c =
     c.turn_odd-2.ensures
     ∙ ap (differing c.args.slots.now)
     (ap (λ es. odd_of (take count es)) c.deref-3.ensures.value
-    ∙ tags-entries text entries count c.args.column lie (before lie) (behind lie (omega arith))
+    ∙ front-entries text c.self.inside.toggles.items count (c.args.column + 1) lie (before lie)
+    (behind lie (omega arith))
     ∙ ap (λ (line : LineContent). tags_before c.args.column line.columns) c.self.view_is)
 
 pub overflow_add-column : goal.overflow_add-column
-overflow_add-column c =
-    omega (
-      arith,
-      c.requires,
-      c.len.ensures,
-      ap (λ (line : LineContent). length line.columns) c.self.view_is,
-      length-columns 0 c.self.inside.text c.self.inside.toggles.items,
-    )
+overflow_add-column c = omega (arith, c.requires, c.len.ensures, as_long c.self.inside c.self.view_is)

@@ -6,20 +6,17 @@ pub next_line_of-requires-clause-fit : goal.next_line_of-requires-clause-fit
 next_line_of-requires-clause-fit g c =
     let cells = (g.S.TextStore.content c.args.store.now).cells in
     let own = c.args.self.now in
-    let step = far-step cells own.fresh.items own.behind.far.items c.loop-left.left c.loop-left.far
-    c.index-block.result.now (far-behind-fit own cells c.requires.cursor (sym c.requires.old)) c.loop-left.invariant
+    let step = far-step
+    c.index-block.result.now (far-behind-fit cells c.requires.cursor (sym c.requires.old)) c.loop-left.invariant
     c.loop-left-test.true c.index-block.ensures in
     fit-both (length cells) own.fresh.items c.deref.result.now c.index-block.result.now.parts.items
     c.deref-in-loop-left.result.now c.deref.ensures.value c.deref-in-loop-left.ensures.value step.fit
 
 pub next_line_of-requires-clause-small : goal.next_line_of-requires-clause-small
 next_line_of-requires-clause-small g c =
-    let cells = (g.S.TextStore.content c.args.store.now).cells in
-    let own = c.args.self.now in
-    let step = far-step cells own.fresh.items own.behind.far.items c.loop-left.left c.loop-left.far
-    c.index-block.result.now (far-behind-fit own cells c.requires.cursor (sym c.requires.old)) c.loop-left.invariant
-    c.loop-left-test.true c.index-block.ensures in
-    let small = far-small own c.requires.cursor in
+    let cells = (g.S.TextStore.content c.args.store.now).cells in let step = far-step
+    c.index-block.result.now (far-behind-fit cells c.requires.cursor (sym c.requires.old)) c.loop-left.invariant
+    c.loop-left-test.true c.index-block.ensures in let small = far-small c.requires.cursor in
     let bound = step.bound in let counted = c.index-block.result.now.counted in
     let same = ap parts_len c.deref-in-loop-left.ensures.value in
     omega (arith, small, bound, counted, same)
@@ -28,13 +25,13 @@ pub overflow_add-result : goal.overflow_add-result
 overflow_add-result g c =
     let cells = (g.S.TextStore.content c.args.store.now).cells in
     let own = c.args.self.now in
-    let step = far-step cells own.fresh.items own.behind.far.items c.loop-left.left c.loop-left.far
-    c.index-block.result.now (far-behind-fit own cells c.requires.cursor (sym c.requires.old)) c.loop-left.invariant
+    let step = far-step
+    c.index-block.result.now (far-behind-fit cells c.requires.cursor (sym c.requires.old)) c.loop-left.invariant
     c.loop-left-test.true c.index-block.ensures in
-    let small = far-small own c.requires.cursor in
+    let small = far-small c.requires.cursor in
     let bound = step.bound in
     let within = step.within c.in-Some.next (second-same cells own.fresh.items c.deref.result.now
-    c.index-block.result.now.parts.items c.deref-in-loop-left.result.now c.in-Some.next c.deref.ensures.value
+    c.index-block.result.now.parts.items c.deref-in-loop-left.result.now c.deref.ensures.value
     c.deref-in-loop-left.ensures.value c.in-Some.ensures.some) in
     omega (arith, small, bound, within)
 
@@ -42,29 +39,27 @@ pub returns-in-Some : goal.returns-in-Some
 returns-in-Some g c =
     let cells = (g.S.TextStore.content c.args.store.now).cells in
     let own = c.args.self.now in
-    let step = far-step cells own.fresh.items own.behind.far.items c.loop-left.left c.loop-left.far
-    c.index-block.result.now (far-behind-fit own cells c.requires.cursor (sym c.requires.old)) c.loop-left.invariant
+    let step = far-step
+    c.index-block.result.now (far-behind-fit cells c.requires.cursor (sym c.requires.old)) c.loop-left.invariant
     c.loop-left-test.true c.index-block.ensures in
     step.some c.in-Some.next (second-same cells own.fresh.items c.deref.result.now
-    c.index-block.result.now.parts.items c.deref-in-loop-left.result.now c.in-Some.next c.deref.ensures.value
+    c.index-block.result.now.parts.items c.deref-in-loop-left.result.now c.deref.ensures.value
     c.deref-in-loop-left.ensures.value c.in-Some.ensures.some)
 
 pub overflow_add-far : goal.overflow_add-far
 overflow_add-far g c =
     let cells = (g.S.TextStore.content c.args.store.now).cells in
-    let own = c.args.self.now in
-    let step = far-step cells own.fresh.items own.behind.far.items c.loop-left.left c.loop-left.far
-    c.index-block.result.now (far-behind-fit own cells c.requires.cursor (sym c.requires.old)) c.loop-left.invariant
+    let step = far-step
+    c.index-block.result.now (far-behind-fit cells c.requires.cursor (sym c.requires.old)) c.loop-left.invariant
     c.loop-left-test.true c.index-block.ensures in
-    let small = far-small own c.requires.cursor in
+    let small = far-small c.requires.cursor in
     let bound = step.bound in omega (arith, small, bound)
 
 pub loop-left-preserved : goal.loop-left-preserved
 loop-left-preserved g c =
     let cells = (g.S.TextStore.content c.args.store.now).cells in
-    let own = c.args.self.now in
-    let step = far-step cells own.fresh.items own.behind.far.items c.loop-left.left c.loop-left.far
-    c.index-block.result.now (far-behind-fit own cells c.requires.cursor (sym c.requires.old)) c.loop-left.invariant
+    let step = far-step
+    c.index-block.result.now (far-behind-fit cells c.requires.cursor (sym c.requires.old)) c.loop-left.invariant
     c.loop-left-test.true c.index-block.ensures in
     step.none (ap₂ (λ new parts. lines (front_text cells new parts)) (sym c.deref.ensures.value)
     (sym c.deref-in-loop-left.ensures.value) ∙ c.in-None.ensures.none)
@@ -74,6 +69,5 @@ returns g c =
     let cells = (g.S.TextStore.content c.args.store.now).cells in
     let own = c.args.self.now in
     let none : c.loop-left.left ≡ 0 = omega arith in
-    far-none cells own.fresh.items own.behind.far.items c.loop-left.far
-    (far-behind-fit own cells c.requires.cursor (sym c.requires.old))
+    far-none (far-behind-fit cells c.requires.cursor (sym c.requires.old))
     (subst (λ n. FarPassed cells own.fresh.items own.behind.far.items n c.loop-left.far) none c.loop-left.invariant)

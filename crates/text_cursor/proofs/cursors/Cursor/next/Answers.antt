@@ -7,7 +7,7 @@ pub next_line_back-requires-clause-fit : goal.next_line_back-requires-clause-fit
 next_line_back-requires-clause-fit g c =
     let cells = (g.S.TextStore.content c.args.store.now).cells in
     let own = c.args.self.now in
-    let near = near-next own cells c.requires.cursor (sym c.requires.old) in
+    let near = near-next cells c.requires.cursor (sym c.requires.old) in
     fit-both (length cells) own.fresh.items c.deref.result.now own.behind.near.items c.deref-2.result.now
     c.deref.ensures.value c.deref-2.ensures.value near.fit
 
@@ -15,7 +15,7 @@ pub overflow_add-result : goal.overflow_add-result
 overflow_add-result g c =
     let cells = (g.S.TextStore.content c.args.store.now).cells in
     let own = c.args.self.now in
-    let near = near-next own cells c.requires.cursor (sym c.requires.old) in
+    let near = near-next cells c.requires.cursor (sym c.requires.old) in
     let counted : c.count_parts.result ≡ parts_len own.behind.near.items =
     c.count_parts.ensures ∙ ap parts_len c.deref-in-None.ensures.value in
     let none : lines (behind_text cells own.fresh.items own.behind.near.items) ≡ 0 =
@@ -31,18 +31,17 @@ pub returns-in-Some-clause-value : goal.returns-in-Some-clause-value
 returns-in-Some-clause-value g c =
     let cells = (g.S.TextStore.content c.args.store.now).cells in
     let own = c.args.self.now in
-    let near = near-next own cells c.requires.cursor (sym c.requires.old) in
+    let near = near-next cells c.requires.cursor (sym c.requires.old) in
     let second = second-same-back cells own.fresh.items c.deref.result.now own.behind.near.items c.deref-2.result.now
-    c.in-Some.next c.deref.ensures.value c.deref-2.ensures.value c.in-Some.ensures.some in
+        c.deref.ensures.value c.deref-2.ensures.value c.in-Some.ensures.some in
     near.some c.in-Some.next second
 
 pub returns-in-Some-clause-bound : goal.returns-in-Some-clause-bound
 returns-in-Some-clause-bound g c =
     let cells = (g.S.TextStore.content c.args.store.now).cells in
-    let own = c.args.self.now in
-    let near = near-next own cells c.requires.cursor (sym c.requires.old) in
+    let own = c.args.self.now in let near = near-next cells c.requires.cursor (sym c.requires.old) in
     let second = second-same-back cells own.fresh.items c.deref.result.now own.behind.near.items c.deref-2.result.now
-    c.in-Some.next c.deref.ensures.value c.deref-2.ensures.value c.in-Some.ensures.some in
+        c.deref.ensures.value c.deref-2.ensures.value c.in-Some.ensures.some in
     let bound = near.bound in let is = near.some c.in-Some.next second in
     omega (arith, bound, is)
 
@@ -50,7 +49,7 @@ pub returns-in-None-clause-value : goal.returns-in-None-clause-value
 returns-in-None-clause-value g c =
     let cells = (g.S.TextStore.content c.args.store.now).cells in
     let own = c.args.self.now in
-    let near = near-next own cells c.requires.cursor (sym c.requires.old) in
+    let near = near-next cells c.requires.cursor (sym c.requires.old) in
     let counted : c.count_parts.result ≡ parts_len own.behind.near.items =
     c.count_parts.ensures ∙ ap parts_len c.deref-in-None.ensures.value in
     let none : lines (behind_text cells own.fresh.items own.behind.near.items) ≡ 0 =
@@ -65,7 +64,7 @@ pub returns-in-None-clause-bound : goal.returns-in-None-clause-bound
 returns-in-None-clause-bound g c =
     let cells = (g.S.TextStore.content c.args.store.now).cells in
     let own = c.args.self.now in
-    let near = near-next own cells c.requires.cursor (sym c.requires.old) in
+    let near = near-next cells c.requires.cursor (sym c.requires.old) in
     let counted : c.count_parts.result ≡ parts_len own.behind.near.items =
     c.count_parts.ensures ∙ ap parts_len c.deref-in-None.ensures.value in
     let none : lines (behind_text cells own.fresh.items own.behind.near.items) ≡ 0 =

@@ -9,7 +9,7 @@ returns c =
     let from_len = own.fresh.ok.0 in let to_len = c.push_chars.new.characters.ok.0 in
     let from_is : c.len-from.result ≡ length own.fresh.items = c.len-from.ensures ∙ from_len in
     let to_is : c.len.result ≡ length c.push_chars.new.characters.items = c.len.ensures ∙ to_len in
-    puts-some c.args.text.now c.args.slots own _ c.requires.cursor (let h = c.if-count-eq0.false in
+    puts-some c.args.text.now c.args.slots c.requires.cursor (let h = c.if-count-eq0.false in
     omega (arith, counted, h)) (record {
       ahead = c.in_ok-push.ensures.turned ∙ c.in_ok-make_room.ensures.turned;
       turned = refl;

@@ -9,6 +9,6 @@ returns g c =
     let own = c.args.self.now in
     let front = side_parts own.front in let behind = side_parts own.behind in
     c.common.ensures ∙ ap₂ set.intersection c.tags_in-slots.ensures c.tags_in.ensures
-    ∙ shared-is own cells (take (length front - 1) front) (take (length behind - 1) behind)
+    ∙ shared-is cells (take (length front - 1) front) (take (length behind - 1) behind)
     c.last-before.result.now c.last-behind.result.now c.requires.cursor (sym c.requires.old) c.last-before.ensures
     c.last-behind.ensures

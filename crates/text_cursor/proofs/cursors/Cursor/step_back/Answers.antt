@@ -3,8 +3,7 @@ use Rattle.text_cursor.proofs.CursorLaws.{moves-back}
 use Rattle.text_cursor.proofs.cursors.Cursor.step_back.Goals as goal
 
 pub returns-clause-moves : goal.returns-clause-moves
-returns-clause-moves c = moves-back c.args.self.now _ c.in-Some.part c.requires.cursor
-    (record {
+returns-clause-moves c = moves-back c.in-Some.part c.requires.cursor (record {
       ahead = c.in-Some.ensures.turned;
       turned = c.in_ok-push.ensures.turned ∙ c.in_ok-make_room.ensures.turned;
     })

@@ -4,8 +4,7 @@ use Rattle.text_cursor.proofs.cursors.Cursor.step_on.Goals as goal
 
 pub returns-then-count-most-clause-moves : goal.returns-then-count-most-clause-moves
 returns-then-count-most-clause-moves c =
-    moves-over c.args.self.now _ c.in-Some.part c.requires.cursor
-    (record {
+    moves-over c.in-Some.part c.requires.cursor (record {
       ahead = c.in_ok-push.ensures.turned ∙ c.in_ok-make_room.ensures.turned;
       turned = c.in-Some.ensures.turned;
     })
@@ -16,8 +15,7 @@ returns-then-count-most-clause-moves c =
 pub returns-clause-moves : goal.returns-clause-moves
 returns-clause-moves c =
     let first : Part = record c.in-Some.part { to = c.in-Some.part.from + c.args.most } in
-    moves-in c.args.self.now _ c.in-Some.part (side_parts c.pop.new.self) c.args.most c.requires.cursor
-    (record {
+    moves-in c.in-Some.part (side_parts c.pop.new.self) c.args.most c.requires.cursor (record {
       ahead = c.in_ok-push-3.ensures.turned ∙ c.in_ok-make_room.ensures.turned;
       turned = c.in_ok-push-2.ensures.turned ∙ c.in-Some.ensures.turned;
     })

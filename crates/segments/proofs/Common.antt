@@ -1,10 +1,10 @@
--- The words that most proofs of this crate cite, passed on from one place. Declares nothing.
+-- The names that most proofs of this crate cite, passed on from one place. Declares nothing.
 pub use Rattle.std.proofs.Common.{[], ap₂, subst₂, ℕ, ◌%◌, ◌&&◌, ◌*◌, ◌++◌, ◌+◌, ◌-◌, ◌/◌, ◌<◌, ◌==◌, ◌^◌, ◌||◌, ◌∙◌}
-pub use Rattle.std.proofs.Common.{◌∷◌, ◌≡◌, ◌≢◌, ◌≤◌, ◌⊎◌, Bool, Fits, List, None, Option, Some, T, ap, append_assoc}
-pub use Rattle.std.proofs.Common.{arith, cond, count_by, count_ones, drop, drop-drop, false, get_or, inl, inr, length}
-pub use Rattle.std.proofs.Common.{length-append, length-drop, length-take, ltb, ltb-false, ltb-true, map, max, min}
-pub use Rattle.std.proofs.Common.{nat_eq, nat_le, nat_lt, not, refl, replicate, rules, set, subst, suc, sym, take}
-pub use Rattle.std.proofs.Common.{take-add, take-append-drop, true, w8, zero}
+pub use Rattle.std.proofs.Common.{◌∷◌, ◌≡◌, ◌≢◌, ◌≤◌, ◌⊎◌, Bool, Fits, List, None, Option, Some, T, ap, append-nil}
+pub use Rattle.std.proofs.Common.{append_assoc, arith, cond, count_by, count_ones, drop, drop-drop, false, get_or, inl}
+pub use Rattle.std.proofs.Common.{inr, length, length-append, length-drop, length-take, ltb, ltb-false, ltb-true, map}
+pub use Rattle.std.proofs.Common.{max, min, nat_eq, nat_le, nat_lt, not, refl, replicate, rules, set, subst, suc, sym}
+pub use Rattle.std.proofs.Common.{take, take-add, take-append-drop, true, w8, zero}
 pub use Rattle.segments.specs.Beginnings.{beginnings, begins_character}
 pub use Rattle.segments.specs.Columns.{Column, LineContent, after_removal, after_text, characters, earlier, free_behind}
 pub use Rattle.segments.specs.Columns.{joined, joined_marks, later, line_before, line_behind, line_count, marks_where}
@@ -14,14 +14,15 @@ pub use Rattle.segments.specs.Entries.{CanMoveBack, CanMoveOn, HasOneWord, LieIn
 pub use Rattle.segments.specs.Entries.{later_of, moved_back, moved_on, next_entry, odd_of, place_of, previous_entry}
 pub use Rattle.segments.specs.Entries.{slots_cleared, toggled_at, without_span}
 pub use Rattle.segments.specs.Forms.{content, is_plain}
-pub use Rattle.segments.specs.Kept.{AreKept, AreMarks, columns_from}
+pub use Rattle.segments.specs.Kept.{AreKept, columns_from}
 pub use Rattle.segments.specs.Marks.{Below, Rise, StandIn, entries_of, entry_of, marks_of, with_place}
 pub use Rattle.segments.specs.declared.marks.Mark.{Mark}
+pub use Rattle.segments.specs.declared.rich.RichLine.TheInside.{Inside}
 pub use Rattle.segments.specs.declared.toggles.Toggled.{Toggled}
 pub use Rattle.std.proofs.Math.Seq.{drop-append_seam, drop-cons, take-append_seam}
 pub use Rattle.std.proofs.lemmas.Bool.{false≢true, cases_eq, cases_lt, cases_order}
 pub use Rattle.std.proofs.lemmas.Bool.Decides.{nat_tests}
-pub use Rattle.std.proofs.lemmas.List.{append-nil, append_cancel_right, drop_all, drop_more, get_or_default, length-map}
+pub use Rattle.std.proofs.lemmas.List.{append_cancel_right, drop_all, drop_more, get_or_default, length-map}
 pub use Rattle.std.proofs.lemmas.List.{length-take-le, set_split, take-append-le, take_all, take_rest}
 pub use Rattle.std.proofs.lemmas.List.Edits.{map_over_more, split_between}
 pub use Rattle.std.proofs.lemmas.List.Elements.{All-append, All-cons, All-drop, All-filter, All-head, All-map, All-nil}
@@ -32,11 +33,10 @@ pub use Rattle.std.proofs.lemmas.List.Sums.{suffix_len-take_no, suffix_len-take_
 pub use Rattle.std.proofs.lemmas.Option.{IfSome_then, slice_get-map, slice_get_past, slice_get_read}
 pub use Rattle.std.proofs.lemmas.Result.{on_ok_weaker}
 pub use Rattle.std.proofs.lemmas.Simd.{bitmask_splat, chunk-fits, length-chunk, map-map, ones-mask_l, zip2_splat}
-pub use Rattle.std.proofs.lemmas.Str.{IsAscii-drop, IsCharBoundary-end, IsCharBoundary-from_ascii}
-pub use Rattle.std.proofs.lemmas.Str.{IsCharBoundary-past_char, IsUtf8-append, IsUtf8-drop, IsUtf8-nil}
-pub use Rattle.std.proofs.lemmas.Str.{IsUtf8-string_bytes, IsUtf8-take, chars-IsAscii, chars-append, chars-nil}
-pub use Rattle.std.proofs.lemmas.Str.{chars_from_encodes, chars_past_char, drop_past_char, encode_ascii, encodes-append}
-pub use Rattle.std.proofs.lemmas.Str.{encodes-chars, len_utf8_bounds, length-encode, length-le-encodes}
+pub use Rattle.std.proofs.lemmas.Str.{IsAscii-drop, IsCharBoundary-end, IsCharBoundary-from_ascii, IsUtf8-append}
+pub use Rattle.std.proofs.lemmas.Str.{IsUtf8-drop, IsUtf8-nil, IsUtf8-string_bytes, IsUtf8-take, chars-IsAscii}
+pub use Rattle.std.proofs.lemmas.Str.{chars-append, chars-nil, chars_from_encodes, chars_past_char, encode_ascii}
+pub use Rattle.std.proofs.lemmas.Str.{encodes-append, encodes-chars, len_utf8_bounds, length-encode, length-le-encodes}
 pub use Rattle.std.specs.Cmp.{booleans_Decides, eq_by_cmp_equiv, nat_cmp_is, nat_cmp_total, unsigned_tied}
 pub use Rattle.std.specs.FinMap.{find, is_sorted, nat_cmp-IsAntisymmetric, put}
 pub use Rattle.std.specs.FinMap.Entries.{below_all, by_order, find-where_key, is_sorted-put, is_sorted-where_key}
