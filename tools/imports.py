@@ -38,7 +38,12 @@ def lists_of(module, names, before=""):
             lines[-1] += f", {name}"
         else:
             lines.append(f"{before}use {module}.{{{name}")
-    return [line + "}" for line in lines]
+    # `rt fmt` keeps `!` and the bracket apart.
+    return [line + (" }" if line.endswith("!") else "}") for line in lines]
+
+
+def names_in(listed):
+    return [name.strip() for name in listed.split(",")]
 
 
 def read(path):
@@ -55,7 +60,7 @@ def write(path, text):
 def words_of(text):
     """The words that a file passes on, each with its module."""
     lists = filter(None, map(LIST.match, text.split("\n")))
-    return {name: module for _, module, names in map(re.Match.groups, lists) for name in names.split(", ")}
+    return {name: module for _, module, names in map(re.Match.groups, lists) for name in names_in(names)}
 
 
 @lru_cache(None)
@@ -78,7 +83,7 @@ class Proofs:
         self.unfolded = set(" ".join(UNFOLDED.findall(text)).split())
         self.brought = {}
         for match in self.lists():
-            for name in match[3].split(", "):
+            for name in names_in(match[3]):
                 if is_named(name.split(" as ")[-1], rest):
                     self.brought[name] = words[name] if match[2] == f"{own}.Common" else match[2]
 

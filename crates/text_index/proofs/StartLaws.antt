@@ -148,45 +148,45 @@ module _ {content : Content} {start end : ℕ} (view : IsView content start end)
     begins-at = omega (arith, here, start-shown line)
 
   module _ {line number behind : ℕ} (numbered : IsNumber line number) (behind_is : behind ≡ line_start (number + 1) text)
-      where
-    there : behind ≡ line_start (line_of text start + suc line) text
-    there =
-        let same : number + 1 ≡ line_of text start + suc line = omega (arith, numbered.is) in
-        behind_is ∙ ap (λ k. line_start k text) same
+    where
+      there : behind ≡ line_start (line_of text start + suc line) text
+      there =
+          let same : number + 1 ≡ line_of text start + suc line = omega (arith, numbered.is) in
+          behind_is ∙ ap (λ k. line_start k text) same
 
-    pub ends-after : start ≤ behind
-    ends-after = omega (arith, there, start-after (suc line))
+      pub ends-after : start ≤ behind
+      ends-after = omega (arith, there, start-after (suc line))
 
-    -- its end stands behind the end of the view
-    pub ends-behind : end < behind → lines part ≤ line
-    ends-behind past =
-        elim (cases_lt line (lines part)) [
-          | inl before ↦
-              let shown = start-part text start end (suc line) view.first (omega (arith, before)) in
-              absurd (omega (arith, shown, there, line_start-le part (suc line), long, past, view.ordered))
-          | inr past-last ↦ omega (arith, past-last)
-        ]
+      -- its end stands behind the end of the view
+      pub ends-behind : end < behind → lines part ≤ line
+      ends-behind past =
+          elim (cases_lt line (lines part)) [
+            | inl before ↦
+                let shown = start-part text start end (suc line) view.first (omega (arith, before)) in
+                absurd (omega (arith, shown, there, line_start-le part (suc line), long, past, view.ordered))
+            | inr past-last ↦ omega (arith, past-last)
+          ]
 
-    rises : line_start (line_of text start + line) text < behind
-    rises =
-        let known : line_of text start + line < lines text = omega (arith, numbered.is, numbered.known) in
-        let same : line_of text start + suc line ≡ suc (line_of text start + line) = omega arith in
-        let more = line_start-rises text (line_of text start + line) known in
-        omega (arith, more, there, ap (λ k. line_start k text) same)
+      rises : line_start (line_of text start + line) text < behind
+      rises =
+          let known : line_of text start + line < lines text = omega (arith, numbered.is, numbered.known) in
+          let same : line_of text start + suc line ≡ suc (line_of text start + line) = omega arith in
+          let more = line_start-rises text (line_of text start + line) known in
+          omega (arith, more, there, ap (λ k. line_start k text) same)
 
-    -- or within it
-    pub ends-within : behind ≤ end → (line < lines part) × (behind - start ≡ line_start (suc line) part)
-    ends-within within =
-        let has : line < lines part =
-        elim (cases_lt line (lines part)) [
-          | inl before ↦ before
-          | inr past ↦
-              let later = later-start text (line_of text end) (line_of text start + line) (omega (arith, total, past)) in
-              absurd (omega (arith, later, view.behind.begins, rises, within))
-        ] in
-        (has, omega (arith, start-part text start end (suc line) view.first (omega (arith, has)), there))
+      -- or within it
+      pub ends-within : behind ≤ end → (line < lines part) × (behind - start ≡ line_start (suc line) part)
+      ends-within within =
+          let has : line < lines part =
+          elim (cases_lt line (lines part)) [
+            | inl before ↦ before
+            | inr past ↦
+                let later = later-start text (line_of text end) (line_of text start + line) (omega (arith, total, past)) in
+                absurd (omega (arith, later, view.behind.begins, rises, within))
+          ] in
+          (has, omega (arith, start-part text start end (suc line) view.first (omega (arith, has)), there))
 
-    -- so it begins within it too
-    pub start-within : {first : ℕ} → first ≡ line_start number text → behind ≤ end → first - start ≡ line_start line part
-    start-within first_is within =
-        omega (arith, here numbered first_is, start-shown line, rises, within)
+      -- so it begins within it too
+      pub start-within : {first : ℕ} → first ≡ line_start number text → behind ≤ end → first - start ≡ line_start line part
+      start-within first_is within =
+          omega (arith, here numbered first_is, start-shown line, rises, within)

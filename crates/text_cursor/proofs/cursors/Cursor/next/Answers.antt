@@ -33,7 +33,7 @@ returns-in-Some-clause-value g c =
     let own = c.args.self.now in
     let near = near-next cells c.requires.cursor (sym c.requires.old) in
     let second = second-same-back cells own.fresh.items c.deref.result.now own.behind.near.items c.deref-2.result.now
-        c.deref.ensures.value c.deref-2.ensures.value c.in-Some.ensures.some in
+    c.deref.ensures.value c.deref-2.ensures.value c.in-Some.ensures.some in
     near.some c.in-Some.next second
 
 pub returns-in-Some-clause-bound : goal.returns-in-Some-clause-bound
@@ -41,7 +41,7 @@ returns-in-Some-clause-bound g c =
     let cells = (g.S.TextStore.content c.args.store.now).cells in
     let own = c.args.self.now in let near = near-next cells c.requires.cursor (sym c.requires.old) in
     let second = second-same-back cells own.fresh.items c.deref.result.now own.behind.near.items c.deref-2.result.now
-        c.deref.ensures.value c.deref-2.ensures.value c.in-Some.ensures.some in
+    c.deref.ensures.value c.deref-2.ensures.value c.in-Some.ensures.some in
     let bound = near.bound in let is = near.some c.in-Some.next second in
     omega (arith, bound, is)
 
