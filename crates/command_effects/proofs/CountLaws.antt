@@ -1,19 +1,11 @@
 -- How many tags there are with the names of lists, before any of them is made.
-use Rattle.command_effects.proofs.Words.{◌≡◌, ℕ, ◌+◌, ◌-◌, ◌<◌, ◌≤◌, Bool, true, false, not, cond, List, [], ◌∷◌, ◌++◌}
-use Rattle.command_effects.proofs.Words.{length, take, refl, sym, ap, ap₂, ◌∙◌, arith, String, chars, string_bytes}
-use Rattle.command_effects.proofs.Words.{get_or, is_some, option_map, Option, None, Some, ◌||◌, Tag, names_of, slot_of}
-use Rattle.command_effects.proofs.Words.{TagSlot, append-nil, length-append, map-append, bytes_eq-Decides, texts_of}
-use Rattle.command_effects.proofs.Words.{Pair, all_names, listed_names, with_name, with_names, is_among, is_same}
-use Rattle.std.specs.Prelude.{◌&&◌}
+use Rattle.command_effects.proofs.Common.{◌≡◌, ℕ, ◌+◌, ◌-◌, ◌<◌, ◌≤◌, Bool, true, false, not, cond, List, [], ◌∷◌, ◌++◌}
+use Rattle.command_effects.proofs.Common.{length, take, refl, sym, ap, ap₂, ◌∙◌, arith, get_or, is_some, option_map}
+use Rattle.command_effects.proofs.Common.{Option, None, Some, ◌||◌, Tag, names_of, slot_of, TagSlot, append-nil}
+use Rattle.command_effects.proofs.Common.{length-append, bytes_eq-Decides, Pair, all_names, listed_names, with_name}
+use Rattle.command_effects.proofs.Common.{with_names, is_among, is_same, ◌&&◌}
+use mathlib.Core.Bool.{and-false, or-false, or_assoc}
 use Rattle.command_effects.proofs.MadeLaws.{absent_slot, all_names-append, among_slot, take-more}
-
-or-none : (a : Bool) → (a || false) ≡ a
-or-none true = refl
-or-none false = refl
-
-or-or : (a b c : Bool) → ((a || b) || c) ≡ (a || (b || c))
-or-or true b c = refl
-or-or false b c = refl
 
 -- ---- a name among others
 
@@ -22,18 +14,7 @@ pub among-append : (name : List ℕ) (names others : List (List ℕ)) →
 among-append name [] others = refl
 among-append name (first ∷ names) others =
     ap (λ b. is_same name first || b) (among-append name names others)
-    ∙ sym (or-or (is_same name first) (is_among name names) (is_among name others))
-
--- one word more at the end of those that are looked at
-pub among-more : {Z : Type 0} (name : List ℕ) (words : List (String Z)) (at : ℕ) (word : String Z) → at < length words →
-    word ≡ get_or words at word
-    → is_among name (texts_of (take (at + 1) words))
-    ≡ (is_among name (texts_of (take at words)) || is_same name (chars (string_bytes word)))
-among-more {Z} name words at word within is =
-    ap (λ ws. is_among name (texts_of ws)) (take-more words at word within is)
-    ∙ ap (is_among name) (map-append (λ w. chars (string_bytes w)) (take at words) (word ∷ []))
-    ∙ among-append name (texts_of (take at words)) (chars (string_bytes word) ∷ [])
-    ∙ ap (λ b. is_among name (texts_of (take at words)) || b) (or-none (is_same name (chars (string_bytes word))))
+    ∙ sym (or_assoc (is_same name first) (is_among name names) (is_among name others))
 
 -- one list more at the end of those that are looked at
 pub listed-more : (name : List ℕ) (pairs : List Pair) (at : ℕ) (pair : Pair) → at < length pairs →
@@ -56,12 +37,12 @@ with-one name other tags =
     is_among name (cond b tags (tags ++ other ∷ [])) ≡ (is_among name tags || is_same name other)) [
       | true ↦ λ there. known (is_same name other) refl there
       | false ↦ λ _. among-append name tags (other ∷ [])
-          ∙ ap (λ b. is_among name tags || b) (or-none (is_same name other))
+          ∙ ap (λ b. is_among name tags || b) (or-false (is_same name other))
     ] refl
   where
     known : (same : Bool) → is_same name other ≡ same → is_among other tags ≡ true →
         is_among name tags ≡ (is_among name tags || same)
-    known false is there = sym (or-none (is_among name tags))
+    known false is there = sym (or-false (is_among name tags))
     known true is there =
         let equal : name ≡ other = (bytes_eq-Decides name other).0 is in
         let among : is_among name tags ≡ true = ap (λ n. is_among n tags) equal ∙ there in
@@ -69,11 +50,11 @@ with-one name other tags =
 
 pub among-with : (name : List ℕ) (tags more : List (List ℕ)) →
     is_among name (with_names tags more) ≡ (is_among name tags || is_among name more)
-among-with name tags [] = sym (or-none (is_among name tags))
+among-with name tags [] = sym (or-false (is_among name tags))
 among-with name tags (other ∷ more) =
     among-with name (with_name tags other) more
     ∙ ap (λ b. b || is_among name more) (with-one name other tags)
-    ∙ or-or (is_among name tags) (is_same name other) (is_among name more)
+    ∙ or_assoc (is_among name tags) (is_same name other) (is_among name more)
 
 -- neither a tag, nor in the lists before, nor before it in its own
 pub new-name : (name : List ℕ) (tags before names : List (List ℕ)) (known repeated listed : Bool)
@@ -109,11 +90,7 @@ pub new-repeated : (name : List ℕ) (tags before names : List (List ℕ)) → i
     → not (is_among name (with_names (with_names tags before) names)) ≡ false
 new-repeated name tags before names here =
     new-name name tags before names (is_among name tags) true (is_among name before) refl here refl
-    ∙ and-none (not (is_among name tags))
-  where
-    and-none : (a : Bool) → (a && false) ≡ false
-    and-none true = refl
-    and-none false = refl
+    ∙ and-false (not (is_among name tags))
 
 pub new-listed : (name : List ℕ) (tags before names : List (List ℕ)) → is_among name tags ≡ false →
     is_among name names ≡ false
@@ -140,14 +117,6 @@ count-known name tags known =
     ] known
 
 -- ---- looking back
-
-pub or-true : (a b : Bool) → b ≡ true → (a || b) ≡ true
-or-true true b is = refl
-or-true false b is = is
-
-pub or-false : (a b : Bool) → b ≡ false → (a || b) ≡ a
-or-false true b is = refl
-or-false false b is = is
 
 -- the last of the lists that are looked at
 pub listed-back : (name : List ℕ) (pairs : List Pair) (left : ℕ) (pair : Pair) → 0 < left → left ≤ length pairs →

@@ -1,26 +1,19 @@
 -- Whether there are more tags or characters than there may be.
-use Rattle.command_effects.proofs.Words.{◌≡◌, ℕ, ◌+◌, ◌<◌, ◌≤◌, true, false, List, [], ◌∷◌, length, map, refl, sym, ap}
-use Rattle.command_effects.proofs.Words.{ap₂, ◌∙◌, arith, nat_tests, nat_lt, if◌then◌else◌, encode_utf8_all, le-ltb}
-use Rattle.command_effects.proofs.Words.{lt-ltb, length-le-encodes, Tag, Fault, TooManyTags, TextTooLong, excess, total}
-use Rattle.command_effects.proofs.Words.{total_bytes, piece_of}
-use Rattle.std.proofs.Common.{None, Some}
+use Rattle.command_effects.proofs.Common.{◌≡◌, ℕ, ◌+◌, ◌<◌, ◌≤◌, true, false, List, [], ◌∷◌, length, map, refl, sym, ap}
+use Rattle.command_effects.proofs.Common.{ap₂, ◌∙◌, arith, nat_tests, nat_lt, if◌then◌else◌, encode_utf8_all, le-ltb}
+use Rattle.command_effects.proofs.Common.{lt-ltb, length-le-encodes, Tag, Fault, TooManyTags, TextTooLong, excess}
+use Rattle.command_effects.proofs.Common.{total, total_bytes, piece_of, None, Some}
 use Rattle.std.proofs.lemmas.List.Sums.{sum_by-cons}
-use Rattle.edit_ops.specs.Insertions as pieces
 use Rattle.edit_ops.specs.declared.slotted_texts.SlottedText.{SlottedText}
 use Rattle.text_model.specs.LimitTable.{LimitTable}
 use Rattle.command_effects.specs.declared.lists.Pair.{Pair}
+use Rattle.edit_ops.specs.Insertions as pieces
 
 pub excess-none : (limits : LimitTable) (tags chars : ℕ) → tags ≤ limits.tags + 1 → chars ≤ limits.chars →
     excess limits tags chars ≡ None
 excess-none limits tags chars few short =
     ap₂ (λ a b. if a then Some TooManyTags else (if b then Some TextTooLong else None))
     (le-ltb (limits.tags + 1) tags few) (le-ltb limits.chars chars short)
-
-pub excess-tags : (limits : LimitTable) (tags chars : ℕ) (fault : Fault) →
-    (fault ≡ TooManyTags) × (limits.tags + 1 < tags) → excess limits tags chars ≡ Some fault
-excess-tags limits tags chars fault why =
-    ap (λ a. if a then Some TooManyTags else (if nat_lt limits.chars chars then Some TextTooLong else None))
-    (lt-ltb (limits.tags + 1) tags why.1) ∙ ap Some (sym why.0)
 
 pub excess-chars : (limits : LimitTable) (tags chars : ℕ) (fault : Fault) → tags ≤ limits.tags + 1 →
     (fault ≡ TextTooLong) × (limits.chars < chars) → excess limits tags chars ≡ Some fault

@@ -1,10 +1,10 @@
 -- Tables from which names are taken out, one after the other.
-use Rattle.command_effects.proofs.Words.{map, ◌≡◌, ℕ, zero, suc, Bool, true, false, cond, not, ◌&&◌, List, [], ◌∷◌}
-use Rattle.command_effects.proofs.Words.{◌++◌, refl, sym, ap, ap₂, ◌∙◌, true≢false, bytes_eq, if◌then◌else◌, both_ways}
-use Rattle.command_effects.proofs.Words.{false_from_ne_true, or_right, list_any-append, bytes_eq-Decides, without}
-use Rattle.command_effects.proofs.Words.{deleted, Tag, is_named, names_of, sel, Mark, is_left, marks_left, stays}
-use Rattle.command_effects.proofs.Words.{tags_left, is_among, is_same}
-use Rattle.std.proofs.Common.{◌||◌, Some, filter, slice_get}
+use Rattle.command_effects.proofs.Common.{map, ◌≡◌, ℕ, zero, suc, Bool, true, false, cond, not, ◌&&◌, List, [], ◌∷◌}
+use Rattle.command_effects.proofs.Common.{◌++◌, refl, sym, ap, ap₂, ◌∙◌, true≢false, bytes_eq, if◌then◌else◌, both_ways}
+use Rattle.command_effects.proofs.Common.{false_from_ne_true, or_right, list_any-append, bytes_eq-Decides, without}
+use Rattle.command_effects.proofs.Common.{deleted, Tag, is_named, names_of, sel, Mark, is_left, marks_left, stays}
+use Rattle.command_effects.proofs.Common.{tags_left, is_among, is_same, ◌||◌, Some, filter, slice_get}
+use mathlib.Core.Bool.{and-true, or-false}
 use Rattle.name_list.specs.Names.{AreApart}
 use Rattle.mark_table.specs.SharedMarks.{is_named as mark_is_named, names_of as mark_names_of}
 
@@ -24,23 +24,11 @@ AreApart-head x xs at apart is = let none : zero ≡ suc at = apart zero (suc at
 is_among-push : (name other : List ℕ) (names : List (List ℕ)) →
     is_among name (names ++ other ∷ []) ≡ (is_among name names || bytes_eq name other)
 is_among-push name other names = list_any-append (is_same name) names (other ∷ [])
-    ∙ ap (λ b. is_among name names || b) (or_false (bytes_eq name other))
-  where
-    or_false : (b : Bool) → (b || false) ≡ b
-    or_false true = refl
-    or_false false = refl
+    ∙ ap (λ b. is_among name names || b) (or-false (bytes_eq name other))
 
 neither : (a b : Bool) → not (a || b) ≡ (not a && not b)
 neither true b = refl
 neither false b = refl
-
-and_true : (a : Bool) → a ≡ (a && true)
-and_true true = refl
-and_true false = refl
-
-or_none : (a : Bool) → (a || false) ≡ a
-or_none true = refl
-or_none false = refl
 
 -- `sel` stays in any case
 stays-sel : (names : List (List ℕ)) (name other : List ℕ) → bytes_eq name sel ≡ true →
@@ -54,7 +42,7 @@ stays-sel names name other is_sel =
           let other_name : bytes_eq other name ≡ false = false_from_ne_true (bytes_eq other name) (λ same.
           true≢false (sym ((bytes_eq-Decides other sel).1 ((bytes_eq-Decides other name).0 same
           ∙ (bytes_eq-Decides name sel).0 is_sel)) ∙ apart)) in
-          ap (λ b. not (is_among other names || b)) other_name ∙ ap not (or_none (is_among other names))
+          ap (λ b. not (is_among other names || b)) other_name ∙ ap not (or-false (is_among other names))
     ] refl
 
 -- a name isn't among some and one more
@@ -93,7 +81,7 @@ no_more name_of p name [] none = refl
 no_more name_of p name (x ∷ xs) none =
     let other : bytes_eq name (name_of x) ≡ false = false_from_ne_true (bytes_eq name (name_of x)) (λ same.
     none 0 (ap Some (sym ((bytes_eq-Decides name (name_of x)).0 same)))) in
-    ap₂ (λ b rest. cond b (x ∷ rest) rest) (and_true (p x)
+    ap₂ (λ b rest. cond b (x ∷ rest) rest) (sym (and-true (p x))
     ∙ ap (λ b. p x && not b) (sym other)) (no_more name_of p name xs (λ at is. none (suc at) is))
 
 -- of elements with distinct names those that pass, without the one of a name

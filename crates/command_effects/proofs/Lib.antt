@@ -1,3 +1,4 @@
+pub mod Common
 pub mod CountLaws
 pub mod ExcessLaws
 pub mod LeftLaws
@@ -8,5 +9,4 @@ pub mod SettingLaws
 pub mod SlotLaws
 pub mod TakeLaws
 pub mod WordLaws
-pub mod Words
 pub mod WrittenLaws

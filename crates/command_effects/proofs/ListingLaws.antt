@@ -1,11 +1,9 @@
 -- Lists of elements as they are written.
-use Rattle.command_effects.proofs.Words.{◌≡◌, ℕ, zero, suc, ◌+◌, ◌-◌, ◌<◌, ◌≤◌, Bool, true, false, List, [], ◌∷◌, ◌++◌}
-use Rattle.command_effects.proofs.Words.{length, refl, sym, ap, subst, ◌∙◌, arith, None, Some, IfSome, slice_get}
-use Rattle.command_effects.proofs.Words.{filter, if◌then◌else◌, none-some, same_Some, chars-nil, Tag, names_of}
-use Rattle.command_effects.proofs.Words.{slots_of, append_assoc, append-nil, map-append, position_text}
-use Rattle.command_effects.proofs.Words.{ranges_from-first, goes_nowhere, goes_on, Goes}
-use Rattle.std.proofs.Common.{Option, chars}
-use Rattle.std.specs.Prelude.{take}
+use Rattle.command_effects.proofs.Common.{◌≡◌, ℕ, zero, suc, ◌+◌, ◌-◌, ◌<◌, ◌≤◌, Bool, true, false, List, [], ◌∷◌, ◌++◌}
+use Rattle.command_effects.proofs.Common.{length, refl, sym, ap, subst, ◌∙◌, arith, None, Some, IfSome, slice_get}
+use Rattle.command_effects.proofs.Common.{filter, if◌then◌else◌, none-some, same_Some, chars-nil, Tag, names_of}
+use Rattle.command_effects.proofs.Common.{slots_of, append_assoc, append-nil, map-append, position_text}
+use Rattle.command_effects.proofs.Common.{ranges_from-first, goes_nowhere, goes_on, Goes, Option, chars, take}
 use Rattle.text_index.specs.Ranges.{tag_ranges, ranges_from, and_later}
 use Rattle.text_index.specs.declared.ranges.TagRange.{TagRange}
 use Rattle.command_effects.proofs.WrittenLaws.{take-found, filter-in, filter-out}
@@ -40,12 +38,6 @@ listed-more text flags old between new found range next listed is later goes = r
   goes = subst (Goes old new) (sym (range_words-append text listed.done (range ∷ [])))
       (goes_on old between new (range_words text listed.done) _ listed.goes goes);
 }
-
-pub listed-all : (text : List ℕ) (flags : List Bool) (old new : List ℕ) (found : Option TagRange) →
-    IsListed text flags old new found → found ≡ None → Goes old new (range_words text (tag_ranges flags))
-listed-all text flags old new found listed is =
-    subst (λ ranges. Goes old new (range_words text ranges))
-    (sym (listed.ranges ∙ ap (λ r. listed.done ++ and_later flags r) is ∙ append-nil listed.done)) listed.goes
 
 -- How far the first of the ranges that aren't listed begins before the end of a view: its columns go from one to another.
 abbrev pub left_of : ℕ → ℕ → Option TagRange → ℕ

@@ -1,13 +1,13 @@
 -- Tables of tags as tags are made.
-use Rattle.command_effects.proofs.Words.{◌≡◌, ℕ, zero, suc, ◌+◌, ◌<◌, ◌≤◌, true, false, cond, List, [], ◌∷◌, ◌++◌}
-use Rattle.command_effects.proofs.Words.{length, take, refl, sym, ap, subst, ◌∙◌, arith, inl, inr, ◌⊎◌, String, chars}
-use Rattle.command_effects.proofs.Words.{string_bytes, get_or, IfSome, Option, None, Some, find, option_map, bytes_eq}
-use Rattle.command_effects.proofs.Words.{slice_get, ◌||◌, if◌then◌else◌, position_from, option_or, length-map}
-use Rattle.command_effects.proofs.Words.{map-append, append_assoc, append-nil, take_all, take-append-le}
-use Rattle.command_effects.proofs.Words.{take-append-drop, length-append, find-append, take-suc, texts_of, none-some}
-use Rattle.command_effects.proofs.Words.{bytes_eq-Decides, Tag, Tags, names_of, slot_of, is_named, Pair, with_name}
-use Rattle.command_effects.proofs.Words.{with_names, listed_names, all_names, IsFront, is_among, is_same}
-use Rattle.std.specs.Prelude.{drop}
+use Rattle.command_effects.proofs.Common.{◌≡◌, ℕ, suc, ◌+◌, ◌<◌, ◌≤◌, true, false, cond, List, [], ◌∷◌, ◌++◌, length}
+use Rattle.command_effects.proofs.Common.{take, refl, sym, ap, subst, ◌∙◌, arith, inl, inr, ◌⊎◌, String, chars}
+use Rattle.command_effects.proofs.Common.{string_bytes, get_or, IfSome, Option, None, Some, find, option_map, bytes_eq}
+use Rattle.command_effects.proofs.Common.{slice_get, ◌||◌, if◌then◌else◌, position_from, option_or, length-map}
+use Rattle.command_effects.proofs.Common.{map-append, append_assoc, append-nil, take_all, take-append-le}
+use Rattle.command_effects.proofs.Common.{take-append-drop, length-append, find-append, texts_of, none-some}
+use Rattle.command_effects.proofs.Common.{bytes_eq-Decides, Tag, Tags, names_of, slot_of, is_named, Pair, with_name}
+use Rattle.command_effects.proofs.Common.{with_names, listed_names, all_names, IsFront, is_among, is_same, drop}
+use Rattle.command_effects.proofs.Common.{take-take, take_more}
 
 -- an unknown name, and one that stands in a table, at a place
 abbrev pub IsUnknown : List ℕ → List Tag → ℕ → Type 0
@@ -138,12 +138,6 @@ pub with_names-append : (names some more : List (List ℕ)) →
 with_names-append names [] more = refl
 with_names-append names (name ∷ some) more = with_names-append (with_name names name) some more
 
-take-less : {A : Type 0} (few many : ℕ) (xs : List A) → few ≤ many → take few xs ≡ take few (take many xs)
-take-less zero many xs less = refl
-take-less (suc few) zero xs less = absurd (omega (arith, less))
-take-less (suc few) (suc many) [] less = refl
-take-less (suc few) (suc many) (x ∷ xs) less = ap (λ ys. x ∷ ys) (take-less few many xs (omega (arith, less)))
-
 -- a table stands at the front of itself, and at the front of what stands behind it
 pub front_same : (tags : Tags) → IsFront tags tags
 front_same tags =
@@ -159,7 +153,7 @@ front_more old tag = record {
 
 pub front_on : (old between new : Tags) → IsFront old between → IsFront between new → IsFront old new
 front_on old between new first second = record {
-  tags = take-less (length old.tags) (length between.tags) new.tags first.longer
+  tags = sym (take-take (length old.tags) (length between.tags) new.tags first.longer)
       ∙ ap (take (length old.tags)) second.tags ∙ first.tags;
   longer = omega (arith, first.longer, second.longer);
   limit = second.limit ∙ first.limit;
@@ -187,8 +181,7 @@ of_some P found value is holds = subst (λ o. IfSome o P) is holds
 
 pub take-more : {A : Type 0} (xs : List A) (at : ℕ) (x : A) → at < length xs → x ≡ get_or xs at x →
     take (at + 1) xs ≡ take at xs ++ x ∷ []
-take-more xs at x within is = ap (λ n. take n xs) (let h : at + 1 ≡ suc at = omega arith in h) ∙ take-suc xs at x within
-    ∙ ap (λ y. take at xs ++ y ∷ []) (sym is)
+take-more xs at x within is = take_more xs at x within ∙ ap (λ y. take at xs ++ y ∷ []) (sym is)
 
 -- a name more is made
 pub with_names-step : {Z : Type 0} (names : List (List ℕ)) (words : List (String Z)) (at : ℕ) (word : String Z)

@@ -1,12 +1,10 @@
 -- Lists that are taken by twos.
-use Rattle.command_effects.proofs.Words.{◌≡◌, ℕ, suc, ◌+◌, ◌-◌, ◌<◌, ◌≤◌, List, [], ◌∷◌, ◌++◌, length, drop, refl, sym}
-use Rattle.command_effects.proofs.Words.{ap, ◌∙◌, arith, All, All-cons, All-nil, min, Result, Ok, Err, Some, String}
-use Rattle.command_effects.proofs.Words.{chars, string_bytes, take_rest, append_assoc, drop-map, length-map, get_or-map}
-use Rattle.command_effects.proofs.Words.{texts_of, with_value, Pair, pair_at, and_pairs, pairs_at, Fault, span}
-use Rattle.command_effects.proofs.Words.{spans_of}
-use Rattle.std.proofs.Common.{get_or}
+use Rattle.command_effects.proofs.Common.{◌≡◌, ℕ, suc, ◌+◌, ◌-◌, ◌<◌, ◌≤◌, List, [], ◌∷◌, ◌++◌, length, drop, refl, sym}
+use Rattle.command_effects.proofs.Common.{ap, ◌∙◌, arith, All, All-cons, All-nil, min, Result, Ok, Err, Some, String}
+use Rattle.command_effects.proofs.Common.{chars, string_bytes, take_rest, append_assoc, drop-map, length-map}
+use Rattle.command_effects.proofs.Common.{get_or-map, texts_of, with_value, Pair, pair_at, and_pairs, pairs_at, Fault}
+use Rattle.command_effects.proofs.Common.{span, spans_of, get_or, take}
 use Rattle.edit_ops.specs.Tagging.{SpanFits}
-use Rattle.std.specs.Prelude.{take}
 use Rattle.edit_ops.specs.declared.spans.Span.{Span}
 
 pub spans_of-two : (start len : ℕ) (places : List ℕ) → 2 ≤ length places

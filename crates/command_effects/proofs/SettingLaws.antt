@@ -1,11 +1,9 @@
 -- Options with their values, which are taken by twos, and the words of lines.
-use Rattle.command_effects.proofs.Words.{◌≡◌, ℕ, ℤ, ◌+◌, ◌-◌, ◌<◌, ◌≤◌, List, [], ◌∷◌, length, drop, refl, sym, ap, ◌∙◌}
-use Rattle.command_effects.proofs.Words.{arith, Option, None, Some, option_and_then, option_map, ok_or, Result, Ok, Err}
-use Rattle.command_effects.proofs.Words.{String, chars, string_bytes, take_rest, drop-map, length-map, chars-nil}
-use Rattle.command_effects.proofs.Words.{texts_of, Fault, BadInteger, with_value, line_numbered, line_of_word}
-use Rattle.command_effects.proofs.Words.{setting_read, settings_read}
-use Rattle.std.proofs.Common.{get_or}
-use Rattle.std.specs.Prelude.{take}
+use Rattle.command_effects.proofs.Common.{◌≡◌, ℕ, ℤ, ◌+◌, ◌-◌, ◌<◌, ◌≤◌, List, [], ◌∷◌, length, drop, refl, sym, ap}
+use Rattle.command_effects.proofs.Common.{◌∙◌, arith, Option, None, Some, option_and_then, option_map, ok_or, Result}
+use Rattle.command_effects.proofs.Common.{Ok, Err, String, chars, string_bytes, take_rest, drop-map, length-map}
+use Rattle.command_effects.proofs.Common.{chars-nil, texts_of, Fault, BadInteger, with_value, line_numbered}
+use Rattle.command_effects.proofs.Common.{line_of_word, setting_read, settings_read, get_or, take}
 use Rattle.command_table.specs.Numbers.{integer_of}
 use Rattle.command_effects.specs.declared.settings.Settings.{Settings}
 use Rattle.command_effects.proofs.PairLaws.{word_or}
@@ -31,25 +29,16 @@ settings_read-first {Z} lines position rest settings found two is =
     ∙ ap (λ ws. with_value found (settings_read lines (position + 2) ws))
     (drop-map (λ word. chars (string_bytes word)) 2 rest ∙ ap texts_of (sym (take_rest rest 2)))
 
-pub settings_read-more : {Z : Type 0} (lines : ℕ) (all : Result Settings Fault) (position : ℕ) (rest : List (String Z))
-    (settings next : Settings) (found : Result Settings Fault) → 2 ≤ length rest
+-- what they give is followed by what the others do
+pub settings_read-next : {Z : Type 0} (lines : ℕ) (all : Result Settings Fault) (position : ℕ) (rest : List (String Z))
+    (settings : Settings) (found made : Result Settings Fault) → 2 ≤ length rest
     → all ≡ settings_read lines position (texts_of rest) settings →
-    found ≡ setting_read lines (position + 1) (word_or rest 0) (word_or rest 1) settings → found ≡ Ok next
-    → all ≡ settings_read lines (position + 2) (texts_of (take (length rest - 2) (drop 2 rest))) next
-settings_read-more {Z} lines all position rest settings next found two is read ok =
+    found ≡ setting_read lines (position + 1) (word_or rest 0) (word_or rest 1) settings → found ≡ made
+    → all ≡ with_value made (settings_read lines (position + 2) (texts_of (take (length rest - 2) (drop 2 rest))))
+settings_read-next {Z} lines all position rest settings found made two is read same =
     is ∙ settings_read-first lines position rest settings found two read
     ∙ ap (λ f. with_value f (settings_read lines (position + 2) (texts_of (take (length rest - 2) (drop 2 rest)))))
-    ok
-
-pub settings_read-fault : {Z : Type 0} (lines : ℕ) (all : Result Settings Fault) (position : ℕ) (rest : List (String Z))
-    (settings : Settings) (fault : Fault) (found : Result Settings Fault) → 2 ≤ length rest
-    → all ≡ settings_read lines position (texts_of rest) settings →
-    found ≡ setting_read lines (position + 1) (word_or rest 0) (word_or rest 1) settings → found ≡ Err fault →
-    all ≡ Err fault
-settings_read-fault {Z} lines all position rest settings fault found two is read err =
-    is ∙ settings_read-first lines position rest settings found two read
-    ∙ ap (λ f. with_value f (settings_read lines (position + 2) (texts_of (take (length rest - 2) (drop 2 rest)))))
-    err
+    same
 
 -- ---- lines
 

@@ -1,14 +1,13 @@
 -- The slots of tag lists, as they are put together.
-use Rattle.command_effects.proofs.Words.{◌≡◌, ℕ, Bool, true, false, List, [], ◌∷◌, ◌++◌, length, map, take, refl, sym}
-use Rattle.command_effects.proofs.Words.{ap, ◌∙◌, ◌<◌, ◌+◌, Option, None, Some, ◌||◌, String, chars, string_bytes}
-use Rattle.command_effects.proofs.Words.{get_or, nat_cmp_total, cons_option, append-nil, map-append, filter_map-append}
-use Rattle.command_effects.proofs.Words.{Slots, TagSlot, Tag, slot_of, texts_of, Mark, number_of, MarkNo, numbers_named}
-use Rattle.command_effects.proofs.Words.{slot_taken, slots_deleted, slots_named, with_found}
-use Rattle.std.specs.FinSet as set
+use Rattle.command_effects.proofs.Common.{◌≡◌, ℕ, Bool, true, false, List, [], ◌∷◌, ◌++◌, length, map, take, refl, sym}
+use Rattle.command_effects.proofs.Common.{ap, ◌∙◌, ◌<◌, ◌+◌, Option, None, Some, ◌||◌, String, chars, string_bytes}
+use Rattle.command_effects.proofs.Common.{get_or, nat_cmp_total, cons_option, append-nil, map-append, filter_map-append}
+use Rattle.command_effects.proofs.Common.{Slots, Tag, texts_of, slots_named, with_found, filter_map}
 use Rattle.std.specs.FinMap.{nat_cmp-IsAntisymmetric}
 use Rattle.std.specs.Ordering.{eq_by_cmp, nat_cmp}
 use Rattle.index_grammar.specs.Names.{known_tags}
 use Rattle.command_effects.proofs.MadeLaws.{take-more}
+use Rattle.std.specs.FinSet as set
 
 or_swap : (a b c : Bool) → (a || (b || c)) ≡ (b || (a || c))
 or_swap true true c = refl
@@ -59,60 +58,26 @@ texts-more {Z} words at word bytes within is bytes_are =
     ∙ map-append (λ w. chars (string_bytes w)) (take at words) (word ∷ [])
     ∙ ap (λ bs. texts_of (take at words) ++ chars bs ∷ []) (sym bytes_are)
 
--- the slot that goes with a name more
-pub slots_deleted-step : {Z : Type 0} (tags : List Tag) (words : List (String Z)) (at : ℕ) (word : String Z)
-    (bytes : List ℕ) → at < length words → word ≡ get_or words at word → bytes ≡ string_bytes word
-    → slots_deleted tags (texts_of (take (at + 1) words))
-    ≡ slots_deleted tags (texts_of (take at words)) ++ cons_option (slot_taken (slot_of (chars bytes) tags)) []
-slots_deleted-step {Z} tags words at word bytes within is bytes_are =
-    ap (slots_deleted tags) (texts-more words at word bytes within is bytes_are)
-    ∙ filter_map-append (λ name. slot_taken (slot_of name tags)) (texts_of (take at words)) (chars bytes ∷ [])
+-- ---- the numbers of what is found by names
 
-pub slots_deleted-pushed : {Z : Type 0} (tags : List Tag) (words : List (String Z)) (at : ℕ) (word : String Z)
-    (bytes : List ℕ) (slots : List TagSlot) (slot : TagSlot) → at < length words → word ≡ get_or words at word
-    → bytes ≡ string_bytes word → map (λ (s : TagSlot). s.0) slots ≡ slots_deleted tags (texts_of (take at words)) →
-    Some slot.0 ≡ slot_taken (slot_of (chars bytes) tags)
-    → map (λ (s : TagSlot). s.0) (slots ++ slot ∷ []) ≡ slots_deleted tags (texts_of (take (at + 1) words))
-slots_deleted-pushed {Z} tags words at word bytes slots slot within is bytes_are old taken =
-    map-append (λ (s : TagSlot). s.0) slots (slot ∷ []) ∙ ap (λ ss. ss ++ slot.0 ∷ []) old
-    ∙ ap (λ o. slots_deleted tags (texts_of (take at words)) ++ cons_option o []) taken
-    ∙ sym (slots_deleted-step tags words at word bytes within is bytes_are)
+-- one name more
+module _ {A : Type 0} (number : A → ℕ) (find : List ℕ → Option ℕ) {Z : Type 0} (words : List (String Z)) (at : ℕ)
+    (word : String Z) (bytes : List ℕ) (within : at < length words) (is : word ≡ get_or words at word)
+    (bytes_are : bytes ≡ string_bytes word) where
+  found-step : filter_map find (texts_of (take (at + 1) words))
+      ≡ filter_map find (texts_of (take at words)) ++ cons_option (find (chars bytes)) []
+  found-step = ap (filter_map find) (texts-more words at word bytes within is bytes_are)
+      ∙ filter_map-append find (texts_of (take at words)) (chars bytes ∷ [])
 
-pub slots_deleted-kept : {Z : Type 0} (tags : List Tag) (words : List (String Z)) (at : ℕ) (word : String Z)
-    (bytes : List ℕ) (slots : List ℕ) → at < length words → word ≡ get_or words at word
-    → bytes ≡ string_bytes word → slots ≡ slots_deleted tags (texts_of (take at words)) →
-    None ≡ slot_taken (slot_of (chars bytes) tags) → slots ≡ slots_deleted tags (texts_of (take (at + 1) words))
-slots_deleted-kept {Z} tags words at word bytes slots within is bytes_are old none =
-    old ∙ sym (append-nil (slots_deleted tags (texts_of (take at words))))
-    ∙ ap (λ o. slots_deleted tags (texts_of (take at words)) ++ cons_option o []) none
-    ∙ sym (slots_deleted-step tags words at word bytes within is bytes_are)
+  pub found-pushed : (items : List A) (item : A) → map number items ≡ filter_map find (texts_of (take at words))
+      → Some (number item) ≡ find (chars bytes)
+      → map number (items ++ item ∷ []) ≡ filter_map find (texts_of (take (at + 1) words))
+  found-pushed items item old found =
+      map-append number items (item ∷ []) ∙ ap (λ ns. ns ++ number item ∷ []) old
+      ∙ ap (λ o. filter_map find (texts_of (take at words)) ++ cons_option o []) found ∙ sym found-step
 
--- ---- numbers of marks
-
-numbers_named-step : {Z : Type 0} (marks : List Mark) (words : List (String Z)) (at : ℕ) (word : String Z)
-    (bytes : List ℕ) → at < length words → word ≡ get_or words at word → bytes ≡ string_bytes word
-    → numbers_named marks (texts_of (take (at + 1) words))
-    ≡ numbers_named marks (texts_of (take at words)) ++ cons_option (number_of (chars bytes) marks) []
-numbers_named-step {Z} marks words at word bytes within is bytes_are =
-    ap (numbers_named marks) (texts-more words at word bytes within is bytes_are)
-    ∙ filter_map-append (λ name. number_of name marks) (texts_of (take at words)) (chars bytes ∷ [])
-
-pub numbers_named-pushed : {Z : Type 0} (marks : List Mark) (words : List (String Z)) (at : ℕ) (word : String Z)
-    (bytes : List ℕ) (numbers : List MarkNo) (number : MarkNo) → at < length words
-    → word ≡ get_or words at word → bytes ≡ string_bytes word →
-    map (λ (n : MarkNo). n.0) numbers ≡ numbers_named marks (texts_of (take at words)) →
-    Some number.0 ≡ number_of (chars bytes) marks
-    → map (λ (n : MarkNo). n.0) (numbers ++ number ∷ []) ≡ numbers_named marks (texts_of (take (at + 1) words))
-numbers_named-pushed {Z} marks words at word bytes numbers number within is bytes_are old found =
-    map-append (λ (n : MarkNo). n.0) numbers (number ∷ []) ∙ ap (λ ns. ns ++ number.0 ∷ []) old
-    ∙ ap (λ o. numbers_named marks (texts_of (take at words)) ++ cons_option o []) found
-    ∙ sym (numbers_named-step marks words at word bytes within is bytes_are)
-
-pub numbers_named-kept : {Z : Type 0} (marks : List Mark) (words : List (String Z)) (at : ℕ) (word : String Z)
-    (bytes : List ℕ) (numbers : List ℕ) → at < length words → word ≡ get_or words at word
-    → bytes ≡ string_bytes word → numbers ≡ numbers_named marks (texts_of (take at words)) →
-    None ≡ number_of (chars bytes) marks → numbers ≡ numbers_named marks (texts_of (take (at + 1) words))
-numbers_named-kept {Z} marks words at word bytes numbers within is bytes_are old none =
-    old ∙ sym (append-nil (numbers_named marks (texts_of (take at words))))
-    ∙ ap (λ o. numbers_named marks (texts_of (take at words)) ++ cons_option o []) none
-    ∙ sym (numbers_named-step marks words at word bytes within is bytes_are)
+  pub found-kept : (items : List A) → map number items ≡ filter_map find (texts_of (take at words))
+      → None ≡ find (chars bytes) → map number items ≡ filter_map find (texts_of (take (at + 1) words))
+  found-kept items old none =
+      old ∙ sym (append-nil (filter_map find (texts_of (take at words))))
+      ∙ ap (λ o. filter_map find (texts_of (take at words)) ++ cons_option o []) none ∙ sym found-step

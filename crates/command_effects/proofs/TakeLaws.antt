@@ -1,9 +1,8 @@
 -- Edits that take marks out of a store, and what widgets have of their own.
-use Rattle.command_effects.proofs.Words.{◌≡◌, ℕ, suc, ◌+◌, ◌<◌, List, [], ◌∷◌, ◌++◌, length, map, take, refl, sym, ap}
-use Rattle.command_effects.proofs.Words.{◌∙◌, arith, append_assoc, map-append, ClearSlot, TakeMark, MarkNo, Content}
-use Rattle.command_effects.proofs.Words.{Fits, after, after_step, taken, take-suc, ◌*◌, All, All-head, All-tail}
-use Rattle.command_effects.proofs.Words.{slot_count, TagSlot, without_widgets, without_widget}
-use Rattle.std.proofs.Common.{get_or}
+use Rattle.command_effects.proofs.Common.{◌≡◌, ℕ, ◌+◌, ◌<◌, List, [], ◌∷◌, ◌++◌, length, map, take, refl, sym, ap, ◌∙◌}
+use Rattle.command_effects.proofs.Common.{arith, append_assoc, map-append, ClearSlot, TakeMark, MarkNo, Content, Fits}
+use Rattle.command_effects.proofs.Common.{after, after_step, taken, ◌*◌, All, All-head, All-tail, slot_count, TagSlot}
+use Rattle.command_effects.proofs.Common.{without_widgets, without_widget, get_or, take_more}
 use Rattle.text_model.specs.declared.edits.Step.{Step}
 use Rattle.text_model.specs.declared.limits.TheConstants.Limits.{MOST_WIDGETS}
 
@@ -26,8 +25,7 @@ pub takes-more : (numbers : List MarkNo) (at : ℕ) (default : MarkNo) (steps : 
 takes-more numbers at default steps within old =
     ap (λ ss. ss ++ TakeMark (get_or numbers at default) ∷ []) old
     ∙ sym (map-append (λ (n : MarkNo). TakeMark n) (take at numbers) (get_or numbers at default ∷ []))
-    ∙ ap takes (sym (ap (λ n. take n numbers) (let h : at + 1 ≡ suc at = omega arith in h)
-    ∙ take-suc numbers at default within))
+    ∙ ap takes (sym (take_more numbers at default within))
 
 -- ---- what widgets have of their own
 
@@ -81,5 +79,4 @@ drops-more slots at default steps within old =
     ∷ TakeMark (record { 0 = 2 * slot.0 + 1 }) ∷ [])
     ∙ ap (λ ss. ss ++ drops (slot ∷ [])) old
     ∙ sym (drops-append (take at slots) (slot ∷ []))
-    ∙ ap drops (sym (ap (λ n. take n slots) (let h : at + 1 ≡ suc at = omega arith in h)
-    ∙ take-suc slots at default within))
+    ∙ ap drops (sym (take_more slots at default within))

@@ -1,7 +1,7 @@
 -- What stands in the text of a list that was written.
-use Rattle.command_effects.proofs.Words.{◌≡◌, ℕ, ◌+◌, Bool, true, false, cond, List, [], ◌∷◌, ◌++◌, take, refl, sym, ap}
-use Rattle.command_effects.proofs.Words.{◌∙◌, Some, slice_get, filter, get_or_from_slice_get, slice_get_within}
-use Rattle.command_effects.proofs.Words.{append-nil}
+use Rattle.command_effects.proofs.Common.{◌≡◌, ℕ, ◌+◌, Bool, true, false, cond, List, [], ◌∷◌, ◌++◌, take, refl, sym}
+use Rattle.command_effects.proofs.Common.{ap, ◌∙◌, Some, slice_get, filter, get_or_from_slice_get, slice_get_within}
+use Rattle.command_effects.proofs.Common.{append-nil}
 use Rattle.command_effects.proofs.MadeLaws.{take-more}
 
 pub take-found : {A : Type 0} (xs : List A) (at : ℕ) (x : A) → slice_get xs at ≡ Some x →

@@ -1,19 +1,18 @@
 -- The slots of a store and the keys of a world: sets of them.
-use Rattle.documents.proofs.Words.{◌≡◌, ℕ, Bool, true, false, cond, not, ◌&&◌, ◌||◌, List, [], ◌∷◌, ◌++◌, Option, None}
-use Rattle.documents.proofs.Words.{Some, filter, map, refl, sym, ap, ap₂, ◌∙◌, true≢false, eq-eqb, ne_eqb, bytes_eq}
-use Rattle.documents.proofs.Words.{if◌then◌else◌, Equal-is, tied_itself, both_ways, nat_cmp_total, unsigned_tied}
-use Rattle.documents.proofs.Words.{eq_by_cmp, nat_cmp, list_any, false_from_ne_true, none-some, bytes_eq-Decides}
-use Rattle.documents.proofs.Words.{AreApart, Named, AreTags, Tag, Tags, sel, slot_of, Slots, set_slot}
-use Rattle.documents.proofs.Words.{contains-set_slot, without, is_among, is_same, Key, Keys, is_shared, key_cmp}
-use Rattle.documents.proofs.Words.{key_pairs, keys_of, seat_pair, set_key, tag_pair, AreKnown, AreSeats}
-use Rattle.std.specs.Prelude.{◌==◌}
-use Rattle.std.specs.FinSet as set
+use Rattle.documents.proofs.Common.{◌≡◌, ℕ, Bool, true, false, cond, not, ◌&&◌, ◌||◌, List, [], ◌∷◌, ◌++◌, Option, None}
+use Rattle.documents.proofs.Common.{and_parts, Some, filter, map, refl, sym, ap, ap₂, ◌∙◌, true≢false, eq-eqb, ne_eqb}
+use Rattle.documents.proofs.Common.{bytes_eq, if◌then◌else◌, Equal-is, tied_itself, both_ways, nat_cmp_total}
+use Rattle.documents.proofs.Common.{unsigned_tied, eq_by_cmp, nat_cmp, list_any, false_from_ne_true, none-some}
+use Rattle.documents.proofs.Common.{bytes_eq-Decides, AreApart, Named, AreTags, Tag, Tags, sel, slot_of, Slots}
+use Rattle.documents.proofs.Common.{set_slot, contains-set_slot, without, is_among, is_same, Key, Keys, is_shared}
+use Rattle.documents.proofs.Common.{key_cmp, key_pairs, keys_of, seat_pair, set_key, tag_pair, AreKnown, AreSeats, ◌==◌}
 use Rattle.name_list.specs.Names.{names_of}
 use Rattle.tag_table.specs.Tags.{names_of as tag_names}
 use Rattle.documents.proofs.KeyLaws.{key_cmp_total, key_cmp_exact}
-use Rattle.documents.proofs.LookupLaws.{AreApart-filter, has, looked-among, looked-any}
+use Rattle.documents.proofs.LookupLaws.{AreApart-filter, has, looked-among, looked-any, and_none}
 use Rattle.documents.proofs.SlotLaws.{Extends, GoWith, is_in, key_for, one_key, seat_number, shared_slot, slot_among}
 use Rattle.documents.proofs.SlotLaws.{slot_for, tag_slot, tag_slot-is}
+use Rattle.std.specs.FinSet as set
 
 -- ---- keys that are one
 
@@ -37,8 +36,8 @@ tied_kinds key other apart = false_from_ne_true (eq_by_cmp key_cmp key other) (�
     apart (ap (λ (k : Key). k.selects) (key_tied key other tied)))
 
 -- sets of keys are one where they have the same keys
-pub keys_same : (keys others : Keys) → ((key : Key) → set.contains keys key ≡ set.contains others key) → keys ≡ others
-keys_same keys others same = set.same_set key_cmp_total key_cmp_exact keys others same
+pub keys_same : {keys others : Keys} → ((key : Key) → set.contains keys key ≡ set.contains others key) → keys ≡ others
+keys_same {keys} {others} same = set.same_set key_cmp_total key_cmp_exact keys others same
 
 -- ---- the keys of a set of slots
 
@@ -58,10 +57,6 @@ or_either false b c = refl
 or_none : (a : Bool) → (a || false) ≡ a
 or_none true = refl
 or_none false = refl
-
-pub and_none : (a : Bool) → (a && false) ≡ false
-and_none true = refl
-and_none false = refl
 
 keys_of-append : (pairs more : List (ℕ × Key)) (slots : Slots) (key : Key) →
     set.contains (keys_of (pairs ++ more) slots) key
@@ -171,8 +166,7 @@ module _ (seats : List Named) (table : Tags) (seated : AreSeats seats) (sound : 
   pub keys_of-intersection : (a b : Slots) → keys_of pairs (set.intersection a b)
       ≡ set.intersection (keys_of pairs a) (keys_of pairs b)
   keys_of-intersection a b =
-      keys_same (keys_of pairs (set.intersection a b)) (set.intersection (keys_of pairs a) (keys_of pairs b)) (λ key.
-      has_key (set.intersection a b) key ∙ has-intersection a b (slot_for seats table.tags key)
+      keys_same (λ key. has_key (set.intersection a b) key ∙ has-intersection a b (slot_for seats table.tags key)
       ∙ sym (set.contains-intersection key_cmp_total (keys_of pairs a) (keys_of pairs b) key
       ∙ ap₂ (λ x y. x && y) (has_key a key) (has_key b key)))
 
@@ -181,8 +175,7 @@ module _ (seats : List Named) (table : Tags) (seated : AreSeats seats) (sound : 
       slot_for seats table.tags key ≡ Some slot → keys_of pairs (set_slot slot on slots)
       ≡ set_key key on (keys_of pairs slots)
   keys_of-set_slot key slot on slots is =
-      keys_same (keys_of pairs (set_slot slot on slots)) (set_key key on (keys_of pairs slots)) (λ other.
-      has_key (set_slot slot on slots) other
+      keys_same (λ other. has_key (set_slot slot on slots) other
       ∙ elim (eq_by_cmp key_cmp other key) as (λ b. eq_by_cmp key_cmp other key ≡ b →
       has (set_slot slot on slots) (slot_for seats table.tags other)
       ≡ cond b on (has slots (slot_for seats table.tags other))) [
@@ -233,8 +226,7 @@ pub keys_of-reordered : (seats : List Named) (tags other : List Tag) (slots : Sl
     → ((name : List ℕ) → slot_of name other ≡ slot_of name tags) →
     keys_of (key_pairs seats other) slots ≡ keys_of (key_pairs seats tags) slots
 keys_of-reordered seats tags other slots seats_apart apart other_apart same =
-    keys_same (keys_of (key_pairs seats other) slots) (keys_of (key_pairs seats tags) slots) (λ key.
-    keys_of-has seats other slots key seats_apart other_apart
+    keys_same (λ key. keys_of-has seats other slots key seats_apart other_apart
     ∙ ap (λ o. has slots (if key.selects then seat_number key.name seats else cond (not (is_same key.name sel)) o None))
     (same key.name)
     ∙ sym (keys_of-has seats tags slots key seats_apart apart))
@@ -247,8 +239,7 @@ pub keys_of-extended : (seats more : List Named) (table new : Tags) → AreSeats
 keys_of-extended seats more table new seated sound more_seated new_sound extends slots known =
     let old = slot_for seats table.tags in
     let wider = slot_for more new.tags in
-    keys_same (keys_of (key_pairs more new.tags) slots) (keys_of (key_pairs seats table.tags) slots) (λ key.
-    keys_of-has more new.tags slots key more_seated.names_apart new_sound.names_apart
+    keys_same (λ key. keys_of-has more new.tags slots key more_seated.names_apart new_sound.names_apart
     ∙ elim (old key) as (λ o. old key ≡ o → has slots (wider key) ≡ has slots o) [
       | Some slot ↦ λ is. ap (has slots) (extends key slot is)
       | None ↦ λ none. elim (wider key) as (λ o. wider key ≡ o → has slots o ≡ false) [
@@ -318,22 +309,17 @@ module _ (gone : List ℕ) (stays : Key → Bool) (seats : List Named) (tags : L
       → keys_of (key_pairs left left_tags) (without gone slots)
       ≡ set.retain (keys_of (key_pairs seats tags) slots) stays
   keys_of-left apart tags_apart left_apart left_tags_apart slots =
-      keys_same (keys_of (key_pairs left left_tags) (without gone slots))
-      (set.retain (keys_of (key_pairs seats tags) slots) stays) (λ key.
+      keys_same (λ key.
       keys_of-has left left_tags (without gone slots) key left_apart left_tags_apart ∙ has_left slots key
       ∙ sym (retained stays (keys_of (key_pairs seats tags) slots) key
       ∙ ap (λ b. b && stays key) (keys_of-has seats tags slots key apart tags_apart)))
-
-both_true : (a b : Bool) → (a && b) ≡ true → (a ≡ true) × (b ≡ true)
-both_true true b both = (refl, both)
-both_true false b both = absurd (true≢false (sym both))
 
 -- slots that were known are known among what is left
 pub known-left : (gone : List ℕ) (stays : Key → Bool) (seats : List Named) (table : Tags) (left : List Named)
     (left_tags : List Tag) → GoWith gone stays seats table.tags left left_tags → AreSeats seats → AreTags table
     → (slots : Slots) → AreKnown seats table.tags slots → AreKnown left left_tags (without gone slots)
 known-left gone stays seats table left left_tags goes seated sound slots known slot there =
-    let parts = both_true (set.contains slots slot) (not (is_in gone slot)) (sym (contains-without gone slots slot)
+    let parts = and_parts (set.contains slots slot) (not (is_in gone slot)) (sym (contains-without gone slots slot)
     ∙ there) in
     let found = key_for seats table seated sound slot (known slot parts.0) in
     let stay : stays found.0 ≡ true = sym (not_not (stays found.0)) ∙ ap not (sym (goes.slots found.0 slot found.1))

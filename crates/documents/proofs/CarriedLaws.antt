@@ -1,12 +1,11 @@
 -- What holds of a document before a command, and after each edit that a command may make, holds after the command.
-use Rattle.documents.proofs.Words.{◌≡◌, ℕ, ◌+◌, ◌≤◌, Bool, true, false, List, Option, Some, None, Ok, Err, length, refl}
-use Rattle.documents.proofs.Words.{nat_lt, if◌then◌else◌, All, ltb-false, Gravity, Place, LimitTable, Empty, Fault}
-use Rattle.documents.proofs.Words.{NoSuchTag, TooManyTags, TextTooLong, Pair, is_among, delete_places, replace_span}
-use Rattle.documents.proofs.Words.{Document, Widget, edit_separator, modified_set, edit_redo, edit_undo, mark_unset}
-use Rattle.documents.proofs.Words.{place_named, set_found, with_mark, Change, answered, refused, change_with}
-use Rattle.documents.proofs.Words.{unless_idle, add_spans, known_or, remove_spans, reordered, tag_delete, insert_at}
-use Rattle.documents.proofs.Words.{insertion_offset, within_limits, is_idle, shown, view_end}
-use Rattle.std.specs.Prelude.{Result}
+use Rattle.documents.proofs.Common.{◌≡◌, ℕ, ◌+◌, ◌≤◌, Bool, true, false, List, Option, Some, None, Ok, Err, length}
+use Rattle.documents.proofs.Common.{refl, nat_lt, if◌then◌else◌, All, ltb-false, Gravity, Place, LimitTable, Empty}
+use Rattle.documents.proofs.Common.{Fault, NoSuchTag, TooManyTags, TextTooLong, Pair, is_among, delete_places}
+use Rattle.documents.proofs.Common.{replace_span, Document, Widget, edit_separator, modified_set, edit_redo, edit_undo}
+use Rattle.documents.proofs.Common.{mark_unset, place_named, set_found, with_mark, Change, answered, refused}
+use Rattle.documents.proofs.Common.{change_with, unless_idle, add_spans, known_or, remove_spans, reordered, tag_delete}
+use Rattle.documents.proofs.Common.{insert_at, insertion_offset, within_limits, is_idle, shown, view_end, Result}
 
 -- ---- what may follow, or not
 

@@ -1,19 +1,18 @@
 -- What a change makes of a document as it is kept, and that it does what the definition says.
-use Rattle.documents.proofs.Words.{◌≡◌, ◌≢◌, ℕ, ◌+◌, ◌≤◌, Err, Ok, length, take, refl, sym, ap, ap₂, subst, ◌∙◌, arith}
-use Rattle.documents.proofs.Words.{Tags, LimitTable, FitsText, Answer, Empty, Fault, Memory, IsFront, Document, Parts}
-use Rattle.documents.proofs.Words.{document_of, IsSound, Stands, Change, Does, answered, refused, IsWellFormedDocument}
-use Rattle.documents.proofs.Words.{window_names}
-use Rattle.std.specs.Prelude.{Result}
-use Rattle.text_model.specs.Content as model
+use Rattle.documents.proofs.Common.{◌≡◌, ◌≢◌, ℕ, ◌+◌, ◌≤◌, Err, Ok, length, take, refl, sym, ap, ap₂, subst, ◌∙◌, arith}
+use Rattle.documents.proofs.Common.{Tags, LimitTable, FitsText, Answer, Empty, Fault, Memory, IsFront, Document, Parts}
+use Rattle.documents.proofs.Common.{document_of, IsSound, Stands, Change, Does, answered, refused, IsWellFormedDocument}
+use Rattle.documents.proofs.Common.{window_names, Result}
 use Rattle.documents.proofs.PartsLaws.{marks-kept, tags-kept}
 use Rattle.documents.proofs.WellFormedLaws.{IsWellFormedDocument-kept, fits-kept, windows-kept}
 use Rattle.name_list.specs.Names.{names_of}
+use Rattle.text_model.specs.Content as model
 
 -- ---- what is refused
 
 -- the parts are as they were
-pub stands-same : (old new : Parts) (document : Document) → Stands old document → new ≡ old → Stands new document
-stands-same old new document stands same = subst (λ parts. Stands parts document) (sym same) stands
+pub stands-same : {old new : Parts} {document : Document} → Stands old document → new ≡ old → Stands new document
+stands-same {document = document} stands same = subst (λ parts. Stands parts document) (sym same) stands
 
 abbrev failed : Fault → Result Answer Fault
 failed fault = Err fault
@@ -27,6 +26,19 @@ does-left limits old new fault change same is = record {
   well_formed = λ formed. subst (IsWellFormedDocument limits) (sym same) formed;
   windows = ap window_names same;
 }
+
+-- what a change leaves is sound, and it does what the definition says
+pub record Leaves (limits : LimitTable) (new : Parts) (document : Document) (result : Result Answer Fault)
+    (change : Change) : Type 0 where
+  pub sound : IsSound new
+  pub does : Does limits document (document_of new) result change
+
+-- a change that was refused
+pub leaves-left : {limits : LimitTable} {new : Parts} {document : Document} {fault : Fault} {change : Change} →
+    Stands new document → (fault ≢ Memory → change ≡ refused document fault)
+    → Leaves limits new document (Err fault) change
+leaves-left {limits} {new} {document} {fault} {change} stands is =
+    record { sound = stands.sound; does = does-left limits document (document_of new) fault change stands.is is }
 
 -- the tags that were made are taken back
 pub table-back : (old new back : Tags) (front : ℕ) → front ≡ length old.tags → IsFront old new →
@@ -68,16 +80,10 @@ pub record IsChanged (limits : LimitTable) (old new : Parts) (document : Documen
 pub some_limits : LimitTable
 some_limits = record { chars = 1; tags = 0; marks = 0; widgets = 0; reads = 0 }
 
--- what a change leaves is sound, and it does what the definition says
-pub record Leaves (limits : LimitTable) (new : Parts) (document : Document) (result : Result Answer Fault)
-    (change : Change) : Type 0 where
-  pub sound : IsSound new
-  pub does : Does limits document (document_of new) result change
-
-pub does-changed : (limits : LimitTable) (old new : Parts) (document : Document) (change : Change) →
+pub does-changed : {limits : LimitTable} {old new : Parts} {document : Document} {change : Change} →
     Stands old document → IsChanged limits old new document change
     → Leaves limits new document (Ok Empty) change
-does-changed limits old new document change stands changed =
+does-changed {limits} {old} {new} {document} {change} stands changed =
     record {
       sound = changed.sound;
       does = does-answered limits document (document_of new) (document_of new) change refl changed.is

@@ -1,13 +1,13 @@
 -- Slots that are taken off all cells with their keys: those of tags that are deleted, and of seats that are given up.
-use Rattle.documents.proofs.Words.{◌≡◌, ◌≢◌, ℕ, zero, suc, Bool, true, false, cond, not, ◌<◌, ◌||◌, List, [], ◌∷◌}
-use Rattle.documents.proofs.Words.{Option, None, Some, filter, map, refl, sym, ap, ◌∙◌, true≢false, arith, eq-eqb}
-use Rattle.documents.proofs.Words.{ne_eqb, option_map, ◌==◌, both_ways, All, cons_option, eqb-false, false_from_ne_true}
-use Rattle.documents.proofs.Words.{or_left, or_right, none-some, same_Some, slice_get-map, bytes_eq-Decides, Named}
-use Rattle.documents.proofs.Words.{numbers_of, stands_map, stood_at, AreTags, Tag, Tags, sel, slot_of, Cell}
-use Rattle.documents.proofs.Words.{MOST_WIDGETS, cell_without, slot_taken, slots_deleted, stays, tags_left, is_among}
-use Rattle.documents.proofs.Words.{is_same, AreSeats, HasKnownSlots, Key, key_pairs, keyed, numbers_gone, seats_left}
-use Rattle.documents.proofs.Words.{selection_stays, key_stays, without_tags}
-use Rattle.std.proofs.Common.{slice_get, eqb-true, bytes_eq, if◌then◌else◌}
+use Rattle.documents.proofs.Common.{◌≡◌, ◌≢◌, ℕ, zero, suc, Bool, true, false, cond, not, ◌<◌, ◌||◌, List, [], ◌∷◌}
+use Rattle.documents.proofs.Common.{Option, None, Some, filter, map, refl, sym, ap, ◌∙◌, true≢false, arith, eq-eqb}
+use Rattle.documents.proofs.Common.{ne_eqb, option_map, ◌==◌, both_ways, All, cons_option, eqb-false}
+use Rattle.documents.proofs.Common.{false_from_ne_true, or_left, or_right, none-some, same_Some, slice_get-map}
+use Rattle.documents.proofs.Common.{bytes_eq-Decides, Named, numbers_of, stands_map, stood_at, AreTags, Tag, Tags, sel}
+use Rattle.documents.proofs.Common.{slot_of, Cell, MOST_WIDGETS, cell_without, slot_taken, slots_deleted, stays}
+use Rattle.documents.proofs.Common.{tags_left, is_among, is_same, AreSeats, HasKnownSlots, Key, key_pairs, keyed}
+use Rattle.documents.proofs.Common.{numbers_gone, seats_left, selection_stays, key_stays, without_tags, slice_get}
+use Rattle.documents.proofs.Common.{eqb-true, bytes_eq, if◌then◌else◌}
 use Rattle.name_list.proofs.ListLaws.{Stands}
 use Rattle.tag_table.specs.Tags.{names_of as tag_names}
 use Rattle.documents.proofs.KeyedLaws.{keyed-left, with_staying}

@@ -1,10 +1,9 @@
 -- The widgets of a document by their names.
-use Rattle.documents.proofs.Words.{◌≡◌, ℕ, suc, ◌+◌, Bool, true, false, cond, List, [], ◌∷◌, map, refl, sym, ap, ◌∙◌}
-use Rattle.documents.proofs.Words.{arith, inl, inr, ◌⊎◌, true≢false, IfSome, bytes_eq, find, slice_get, is_some}
-use Rattle.documents.proofs.Words.{position_from, false_from_ne_true, none-some, same_Some, bytes_eq-Decides, Named}
-use Rattle.documents.proofs.Words.{is_among, is_same, Document, Parts, Widget, widget_at, widget_of, Stands}
-use Rattle.documents.proofs.Words.{window_names, widget_named}
-use Rattle.std.specs.Prelude.{Option, None, Some, ◌||◌}
+use Rattle.documents.proofs.Common.{◌≡◌, ℕ, suc, ◌+◌, Bool, true, false, cond, List, [], ◌∷◌, map, refl, sym, ap, ◌∙◌}
+use Rattle.documents.proofs.Common.{arith, inl, inr, ◌⊎◌, true≢false, IfSome, bytes_eq, find, slice_get, is_some}
+use Rattle.documents.proofs.Common.{position_from, false_from_ne_true, none-some, same_Some, bytes_eq-Decides, Named}
+use Rattle.documents.proofs.Common.{is_among, is_same, Document, Parts, Widget, widget_at, widget_of, Stands}
+use Rattle.documents.proofs.Common.{window_names, widget_named, Option, None, Some, ◌||◌}
 use Rattle.std.proofs.lemmas.Iterator.Adapters.{position_from-zero}
 use Rattle.name_list.specs.Names.{names_of, place_of}
 use Rattle.documents.proofs.PartsLaws.{widget-is}
@@ -67,7 +66,7 @@ module _ (name : List ℕ) (widget_for : Named → Widget) (named_so : (seat : N
             ]
       ] refl
 
-module _ (parts : Parts) (document : Document) (name : List ℕ) (stands : Stands parts document) where
+module _ {parts : Parts} {document : Document} (name : List ℕ) (stands : Stands parts document) where
   abbrev seats : List Named
   seats = parts.seats.entries
 

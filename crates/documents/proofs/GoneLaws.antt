@@ -1,21 +1,20 @@
 -- What is told where tags are deleted, name by name.
-use Rattle.documents.proofs.Words.{◌≡◌, ◌≢◌, ℕ, ◌+◌, ◌<◌, Bool, true, false, cond, not, ◌&&◌, ◌||◌, List, [], ◌∷◌, ◌++◌}
-use Rattle.documents.proofs.Words.{Option, None, Some, map, length, refl, sym, ap, ap₂, ◌∙◌, arith, subst, true≢false}
-use Rattle.documents.proofs.Words.{ne_eqb, eq-eqb, get_or, take, chars, string_bytes, slice_range, nat_cmp_total}
-use Rattle.documents.proofs.Words.{unsigned_tied, eq_by_cmp, nat_cmp, String, false_from_ne_true, append-nil}
-use Rattle.documents.proofs.Words.{length-map, none-some, same_Some, Named, AreTags, Tag, Tags, sel, slot_of, texts_of}
-use Rattle.documents.proofs.Words.{Slots, flags, changed, Cell, map-alike, map-map, is_among, is_same, KeyedCell}
-use Rattle.documents.proofs.Words.{with_key, Key, Keys, key_cmp, key_pairs, keyed, keys_of, set_key, AreSeats}
-use Rattle.documents.proofs.Words.{key_stays, without_tags, AreGone, TellsGone, TellsSpan, TellsTags, flags_of}
-use Rattle.documents.proofs.Words.{TagChange}
-use Rattle.std.specs.FinSet as set
-use Rattle.documents.proofs.BridgeLaws.{and_none, contains-set_key, key_itself, key_tied, keys_of-has, keys_same}
-use Rattle.documents.proofs.BridgeLaws.{retained}
+use Rattle.documents.proofs.Common.{◌≡◌, ◌≢◌, ℕ, ◌+◌, ◌<◌, Bool, true, false, cond, not, ◌&&◌, ◌||◌, List, [], ◌∷◌}
+use Rattle.documents.proofs.Common.{◌++◌, Option, None, Some, map, length, refl, sym, ap, ap₂, ◌∙◌, arith, subst}
+use Rattle.documents.proofs.Common.{true≢false, ne_eqb, eq-eqb, get_or, take, chars, string_bytes, slice_range}
+use Rattle.documents.proofs.Common.{nat_cmp_total, unsigned_tied, eq_by_cmp, nat_cmp, String, false_from_ne_true}
+use Rattle.documents.proofs.Common.{append-nil, length-map, none-some, same_Some, Named, AreTags, Tag, Tags, sel}
+use Rattle.documents.proofs.Common.{slot_of, texts_of, Slots, flags, changed, Cell, map-alike, map-map, is_among}
+use Rattle.documents.proofs.Common.{is_same, KeyedCell, with_key, Key, Keys, key_cmp, key_pairs, keyed, keys_of}
+use Rattle.documents.proofs.Common.{set_key, AreSeats, key_stays, without_tags, AreGone, TellsGone, TellsSpan}
+use Rattle.documents.proofs.Common.{TellsTags, flags_of, TagChange}
+use Rattle.documents.proofs.BridgeLaws.{contains-set_key, key_itself, key_tied, keys_of-has, keys_same, retained}
 use Rattle.documents.proofs.KeyedLaws.{keyed_cell}
-use Rattle.documents.proofs.LookupLaws.{has}
+use Rattle.documents.proofs.LookupLaws.{has, and_none}
 use Rattle.documents.proofs.MarksToldLaws.{among-last, among-other, same-word, texts-more, words-are}
 use Rattle.documents.proofs.SlotLaws.{not_selection, same_slot, slot_for, slot_high}
 use Rattle.documents.proofs.TagsToldLaws.{part-changed}
+use Rattle.std.specs.FinSet as set
 
 -- the key of a tag, by its name
 abbrev tag_key : List ℕ → Key
@@ -45,8 +44,7 @@ retain-idle : (names : List (List ℕ)) (name : List ℕ) (keys : Keys) →
     (set.contains keys (tag_key name) && key_stays names (tag_key name)) ≡ false
     → set.retain keys (key_stays (names ++ name ∷ [])) ≡ set.retain keys (key_stays names)
 retain-idle names name keys none =
-    keys_same (set.retain keys (key_stays (names ++ name ∷ []))) (set.retain keys (key_stays names)) (λ key.
-    retained (key_stays (names ++ name ∷ [])) keys key
+    keys_same (λ key. retained (key_stays (names ++ name ∷ [])) keys key
     ∙ elim (eq_by_cmp key_cmp key (tag_key name)) as (λ b. eq_by_cmp key_cmp key (tag_key name) ≡ b →
     (set.contains keys key && key_stays (names ++ name ∷ []) key) ≡ (set.contains keys key && key_stays names key)) [
       | true ↦ λ tied.
@@ -65,8 +63,7 @@ retain-more : (names : List (List ℕ)) (name : List ℕ) (keys : Keys) →
     ≡ set.retain keys (key_stays (names ++ name ∷ []))
 retain-more names name keys =
     let before = set.retain keys (key_stays names) in
-    keys_same (set_key (tag_key name) false before) (set.retain keys (key_stays (names ++ name ∷ []))) (λ key.
-    contains-set_key (tag_key name) false before key
+    keys_same (λ key. contains-set_key (tag_key name) false before key
     ∙ ap (cond (eq_by_cmp key_cmp key (tag_key name)) false) (retained (key_stays names) keys key)
     ∙ elim (eq_by_cmp key_cmp key (tag_key name)) as (λ b. eq_by_cmp key_cmp key (tag_key name) ≡ b →
     cond b false (set.contains keys key && key_stays names key)
@@ -78,17 +75,17 @@ retain-more names name keys =
     ] refl
     ∙ sym (retained (key_stays (names ++ name ∷ [])) keys key))
 
+and_true : (b : Bool) → (b && true) ≡ b
+and_true true = refl
+and_true false = refl
+
 retain-all : (keys : Keys) → set.retain keys (key_stays []) ≡ keys
-retain-all keys = keys_same (set.retain keys (key_stays [])) keys (λ key.
+retain-all keys = keys_same (λ key.
     retained (key_stays []) keys key
     ∙ elim key.selects as (λ b. (set.contains keys key && (b || true)) ≡ set.contains keys key) [
       | true ↦ and_true (set.contains keys key)
       | false ↦ and_true (set.contains keys key)
     ])
-  where
-    and_true : (b : Bool) → (b && true) ≡ b
-    and_true true = refl
-    and_true false = refl
 
 -- what a word is found to be is what the name is that it spells
 pub found-as : (tags : List Tag) (found : Option ℕ) (word name : List ℕ) → found ≡ slot_of word tags → word ≡ name →
@@ -265,7 +262,3 @@ module _ (seats : List Named) (table : Tags) (seated : AreSeats seats) (sound : 
               (tells old before (long ∙ sym (length-map cells (λ (cell : Cell). set.contains cell.tags slot)))
               (ap (λ fs. slice_range fs 0 (length cells)) flagged) gone.tells);
         }
-      where
-        and_true : (b : Bool) → (b && true) ≡ b
-        and_true true = refl
-        and_true false = refl

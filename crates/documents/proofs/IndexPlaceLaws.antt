@@ -1,14 +1,14 @@
 -- An index stands for a place of what a widget shows.
-use Rattle.documents.proofs.Words.{◌≡◌, ℕ, zero, suc, ◌-◌, ◌≤◌, Bool, List, [], Some, Ok, Err, length, map, ap, arith}
-use Rattle.documents.proofs.Words.{slice_get, slice_index_or, length-map, option_and_then_some, AreWithin, own_place}
-use Rattle.documents.proofs.Words.{shared_place, is_word, at_position, index_fault, Document, Widget, SharedMark}
-use Rattle.documents.proofs.Words.{KeyedCell, characters, key_of, mark_place, meanings, place_of, shown, view_end}
-use Rattle.documents.proofs.Words.{view_start}
-use Rattle.std.specs.FinSet as set
+use Rattle.documents.proofs.Common.{◌≡◌, ℕ, zero, suc, ◌-◌, ◌≤◌, Bool, List, [], Some, Ok, Err, length, map, ap, arith}
+use Rattle.documents.proofs.Common.{slice_get, slice_index_or, length-map, option_and_then_some, AreWithin, own_place}
+use Rattle.documents.proofs.Common.{shared_place, is_word, at_position, index_fault, Document, Widget, SharedMark}
+use Rattle.documents.proofs.Common.{KeyedCell, characters, key_of, mark_place, meanings, place_of, shown, view_end}
+use Rattle.documents.proofs.Common.{view_start}
 use Rattle.index_grammar.specs.Grammar.{index_of}
 use Rattle.text_index.proofs.BoundLaws.{own-within, shared-within, value_of-le}
 use Rattle.documents.specs.Indices.{place_at}
 use Rattle.documents.proofs.ViewLaws.{part-length}
+use Rattle.std.specs.FinSet as set
 
 mark-within : (document : Document) (widget : Widget) (number place : ℕ) →
     mark_place document widget number ≡ Some place

@@ -1,18 +1,18 @@
 -- A document after texts with tag lists are put in, or where that is refused.
-use Rattle.documents.proofs.Words.{◌≡◌, ℕ, ◌+◌, ◌<◌, ◌≤◌, true, false, List, None, Some, Ok, map, length, refl, sym, ap}
-use Rattle.documents.proofs.Words.{ap₂, subst, ◌∙◌, arith, IsScalar, All, nat_tests, length-map, AreTags, Tag, Tags}
-use Rattle.documents.proofs.Words.{names_of, AreLimits, LimitTable, Insert, inserted_texts, State, SlottedText}
-use Rattle.documents.proofs.Words.{texts-kept, Empty, Fault, TextTooLong, TooManyTags, excess, Pair, all_names, total}
-use Rattle.documents.proofs.Words.{with_names, recording_of, IsFront, piece_of, is_among, Document, Parts, Widget}
-use Rattle.documents.proofs.Words.{document_of, widget_at, with_texts, Stands, Change, answered, refused, insert_at}
-use Rattle.documents.proofs.Words.{keyed_text, tags_with, within_limits}
-use Rattle.std.proofs.Common.{nat_lt, if◌then◌else◌}
-use Rattle.documents.proofs.ChangeLaws.{Leaves, does-changed}
+use Rattle.documents.proofs.Common.{◌≡◌, ℕ, ◌+◌, ◌<◌, ◌≤◌, true, false, List, None, Some, Ok, map, length, refl, sym}
+use Rattle.documents.proofs.Common.{ap, ap₂, subst, ◌∙◌, arith, IsScalar, All, nat_tests, length-map, AreTags, Tag}
+use Rattle.documents.proofs.Common.{Tags, names_of, AreLimits, LimitTable, Insert, inserted_texts, State, SlottedText}
+use Rattle.documents.proofs.Common.{texts-kept, Empty, Fault, TextTooLong, TooManyTags, excess, Pair, all_names, total}
+use Rattle.documents.proofs.Common.{with_names, recording_of, IsFront, piece_of, is_among, Document, Parts, Widget}
+use Rattle.documents.proofs.Common.{document_of, widget_at, with_texts, Stands, Change, answered, refused, insert_at}
+use Rattle.documents.proofs.Common.{keyed_text, tags_with, within_limits, Anchors, Content, Log, state_of, take, nat_lt}
+use Rattle.documents.proofs.Common.{if◌then◌else◌}
+use Rattle.documents.proofs.ChangeLaws.{Leaves, does-changed, table-back}
 use Rattle.documents.proofs.KeyedLaws.{keyed-more}
 use Rattle.documents.proofs.KnownLaws.{IsKnownPiece, known-front}
 use Rattle.documents.proofs.NamedLaws.{among-made, keyed-pieces, keyed_piece, known-pieces, total-pieces}
 use Rattle.documents.proofs.PartsLaws.{Sits, cells-kept, pairs_of}
-use Rattle.documents.proofs.StateLaws.{stands-texts, state_in, with_state}
+use Rattle.documents.proofs.StateLaws.{stands-texts, stands-unedited, state_in, with_state}
 
 -- what there is no reason to refuse is within the limits
 pub few_enough : (limit count : ℕ) → nat_lt limit count ≡ false → count ≤ limit
@@ -67,6 +67,16 @@ limits-refused limits document tags chars change fault is =
 
 abbrev pub with_tags : Tags → Parts → Parts
 with_tags tags parts = record parts { tags = tags }
+
+-- an edit that came to nothing, where the tags that were made for it are taken back
+pub stands-back : {parts : Parts} {document : Document} {new back : Tags} {front : ℕ} {content : Content}
+    {anchors : List Anchors} {log : Log} → Stands parts document → front ≡ length parts.tags.tags →
+    IsFront parts.tags new → back ≡ record new { tags = take front new.tags }
+    → content ≡ parts.content → log ≡ parts.journal.log → anchors ≡ parts.journal.anchors
+    → Stands (with_state (with_tags back parts) (state_of content anchors log)) document
+stands-back {parts} {document} {new} {back} {front} {content} {anchors} {log} stands here is made same past held =
+    subst (λ (tags : Tags). Stands (with_state (with_tags tags parts) (state_of content anchors log)) document)
+    (sym (table-back parts.tags new back front here is made)) (stands-unedited stands same past held)
 
 -- new tags behind the others
 pub stands-front : (parts : Parts) (document : Document) (tags : Tags) → Stands parts document →
@@ -168,14 +178,14 @@ texts_made document widget at pairs =
 abbrev insertion_size : Document → List Pair → ℕ
 insertion_size document pairs = length document.cells + total pairs
 
-pub leaves-put : (limits : LimitTable) (old : Parts) (tags : Tags) (state : State) (document : Document)
-    (place slot at : ℕ) (pairs : List Pair) → Stands old document → Sits old document place slot
+pub leaves-put : {limits : LimitTable} {old : Parts} {tags : Tags} {state : State} {document : Document}
+    {place slot at : ℕ} {pairs : List Pair} → Stands old document → Sits old document place slot
     → IsListed limits old.tags tags pairs (length old.content.cells) → at < length document.cells
     → state ≡ inserted_texts (recording_of old.journal.settings) Insert at (map (piece_of tags.tags slot) pairs)
     (state_in old)
     → Leaves limits (with_state (with_tags tags old) state) document (Ok Empty)
     (insert_at limits document (widget_at document place) at pairs)
-leaves-put limits old tags state document place slot at pairs stands sits listed within is =
+leaves-put {limits} {old} {tags} {state} {document} {place} {slot} {at} {pairs} stands sits listed within is =
     let widget : Widget = widget_at document place in
     let recording = recording_of old.journal.settings in
     let pieces : List SlottedText = map (piece_of tags.tags slot) pairs in
@@ -201,8 +211,7 @@ leaves-put limits old tags state document place slot at pairs stands sits listed
     } in
     subst (λ (s : State). Leaves limits (with_state (with_tags tags old) s) document (Ok Empty)
     (insert_at limits document widget at pairs)) (sym is)
-    (does-changed limits old (with_state (with_tags tags old) made) document (insert_at limits document widget at pairs)
-    stands (record {
+    (does-changed stands (record {
       sound = all.sound;
       is = limits-made limits document (length (tags_with document pairs)) (insertion_size document pairs)
           (answered result Empty) within_both ∙ ap (λ d. answered d Empty) (sym all_is);
@@ -214,12 +223,12 @@ leaves-put limits old tags state document place slot at pairs stands sits listed
       seats = refl;
     }))
 
-pub put-left : (limits : LimitTable) (old : Parts) (document : Document) (widget : Widget) (at : ℕ) (pairs : List Pair)
-    (fault : Fault) → Stands old document
+pub put-left : {old : Parts} {document : Document} {fault : Fault} (limits : LimitTable) (widget : Widget) (at : ℕ)
+    (pairs : List Pair) → Stands old document
     → excess limits (length (with_names (names_of old.tags.tags) (all_names pairs)))
     (length old.content.cells + total pairs) ≡ Some fault
     → insert_at limits document widget at pairs ≡ refused document fault
-put-left limits old document widget at pairs fault stands is =
+put-left {old} {document} {fault} limits widget at pairs stands is =
     let names = names-before old document stands in
     let long = cells-kept old document stands.is in
     limits-refused limits document (length (tags_with document pairs)) (insertion_size document pairs)

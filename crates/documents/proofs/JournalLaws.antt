@@ -1,12 +1,11 @@
 -- A document after its journal alone is changed.
-use Rattle.documents.proofs.Words.{◌≡◌, ℕ, Bool, true, false, List, Ok, refl, sym, ap, subst, ◌∙◌, zero, suc, ◌-◌, []}
-use Rattle.documents.proofs.Words.{drop, if◌then◌else◌, LimitTable, FitsText, History, limit_of, newest, no_history}
-use Rattle.documents.proofs.Words.{separated, set_to, Kept, Action, limited-fits, nothing-fits, log_of, history_under}
-use Rattle.documents.proofs.Words.{Empty, DocumentSettings, edit_reset, edit_separator, modified_set, Document, Journal}
-use Rattle.documents.proofs.Words.{Parts, document_of, IsOrderly, Stands, Change, answered}
-use Rattle.std.specs.Prelude.{◌==◌}
-use Rattle.text_model.specs.Content as model
+use Rattle.documents.proofs.Common.{◌≡◌, ℕ, Bool, true, false, List, Ok, refl, sym, ap, subst, ◌∙◌, zero, suc, ◌-◌, []}
+use Rattle.documents.proofs.Common.{drop, if◌then◌else◌, LimitTable, FitsText, History, limit_of, newest, no_history}
+use Rattle.documents.proofs.Common.{separated, set_to, Kept, Action, limited-fits, nothing-fits, log_of, history_under}
+use Rattle.documents.proofs.Common.{Empty, DocumentSettings, edit_reset, edit_separator, modified_set, Document}
+use Rattle.documents.proofs.Common.{Journal, Parts, document_of, IsOrderly, Stands, Change, answered, ◌==◌}
 use Rattle.documents.proofs.ChangeLaws.{Leaves, does-changed}
+use Rattle.text_model.specs.Content as model
 
 -- the parts with what is kept of the edits
 abbrev pub with_kept : Parts → Kept → Parts
@@ -23,7 +22,7 @@ pub leaves-log : (limits : LimitTable) (old : Parts) (kept : Kept) (document : D
     GoesOnFitting limits old.journal (with_kept old kept).journal
     → Leaves limits (with_kept old kept) document (Ok Empty) (change document)
 leaves-log limits old kept document change stands orderly is fits =
-    does-changed limits old (with_kept old kept) document (change document) stands (record {
+    does-changed stands (record {
       sound = record {
         kept = stands.sound.kept;
         marked = stands.sound.marked;

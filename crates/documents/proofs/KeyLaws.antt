@@ -1,7 +1,7 @@
 -- The order of keys, and sets of none.
-use Rattle.documents.proofs.Words.{◌≡◌, ℕ, zero, suc, Bool, true, false, List, refl, sym, ap, ◌∙◌, nat_cmp}
-use Rattle.documents.proofs.Words.{IsTotalOrder, nat_cmp_total, CmpEqualImpliesEq, exact_pairs, exact_unsigned, Key}
-use Rattle.documents.proofs.Words.{key_cmp, rank}
+use Rattle.documents.proofs.Common.{◌≡◌, ℕ, zero, suc, Bool, true, false, List, refl, sym, ap, ◌∙◌, nat_cmp}
+use Rattle.documents.proofs.Common.{IsTotalOrder, nat_cmp_total, CmpEqualImpliesEq, exact_pairs, exact_unsigned, Key}
+use Rattle.documents.proofs.Common.{key_cmp, rank}
 use Rattle.std.specs.FinMap.{nat_cmp-IsAntisymmetric, slice_cmp-IsAntisymmetric}
 use Rattle.std.specs.Cmp.Lexicographic.{slice_cmp, nat_list_cmp_total}
 use Rattle.std.proofs.lemmas.Cmp.{on_total, then_total}

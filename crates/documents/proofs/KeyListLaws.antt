@@ -1,23 +1,23 @@
 -- Keys as loops list them: those of slots, and those of names.
-use Rattle.documents.proofs.Words.{◌≡◌, ℕ, ◌+◌, ◌<◌, Bool, true, false, cond, not, ◌||◌, List, [], ◌∷◌, ◌++◌, Some}
-use Rattle.documents.proofs.Words.{filter, map, take, length, get_or, refl, sym, ap, ap₂, ◌∙◌, append_assoc, option_map}
-use Rattle.documents.proofs.Words.{subst, true≢false, string_bytes, both_ways, list_any, eq_by_cmp, nat_cmp, String}
-use Rattle.documents.proofs.Words.{false_from_ne_true, append-nil, map-append, list_any-append, same_Some}
-use Rattle.documents.proofs.Words.{slice_get-map, bytes_eq-Decides, IsUtf8-string_bytes, Named, numbers_of, stood_at}
-use Rattle.documents.proofs.Words.{Tag, sel, slots_of, texts_of, Slots, SlotRun, is_same, take-more, filter-append}
-use Rattle.documents.proofs.Words.{filter-in, filter-out, take-found, Key, is_shared, key_cmp, key_named, keys_listed}
-use Rattle.documents.proofs.Words.{keys_named, seat_pair, tag_pair, AreDistinct, AreKeysOf, key_set, run_changes}
-use Rattle.documents.proofs.Words.{slot_changes, TagChange}
-use Rattle.std.proofs.Common.{slice_get, bytes_eq, if◌then◌else◌}
-use Rattle.std.specs.FinSet as set
+use Rattle.documents.proofs.Common.{◌≡◌, ℕ, ◌+◌, ◌<◌, Bool, true, false, cond, not, ◌||◌, List, [], ◌∷◌, ◌++◌, Some}
+use Rattle.documents.proofs.Common.{filter, map, take, length, get_or, refl, sym, ap, ap₂, ◌∙◌, append_assoc}
+use Rattle.documents.proofs.Common.{option_map, subst, true≢false, string_bytes, both_ways, list_any, eq_by_cmp}
+use Rattle.documents.proofs.Common.{nat_cmp, String, false_from_ne_true, append-nil, map-append, list_any-append}
+use Rattle.documents.proofs.Common.{same_Some, slice_get-map, bytes_eq-Decides, IsUtf8-string_bytes, Named, numbers_of}
+use Rattle.documents.proofs.Common.{stood_at, Tag, sel, slots_of, texts_of, Slots, SlotRun, is_same, take-more}
+use Rattle.documents.proofs.Common.{filter-append, filter-in, filter-out, take-found, Key, is_shared, key_cmp}
+use Rattle.documents.proofs.Common.{key_named, keys_listed, keys_named, seat_pair, tag_pair, AreDistinct, AreKeysOf}
+use Rattle.documents.proofs.Common.{key_set, run_changes, slot_changes, TagChange, slice_get, bytes_eq, if◌then◌else◌}
 use Rattle.std.specs.Str.{chars}
 use Rattle.name_list.specs.Names.{names_of}
 use Rattle.tag_table.specs.Tags.{names_of as tag_names}
 use Rattle.command_effects.proofs.WordLaws.{bytes_eq-chars}
 use Rattle.documents.proofs.BridgeLaws.{key_itself, key_tied}
+use Rattle.documents.proofs.FindLaws.{bytes_eq-turned}
 use Rattle.documents.proofs.KeyLaws.{key_cmp_exact, key_cmp_total}
 use Rattle.documents.proofs.MarksToldLaws.{texts-more}
 use Rattle.documents.proofs.TagsToldLaws.{both-false, set_again}
+use Rattle.std.specs.FinSet as set
 
 -- the name `sel` as it stands in code
 pub sel-is : chars (115 ∷ 101 ∷ 108 ∷ []) ≡ sel
@@ -269,7 +269,7 @@ pub spelled-more : {Z : Type 0} (words : List (String Z)) (at : ℕ) (word : Str
     → ((q : List ℕ) → after q ≡ cond (bytes_eq bytes q) true (seen q))
     → (q : List ℕ) → after q ≡ is_spelled q (take (at + 1) words)
 spelled-more {Z} words at word bytes seen after within is spelled so_far updates q =
-    updates q ∙ ap₂ (λ b s. cond b true s) (bytes_eq-swapped bytes q) (so_far q)
+    updates q ∙ ap₂ (λ b s. cond b true s) (bytes_eq-turned bytes q) (so_far q)
     ∙ either (bytes_eq q bytes) (is_spelled q (take at words))
     ∙ ap (λ bs. is_spelled q (take at words) || (bytes_eq q bs || false)) spelled
     ∙ sym (ap (is_spelled q) (take-more words at word within is)
@@ -280,8 +280,3 @@ spelled-more {Z} words at word bytes seen after within is spelled so_far updates
     either true false = refl
     either false true = refl
     either false false = refl
-
-    bytes_eq-swapped : (a b : List ℕ) → bytes_eq a b ≡ bytes_eq b a
-    bytes_eq-swapped a b = both_ways (bytes_eq a b) (bytes_eq b a)
-        (λ same. (bytes_eq-Decides b a).1 (sym ((bytes_eq-Decides a b).0 same)))
-        (λ same. (bytes_eq-Decides a b).1 (sym ((bytes_eq-Decides b a).0 same)))

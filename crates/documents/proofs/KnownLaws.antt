@@ -1,26 +1,22 @@
 -- Slots of seats and tags alone.
-use Rattle.documents.proofs.Words.{◌≡◌, ℕ, ◌-◌, ◌<◌, Bool, true, false, cond, ◌&&◌, List, [], ◌∷◌, Option, None, Some}
-use Rattle.documents.proofs.Words.{map, length, ◌++◌, get_or, take, drop, refl, sym, subst, ◌∙◌, true≢false, arith}
-use Rattle.documents.proofs.Words.{Contains, ◌==◌, IsScalar, nat_cmp_total, All, nat_cmp, get_or-map, All-append}
-use Rattle.documents.proofs.Words.{All-cons, All-drop, All-map, All-nil, All-take, Named, AreTags, Tag, Tags, slot_of}
-use Rattle.documents.proofs.Words.{known_tags, Cell, Slots, slot_sets, changed, inserted, cells_of, set_slot, with_slot}
-use Rattle.documents.proofs.Words.{contains-set_slot, SlottedText, slots_or, cell_without, shared_slots, IsFront}
-use Rattle.documents.proofs.Words.{slots_named, with_found, AreKnown, AreSeats, HasKnownSlots, Key, key_named}
-use Rattle.documents.proofs.Words.{key_pairs, pair_slots}
-use Rattle.std.proofs.Common.{slice_get, eqb-true, IfSome, slice_range, if◌then◌else◌}
-use Rattle.std.specs.FinSet as set
+use Rattle.documents.proofs.Common.{◌≡◌, ℕ, ◌-◌, ◌<◌, Bool, true, false, cond, List, [], ◌∷◌, Option, None, Some, map}
+use Rattle.documents.proofs.Common.{length, ◌++◌, get_or, take, drop, refl, sym, subst, ◌∙◌, true≢false, arith}
+use Rattle.documents.proofs.Common.{Contains, ◌==◌, IsScalar, nat_cmp_total, All, nat_cmp, get_or-map, All-append}
+use Rattle.documents.proofs.Common.{All-cons, All-drop, All-map, All-nil, All-take, Named, AreTags, Tag, Tags, slot_of}
+use Rattle.documents.proofs.Common.{known_tags, Cell, Slots, slot_sets, changed, inserted, cells_of, set_slot}
+use Rattle.documents.proofs.Common.{with_slot, contains-set_slot, SlottedText, slots_or, cell_without, shared_slots}
+use Rattle.documents.proofs.Common.{IsFront, slots_named, with_found, AreKnown, AreSeats, HasKnownSlots, Key, key_named}
+use Rattle.documents.proofs.Common.{key_pairs, pair_slots, and_parts, slice_get, eqb-true, IfSome, slice_range}
+use Rattle.documents.proofs.Common.{if◌then◌else◌}
 use Rattle.documents.proofs.BridgeLaws.{known-extended, known-left}
 use Rattle.documents.proofs.SlotLaws.{Extends, Extends-front, Extends-seated, Extends-tags, GoWith, slot_among}
 use Rattle.documents.proofs.SlotLaws.{slot_for-named}
+use Rattle.std.specs.FinSet as set
 
 -- a text of Unicode scalar values, with slots of seats and tags where it has a tag list
 pub record IsKnownPiece (seats : List Named) (tags : List Tag) (piece : SlottedText) : Type 0 where
   pub text : All IsScalar piece.text
   pub slots : IfSome piece.slots (AreKnown seats tags)
-
-left_true : (a b : Bool) → (a && b) ≡ true → a ≡ true
-left_true true b both = refl
-left_true false b both = both
 
 abbrev no_cell : Cell
 no_cell = record { character = 0; tags = set.empty }
@@ -34,8 +30,8 @@ module _ (seats : List Named) (tags : List Tag) where
 
   known-intersection : (a b : Slots) → AreKnown seats tags a → AreKnown seats tags (set.intersection a b)
   known-intersection a b known slot there =
-      known slot (left_true (set.contains a slot) (set.contains b slot)
-      (sym (set.contains-intersection nat_cmp_total a b slot) ∙ there))
+      known slot (and_parts (set.contains a slot) (set.contains b slot)
+      (sym (set.contains-intersection nat_cmp_total a b slot) ∙ there)).0
 
   pub known-set_slot : (slot : ℕ) (on : Bool) (set_of : Slots) → Contains slots slot → AreKnown seats tags set_of →
       AreKnown seats tags (set_slot slot on set_of)

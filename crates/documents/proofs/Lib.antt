@@ -1,7 +1,9 @@
+pub mod BackLaws
 pub mod BridgeLaws
 pub mod CarriedLaws
 pub mod ChangeLaws
 pub mod ClearedLaws
+pub mod Common
 pub mod EditLeadLaws
 pub mod FindLaws
 pub mod FirstLaws
@@ -56,4 +58,3 @@ pub mod ViewLaws
 pub mod WellFormedLaws
 pub mod WidgetLaws
 pub mod WidgetLeadLaws
-pub mod Words

@@ -1,19 +1,18 @@
 -- Elements of a list that are found by their names.
-use Rattle.documents.proofs.Words.{◌≡◌, ℕ, zero, suc, Bool, true, false, cond, ◌&&◌, ◌||◌, List, [], ◌∷◌, ◌++◌, Option}
-use Rattle.documents.proofs.Words.{None, Some, filter, map, refl, sym, ap, ap₂, ◌∙◌, true≢false, arith, find, bytes_eq}
-use Rattle.documents.proofs.Words.{list_any, false_from_ne_true, none-some, same_Some, bytes_eq-Decides, AreApart}
-use Rattle.documents.proofs.Words.{AreApart-insert, stands_map, stood_at, Slots, is_among, AreApart-head, AreApart-tail}
-use Rattle.std.proofs.Common.{slice_get}
-use Rattle.std.specs.Prelude.{option_map}
-use Rattle.std.specs.FinSet as set
+use Rattle.documents.proofs.Common.{◌≡◌, ℕ, zero, suc, Bool, true, false, cond, ◌&&◌, ◌||◌, List, [], ◌∷◌, ◌++◌, Option}
+use Rattle.documents.proofs.Common.{None, Some, filter, map, refl, sym, ap, ap₂, ◌∙◌, true≢false, arith, find, bytes_eq}
+use Rattle.documents.proofs.Common.{list_any, false_from_ne_true, none-some, same_Some, bytes_eq-Decides, AreApart}
+use Rattle.documents.proofs.Common.{AreApart-insert, stands_map, stood_at, Slots, is_among, AreApart-head}
+use Rattle.documents.proofs.Common.{AreApart-tail, slice_get, option_map}
 use Rattle.name_list.proofs.ListLaws.{Stands}
+use Rattle.std.specs.FinSet as set
 
 -- whether a set has the slot, if there is one
 abbrev pub has : Slots → Option ℕ → Bool
 has slots None = false
 has slots (Some slot) = set.contains slots slot
 
-and_none : (a : Bool) → (a && false) ≡ false
+pub and_none : (a : Bool) → (a && false) ≡ false
 and_none true = refl
 and_none false = refl
 

@@ -1,23 +1,22 @@
 -- A document after a mark is put at a place, made or taken out.
-use Rattle.documents.proofs.Words.{◌≡◌, ◌≢◌, ℕ, zero, suc, ◌+◌, ◌*◌, ◌<◌, ◌≤◌, Bool, true, false, cond, List, [], ◌∷◌}
-use Rattle.documents.proofs.Words.{◌++◌, length, map, refl, sym, ap, ap₂, subst, ◌∙◌, arith, inl, inr, bytes_eq, find}
-use Rattle.documents.proofs.Words.{nat_le, slice_get, is_some, unwrap_or, if◌then◌else◌, nat_cmp_total, unsigned_tied}
-use Rattle.documents.proofs.Words.{AllByRecursion, cons_option, nat_cmp, eq_by_cmp, or_left, or_right, nat_tests}
-use Rattle.documents.proofs.Words.{length-map, length-append, map-append, none-some, same_Some, bytes_eq-Decides, Named}
-use Rattle.documents.proofs.Words.{Contains-from_stands, AreMarks, Mark, SharedMarks, first_number, is_named, number_of}
-use Rattle.documents.proofs.Words.{turned, MOST_WIDGETS, Right, Place, Content, Marks, MarksStand, LimitTable, Empty}
-use Rattle.documents.proofs.Words.{TooManyMarks, new_mark, is_left, IsMadeMark, marks_left, numbers_named, taken}
-use Rattle.documents.proofs.Words.{is_among, is_own, is_same, literal, Document, Journal, Parts, SharedMark, Widget}
-use Rattle.documents.proofs.Words.{document_of, mark_of, placed, widget_at, widget_of, AreMarked, AreSeats, HasOwnMarks}
-use Rattle.documents.proofs.Words.{IsMarked, Stands, mark_unset, place_named, set_found, with_current, with_insert}
-use Rattle.documents.proofs.Words.{with_shared, Change, Does, answered, refused}
-use Rattle.std.specs.Prelude.{◌||◌, filter, not, Option, None, Some, Ok, option_map}
-use Rattle.std.specs.FinMap as finite
-use Rattle.std.proofs.lemmas.Bool.{true≢false}
-use Rattle.mark_table.specs.SharedMarks.{numbers_of}
+use Rattle.documents.proofs.Common.{◌≡◌, ◌≢◌, ℕ, zero, suc, ◌+◌, ◌*◌, ◌<◌, ◌≤◌, Bool, true, false, cond, List, [], ◌∷◌}
+use Rattle.documents.proofs.Common.{◌++◌, length, map, refl, sym, ap, ap₂, subst, ◌∙◌, arith, inl, inr, bytes_eq, find}
+use Rattle.documents.proofs.Common.{nat_le, slice_get, is_some, unwrap_or, if◌then◌else◌, nat_cmp_total, unsigned_tied}
+use Rattle.documents.proofs.Common.{AllByRecursion, cons_option, nat_cmp, eq_by_cmp, or_left, or_right, nat_tests}
+use Rattle.documents.proofs.Common.{length-map, length-append, map-append, none-some, same_Some, bytes_eq-Decides}
+use Rattle.documents.proofs.Common.{Named, Contains-from_stands, AreMarks, Mark, SharedMarks, first_number, number_of}
+use Rattle.documents.proofs.Common.{turned, MOST_WIDGETS, Right, Place, Content, Marks, MarksStand, LimitTable, Empty}
+use Rattle.documents.proofs.Common.{TooManyMarks, new_mark, is_left, IsMadeMark, marks_left, numbers_named, taken}
+use Rattle.documents.proofs.Common.{is_among, is_own, is_same, literal, Document, Journal, Parts, SharedMark, Widget}
+use Rattle.documents.proofs.Common.{document_of, mark_of, placed, widget_at, widget_of, AreMarked, AreSeats}
+use Rattle.documents.proofs.Common.{HasOwnMarks, IsMarked, Stands, mark_unset, place_named, set_found, with_current}
+use Rattle.documents.proofs.Common.{with_insert, with_shared, Change, Does, answered, refused, ◌||◌, filter, not}
+use Rattle.documents.proofs.Common.{Option, None, Some, Ok, option_map, true≢false}
+use Rattle.mark_table.specs.SharedMarks.{is_named, numbers_of}
 use Rattle.documents.proofs.ChangeLaws.{Leaves, does-changed, does-nothing, stands-same}
 use Rattle.documents.proofs.PartsLaws.{Sits, mapped-at, marks-kept}
 use Rattle.documents.proofs.PlacedLaws.{AreAlike, StandsMark, found_mark, marked-alike, placed-alike}
+use Rattle.std.specs.FinMap as finite
 
 -- ---- one mark of a store
 
@@ -146,7 +145,7 @@ pub leaves-remarked : (limits : LimitTable) (old : Parts) (table : SharedMarks) 
     Leaves limits (remarked old table places) document (Ok Empty) change
 leaves-remarked limits old table places document change stands marked stand own few is =
     let kept = stands.sound.kept in
-    does-changed limits old (remarked old table places) document change stands (record {
+    does-changed stands (record {
       sound = record {
         kept = record {
           seats = kept.seats;
@@ -245,6 +244,40 @@ pub slot-there : (parts : Parts) (document : Document) (place slot : ℕ) → St
 slot-there parts document place slot stands sits = subst (λ n. HaveSlot sits.seat.name n parts.seats.entries)
     sits.number (have-slot parts.seats.entries place sits.seat stands.sound.kept.seats sits.stands)
 
+-- a document where one widget changes
+abbrev turned_at : (Widget → Widget) → Document → Widget → Document
+turned_at turn document widget = record document {
+  widgets = map (λ (other : Widget). if is_same widget.name other.name then turn other else other) document.widgets;
+}
+
+-- one of the two marks is put, which turns its widget alone
+leaves-turned_at : (limits : LimitTable) (old : Parts) (document : Document) (place slot number : ℕ) (target : Place)
+    (changed : Content) (turn : Widget → Widget) → Stands old document → Sits old document place slot
+    → number < first_number → target.offset ≤ length old.content.cells → changed ≡ put_in number target old.content
+    → ((seat : Named) → seat.number ≡ slot
+    → widget_of old.journal (finite.insert old.content.marks number target) seat
+    ≡ turn (widget_of old.journal old.content.marks seat))
+    → ((seat : Named) → seat.number ≢ slot
+    → widget_of old.journal (finite.insert old.content.marks number target) seat
+    ≡ widget_of old.journal old.content.marks seat)
+    → Leaves limits (record old { content = changed }) document (Ok Empty)
+    (answered (turned_at turn document (widget_at document place)) Empty)
+leaves-turned_at limits old document place slot number target changed turn stands sits low within is one others =
+    let places = old.content.marks in
+    let put = finite.insert places number target in
+    let change : Change = answered (turned_at turn document (widget_at document place)) Empty in
+    let lone : Document = document_of old in
+    let widgets = widgets-put old.journal old.journal put places sits.seat.name slot turn old.seats.entries
+    (slot-there old document place slot stands sits) one others in
+    let shared = placed-alike put places old.marks.marks
+    (shared-alike old.marks places number target stands.sound.marked.marks low) in
+    let made : document_of (remarked old old.marks put) ≡ turned_at turn lone (widget_of old.journal places sits.seat) =
+    λ i. record lone { widgets = widgets i; marks = shared i } in
+    let whole = made ∙ ap₂ (λ (d : Document) (w : Widget). turned_at turn d w) stands.is (sym sits.widget) in
+    subst (λ (c : Content). Leaves limits (record old { content = c }) document (Ok Empty) change) (sym is)
+    (leaves-own limits old document number target change stands low within
+    (ap (λ (d : Document). answered d Empty) (sym whole)))
+
 pub leaves-insert : (limits : LimitTable) (old : Parts) (document : Document) (place slot : ℕ) (target : Place)
     (changed : Content) → Stands old document → Sits old document place slot
     → target.offset ≤ length old.content.cells → changed ≡ put_in (2 * slot) target old.content
@@ -253,39 +286,18 @@ pub leaves-insert : (limits : LimitTable) (old : Parts) (document : Document) (p
 leaves-insert limits old document place slot target changed stands sits within is =
     let places = old.content.marks in
     let put = finite.insert places (2 * slot) target in
-    let change : Change = answered (with_insert document (widget_at document place) target) Empty in
     let less = sits.below in
-    let low : 2 * slot < first_number = omega (arith, less) in
-    let lone : Document = document_of old in
-    let widgets : map (widget_of old.journal put) old.seats.entries
-    ≡ (with_insert lone (widget_of old.journal places sits.seat) target).widgets =
-    widgets-put old.journal old.journal put places sits.seat.name slot (λ (widget : Widget).
-    record widget { insert = target }) old.seats.entries (slot-there old document place slot stands sits)
+    let current = λ (seat : Named). mark_of-put_other places (2 * slot) target (2 * seat.number + 1) (λ one.
+    omega (arith, one)) in
+    leaves-turned_at limits old document place slot (2 * slot) target changed
+    (λ (widget : Widget). record widget { insert = target }) stands sits (omega (arith, less)) within is
     (λ seat same.
     let insert : mark_of put (2 * seat.number) ≡ target = ap (λ n. mark_of put (2 * n)) same
     ∙ mark_of-put places (2 * slot) target in
-    let current : mark_of put (2 * seat.number + 1)
-    ≡ mark_of places (2 * seat.number + 1) = mark_of-put_other places (2 * slot) target (2 * seat.number + 1)
-    (λ one. omega (arith, one, same)) in
-    λ i. record (widget_of old.journal places seat) { insert = insert i; current = current i })
+    λ i. record (widget_of old.journal places seat) { insert = insert i; current = current seat i })
     (λ seat other.
-    let insert : mark_of put (2 * seat.number)
-    ≡ mark_of places (2 * seat.number) = mark_of-put_other places (2 * slot) target (2 * seat.number) (λ one.
-    other (omega (arith, one))) in
-    let current : mark_of put (2 * seat.number + 1)
-    ≡ mark_of places (2 * seat.number + 1) = mark_of-put_other places (2 * slot) target (2 * seat.number + 1)
-    (λ one. omega (arith, one)) in
-    λ i. record (widget_of old.journal places seat) { insert = insert i; current = current i }) in
-    let shared : placed put old.marks.marks
-    ≡ placed places old.marks.marks = placed-alike put places old.marks.marks
-    (shared-alike old.marks places (2 * slot) target stands.sound.marked.marks low) in
-    let made : document_of (remarked old old.marks put)
-    ≡ with_insert lone (widget_of old.journal places sits.seat) target = λ i.
-    record lone { widgets = widgets i; marks = shared i } in
-    let whole = made ∙ ap₂ (λ (d : Document) (w : Widget). with_insert d w target) stands.is (sym sits.widget) in
-    subst (λ (c : Content). Leaves limits (record old { content = c }) document (Ok Empty) change) (sym is)
-    (leaves-own limits old document (2 * slot) target change stands low within
-    (ap (λ (d : Document). answered d Empty) (sym whole)))
+    let insert = mark_of-put_other places (2 * slot) target (2 * seat.number) (λ one. other (omega (arith, one))) in
+    λ i. record (widget_of old.journal places seat) { insert = insert i; current = current seat i })
 
 pub leaves-current : (limits : LimitTable) (old : Parts) (document : Document) (place slot : ℕ) (target : Place)
     (changed : Content) → Stands old document → Sits old document place slot
@@ -295,46 +307,25 @@ pub leaves-current : (limits : LimitTable) (old : Parts) (document : Document) (
 leaves-current limits old document place slot target changed stands sits within is =
     let places = old.content.marks in
     let put = finite.insert places (2 * slot + 1) target in
-    let change : Change = answered (with_current document (widget_at document place) target) Empty in
     let less = sits.below in
-    let low : 2 * slot + 1 < first_number = omega (arith, less) in
-    let lone : Document = document_of old in
-    let widgets : map (widget_of old.journal put) old.seats.entries
-    ≡ (with_current lone (widget_of old.journal places sits.seat) target).widgets =
-    widgets-put old.journal old.journal put places sits.seat.name slot (λ (widget : Widget).
-    record widget { current = target }) old.seats.entries (slot-there old document place slot stands sits)
+    let insert = λ (seat : Named). mark_of-put_other places (2 * slot + 1) target (2 * seat.number) (λ one.
+    omega (arith, one)) in
+    leaves-turned_at limits old document place slot (2 * slot + 1) target changed
+    (λ (widget : Widget). record widget { current = target }) stands sits (omega (arith, less)) within is
     (λ seat same.
-    let insert : mark_of put (2 * seat.number)
-    ≡ mark_of places (2 * seat.number) = mark_of-put_other places (2 * slot + 1) target (2 * seat.number) (λ one.
-    omega (arith, one, same)) in
     let current : mark_of put (2 * seat.number + 1) ≡ target = ap (λ n. mark_of put (2 * n + 1)) same
     ∙ mark_of-put places (2 * slot + 1) target in
-    λ i. record (widget_of old.journal places seat) { insert = insert i; current = current i })
+    λ i. record (widget_of old.journal places seat) { insert = insert seat i; current = current i })
     (λ seat other.
-    let insert : mark_of put (2 * seat.number)
-    ≡ mark_of places (2 * seat.number) = mark_of-put_other places (2 * slot + 1) target (2 * seat.number) (λ one.
-    omega (arith, one)) in
-    let current : mark_of put (2 * seat.number + 1)
-    ≡ mark_of places (2 * seat.number + 1) = mark_of-put_other places (2 * slot + 1) target (2 * seat.number + 1)
-    (λ one. other (omega (arith, one))) in
-    λ i. record (widget_of old.journal places seat) { insert = insert i; current = current i }) in
-    let shared : placed put old.marks.marks
-    ≡ placed places old.marks.marks = placed-alike put places old.marks.marks
-    (shared-alike old.marks places (2 * slot + 1) target stands.sound.marked.marks low) in
-    let made : document_of (remarked old old.marks put)
-    ≡ with_current lone (widget_of old.journal places sits.seat) target = λ i.
-    record lone { widgets = widgets i; marks = shared i } in
-    let whole = made ∙ ap₂ (λ (d : Document) (w : Widget). with_current d w target) stands.is (sym sits.widget) in
-    subst (λ (c : Content). Leaves limits (record old { content = c }) document (Ok Empty) change) (sym is)
-    (leaves-own limits old document (2 * slot + 1) target change stands low within
-    (ap (λ (d : Document). answered d Empty) (sym whole)))
+    let current = mark_of-put_other places (2 * slot + 1) target (2 * seat.number + 1) (λ one.
+    other (omega (arith, one))) in
+    λ i. record (widget_of old.journal places seat) { insert = insert seat i; current = current i })
 
 -- the table and the store are as they were
 pub stands-unmarked : (old : Parts) (new : SharedMarks) (changed : Content) (document : Document) →
     Stands old document → new ≡ old.marks → changed ≡ old.content
     → Stands (record old { marks = new; content = changed }) document
-stands-unmarked old new changed document stands table is = stands-same old
-    (record old { marks = new; content = changed }) document stands (λ i.
+stands-unmarked old new changed document stands table is = stands-same stands (λ i.
     record old { marks = table i; content = is i })
 
 unnamed : (places : Marks) (word : List ℕ) (place : Place) (marks : List Mark) → number_of word marks ≡ None
@@ -496,9 +487,6 @@ each-append P (other ∷ marks) mark each this = (each.0, each-append P marks ma
 
 few_enough : (limit count : ℕ) → count < limit → nat_le limit count ≡ false
 few_enough limit count less = grind (arith, nat_tests)
-
-too_many : (limit count : ℕ) → limit ≤ count → nat_le limit count ≡ true
-too_many limit count less = grind (arith, nat_tests)
 
 pub leaves-made : (limits : LimitTable) (old : Parts) (new : SharedMarks) (changed : Content) (document : Document)
     (widget : Widget) (word : List ℕ) (offset : ℕ) → Stands old document
@@ -672,13 +660,13 @@ stand-taken (number ∷ numbers) content stand =
     by other found true never = absurd (none-some found never)
     by other found false same = stand other found same
 
-pub leaves-unset : (limits : LimitTable) (old : Parts) (new : SharedMarks) (changed : Content) (document : Document)
-    (names : List (List ℕ)) (numbers : List ℕ) → Stands old document → AreMarks new
+pub leaves-unset : {old : Parts} {new : SharedMarks} {changed : Content} {document : Document} {numbers : List ℕ}
+    (limits : LimitTable) (names : List (List ℕ)) → Stands old document → AreMarks new
     → new ≡ record old.marks { marks = marks_left names old.marks.marks } →
     numbers ≡ numbers_named old.marks.marks names → changed
     ≡ record old.content { marks = taken numbers old.content.marks }
     → Leaves limits (record old { marks = new; content = changed }) document (Ok Empty) (mark_unset document names)
-leaves-unset limits old new changed document names numbers stands sound table gone store =
+leaves-unset {old} {new} {changed} {document} {numbers} limits names stands sound table gone store =
     let marked = stands.sound.marked in
     let marks = old.marks.marks in
     let places = taken (numbers_named marks names) old.content.marks in

@@ -1,26 +1,26 @@
 -- The marks that a widget can use in their order: by their places in its view, and by those in the text.
-use Rattle.documents.proofs.Words.{◌≡◌, ◌≢◌, ℕ, ◌+◌, ◌-◌, ◌*◌, ◌<◌, ◌≤◌, min, max, Bool, true, false, cond, List, []}
-use Rattle.documents.proofs.Words.{◌∷◌, ◌++◌, map, refl, sym, ap, ap₂, ◌∙◌, arith, subst, true≢false, eq-eqb, find}
-use Rattle.documents.proofs.Words.{nat_le, nat_lt, is_some, option_and_then, unwrap_or, if◌then◌else◌, AllByRecursion}
-use Rattle.documents.proofs.Words.{fold, false≢true, nat_tests, map-append, Shown, earlier, usable, Mark, MOST_CHARS}
-use Rattle.documents.proofs.Words.{Place, Marks, Anchors, new_mark, Document, Parts, SharedMark, Widget, mark_of}
-use Rattle.documents.proofs.Words.{placed, whole, widget_at, IsMarked, Stands, shared_from, shown_at, usable_marks}
-use Rattle.documents.proofs.Words.{origin_in}
-use Rattle.std.proofs.Common.{eqb-true}
-use Rattle.std.specs.Prelude.{get_or, length, Option, None, Some, option_map, ◌&&◌, ◌||◌, ◌==◌}
-use Rattle.std.specs.FinMap as finite
+use Rattle.documents.proofs.Common.{◌≡◌, ◌≢◌, ℕ, ◌+◌, ◌-◌, ◌*◌, ◌<◌, ◌≤◌, min, max, Bool, true, false, cond, List, []}
+use Rattle.documents.proofs.Common.{◌∷◌, ◌++◌, map, refl, sym, ap, ap₂, ◌∙◌, arith, subst, true≢false, eq-eqb, find}
+use Rattle.documents.proofs.Common.{nat_le, nat_lt, is_some, option_and_then, unwrap_or, if◌then◌else◌, AllByRecursion}
+use Rattle.documents.proofs.Common.{fold, false≢true, nat_tests, map-append, Shown, earlier, usable, Mark, MOST_CHARS}
+use Rattle.documents.proofs.Common.{Place, Marks, Anchors, new_mark, Document, Parts, SharedMark, Widget, mark_of}
+use Rattle.documents.proofs.Common.{placed, whole, widget_at, IsMarked, Stands, shared_from, shown_at, usable_marks}
+use Rattle.documents.proofs.Common.{origin_in, slice_get, eqb-true, get_or, length, Option, None, Some, option_map}
+use Rattle.documents.proofs.Common.{◌&&◌, ◌||◌, ◌==◌}
 use Rattle.std.specs.List.{filter}
 use Rattle.mark_table.specs.declared.order.MarkView.{MarkView}
 use Rattle.mark_table.specs.declared.order.Origin.{Origin}
 use Rattle.mark_table.specs.declared.order.Origin.TheVariants.{Mark as From, Place as Offset}
 use Rattle.mark_table.specs.declared.order.WidgetMark.{WidgetMark}
-use Rattle.mark_table.specs.Order as order
 use Rattle.mark_table.specs.SharedMarks.{numbers_of}
-use Rattle.text_index.specs.Views as view
 use Rattle.documents.proofs.MeaningLaws.{current-is, insert-is}
-use Rattle.documents.proofs.PartsLaws.{Sits}
+use Rattle.documents.proofs.PartsLaws.{Sits, sits}
 use Rattle.documents.proofs.PlacedLaws.{marked-there}
 use Rattle.documents.proofs.ViewLaws.{end-is, end_in, ordered-is, start-is, start_in, within-is}
+use Rattle.std.specs.FinMap as finite
+use Rattle.mark_table.specs.Order as order
+use Rattle.name_list.specs.Names as names
+use Rattle.text_index.specs.Views as view
 
 -- a mark that is shown at a place behind a start, by its place in the text
 abbrev pub shifted : ℕ → Shown → Shown
@@ -88,21 +88,24 @@ fold-shifted start pick same best [] = refl
 fold-shifted start pick same best (mark ∷ marks) = ap (λ b. fold pick b (map (shifted start) marks)) (same best mark)
     ∙ fold-shifted start pick same (pick best mark) marks
 
+best-shifted : (start : ℕ) (better : Shown → Shown → Bool) →
+    ((a b : Shown) → better (shifted start a) (shifted start b) ≡ better a b) → (best : Shown) (marks : List Shown)
+    → fold (λ a b. if better a b then b else a) (shifted start best) (map (shifted start) marks)
+    ≡ shifted start (fold (λ a b. if better a b then b else a) best marks)
+best-shifted start better same =
+    fold-shifted start (λ a b. if better a b then b else a) (λ a b.
+    ap (λ t. if t then shifted start b else shifted start a) (same a b) ∙ chosen start (better a b) b a)
+
 first-shifted : (start : ℕ) (marks : List Shown) → order.first (map (shifted start) marks)
     ≡ option_map (shifted start) (order.first marks)
 first-shifted start [] = refl
 first-shifted start (mark ∷ marks) =
-    ap Some (fold-shifted start (λ a b. if earlier b a then b
-    else a) (λ a b. ap (λ t. if t then shifted start b else shifted start a) (earlier-shifted start b a)
-    ∙ chosen start (earlier b a) b a) mark marks)
+    ap Some (best-shifted start (λ a b. earlier b a) (λ a b. earlier-shifted start b a) mark marks)
 
 last-shifted : (start : ℕ) (marks : List Shown) → order.last (map (shifted start) marks)
     ≡ option_map (shifted start) (order.last marks)
 last-shifted start [] = refl
-last-shifted start (mark ∷ marks) =
-    ap Some (fold-shifted start (λ a b. if earlier a b then b
-    else a) (λ a b. ap (λ t. if t then shifted start b else shifted start a) (earlier-shifted start a b)
-    ∙ chosen start (earlier a b) b a) mark marks)
+last-shifted start (mark ∷ marks) = ap Some (best-shifted start earlier (earlier-shifted start) mark marks)
 
 named-shifted : (start : ℕ) (found : Option Shown) →
     option_map (λ (mark : Shown). order.mark_of mark.rank) (option_map (shifted start) found)
@@ -139,32 +142,44 @@ all-so : (most start : ℕ) (P : Shown → Type 0) → ((mark : Shown) → mark.
 all-so most start P each [] below = tt
 all-so most start P each (mark ∷ marks) below = (each mark below.0, all-so most start P each marks below.1)
 
+-- what is picked of the marks that are by a test behind a mark, or before it
+module _ (start : ℕ) (pick : List Shown → Option Shown) (picked : (marks : List Shown)
+    → pick (map (shifted start) marks) ≡ option_map (shifted start) (pick marks)) where
+  from-shifted : (test : Shown → Shown → Bool) →
+      ((a b : Shown) → test (shifted start a) (shifted start b) ≡ test a b) → (marks : List Shown)
+      (found : Option Shown)
+      → option_and_then (λ from. pick (filter (test from) (map (shifted start) marks)))
+      (option_map (shifted start) found)
+      ≡ option_map (shifted start) (option_and_then (λ from. pick (filter (test from) marks)) found)
+  from-shifted test same marks None = refl
+  from-shifted test same marks (Some from) =
+      ap pick (filter-shifted start (test (shifted start from)) (test from) marks
+      (every (λ other. test (shifted start from) (shifted start other) ≡ test from other) (same from) marks))
+      ∙ picked (filter (test from) marks)
+
+  -- the same of a place, which none of the marks is behind
+  at-shifted : (most : ℕ) (wanted passes : ℕ → Bool) →
+      ((at : ℕ) → at + start < most → wanted (at + start) ≡ passes at) → (marks : List Shown)
+      → AreBelow most start marks
+      → pick (filter (λ (mark : Shown). wanted mark.place) (map (shifted start) marks))
+      ≡ option_map (shifted start) (pick (filter (λ (mark : Shown). passes mark.place) marks))
+  at-shifted most wanted passes same marks below =
+      ap pick (filter-shifted start (λ (mark : Shown). wanted mark.place) (λ (mark : Shown). passes mark.place) marks
+      (all-so most start (λ (mark : Shown). wanted (mark.place + start) ≡ passes mark.place) (λ mark.
+      same mark.place) marks below))
+      ∙ picked (filter (λ (mark : Shown). passes mark.place) marks)
+
 next-shown : (most start : ℕ) (origin : Origin) (marks : List Shown) → AreBelow most start marks
     → order.next_shown (origin_in most start origin) (map (shifted start) marks)
     ≡ option_map (shifted start) (order.next_shown origin marks)
 next-shown most start (From mark) marks below =
-    ap (option_and_then (λ from. order.first (filter (λ other. earlier from other) (map (shifted start) marks))))
+    ap (option_and_then (λ from. order.first (filter (earlier from) (map (shifted start) marks))))
     (find-shifted start (order.rank_of mark) marks)
-    ∙ by (order.shown_mark mark marks)
-  where
-    by : (found : Option Shown) → option_and_then (λ from.
-        order.first (filter (λ other. earlier from other) (map (shifted start) marks)))
-        (option_map (shifted start) found)
-        ≡ option_map (shifted start) (option_and_then (λ from. order.first (filter (λ other. earlier from other) marks))
-        found)
-    by None = refl
-    by (Some from) =
-        ap order.first (filter-shifted start (λ other. earlier (shifted start from) other) (λ other. earlier from other)
-        marks
-        (every (λ other. earlier (shifted start from) (shifted start other)
-        ≡ earlier from other) (λ other. earlier-shifted start from other) marks))
-        ∙ first-shifted start (filter (λ other. earlier from other) marks)
+    ∙ from-shifted start order.first (first-shifted start) earlier (earlier-shifted start) marks
+    (order.shown_mark mark marks)
 next-shown most start (Offset place) marks below =
-    ap order.first (filter-shifted start (λ (mark : Shown). nat_le (min (place + start) most) mark.place)
-    (λ (mark : Shown). nat_le place mark.place) marks
-    (all-so most start (λ (mark : Shown). nat_le (min (place + start) most) (mark.place + start)
-    ≡ nat_le place mark.place) (λ mark under. le-bounded most start place mark.place under) marks below))
-    ∙ first-shifted start (filter (λ (mark : Shown). nat_le place mark.place) marks)
+    at-shifted start order.first (first-shifted start) most (nat_le (min (place + start) most)) (nat_le place)
+    (le-bounded most start place) marks below
 
 previous-shown : (most start : ℕ) (origin : Origin) (marks : List Shown) → AreBelow most start marks
     → order.previous_shown (origin_in most start origin) (map (shifted start) marks)
@@ -172,26 +187,11 @@ previous-shown : (most start : ℕ) (origin : Origin) (marks : List Shown) → A
 previous-shown most start (From mark) marks below =
     ap (option_and_then (λ from. order.last (filter (λ other. earlier other from) (map (shifted start) marks))))
     (find-shifted start (order.rank_of mark) marks)
-    ∙ by (order.shown_mark mark marks)
-  where
-    by : (found : Option Shown) → option_and_then (λ from.
-        order.last (filter (λ other. earlier other from) (map (shifted start) marks)))
-        (option_map (shifted start) found)
-        ≡ option_map (shifted start) (option_and_then (λ from. order.last (filter (λ other. earlier other from) marks))
-        found)
-    by None = refl
-    by (Some from) =
-        ap order.last (filter-shifted start (λ other. earlier other (shifted start from)) (λ other. earlier other from)
-        marks
-        (every (λ other. earlier (shifted start other) (shifted start from)
-        ≡ earlier other from) (λ other. earlier-shifted start other from) marks))
-        ∙ last-shifted start (filter (λ other. earlier other from) marks)
+    ∙ from-shifted start order.last (last-shifted start) (λ from other. earlier other from) (λ a b.
+    earlier-shifted start b a) marks (order.shown_mark mark marks)
 previous-shown most start (Offset place) marks below =
-    ap order.last (filter-shifted start (λ (mark : Shown). nat_lt mark.place (min (place + start) most))
-    (λ (mark : Shown). nat_lt mark.place place) marks
-    (all-so most start (λ (mark : Shown). nat_lt (mark.place + start) (min (place + start) most)
-    ≡ nat_lt mark.place place) (λ mark under. lt-bounded most start place mark.place under) marks below))
-    ∙ last-shifted start (filter (λ (mark : Shown). nat_lt mark.place place) marks)
+    at-shifted start order.last (last-shifted start) most (λ at. nat_lt at (min (place + start) most)) (λ at.
+    nat_lt at place) (lt-bounded most start place) marks below
 
 pub next-shifted : (most start : ℕ) (origin : Origin) (marks : List Shown) → AreBelow most start marks →
     order.next_mark (origin_in most start origin) (map (shifted start) marks) ≡ order.next_mark origin marks
@@ -359,21 +359,24 @@ module _ (parts : Parts) (document : Document) (place slot : ℕ) (stands : Stan
       lower [] each under = tt
       lower (mark ∷ marks) each under = (omega (arith, each.0, under), lower marks each.1 under)
 
-pub next-found : (parts : Parts) (document : Document) (place slot : ℕ) → Stands parts document →
-    Sits parts document place slot → (origin : Origin) (anchors : List Anchors) (bounds : MarkView) (from : Origin)
-    (long most : ℕ)
-    → anchors ≡ parts.journal.anchors → long ≡ length parts.content.cells
+-- what is answered of the usable marks, from an origin: the next mark, or the previous one
+pub answer-found : {parts : Parts} {document : Document} {slot long : ℕ} {anchors : List Anchors}
+    {bounds : MarkView} {from : Origin} {found : Option WidgetMark} (place most : ℕ) (origin : Origin)
+    (answer : Origin → List Shown → Option WidgetMark) → ((most start : ℕ) (origin : Origin) (marks : List Shown)
+    → AreBelow most start marks → answer (origin_in most start origin) (map (shifted start) marks)
+    ≡ answer origin marks)
+    → Stands parts document → slice_get (names.numbers_of parts.seats.entries) place ≡ Some slot →
+    anchors ≡ parts.journal.anchors → long ≡ length parts.content.cells
     → bounds ≡ record {
       widget = record { 0 = slot };
       start = unwrap_or (get_or anchors slot whole).start 0;
       end = unwrap_or (get_or anchors slot whole).end long;
     } → from ≡ origin_in most bounds.start origin →
-    MOST_CHARS < most
-    → (found : Option WidgetMark) → found ≡ order.next_mark from
-    (usable bounds parts.content.marks (numbers_of parts.marks.marks)) →
-    found ≡ order.next_mark origin (usable_marks document (widget_at document place))
-next-found parts document place slot stands sits origin anchors bounds from long most held counts bound moved room found
-    is =
+    MOST_CHARS < most → found ≡ answer from (usable bounds parts.content.marks (numbers_of parts.marks.marks))
+    → found ≡ answer origin (usable_marks document (widget_at document place))
+answer-found {parts} {document} {slot} {bounds = bounds} place most origin answer same stands number held counts bound
+    moved room is =
+    let seated = sits place stands number in
     let view_is : bounds ≡ record {
       widget = record { 0 = slot };
       start = start_in parts slot;
@@ -384,43 +387,9 @@ next-found parts document place slot stands sits origin anchors bounds from long
       start = unwrap_or (get_or (held i) slot whole).start 0;
       end = unwrap_or (get_or (held i) slot whole).end (counts i);
     }) in
-    is ∙ ap (λ o. order.next_mark o (usable bounds parts.content.marks (numbers_of parts.marks.marks))) moved
-    ∙ ap (λ (b : MarkView). order.next_mark (origin_in most b.start origin)
+    is ∙ ap (λ o. answer o (usable bounds parts.content.marks (numbers_of parts.marks.marks))) moved
+    ∙ ap (λ (b : MarkView). answer (origin_in most b.start origin)
     (usable b parts.content.marks (numbers_of parts.marks.marks))) view_is
-    ∙ ap (order.next_mark (origin_in most (start_in parts slot) origin))
-    (usable-is parts document place slot stands sits)
-    ∙ next-shifted most (start_in parts slot) origin (usable_marks document (widget_at document place))
-    (usable-below parts document place slot stands sits most room)
-
-pub previous-found : (parts : Parts) (document : Document) (place slot : ℕ) → Stands parts document →
-    Sits parts document place slot → (origin : Origin) (anchors : List Anchors) (bounds : MarkView) (from : Origin)
-    (long most : ℕ)
-    → anchors ≡ parts.journal.anchors → long ≡ length parts.content.cells
-    → bounds ≡ record {
-      widget = record { 0 = slot };
-      start = unwrap_or (get_or anchors slot whole).start 0;
-      end = unwrap_or (get_or anchors slot whole).end long;
-    } → from ≡ origin_in most bounds.start origin →
-    MOST_CHARS < most
-    → (found : Option WidgetMark) → found ≡ order.previous_mark from
-    (usable bounds parts.content.marks (numbers_of parts.marks.marks)) →
-    found ≡ order.previous_mark origin (usable_marks document (widget_at document place))
-previous-found parts document place slot stands sits origin anchors bounds from long most held counts bound moved room
-    found is =
-    let view_is : bounds ≡ record {
-      widget = record { 0 = slot };
-      start = start_in parts slot;
-      end = end_in parts slot;
-    } = bound
-    ∙ (λ i. record {
-      widget = record { 0 = slot };
-      start = unwrap_or (get_or (held i) slot whole).start 0;
-      end = unwrap_or (get_or (held i) slot whole).end (counts i);
-    }) in
-    is ∙ ap (λ o. order.previous_mark o (usable bounds parts.content.marks (numbers_of parts.marks.marks))) moved
-    ∙ ap (λ (b : MarkView). order.previous_mark (origin_in most b.start origin)
-    (usable b parts.content.marks (numbers_of parts.marks.marks))) view_is
-    ∙ ap (order.previous_mark (origin_in most (start_in parts slot) origin))
-    (usable-is parts document place slot stands sits)
-    ∙ previous-shifted most (start_in parts slot) origin (usable_marks document (widget_at document place))
-    (usable-below parts document place slot stands sits most room)
+    ∙ ap (answer (origin_in most (start_in parts slot) origin)) (usable-is parts document place slot stands seated)
+    ∙ same most (start_in parts slot) origin (usable_marks document (widget_at document place))
+    (usable-below parts document place slot stands seated most room)

@@ -1,29 +1,23 @@
 -- What is found of the marks of a document.
-use Rattle.documents.proofs.Words.{◌≡◌, ℕ, zero, suc, ◌+◌, ◌-◌, ◌*◌, ◌<◌, ◌≤◌, Bool, true, false, List, [], ◌∷◌, length}
-use Rattle.documents.proofs.Words.{refl, sym, ap, ap₂, ◌∙◌, arith, inl, inr, IfSome, find, slice_get, nat_le, is_some}
-use Rattle.documents.proofs.Words.{option_and_then, unwrap_or, if◌then◌else◌, AllByRecursion, position_from, false≢true}
-use Rattle.documents.proofs.Words.{nat_tests, none-some, same_Some, Contains-from_stands, Mark, number_of, Place, Marks}
-use Rattle.documents.proofs.Words.{shared_place, new_mark, is_same, literal, Document, Parts, SharedMark, Widget}
-use Rattle.documents.proofs.Words.{mark_of, placed, widget_at, IsMarked, Stands, place_named, mark_number, mark_place}
-use Rattle.documents.proofs.Words.{view_end, view_start}
-use Rattle.std.specs.Prelude.{Contains, Option, None, Some, option_map, ◌&&◌}
-use Rattle.std.specs.FinMap as finite
+use Rattle.documents.proofs.Common.{◌≡◌, ℕ, zero, suc, ◌+◌, ◌-◌, ◌*◌, ◌<◌, ◌≤◌, Bool, true, false, List, [], ◌∷◌}
+use Rattle.documents.proofs.Common.{length, refl, sym, ap, ap₂, ◌∙◌, arith, inl, inr, IfSome, find, slice_get, nat_le}
+use Rattle.documents.proofs.Common.{is_some, option_and_then, unwrap_or, if◌then◌else◌, AllByRecursion, position_from}
+use Rattle.documents.proofs.Common.{false≢true, nat_tests, none-some, same_Some, Contains-from_stands, Mark, number_of}
+use Rattle.documents.proofs.Common.{Place, Marks, shared_place, new_mark, is_same, literal, Document, Parts, SharedMark}
+use Rattle.documents.proofs.Common.{Widget, mark_of, placed, widget_at, IsMarked, Stands, place_named, mark_number}
+use Rattle.documents.proofs.Common.{mark_place, view_end, view_start, Contains, Option, None, Some, option_map, ◌&&◌}
 use Rattle.mark_table.specs.SharedMarks.{numbers_of}
 use Rattle.documents.proofs.MeaningLaws.{current-is, insert-is}
 use Rattle.documents.proofs.PartsLaws.{Sits, cells-kept}
-use Rattle.documents.proofs.PlacedLaws.{StandsMark, found_mark, marked-there}
-
--- what is there is what stands there
-pub there_is : (found : Option Place) → is_some found ≡ true → found ≡ Some (unwrap_or found new_mark)
-there_is None none = absurd (false≢true none)
-there_is (Some place) there = refl
+use Rattle.documents.proofs.PlacedLaws.{StandsMark, found_mark, marked-there, there_is}
+use Rattle.std.specs.FinMap as finite
 
 -- a name that isn't one of a widget's own
 pub record IsShared (word : List ℕ) : Type 0 where
   pub insert : is_same word (literal "insert") ≡ false
   pub current : is_same word (literal "current") ≡ false
 
-module _ (parts : Parts) (document : Document) (stands : Stands parts document) where
+module _ {parts : Parts} {document : Document} (stands : Stands parts document) where
   abbrev places : Marks
   places = parts.content.marks
 
@@ -92,11 +86,6 @@ module _ (parts : Parts) (document : Document) (stands : Stands parts document) 
   listed-at (mark ∷ marks) zero number is = ap (λ n. Some (mark_of places n)) (same_Some mark.number number is)
   listed-at (mark ∷ marks) (suc place) number is = listed-at marks place number is
 
-  past-listed : (marks : List Mark) (place : ℕ) → length marks ≤ place → slice_get (placed places marks) place ≡ None
-  past-listed [] place past = refl
-  past-listed (mark ∷ marks) zero past = absurd (omega (arith, past))
-  past-listed (mark ∷ marks) (suc place) past = past-listed marks place (omega (arith, past))
-
   marked-at : (marks : List Mark) (place number : ℕ) → AllByRecursion (IsMarked places) marks →
       slice_get (numbers_of marks) place ≡ Some number → is_some (finite.get places number) ≡ true
   marked-at [] place number each is = absurd (none-some number is)
@@ -113,15 +102,6 @@ module _ (parts : Parts) (document : Document) (stands : Stands parts document) 
   module _ (at : ℕ) where
     abbrev widget : Widget
     widget = widget_at document at
-
-    pub mark-past : (place : ℕ) → length parts.marks.marks ≤ place →
-        false ≡ is_some (mark_place document widget (2 + place))
-    mark-past place past =
-        let two : 2 + place ≡ suc (suc place) = omega arith in
-        sym (ap (λ n. is_some (mark_place document widget n)) two
-        ∙ ap (λ found. is_some (option_and_then (λ (mark : SharedMark).
-        shared_place (view_start widget) (view_end document widget) mark.place) found))
-        (ap (λ ms. slice_get ms place) marks-are ∙ past-listed parts.marks.marks place past))
 
     -- a shared mark that stands in a store is shown between the bounds
     pub mark-between : (place number : ℕ) (found : Place) →
@@ -180,7 +160,7 @@ module _ (parts : Parts) (document : Document) (stands : Stands parts document) 
   place-within number (Some place) is =
       omega (arith, cells-kept parts document stands.is, stands.sound.kept.marks number place (sym is))
 
-  module _ (at slot : ℕ) (sits : Sits parts document at slot) where
+  module _ {at slot : ℕ} (sits : Sits parts document at slot) where
     abbrev actor : Widget
     actor = widget_at document at
 

@@ -1,15 +1,16 @@
 -- What is told of the marks that a command moves.
-use Rattle.documents.proofs.Words.{◌≡◌, ℕ, zero, suc, ◌+◌, ◌≤◌, Bool, true, false, List, [], ◌∷◌, ◌++◌, length, map}
-use Rattle.documents.proofs.Words.{refl, ◌<◌, get_or, take, sym, ap, ap₂, ◌∙◌, arith, subst, inl, inr, true≢false, find}
-use Rattle.documents.proofs.Words.{nat_le, slice_get, is_some, option_and_then, if◌then◌else◌, Decides, OnFalse, is_at}
-use Rattle.documents.proofs.Words.{nat_cmp, is_eq, map-append, take_more, exact_unsigned, All, position_from}
-use Rattle.documents.proofs.Words.{false_from_ne_true, false≢true, All-cons, All-nil, All-push, All-weaker, none-some}
-use Rattle.documents.proofs.Words.{same_Some, bytes_eq-Decides, LimitTable, Right, Place, texts_of, AreApart}
-use Rattle.documents.proofs.Words.{get_push_cases, Empty, TooManyMarks, is_left, is_among, is_same, literal, Document}
-use Rattle.documents.proofs.Words.{SharedMark, Widget, mark_unset, place_named, set_found, with_current, with_insert}
-use Rattle.documents.proofs.Words.{with_mark, with_shared, with_widget, AreGathered, ForetellsMarks, IsSharedName}
-use Rattle.documents.proofs.Words.{MarksTold, offset_named, offset_seen, mark_number, answered, refused, widget_named}
-use Rattle.std.specs.Prelude.{◌≢◌, filter, not, Option, None, Some, String, chars, string_bytes, option_map, ◌||◌}
+use Rattle.documents.proofs.Common.{◌≡◌, ℕ, zero, suc, ◌+◌, ◌≤◌, Bool, true, false, List, [], ◌∷◌, ◌++◌, length, map}
+use Rattle.documents.proofs.Common.{refl, ◌<◌, get_or, take, sym, ap, ap₂, ◌∙◌, arith, subst, inl, inr, true≢false}
+use Rattle.documents.proofs.Common.{find, nat_le, slice_get, is_some, option_and_then, if◌then◌else◌, Decides, OnFalse}
+use Rattle.documents.proofs.Common.{is_at, nat_cmp, is_eq, map-append, take_more, exact_unsigned, All, position_from}
+use Rattle.documents.proofs.Common.{false_from_ne_true, false≢true, All-cons, All-nil, All-push, All-weaker, none-some}
+use Rattle.documents.proofs.Common.{same_Some, bytes_eq-Decides, LimitTable, Right, Place, texts_of, AreApart}
+use Rattle.documents.proofs.Common.{get_push_cases, Empty, TooManyMarks, is_left, is_among, is_same, literal, Document}
+use Rattle.documents.proofs.Common.{SharedMark, Widget, mark_unset, place_named, set_found, with_current, with_insert}
+use Rattle.documents.proofs.Common.{with_mark, with_shared, with_widget, AreGathered, ForetellsMarks, IsSharedName}
+use Rattle.documents.proofs.Common.{MarksTold, offset_named, offset_seen, mark_number, answered, refused, widget_named}
+use Rattle.documents.proofs.Common.{◌≢◌, filter, not, Option, None, Some, chars, string_bytes, option_map, ◌||◌}
+use Rattle.std.specs.Prelude.{String}
 use Rattle.std.specs.declared.cmp.Ordering.TheVariants.{Less, Equal, Greater}
 
 -- ---- words

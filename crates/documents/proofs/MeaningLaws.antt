@@ -1,23 +1,23 @@
 -- What names mean to a widget, and the places of its words.
-use Rattle.documents.proofs.Words.{◌≡◌, ◌≢◌, ℕ, suc, [], ◌+◌, ◌-◌, ◌*◌, ◌<◌, ◌≤◌, true, false, List, refl, sym, ap, ◌∙◌}
-use Rattle.documents.proofs.Words.{arith, inl, inr, slice_get, is_some, option_and_then, unwrap_or, codes, bytes_eq}
-use Rattle.documents.proofs.Words.{nat_lt, if◌then◌else◌, position_from, false≢true, nat_tests, get_or_from_slice_get}
-use Rattle.documents.proofs.Words.{MOST_WIDGETS, Place, Content, SharedMarks, first_number, number_of, names_of}
-use Rattle.documents.proofs.Words.{known_marks, known_tags, own_place, shared_place, shown_mark, is_word, MeanTheSame}
-use Rattle.documents.proofs.Words.{shown_meanings, word_value, new_mark, index_fault, at_position, literal, is_same}
-use Rattle.documents.proofs.Words.{found_tag, Document, Parts, SharedMark, Widget, mark_of, placed, widget_at}
-use Rattle.documents.proofs.Words.{key_named, AreMarked, Stands, mark_number, mark_place, meanings, place_of, tag_flags}
-use Rattle.documents.proofs.Words.{tag_number, Gives, shown, shown_flags, view_end, view_start}
-use Rattle.std.specs.Prelude.{IfOk, Option, None, Some, Result, Ok, Err, option_map, get_or, ◌==◌}
+use Rattle.documents.proofs.Common.{◌≡◌, ◌≢◌, ℕ, suc, [], ◌+◌, ◌-◌, ◌*◌, ◌<◌, ◌≤◌, true, false, List, refl, sym, ap}
+use Rattle.documents.proofs.Common.{◌∙◌, arith, inl, inr, slice_get, is_some, option_and_then, unwrap_or, codes}
+use Rattle.documents.proofs.Common.{bytes_eq, nat_lt, if◌then◌else◌, position_from, false≢true, nat_tests}
+use Rattle.documents.proofs.Common.{get_or_from_slice_get, MOST_WIDGETS, Place, Content, SharedMarks, first_number}
+use Rattle.documents.proofs.Common.{number_of, names_of, known_marks, known_tags, own_place, shared_place, shown_mark}
+use Rattle.documents.proofs.Common.{is_word, MeanTheSame, shown_meanings, word_value, new_mark, index_fault}
+use Rattle.documents.proofs.Common.{at_position, literal, is_same, found_tag, Document, Parts, SharedMark, Widget}
+use Rattle.documents.proofs.Common.{mark_of, placed, widget_at, key_named, AreMarked, Stands, mark_number, mark_place}
+use Rattle.documents.proofs.Common.{meanings, place_of, tag_flags, tag_number, Gives, shown, shown_flags, view_end}
+use Rattle.documents.proofs.Common.{view_start, IfOk, Option, None, Some, Result, Ok, Err, option_map, get_or, ◌==◌}
 use Rattle.std.specs.Str.{chars}
-use Rattle.std.specs.FinMap as finite
 use Rattle.index_grammar.specs.declared.faults.IndexFault.{IndexFault}
-use Rattle.index_grammar.specs.declared.faults.IndexFault.TheVariants as index
-use Rattle.text_index.specs.Views as view
 use Rattle.text_index.proofs.MeaningLaws.{word_value-same}
 use Rattle.documents.proofs.PartsLaws.{Sits}
 use Rattle.documents.proofs.PlacedLaws.{found_mark, marked-there}
 use Rattle.documents.proofs.ViewLaws.{IsSeen, end-is, end_in, flags-is, shown-is, start-is, start_in}
+use Rattle.std.specs.FinMap as finite
+use Rattle.index_grammar.specs.declared.faults.IndexFault.TheVariants as index
+use Rattle.text_index.specs.Views as view
 
 pub insert_bytes : literal "insert" ≡ codes "insert"
 unfolding chars
@@ -190,11 +190,11 @@ module _ (parts : Parts) (document : Document) (place slot : ℕ) (stands : Stan
       text word) (sym (shown-is parts document place slot stands sits))
       ∙ word_value-same is_word _ _ (shown document widget) word meanings-same
 
-pub place-found : (parts : Parts) (document : Document) (place slot : ℕ) (content : Content) (first behind : ℕ)
+pub place-found : {parts : Parts} {document : Document} {place slot : ℕ} {content : Content} {first behind : ℕ}
     (word : List ℕ) → IsSeen parts document place slot content first behind
     → word_value is_word (shown_meanings parts.marks.marks parts.tags.tags slot content first behind)
     (view.shown content first behind) word ≡ place_of document (widget_at document place) word
-place-found parts document place slot content first behind word seen =
+place-found {parts} {document} {place} {slot} word seen =
     (λ i. word_value is_word (shown_meanings parts.marks.marks parts.tags.tags slot (seen.held i) (seen.starts i)
     (seen.ends i)) (view.shown (seen.held i) (seen.starts i) (seen.ends i)) word)
     ∙ place-is parts document place slot seen.stands seen.sits word

@@ -1,20 +1,20 @@
 -- The slots and the keys of tag lists.
-use Rattle.documents.proofs.Words.{◌≡◌, ℕ, true, false, ◌||◌, ◌+◌, List, [], ◌∷◌, ◌++◌, Option, None, Some, map, length}
-use Rattle.documents.proofs.Words.{get_or, refl, sym, ap, ap₂, subst, ◌∙◌, arith, get_or-append-add, option_map, ◌==◌}
-use Rattle.documents.proofs.Words.{IsScalar, All, All-cons, All-head, All-map, All-nil, All-tail, or_left, or_right}
-use Rattle.documents.proofs.Words.{get_or_append_left, list_any-append, sum_by-cons, bytes_eq-Decides, Named, AreTags}
-use Rattle.documents.proofs.Words.{Tag, Tags, names_of, known_tags, Key, keys_of, key_named, key_pairs, keys_named}
-use Rattle.documents.proofs.Words.{AreKnown, AreSeats, SlottedText, Pair, all_names, listed_names, with_name}
-use Rattle.documents.proofs.Words.{with_names, piece_of, slots_named, with_found, keyed_text, is_among, is_same, Widget}
-use Rattle.documents.proofs.Words.{KeyedText}
-use Rattle.std.proofs.Common.{slice_get, length-append, IfSome, bytes_eq, if◌then◌else◌}
-use Rattle.std.specs.FinSet as set
+use Rattle.documents.proofs.Common.{◌≡◌, ℕ, true, false, ◌||◌, ◌+◌, List, [], ◌∷◌, ◌++◌, Option, None, Some, map}
+use Rattle.documents.proofs.Common.{length, get_or, refl, sym, ap, ap₂, subst, ◌∙◌, arith, get_or-append-add}
+use Rattle.documents.proofs.Common.{option_map, ◌==◌, IsScalar, All, All-cons, All-head, All-map, All-nil, All-tail}
+use Rattle.documents.proofs.Common.{or_left, or_right, get_or_append_left, list_any-append, sum_by-cons}
+use Rattle.documents.proofs.Common.{bytes_eq-Decides, Named, AreTags, Tag, Tags, names_of, known_tags, Key, keys_of}
+use Rattle.documents.proofs.Common.{key_named, key_pairs, keys_named, AreKnown, AreSeats, SlottedText, Pair, all_names}
+use Rattle.documents.proofs.Common.{listed_names, with_name, with_names, piece_of, slots_named, with_found, keyed_text}
+use Rattle.documents.proofs.Common.{is_among, is_same, Widget, KeyedText, slice_get, length-append, IfSome, bytes_eq}
+use Rattle.documents.proofs.Common.{if◌then◌else◌}
 use Rattle.edit_ops.specs.Insertions.{total}
-use Rattle.command_effects.specs.Lists as texts
 use Rattle.documents.proofs.BridgeLaws.{keys_of-empty, keys_of-set_slot}
 use Rattle.documents.proofs.KnownLaws.{IsKnownPiece, known-named}
 use Rattle.documents.proofs.LookupLaws.{among-looked}
 use Rattle.documents.proofs.SlotLaws.{slot_for-named}
+use Rattle.std.specs.FinSet as set
+use Rattle.command_effects.specs.Lists as texts
 
 -- a name of a tag has a slot for each widget
 pub slot_found : (name : List ℕ) (tags : List Tag) (widget : ℕ) → is_among name (names_of tags) ≡ true →

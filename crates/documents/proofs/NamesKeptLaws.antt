@@ -1,19 +1,19 @@
 -- Edits leave a document its widgets, by their names.
-use Rattle.documents.proofs.Words.{◌≡◌, ℕ, ◌+◌, ◌-◌, ◌==◌, true, false, List, [], ◌∷◌, ◌++◌, Option, Some, None, map}
-use Rattle.documents.proofs.Words.{length, refl, ◌∙◌, LimitTable, Right, Place, Action, EditKind, next_redo, next_undo}
-use Rattle.documents.proofs.Words.{Span, in_spans, clipped, redo_end, undo_end, Empty, TooManyMarks, TooManyTags}
-use Rattle.documents.proofs.Words.{Settings, Pair, total, with_name, is_among, is_same, literal, delete_spans}
-use Rattle.documents.proofs.Words.{deleted_runs, last_bare, replace_span, with_clipped, Document, Widget, KeyedCell}
-use Rattle.documents.proofs.Words.{characters, KeyedText, keys_between, keys_or, widget_drawn, widget_moved}
-use Rattle.documents.proofs.Words.{with_action, with_bare, with_cells, with_tag, with_text, with_texts, without_cells}
-use Rattle.documents.proofs.Words.{without_span, without_spans, set_found, with_current, with_insert, with_mark}
-use Rattle.documents.proofs.Words.{with_shared, with_widget, key_of, widget_set, with_settings, answered, refused}
-use Rattle.documents.proofs.Words.{spans_shown, action_again, action_back, edit_redo, edit_undo, group_again}
-use Rattle.documents.proofs.Words.{group_back, redo_found, redone, text_back, undo_found, undone, with_end, add_spans}
-use Rattle.documents.proofs.Words.{remove_spans, insert_at, keyed_text, tags_with, is_idle, view_end, window_names}
-use Rattle.std.proofs.Common.{nat_le, nat_lt, slice_range, if◌then◌else◌}
-use Rattle.undo_stack.specs.declared.actions.EditKind.TheVariants as kind
+use Rattle.documents.proofs.Common.{◌≡◌, ℕ, ◌+◌, ◌-◌, ◌==◌, true, false, List, [], ◌∷◌, ◌++◌, Option, Some, None, map}
+use Rattle.documents.proofs.Common.{length, refl, subst, ◌∙◌, replays, LimitTable, Right, Place, Action, EditKind, Span}
+use Rattle.documents.proofs.Common.{in_spans, clipped, redo_end, undo_end, Empty, TooManyMarks, TooManyTags, Settings}
+use Rattle.documents.proofs.Common.{Pair, total, with_name, is_among, is_same, literal, delete_spans, deleted_runs}
+use Rattle.documents.proofs.Common.{last_bare, replace_span, with_clipped, Document, Widget, KeyedCell, characters}
+use Rattle.documents.proofs.Common.{KeyedText, keys_between, keys_or, widget_drawn, widget_moved, with_action}
+use Rattle.documents.proofs.Common.{with_bare, with_cells, with_tag, with_text, with_texts, without_cells, without_span}
+use Rattle.documents.proofs.Common.{without_spans, set_found, with_current, with_insert, with_mark, with_shared}
+use Rattle.documents.proofs.Common.{with_widget, key_of, widget_set, with_settings, answered, refused, spans_shown}
+use Rattle.documents.proofs.Common.{action_again, edit_redo, edit_undo, group_again, group_back, text_back, with_end}
+use Rattle.documents.proofs.Common.{add_spans, remove_spans, insert_at, keyed_text, tags_with, view_end, window_names}
+use Rattle.documents.proofs.Common.{nat_le, nat_lt, slice_range, if◌then◌else◌}
+use Rattle.documents.proofs.BackLaws.{again-back, redo-carried, undo-carried}
 use Rattle.documents.proofs.CarriedLaws.{carried-limited}
+use Rattle.undo_stack.specs.declared.actions.EditKind.TheVariants as kind
 
 -- a document with the widgets of another one, by their names
 abbrev pub HasNamesOf : Document → Document → Type 0
@@ -184,15 +184,6 @@ remove-kept document widget name places =
 text-back : (at : ℕ) (text : List ℕ) (document : Document) → HasNamesOf document (text_back at text document)
 text-back at text document = cells-put at _ document
 
-back-kept : (action : Action) (document : Document) → HasNamesOf document (action_back action document)
-back-kept action document =
-    elim action.inserts as
-    (λ b. HasNamesOf document (if b then without_cells action.at (action.at + length action.text) document
-    else text_back action.at action.text document)) [
-      | true ↦ cells-out action.at (action.at + length action.text) document
-      | false ↦ text-back action.at action.text document
-    ]
-
 again-kept : (action : Action) (document : Document) → HasNamesOf document (action_again action document)
 again-kept action document =
     elim action.inserts as
@@ -202,50 +193,23 @@ again-kept action document =
       | false ↦ cells-out action.at (action.at + length action.text) document
     ]
 
-group-back-kept : (group : List Action) (document : Document) → HasNamesOf document (group_back group document)
-group-back-kept [] document = refl
-group-back-kept (action ∷ actions) document =
-    back-kept action (group_back actions document) ∙ group-back-kept actions document
-
 group-again-kept : (group : List Action) (document : Document) → HasNamesOf document (group_again group document)
 group-again-kept [] document = refl
 group-again-kept (action ∷ actions) document =
     group-again-kept actions (action_again action document) ∙ again-kept action document
 
+group-back-kept : (group : List Action) (document : Document) → HasNamesOf document (group_back group document)
+group-back-kept group document =
+    subst (HasNamesOf document) (again-back group document) (group-again-kept (replays true group) document)
+
 end-kept : (widget : Widget) (end : Option ℕ) (document : Document) → HasNamesOf document (with_end widget end document)
 end-kept widget None document = refl
 end-kept widget (Some at) document = clipped-kept widget (Some (record widget.insert { offset = at })) document
 
-undo-found-kept : (document : Document) (widget : Widget) (group : Option (List Action)) →
-    HasNamesOf document (undo_found document widget group).document
-undo-found-kept document widget None = refl
-undo-found-kept document widget (Some group) =
-    elim (is_idle document widget) as (λ b. HasNamesOf document (if b then document else undone widget group document)) [
-      | true ↦ refl
-      | false ↦ end-kept widget (undo_end group) (group_back group document) ∙ group-back-kept group document
-    ]
-
 pub undo-kept : (document : Document) (widget : Widget) → HasNamesOf document (edit_undo document widget).document
-undo-kept document widget =
-    elim document.undo as (λ b. HasNamesOf document (if b then undo_found document widget (next_undo document.history)
-    else answered document Empty).document) [
-      | true ↦ undo-found-kept document widget (next_undo document.history)
-      | false ↦ refl
-    ]
-
-redo-found-kept : (document : Document) (widget : Widget) (group : Option (List Action)) →
-    HasNamesOf document (redo_found document widget group).document
-redo-found-kept document widget None = refl
-redo-found-kept document widget (Some group) =
-    elim (is_idle document widget) as (λ b. HasNamesOf document (if b then document else redone widget group document)) [
-      | true ↦ refl
-      | false ↦ end-kept widget (redo_end group) (group_again group document) ∙ group-again-kept group document
-    ]
+undo-kept document widget = undo-carried (HasNamesOf document) document widget refl (λ group _.
+    end-kept widget (undo_end group) (group_back group document) ∙ group-back-kept group document)
 
 pub redo-kept : (document : Document) (widget : Widget) → HasNamesOf document (edit_redo document widget).document
-redo-kept document widget =
-    elim document.undo as (λ b. HasNamesOf document (if b then redo_found document widget (next_redo document.history)
-    else answered document Empty).document) [
-      | true ↦ redo-found-kept document widget (next_redo document.history)
-      | false ↦ refl
-    ]
+redo-kept document widget = redo-carried (HasNamesOf document) document widget refl (λ group _.
+    end-kept widget (redo_end group) (group_again group document) ∙ group-again-kept group document)

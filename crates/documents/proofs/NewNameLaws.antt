@@ -1,9 +1,9 @@
 -- The names of the widgets that a document has after a command.
-use Rattle.documents.proofs.Words.{◌≡◌, ℕ, ◌<◌, ◌||◌, Bool, true, false, List, [], ◌∷◌, ◌++◌, length, refl, sym, ap}
-use Rattle.documents.proofs.Words.{◌∙◌, arith, ◌⊎◌, inl, inr, length-append, length-map, map-append, bytes_eq-Decides}
-use Rattle.documents.proofs.Words.{LimitTable, separated, Settings, is_among, is_same, Document, Widget, is_window_name}
-use Rattle.documents.proofs.Words.{spans_shown, insertion_offset, window_names, new_widget, with_peer}
-use Rattle.std.proofs.Common.{if◌then◌else◌}
+use Rattle.documents.proofs.Common.{◌≡◌, ℕ, ◌<◌, ◌||◌, Bool, true, false, List, [], ◌∷◌, ◌++◌, length, refl, sym, ap}
+use Rattle.documents.proofs.Common.{◌∙◌, arith, ◌⊎◌, inl, inr, length-append, length-map, map-append, bytes_eq-Decides}
+use Rattle.documents.proofs.Common.{LimitTable, separated, Settings, is_among, is_same, Document, Widget}
+use Rattle.documents.proofs.Common.{is_window_name, spans_shown, insertion_offset, window_names, new_widget, with_peer}
+use Rattle.documents.proofs.Common.{if◌then◌else◌}
 use Rattle.command_effects.proofs.CountLaws.{among-append}
 use Rattle.documents.proofs.CarriedLaws.{IsCarried, carried-reordered}
 use Rattle.documents.proofs.NamesKeptLaws.{HasNamesOf, add-kept, delete-kept, insert-kept, mark-kept, redo-kept}

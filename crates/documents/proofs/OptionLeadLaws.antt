@@ -1,14 +1,13 @@
 -- Options that still keep all actions, and widgets that come and go, leave what a document leads back to; and so it
 -- begins.
-use Rattle.documents.proofs.Words.{◌≡◌, ℕ, ◌<◌, ◌≤◌, Bool, true, false, cond, List, [], ◌∷◌, map, length, refl, sym, ap}
-use Rattle.documents.proofs.Words.{ap₂, ◌∙◌, arith, subst, true≢false, unwrap_or, if◌then◌else◌, All, AllByRecursion}
-use Rattle.documents.proofs.Words.{length-map, map-append, All-append, All-cons, All-nil, All-tail, ends_in_newline}
-use Rattle.documents.proofs.Words.{LimitTable, lines, FitsText, reverted_groups, History, limit_of, limited, no_history}
-use Rattle.documents.proofs.Words.{AreAnchored, text-end-begins, DocumentSettings, Settings, history_under, is_behind}
-use Rattle.documents.proofs.Words.{is_same, Document, Widget, KeyedCell, characters, AreLines, settings_of, widget_set}
-use Rattle.documents.proofs.Words.{with_settings, IsPlaced, IsWellFormedDocument, is_kept, new_widget, with_peer}
-use Rattle.documents.proofs.Words.{without_selections}
-use Rattle.std.specs.Prelude.{filter}
+use Rattle.documents.proofs.Common.{◌≡◌, ℕ, ◌<◌, ◌≤◌, Bool, true, false, cond, List, [], ◌∷◌, map, length, refl, sym}
+use Rattle.documents.proofs.Common.{ap, ap₂, ◌∙◌, arith, subst, true≢false, unwrap_or, if◌then◌else◌, All}
+use Rattle.documents.proofs.Common.{AllByRecursion, length-map, map-append, All-append, All-cons, All-nil, All-tail}
+use Rattle.documents.proofs.Common.{ends_in_newline, LimitTable, lines, FitsText, reverted_groups, History, limit_of}
+use Rattle.documents.proofs.Common.{limited, no_history, AreAnchored, text-end-begins, DocumentSettings, Settings}
+use Rattle.documents.proofs.Common.{history_under, is_behind, is_same, Document, Widget, KeyedCell, characters}
+use Rattle.documents.proofs.Common.{AreLines, settings_of, widget_set, with_settings, IsPlaced, IsWellFormedDocument}
+use Rattle.documents.proofs.Common.{is_kept, new_widget, with_peer, without_selections, filter}
 use Rattle.documents.specs.Widgets.{without_widgets}
 use Rattle.documents.proofs.LeadLaws.{Leads, Page, anchors_of}
 use Rattle.documents.proofs.WidgetLaws.{anchor-line, lines-anchored}

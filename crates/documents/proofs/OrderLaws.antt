@@ -1,14 +1,12 @@
 -- Tags that are raised or lowered: the names in their order, and the slots of names.
-use Rattle.documents.proofs.Words.{◌≡◌, ℕ, suc, Bool, true, false, cond, ◌||◌, List, [], ◌∷◌, ◌++◌, Option, None, Some}
-use Rattle.documents.proofs.Words.{Result, Ok, Err, length, refl, sym, ap, ap₂, ◌∙◌, true≢false, arith, IfSome, find}
-use Rattle.documents.proofs.Words.{bytes_eq, is_some, slice_get, if◌then◌else◌, false_from_ne_true, none-some}
-use Rattle.documents.proofs.Words.{same_Some, bytes_eq-Decides, AreApart, Moved, Neighbour, next_to, Tag, names_of}
-use Rattle.documents.proofs.Words.{slot_of, lowered, raised, is_among, is_same, AreApart-head, AreApart-tail}
-use Rattle.std.proofs.Common.{length-append}
-use Rattle.std.specs.Prelude.{option_map}
+use Rattle.documents.proofs.Common.{◌≡◌, ℕ, suc, Bool, true, false, cond, ◌||◌, List, [], ◌∷◌, ◌++◌, Option, None, Some}
+use Rattle.documents.proofs.Common.{Result, Ok, Err, length, refl, sym, ap, ap₂, ◌∙◌, true≢false, arith, IfSome, find}
+use Rattle.documents.proofs.Common.{bytes_eq, is_some, slice_get, if◌then◌else◌, false_from_ne_true, none-some}
+use Rattle.documents.proofs.Common.{same_Some, bytes_eq-Decides, AreApart, Moved, Neighbour, next_to, Tag, names_of}
+use Rattle.documents.proofs.Common.{slot_of, lowered, raised, is_among, is_same, AreApart-head, AreApart-tail}
+use Rattle.documents.proofs.Common.{length-append, option_map, is_named}
 use Rattle.name_list.specs.Moves.{put_before, put_behind, without}
 use Rattle.tag_table.specs.Priority as table
-use Rattle.tag_table.specs.Tags.{is_named}
 
 -- ---- names
 
@@ -125,32 +123,34 @@ slot-without name (tag ∷ tags) apart =
           ∙ slot-without name tags (AreApart-tail tag.name (names_of tags) apart)
     ] refl
 
--- a list with one tag put in somewhere
-data Put (tag : Tag) : List Tag → List Tag → Type 0 where
-  here : (tags : List Tag) → Put tag tags (tag ∷ tags)
-  behind : (first : Tag) (tags new : List Tag) → Put tag tags new → Put tag (first ∷ tags) (first ∷ new)
+-- a list with one thing put in somewhere
+data Put {A : Type 0} (x : A) : List A → List A → Type 0 where
+  here : (xs : List A) → Put x xs (x ∷ xs)
+  behind : (first : A) (xs new : List A) → Put x xs new → Put x (first ∷ xs) (first ∷ new)
 
-put-push : (tag : Tag) (tags : List Tag) → Put tag tags (tags ++ tag ∷ [])
-put-push tag [] = here []
-put-push tag (first ∷ tags) = behind first tags (tags ++ tag ∷ []) (put-push tag tags)
+put-push : {A : Type 0} (x : A) (xs : List A) → Put x xs (xs ++ x ∷ [])
+put-push x [] = here []
+put-push x (first ∷ xs) = behind first xs (xs ++ x ∷ []) (put-push x xs)
 
-put-behind : (other : List ℕ) (tag : Tag) (tags : List Tag) → Put tag tags (put_behind (is_named other) tag tags)
-put-behind other tag [] = here []
-put-behind other tag (first ∷ tags) =
-    elim (bytes_eq other first.name) as (λ b. Put tag (first ∷ tags) (if b then first ∷ tag ∷ tags
-    else first ∷ put_behind (is_named other) tag tags)) [
-      | true ↦ behind first tags (tag ∷ tags) (here tags)
-      | false ↦ behind first tags (put_behind (is_named other) tag tags) (put-behind other tag tags)
+put-behind : {A : Type 0} (test : A → Bool) (x : A) (xs : List A) → Put x xs (put_behind test x xs)
+put-behind test x [] = here []
+put-behind test x (first ∷ xs) =
+    elim (test first) as (λ b. Put x (first ∷ xs) (if b then first ∷ x ∷ xs else first ∷ put_behind test x xs)) [
+      | true ↦ behind first xs (x ∷ xs) (here xs)
+      | false ↦ behind first xs (put_behind test x xs) (put-behind test x xs)
     ]
 
-put-before : (other : List ℕ) (tag : Tag) (tags : List Tag) → Put tag tags (put_before (is_named other) tag tags)
-put-before other tag [] = here []
-put-before other tag (first ∷ tags) =
-    elim (bytes_eq other first.name) as (λ b. Put tag (first ∷ tags) (if b then tag ∷ first ∷ tags
-    else first ∷ put_before (is_named other) tag tags)) [
-      | true ↦ here (first ∷ tags)
-      | false ↦ behind first tags (put_before (is_named other) tag tags) (put-before other tag tags)
+put-before : {A : Type 0} (test : A → Bool) (x : A) (xs : List A) → Put x xs (put_before test x xs)
+put-before test x [] = here []
+put-before test x (first ∷ xs) =
+    elim (test first) as (λ b. Put x (first ∷ xs) (if b then x ∷ first ∷ xs else first ∷ put_before test x xs)) [
+      | true ↦ here (first ∷ xs)
+      | false ↦ behind first xs (put_before test x xs) (put-before test x xs)
     ]
+
+length-put : {A : Type 0} {x : A} {xs new : List A} → Put x xs new → length new ≡ suc (length xs)
+length-put (here xs) = refl
+length-put (behind first xs new put) = ap suc (length-put put)
 
 slot-put_other : (name : List ℕ) (tag : Tag) (tags new : List Tag) → Put tag tags new → bytes_eq name tag.name ≡ false →
     slot_of name new ≡ slot_of name tags
@@ -268,7 +268,7 @@ raised-found name None tag tags new apart found is =
 raised-found name (Some other) tag tags new apart found is =
     let rest = without (is_named name) tags in
     ordered-next raised name other tag tags (put_behind (is_named other) tag rest) new apart found
-    (put-behind other tag rest)
+    (put-behind (is_named other) tag rest)
     (λ same. ap (λ b. if b then names_of tags
     else put_behind (is_same other) name (without (is_same name) (names_of tags))) (sym same))
     (λ distinct. names-behind other tag rest
@@ -295,7 +295,7 @@ lowered-found name None tag tags new apart found is =
 lowered-found name (Some other) tag tags new apart found is =
     let rest = without (is_named name) tags in
     ordered-next lowered name other tag tags (put_before (is_named other) tag rest) new apart found
-    (put-before other tag rest)
+    (put-before (is_named other) tag rest)
     (λ same. ap (λ b. if b then names_of tags
     else put_before (is_same other) name (without (is_same name) (names_of tags))) (sym same))
     (λ distinct. names-before other tag rest
@@ -324,26 +324,6 @@ length-without name (other ∷ names) among =
       | false ↦ λ rest. ap suc (length-without name names rest)
     ] among
 
-length-behind : (test : List ℕ → Bool) (name : List ℕ) (names : List (List ℕ)) →
-    length (put_behind test name names) ≡ suc (length names)
-length-behind test name [] = refl
-length-behind test name (other ∷ names) =
-    elim (test other) as (λ b. length (if b then other ∷ name ∷ names else other ∷ put_behind test name names)
-    ≡ suc (length (other ∷ names))) [
-      | true ↦ refl
-      | false ↦ ap suc (length-behind test name names)
-    ]
-
-length-before : (test : List ℕ → Bool) (name : List ℕ) (names : List (List ℕ)) →
-    length (put_before test name names) ≡ suc (length names)
-length-before test name [] = refl
-length-before test name (other ∷ names) =
-    elim (test other) as (λ b. length (if b then name ∷ other ∷ names else other ∷ put_before test name names)
-    ≡ suc (length (other ∷ names))) [
-      | true ↦ refl
-      | false ↦ ap suc (length-before test name names)
-    ]
-
 pub length-raised : (names : List (List ℕ)) (name : List ℕ) (other : Option (List ℕ)) → is_among name names ≡ true →
     length (raised names name other) ≡ length names
 length-raised names name None among = let h = length-without name names among in
@@ -352,7 +332,8 @@ length-raised names name (Some other) among =
     elim (bytes_eq name other) as (λ b. length (if b then names
     else put_behind (is_same other) name (without (is_same name) names)) ≡ length names) [
       | true ↦ refl
-      | false ↦ length-behind (is_same other) name (without (is_same name) names) ∙ length-without name names among
+      | false ↦ length-put (put-behind (is_same other) name (without (is_same name) names))
+          ∙ length-without name names among
     ]
 
 pub length-lowered : (names : List (List ℕ)) (name : List ℕ) (other : Option (List ℕ)) → is_among name names ≡ true →
@@ -362,5 +343,6 @@ length-lowered names name (Some other) among =
     elim (bytes_eq name other) as (λ b. length (if b then names
     else put_before (is_same other) name (without (is_same name) names)) ≡ length names) [
       | true ↦ refl
-      | false ↦ length-before (is_same other) name (without (is_same name) names) ∙ length-without name names among
+      | false ↦ length-put (put-before (is_same other) name (without (is_same name) names))
+          ∙ length-without name names among
     ]

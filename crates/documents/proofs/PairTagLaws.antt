@@ -1,26 +1,26 @@
 -- Texts that are put in get the keys of their lists, and this is told of them.
-use Rattle.documents.proofs.Words.{◌≡◌, ℕ, zero, suc, ◌+◌, ◌-◌, ◌<◌, ◌≤◌, ◌==◌, ◌&&◌, ◌||◌, true, false, List, [], ◌∷◌}
-use Rattle.documents.proofs.Words.{◌++◌, Option, None, Some, map, length, take, drop, get_or, refl, sym, ap, ap₂, ◌∙◌}
-use Rattle.documents.proofs.Words.{arith, subst, append_assoc, option_map, eq_by_cmp, eqb-true, false_from_ne_true}
-use Rattle.documents.proofs.Words.{drop_more, length-map, length-take-le, take-append-drop, take_more, sum_by-append}
-use Rattle.documents.proofs.Words.{sum_by-cons, get_or_from_slice_get, none-some, slice_get-get_or, inserted, removed}
-use Rattle.documents.proofs.Words.{Slots, slot_sets, slots_left_of, Cell, get_or-inserted_behind}
-use Rattle.documents.proofs.Words.{get_or-inserted_within, get_or-removed_before, get_or-removed_behind}
-use Rattle.documents.proofs.Words.{length-inserted, length-removed, EditKind, Named, AreTags, Tags, known_tags}
-use Rattle.documents.proofs.Words.{slots_or, putting, taking_out, joined, put-behind, put_all, replacing-is, Pair}
-use Rattle.documents.proofs.Words.{total, slots_named, with_found, Document, KeyedCell, Widget, KeyedText, common_keys}
-use Rattle.documents.proofs.Words.{keys_between, keys_or, with_action, with_cells, with_text, with_texts, AreSeats, Key}
-use Rattle.documents.proofs.Words.{Keys, key_cmp, key_named, key_pairs, keyed, keys_named, keys_of, AreKeysOf}
-use Rattle.documents.proofs.Words.{TellsPairs, TellsTags, run_changes, untagged, keyed_text, TagChange}
-use Rattle.std.proofs.Common.{length-append, if◌then◌else◌, slice_get}
-use Rattle.std.specs.FinSet as set
-use Rattle.documents.proofs.BridgeLaws.{and_none, key_tied, keys_of-empty, keys_of-has, keys_of-intersection}
-use Rattle.documents.proofs.BridgeLaws.{keys_of-set_slot, keys_same}
+use Rattle.documents.proofs.Common.{◌≡◌, ℕ, zero, suc, ◌+◌, ◌-◌, ◌<◌, ◌≤◌, ◌==◌, ◌&&◌, ◌||◌, true, false, List, [], ◌∷◌}
+use Rattle.documents.proofs.Common.{◌++◌, Option, None, Some, map, length, take, drop, get_or, refl, sym, ap, ap₂, ◌∙◌}
+use Rattle.documents.proofs.Common.{arith, subst, append_assoc, option_map, eq_by_cmp, eqb-true, false_from_ne_true}
+use Rattle.documents.proofs.Common.{drop_more, length-map, length-take-le, take-append-drop, take_more, sum_by-append}
+use Rattle.documents.proofs.Common.{sum_by-cons, get_or_from_slice_get, none-some, slice_get-get_or, inserted, removed}
+use Rattle.documents.proofs.Common.{Slots, slot_sets, slots_left_of, Cell, get_or-inserted_behind}
+use Rattle.documents.proofs.Common.{get_or-inserted_within, get_or-removed_before, get_or-removed_behind}
+use Rattle.documents.proofs.Common.{length-inserted, length-removed, EditKind, Named, AreTags, Tags, known_tags}
+use Rattle.documents.proofs.Common.{slots_or, putting, taking_out, joined, put-behind, put_all, replacing-is, Pair}
+use Rattle.documents.proofs.Common.{total, slots_named, with_found, Document, KeyedCell, Widget, KeyedText, common_keys}
+use Rattle.documents.proofs.Common.{keys_between, keys_or, with_action, with_cells, with_text, with_texts, AreSeats}
+use Rattle.documents.proofs.Common.{Key, Keys, key_cmp, key_named, key_pairs, keyed, keys_named, keys_of, AreKeysOf}
+use Rattle.documents.proofs.Common.{TellsPairs, TellsTags, run_changes, untagged, keyed_text, TagChange, length-append}
+use Rattle.documents.proofs.Common.{if◌then◌else◌, slice_get}
+use Rattle.documents.proofs.BridgeLaws.{key_tied, keys_of-empty, keys_of-has, keys_of-intersection, keys_of-set_slot}
+use Rattle.documents.proofs.BridgeLaws.{keys_same}
 use Rattle.documents.proofs.KeyLaws.{key_cmp_total}
-use Rattle.documents.proofs.LookupLaws.{has}
+use Rattle.documents.proofs.LookupLaws.{has, and_none}
 use Rattle.documents.proofs.PartsLaws.{length-keyed}
 use Rattle.documents.proofs.SlotLaws.{slot_for, slot_for-named}
 use Rattle.documents.proofs.TagsToldLaws.{tells-run, tells-then}
+use Rattle.std.specs.FinSet as set
 
 -- ---- cells that are put in
 
@@ -197,10 +197,8 @@ module _ (seats : List Named) (table : Tags) (seated : AreSeats seats) (sound : 
       ≡ set.intersection (keys_named seat.name names) (keys_of pairs slots)
   listed-shared names slots =
       keys_of-intersection seats table seated sound (slots_named table.tags seat.number names) slots
-      ∙ keys_same (set.intersection (keys_of pairs (slots_named table.tags seat.number names)) (keys_of pairs slots))
-      (set.intersection (keys_named seat.name names) (keys_of pairs slots)) (λ key.
-      set.contains-intersection key_cmp_total (keys_of pairs (slots_named table.tags seat.number names))
-      (keys_of pairs slots) key
+      ∙ keys_same (λ key. set.contains-intersection key_cmp_total
+      (keys_of pairs (slots_named table.tags seat.number names)) (keys_of pairs slots) key
       ∙ both key (slot_for seats table.tags key) refl
       ∙ sym (set.contains-intersection key_cmp_total (keys_named seat.name names) (keys_of pairs slots) key))
     where
@@ -449,7 +447,7 @@ module _ (seats : List Named) (table : Tags) (seated : AreSeats seats) (sound : 
       omega (arith, long, counted, ordered, inside)
 
   none-shared : keys_of ps (set.intersection set.empty right) ≡ set.empty
-  none-shared = keys_same (keys_of ps (set.intersection set.empty right)) set.empty (λ key.
+  none-shared = keys_same (λ key.
       ap (λ keys. set.contains keys key) (keys_of-intersection seats table seated sound set.empty right)
       ∙ set.contains-intersection key_cmp_total (keys_of ps set.empty) (keys_of ps right) key
       ∙ ap (λ keys. set.contains keys key && set.contains (keys_of ps right) key) (keys_of-empty ps)

@@ -1,14 +1,17 @@
 -- A document as it is kept: its characters, its widgets, and what of it a change leaves.
-use Rattle.documents.proofs.Words.{◌≡◌, ℕ, zero, suc, ◌+◌, ◌*◌, ◌<◌, true, List, [], ◌∷◌, length, map, refl, sym, ap}
-use Rattle.documents.proofs.Words.{subst, ◌∙◌, option_map, Some, get_or, arith, AllByRecursion, length-map, none-some}
-use Rattle.documents.proofs.Words.{same_Some, get_or_from_slice_get, slice_get-get_or, slice_get-map, Cell}
-use Rattle.documents.proofs.Words.{MOST_WIDGETS, Named, numbers_of, Tag, AreAnchored, Document, Parts, anchors_at}
-use Rattle.documents.proofs.Words.{characters, document_of, no_widget, whole, widget_at, widget_of, HasOwnMarks}
-use Rattle.documents.proofs.Words.{IsSeated, Stands, Key, key_pairs, keyed}
-use Rattle.std.proofs.Common.{slice_get, is_some}
+use Rattle.documents.proofs.Common.{◌≡◌, ℕ, zero, suc, ◌+◌, ◌*◌, ◌<◌, true, List, [], ◌∷◌, length, map, refl, sym, ap}
+use Rattle.documents.proofs.Common.{subst, ◌∙◌, option_map, Some, get_or, arith, AllByRecursion, length-map, none-some}
+use Rattle.documents.proofs.Common.{same_Some, get_or_from_slice_get, slice_get-get_or, slice_get-map, Cell}
+use Rattle.documents.proofs.Common.{MOST_WIDGETS, Named, numbers_of, Tag, AreAnchored, Document, Parts, anchors_at}
+use Rattle.documents.proofs.Common.{characters, document_of, no_widget, whole, widget_at, widget_of, HasOwnMarks}
+use Rattle.documents.proofs.Common.{Anchors, IsSeated, IsSound, Stands, Key, key_pairs, keyed, slice_get, is_some}
+use Rattle.documents.proofs.PlacedLaws.{placed-length}
 use Rattle.std.specs.FinMap as finite
 use Rattle.text_model.specs.Content as model
-use Rattle.documents.proofs.PlacedLaws.{placed-length}
+
+pub stand : {parts : Parts} {document : Document} → IsSound parts → document_of parts ≡ document →
+    Stands parts document
+stand sound is = record { sound = sound; is = is }
 
 -- ---- its characters and counts
 
@@ -88,9 +91,9 @@ widget-is parts document place seat is stands =
     ∙ get_or_from_slice_get (document_of parts).widgets place (widget_of parts.journal parts.content.marks seat)
     no_widget (mapped-at (widget_of parts.journal parts.content.marks) parts.seats.entries place seat stands)
 
-pub sits : (parts : Parts) (document : Document) (place slot : ℕ) → Stands parts document →
+pub sits : {parts : Parts} {document : Document} {slot : ℕ} (place : ℕ) → Stands parts document →
     slice_get (numbers_of parts.seats.entries) place ≡ Some slot → Sits parts document place slot
-sits parts document place slot stands is =
+sits {parts} {document} {slot} place stands is =
     let found = seat-at parts.seats.entries place slot is in
     let own = at-place (HasOwnMarks parts.content.marks) parts.seats.entries place found.0 stands.sound.kept.own found.1
     in
@@ -111,6 +114,13 @@ sits parts document place slot stands is =
       current = subst (λ n. is_some (finite.get parts.content.marks (2 * n + 1)) ≡ true) same own.current;
     }
 
+-- its anchors, as they are held
+pub anchors-there : {parts : Parts} {document : Document} {slot : ℕ} {held : List Anchors} (place : ℕ) →
+    Stands parts document → slice_get (numbers_of parts.seats.entries) place ≡ Some slot → held ≡ parts.journal.anchors
+    → slot < length held
+anchors-there {parts} {document} {slot} place stands number same =
+    subst (λ anchors. slot < length anchors) (sym same) (sits place stands number).anchors
+
 -- a widget that there is
 pub sits-shown : (parts : Parts) (document : Document) (place : ℕ) → Stands parts document →
     place < length document.widgets → (slot : ℕ) × Sits parts document place slot
@@ -118,7 +128,7 @@ sits-shown parts document place stands within =
     let numbers = numbers_of parts.seats.entries in
     let slot = get_or numbers place 0 in (
       slot,
-      sits parts document place slot stands (slice_get-get_or numbers place 0 (omega (
+      sits place stands (slice_get-get_or numbers place 0 (omega (
         arith,
         within,
         widgets-kept parts document stands.is,

@@ -1,14 +1,13 @@
 -- The marks of a table with where they stand in a store.
-use Rattle.documents.proofs.Words.{◌≡◌, ℕ, suc, ◌+◌, ◌≤◌, true, false, cond, List, [], ◌∷◌, length, map, refl, ap, ap₂}
-use Rattle.documents.proofs.Words.{◌∙◌, arith, inl, inr, ◌⊎◌, bytes_eq, find, slice_get, is_some, unwrap_or}
-use Rattle.documents.proofs.Words.{if◌then◌else◌, AllByRecursion, position_from, false≢true, length-map, none-some}
-use Rattle.documents.proofs.Words.{bytes_eq-Decides, Mark, SharedMarks, is_named, number_of, Gravity, Place, Marks}
-use Rattle.documents.proofs.Words.{map_marks, goes_behind, moved, AreMarked, IsMarked, is_own, is_same, SharedMark}
-use Rattle.documents.proofs.Words.{mark_of, placed, new_mark}
-use Rattle.std.specs.Prelude.{Option, None, Some, option_map}
-use Rattle.std.specs.FinMap as finite
-use Rattle.mark_table.specs.SharedMarks.{names_of, numbers_of}
+use Rattle.documents.proofs.Common.{◌≡◌, ℕ, suc, ◌+◌, ◌≤◌, true, false, cond, List, [], ◌∷◌, length, map, refl, ap, ap₂}
+use Rattle.documents.proofs.Common.{◌∙◌, arith, inl, inr, ◌⊎◌, bytes_eq, find, slice_get, is_some, unwrap_or}
+use Rattle.documents.proofs.Common.{if◌then◌else◌, AllByRecursion, position_from, false≢true, length-map, none-some}
+use Rattle.documents.proofs.Common.{bytes_eq-Decides, Mark, SharedMarks, number_of, Gravity, Place, Marks, map_marks}
+use Rattle.documents.proofs.Common.{goes_behind, moved, AreMarked, IsMarked, is_own, is_same, SharedMark, mark_of}
+use Rattle.documents.proofs.Common.{placed, new_mark, Option, None, Some, option_map}
+use Rattle.mark_table.specs.SharedMarks.{is_named, names_of, numbers_of}
 use Rattle.text_model.proofs.PlaceLaws.{get-map_marks}
+use Rattle.std.specs.FinMap as finite
 
 -- a mark that is there moves, and stays there
 pub mark_of-moved : (f : Place → Place) (marks : Marks) (number : ℕ) → is_some (finite.get marks number) ≡ true →
@@ -34,6 +33,11 @@ is_there : (found : Option Place) (gravity : Gravity) → option_map (λ (place 
     ≡ Some gravity → is_some found ≡ true
 is_there None gravity is = absurd (none-some gravity is)
 is_there (Some place) gravity is = refl
+
+-- what is there is what stands there
+pub there_is : (found : Option Place) → is_some found ≡ true → found ≡ Some (unwrap_or found new_mark)
+there_is None none = absurd (false≢true none)
+there_is (Some place) there = refl
 
 -- a mark of the table is in the store
 pub marked-there : (places : Marks) (mark : Mark) → IsMarked places mark →

@@ -1,22 +1,21 @@
 -- A document after spans of what a widget shows are deleted.
-use Rattle.documents.proofs.Words.{◌≡◌, ℕ, ◌+◌, ◌-◌, ◌<◌, ◌≤◌, Bool, true, false, List, [], ◌∷◌, Ok, map, length, take}
-use Rattle.documents.proofs.Words.{drop, ◌++◌, refl, sym, ap, ap₂, subst, ◌∙◌, arith, All, All-append, All-drop}
-use Rattle.documents.proofs.Words.{All-map, All-take, Cell, ClearTags, IsDocument, LimitTable, changed, after_step}
-use Rattle.documents.proofs.Words.{without_slots, characters-without_slots, length-changed, EditKind, Delete}
-use Rattle.documents.proofs.Words.{AreAnchored, delete_set, deleted, in_spans, removed_spans, runs_below, removed_span}
-use Rattle.documents.proofs.Words.{State, SpanFits, Span, deleted-kept, deleted-runs, Empty, recording_of}
-use Rattle.documents.proofs.Words.{delete_places, delete_spans, deleted_runs, last_bare, Document, Parts, Widget}
-use Rattle.documents.proofs.Words.{document_of, widget_at, with_bare, without_spans, HasKnownSlots, Stands, answered}
-use Rattle.documents.proofs.Words.{spans_shown, is_idle}
-use Rattle.std.proofs.Common.{slice_range, if◌then◌else◌}
-use Rattle.text_model.specs.Content as model
+use Rattle.documents.proofs.Common.{◌≡◌, ℕ, ◌+◌, ◌-◌, ◌<◌, ◌≤◌, Bool, true, false, List, [], ◌∷◌, Ok, map, length, take}
+use Rattle.documents.proofs.Common.{drop, ◌++◌, refl, sym, ap, ap₂, subst, ◌∙◌, arith, All, All-append, All-drop}
+use Rattle.documents.proofs.Common.{All-map, All-take, Cell, ClearTags, IsDocument, LimitTable, changed, after_step}
+use Rattle.documents.proofs.Common.{without_slots, characters-without_slots, length-changed, EditKind, Delete}
+use Rattle.documents.proofs.Common.{AreAnchored, delete_set, deleted, in_spans, removed_spans, runs_below, removed_span}
+use Rattle.documents.proofs.Common.{State, SpanFits, Span, deleted-kept, deleted-runs, Empty, recording_of}
+use Rattle.documents.proofs.Common.{delete_places, delete_spans, deleted_runs, last_bare, Document, Parts, Widget}
+use Rattle.documents.proofs.Common.{document_of, widget_at, with_bare, without_spans, HasKnownSlots, Stands, answered}
+use Rattle.documents.proofs.Common.{spans_shown, is_idle, slice_range, if◌then◌else◌}
 use Rattle.edit_ops.specs.Deletions.{AreApart}
 use Rattle.documents.proofs.ChangeLaws.{Leaves, does-changed}
 use Rattle.documents.proofs.KeyedLaws.{keyed-bare}
 use Rattle.documents.proofs.KnownLaws.{known-empty}
 use Rattle.documents.proofs.PartsLaws.{Sits, cells-kept, characters-kept, pairs_of}
 use Rattle.documents.proofs.StateLaws.{length-span, stands-span, state_in, with_state}
-use Rattle.documents.proofs.ViewLaws.{active-is, end-is, end_in, start-is, start_in, within-is}
+use Rattle.documents.proofs.ViewLaws.{IsSeen, active-is, end-is, end_in, start-is, start_in, within-is}
+use Rattle.text_model.specs.Content as model
 
 -- ---- spans that stand apart, the last first
 
@@ -140,7 +139,7 @@ leaves-deleted limits old state document place slot spans stands sits shows fit 
     ∙ ap₂ (λ rs d. without_spans Delete rs d) same_runs again in
     subst (λ (s : State). Leaves limits (with_state old s) document (Ok Empty) (delete_spans document widget spans))
     (sym is)
-    (does-changed limits old (with_state old made) document (delete_spans document widget spans) stands (record {
+    (does-changed stands (record {
       sound = rest.sound;
       is = ap (λ d. answered d Empty) (sym all_is);
       fits = λ fits. (deleted-kept limits.chars start end recording spans (state_in old)
@@ -151,16 +150,17 @@ leaves-deleted limits old state document place slot spans stands sits shows fit 
       seats = refl;
     }))
 
-pub leaves-places : (limits : LimitTable) (old : Parts) (state : State) (document : Document) (place slot start end : ℕ)
-    (places : List ℕ) (spans : List Span) → Stands old document → Sits old document place slot
-    → is_idle document (widget_at document place) ≡ false → start ≡ start_in old slot → end ≡ end_in old slot
-    → (spans ≡ spans_shown document (widget_at document place) places) × All (SpanFits (end_in old slot)) spans →
+pub leaves-places : {old : Parts} {state : State} {document : Document} {place slot start end : ℕ} {spans : List Span}
+    (limits : LimitTable) (places : List ℕ) → IsSeen old document place slot old.content start end
+    → is_idle document (widget_at document place) ≡ false
+    → (spans ≡ spans_shown document (widget_at document place) places) × All (SpanFits end) spans →
     state ≡ deleted (recording_of old.journal.settings) start end spans (state_in old)
     → Leaves limits (with_state old state) document (Ok Empty)
     (delete_places document (widget_at document place) places)
-leaves-places limits old state document place slot start end places spans stands sits active begins ends within is =
+leaves-places {old} {state} {document} {place} {slot} {spans = spans} limits places seen active within is =
     subst (λ ss. Leaves limits (with_state old state) document (Ok Empty)
     (delete_spans document (widget_at document place) ss)) within.0
-    (leaves-deleted limits old state document place slot spans stands sits
-    (active-is old document place slot stands sits active).1 within.1
-    (is ∙ ap₂ (λ s e. deleted (recording_of old.journal.settings) s e spans (state_in old)) begins ends))
+    (leaves-deleted limits old state document place slot spans seen.stands seen.sits
+    (active-is old document place slot seen.stands seen.sits active).1
+    (subst (λ n. All (SpanFits n) spans) seen.ends within.1)
+    (is ∙ ap₂ (λ s e. deleted (recording_of old.journal.settings) s e spans (state_in old)) seen.starts seen.ends))

@@ -1,17 +1,14 @@
 -- A document after texts have taken the place of cells, or where that is refused.
-use Rattle.documents.proofs.Words.{◌≡◌, ◌≢◌, ℕ, ◌+◌, ◌-◌, ◌*◌, ◌<◌, ◌≤◌, true, min, List, Ok, Err, map, length, refl}
-use Rattle.documents.proofs.Words.{sym, ap, ap₂, subst, ◌∙◌, arith, is_some, nat_lt, option_and_then, slice_get}
-use Rattle.documents.proofs.Words.{unwrap_or, All, false≢true, slice_get-map, Named, numbers_of, Tags, names_of}
-use Rattle.documents.proofs.Words.{MOST_CHARS, Place, LimitTable, Replace, inserted_texts, clipped, removed_span}
-use Rattle.documents.proofs.Words.{replaced_span, State, SlottedText, replaced-kept, Answer, Empty, Fault, Memory}
-use Rattle.documents.proofs.Words.{excess, length_replaced, new_mark, Pair, all_names, total, with_names, recording_of}
-use Rattle.documents.proofs.Words.{piece_of, replace_span, replaced, with_clipped, Document, Parts, Widget, document_of}
-use Rattle.documents.proofs.Words.{mark_of, widget_at, with_texts, without_span, Stands, with_insert, Change, answered}
-use Rattle.documents.proofs.Words.{refused, insertion_offset, tags_with}
-use Rattle.std.specs.Prelude.{None, Option, Result, Some, option_map}
-use Rattle.std.specs.FinMap as finite
-use Rattle.edit_ops.specs.Insertions as insertions
-use Rattle.edit_ops.specs.Removals as removals
+use Rattle.documents.proofs.Common.{◌≡◌, ◌≢◌, ℕ, ◌+◌, ◌-◌, ◌*◌, ◌<◌, ◌≤◌, min, List, Ok, Err, map, length, refl, sym}
+use Rattle.documents.proofs.Common.{ap, ap₂, subst, ◌∙◌, arith, nat_lt, option_and_then, slice_get, All, slice_get-map}
+use Rattle.documents.proofs.Common.{Named, numbers_of, Tags, names_of, MOST_CHARS, Place, LimitTable, Replace}
+use Rattle.documents.proofs.Common.{inserted_texts, clipped, removed_span, replaced_span, State, SlottedText}
+use Rattle.documents.proofs.Common.{replaced-kept, Answer, Empty, Fault, Memory, excess, length_replaced, Pair}
+use Rattle.documents.proofs.Common.{all_names, total, with_names, recording_of, piece_of, replace_span, replaced}
+use Rattle.documents.proofs.Common.{with_clipped, Document, Parts, Widget, document_of, mark_of, widget_at, with_texts}
+use Rattle.documents.proofs.Common.{without_span, Stands, with_insert, Change, answered, false, refused}
+use Rattle.documents.proofs.Common.{insertion_offset, is_idle, tags_with, Content, None, Option, Result, Some}
+use Rattle.documents.proofs.Common.{option_map}
 use Rattle.edit_ops.specs.Removals.{with_mark}
 use Rattle.edit_ops.proofs.ReplaceLaws.{found-within}
 use Rattle.documents.proofs.ChangeLaws.{Leaves, does-changed}
@@ -21,14 +18,14 @@ use Rattle.documents.proofs.KnownLaws.{IsKnownPiece}
 use Rattle.documents.proofs.MarkLaws.{leaves-insert}
 use Rattle.documents.proofs.NamedLaws.{keyed_piece, total-pieces}
 use Rattle.documents.proofs.PartsLaws.{Sits, cells-kept, pairs_of, sits, widget-is}
+use Rattle.documents.proofs.PlacedLaws.{there_is}
 use Rattle.documents.proofs.StateLaws.{length-span, length-texts, stands-span, stands-texts, state_in, with_state}
-use Rattle.documents.proofs.ViewLaws.{end_in, shown-length, start-is, start_in, within-is}
+use Rattle.documents.proofs.ViewLaws.{IsSeen, active-found, ends-found, length-found, start-found-is}
+use Rattle.std.specs.FinMap as finite
+use Rattle.edit_ops.specs.Insertions as insertions
+use Rattle.edit_ops.specs.Removals as removals
 
 -- ---- the widget's `insert`, which stays among the texts
-
-pub there_is : (found : Option Place) → is_some found ≡ true → found ≡ Some (unwrap_or found new_mark)
-there_is None none = absurd (false≢true none)
-there_is (Some place) there = refl
 
 abbrev done_well : Result Answer Fault
 done_well = Ok Empty
@@ -71,7 +68,7 @@ name-stays old new before after place slot sits stands same =
 pub sits-yet : (old new : Parts) (before after : Document) (place slot : ℕ) → Sits old before place slot →
     Stands new after → new.seats.entries ≡ old.seats.entries → Sits new after place slot
 sits-yet old new before after place slot seated stands same =
-    sits new after place slot stands
+    sits place stands
     (ap (λ (entries : List Named). slice_get (numbers_of entries) place) same
     ∙ slice_get-map (λ (s : Named). s.number) old.seats.entries place
     ∙ ap (option_map (λ (s : Named). s.number)) seated.stands ∙ ap Some seated.number)
@@ -115,16 +112,12 @@ stands-replaced limits parts document place slot from to pieces stands seated or
 -- ---- the whole command
 
 -- a place of the view, cut to its last character, is where texts go that are put in there
-cut-at : (parts : Parts) (document : Document) (place slot given : ℕ) → Stands parts document →
-    Sits parts document place slot → start_in parts slot < end_in parts slot
-    → min (start_in parts slot + given) (end_in parts slot - 1)
-    ≡ insertion_offset document (widget_at document place) given
-cut-at parts document place slot given stands sits shows =
-    let start = start_in parts slot in
-    let end = end_in parts slot in
+cut-at : {parts : Parts} {document : Document} {place slot start end : ℕ} {content : Content} (given : ℕ) →
+    IsSeen parts document place slot content start end → start < end
+    → min (start + given) (end - 1) ≡ insertion_offset document (widget_at document place) given
+cut-at {start = start} {end = end} given seen shows =
     (let h : min (start + given) (end - 1) ≡ start + min given ((end - start) - 1) = omega (arith, shows) in h)
-    ∙ sym (ap₂ (λ s n. s + min given (n - 1)) (start-is parts document place slot stands sits)
-    (shown-length parts document place slot stands sits))
+    ∙ ap₂ (λ s n. s + min given (n - 1)) (start-found-is seen) (sym (length-found seen))
 
 abbrev replacement_size : Document → ℕ → ℕ → List Pair → ℕ
 replacement_size document from to pairs = length document.cells - (to - from) + total pairs
@@ -134,43 +127,35 @@ replaced_at limits document widget from to pairs =
     replace_span limits document widget (insertion_offset document widget from) (insertion_offset document widget to)
     pairs
 
--- the offsets of two places of a view, behind whose last character none is, as they are held
-pub record AreCut (parts : Parts) (slot from to last first second : ℕ) : Type 0 where
-  pub shows : start_in parts slot < end_in parts slot
-  pub ordered : from ≤ to
-  pub bound_is : last ≡ end_in parts slot - 1
-  pub first_is : first ≡ start_in parts slot + from
-  pub second_is : second ≡ start_in parts slot + to
-
-pub leaves-replaced : (limits : LimitTable) (old : Parts) (tags : Tags) (state : State) (document : Document)
-    (place slot from to last first second : ℕ) (pairs : List Pair) → Stands old document
-    → Sits old document place slot → AreCut old slot from to last first second →
-    IsListed limits old.tags tags pairs (length_replaced (length old.content.cells) last first second)
-    → state ≡ removals.replaced (recording_of old.journal.settings) (2 * slot) last first second
+pub leaves-replaced : {limits : LimitTable} {old : Parts} {tags : Tags} {state : State} {document : Document}
+    {place slot start end : ℕ} {pairs : List Pair} (from to : ℕ) → IsSeen old document place slot old.content start end
+    → is_idle document (widget_at document place) ≡ false → from ≤ to → IsListed limits old.tags tags pairs
+    (length_replaced (length old.content.cells) (end - 1) (start + from) (start + to))
+    → state ≡ removals.replaced (recording_of old.journal.settings) (2 * slot) (end - 1) (start + from) (start + to)
     (map (piece_of tags.tags slot) pairs) (state_in old)
     → Leaves limits (with_state (with_tags tags old) state) document (Ok Empty)
     (replaced_at limits document (widget_at document place) from to pairs)
-leaves-replaced limits old tags state document place slot from to last first second pairs stands seated cut listed is =
+leaves-replaced {limits} {old} {tags} {state} {document} {place} {slot} {start} {end} {pairs} from to seen active
+    ordered listed is =
+    let last = end - 1 in
+    let first = start + from in
+    let second = start + to in
+    let stands = seen.stands in
+    let seated = seen.sits in
     let widget : Widget = widget_at document place in
     let recording = recording_of old.journal.settings in
     let pieces : List SlottedText = map (piece_of tags.tags slot) pairs in
     let made : State = removals.replaced recording (2 * slot) last first second pieces (state_in old) in
     let len = length old.content.cells in
     let size = length_replaced len last first second in
-    let within = within-is old document place slot stands seated in
-    let shows = cut.shows in
-    let ordered = cut.ordered in
-    let last_is = cut.bound_is in
-    let first_is = cut.first_is in
-    let second_is = cut.second_is in
+    let within = ends-found seen in
+    let shows = active-found seen active in
     let long = cells-kept old document stands.is in
-    let begins : min first last ≡ insertion_offset document widget from = ap₂ min first_is last_is
-    ∙ cut-at old document place slot from stands seated shows in
-    let ends : min second last ≡ insertion_offset document widget to = ap₂ min second_is last_is
-    ∙ cut-at old document place slot to stands seated shows in
-    let below : last < len = omega (arith, last_is, within, shows) in
+    let begins = cut-at from seen shows in
+    let ends = cut-at to seen shows in
+    let below : last < len = omega (arith, within, shows) in
     let inside : min second last < len = omega (arith, below) in
-    let straight : first ≤ second = omega (arith, ordered, first_is, second_is) in
+    let straight : first ≤ second = omega (arith, ordered) in
     let straight_cut : min first last ≤ min second last = omega (arith, straight) in
     let counted = total-pieces tags.tags slot pairs in
     let room = excess-none limits (length (with_names (names_of old.tags.tags) (all_names pairs))) (size + total pairs)
@@ -199,8 +184,7 @@ leaves-replaced limits old tags state document place slot from to last first sec
     } in
     subst (λ (s : State). Leaves limits (with_state (with_tags tags old) s) document (Ok Empty)
     (replaced_at limits document widget from to pairs)) (sym is)
-    (does-changed limits old (with_state (with_tags tags old) made) document
-    (replaced_at limits document widget from to pairs) stands (record {
+    (does-changed stands (record {
       sound = all.sound;
       is = limits-made limits document (length (tags_with document pairs)) size_made (answered result Empty) within_both
           ∙ ap (λ d. answered d Empty) (sym all_is);
@@ -212,20 +196,18 @@ leaves-replaced limits old tags state document place slot from to last first sec
       seats = refl;
     }))
 
-pub replace-left : (limits : LimitTable) (old : Parts) (document : Document) (place slot from to last first second : ℕ)
-    (pairs : List Pair) (fault : Fault) → Stands old document
-    → Sits old document place slot → AreCut old slot from to last first second
+pub replace-left : {old : Parts} {document : Document} {place slot start end : ℕ} {fault : Fault} (limits : LimitTable)
+    (from to : ℕ) (pairs : List Pair) → IsSeen old document place slot old.content start end
+    → is_idle document (widget_at document place) ≡ false
     → excess limits (length (with_names (names_of old.tags.tags) (all_names pairs)))
-    (length_replaced (length old.content.cells) last first second + total pairs) ≡ Some fault
+    (length_replaced (length old.content.cells) (end - 1) (start + from) (start + to) + total pairs) ≡ Some fault
     → replaced_at limits document (widget_at document place) from to pairs ≡ refused document fault
-replace-left limits old document place slot from to last first second pairs fault stands seated cut is =
+replace-left {old} {document} {place} {fault = fault} limits from to pairs seen active is =
     let widget : Widget = widget_at document place in
-    let long = cells-kept old document stands.is in
-    let begins : min first last ≡ insertion_offset document widget from = ap₂ min cut.first_is cut.bound_is
-    ∙ cut-at old document place slot from stands seated cut.shows in
-    let ends : min second last ≡ insertion_offset document widget to = ap₂ min cut.second_is cut.bound_is
-    ∙ cut-at old document place slot to stands seated cut.shows in
-    let names = ap (λ (d : Document). d.tags) stands.is in
+    let long = cells-kept old document seen.stands.is in
+    let begins = cut-at from seen (active-found seen active) in
+    let ends = cut-at to seen (active-found seen active) in
+    let names = ap (λ (d : Document). d.tags) seen.stands.is in
     limits-refused limits document (length (tags_with document pairs))
     (replacement_size document (insertion_offset document widget from) (insertion_offset document widget to) pairs)
     (answered (replaced document widget (insertion_offset document widget from) (insertion_offset document widget to)

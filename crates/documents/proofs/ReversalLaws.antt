@@ -1,39 +1,33 @@
 -- A document after a group is undone or redone.
-use Rattle.documents.proofs.Words.{◌≡◌, ℕ, ◌+◌, ◌*◌, ◌<◌, ◌≤◌, ◌&&◌, Bool, true, false, List, [], ◌∷◌, Option, None}
-use Rattle.documents.proofs.Words.{Some, Ok, length, refl, sym, ap, subst, ◌∙◌, arith, true≢false, slice_range}
-use Rattle.documents.proofs.Words.{bytes_eq, nat_lt, nat_le, option_and_then, IfSome, if◌then◌else◌, IsScalar, All}
-use Rattle.documents.proofs.Words.{and_parts, nat_tests, length-map, All-head, All-tail, option_and_then_some}
-use Rattle.documents.proofs.Words.{same_Some, Cell, MOST_CHARS, Place, Content, AreLimits, LimitTable, inserted}
-use Rattle.documents.proofs.Words.{removed, length-inserted, length-removed, FitsText, put_in, take_out, repeated}
-use Rattle.documents.proofs.Words.{repeated_group, reverted, reverted_group, after_redo, after_undo, limit_of}
-use Rattle.documents.proofs.Words.{next_redo, next_undo, counted_down, counted_up, times, Action, redo-goes, undo-goes}
-use Rattle.documents.proofs.Words.{action_redone, action_undone, group_redone, group_undone, log_redone, log_undone}
-use Rattle.documents.proofs.Words.{put_back, redo_end, taken_back, undo_end, Log, State, group-redone-text}
-use Rattle.documents.proofs.Words.{group-undone-text, guarded, redone-kept, redone-text, undone-kept, shared_slots}
-use Rattle.documents.proofs.Words.{Empty, recording_of, with_clipped, Document, Parts, Widget, document_of, widget_at}
-use Rattle.documents.proofs.Words.{keys_between, without_cells, Stands, answered, action_again, action_back, edit_redo}
-use Rattle.documents.proofs.Words.{edit_undo, group_again, group_back, redo_found, redone, text_back, undo_found}
-use Rattle.documents.proofs.Words.{undone, with_end, is_idle, IsWellFormedDocument}
-use Rattle.std.specs.Prelude.{option_map}
-use Rattle.std.specs.FinMap as finite
-use Rattle.text_model.specs.Content as model
-use Rattle.edit_ops.specs.Reversals as edits
+use Rattle.documents.proofs.Common.{◌≡◌, ℕ, ◌+◌, ◌*◌, ◌<◌, ◌≤◌, ◌&&◌, true, false, List, [], ◌∷◌, Option, None}
+use Rattle.documents.proofs.Common.{guarded-holds, Some, Ok, length, refl, sym, ap, subst, ◌∙◌, arith, true≢false}
+use Rattle.documents.proofs.Common.{slice_range, bytes_eq, nat_lt, nat_le, option_and_then, IfSome, if◌then◌else◌}
+use Rattle.documents.proofs.Common.{IsScalar, All, and_parts, nat_tests, All-head, All-tail, option_and_then_some}
+use Rattle.documents.proofs.Common.{same_Some, MOST_CHARS, Place, Content, AreLimits, LimitTable, inserted, removed}
+use Rattle.documents.proofs.Common.{length-inserted, length-removed, FitsText, put_in, take_out, repeated}
+use Rattle.documents.proofs.Common.{repeated_group, reverted_group, after_redo, after_undo, limit_of, next_redo}
+use Rattle.documents.proofs.Common.{next_undo, counted_down, counted_up, times, Action, redo-goes, undo-goes}
+use Rattle.documents.proofs.Common.{action_redone, group_redone, group_undone, log_redone, log_undone, put_back}
+use Rattle.documents.proofs.Common.{redo_end, taken_back, undo_end, Log, State, group-redone-text, group-undone-text}
+use Rattle.documents.proofs.Common.{guarded, redone-kept, redone-text, undone-kept, shared_slots, Empty, recording_of}
+use Rattle.documents.proofs.Common.{with_clipped, Document, Parts, Widget, document_of, widget_at, keys_between}
+use Rattle.documents.proofs.Common.{without_cells, Stands, answered, action_again, edit_redo, edit_undo, group_again}
+use Rattle.documents.proofs.Common.{group_back, redone, text_back, undone, with_end, is_idle, IsWellFormedDocument}
+use Rattle.documents.proofs.Common.{replays, replayed, back-cons, All-append, All-cons, All-nil, option_map, back-end}
+use Rattle.documents.proofs.Common.{back-reverted, back-undone}
+use Rattle.documents.proofs.BackLaws.{again-back, redo-done, undo-done}
 use Rattle.documents.proofs.ChangeLaws.{Leaves, does-changed}
 use Rattle.documents.proofs.KnownLaws.{known-shared}
 use Rattle.documents.proofs.PartsLaws.{Sits}
 use Rattle.documents.proofs.ReplacementLaws.{insert-there, name-stays, sits-yet, stands-clipped}
 use Rattle.documents.proofs.StateLaws.{keys-put, stands-out, stands-put, state_in, with_log, with_state}
+use Rattle.documents.proofs.ViewLaws.{counted}
 use Rattle.documents.proofs.WellFormedLaws.{fits-kept}
+use Rattle.std.specs.FinMap as finite
+use Rattle.text_model.specs.Content as model
+use Rattle.edit_ops.specs.Reversals as edits
 
 -- ---- one action
-
--- a test that lets something through holds
-open_test : {A : Type 0} (test : Bool) (x y : A) → (if test then Some x else None) ≡ Some y → test ≡ true
-open_test true x y is = refl
-open_test false x y is = absurd (let h : None ≡ Some y = is in cc)
-
-count-characters : (content : Content) → length (model.characters content.cells) ≡ length content.cells
-count-characters content = length-map content.cells (λ (cell : Cell). cell.character)
 
 -- where a text can be put in
 record CanPut (limit at : ℕ) (text : List ℕ) (content : Content) : Type 0 where
@@ -44,9 +38,10 @@ can-put : (limit at : ℕ) (text found : List ℕ) (content : Content) →
     put_in limit at text (model.characters content.cells) ≡ Some found → CanPut limit at text content
 can-put limit at text found content is =
     let all = model.characters content.cells in
-    let count = count-characters content in
+    let count = counted content in
     let parts = and_parts (nat_lt at (length all)) (nat_le (length all + length text) limit)
-    (open_test (nat_lt at (length all) && nat_le (length all + length text) limit) (inserted at text all) found is) in
+    (guarded-holds (nat_lt at (length all) && nat_le (length all + length text) limit) (inserted at text all) found
+    is) in
     let first : at < length all = grind (arith, nat_tests, parts.0) in
     let second : length all + length text ≤ limit = grind (arith, nat_tests, parts.1) in
     record { within = omega (arith, first, count); short = omega (arith, second, count) }
@@ -55,16 +50,25 @@ can-take : (at : ℕ) (text found : List ℕ) (content : Content) →
     take_out at text (model.characters content.cells) ≡ Some found → at + length text < length content.cells
 can-take at text found content is =
     let all = model.characters content.cells in
-    let count = count-characters content in
+    let count = counted content in
     let parts = and_parts (nat_lt (at + length text) (length all))
     (bytes_eq (slice_range all at (at + length text)) text)
-    (open_test (nat_lt (at + length text) (length all) && bytes_eq (slice_range all at (at + length text)) text)
+    (guarded-holds (nat_lt (at + length text) (length all) && bytes_eq (slice_range all at (at + length text)) text)
     (removed at (at + length text) all) found is) in
     let first : at + length text < length all = grind (arith, nat_tests, parts.0) in
     omega (arith, first, count)
 
 abbrev AreScalars : List Action → Type 0
 AreScalars group = All (λ (action : Action). All IsScalar action.text) group
+
+scalars-back : (group : List Action) → AreScalars group → AreScalars (replays true group)
+scalars-back [] scalars = scalars
+scalars-back (action ∷ actions) scalars =
+    let P = λ (a : Action). All IsScalar a.text in
+    subst AreScalars (sym (back-cons action actions))
+    (All-append P (replays true actions) (replayed true action ∷ [])
+    (scalars-back actions (All-tail P action actions scalars))
+    (All-cons P (replayed true action) [] (All-head P action actions scalars) (All-nil P)))
 
 -- the parts before the group, of which edits change the state alone
 module _ (limit : ℕ) (parts : Parts) (bound : limit ≤ MOST_CHARS) where
@@ -104,36 +108,7 @@ module _ (limit : ℕ) (parts : Parts) (bound : limit ≤ MOST_CHARS) where
         | false ↦ stands-taken action.at action.text found state document stands
       ] is
 
-  stands-reverted : (action : Action) (found : List ℕ) (state : State) (document : Document) →
-      All IsScalar action.text → StandsAs state document →
-      reverted limit action (model.characters state.content.cells) ≡ Some found
-      → StandsAs (action_undone action state) (action_back action document)
-  stands-reverted action found state document scalars stands is =
-      elim action.inserts as (λ b. (if b then take_out action.at action.text (model.characters state.content.cells)
-      else put_in limit action.at action.text (model.characters state.content.cells)) ≡ Some found
-      → StandsAs (if b then taken_back action.at (action.at + length action.text) state
-      else put_back action.at action.text state)
-      (if b then without_cells action.at (action.at + length action.text) document
-      else text_back action.at action.text document)) [
-        | true ↦ stands-taken action.at action.text found state document stands
-        | false ↦ stands-back action.at action.text found state document scalars stands
-      ] is
-
   -- ---- groups
-
-  group-back : (group : List Action) (found : List ℕ) (state : State) (document : Document) → AreScalars group →
-      StandsAs state document
-      → reverted_group limit group (model.characters state.content.cells) ≡ Some found →
-      StandsAs (group_undone group state) (group_back group document)
-  group-back [] found state document scalars stands is = stands
-  group-back (action ∷ actions) found state document scalars stands is =
-      let P = λ (a : Action). All IsScalar a.text in
-      option_and_then_some (reverted limit action) (reverted_group limit actions (model.characters state.content.cells))
-      found is (λ between others one.
-      stands-reverted action found (group_undone actions state) (group_back actions document)
-      (All-head P action actions scalars)
-      (group-back actions between state document (All-tail P action actions scalars) stands others)
-      (ap (reverted limit action) (group-undone-text limit actions between state others) ∙ one))
 
   group-again : (group : List Action) (found : List ℕ) (state : State) (document : Document) → AreScalars group →
       StandsAs state document
@@ -148,6 +123,17 @@ module _ (limit : ℕ) (parts : Parts) (bound : limit ≤ MOST_CHARS) where
       (All-tail P action actions scalars)
       (stands-again action between state document (All-head P action actions scalars) stands one)
       (ap (repeated_group limit actions) (redone-text limit action between state one) ∙ others))
+
+  -- the actions that take a group back are made
+  group-back : (group : List Action) (found : List ℕ) (state : State) (document : Document) → AreScalars group →
+      StandsAs state document
+      → reverted_group limit group (model.characters state.content.cells) ≡ Some found →
+      StandsAs (group_undone group state) (group_back group document)
+  group-back group found state document scalars stands is =
+      subst (λ (made : State × Document). StandsAs made.0 made.1)
+      (λ i. (back-undone group state i, again-back group document i))
+      (group-again (replays true group) found state document (scalars-back group scalars) stands
+      (back-reverted limit group (model.characters state.content.cells) ∙ is))
 
 -- ---- where a group ends
 
@@ -186,7 +172,7 @@ put-end : (limit at : ℕ) (new text found : List ℕ) → put_in limit at new t
 put-end limit at new text found is =
     let test = nat_lt at (length text) && nat_le (length text + length new) limit in
     let parts = and_parts (nat_lt at (length text)) (nat_le (length text + length new) limit)
-    (open_test test (inserted at new text) found is) in
+    (guarded-holds test (inserted at new text) found is) in
     let first : at < length text = grind (arith, nat_tests, parts.0) in
     let made = guarded test (inserted at new text) found is in
     let long = length-inserted at new text (omega (arith, first)) in
@@ -198,22 +184,12 @@ take-end at gone text found is =
     let test = nat_lt (at + length gone) (length text) && bytes_eq (slice_range text at (at + length gone)) gone in
     let parts = and_parts (nat_lt (at + length gone) (length text))
     (bytes_eq (slice_range text at (at + length gone)) gone)
-    (open_test test (removed at (at + length gone) text) found is) in
+    (guarded-holds test (removed at (at + length gone) text) found is) in
     let first : at + length gone < length text = grind (arith, nat_tests, parts.0) in
     let made = guarded test (removed at (at + length gone) text) found is in
     let long = length-removed at (at + length gone) text (omega arith) (omega (arith, first)) in
     let same = ap length made in
     omega (arith, first, long, same)
-
-reverted-end : (limit : ℕ) (action : Action) (text found : List ℕ) → reverted limit action text ≡ Some found →
-    (if action.inserts then action.at else action.at + length action.text) ≤ length found
-reverted-end limit action text found is =
-    elim action.inserts as (λ b. (if b then take_out action.at action.text text
-    else put_in limit action.at action.text text) ≡ Some found
-    → (if b then action.at else action.at + length action.text) ≤ length found) [
-      | true ↦ take-end action.at action.text text found
-      | false ↦ put-end limit action.at action.text text found
-    ] is
 
 repeated-end : (limit : ℕ) (action : Action) (text found : List ℕ) → repeated limit action text ≡ Some found →
     (if action.inserts then action.at + length action.text else action.at) ≤ length found
@@ -225,13 +201,6 @@ repeated-end limit action text found is =
       | false ↦ take-end action.at action.text text found
     ] is
 
-undo-end-within : (limit : ℕ) (group : List Action) (text found : List ℕ) →
-    reverted_group limit group text ≡ Some found → IfSome (undo_end group) (λ at. at ≤ length found)
-undo-end-within limit [] text found is = tt
-undo-end-within limit (action ∷ actions) text found is =
-    option_and_then_some (reverted limit action) (reverted_group limit actions text) found is (λ between others one.
-    reverted-end limit action between found one)
-
 redo-end-within : (limit : ℕ) (group : List Action) (text found : List ℕ) →
     repeated_group limit group text ≡ Some found → IfSome (redo_end group) (λ at. at ≤ length found)
 redo-end-within limit [] text found is = tt
@@ -241,6 +210,12 @@ redo-end-within limit (action ∷ []) text found is =
 redo-end-within limit (action ∷ next ∷ actions) text found is =
     option_and_then_some (repeated_group limit (next ∷ actions)) (repeated limit action text) found is
     (λ between one others. redo-end-within limit (next ∷ actions) between found others)
+
+undo-end-within : (limit : ℕ) (group : List Action) (text found : List ℕ) →
+    reverted_group limit group text ≡ Some found → IfSome (undo_end group) (λ at. at ≤ length found)
+undo-end-within limit group text found is =
+    subst (λ end. IfSome end (λ at. at ≤ length found)) (back-end group)
+    (redo-end-within limit (replays true group) text found (back-reverted limit group text ∙ is))
 
 -- ---- what is kept of the edits then
 
@@ -277,28 +252,12 @@ pub record CanRevert (parts : Parts) (document : Document) (place slot : ℕ) : 
   pub on : parts.journal.settings.undo ≡ true
   pub active : is_idle document (widget_at document place) ≡ false
 
-undo-done : (document : Document) (widget : Widget) (group : List Action) → document.undo ≡ true →
-    next_undo document.history ≡ Some group → is_idle document widget ≡ false
-    → edit_undo document widget ≡ answered (undone widget group document) Empty
-undo-done document widget group on is active =
-    ap (λ b. if b then undo_found document widget (next_undo document.history) else answered document Empty) on
-    ∙ ap (undo_found document widget) is
-    ∙ ap (λ b. answered (if b then document else undone widget group document) Empty) active
-
-redo-done : (document : Document) (widget : Widget) (group : List Action) → document.undo ≡ true →
-    next_redo document.history ≡ Some group → is_idle document widget ≡ false
-    → edit_redo document widget ≡ answered (redone widget group document) Empty
-redo-done document widget group on is active =
-    ap (λ b. if b then redo_found document widget (next_redo document.history) else answered document Empty) on
-    ∙ ap (redo_found document widget) is
-    ∙ ap (λ b. answered (if b then document else redone widget group document) Empty) active
-
-pub leaves-undone : (limits : LimitTable) (old : Parts) (state : State) (document : Document) (place slot : ℕ)
-    (group : List Action) → CanRevert old document place slot
+pub leaves-undone : {limits : LimitTable} {old : Parts} {state : State} {document : Document} {place slot : ℕ}
+    {group : List Action} → CanRevert old document place slot
     → next_undo old.journal.log.history ≡ Some group → IsReverted limits group → IsWellFormedDocument limits document →
     state ≡ edits.undone (2 * slot) (state_in old)
     → Leaves limits (with_state old state) document (Ok Empty) (edit_undo document (widget_at document place))
-leaves-undone limits old state document place slot group can is reverts formed state_is =
+leaves-undone {limits} {old} {state} {document} {place} {slot} {group} can is reverts formed state_is =
     let widget : Widget = widget_at document place in
     let stands = can.stands in
     let before : State = state_in old in
@@ -311,7 +270,7 @@ leaves-undone limits old state document place slot group can is reverts formed s
     goes.1 in
     let left : State = group_undone group before in
     let within = subst (λ n. IfSome (undo_end group) (λ at. at ≤ n))
-    (sym (ap length (group-undone-text limits.chars group goes.0 before goes.1)) ∙ count-characters left.content)
+    (sym (ap length (group-undone-text limits.chars group goes.0 before goes.1)) ∙ counted left.content)
     (undo-end-within limits.chars group text goes.0 goes.1) in
     let end = ended limits old left document (group_back group document) place slot (undo_end group) can.sits back
     within in
@@ -332,7 +291,7 @@ leaves-undone limits old state document place slot group can is reverts formed s
     let kept_on = ap (λ (d : Document). d.undo) (sym stands.is) ∙ can.on in
     subst (λ (s : State). Leaves limits (with_state old s) document (Ok Empty) (edit_undo document widget))
     (sym (state_is ∙ made_is))
-    (does-changed limits old (with_state old made) document (edit_undo document widget) stands (record {
+    (does-changed stands (record {
       sound = all.sound;
       is = undo-done document widget group kept_on (ap next_undo (sym histories) ∙ is) can.active
           ∙ ap (λ d. answered d Empty) (sym all_is);
@@ -343,12 +302,12 @@ leaves-undone limits old state document place slot group can is reverts formed s
       seats = refl;
     }))
 
-pub leaves-redone : (limits : LimitTable) (old : Parts) (state : State) (document : Document) (place slot : ℕ)
-    (group : List Action) → CanRevert old document place slot
+pub leaves-redone : {limits : LimitTable} {old : Parts} {state : State} {document : Document} {place slot : ℕ}
+    {group : List Action} → CanRevert old document place slot
     → next_redo old.journal.log.history ≡ Some group → IsReverted limits group → IsWellFormedDocument limits document →
     state ≡ edits.redone (2 * slot) (state_in old)
     → Leaves limits (with_state old state) document (Ok Empty) (edit_redo document (widget_at document place))
-leaves-redone limits old state document place slot group can is reverts formed state_is =
+leaves-redone {limits} {old} {state} {document} {place} {slot} {group} can is reverts formed state_is =
     let widget : Widget = widget_at document place in
     let stands = can.stands in
     let before : State = state_in old in
@@ -361,7 +320,7 @@ leaves-redone limits old state document place slot group can is reverts formed s
     goes.1 in
     let left : State = group_redone group before in
     let within = subst (λ n. IfSome (redo_end group) (λ at. at ≤ n))
-    (sym (ap length (group-redone-text limits.chars group goes.0 before goes.1)) ∙ count-characters left.content)
+    (sym (ap length (group-redone-text limits.chars group goes.0 before goes.1)) ∙ counted left.content)
     (redo-end-within limits.chars group text goes.0 goes.1) in
     let end = ended limits old left document (group_again group document) place slot (redo_end group) can.sits again
     within in
@@ -384,7 +343,7 @@ leaves-redone limits old state document place slot group can is reverts formed s
     let kept_on = ap (λ (d : Document). d.undo) (sym stands.is) ∙ can.on in
     subst (λ (s : State). Leaves limits (with_state old s) document (Ok Empty) (edit_redo document widget))
     (sym (state_is ∙ made_is))
-    (does-changed limits old (with_state old made) document (edit_redo document widget) stands (record {
+    (does-changed stands (record {
       sound = all.sound;
       is = redo-done document widget group kept_on (ap next_redo (sym histories) ∙ is) can.active
           ∙ ap (λ d. answered d Empty) (sym all_is);

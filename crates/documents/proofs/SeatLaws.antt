@@ -1,10 +1,9 @@
 -- The seats of widgets, as a loop goes over them.
-use Rattle.documents.proofs.Words.{◌≡◌, ℕ, Bool, cond, zero, suc, ◌+◌, ◌<◌, true, false, List, [], ◌∷◌, ◌++◌, take}
-use Rattle.documents.proofs.Words.{drop, length, refl, sym, ap, subst, ◌∙◌, arith, remove, filter, not, Some}
-use Rattle.documents.proofs.Words.{map-append, length-append, none-some, same_Some, Named, numbers_of, is_among}
-use Rattle.documents.proofs.Words.{filter-append, filter-in, filter-out, take-found, Goes, numbers_gone, seats_left}
-use Rattle.std.proofs.Common.{slice_get}
-use Rattle.std.proofs.lemmas.List.{append_assoc}
+use Rattle.documents.proofs.Common.{◌≡◌, ℕ, Bool, cond, zero, suc, ◌+◌, ◌<◌, true, false, List, [], ◌∷◌, ◌++◌, take}
+use Rattle.documents.proofs.Common.{drop, length, refl, sym, ap, subst, ◌∙◌, arith, remove, filter, not, Some}
+use Rattle.documents.proofs.Common.{map-append, length-append, none-some, same_Some, Named, numbers_of, is_among}
+use Rattle.documents.proofs.Common.{filter-append, filter-in, filter-out, take-found, Goes, numbers_gone, seats_left}
+use Rattle.documents.proofs.Common.{slice_get, append_assoc}
 use Rattle.name_list.specs.Names.{names_of}
 use Rattle.tcl_words.proofs.ListGrowth.{goes_on}
 

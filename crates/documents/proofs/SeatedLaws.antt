@@ -1,18 +1,16 @@
 -- A widget that is made.
-use Rattle.documents.proofs.Words.{◌≡◌, ◌≢◌, ℕ, zero, suc, ◌+◌, ◌*◌, ◌<◌, ◌≤◌, Bool, true, false, set, List, [], ◌∷◌}
-use Rattle.documents.proofs.Words.{◌++◌, length, map, get_or, refl, sym, ap, ap₂, subst, ◌∙◌, true≢false, arith}
-use Rattle.documents.proofs.Words.{slice_get, is_some, unwrap_or, IfSome, All, AllByRecursion, replicate, length-append}
-use Rattle.documents.proofs.Words.{length-set, map-append, get_or-set_other, All-append, All-replicate, All-set}
-use Rattle.documents.proofs.Words.{get_or-set_at, MOST_WIDGETS, Place, Content, Marks, LimitTable, IsLineStart, lines}
-use Rattle.documents.proofs.Words.{FitsText, limit_of, Kept, Contains-from_stands, AreNames, IsLeastFree, Named, Names}
-use Rattle.documents.proofs.Words.{numbers_of, first_number, AreAnchored, Anchors, new_mark, with_own_marks, is_among}
-use Rattle.documents.proofs.Words.{history_under, is_behind, Settings, Document, Journal, Parts, Widget, characters}
-use Rattle.documents.proofs.Words.{document_of, mark_of, placed, whole, widget_of, HasOwnMarks, IsSeated, IsSound}
-use Rattle.documents.proofs.Words.{Stands, is_window_name, AreLines, anchor_at, IsLonger, IsWellFormedDocument}
-use Rattle.documents.proofs.Words.{window_names, new_widget, with_peer}
-use Rattle.std.specs.Prelude.{option_map, Some, None, Option}
-use Rattle.std.specs.FinMap as finite
-use Rattle.text_model.specs.Content as model
+use Rattle.documents.proofs.Common.{◌≡◌, ◌≢◌, ℕ, zero, suc, ◌+◌, ◌*◌, ◌<◌, ◌≤◌, Bool, true, false, set, List, [], ◌∷◌}
+use Rattle.documents.proofs.Common.{◌++◌, length, map, get_or, refl, sym, ap, ap₂, subst, ◌∙◌, true≢false, arith}
+use Rattle.documents.proofs.Common.{slice_get, is_some, unwrap_or, IfSome, All, AllByRecursion, replicate}
+use Rattle.documents.proofs.Common.{length-append, length-set, map-append, get_or-set_other, All-append, All-replicate}
+use Rattle.documents.proofs.Common.{All-set, get_or-set_at, MOST_WIDGETS, Place, Content, Marks, LimitTable}
+use Rattle.documents.proofs.Common.{IsLineStart, lines, FitsText, limit_of, Kept, Contains-from_stands, AreNames}
+use Rattle.documents.proofs.Common.{IsLeastFree, Named, Names, numbers_of, first_number, AreAnchored, Anchors, new_mark}
+use Rattle.documents.proofs.Common.{with_own_marks, is_among, history_under, is_behind, Settings, Document, Journal}
+use Rattle.documents.proofs.Common.{Parts, Widget, characters, document_of, mark_of, placed, whole, widget_of}
+use Rattle.documents.proofs.Common.{HasOwnMarks, IsSeated, IsSound, Stands, is_window_name, AreLines, anchor_at}
+use Rattle.documents.proofs.Common.{IsLonger, IsWellFormedDocument, window_names, new_widget, with_peer, option_map}
+use Rattle.documents.proofs.Common.{Some, None, Option}
 use Rattle.name_list.specs.Names.{place_of}
 use Rattle.documents.proofs.FindLaws.{widget-among}
 use Rattle.documents.proofs.JournalLaws.{fits-under, orderly-under, with_kept}
@@ -26,6 +24,8 @@ use Rattle.documents.proofs.SlotLaws.{AreSeats-names}
 use Rattle.documents.proofs.ViewLaws.{counted}
 use Rattle.documents.proofs.WellFormedLaws.{IsWellFormedDocument-kept, fits-kept}
 use Rattle.documents.proofs.WidgetLaws.{journal_set, line_anchor, lines-anchored}
+use Rattle.std.specs.FinMap as finite
+use Rattle.text_model.specs.Content as model
 
 -- what became of the fields
 pub record IsSeatMade (old : Parts) (before after : Kept) (name : List ℕ) (slot : ℕ) (settings : Settings)
@@ -317,12 +317,11 @@ pub record Seats (old : Parts) (new : Parts) (document : Document) (name : List 
   pub formed : (limits : LimitTable) → IsWellFormedDocument limits document →
       IsWellFormedDocument limits (document_of new)
 
-pub seated-made : (old : Parts) (before after : Kept) (document : Document) (name : List ℕ) (slot : ℕ)
-    (settings : Settings) (seats : Names) (disabled : List Bool) (anchors : List Anchors) (own : Anchors)
-    (content : Content)
+pub seated-made : {old : Parts} {before after : Kept} {document : Document} {name : List ℕ} {slot : ℕ}
+    {settings : Settings} {seats : Names} {disabled : List Bool} {anchors : List Anchors} {own : Anchors}
+    {content : Content} → IsSeatMade old before after name slot settings seats disabled anchors own content
     → Stands (with_kept old before) document → AreLines (lines (characters document.cells)) settings →
     is_behind settings.start settings.end ≡ false
-    → IsSeatMade old before after name slot settings seats disabled anchors own content
     → Seats old (record {
       seats = seats;
       tags = old.tags;
@@ -330,7 +329,8 @@ pub seated-made : (old : Parts) (before after : Kept) (document : Document) (nam
       journal = journal_set (record old.journal { disabled = disabled; anchors = anchors }) slot settings own after;
       content = content;
     }) document name settings
-seated-made old before after document name slot settings seats disabled anchors own content stands are ordered made =
+seated-made {old} {before} {after} {document} {name} {slot} {settings} {seats} {disabled} {anchors} {own} {content} made
+    stands are ordered =
     let parts : Parts = with_kept old before in
     let new : Parts = seated_parts old after name slot settings disabled anchors own in
     let sound = seated-sound old before after document name slot settings seats disabled anchors own content stands are
@@ -390,15 +390,15 @@ longer-seated old disabled anchors (seat ∷ seats) flags longer seated =
     )
 
 -- longer lists are all that is left of it
-pub unseated : (old : Parts) (document : Document) (seats : Names) (disabled : List Bool) (anchors : List Anchors)
-    (content : Content) → Stands old document → seats ≡ old.seats → IsLonger false old.journal.disabled disabled
+pub unseated : {old : Parts} {document : Document} {seats : Names} {disabled : List Bool} {anchors : List Anchors}
+    {content : Content} → Stands old document → seats ≡ old.seats → IsLonger false old.journal.disabled disabled
     → IsLonger whole old.journal.anchors anchors → content ≡ old.content
     → Stands (record old {
       seats = seats;
       journal = record old.journal { disabled = disabled; anchors = anchors };
       content = content;
     }) document
-unseated old document seats disabled anchors content stands names flags longer same =
+unseated {old} {document} {seats} {disabled} {anchors} {content} stands names flags longer same =
     let new : Parts = record old { journal = record old.journal { disabled = disabled; anchors = anchors } } in
     let widgets = longer-widgets old.journal old.content.marks disabled anchors old.seats.entries flags longer
     stands.sound.views.seated in
@@ -430,7 +430,7 @@ pub unnamed : (parts : Parts) (document : Document) (name : List ℕ) → Stands
     is_among name (window_names document) ≡ false → place_of name parts.seats.entries ≡ None
 unnamed parts document name stands new =
     let found = place_of name parts.seats.entries in
-    none found (widget-among parts document name stands found refl ∙ new)
+    none found (widget-among name stands found refl ∙ new)
   where
     none : (found : Option ℕ) → is_some found ≡ false → found ≡ None
     none None is = refl

@@ -1,11 +1,9 @@
 -- What a widget sees of its view, by the store and the tables of its document.
-use Rattle.documents.proofs.Words.{◌≡◌, ℕ, zero, suc, ◌+◌, ◌-◌, List, [], ◌∷◌, map, sym, refl, ap, ap₂, ◌∙◌, arith}
-use Rattle.documents.proofs.Words.{slice_get, slice_index_or, usable, Shown, Tag, names_of, tag_ranges, Content}
-use Rattle.documents.proofs.Words.{map-alike, map-map, name_of_rank, seen_by, literal, Document, Parts, Widget}
-use Rattle.documents.proofs.Words.{widget_at, key_named, Stands, mark_names, usable_marks, shown_flags}
-use Rattle.std.specs.Prelude.{Bool, Some}
+use Rattle.documents.proofs.Common.{◌≡◌, ℕ, zero, suc, ◌+◌, ◌-◌, List, [], ◌∷◌, map, sym, refl, ap, ap₂, ◌∙◌, arith}
+use Rattle.documents.proofs.Common.{slice_get, slice_index_or, usable, Shown, Tag, names_of, tag_ranges, Content}
+use Rattle.documents.proofs.Common.{map-alike, map-map, name_of_rank, seen_by, literal, Document, Parts, Widget}
+use Rattle.documents.proofs.Common.{widget_at, key_named, Stands, mark_names, usable_marks, shown_flags, Bool, Some}
 use Rattle.mark_table.specs.SharedMarks.{names_of as mark_names_of, numbers_of}
-use Rattle.search_dump.specs.Dump as dump
 use Rattle.search_dump.specs.Dump.{own_slot}
 use Rattle.documents.specs.Queries.{mark_seen, seen, tag_seen}
 use Rattle.documents.proofs.MarkOrderLaws.{shifted, usable-is}
@@ -14,6 +12,7 @@ use Rattle.documents.proofs.PartsLaws.{Sits}
 use Rattle.documents.proofs.PlacedLaws.{placed-names}
 use Rattle.documents.proofs.SlotLaws.{known_standing}
 use Rattle.documents.proofs.ViewLaws.{IsSeen, end_in, flags-is, shown-is, start_in}
+use Rattle.search_dump.specs.Dump as dump
 
 -- what is made of each tag is made of its name
 map-named : {A : Type 0} (f : Tag → A) (g : List ℕ → A) (tags : List Tag) →
@@ -78,9 +77,9 @@ module _ (parts : Parts) (document : Document) (place slot : ℕ) (stands : Stan
   }
 
 -- the same of a view as it was found
-pub seen-found : (parts : Parts) (document : Document) (place slot : ℕ) (content : Content) (first behind : ℕ) →
+pub seen-found : {parts : Parts} {document : Document} {place slot : ℕ} {content : Content} {first behind : ℕ} →
     IsSeen parts document place slot content first behind
     → seen_by content first behind parts.tags.tags parts.marks.marks slot ≡ seen document (widget_at document place)
-seen-found parts document place slot content first behind found =
+seen-found {parts} {document} {place} {slot} found =
     (λ i. seen_by (found.held i) (found.starts i) (found.ends i) parts.tags.tags parts.marks.marks slot)
     ∙ seen-is parts document place slot found.stands found.sits

@@ -1,13 +1,13 @@
 -- Which slot stands for a key.
-use Rattle.documents.proofs.Words.{◌≡◌, ◌≢◌, ℕ, ◌<◌, ◌≤◌, Bool, true, false, not, cond, List, ◌++◌, Option, None, Some}
-use Rattle.documents.proofs.Words.{filter, map, length, drop, refl, sym, ap, subst, ◌∙◌, true≢false, arith, inl, inr}
-use Rattle.documents.proofs.Words.{ne_eqb, option_map, ◌==◌, Contains, list_any, false_from_ne_true, map-append}
-use Rattle.documents.proofs.Words.{take-append-drop, Contains-append_cases, Contains-append_left, Contains-append_right}
-use Rattle.documents.proofs.Words.{none-some, same_Some, slice_get-map, bytes_eq-Decides, AreApart, AreNames, Named}
-use Rattle.documents.proofs.Words.{Names, Contains-from_stands, stands_from_Contains, stands_map, stood_at}
-use Rattle.documents.proofs.Words.{MOST_WIDGETS, AreTags, Tag, Tags, sel, slot_of, known_tags, IsFront, is_same, Key}
-use Rattle.documents.proofs.Words.{is_shared, key_named, key_pairs, pair_slots, seat_pair, tag_pair, AreSeats}
-use Rattle.std.proofs.Common.{slice_get, if◌then◌else◌}
+use Rattle.documents.proofs.Common.{◌≡◌, ◌≢◌, ℕ, ◌<◌, ◌≤◌, Bool, true, false, not, cond, List, ◌++◌, Option, None, Some}
+use Rattle.documents.proofs.Common.{filter, map, length, drop, refl, sym, ap, subst, ◌∙◌, true≢false, arith, inl, inr}
+use Rattle.documents.proofs.Common.{ne_eqb, option_map, ◌==◌, Contains, list_any, false_from_ne_true, map-append}
+use Rattle.documents.proofs.Common.{take-append-drop, Contains-append_cases, Contains-append_left}
+use Rattle.documents.proofs.Common.{Contains-append_right, none-some, same_Some, slice_get-map, bytes_eq-Decides}
+use Rattle.documents.proofs.Common.{AreApart, AreNames, Named, Names, Contains-from_stands, stands_from_Contains}
+use Rattle.documents.proofs.Common.{stands_map, stood_at, MOST_WIDGETS, AreTags, Tag, Tags, sel, slot_of, known_tags}
+use Rattle.documents.proofs.Common.{IsFront, is_same, Key, is_shared, key_named, key_pairs, pair_slots, seat_pair}
+use Rattle.documents.proofs.Common.{tag_pair, AreSeats, slice_get, if◌then◌else◌}
 use Rattle.name_list.specs.Names.{names_of}
 use Rattle.name_list.proofs.ListLaws.{Stands}
 use Rattle.tag_table.specs.Tags.{names_of as tag_names}

@@ -1,19 +1,18 @@
 -- A document after a tag is put on spans or taken off them, or where that is refused.
-use Rattle.documents.proofs.Words.{◌≡◌, ℕ, ◌+◌, ◌-◌, ◌<◌, ◌≤◌, Bool, true, false, List, Option, None, Some, Ok, length}
-use Rattle.documents.proofs.Words.{refl, sym, ap, ap₂, subst, ◌∙◌, arith, ◌==◌, option_map, none-some, same_Some, All}
-use Rattle.documents.proofs.Words.{nat_tests, length-map, known_tags, AreTags, Tag, Tags, names_of, slot_of, Content}
-use Rattle.documents.proofs.Words.{LimitTable, Log, SpanFits, tagged, Span, Empty, TooManyTags, with_name, spans_of}
-use Rattle.documents.proofs.Words.{IsFront, is_among, absent_slot, among_slot, spans_of-fit, Document, Parts}
-use Rattle.documents.proofs.Words.{document_of, widget_at, with_tag, Key, key_named, Stands, Change, Does, answered}
-use Rattle.documents.proofs.Words.{refused, spans_shown, add_spans, remove_spans, shown}
-use Rattle.std.proofs.Common.{nat_lt, if◌then◌else◌}
+use Rattle.documents.proofs.Common.{◌≡◌, ℕ, ◌+◌, ◌-◌, ◌<◌, ◌≤◌, Bool, true, false, List, Option, None, Some, Ok, length}
+use Rattle.documents.proofs.Common.{refl, sym, ap, ap₂, subst, ◌∙◌, arith, ◌==◌, option_map, none-some, same_Some, All}
+use Rattle.documents.proofs.Common.{nat_tests, length-map, known_tags, AreTags, Tag, Tags, names_of, slot_of, Content}
+use Rattle.documents.proofs.Common.{LimitTable, Log, SpanFits, tagged, Span, Empty, TooManyTags, with_name, spans_of}
+use Rattle.documents.proofs.Common.{IsFront, is_among, absent_slot, among_slot, spans_of-fit, Document, Parts}
+use Rattle.documents.proofs.Common.{document_of, widget_at, with_tag, Key, key_named, Stands, Change, Does, answered}
+use Rattle.documents.proofs.Common.{refused, spans_shown, add_spans, remove_spans, shown, nat_lt, if◌then◌else◌}
 use Rattle.documents.proofs.ChangeLaws.{Leaves, does-nothing}
 use Rattle.documents.proofs.KeyedLaws.{keyed-more, keyed-tagged}
 use Rattle.documents.proofs.KnownLaws.{known-front, known-slot}
 use Rattle.documents.proofs.PartsLaws.{Sits, cells-kept}
 use Rattle.documents.proofs.TableLaws.{characters-tagged, known-tagged, leaves-relogged, leaves-retagged, marks-tagged}
 use Rattle.documents.proofs.TableLaws.{relogged, retagged, retagged-is}
-use Rattle.documents.proofs.ViewLaws.{end_in, ordered-is, shown-length, start-is, start_in, within-is}
+use Rattle.documents.proofs.ViewLaws.{IsSeen, ends-found, length-found, ordered-found, start-found-is}
 
 pub found_by : {A B : Type 0} (f : A → B) (found : Option A) (made : B) → option_map f found ≡ Some made →
     (x : A) × (Some x ≡ found) × (made ≡ f x)
@@ -98,22 +97,19 @@ wider short long spans less fit k span within = let one = fit k span within in l
     record { ordered = one.ordered; within = omega (arith, end, less) }
 
 -- the spans that places make, and that they are in the view
-pub spans-in : (parts : Parts) (document : Document) (place slot start len : ℕ) (places : List ℕ)
-    (spans given : List Span) → Stands parts document → Sits parts document place slot
-    → start ≡ start_in parts slot → len ≡ end_in parts slot - start_in parts slot →
-    All (λ p. p ≤ length (shown document (widget_at document place))) places
-    → start_in parts slot ≤ end_in parts slot → spans ≡ spans_of start len places → given ≡ spans
-    → (given ≡ spans_shown document (widget_at document place) places) × All (SpanFits (end_in parts slot)) given
-spans-in parts document place slot start len places spans given stands sits begins long within ordered made same =
-    let from = start_in parts slot in
-    let to = end_in parts slot in
-    let many = shown-length parts document place slot stands sits in
-    let all : given ≡ spans_of from (to - from) places = same ∙ made ∙ ap₂ (λ s n. spans_of s n places) begins long in
-    let fit : All (λ p. p ≤ to - from) places = subst (λ n. All (λ p. p ≤ n) places) many within in
-    let whole : from + (to - from) ≡ to = omega (arith, ordered) in (
-      all ∙ ap₂ (λ s n. spans_of s n places) (sym (start-is parts document place slot stands sits)) (sym many),
-      subst (All (SpanFits to)) (sym all) (subst (λ n. All (SpanFits n) (spans_of from (to - from) places)) whole
-          (spans_of-fit from (to - from) places fit)),
+pub spans-in : {parts : Parts} {document : Document} {place slot start end : ℕ} {spans given : List Span}
+    (places : List ℕ) → IsSeen parts document place slot parts.content start end
+    → All (λ p. p ≤ length (shown document (widget_at document place))) places →
+    spans ≡ spans_of start (end - start) places → given ≡ spans
+    → (given ≡ spans_shown document (widget_at document place) places) × All (SpanFits end) given
+spans-in {start = start} {end = end} places seen within made same =
+    let many = length-found seen in
+    let all = same ∙ made in
+    let fit = subst (λ n. All (λ p. p ≤ n) places) many within in
+    let whole : start + (end - start) ≡ end = omega (arith, ordered-found seen) in (
+      all ∙ ap₂ (λ s n. spans_of s n places) (start-found-is seen) (sym many),
+      subst (All (SpanFits end)) (sym all) (subst (λ n. All (SpanFits n) (spans_of start (end - start) places)) whole
+          (spans_of-fit start (end - start) places fit)),
     )
 
 -- as the view's bounds were found
@@ -121,46 +117,36 @@ pub record AreShown (document : Document) (place : ℕ) (places : List ℕ) (spa
   pub same : spans ≡ spans_shown document (widget_at document place) places
   pub fit : All (SpanFits (length document.cells)) spans
 
-pub spans-found : (old : Parts) (document : Document) (place widget start end : ℕ) (places : List ℕ) (spans : List Span)
-    → Stands old document → Sits old document place widget → start ≡ start_in old widget
-    → end ≡ end_in old widget → All (λ at. at ≤ length (shown document (widget_at document place))) places →
+pub spans-found : {old : Parts} {document : Document} {place widget start end : ℕ} {spans : List Span}
+    (places : List ℕ) → IsSeen old document place widget old.content start end
+    → All (λ at. at ≤ length (shown document (widget_at document place))) places →
     spans ≡ spans_of start (end - start) places → AreShown document place places spans
-spans-found old document place widget start end places spans stands sits starts ends within is =
-    let found = spans-in old document place widget start (end - start) places spans spans stands sits starts
-    (ap₂ (λ e s. e - s) ends starts) within
-    (ordered-is old document place widget stands sits) is refl in
-    let inside = within-is old document place widget stands sits in
+spans-found {old} {document} {end = end} {spans = spans} places seen within is =
+    let found = spans-in places seen within is refl in
     record {
       same = found.0;
-      fit = wider (end_in old widget) (length document.cells) spans
-          (omega (arith, inside, cells-kept old document stands.is)) found.1;
+      fit = wider end (length document.cells) spans
+          (omega (arith, ends-found seen, cells-kept old document seen.stands.is)) found.1;
     }
 
 -- places of the view
-pub places-within : (old : Parts) (document : Document) (place widget start end : ℕ) (places : List ℕ) →
-    Stands old document → Sits old document place widget → start ≡ start_in old widget → end ≡ end_in old widget
+pub places-within : {old : Parts} {document : Document} {place widget start end : ℕ} (places : List ℕ) →
+    IsSeen old document place widget old.content start end
     → All (λ at. at ≤ length (shown document (widget_at document place))) places → All (λ at. at ≤ end - start) places
-places-within old document place widget start end places stands sits starts ends within =
-    subst (λ n. All (λ at. at ≤ n) places) (omega (
-      arith,
-      shown-length old document place widget stands sits,
-      starts,
-      ends,
-    )) within
+places-within places seen within = subst (λ n. All (λ at. at ≤ n) places) (length-found seen) within
 
 -- ---- the commands
 
-pub leaves-added : (limits : LimitTable) (old : Parts) (new : Tags) (content : Content) (log : Log)
-    (document : Document) (place widget : ℕ) (word : List ℕ) (places : List ℕ) (spans given : List Span) →
-    Stands old document
+pub leaves-added : {old : Parts} {new : Tags} {content : Content} {log : Log} {document : Document} {place widget : ℕ}
+    {word : List ℕ} {spans given : List Span} (limits : LimitTable) (places : List ℕ) → Stands old document
     → Sits old document place widget → IsTagged old new content widget word true spans → log ≡ old.journal.log →
     spans ≡ given → given ≡ spans_shown document (widget_at document place) places
     → names_of new.tags ≡ with_name (names_of old.tags.tags) word →
     length (with_name (names_of old.tags.tags) word) ≤ limits.tags + 1
     → Leaves limits (relogged (retagged old new content) log) document (Ok Empty)
     (add_spans limits document (widget_at document place) word places)
-leaves-added limits old new content log document place widget word places spans given stands sits made log_is held same
-    names few =
+leaves-added {old} {new} {content} {log} {document} {place} {widget} {word} {spans} {given} limits places stands sits
+    made log_is held same names few =
     let shown_by = widget_at document place in
     let before : document.tags ≡ names_of old.tags.tags = ap (λ (d : Document). d.tags) (sym stands.is) in
     let tags : length new.tags ≡ length (with_name (names_of old.tags.tags) word) = sym
@@ -178,10 +164,10 @@ leaves-added limits old new content log document place widget word places spans 
     leaves-spans limits old new content log document place widget word true spans
     (add_spans limits document shown_by word places) stands sits made log_is (λ _. omega (arith, tags, few)) change
 
-pub added-left : (limits : LimitTable) (old : Parts) (document : Document) (place : ℕ) (word : List ℕ) (places : List ℕ)
-    → Stands old document → limits.tags + 1 < length (with_name (names_of old.tags.tags) word)
+pub added-left : {old : Parts} {document : Document} (limits : LimitTable) (place : ℕ) (word : List ℕ)
+    (places : List ℕ) → Stands old document → limits.tags + 1 < length (with_name (names_of old.tags.tags) word)
     → add_spans limits document (widget_at document place) word places ≡ refused document TooManyTags
-added-left limits old document place word places stands many =
+added-left {old} {document} limits place word places stands many =
     let shown_by = widget_at document place in
     let before : document.tags ≡ names_of old.tags.tags = ap (λ (d : Document). d.tags) (sym stands.is) in
     let count = length (with_name (names_of old.tags.tags) word) in
@@ -191,13 +177,14 @@ added-left limits old document place word places stands many =
     (spans_shown document shown_by places)) Empty)
     (ap (λ ts. nat_lt (limits.tags + 1) (length (with_name ts word))) before ∙ full)
 
-pub leaves-removed : (limits : LimitTable) (old : Parts) (content : Content) (log : Log) (document : Document)
-    (place widget : ℕ) (word : List ℕ) (places : List ℕ) (spans given : List Span) → Stands old document
+pub leaves-removed : {old : Parts} {content : Content} {log : Log} {document : Document} {place widget : ℕ}
+    {word : List ℕ} {spans given : List Span} (limits : LimitTable) (places : List ℕ) → Stands old document
     → Sits old document place widget → IsTagged old old.tags content widget word false spans → log ≡ old.journal.log →
     spans ≡ given → given ≡ spans_shown document (widget_at document place) places
     → Leaves limits (relogged (retagged old old.tags content) log) document (Ok Empty)
     (remove_spans document (widget_at document place) word places)
-leaves-removed limits old content log document place widget word places spans given stands sits made log_is held same =
+leaves-removed {old} {content} {log} {document} {place} {widget} {word} {spans} {given} limits places stands sits made
+    log_is held same =
     let shown_by = widget_at document place in
     let before : document.tags ≡ names_of old.tags.tags = ap (λ (d : Document). d.tags) (sym stands.is) in
     let key : Key = key_named shown_by.name word in
@@ -213,10 +200,10 @@ leaves-removed limits old content log document place widget word places spans gi
     (remove_spans document shown_by word places) stands sits made log_is (λ few. few) change
 
 -- an unknown tag is taken off nothing
-pub does-remove_none : (limits : LimitTable) (old : Parts) (document : Document) (place widget : ℕ) (word : List ℕ)
+pub does-remove_none : {old : Parts} {document : Document} (limits : LimitTable) (place widget : ℕ) (word : List ℕ)
     (places : List ℕ) → Stands old document → None ≡ known_tags old.tags.tags widget word
     → Does limits document document (Ok Empty) (remove_spans document (widget_at document place) word places)
-does-remove_none limits old document place widget word places stands none =
+does-remove_none {old} {document} limits place widget word places stands none =
     let shown_by = widget_at document place in
     let absent : is_among word document.tags ≡ false = ap (λ (d : Document). is_among word d.tags) (sym stands.is)
     ∙ slot_unknown word old.tags.tags widget (sym none) in

@@ -1,20 +1,18 @@
 -- What is told where a key is put on spans, or taken off them.
-use Rattle.documents.proofs.Words.{◌≡◌, ℕ, zero, suc, ◌+◌, ◌-◌, ◌<◌, ◌≤◌, Bool, true, false, not, List, [], ◌∷◌, ◌++◌}
-use Rattle.documents.proofs.Words.{map, length, take, drop, get_or, refl, sym, ap, ap₂, ◌∙◌, arith, subst, append_assoc}
-use Rattle.documents.proofs.Words.{Some, cond, None, true≢false, inl, inr, slice_range, sum_by, All, cases_lt}
-use Rattle.documents.proofs.Words.{drop-drop, drop-take, get_or-drop, get_or-map, get_or-take, length-append}
-use Rattle.documents.proofs.Words.{length-drop, length-map, length-take-le, map-append, take-append-drop, take-take}
-use Rattle.documents.proofs.Words.{take_more, split_between, All-cons, All-drop, All-from_get_or, All-get_or, All-head}
-use Rattle.documents.proofs.Words.{All-nil, All-map, All-tail, All-take, drop_split, sum_by-cons, get_or_from_slice_get}
-use Rattle.documents.proofs.Words.{same_Some, Named, known_tags, flags, flag_at, is_alike, next_change, LimitTable}
-use Rattle.documents.proofs.Words.{changed, length-changed, map-slice_range, in_spans, SpanFits, Span, with_name}
-use Rattle.documents.proofs.Words.{is_among, Empty, TooManyTags, Document, KeyedCell, Parts, Widget, document_of}
-use Rattle.documents.proofs.Words.{widget_at, with_key, with_tag, Key, key_named, key_pairs, set_key, Stands, key_of}
-use Rattle.documents.proofs.Words.{Change, answered, refused, spans_shown, add_spans, remove_spans, IsTagChange}
-use Rattle.documents.proofs.Words.{TellsSpan, TellsSpans, TellsTags, flags_of, Foretells, TellsCells, TagChange}
-use Rattle.documents.proofs.Words.{EditTold}
-use Rattle.std.proofs.Common.{slice_get, nat_lt, if◌then◌else◌}
-use Rattle.std.specs.FinSet as set
+use Rattle.documents.proofs.Common.{◌≡◌, ℕ, zero, suc, ◌+◌, ◌-◌, ◌<◌, ◌≤◌, Bool, true, false, not, List, [], ◌∷◌, ◌++◌}
+use Rattle.documents.proofs.Common.{map, length, take, drop, get_or, refl, sym, ap, ap₂, ◌∙◌, arith, subst}
+use Rattle.documents.proofs.Common.{append_assoc, Some, cond, None, true≢false, inl, inr, slice_range, sum_by, All}
+use Rattle.documents.proofs.Common.{cases_lt, drop-drop, drop-take, get_or-drop, get_or-map, get_or-take, length-append}
+use Rattle.documents.proofs.Common.{length-drop, length-map, length-take-le, map-append, take-append-drop, take-take}
+use Rattle.documents.proofs.Common.{take_more, split_between, All-cons, All-drop, All-from_get_or, All-get_or, All-head}
+use Rattle.documents.proofs.Common.{All-nil, All-map, All-tail, All-take, drop_split, sum_by-cons}
+use Rattle.documents.proofs.Common.{get_or_from_slice_get, same_Some, Named, known_tags, flags, flag_at, is_alike}
+use Rattle.documents.proofs.Common.{next_change, LimitTable, changed, length-changed, map-slice_range, in_spans}
+use Rattle.documents.proofs.Common.{SpanFits, Span, with_name, is_among, Empty, TooManyTags, Document, KeyedCell, Parts}
+use Rattle.documents.proofs.Common.{Widget, document_of, widget_at, with_key, with_tag, Key, key_named, key_pairs}
+use Rattle.documents.proofs.Common.{set_key, Stands, key_of, Change, answered, refused, spans_shown, add_spans}
+use Rattle.documents.proofs.Common.{remove_spans, IsTagChange, TellsSpan, TellsSpans, TellsTags, flags_of, Foretells}
+use Rattle.documents.proofs.Common.{TellsCells, TagChange, EditTold, slice_get, nat_lt, if◌then◌else◌}
 use mathlib.Core.Bool.{beq}
 use Rattle.name_list.specs.Names.{names_of}
 use Rattle.text_index.proofs.FlagLaws.{next-alike}
@@ -28,6 +26,7 @@ use Rattle.documents.proofs.PartsLaws.{Sits, mapped-at}
 use Rattle.documents.proofs.SlotLaws.{slot_for, slot_for-named}
 use Rattle.documents.proofs.SpanLaws.{slot_known}
 use Rattle.documents.proofs.TagsToldLaws.{drop-changed, part-changed, set_again, tells-then, told-characters}
+use Rattle.std.specs.FinSet as set
 
 -- ---- parts of a list
 

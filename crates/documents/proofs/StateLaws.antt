@@ -1,32 +1,31 @@
 -- A document after what edits do to its text: a text is put in, cells are taken out, and an action is noted.
-use Rattle.documents.proofs.Words.{◌≡◌, ℕ, ◌+◌, ◌-◌, ◌*◌, ◌<◌, ◌≤◌, true, false, List, [], ◌∷◌, Option, None, Some, map}
-use Rattle.documents.proofs.Words.{length, take, drop, get_or, refl, sym, ap, ap₂, subst, ◌∙◌, arith, slice_range}
-use Rattle.documents.proofs.Words.{if◌then◌else◌, IsScalar, All, AllByRecursion, get_or-map, length-map, All-append}
-use Rattle.documents.proofs.Words.{All-drop, All-head, All-tail, All-take, Named, Cell, Remove, MOST_CHARS, Place}
-use Rattle.documents.proofs.Words.{Content, Marks, Slots, map_marks, IsDocument, drawn, inserted, moved}
-use Rattle.documents.proofs.Words.{after_insertion, after_removal, cells_of, characters-inserted, characters-removed}
-use Rattle.documents.proofs.Words.{IsDocument-inserted, IsDocument-removed, length-cells_inserted, length-removed}
-use Rattle.documents.proofs.Words.{shared_slots, limit_of, noted, counted_new, Action, EditKind, AnchorsStand}
-use Rattle.documents.proofs.Words.{AreAnchored, anchors_moved, anchors_removed, inserted_text, inserted_texts, slots_or}
-use Rattle.documents.proofs.Words.{removed_span, Log, State, log_noted, state_of, Anchors, SlottedText, all-moved}
-use Rattle.documents.proofs.Words.{all-removed, anchored-stand, text-end-begins, recording_of, Document, Journal}
-use Rattle.documents.proofs.Words.{KeyedCell, Parts, SharedMark, Widget, characters, document_of, placed, whole}
-use Rattle.documents.proofs.Words.{widget_of, keys_between, keys_or, with_action, with_cells, with_text, with_texts}
-use Rattle.documents.proofs.Words.{without_cells, without_span, AreKnown, HasKnownSlots, HasOwnMarks, IsSeated, Stands}
-use Rattle.documents.proofs.Words.{Keys, keyed, keys_of}
-use Rattle.std.proofs.Common.{eqb-true}
-use Rattle.std.specs.Prelude.{Bool, option_map, ◌==◌}
+use Rattle.documents.proofs.Common.{◌≡◌, ℕ, ◌+◌, ◌-◌, ◌*◌, ◌<◌, ◌≤◌, true, false, List, [], ◌∷◌, Option, None, Some}
+use Rattle.documents.proofs.Common.{map, length, take, drop, get_or, refl, sym, ap, ap₂, subst, ◌∙◌, arith, slice_range}
+use Rattle.documents.proofs.Common.{if◌then◌else◌, IsScalar, All, AllByRecursion, get_or-map, length-map, All-append}
+use Rattle.documents.proofs.Common.{All-drop, All-head, All-tail, All-take, Named, Remove, MOST_CHARS, Place, Content}
+use Rattle.documents.proofs.Common.{Marks, Slots, map_marks, IsDocument, drawn, inserted, moved, after_insertion}
+use Rattle.documents.proofs.Common.{after_removal, cells_of, characters-inserted, characters-removed}
+use Rattle.documents.proofs.Common.{IsDocument-inserted, IsDocument-removed, length-cells_inserted, length-removed}
+use Rattle.documents.proofs.Common.{shared_slots, limit_of, noted, counted_new, Action, EditKind, AnchorsStand}
+use Rattle.documents.proofs.Common.{AreAnchored, anchors_moved, anchors_removed, inserted_text, inserted_texts}
+use Rattle.documents.proofs.Common.{slots_or, removed_span, Log, State, log_noted, state_of, Anchors, SlottedText}
+use Rattle.documents.proofs.Common.{all-moved, all-removed, anchored-stand, text-end-begins, recording_of, Document}
+use Rattle.documents.proofs.Common.{Journal, KeyedCell, Parts, SharedMark, Widget, characters, document_of, placed}
+use Rattle.documents.proofs.Common.{whole, widget_of, keys_between, keys_or, with_action, with_cells, with_text}
+use Rattle.documents.proofs.Common.{with_texts, without_cells, without_span, AreKnown, HasKnownSlots, HasOwnMarks}
+use Rattle.documents.proofs.Common.{IsSeated, Stands, Keys, keyed, keys_of, eqb-true, Bool, option_map, ◌==◌}
 use Rattle.text_model.specs.declared.edits.Step.TheVariants.{Insert}
-use Rattle.text_model.specs.Content as model
 use Rattle.text_model.proofs.StepLaws.{MarksStand-after_step}
 use Rattle.edit_ops.specs.Insertions.{total}
 use Rattle.edit_ops.specs.declared.plans.Recording.{Recording}
 use Rattle.edit_ops.proofs.InsertLaws.{total-cons}
+use Rattle.text_model.proofs.RunLaws.{long as count-characters}
 use Rattle.documents.proofs.KeyedLaws.{keyed-inserted, keyed-removed, keyed-shared}
 use Rattle.documents.proofs.KnownLaws.{IsKnownPiece, known-inserted, known-put}
 use Rattle.documents.proofs.NamedLaws.{keyed_piece}
 use Rattle.documents.proofs.PartsLaws.{characters-keyed, pairs_of}
 use Rattle.documents.proofs.PlacedLaws.{are-moved, gravity-moved, mark-there, mark_of-moved, placed-moved}
+use Rattle.text_model.specs.Content as model
 
 -- the parts with another state of what edits change
 abbrev pub with_state : Parts → State → Parts
@@ -44,9 +43,6 @@ with_log log parts = with_state parts (state_of parts.content parts.journal.anch
 -- cells of a text
 abbrev pub cells_with : List ℕ → Keys → List KeyedCell
 cells_with text keys = map (λ character. record { character = character; keys = keys }) text
-
-count-characters : (cells : List Cell) → length (model.characters cells) ≡ length cells
-count-characters cells = length-map cells (λ (cell : Cell). cell.character)
 
 -- ---- the widgets, whose anchors and own marks go along
 
@@ -403,18 +399,17 @@ length-span recording kind from to state ordered within =
 
 -- ---- what an edit of a store leaves
 
--- the state that an edit leaves, by the settings of the document
-pub edited-is : (edit : Recording → State → State) (before after : State) (recording given : Recording) →
-    given ≡ recording → after ≡ edit given before → after ≡ edit recording before
-edited-is edit before after recording given same made = made ∙ ap (λ r. edit r before) same
+-- an edit that came to nothing
+pub stands-unedited : {parts : Parts} {document : Document} {content : Content} {anchors : List Anchors} {log : Log} →
+    Stands parts document → content ≡ parts.content → log ≡ parts.journal.log → anchors ≡ parts.journal.anchors
+    → Stands (with_state parts (state_of content anchors log)) document
+stands-unedited {parts} {document} stands same past held =
+    subst (λ (state : State). Stands (with_state parts state) document)
+    (λ i. state_of (sym same i) (sym held i) (sym past i)) stands
 
-pub unedited-is : (content changed : Content) (held kept : List Anchors) (before after : Log) → changed ≡ content →
-    after ≡ before → kept ≡ held → state_of changed kept after ≡ state_of content held before
-unedited-is content changed held kept before after cells log anchors = λ i. state_of (cells i) (anchors i) (log i)
-
-pub anchors-stand : (parts : Parts) (document : Document) → Stands parts document →
+pub anchors-stand : {parts : Parts} {document : Document} → Stands parts document →
     All (AnchorsStand (length parts.content.cells)) parts.journal.anchors
-anchors-stand parts document stands = λ k anchors within.
+anchors-stand {parts} stands = λ k anchors within.
     subst (λ n. AnchorsStand n (get_or parts.journal.anchors k anchors)) (count-characters parts.content.cells)
     (anchored-stand (model.characters parts.content.cells) (get_or parts.journal.anchors k anchors)
     (stands.sound.views.anchored k anchors within))

@@ -1,8 +1,8 @@
 -- Commands that are no edit of the text or of tags leave its characters with their tags.
-use Rattle.documents.proofs.Words.{◌≡◌, ℕ, true, false, List, [], ◌∷◌, ◌++◌, Option, Some, None, length, refl, nat_le}
-use Rattle.documents.proofs.Words.{if◌then◌else◌, LimitTable, Right, Place, separated, Empty, TooManyMarks, is_same}
-use Rattle.documents.proofs.Words.{literal, Document, Widget, set_found, with_current, with_insert, with_mark}
-use Rattle.documents.proofs.Words.{with_shared, answered, refused}
+use Rattle.documents.proofs.Common.{◌≡◌, ℕ, true, false, List, [], ◌∷◌, ◌++◌, Option, Some, None, length, refl, nat_le}
+use Rattle.documents.proofs.Common.{if◌then◌else◌, LimitTable, Right, Place, separated, Empty, TooManyMarks, is_same}
+use Rattle.documents.proofs.Common.{literal, Document, Widget, set_found, with_current, with_insert, with_mark}
+use Rattle.documents.proofs.Common.{with_shared, answered, refused}
 use Rattle.documents.proofs.CarriedLaws.{IsMarked, IsQuiet, carried-reordered}
 
 -- a document with the characters of another one, and with their tags

@@ -1,11 +1,10 @@
 -- Commands that are no edit of the text and move no mark leave each mark where a widget sees it.
-use Rattle.documents.proofs.Words.{◌≡◌, ℕ, ◌+◌, Bool, true, false, List, ◌∷◌, [], Some, length, refl, ap, ap₂, sym, ◌∙◌}
-use Rattle.documents.proofs.Words.{option_map, option_or, find-append, LimitTable, Place, separated, Empty, TooManyTags}
-use Rattle.documents.proofs.Words.{Settings, with_name, is_among, is_same, literal, Document, SharedMark, Widget}
-use Rattle.documents.proofs.Words.{with_tag, modified_set, MarksTold, offset_seen, key_of, widget_set, with_settings}
-use Rattle.documents.proofs.Words.{answered, refused, spans_shown, add_spans, remove_spans, tag_delete, new_widget}
-use Rattle.documents.proofs.Words.{widget_named, with_peer}
-use Rattle.std.proofs.Common.{find, nat_lt, option_and_then, if◌then◌else◌}
+use Rattle.documents.proofs.Common.{◌≡◌, ℕ, ◌+◌, Bool, true, false, List, ◌∷◌, [], Some, length, refl, ap, ap₂, sym}
+use Rattle.documents.proofs.Common.{◌∙◌, option_map, option_or, find-append, LimitTable, Place, separated, Empty}
+use Rattle.documents.proofs.Common.{TooManyTags, Settings, with_name, is_among, is_same, literal, Document, SharedMark}
+use Rattle.documents.proofs.Common.{Widget, with_tag, modified_set, MarksTold, offset_seen, key_of, widget_set}
+use Rattle.documents.proofs.Common.{with_settings, answered, refused, spans_shown, add_spans, remove_spans, tag_delete}
+use Rattle.documents.proofs.Common.{new_widget, widget_named, with_peer, find, nat_lt, option_and_then, if◌then◌else◌}
 use Rattle.documents.proofs.CarriedLaws.{IsQuiet, IsTagged, carried-reordered}
 use Rattle.documents.proofs.MarksToldLaws.{put-still, seen-found, told-none, widget-changed}
 

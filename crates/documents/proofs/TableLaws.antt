@@ -1,15 +1,15 @@
 -- A document whose table has other tags, and whose cells have other slots.
-use Rattle.documents.proofs.Words.{◌≡◌, ℕ, ◌+◌, ◌≤◌, List, [], ◌∷◌, Bool, Ok, length, map, refl, sym, ap, subst, ◌∙◌}
-use Rattle.documents.proofs.Words.{arith, All, AllByRecursion, length-map, All-head, All-tail, Named, AreTags, Tag}
-use Rattle.documents.proofs.Words.{Tags, names_of, Cell, Content, Marks, IsDocument, LimitTable, changed, with_slot}
-use Rattle.documents.proofs.Words.{characters-with_slot, length-changed, FitsText, AreAnchored, Log, SpanFits, tagged}
-use Rattle.documents.proofs.Words.{Span, Empty, Document, KeyedCell, Parts, document_of, placed, widget_of, key_pairs}
-use Rattle.documents.proofs.Words.{keyed, pair_slots, AreMarked, HasKnownSlots, HasOwnMarks, Stands, Change, answered}
-use Rattle.std.specs.Prelude.{Contains}
-use Rattle.std.specs.FinMap as finite
+use Rattle.documents.proofs.Common.{◌≡◌, ℕ, ◌+◌, ◌≤◌, List, [], ◌∷◌, Bool, Ok, length, map, refl, sym, ap, subst, ◌∙◌}
+use Rattle.documents.proofs.Common.{arith, All, AllByRecursion, All-head, All-tail, Named, AreTags, Tag, Tags, names_of}
+use Rattle.documents.proofs.Common.{Content, Marks, IsDocument, LimitTable, changed, with_slot, characters-with_slot}
+use Rattle.documents.proofs.Common.{length-changed, FitsText, AreAnchored, Log, SpanFits, tagged, Span, Empty, Document}
+use Rattle.documents.proofs.Common.{KeyedCell, Parts, document_of, placed, widget_of, key_pairs, keyed, pair_slots}
+use Rattle.documents.proofs.Common.{AreMarked, HasKnownSlots, HasOwnMarks, Stands, Change, answered, Contains}
 use Rattle.text_model.specs.Content.{characters}
+use Rattle.text_model.proofs.RunLaws.{long as counted}
 use Rattle.documents.proofs.ChangeLaws.{Leaves, does-changed}
 use Rattle.documents.proofs.KnownLaws.{known-changed}
+use Rattle.std.specs.FinMap as finite
 
 -- the parts with another table and another store
 abbrev pub retagged : Parts → Tags → Content → Parts
@@ -38,9 +38,6 @@ retagged-is old table content cells marks is =
       tags = names_of table.tags;
     }
 
-counted : (cells : List Cell) → length (characters cells) ≡ length cells
-counted cells = length-map cells (λ (cell : Cell). cell.character)
-
 pub leaves-retagged : (limits : LimitTable) (old : Parts) (table : Tags) (content : Content) (document : Document)
     (change : Change) → Stands old document → IsRetagged old table content
     → (length old.tags.tags ≤ limits.tags + 1 → length table.tags ≤ limits.tags + 1) →
@@ -51,7 +48,7 @@ leaves-retagged limits old table content document change stands new few is =
     let long : length content.cells ≡ length old.content.cells = sym (counted content.cells) ∙ ap length new.same
     ∙ counted old.content.cells in
     let short = kept.short in
-    does-changed limits old (retagged old table content) document change stands (record {
+    does-changed stands (record {
       sound = record {
         kept = record {
           seats = kept.seats;

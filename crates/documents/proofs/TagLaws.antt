@@ -1,10 +1,9 @@
 -- A document after its tags are put in another order or deleted.
-use Rattle.documents.proofs.Words.{◌≡◌, ℕ, ◌≤◌, Bool, true, false, List, [], ◌∷◌, Option, Err, Ok, cond, filter, length}
-use Rattle.documents.proofs.Words.{map, refl, sym, ap, subst, ◌∙◌, arith, length-map, map-map, AreTags, Tag, Tags}
-use Rattle.documents.proofs.Words.{names_of, Cell, Content, LimitTable, Log, cell_without, cleared, Empty, NoSuchTag}
-use Rattle.documents.proofs.Words.{slots_deleted, tags_left, stays, Document, Parts, document_of, Stands, answered}
-use Rattle.documents.proofs.Words.{reordered, tag_delete, without_tags}
-use Rattle.tag_table.specs.declared.faults.NoSuchTag as table_fault
+use Rattle.documents.proofs.Common.{◌≡◌, ℕ, ◌≤◌, Bool, true, false, List, [], ◌∷◌, Option, Err, Ok, cond, filter}
+use Rattle.documents.proofs.Common.{length, map, refl, sym, ap, subst, ◌∙◌, arith, length-map, map-map, AreTags, Tag}
+use Rattle.documents.proofs.Common.{Tags, names_of, Cell, Content, LimitTable, Log, cell_without, cleared, Empty}
+use Rattle.documents.proofs.Common.{NoSuchTag, slots_deleted, tags_left, stays, Document, Parts, document_of, Stands}
+use Rattle.documents.proofs.Common.{answered, reordered, tag_delete, without_tags}
 use Rattle.documents.proofs.ChangeLaws.{Leaves, does-left, stands-same}
 use Rattle.documents.proofs.ClearedLaws.{keyed-deleted, known-deleted, names_left}
 use Rattle.documents.proofs.KeyedLaws.{keyed-reordered}
@@ -12,6 +11,7 @@ use Rattle.documents.proofs.KnownLaws.{known-reordered}
 use Rattle.documents.proofs.OrderLaws.{IsOrdered, Order}
 use Rattle.documents.proofs.ReorderLaws.{IsUnknown, reordered-made, reordered-unknown, unknown_at}
 use Rattle.documents.proofs.TableLaws.{leaves-relogged, leaves-retagged, relogged, retagged, retagged-is}
+use Rattle.tag_table.specs.declared.faults.NoSuchTag as table_fault
 
 -- ---- another order
 
@@ -48,8 +48,7 @@ pub does-unordered : (limits : LimitTable) (old : Parts) (new : Tags) (document 
     → Leaves limits (record old { tags = new }) document (Err (NoSuchTag (unknown_at position fault)))
     (reordered document position order (word, other))
 does-unordered limits old new document position order word other fault stands same unknown =
-    let left = stands-same old (record old { tags = new }) document stands
-    (ap (λ (t : Tags). record old { tags = t }) same) in
+    let left = stands-same stands (ap (λ (t : Tags). record old { tags = t }) same) in
     let tags : document.tags ≡ names_of old.tags.tags = ap (λ (d : Document). d.tags) (sym stands.is) in
     record {
       sound = left.sound;
@@ -69,12 +68,12 @@ filter-shorter p (x ∷ xs) =
       | false ↦ omega (arith, rest)
     ]
 
-pub leaves-deleted : (limits : LimitTable) (old : Parts) (new : Tags) (content : Content) (log : Log)
-    (document : Document) (names : List (List ℕ)) (slots : List ℕ) → Stands old document → AreTags new
+pub leaves-deleted : {old : Parts} {new : Tags} {content : Content} {log : Log} {document : Document} {slots : List ℕ}
+    (limits : LimitTable) (names : List (List ℕ)) → Stands old document → AreTags new
     → new ≡ record old.tags { tags = tags_left names old.tags.tags } → slots ≡ slots_deleted old.tags.tags names →
     content ≡ cleared slots old.content → log ≡ old.journal.log
     → Leaves limits (relogged (retagged old new content) log) document (Ok Empty) (tag_delete document names)
-leaves-deleted limits old new content log document names slots stands sound table gone clear same =
+leaves-deleted {old} {new} {content} {log} {document} {slots} limits names stands sound table gone clear same =
     let seats = old.seats.entries in
     let kept = stands.sound.kept in
     let left : Tags = record old.tags { tags = tags_left names old.tags.tags } in

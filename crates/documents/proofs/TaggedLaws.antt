@@ -1,20 +1,20 @@
 -- Which characters of a widget's view have a tag.
-use Rattle.documents.proofs.Words.{◌≡◌, ℕ, zero, suc, ◌+◌, ◌-◌, ◌<◌, ◌≤◌, Bool, true, false, cond, List, [], ◌∷◌}
-use Rattle.documents.proofs.Words.{length, drop, refl, sym, ap, ◌∙◌, arith, slice_get, slice_range, if◌then◌else◌}
-use Rattle.documents.proofs.Words.{get_or-drop, get_or-take, length-drop, length-map, length-take}
-use Rattle.documents.proofs.Words.{get_or_from_slice_get, none-some, known_tags, Tag, names_of, Cell, flag_at, Content}
-use Rattle.documents.proofs.Words.{Slots, flags, slot_sets, own_slot, is_among, Document, KeyedCell, Parts, Widget}
-use Rattle.documents.proofs.Words.{widget_at, key_named, Stands, tags_on, shown, shown_flags, view_end, view_start}
-use Rattle.std.specs.Prelude.{None, Some, filter}
-use Rattle.std.specs.FinSet as set
-use Rattle.text_index.specs.Views as view
+use Rattle.documents.proofs.Common.{◌≡◌, ℕ, zero, suc, ◌+◌, ◌-◌, ◌<◌, ◌≤◌, Bool, true, false, cond, List, [], ◌∷◌}
+use Rattle.documents.proofs.Common.{length, drop, refl, sym, ap, ◌∙◌, arith, slice_get, slice_range, if◌then◌else◌}
+use Rattle.documents.proofs.Common.{get_or-drop, get_or-take, length-drop, length-map, length-take}
+use Rattle.documents.proofs.Common.{get_or_from_slice_get, none-some, known_tags, Tag, names_of, Cell, flag_at, Content}
+use Rattle.documents.proofs.Common.{Slots, flags, slot_sets, own_slot, is_among, Document, KeyedCell, Parts, Widget}
+use Rattle.documents.proofs.Common.{widget_at, key_named, Stands, tags_on, shown, shown_flags, view_end, view_start}
+use Rattle.documents.proofs.Common.{None, Some, filter}
 use Rattle.documents.specs.Tags.{flags_of}
 use Rattle.documents.proofs.SlotLaws.{known_standing}
 use Rattle.documents.proofs.SpanLaws.{slot_known, slot_unknown}
 use Rattle.documents.proofs.ViewLaws.{IsSeen, flags-is}
+use Rattle.std.specs.FinSet as set
+use Rattle.text_index.specs.Views as view
 
 -- what a slot is by in a view as it was found
-module _ (parts : Parts) (document : Document) (place slot : ℕ) (content : Content) (first behind : ℕ)
+module _ {parts : Parts} {document : Document} {place slot : ℕ} {content : Content} {first behind : ℕ}
     (seen : IsSeen parts document place slot content first behind) where
   abbrev widget : Widget
   widget = widget_at document place
@@ -38,9 +38,10 @@ module _ (parts : Parts) (document : Document) (place slot : ℕ) (content : Con
       ∙ slot_known name parts.tags.tags slot tag (sym known)))
 
 -- and of one that isn't
-pub flags-unknown : (parts : Parts) (document : Document) (place slot : ℕ) → Stands parts document → (name : List ℕ) →
-    None ≡ known_tags parts.tags.tags slot name → [] ≡ flags_of document (widget_at document place) name
-flags-unknown parts document place slot stands name unknown =
+pub flags-unknown : {parts : Parts} {document : Document} (place slot : ℕ) → Stands parts document →
+    (name : List ℕ) → None ≡ known_tags parts.tags.tags slot name
+    → [] ≡ flags_of document (widget_at document place) name
+flags-unknown {parts} {document} place slot stands name unknown =
     let widget = widget_at document place in
     sym (ap (λ b. if b then shown_flags document widget (key_named widget.name name) else [])
     (ap (λ (d : Document). is_among name d.tags) (sym stands.is)
@@ -75,7 +76,7 @@ flag-part : (fs : List Bool) (first behind at : ℕ) → first + at < behind →
 flag-part fs first behind at within =
     get_or-take (behind - first) (drop first fs) at false (omega (arith, within)) ∙ get_or-drop first fs at false
 
-module _ (parts : Parts) (document : Document) (place slot : ℕ) (content : Content) (first behind : ℕ)
+module _ {parts : Parts} {document : Document} {place slot : ℕ} {content : Content} {first behind : ℕ}
     (seen : IsSeen parts document place slot content first behind) where
   abbrev shown_by : Widget
   shown_by = widget_at document place
@@ -91,8 +92,7 @@ module _ (parts : Parts) (document : Document) (place slot : ℕ) (content : Con
       (λ k tag stands.
       sym (flag_of content.cells slots (own_slot slot tag.slot) (first + at) found)
       ∙ sym (flag-part (flags (own_slot slot tag.slot) content.cells) first behind at within)
-      ∙ ap (λ fs. flag_at fs at) (flags-seen parts document place slot content first behind seen tag.name
-      (own_slot slot tag.slot)
+      ∙ ap (λ fs. flag_at fs at) (flags-seen seen tag.name (own_slot slot tag.slot)
       (known_standing parts.tags.tags k tag slot seen.stands.sound.kept.tags.names_apart stands)))
       ∙ ap (λ (d : Document). filter (λ word. flag_at (shown_flags document shown_by (key_named shown_by.name word)) at)
       d.tags) seen.stands.is

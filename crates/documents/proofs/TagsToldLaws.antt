@@ -1,24 +1,24 @@
 -- Changes of tags, one after the other, and what puts keys on characters that have none or takes all keys off.
-use Rattle.documents.proofs.Words.{◌≡◌, ℕ, ◌+◌, ◌-◌, ◌<◌, ◌≤◌, suc, Bool, true, false, cond, not, ◌||◌, List, [], ◌∷◌}
-use Rattle.documents.proofs.Words.{◌++◌, map, length, take, drop, refl, sym, ap, ap₂, ◌∙◌, arith, subst, append_assoc}
-use Rattle.documents.proofs.Words.{true≢false, filter, Some, slice_range, All, list_any, eq_by_cmp, false_from_ne_true}
-use Rattle.documents.proofs.Words.{or_left, or_right, length-append, length-drop, length-map, length-take-le}
-use Rattle.documents.proofs.Words.{map-append, append-nil, drop_at, drop-drop, take_at, split_between, All-map}
-use Rattle.documents.proofs.Words.{All-tail, list_any-append, AreApart, Named, stands_map, AreTags, Tag, Tags, changed}
-use Rattle.documents.proofs.Words.{Cell, changed-same, map-changed, length-changed, map-map, AreBareRuns, IsBareRun}
-use Rattle.documents.proofs.Words.{slotted, with_slots, SlotRun, AreApart-head, AreApart-tail, KeyedCell, characters}
-use Rattle.documents.proofs.Words.{bare, with_key, Key, Keys, is_shared, key_cmp, key_pairs, keyed, keys_listed}
-use Rattle.documents.proofs.Words.{keys_of, seat_pair, set_key, tag_pair, AreSeats, AreDistinct, AreKeysOf, IsTagChange}
-use Rattle.documents.proofs.Words.{TellsTags, key_set, run_changes, slot_changes, untagged, TagChange}
-use Rattle.std.proofs.Common.{slice_get}
-use Rattle.std.specs.FinSet as set
+use Rattle.documents.proofs.Common.{◌≡◌, ℕ, ◌+◌, ◌-◌, ◌<◌, ◌≤◌, suc, Bool, true, false, cond, not, ◌||◌, List, [], ◌∷◌}
+use Rattle.documents.proofs.Common.{◌++◌, map, length, take, drop, refl, sym, ap, ap₂, ◌∙◌, arith, subst, append_assoc}
+use Rattle.documents.proofs.Common.{true≢false, filter, Some, slice_range, All, list_any, eq_by_cmp, false_from_ne_true}
+use Rattle.documents.proofs.Common.{or_left, or_right, length-append, length-drop, length-map, length-take-le}
+use Rattle.documents.proofs.Common.{map-append, append-nil, drop_at, drop-drop, take_at, split_between, All-map}
+use Rattle.documents.proofs.Common.{All-tail, list_any-append, AreApart, Named, stands_map, AreTags, Tag, Tags, changed}
+use Rattle.documents.proofs.Common.{Cell, changed-same, map-changed, length-changed, map-map, AreBareRuns, IsBareRun}
+use Rattle.documents.proofs.Common.{slotted, with_slots, SlotRun, AreApart-head, AreApart-tail, KeyedCell, characters}
+use Rattle.documents.proofs.Common.{bare, with_key, Key, Keys, is_shared, key_cmp, key_pairs, keyed, keys_listed}
+use Rattle.documents.proofs.Common.{keys_of, seat_pair, set_key, tag_pair, AreSeats, AreDistinct, AreKeysOf}
+use Rattle.documents.proofs.Common.{IsTagChange, TellsTags, key_set, run_changes, slot_changes, untagged, TagChange}
+use Rattle.documents.proofs.Common.{slice_get}
 use Rattle.name_list.specs.Names.{names_of}
 use Rattle.tag_table.specs.Tags.{names_of as tag_names}
-use Rattle.text_model.specs.Content as model
 use Rattle.documents.proofs.BridgeLaws.{contains-set_key, key_itself, key_tied, keys_of-empty, keys_same}
 use Rattle.documents.proofs.KeyLaws.{key_cmp_total}
 use Rattle.documents.proofs.KeyedLaws.{keyed_cell}
 use Rattle.documents.proofs.LookupLaws.{AreApart-filter}
+use Rattle.std.specs.FinSet as set
+use Rattle.text_model.specs.Content as model
 
 -- ---- changes one after the other
 
@@ -87,7 +87,7 @@ none_left false = refl
 
 -- the keys of a list, put on characters without keys, are the list's
 all-put : (keys : Keys) (listed : List Key) → AreKeysOf keys listed → set_all true listed set.empty ≡ keys
-all-put keys listed are = keys_same (set_all true listed set.empty) keys (λ key.
+all-put keys listed are = keys_same (λ key.
     contains-set_all true listed set.empty key
     ∙ ap (cond (list_any (eq_by_cmp key_cmp key) listed) true) (set.contains-empty key_cmp key)
     ∙ itself (list_any (eq_by_cmp key_cmp key) listed)
@@ -96,7 +96,7 @@ all-put keys listed are = keys_same (set_all true listed set.empty) keys (λ key
 
 -- and taken off characters that have them alone, none is left
 all-taken : (keys : Keys) (listed : List Key) → AreKeysOf keys listed → set_all false listed keys ≡ set.empty
-all-taken keys listed are = keys_same (set_all false listed keys) set.empty (λ key.
+all-taken keys listed are = keys_same (λ key.
     contains-set_all false listed keys key
     ∙ ap (cond (list_any (eq_by_cmp key_cmp key) listed) false) (sym (ap (λ ks. set.contains ks key) are.all)
     ∙ set.contains-from_list key_cmp_total listed key)
@@ -121,7 +121,7 @@ unlike-rest on first listed keys new unlike key there =
 
 -- keys with one of them put on that they have, or taken off that they haven't
 pub set_again : (key : Key) (on : Bool) (keys : Keys) → set.contains keys key ≡ on → set_key key on keys ≡ keys
-set_again key on keys is = keys_same (set_key key on keys) keys (λ other.
+set_again key on keys is = keys_same (λ other.
     contains-set_key key on keys other
     ∙ elim (eq_by_cmp key_cmp other key) as (λ b. eq_by_cmp key_cmp other key ≡ b →
     cond b on (set.contains keys other) ≡ set.contains keys other) [

@@ -1,41 +1,40 @@
 -- What is told of a command beforehand is what it makes of the text and of its tags.
-use Rattle.documents.proofs.Words.{◌≡◌, ℕ, ◌+◌, ◌-◌, ◌<◌, ◌≤◌, ◌^◌, ◌==◌, ◌&&◌, not, true, false, List, [], ◌∷◌, Option}
-use Rattle.documents.proofs.Words.{Some, None, map, length, take, drop, get_or, refl, sym, ap, ap₂, ◌∙◌, arith, subst}
-use Rattle.documents.proofs.Words.{append_assoc, ◌++◌, Bool, IsSome, and_parts, eqb-true, false≢true, ltb-false}
-use Rattle.documents.proofs.Words.{ltb-true, drop_more, length-take-le, map-append, take-append-drop, sum_by-cons}
-use Rattle.documents.proofs.Words.{get_or_from_slice_get, option_and_then_some, slot_sets, Cell, AreLimits, LimitTable}
-use Rattle.documents.proofs.Words.{changed, inserted, removed, Place, length-removed, map-map, removed-append_left}
-use Rattle.documents.proofs.Words.{Action, EditKind, put_in, take_out, repeated, repeated_group, next_redo, next_undo}
-use Rattle.documents.proofs.Words.{Named, AreTags, Tags, shared_slots, delete_set, in_spans, runs_below, clipped}
-use Rattle.documents.proofs.Words.{replayed, replays, action_redone, group_redone, put_back, redo_end, taken_back}
-use Rattle.documents.proofs.Words.{undo_end, AreBareRuns, bare_cells, slotted, State, AreHunks, Tells, hunk_changes}
-use Rattle.documents.proofs.Words.{patched, patched_by, putting, taking, taking_out, SlotRun, Span, map-patched}
-use Rattle.documents.proofs.Words.{putting-append, removed_all, taking-is, back-cons, guarded-holds, redone-text, Pair}
-use Rattle.documents.proofs.Words.{total, Empty, NothingToRedo, NothingToUndo, TextTooLong, TooManyTags, delete_places}
-use Rattle.documents.proofs.Words.{delete_spans, deleted_runs, last_bare, replace_span, replaced, with_clipped}
-use Rattle.documents.proofs.Words.{Document, KeyedCell, Parts, Widget, characters, widget_at, bare, keys_between}
-use Rattle.documents.proofs.Words.{with_action, with_bare, with_texts, without_cells, without_span, without_spans}
-use Rattle.documents.proofs.Words.{action_again, action_back, edit_redo, edit_undo, group_again, group_back, redo_found}
-use Rattle.documents.proofs.Words.{redone, text_back, undo_found, undone, with_end, AreSeats, Stands, Key, key_pairs}
-use Rattle.documents.proofs.Words.{keyed, keys_listed, keys_of, Change, answered, refused, spans_shown, AreKeysOf}
-use Rattle.documents.proofs.Words.{TellsPairs, TellsTags, after_changes, run_changes, slot_changes, untagged, insert_at}
-use Rattle.documents.proofs.Words.{keyed_text, tags_with, within_limits, Foretells, TellsCells, is_idle, view_end}
-use Rattle.documents.proofs.Words.{view_start, TagChange, EditTold}
-use Rattle.std.proofs.Common.{append-nil, slice_get, nat_le, nat_lt, slice_range, sum_by, if◌then◌else◌}
-use Rattle.std.specs.FinSet as set
-use Rattle.text_model.specs.Content as model
-use Rattle.undo_stack.specs.declared.actions.EditKind.TheVariants as kind
+use Rattle.documents.proofs.Common.{◌≡◌, ℕ, ◌+◌, ◌-◌, ◌<◌, ◌≤◌, ◌^◌, ◌==◌, ◌&&◌, true, false, List, [], ◌∷◌, Option}
+use Rattle.documents.proofs.Common.{Some, None, map, length, take, drop, get_or, refl, sym, ap, ap₂, ◌∙◌, arith, subst}
+use Rattle.documents.proofs.Common.{append_assoc, ◌++◌, Bool, IsSome, and_parts, eqb-true, false≢true, ltb-false}
+use Rattle.documents.proofs.Common.{ltb-true, drop_more, length-take-le, map-append, take-append-drop, sum_by-cons}
+use Rattle.documents.proofs.Common.{get_or_from_slice_get, option_and_then_some, slot_sets, Cell, AreLimits, LimitTable}
+use Rattle.documents.proofs.Common.{changed, inserted, removed, Place, length-removed, map-map, removed-append_left}
+use Rattle.documents.proofs.Common.{Action, EditKind, put_in, take_out, repeated, repeated_group, next_redo, next_undo}
+use Rattle.documents.proofs.Common.{Named, AreTags, Tags, shared_slots, delete_set, in_spans, runs_below, clipped}
+use Rattle.documents.proofs.Common.{replays, action_redone, group_redone, put_back, redo_end, taken_back, undo_end}
+use Rattle.documents.proofs.Common.{AreBareRuns, bare_cells, slotted, State, AreHunks, Tells, hunk_changes, patched}
+use Rattle.documents.proofs.Common.{patched_by, putting, taking, taking_out, SlotRun, Span, map-patched, putting-append}
+use Rattle.documents.proofs.Common.{removed_all, taking-is, guarded-holds, redone-text, Pair, total, Empty, TextTooLong}
+use Rattle.documents.proofs.Common.{TooManyTags, delete_places, delete_spans, deleted_runs, last_bare, replace_span}
+use Rattle.documents.proofs.Common.{replaced, with_clipped, Document, KeyedCell, Parts, Widget, characters, widget_at}
+use Rattle.documents.proofs.Common.{bare, keys_between, with_action, with_bare, with_texts, without_cells, without_span}
+use Rattle.documents.proofs.Common.{without_spans, action_again, edit_redo, edit_undo, group_again, group_back, redone}
+use Rattle.documents.proofs.Common.{text_back, undone, with_end, AreSeats, Key, key_pairs, keyed, keys_listed, keys_of}
+use Rattle.documents.proofs.Common.{Change, answered, refused, spans_shown, AreKeysOf, TellsPairs, TellsTags}
+use Rattle.documents.proofs.Common.{after_changes, run_changes, slot_changes, untagged, insert_at, keyed_text}
+use Rattle.documents.proofs.Common.{tags_with, within_limits, Foretells, TellsCells, is_idle, view_end, TagChange}
+use Rattle.documents.proofs.Common.{EditTold, append-nil, slice_get, nat_le, nat_lt, slice_range, sum_by, if◌then◌else◌}
 use Rattle.text_cursor.proofs.AroundLaws.{length-characters}
 use Rattle.edit_ops.specs.Deletions.{AreApart}
 use Rattle.edit_ops.specs.declared.hunks.Hunk.{Hunk}
 use Rattle.edit_ops.proofs.TellLaws.{hunks-made}
+use Rattle.documents.proofs.BackLaws.{again-back, redo-done, undo-done}
 use Rattle.documents.proofs.BridgeLaws.{keys_of-empty}
 use Rattle.documents.proofs.KeyListLaws.{listed-none}
 use Rattle.documents.proofs.KeyedLaws.{keyed-inserted, keyed-removed, keyed-shared, keyed_cell}
 use Rattle.documents.proofs.PairTagLaws.{keys-kept, keys_at, no_cell, texts_of}
-use Rattle.documents.proofs.PartsLaws.{Sits, cells-kept, characters-kept, length-keyed}
+use Rattle.documents.proofs.PartsLaws.{cells-kept, characters-kept, length-keyed}
 use Rattle.documents.proofs.TagsToldLaws.{keys-listed, tells-bare, tells-slot-runs, told-characters}
-use Rattle.documents.proofs.ViewLaws.{end-is, end_in, start-is, start_in}
+use Rattle.documents.proofs.ViewLaws.{IsSeen, end-found-is, start-found-is}
+use Rattle.std.specs.FinSet as set
+use Rattle.text_model.specs.Content as model
+use Rattle.undo_stack.specs.declared.actions.EditKind.TheVariants as kind
 
 -- the hunks of one pair more
 pub texts-more : (at : ℕ) (front hunks now : List Hunk) (pairs : List Pair) (pair : Pair) (text : List ℕ)
@@ -228,9 +227,9 @@ deletion-foretold document widget spans runs hunks takes tags told is apart are 
     ] refl)))
 
 -- of a document as it is kept, where the view's bounds, the spans and the runs were found
-pub deletion-told : (parts : Parts) (document : Document) (place slot start end : ℕ) (places : List ℕ)
-    (spans runs : List Span) (hunks : List Hunk) (takes : Bool) (tags : List TagChange) (told : EditTold) → Stands parts document
-    → Sits parts document place slot → start ≡ start_in parts slot → end ≡ end_in parts slot
+pub deletion-told : {parts : Parts} {document : Document} {place slot start end : ℕ} {spans runs : List Span}
+    {hunks : List Hunk} {takes : Bool} {tags : List TagChange} {told : EditTold} (places : List ℕ)
+    → IsSeen parts document place slot parts.content start end
     → spans ≡ spans_shown document (widget_at document place) places
     → runs ≡ runs_below (length parts.content.cells) (delete_set (model.characters parts.content.cells) start end
     (in_spans spans))
@@ -239,14 +238,14 @@ pub deletion-told : (parts : Parts) (document : Document) (place slot start end 
     → ((cells : List KeyedCell) → TellsTags tags (patched_by untagged 0 hunks document.cells) cells
     → TellsCells document.cells cells told)
     → Foretells document (delete_places document (widget_at document place) places) told
-deletion-told parts document place slot start end places spans runs hunks takes tags told stands sits begins ends shows
-    is apart are takes_is bared plain tells =
+deletion-told {parts} {document} {place} {spans = spans} {runs} {hunks} {takes} {tags} {told} places seen shows is apart
+    are takes_is bared plain tells =
     let widget : Widget = widget_at document place in
     let shown_spans : List Span = spans_shown document widget places in
-    let long = cells-kept parts document stands.is in
-    let text_is = characters-kept parts document stands.is in
-    let start_is : start ≡ view_start widget = begins ∙ sym (start-is parts document place slot stands sits) in
-    let end_is : end ≡ view_end document widget = ends ∙ sym (end-is parts document place slot stands sits) in
+    let long = cells-kept parts document seen.stands.is in
+    let text_is = characters-kept parts document seen.stands.is in
+    let start_is = start-found-is seen in
+    let end_is = end-found-is seen in
     let runs_are : runs ≡ deleted_runs document widget shown_spans =
     is
     ∙ (λ i. runs_below (sym long i) (delete_set (sym text_is i) (start_is i) (end_is i) (in_spans (shows i)))) in
@@ -425,59 +424,6 @@ module _ (seats : List Named) (table : Tags) (seated : AreSeats seats) (sound : 
       by None is some = absurd (false≢true some)
       by (Some text) is some = group-cells limit actions text state document kept is
 
--- the actions of a group that are reverted, the last first
-again-append : (actions others : List Action) (document : Document)
-    → group_again (actions ++ others) document ≡ group_again others (group_again actions document)
-again-append [] others document = refl
-again-append (action ∷ actions) others document = again-append actions others (action_again action document)
-
-flipped-again : (action : Action) (document : Document)
-    → action_again (replayed true action) document ≡ action_back action document
-flipped-again action document =
-    elim action.inserts as (λ b. (if not b then text_back action.at action.text document
-    else without_cells action.at (action.at + length action.text) document)
-    ≡ (if b then without_cells action.at (action.at + length action.text) document
-    else text_back action.at action.text document)) [ true ↦ refl | false ↦ refl ]
-
-pub again-back : (group : List Action) (document : Document)
-    → group_again (replays true group) document ≡ group_back group document
-again-back [] document = refl
-again-back (action ∷ actions) document =
-    ap (λ all. group_again all document) (back-cons action actions)
-    ∙ again-append (replays true actions) (replayed true action ∷ []) document
-    ∙ flipped-again action (group_again (replays true actions) document)
-    ∙ ap (action_back action) (again-back actions document)
-
--- there is a group, or none
-undo-as : (document : Document) (widget : Widget) (found : Option (List Action)) → document.undo ≡ true →
-    next_undo document.history ≡ found
-    → edit_undo document widget ≡ undo_found document widget found
-undo-as document widget found on is =
-    ap (λ b. if b then undo_found document widget (next_undo document.history) else answered document Empty) on
-    ∙ ap (undo_found document widget) is
-
-redo-as : (document : Document) (widget : Widget) (found : Option (List Action)) → document.undo ≡ true →
-    next_redo document.history ≡ found
-    → edit_redo document widget ≡ redo_found document widget found
-redo-as document widget found on is =
-    ap (λ b. if b then redo_found document widget (next_redo document.history) else answered document Empty) on
-    ∙ ap (redo_found document widget) is
-
--- there is no group, which is a refusal
-pub undo-none : (document : Document) (widget : Widget) (told : EditTold) → document.undo ≡ true →
-    next_undo document.history ≡ None
-    → Foretells document (edit_undo document widget) told
-undo-none document widget told on is =
-    same-foretold document (edit_undo document widget) (refused document NothingToUndo) told
-    (undo-as document widget None on is) (λ ok. absurd (false≢true ok))
-
-pub redo-none : (document : Document) (widget : Widget) (told : EditTold) → document.undo ≡ true →
-    next_redo document.history ≡ None
-    → Foretells document (edit_redo document widget) told
-redo-none document widget told on is =
-    same-foretold document (edit_redo document widget) (refused document NothingToRedo) told
-    (redo-as document widget None on is) (λ ok. absurd (false≢true ok))
-
 pub undo-some : (document : Document) (widget : Widget) (group : List Action) (told : EditTold)
     → document.undo ≡ true → next_undo document.history ≡ Some group → is_idle document widget ≡ false
     → TellsCells document.cells (group_again (replays true group) document).cells told
@@ -485,8 +431,7 @@ pub undo-some : (document : Document) (widget : Widget) (group : List Action) (t
 undo-some document widget group told on is busy tells =
     let gone : Document = undone widget group document in
     same-foretold document (edit_undo document widget) (answered gone Empty) told
-    (undo-as document widget (Some group) on is
-    ∙ ap (λ b. answered (if b then document else gone) Empty) busy)
+    (undo-done document widget group on is busy)
     (told-by document (answered gone Empty) told (group_again (replays true group) document).cells
     (cells-end widget (undo_end group) (group_back group document)
     ∙ ap (λ (d : Document). d.cells) (sym (again-back group document))) tells)
@@ -498,7 +443,6 @@ pub redo-some : (document : Document) (widget : Widget) (group : List Action) (t
 redo-some document widget group told on is busy tells =
     let again : Document = redone widget group document in
     same-foretold document (edit_redo document widget) (answered again Empty) told
-    (redo-as document widget (Some group) on is
-    ∙ ap (λ b. answered (if b then document else again) Empty) busy)
+    (redo-done document widget group on is busy)
     (told-by document (answered again Empty) told (group_again (replays false group) document).cells
     (cells-end widget (redo_end group) (group_again group document)) tells)

@@ -1,21 +1,22 @@
 -- Widgets that go.
-use Rattle.documents.proofs.Words.{◌≡◌, ◌≢◌, ℕ, suc, ◌+◌, ◌*◌, true, false, cond, not, filter, List, [], ◌∷◌, Some}
-use Rattle.documents.proofs.Words.{length, map, refl, sym, ap, ap₂, subst, ◌∙◌, arith, slice_get, nat_lt, is_some}
-use Rattle.documents.proofs.Words.{unwrap_or, All, AllByRecursion, length-map, map-id, Cell, Content, Marks, IsDocument}
-use Rattle.documents.proofs.Words.{MarksStand, LimitTable, with_slot, map-map, FitsText, Named, Names, AreMarks}
-use Rattle.documents.proofs.Words.{SharedMarks, AreAnchored, cell_without, new_mark, without_widget, without_widgets}
-use Rattle.documents.proofs.Words.{is_among, Document, Journal, Parts, Widget, document_of, mark_of, widget_of}
-use Rattle.documents.proofs.Words.{AreSeats, HasKnownSlots, HasOwnMarks, IsSeated, IsSound, Stands, is_window_name}
-use Rattle.documents.proofs.Words.{key_pairs, keyed, numbers_gone, seats_left, IsWellFormedDocument, is_kept}
-use Rattle.std.specs.FinMap as finite
-use Rattle.text_model.specs.Content as model
-use Rattle.documents.specs.Widgets as widgets
+use Rattle.documents.proofs.Common.{◌≡◌, ◌≢◌, ℕ, suc, ◌+◌, ◌*◌, true, false, cond, not, filter, List, [], ◌∷◌, Some}
+use Rattle.documents.proofs.Common.{length, map, refl, sym, ap, ap₂, subst, ◌∙◌, arith, slice_get, nat_lt, is_some}
+use Rattle.documents.proofs.Common.{unwrap_or, All, AllByRecursion, length-map, map-id, Cell, Content, Marks}
+use Rattle.documents.proofs.Common.{IsDocument, MarksStand, LimitTable, with_slot, map-map, FitsText, Named, Names}
+use Rattle.documents.proofs.Common.{AreMarks, SharedMarks, AreAnchored, cell_without, new_mark, without_widget}
+use Rattle.documents.proofs.Common.{without_widgets, is_among, Document, Journal, Parts, Widget, document_of, mark_of}
+use Rattle.documents.proofs.Common.{widget_of, AreSeats, HasKnownSlots, HasOwnMarks, IsSeated, IsSound, Stands}
+use Rattle.documents.proofs.Common.{is_window_name, TagSlot, key_pairs, keyed, numbers_gone, seats_left}
+use Rattle.documents.proofs.Common.{IsWellFormedDocument, is_kept}
 use Rattle.documents.proofs.ClearedLaws.{AreSeats-left, gone-apart, gone-low, keyed-unseated, known-unseated}
 use Rattle.documents.proofs.ClearedLaws.{map-filter}
 use Rattle.documents.proofs.MarkLaws.{get-take_other, shared-number, stand-taken}
 use Rattle.documents.proofs.PartsLaws.{marks-kept, tags-kept}
 use Rattle.documents.proofs.PlacedLaws.{AreAlike, marked-alike, placed-alike}
 use Rattle.documents.proofs.WellFormedLaws.{IsWellFormedDocument-kept, fits-kept}
+use Rattle.std.specs.FinMap as finite
+use Rattle.text_model.specs.Content as model
+use Rattle.documents.specs.Widgets as widgets
 
 -- ---- the store
 
@@ -197,12 +198,16 @@ pub record IsLeft (names : List (List ℕ)) (new : Parts) (document : Document) 
   pub formed : (limits : LimitTable) → IsWellFormedDocument limits document →
       IsWellFormedDocument limits (document_of new)
 
-pub leaves-others : (old : Parts) (document : Document) (names : List (List ℕ)) (seats : Names) (content : Content) →
-    Stands old document → seats ≡ record old.seats { entries = seats_left names old.seats.entries }
-    → content ≡ without_widgets (numbers_gone names old.seats.entries) old.content →
+pub leaves-others : {old : Parts} {document : Document} {seats : Names} {content : Content} {given held : List TagSlot}
+    (names : List (List ℕ)) → Stands old document →
+    seats ≡ record old.seats { entries = seats_left names old.seats.entries }
+    → content ≡ without_widgets (map (λ (slot : TagSlot). slot.0) given) old.content → given ≡ held
+    → map (λ (slot : TagSlot). slot.0) held ≡ numbers_gone names old.seats.entries →
     IsLeft names (record old { seats = seats; content = content }) document
-leaves-others old document names seats content stands seats_is content_is =
+leaves-others {old} {document} {seats} {content} names stands seats_is changed same held_is =
     let gone = numbers_gone names old.seats.entries in
+    let content_is : content ≡ without_widgets gone old.content = changed
+    ∙ ap (λ slots. without_widgets slots old.content) (ap (map (λ (slot : TagSlot). slot.0)) same ∙ held_is) in
     let sound = unseated-sound old names stands.sound in
     let left : IsLeft names (parts_left names old) document = record {
       sound = sound;

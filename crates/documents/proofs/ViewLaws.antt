@@ -1,19 +1,17 @@
 -- What of a document one of its widgets shows.
-use Rattle.documents.proofs.Words.{[], inl, inr, min, suc, zero, ◌≡◌, ℕ, ◌+◌, ◌-◌, ◌<◌, ◌≤◌, true, false, List, length}
-use Rattle.documents.proofs.Words.{map, refl, sym, ap, ap₂, subst, ◌∙◌, arith, drop, take, true≢false, ◌≢◌, eq-eqb}
-use Rattle.documents.proofs.Words.{slice_get, IfSome, slice_index_or, slice_range, unwrap_or, cases_lt, drop_all}
-use Rattle.documents.proofs.Words.{drop-drop, drop-take, get_or_default, length-map, length-take-le, take-take}
-use Rattle.documents.proofs.Words.{numbers_of, Cell, MOST_CHARS, Content, flags, IsLineStart, IsView, known_tags}
-use Rattle.documents.proofs.Words.{Anchors, is-start, text-end-begins, Document, KeyedCell, Parts, Widget, anchors_at}
-use Rattle.documents.proofs.Words.{whole, widget_at, Key, key_named, Stands, is_idle, shown, shown_flags, view_end}
-use Rattle.documents.proofs.Words.{view_start}
-use Rattle.std.proofs.Common.{length-drop}
-use Rattle.std.specs.Prelude.{Bool, ◌||◌, ◌==◌, None, Option, Some, get_or}
+use Rattle.documents.proofs.Common.{[], inl, inr, min, suc, zero, ◌≡◌, ℕ, ◌+◌, ◌-◌, ◌<◌, ◌≤◌, true, false, List, length}
+use Rattle.documents.proofs.Common.{map, refl, sym, ap, ap₂, subst, ◌∙◌, arith, drop, take, true≢false, ◌≢◌, eq-eqb}
+use Rattle.documents.proofs.Common.{slice_get, IfSome, slice_index_or, slice_range, unwrap_or, cases_lt, drop_all}
+use Rattle.documents.proofs.Common.{drop-drop, drop-take, get_or_default, length-map, length-take-le, take-take}
+use Rattle.documents.proofs.Common.{numbers_of, Cell, Content, flags, IsLineStart, IsView, known_tags, Anchors}
+use Rattle.documents.proofs.Common.{is-start, text-end-begins, Document, KeyedCell, Parts, Widget, anchors_at, whole}
+use Rattle.documents.proofs.Common.{widget_at, Key, key_named, Stands, is_idle, shown, shown_flags, view_end}
+use Rattle.documents.proofs.Common.{view_start, length-drop, Bool, ◌||◌, ◌==◌, None, Option, Some, get_or}
+use Rattle.documents.proofs.KeyedLaws.{keyed-flags}
+use Rattle.documents.proofs.PartsLaws.{Sits, cells-kept, characters-kept, sits}
 use Rattle.std.specs.FinSet as set
 use Rattle.text_model.specs.Content as model
 use Rattle.text_index.specs.Views as view
-use Rattle.documents.proofs.KeyedLaws.{keyed-flags}
-use Rattle.documents.proofs.PartsLaws.{Sits, cells-kept, characters-kept, sits}
 
 -- where the view of a slot begins, and where it ends
 abbrev pub start_in : Parts → ℕ → ℕ
@@ -34,17 +32,6 @@ last-line : (text : List ℕ) (end : Option ℕ) (long : ℕ) → IfSome end (Is
 last-line text None long anchored ends = ends
 last-line text (Some end) long anchored ends = anchored
 
--- where the view of a slot begins and ends, found by the anchors as they are held
-pub start-found : (parts : Parts) (slot : ℕ) (anchors : List Anchors) (start : ℕ) → anchors ≡ parts.journal.anchors →
-    start ≡ unwrap_or (get_or anchors slot whole).start 0 → start ≡ start_in parts slot
-start-found parts slot anchors start held is = is ∙ ap (λ found. unwrap_or (get_or found slot whole).start 0) held
-
-pub end-found : (parts : Parts) (slot : ℕ) (anchors : List Anchors) (long end : ℕ) → anchors ≡ parts.journal.anchors →
-    long ≡ length parts.content.cells
-    → end ≡ unwrap_or (get_or anchors slot whole).end long → end ≡ end_in parts slot
-end-found parts slot anchors long end held counts is =
-    is ∙ ap₂ (λ found n. unwrap_or (get_or found slot whole).end n) held counts
-
 -- whether the widget of a slot is disabled
 pub flag-at : (flags_of : List Bool) (slot : ℕ) (found is : Bool) → slot < length flags_of →
     found ≡ slice_index_or flags_of slot found → found ≡ is → get_or flags_of slot false ≡ is
@@ -54,7 +41,7 @@ pub part-length : {A : Type 0} (xs : List A) (start end : ℕ) → end ≤ lengt
     length (slice_range xs start end) ≡ end - start
 part-length xs start end within = length-take-le (end - start) (drop start xs) (omega (arith, length-drop start xs))
 
-neither : (a b : Bool) → (a || b) ≡ false → (a ≡ false) × (b ≡ false)
+pub neither : (a b : Bool) → (a || b) ≡ false → (a ≡ false) × (b ≡ false)
 neither true b none = absurd (true≢false none)
 neither false b none = (refl, none)
 
@@ -181,20 +168,31 @@ pub record IsSeen (parts : Parts) (document : Document) (place slot : ℕ) (cont
     pub starts : first ≡ start_in parts slot
     pub ends : behind ≡ end_in parts slot
 
-pub see : (parts : Parts) (document : Document) (place slot : ℕ) (content : Content) (first behind : ℕ)
-    (anchors : List Anchors) → Stands parts document → slice_get (numbers_of parts.seats.entries) place ≡ Some slot
-    → anchors ≡ parts.journal.anchors → first ≡ unwrap_or (get_or anchors slot whole).start 0 →
-    behind ≡ unwrap_or (get_or anchors slot whole).end (length parts.content.cells) → content ≡ parts.content
-    → IsSeen parts document place slot content first behind
-see parts document place slot content first behind anchors stands number found start end held = record {
+-- of a store that is at hand, where each end was found by itself
+pub see-ends : {parts : Parts} {document : Document} {place slot first behind long : ℕ} {held kept : List Anchors} →
+    Stands parts document → slice_get (numbers_of parts.seats.entries) place ≡ Some slot →
+    held ≡ parts.journal.anchors → first ≡ unwrap_or (get_or held slot whole).start 0
+    → kept ≡ parts.journal.anchors → long ≡ length parts.content.cells
+    → behind ≡ unwrap_or (get_or kept slot whole).end long →
+    IsSeen parts document place slot parts.content first behind
+see-ends {place = place} {slot} stands number found start same counts end = record {
   stands = stands;
-  sits = sits parts document place slot stands number;
-  held = held;
-  starts = start-found parts slot anchors first found start;
-  ends = end-found parts slot anchors (length parts.content.cells) behind found refl end;
+  sits = sits place stands number;
+  held = refl;
+  starts = start ∙ ap (λ anchors. unwrap_or (get_or anchors slot whole).start 0) found;
+  ends = end ∙ ap₂ (λ anchors n. unwrap_or (get_or anchors slot whole).end n) same counts;
 }
 
-module _ (parts : Parts) (document : Document) (place slot : ℕ) (content : Content) (first behind : ℕ)
+pub see : {parts : Parts} {document : Document} {place slot : ℕ} {content : Content} {first behind : ℕ}
+    {anchors : List Anchors} → Stands parts document → slice_get (numbers_of parts.seats.entries) place ≡ Some slot →
+    anchors ≡ parts.journal.anchors → first ≡ unwrap_or (get_or anchors slot whole).start 0
+    → behind ≡ unwrap_or (get_or anchors slot whole).end (length parts.content.cells) → content ≡ parts.content →
+    IsSeen parts document place slot content first behind
+see {place = place} stands number found start end held =
+    let ends = see-ends {place = place} stands number found start found refl end in
+    record { stands = stands; sits = ends.sits; held = held; starts = ends.starts; ends = ends.ends }
+
+module _ {parts : Parts} {document : Document} {place slot : ℕ} {content : Content} {first behind : ℕ}
     (seen : IsSeen parts document place slot content first behind) where
   pub view-found : IsView content first behind
   view-found =
@@ -214,13 +212,15 @@ module _ (parts : Parts) (document : Document) (place slot : ℕ) (content : Con
   ordered-found = let h = ordered-is parts document place slot seen.stands seen.sits in
       omega (arith, h, seen.starts, seen.ends)
 
+  -- something, where its commands do anything
+  pub active-found : is_idle document (widget_at document place) ≡ false → first < behind
+  active-found active = let h = (active-is parts document place slot seen.stands seen.sits active).1 in
+      omega (arith, h, seen.starts, seen.ends)
+
   -- where it ends in the text
   pub ends-found : behind ≤ length content.cells
   ends-found = let h = within-is parts document place slot seen.stands seen.sits in
       omega (arith, h, seen.ends, ap (λ (c : Content). length c.cells) seen.held)
-
-  pub short-found : length content.cells ≤ MOST_CHARS
-  short-found = omega (arith, ap (λ (c : Content). length c.cells) seen.held, seen.stands.sound.kept.short)
 
   pub start-found-is : first ≡ view_start (widget_at document place)
   start-found-is = seen.starts ∙ sym (start-is parts document place slot seen.stands seen.sits)

@@ -1,22 +1,21 @@
 -- A document that is kept soundly is well formed.
-use Rattle.documents.proofs.Words.{◌≡◌, ℕ, suc, ◌+◌, ◌*◌, ◌≤◌, true, false, List, [], ◌∷◌, length, refl, sym, ap, subst}
-use Rattle.documents.proofs.Words.{◌∙◌, arith, inl, inr, false_from_ne_true, length-map, bytes_eq-Decides}
-use Rattle.documents.proofs.Words.{AllByRecursion, slice_get, if◌then◌else◌, IfSome, unwrap_or, Cell, IsDocument}
-use Rattle.documents.proofs.Words.{LimitTable, IsLineStart, AreApart, Named, Tag, Tags, AreTags, names_of, FitsText}
-use Rattle.documents.proofs.Words.{AreAnchored, is_same, is_among, AreApart-head, AreApart-tail, found_tag, Key, keyed}
-use Rattle.documents.proofs.Words.{Document, Parts, Widget, anchors_at, characters, document_of, whole, widget_of}
-use Rattle.documents.proofs.Words.{IsSeated, IsSound, is_window_name, belongs, HasItsKeys, IsPlaced}
-use Rattle.documents.proofs.Words.{IsWellFormedDocument, window_names}
+use Rattle.documents.proofs.Common.{◌≡◌, ℕ, suc, ◌+◌, ◌*◌, ◌≤◌, true, false, List, [], ◌∷◌, length, refl, sym, ap}
+use Rattle.documents.proofs.Common.{subst, ◌∙◌, arith, inl, inr, false_from_ne_true, length-map, bytes_eq-Decides}
+use Rattle.documents.proofs.Common.{AllByRecursion, slice_get, if◌then◌else◌, IfSome, unwrap_or, Cell, IsDocument}
+use Rattle.documents.proofs.Common.{LimitTable, IsLineStart, AreApart, Named, Tag, Tags, AreTags, names_of, FitsText}
+use Rattle.documents.proofs.Common.{AreAnchored, is_same, is_among, AreApart-head, AreApart-tail, found_tag, Key, keyed}
+use Rattle.documents.proofs.Common.{Document, Parts, Widget, anchors_at, characters, document_of, whole, widget_of}
+use Rattle.documents.proofs.Common.{IsSeated, IsSound, is_window_name, belongs, HasItsKeys, IsPlaced}
+use Rattle.documents.proofs.Common.{IsWellFormedDocument, window_names, ◌&&◌, not, map, None, Some}
 use Rattle.std.specs.List.{IsDistinct}
-use Rattle.std.specs.Prelude.{◌&&◌, not, map, None, Some}
-use Rattle.std.specs.FinMap as finite
-use Rattle.text_model.specs.Content as model
 use Rattle.name_list.specs.Names.{names_of as names_of_seats}
 use Rattle.mark_table.specs.SharedMarks.{names_of as names_of_marks}
 use Rattle.documents.specs.Documents.{sel}
 use Rattle.documents.proofs.BridgeLaws.{is_key_of, keys_of-belongs}
 use Rattle.documents.proofs.PlacedLaws.{offset-within, placed-length, placed-names, placed-within, placed-words}
 use Rattle.documents.proofs.PartsLaws.{characters-keyed, length-keyed, pairs_of}
+use Rattle.std.specs.FinMap as finite
+use Rattle.text_model.specs.Content as model
 
 -- ---- names
 

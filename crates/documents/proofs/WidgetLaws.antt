@@ -1,35 +1,29 @@
 -- The options of a document and of its widgets, and widgets that come and go.
-use Rattle.documents.proofs.Words.{◌≡◌, ◌≢◌, ℕ, zero, suc, ◌+◌, ◌-◌, ◌≤◌, true, false, cond, set, List, [], ◌∷◌, Ok}
-use Rattle.documents.proofs.Words.{length, take, drop, get_or, refl, sym, ap, ap₂, subst, ◌∙◌, arith, slice_get}
-use Rattle.documents.proofs.Words.{unwrap_or, IfSome, if◌then◌else◌, AllByRecursion, get_or_default, length-set}
-use Rattle.documents.proofs.Words.{get_or-set_other, get_or-set_at, All-set, nat_tests, IsLineStart, is_newline}
-use Rattle.documents.proofs.Words.{line_of, line_start, lines, LimitTable, FitsText, limit_of, Kept, log_of, Named}
-use Rattle.documents.proofs.Words.{AreAnchored, Anchors, is_same, Empty, history_under, is_behind, Settings, Document}
-use Rattle.documents.proofs.Words.{Journal, Parts, Widget, anchors_at, characters, document_of, whole, widget_at}
-use Rattle.documents.proofs.Words.{widget_of, IsSeated, Stands, answered, AreLines, IsLine, anchor_at, settings_of}
-use Rattle.documents.proofs.Words.{widget_set, with_settings, window_names}
-use Rattle.std.specs.Prelude.{filter, not, option_map, Option, None, Some}
-use Rattle.text_model.specs.Content as model
-use Rattle.text_model.proofs.LineLaws.{line_start-le, lines-append, lines-cons, lines-le-length}
+use Rattle.documents.proofs.Common.{◌≡◌, ◌≢◌, ℕ, zero, suc, ◌+◌, ◌-◌, ◌≤◌, true, false, cond, set, List, [], ◌∷◌, Ok}
+use Rattle.documents.proofs.Common.{length, take, get_or, refl, sym, ap, ap₂, subst, ◌∙◌, arith, slice_get, unwrap_or}
+use Rattle.documents.proofs.Common.{IfSome, if◌then◌else◌, AllByRecursion, get_or_default, length-set, get_or-set_other}
+use Rattle.documents.proofs.Common.{get_or-set_at, All-set, nat_tests, IsLineStart, is_newline, line_of, line_start}
+use Rattle.documents.proofs.Common.{lines, LimitTable, FitsText, limit_of, Kept, log_of, Named, AreAnchored, Anchors}
+use Rattle.documents.proofs.Common.{is_same, Empty, history_under, is_behind, Settings, Document, Journal, Parts}
+use Rattle.documents.proofs.Common.{Widget, anchors_at, characters, document_of, whole, widget_at, widget_of, IsSeated}
+use Rattle.documents.proofs.Common.{Stands, answered, AreLines, IsLine, anchor_at, settings_of, widget_set}
+use Rattle.documents.proofs.Common.{with_settings, window_names, filter, not, option_map, Option, None, Some}
+use Rattle.text_index.proofs.ViewLaws.{line_of-within}
+use Rattle.text_model.proofs.LineLaws.{line_start-le, lines-cons, lines-le-length}
 use Rattle.name_list.specs.Names.{names_of}
 use Rattle.documents.proofs.ChangeLaws.{Leaves, does-changed}
 use Rattle.documents.proofs.JournalLaws.{fits-under, orderly-under, with_kept}
 use Rattle.documents.proofs.MarkLaws.{slot-there, widgets-put}
 use Rattle.documents.proofs.PartsLaws.{Sits, characters-kept, characters-keyed, pairs_of, widget-is}
-use Rattle.documents.proofs.SeatLaws.{seat-named, take_rest}
+use Rattle.documents.proofs.SeatLaws.{seat-named}
 use Rattle.documents.proofs.ViewLaws.{counted}
 use Rattle.documents.proofs.WellFormedLaws.{windows-kept}
+use Rattle.text_model.specs.Content as model
 
 -- ---- lines
 
--- no line stands behind the last
-line-within : (text : List ℕ) (anchor : ℕ) → line_of text anchor ≤ lines text
-line-within text anchor =
-    let parts = ap lines (sym (take_rest text anchor)) ∙ lines-append (take anchor text) (drop anchor text) in
-    omega (arith, parts)
-
 pub line-short : (text : List ℕ) (anchor : ℕ) → line_of text anchor ≤ length text
-line-short text anchor = (let a = line-within text anchor in let b = lines-le-length text in omega (arith, a, b))
+line-short text anchor = (let a = line_of-within text anchor in let b = lines-le-length text in omega (arith, a, b))
 
 -- the line of an anchor, if there is one
 abbrev pub line_numbered : List ℕ → Option ℕ → Option ℕ
@@ -37,7 +31,7 @@ line_numbered text anchor = option_map (λ a. line_of text a + 1) anchor
 
 pub anchor-line : (text : List ℕ) (anchor : Option ℕ) → IfSome (line_numbered text anchor) (IsLine (lines text))
 anchor-line text None = tt
-anchor-line text (Some anchor) = (omega arith, (let within = line-within text anchor in omega (arith, within)))
+anchor-line text (Some anchor) = (omega arith, (let within = line_of-within text anchor in omega (arith, within)))
 
 -- where a line starts
 abbrev pub line_anchor : List ℕ → Option ℕ → Option ℕ
@@ -122,19 +116,19 @@ settings_at parts text slot = record {
   end = line_numbered text (anchors_at parts.journal slot).end;
 }
 
-pub settings-kept : (parts : Parts) (document : Document) (place slot : ℕ) → Stands parts document →
+pub settings-kept : {parts : Parts} {document : Document} {place slot : ℕ} → Stands parts document →
     Sits parts document place slot
     → settings_at parts (model.characters parts.content.cells) slot ≡ settings_of document (widget_at document place)
-settings-kept parts document place slot stands sits =
+settings-kept {parts} {document} {place} {slot} stands sits =
     let widget : Widget = widget_of parts.journal parts.content.marks sits.seat in
     ap (settings_at parts (model.characters parts.content.cells)) (sym sits.number)
     ∙ ap (λ text. settings_at parts text sits.seat.number)
     (sym (characters-keyed (pairs_of parts) parts.content.cells))
     ∙ ap (λ (d : Document). settings_of d widget) stands.is ∙ ap (settings_of document) (sym sits.widget)
 
-pub settings-lines : (parts : Parts) (document : Document) (slot : ℕ) → Stands parts document →
+pub settings-lines : {parts : Parts} {document : Document} (slot : ℕ) → Stands parts document →
     AreLines (lines (characters document.cells)) (settings_at parts (model.characters parts.content.cells) slot)
-settings-lines parts document slot stands =
+settings-lines {parts} {document} slot stands =
     let text = model.characters parts.content.cells in
     subst (λ t. AreLines (lines t) (settings_at parts text slot)) (sym (characters-kept parts document stands.is))
     (record {
@@ -143,11 +137,11 @@ settings-lines parts document slot stands =
     })
 
 -- an anchor of a widget stands in the text
-pub anchors-within : (parts : Parts) (document : Document) (place slot : ℕ) (found : Anchors) →
+pub anchors-within : {parts : Parts} {document : Document} {place slot : ℕ} {found : Anchors} →
     Sits parts document place slot → found ≡ get_or parts.journal.anchors slot found
     → (found ≡ anchors_at parts.journal slot) × IfSome found.start (λ a. a ≤ length parts.content.cells)
     × IfSome found.end (λ a. a ≤ length parts.content.cells)
-anchors-within parts document place slot found sits is =
+anchors-within {parts} {document} {place} {slot} {found} sits is =
     let same : found ≡ anchors_at parts.journal slot = is
     ∙ get_or_default parts.journal.anchors slot found whole sits.anchors in
     let long = counted parts.content in
@@ -190,8 +184,8 @@ seats-set journal slot settings anchors kept (seat ∷ seats) seated =
     )
 
 -- a widget is given options
-pub leaves-settings : (limits : LimitTable) (old : Parts) (before after : Kept) (document : Document) (place slot : ℕ)
-    (settings : Settings) (anchors : Anchors) → Stands (with_kept old before) document
+pub leaves-settings : {document : Document} {place slot : ℕ} {settings : Settings} {anchors : Anchors}
+    (limits : LimitTable) (old : Parts) (before after : Kept) → Stands (with_kept old before) document
     → Sits (with_kept old before) document place slot → AreLines (lines (characters document.cells)) settings →
     is_behind settings.start settings.end ≡ false
     → anchors ≡ record {
@@ -202,8 +196,8 @@ pub leaves-settings : (limits : LimitTable) (old : Parts) (before after : Kept) 
     after.most ≡ limit_of settings.document.most_undo
     → Leaves limits (record old { journal = journal_set old.journal slot settings anchors after }) document (Ok Empty)
     (answered (with_settings (widget_at document place) settings document) Empty)
-leaves-settings limits old before after document place slot settings anchors stands sits are ordered given history
-    modified most =
+leaves-settings {document} {place} {slot} {settings} {anchors} limits old before after stands sits are ordered given
+    history modified most =
     let parts : Parts = with_kept old before in
     let new : Parts = record old { journal = journal_set old.journal slot settings anchors after } in
     let text = model.characters old.content.cells in
@@ -240,8 +234,7 @@ leaves-settings limits old before after document place slot settings anchors sta
     record (document_of new) { widgets = widgets i; history = history i; modified = modified i } in
     let whole_made = made ∙ ap₂ (λ (d : Document) (w : Widget). with_settings w settings d) stands.is (sym sits.widget)
     in
-    does-changed limits parts new document (answered (with_settings (widget_at document place) settings document) Empty)
-    stands (record {
+    does-changed stands (record {
       sound = record {
         kept = stands.sound.kept;
         marked = stands.sound.marked;
@@ -262,11 +255,11 @@ leaves-settings limits old before after document place slot settings anchors sta
 -- ---- names
 
 -- the names of the others
-pub others-kept : (parts : Parts) (document : Document) (place : ℕ) (name : List ℕ) → Stands parts document →
+pub others-kept : {parts : Parts} {document : Document} (place : ℕ) (name : List ℕ) → Stands parts document →
     slice_get (names_of parts.seats.entries) place ≡ Some name
     → filter (λ other. not (is_same other name)) (names_of parts.seats.entries)
     ≡ filter (λ other. not (is_same other (widget_at document place).name)) (window_names document)
-others-kept parts document place name stands is =
+others-kept {parts} {document} place name stands is =
     let found = seat-named parts.seats.entries place name is in
     let own : name ≡ (widget_at document place).name = sym found.named
     ∙ ap (λ (w : Widget). w.name) (sym (widget-is parts document place found.seat stands.is found.stands)) in

@@ -1,11 +1,10 @@
 -- Each edit that a command of a widget may make leaves what the document leads back to.
-use Rattle.documents.proofs.Words.{◌≡◌, ℕ, ◌+◌, ◌-◌, ◌≤◌, true, false, List, [], ◌∷◌, ◌++◌, Option, Some, None, length}
-use Rattle.documents.proofs.Words.{refl, arith, All, AllByRecursion, length-map, LimitTable, Right, Place, AreAnchored}
-use Rattle.documents.proofs.Words.{SpanFits, Span, Empty, TooManyMarks, TooManyTags, with_name, spans_of, is_among}
-use Rattle.documents.proofs.Words.{spans_of-fit, Document, Widget, KeyedCell, characters, with_tag, set_found, key_of}
-use Rattle.documents.proofs.Words.{answered, refused, spans_shown, add_spans, remove_spans, insertion_offset, shown}
-use Rattle.documents.proofs.Words.{view_end, view_start}
-use Rattle.std.proofs.Common.{nat_le, nat_lt, if◌then◌else◌}
+use Rattle.documents.proofs.Common.{◌≡◌, ℕ, ◌+◌, ◌-◌, ◌≤◌, true, false, List, [], ◌∷◌, ◌++◌, Option, Some, None, length}
+use Rattle.documents.proofs.Common.{refl, arith, All, AllByRecursion, length-map, LimitTable, Right, Place, AreAnchored}
+use Rattle.documents.proofs.Common.{SpanFits, Span, Empty, TooManyMarks, TooManyTags, with_name, spans_of, is_among}
+use Rattle.documents.proofs.Common.{spans_of-fit, Document, Widget, KeyedCell, characters, with_tag, set_found, key_of}
+use Rattle.documents.proofs.Common.{answered, refused, spans_shown, add_spans, remove_spans, insertion_offset, shown}
+use Rattle.documents.proofs.Common.{view_end, view_start, nat_le, nat_lt, if◌then◌else◌}
 use Rattle.documents.proofs.EditLeadLaws.{IsActive, active, leads-deleted, leads-inserted, leads-redo, leads-replaced}
 use Rattle.documents.proofs.EditLeadLaws.{leads-undo, offset-inside}
 use Rattle.documents.proofs.LeadLaws.{Leads, anchors_of}
@@ -53,7 +52,7 @@ leads-set limits limit start document widget name offset None leads =
     elim (nat_le limits.marks (length document.marks)) as (λ b.
     Leads limit start (if b then refused document TooManyMarks else answered made Empty).document) [
       | true ↦ leads
-      | false ↦ leads-still limit start document made leads refl refl refl refl refl
+      | false ↦ leads-still leads refl refl refl refl refl
     ]
 
 leads-added : (limits : LimitTable) (limit : ℕ) (start : List ℕ) (document : Document) (widget : Widget)
@@ -96,8 +95,7 @@ leads-carried limits start document widget leads anchored = record {
     turned = λ name old gravity _.
         leads-mark limits.chars start document widget name (record old { gravity = gravity }) leads;
     ordered = λ position order words. carried-reordered (Leads limits.chars start) document position order words leads
-        (λ tags. leads-still limits.chars start document (record document { tags = tags }) leads refl refl refl refl
-        refl);
+        (λ tags. leads-still leads refl refl refl refl refl);
     modified = λ flag. leads-modified limits.chars start document flag leads;
     separated = leads-separated limits.chars start document leads;
   };

@@ -1,8 +1,14 @@
--- A loop that moves the anchors of each widget.
-use Rattle.edit_ops.proofs.Words.{◌≡◌, ℕ, ◌+◌, ◌<◌, List, ◌++◌, map, length, get_or, set, take, drop, sym, subst, ap}
-use Rattle.edit_ops.proofs.Words.{◌∙◌, arith, All, get_or_default, All-get_or, Anchors, AnchorsStand}
+-- Anchors that are moved: one of them, and those of each widget by a loop.
+use Rattle.edit_ops.proofs.Common.{◌≡◌, ℕ, ◌+◌, ◌<◌, List, ◌++◌, map, length, get_or, set, take, drop, sym, subst, ap}
+use Rattle.edit_ops.proofs.Common.{◌∙◌, arith, All, get_or_default, All-get_or, Anchors, AnchorsStand, IfSome, None}
+use Rattle.edit_ops.proofs.Common.{Option, Some, option_map}
 use Rattle.std.proofs.lemmas.Grind.{common_steps}
 use Rattle.std.proofs.lemmas.List.Edits.{map_over_more}
+
+pub if-mapped : (P Q : ℕ → Type 0) (f : ℕ → ℕ) (anchor : Option ℕ) → ((place : ℕ) → P place → Q (f place)) →
+    IfSome anchor P → IfSome (option_map f anchor) Q
+if-mapped P Q f None goes is = tt
+if-mapped P Q f (Some place) goes is = goes place is
 
 -- what is still to be moved stands as it did
 later_same : (f : Anchors → Anchors) (old now : List Anchors) (i : ℕ) (d : Anchors) → i < length old →

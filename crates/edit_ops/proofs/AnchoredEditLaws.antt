@@ -1,25 +1,23 @@
 -- The anchors of each widget go on standing where lines start, through each edit.
-use Rattle.edit_ops.proofs.Words.{◌≡◌, ℕ, ◌+◌, ◌-◌, ◌<◌, ◌≤◌, ◌==◌, ◌&&◌, Bool, true, false, List, [], ◌∷◌, Option}
-use Rattle.edit_ops.proofs.Words.{Some, None, map, length, refl, sym, ap, ◌∙◌, arith, subst, slice_range, bytes_eq}
-use Rattle.edit_ops.proofs.Words.{nat_lt, nat_le, min, if◌then◌else◌, option_and_then, All, eqb-true, ltb-true}
-use Rattle.edit_ops.proofs.Words.{and_parts, option_and_then_some, Cell, ClearTags, Place, Content, Slots, characters}
-use Rattle.edit_ops.proofs.Words.{ends_in_newline, inserted, removed, cells_of, after_step, after_insertion}
-use Rattle.edit_ops.proofs.Words.{after_removal, without_slots, length-cells_inserted, length-removed, length-changed}
-use Rattle.edit_ops.proofs.Words.{map-inserted, map-removed, map-changed, changed-same, length-inserted, shared_slots}
-use Rattle.edit_ops.proofs.Words.{characters-of, length-characters, Action, EditKind, Replace, Delete, put_in, take_out}
-use Rattle.edit_ops.proofs.Words.{repeated, reverted, repeated_group, reverted_group, next_undo, next_redo, undo-goes}
-use Rattle.edit_ops.proofs.Words.{redo-goes, Anchors, SlottedText, Recording, Span, AreAnchored, anchors_moved}
-use Rattle.edit_ops.proofs.Words.{anchors_removed, in_spans, delete_set, runs_below, AreApart, removed_spans, deleted}
-use Rattle.edit_ops.proofs.Words.{slots_or, inserted_text, inserted_texts, total, IsAnchored, IsKept, removed_span}
-use Rattle.edit_ops.proofs.Words.{clipped, with_mark, replaced, put_back, taken_back, action_redone, action_undone}
-use Rattle.edit_ops.proofs.Words.{group_redone, group_undone, undone_group, redone_group, undone, redone, State}
-use Rattle.edit_ops.proofs.Words.{log_noted}
-use Rattle.std.specs.FinMap as finite
+use Rattle.edit_ops.proofs.Common.{◌≡◌, ℕ, ◌+◌, ◌-◌, ◌<◌, ◌≤◌, ◌==◌, Bool, true, false, List, [], ◌∷◌, Option, Some}
+use Rattle.edit_ops.proofs.Common.{None, map, length, refl, sym, ap, ◌∙◌, arith, subst, slice_range, min, if◌then◌else◌}
+use Rattle.edit_ops.proofs.Common.{option_and_then, All, eqb-true, option_and_then_some, Cell, ClearTags, Place}
+use Rattle.edit_ops.proofs.Common.{Content, Slots, characters, ends_in_newline, inserted, removed, cells_of, after_step}
+use Rattle.edit_ops.proofs.Common.{after_insertion, after_removal, without_slots, length-cells_inserted, length-removed}
+use Rattle.edit_ops.proofs.Common.{length-changed, map-inserted, map-removed, map-changed, changed-same}
+use Rattle.edit_ops.proofs.Common.{length-inserted, shared_slots, characters-of, length-characters, Action, EditKind}
+use Rattle.edit_ops.proofs.Common.{Replace, Delete, put_in, take_out, repeated, repeated_group, reverted_group}
+use Rattle.edit_ops.proofs.Common.{next_undo, next_redo, undo-goes, redo-goes, Anchors, SlottedText, Recording, Span}
+use Rattle.edit_ops.proofs.Common.{AreAnchored, anchors_moved, anchors_removed, in_spans, delete_set, runs_below}
+use Rattle.edit_ops.proofs.Common.{AreApart, removed_spans, deleted, slots_or, inserted_text, inserted_texts, total}
+use Rattle.edit_ops.proofs.Common.{IsAnchored, IsKept, removed_span, clipped, with_mark, replaced, put_back, taken_back}
+use Rattle.edit_ops.proofs.Common.{action_redone, group_redone, group_undone, undone_group, redone_group, undone}
+use Rattle.edit_ops.proofs.Common.{redone, State, log_noted, replays}
 use Rattle.edit_ops.proofs.AnchoredLaws.{all-moved, all-removed}
 use Rattle.edit_ops.proofs.KeepLaws.{deleted-runs}
-use Rattle.edit_ops.proofs.ReplayLaws.{guarded-holds}
-use Rattle.edit_ops.proofs.ReversalLaws.{redone-text, group-undone-text, stood-cells}
+use Rattle.edit_ops.proofs.ReversalLaws.{back-reverted, back-undone, puts-in, redone-text, stood-cells, takes-out}
 use Rattle.edit_ops.proofs.StartLaws.{Begins, text-end-begins, inserted-behind, removed-behind}
+use Rattle.std.specs.FinMap as finite
 
 -- the anchors stand where lines start, and so does the end of the text
 pub record Stand (content : Content) (all : List Anchors) : Type 0 where
@@ -232,27 +230,19 @@ put-back-stands : (limit at : ℕ) (text found : List ℕ) (state : State) →
     put_in limit at text (characters state.content.cells) ≡ Some found → Stand state.content state.anchors
     → Stand (put_back at text state).content (put_back at text state).anchors
 put-back-stands limit at text found state is stand =
-    let old = characters state.content.cells in
-    let tests = and_parts (nat_lt at (length old)) (nat_le (length old + length text) limit)
-    (guarded-holds (nat_lt at (length old) && nat_le (length old + length text) limit) (inserted at text old) found is)
-    in
-    let inside = ltb-true at (length old) tests.0 in
+    let puts = puts-in limit at text (characters state.content.cells) found is in
     let long = length-characters state.content.cells in
-    put-stands at text (shared_slots at state.content.cells) state.content state.anchors (omega (arith, inside, long))
-    stand
+    put-stands at text (shared_slots at state.content.cells) state.content state.anchors
+    (omega (arith, puts.inside, long)) stand
 
 taken-back-stands : (at : ℕ) (text found : List ℕ) (state : State) →
     take_out at text (characters state.content.cells) ≡ Some found → Stand state.content state.anchors
     → Stand (taken_back at (at + length text) state).content (taken_back at (at + length text) state).anchors
 taken-back-stands at text found state is stand =
-    let old = characters state.content.cells in
-    let tests = and_parts (nat_lt (at + length text) (length old))
-    (bytes_eq (slice_range old at (at + length text)) text)
-    (guarded-holds (nat_lt (at + length text) (length old) && bytes_eq (slice_range old at (at + length text)) text)
-    (removed at (at + length text) old) found is) in
-    let inside = ltb-true (at + length text) (length old) tests.0 in
+    let takes = takes-out at text (characters state.content.cells) found is in
     let long = length-characters state.content.cells in
-    take-stands at (at + length text) state.content state.anchors (omega arith) (omega (arith, inside, long)) stand
+    take-stands at (at + length text) state.content state.anchors (omega arith) (omega (arith, takes.inside, long))
+    stand
 
 redone-stands : (limit : ℕ) (action : Action) (found : List ℕ) (state : State) →
     repeated limit action (characters state.content.cells) ≡ Some found → Stand state.content state.anchors
@@ -268,31 +258,6 @@ redone-stands limit action found state is stand =
       | false ↦ λ goes. taken-back-stands action.at action.text found state goes stand
     ] is
 
-undone-stands : (limit : ℕ) (action : Action) (found : List ℕ) (state : State) →
-    reverted limit action (characters state.content.cells) ≡ Some found → Stand state.content state.anchors
-    → Stand (action_undone action state).content (action_undone action state).anchors
-undone-stands limit action found state is stand =
-    elim action.inserts as (λ b. (if b then take_out action.at action.text (characters state.content.cells)
-    else put_in limit action.at action.text (characters state.content.cells)) ≡ Some found
-    → Stand (if b then taken_back action.at (action.at + length action.text) state
-    else put_back action.at action.text state).content
-    (if b then taken_back action.at (action.at + length action.text) state
-    else put_back action.at action.text state).anchors) [
-      | true ↦ λ goes. taken-back-stands action.at action.text found state goes stand
-      | false ↦ λ goes. put-back-stands limit action.at action.text found state goes stand
-    ] is
-
-group-undone-stands : (limit : ℕ) (group : List Action) (found : List ℕ) (state : State) →
-    reverted_group limit group (characters state.content.cells) ≡ Some found → Stand state.content state.anchors
-    → Stand (group_undone group state).content (group_undone group state).anchors
-group-undone-stands limit [] found state is stand = stand
-group-undone-stands limit (action ∷ actions) found state is stand =
-    option_and_then_some (reverted limit action) (reverted_group limit actions (characters state.content.cells)) found
-    is (λ between others one.
-    let rest = group-undone-text limit actions between state others in
-    undone-stands limit action found (group_undone actions state) (ap (reverted limit action) rest
-    ∙ one) (group-undone-stands limit actions between state others stand))
-
 group-redone-stands : (limit : ℕ) (group : List Action) (found : List ℕ) (state : State) →
     repeated_group limit group (characters state.content.cells) ≡ Some found → Stand state.content state.anchors
     → Stand (group_redone group state).content (group_redone group state).anchors
@@ -303,6 +268,14 @@ group-redone-stands limit (action ∷ actions) found state is stand =
     let first = redone-text limit action between state one in
     group-redone-stands limit actions found (action_redone action state) (ap (repeated_group limit actions) first
     ∙ others) (redone-stands limit action between state one stand))
+
+group-undone-stands : (limit : ℕ) (group : List Action) (found : List ℕ) (state : State) →
+    reverted_group limit group (characters state.content.cells) ≡ Some found → Stand state.content state.anchors
+    → Stand (group_undone group state).content (group_undone group state).anchors
+group-undone-stands limit group found state is stand =
+    subst (λ (s : State). Stand s.content s.anchors) (back-undone group state)
+    (group-redone-stands limit (replays true group) found state
+    (back-reverted limit group (characters state.content.cells) ∙ is) stand)
 
 undone-group-anchored : (limit mark : ℕ) (recording : Recording) (found : Option (List Action)) (state : State) →
     next_undo state.log.history ≡ found → IsKept limit recording state → Stand state.content state.anchors

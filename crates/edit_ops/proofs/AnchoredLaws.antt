@@ -1,28 +1,19 @@
 -- Anchors go on standing where lines start.
-use Rattle.edit_ops.proofs.Words.{◌≡◌, ℕ, ◌+◌, ◌-◌, ◌<◌, ◌≤◌, ◌==◌, ◌&&◌, true, false, List, Option, Some, None, map}
-use Rattle.edit_ops.proofs.Words.{length, get_or, refl, sym, arith, subst, IfSome, option_map, unwrap_or, not, nat_le}
-use Rattle.edit_ops.proofs.Words.{nat_lt, if◌then◌else◌, All, ltb-true, ltb-false, leb-true, leb-false, eqb-true}
-use Rattle.edit_ops.proofs.Words.{nat_tests, All-map, IsLineStart, line_of, line_start, inserted, removed}
-use Rattle.edit_ops.proofs.Words.{length-inserted, length-removed, next_line, line-before, next_line-removed, Anchors}
-use Rattle.edit_ops.proofs.Words.{AnchorsStand, AreAnchored, anchor_moved, anchors_moved, start_drawn, end_drawn}
-use Rattle.edit_ops.proofs.Words.{anchors_removed}
+use Rattle.edit_ops.proofs.Common.{◌≡◌, ℕ, ◌+◌, ◌-◌, ◌<◌, ◌≤◌, ◌==◌, ◌&&◌, true, false, List, Option, Some, None, map}
+use Rattle.edit_ops.proofs.Common.{length, get_or, refl, sym, arith, subst, option_map, unwrap_or, not, nat_le, nat_lt}
+use Rattle.edit_ops.proofs.Common.{if◌then◌else◌, All, ltb-true, ltb-false, leb-true, leb-false, eqb-true, nat_tests}
+use Rattle.edit_ops.proofs.Common.{All-map, IsLineStart, line_of, line_start, inserted, removed, length-inserted}
+use Rattle.edit_ops.proofs.Common.{length-removed, next_line, line-before, next_line-removed, Anchors, AnchorsStand}
+use Rattle.edit_ops.proofs.Common.{AreAnchored, anchor_moved, anchors_moved, start_drawn, end_drawn, anchors_removed}
+use Rattle.edit_ops.proofs.Common.{IfSome_then}
+use Rattle.edit_ops.proofs.AnchorLaws.{if-mapped}
 use Rattle.edit_ops.proofs.StartLaws.{Begins, begun, is-start, inserted-before, inserted-behind, removed-before}
 use Rattle.edit_ops.proofs.StartLaws.{removed-behind, line-begins, next-begins}
 
-if-mapped : (P Q : ℕ → Type 0) (f : ℕ → ℕ) (anchor : Option ℕ) → ((place : ℕ) → P place → Q (f place)) →
-    IfSome anchor P → IfSome (option_map f anchor) Q
-if-mapped P Q f None goes is = tt
-if-mapped P Q f (Some place) goes is = goes place is
-
-if-some : (P Q : ℕ → Type 0) (anchor : Option ℕ) → ((place : ℕ) → P place → Q place) → IfSome anchor P → IfSome anchor Q
-if-some P Q None goes is = tt
-if-some P Q (Some place) goes is = goes place is
-
 pub anchored-stand : (text : List ℕ) (anchors : Anchors) → AreAnchored text anchors → AnchorsStand (length text) anchors
 anchored-stand text anchors anchored = record {
-  start =
-      if-some (IsLineStart text) (λ place. place ≤ length text) anchors.start (λ place is. is.within) anchored.start;
-  end = if-some (IsLineStart text) (λ place. place ≤ length text) anchors.end (λ place is. is.within) anchored.end;
+  start = IfSome_then anchors.start anchored.start (λ place is. is.within);
+  end = IfSome_then anchors.end anchored.end (λ place is. is.within);
 }
 
 -- ---- what is put in
@@ -70,21 +61,36 @@ all-moved at new text all within anchored =
 
 -- ---- what is taken out
 
-start-begins : (text : List ℕ) (from to place : ℕ) → from ≤ to → to ≤ length text → Begins text place
-    → Begins (removed from to text) (start_drawn (line_start (line_of text from) text) from to place)
-start-begins text from to place ordered within begins =
-    let line = line_start (line_of text from) text in
-    let inside : from ≤ length text = omega (arith, ordered, within) in
+-- a place that is drawn in, where one within what goes comes to stand at an inner one
+drawn-begins : (text : List ℕ) (from to place inner : ℕ) → from ≤ to → to ≤ length text → Begins text place →
+    Begins (removed from to text) inner
+    → Begins (removed from to text)
+    (if nat_le place from then place else if nat_le place to then inner else place - (to - from))
+drawn-begins text from to place inner ordered within begins stands =
     elim (nat_le place from) as (λ b. nat_le place from ≡ b →
-    Begins (removed from to text) (if b then place else if nat_le place to then line else place - (to - from))) [
-      | true ↦ λ before. removed-before from to text place inside (leb-true place from before) begins
+    Begins (removed from to text) (if b then place else if nat_le place to then inner else place - (to - from))) [
+      | true ↦ λ before.
+          removed-before from to text place (omega (arith, ordered, within)) (leb-true place from before) begins
       | false ↦ λ _.
           elim (nat_le place to) as (λ b. nat_le place to ≡ b →
-          Begins (removed from to text) (if b then line else place - (to - from))) [
-            | true ↦ λ _. removed-before from to text line inside (line-before text from inside) (line-begins text from)
+          Begins (removed from to text) (if b then inner else place - (to - from))) [
+            | true ↦ λ _. stands
             | false ↦ λ other. removed-behind from to text place ordered within (leb-false place to other) begins
           ] refl
     ] refl
+
+-- the line that they are taken out of
+line-stays : (text : List ℕ) (from to : ℕ) → from ≤ length text →
+    Begins (removed from to text) (line_start (line_of text from) text)
+line-stays text from to inside =
+    removed-before from to text (line_start (line_of text from) text) inside (line-before text from inside)
+    (line-begins text from)
+
+start-begins : (text : List ℕ) (from to place : ℕ) → from ≤ to → to ≤ length text → Begins text place
+    → Begins (removed from to text) (start_drawn (line_start (line_of text from) text) from to place)
+start-begins text from to place ordered within begins =
+    drawn-begins text from to place (line_start (line_of text from) text) ordered within begins
+    (line-stays text from to (omega (arith, ordered, within)))
 
 end-begins : (text : List ℕ) (from to start place : ℕ) → from ≤ to → to < length text → Begins text (length text) →
     Begins text place
@@ -93,34 +99,16 @@ end-begins : (text : List ℕ) (from to start place : ℕ) → from ≤ to → t
 end-begins text from to start place ordered within ends begins =
     let line = line_start (line_of text from) text in
     let next = next_line (removed from to text) from in
-    let inside : from ≤ length text = omega (arith, ordered, within) in
     let short : to ≤ length text = omega (arith, within) in
-    let left : length text - (to - from) ≡ length (removed from to text) = omega (
-      arith,
-      ordered,
-      within,
-      length-removed from to text ordered short,
-    ) in
-    let ends_yet : Begins (removed from to text) (length (removed from to text)) = subst (Begins (removed from to text))
-    left (removed-behind from to text (length text) ordered short within ends) in
-    elim (nat_le place from) as (λ b. nat_le place from ≡ b
-    → Begins (removed from to text) (if b then place else if nat_le place to
-    then (if nat_le start from && not (from == line) then next else line) else place - (to - from))) [
-      | true ↦ λ before. removed-before from to text place inside (leb-true place from before) begins
-      | false ↦ λ _.
-          elim (nat_le place to) as (λ b. nat_le place to ≡ b →
-          Begins (removed from to text) (if b then (if nat_le start from && not (from == line) then next else line)
-          else place - (to - from))) [
-            | true ↦ λ _.
-                elim (nat_le start from && not (from == line)) as (λ b.
-                Begins (removed from to text) (if b then next else line)) [
-                  | true ↦ next-begins (removed from to text) from ends_yet
-                  | false ↦ removed-before from to text line inside (line-before text from inside)
-                      (line-begins text from)
-                ]
-            | false ↦ λ other. removed-behind from to text place ordered short (leb-false place to other) begins
-          ] refl
-    ] refl
+    let left : length text - (to - from) ≡ length (removed from to text) =
+    omega (arith, ordered, within, length-removed from to text ordered short) in
+    drawn-begins text from to place (if nat_le start from && not (from == line) then next else line) ordered short
+    begins (elim (nat_le start from && not (from == line)) as (λ b.
+    Begins (removed from to text) (if b then next else line)) [
+      | true ↦ next-begins (removed from to text) from (subst (Begins (removed from to text)) left
+          (removed-behind from to text (length text) ordered short within ends))
+      | false ↦ line-stays text from to (omega (arith, ordered, within))
+    ])
 
 drawn-ordered : (line next from to len : ℕ) (start end : Option ℕ) → line ≤ from → from ≤ next → from ≤ to → to < len →
     unwrap_or start 0 ≤ unwrap_or end len

@@ -1,13 +1,14 @@
 -- What it does to tag spans depends on the offsets that lie in them alone.
-use Rattle.edit_ops.proofs.Words.{◌≡◌, ℕ, ◌+◌, ◌==◌, ◌||◌, Bool, true, false, cond, List, [], ◌∷◌, length, refl, sym}
-use Rattle.edit_ops.proofs.Words.{ap, ◌∙◌, arith, subst, reverse, nat_cmp_total, All, All-head, All-tail, All-push}
-use Rattle.edit_ops.proofs.Words.{Cell, Content, Slots, changed, set_slot, with_slot, Span, in_spans, AreApart}
-use Rattle.edit_ops.proofs.Words.{SpanFits, tagged}
-use Rattle.std.specs.FinSet as set
+use Rattle.edit_ops.proofs.Common.{◌≡◌, ℕ, ◌+◌, ◌==◌, ◌||◌, Bool, true, false, cond, List, [], ◌∷◌, length, refl, sym}
+use Rattle.edit_ops.proofs.Common.{ap, ◌∙◌, arith, subst, reverse, nat_cmp_total, All, All-head, All-tail, All-push}
+use Rattle.edit_ops.proofs.Common.{Cell, Content, Slots, changed, set_slot, with_slot, Span, in_spans, AreApart}
+use Rattle.edit_ops.proofs.Common.{SpanFits, tagged}
+use mathlib.Core.Bool.{or_comm}
 use mathlib.Core.List.{reverse-cons}
 use Rattle.text_model.proofs.CellLaws.{contains-set_slot}
 use Rattle.edit_ops.proofs.PaintLaws.{apart-fit, painted, painted-same}
 use Rattle.edit_ops.proofs.RunLaws.{in-append, inside}
+use Rattle.std.specs.FinSet as set
 
 -- ---- a slot that is set twice, or taken off twice
 
@@ -44,17 +45,12 @@ tagged-same slot on spans others content fits others_fit same =
 
 -- ---- runs in the other order
 
-or_swap : (a b : Bool) → (a || b) ≡ (b || a)
-or_swap true true = refl
-or_swap true false = refl
-or_swap false true = refl
-or_swap false false = refl
-
 pub in-reversed : (spans : List Span) (offset : ℕ) → in_spans (reverse spans) offset ≡ in_spans spans offset
 in-reversed [] offset = refl
 in-reversed (span ∷ spans) offset =
     ap (λ all. in_spans all offset) (reverse-cons span spans) ∙ in-append (reverse spans) span offset
-    ∙ ap (λ b. b || inside span offset) (in-reversed spans offset) ∙ or_swap (in_spans spans offset) (inside span offset)
+    ∙ ap (λ b. b || inside span offset) (in-reversed spans offset)
+    ∙ or_comm (in_spans spans offset) (inside span offset)
 
 all-reversed : (P : Span → Type 0) (spans : List Span) → All P spans → All P (reverse spans)
 all-reversed P [] all = all

@@ -1,39 +1,27 @@
 -- Spans are taken out of a text, the last first.
-use Rattle.edit_ops.proofs.Words.{◌≡◌, ℕ, zero, suc, ◌+◌, ◌-◌, ◌<◌, ◌≤◌, Bool, true, false, inl, inr, List, [], ◌∷◌}
-use Rattle.edit_ops.proofs.Words.{◌++◌, map, length, take, drop, refl, sym, ap, ap₂, ◌∙◌, arith, subst, ne_eqb}
-use Rattle.edit_ops.proofs.Words.{length-take, nat_le, slice_range, if◌then◌else◌, le-leb, lt-leb, cases_lt, length-map}
-use Rattle.edit_ops.proofs.Words.{drop-take, drop_split, drop_of_length-le, Cell, Step, Remove, ClearTags, Content}
-use Rattle.edit_ops.proofs.Words.{characters, line_of, line_start, removed, Fits, after, after_step, after_removal}
-use Rattle.edit_ops.proofs.Words.{without_slots, length-removed, map-removed, take-removed, drop-removed, map-changed}
-use Rattle.edit_ops.proofs.Words.{changed-same, Fits-append, after-append, EditKind, Delete, Anchors, Recording, Span}
-use Rattle.edit_ops.proofs.Words.{next_line, anchors_drawn, in_spans, delete_set, runs_below, AreApart, removed_spans}
-use Rattle.edit_ops.proofs.Words.{deleted, removed_span, State, Outline, Log, log_noted, all_noted, outlineed, state_of}
-use Rattle.edit_ops.proofs.Words.{length-characters, line-front, next-within, next-behind, no-next, next_line-is}
-use Rattle.edit_ops.proofs.Words.{next_line-removed}
-use Rattle.std.proofs.Common.{length-drop}
+use Rattle.edit_ops.proofs.Common.{◌≡◌, ℕ, ◌+◌, ◌-◌, ◌<◌, ◌≤◌, Bool, true, false, inl, inr, List, [], ◌∷◌, ◌++◌, map}
+use Rattle.edit_ops.proofs.Common.{length, take, drop, refl, sym, ap, ap₂, ◌∙◌, arith, subst, ne_eqb, length-take}
+use Rattle.edit_ops.proofs.Common.{nat_le, slice_range, if◌then◌else◌, le-leb, lt-leb, cases_lt, length-map, drop_split}
+use Rattle.edit_ops.proofs.Common.{drop_of_length-le, Cell, Step, Remove, ClearTags, Content, characters, line_of}
+use Rattle.edit_ops.proofs.Common.{line_start, removed, Fits, after, after_step, after_removal, without_slots}
+use Rattle.edit_ops.proofs.Common.{length-removed, map-removed, take-removed, drop-removed, map-changed, changed-same}
+use Rattle.edit_ops.proofs.Common.{Fits-append, after-append, EditKind, Delete, Anchors, Recording, Span, next_line}
+use Rattle.edit_ops.proofs.Common.{anchors_drawn, in_spans, delete_set, runs_below, AreApart, removed_spans, deleted}
+use Rattle.edit_ops.proofs.Common.{removed_span, State, Outline, Log, log_noted, all_noted, outlineed, state_of}
+use Rattle.edit_ops.proofs.Common.{length-characters, line-front, next-within, next-behind, no-next, next_line-is}
+use Rattle.edit_ops.proofs.Common.{next_line-removed, length-drop, take-take, between_is}
 use Rattle.edit_ops.proofs.InsertLaws.{noted-alike, noted-append}
 use Rattle.edit_ops.proofs.RunLaws.{runs-are, apart-wider}
-
-take-shorter : (n border : ℕ) (xs : List ℕ) → n ≤ border → take n (take border xs) ≡ take n xs
-take-shorter zero border xs within = refl
-take-shorter (suc n) zero xs within = absurd (omega (arith, within))
-take-shorter (suc n) (suc border) [] within = refl
-take-shorter (suc n) (suc border) (x ∷ xs) within = ap (λ ys. x ∷ ys) (take-shorter n border xs (omega (arith, within)))
 
 pub front-shorter : (n border : ℕ) (xs ys : List ℕ) → n ≤ border → take border xs ≡ take border ys →
     take n xs ≡ take n ys
 front-shorter n border xs ys within same =
-    sym (take-shorter n border xs within) ∙ ap (take n) same ∙ take-shorter n border ys within
-
-slice-is : (from to : ℕ) (xs : List ℕ) → from ≤ to → slice_range xs from to ≡ drop from (take to xs)
-slice-is from to xs ordered = sym (drop-take from (to - from) xs)
-    ∙ ap (λ n. drop from (take n xs)) (let e : from + (to - from) ≡ to = omega arith in e)
+    sym (take-take n border xs within) ∙ ap (take n) same ∙ take-take n border ys within
 
 pub slice-front : (from to border : ℕ) (xs ys : List ℕ) → from ≤ to → to ≤ border → take border xs ≡ take border ys →
     slice_range xs from to ≡ slice_range ys from to
 slice-front from to border xs ys ordered within same =
-    slice-is from to xs ordered ∙ ap (drop from) (front-shorter to border xs ys within same)
-    ∙ sym (slice-is from to ys ordered)
+    between_is xs from to ∙ ap (drop from) (front-shorter to border xs ys within same) ∙ sym (between_is ys from to)
 
 pub length-slice : {A : Type 0} (from to : ℕ) (xs : List A) → from ≤ to → to ≤ length xs
     → length (slice_range xs from to) ≡ to - from
@@ -130,21 +118,6 @@ pub record RemovingSpans (keeps : Bool) (outline new : Outline) (text : List ℕ
       Fits outline.steps state.content → characters (after outline.steps state.content).cells ≡ text
       → RemovedSoFar recording kind outline new state text spans left border rest
 
--- what a span that is left gives
-pub span-stands : (keeps : Bool) (outline now : Outline) (text : List ℕ) (spans all left : List Span) (span : Span)
-    (border rest : ℕ)
-    → RemovingSpans keeps outline now text spans all border rest → all ≡ span ∷ left →
-    (span.from < span.to) × (span.to < border) × (border + rest ≤ length text) × (span.to ≤ next_line text span.to)
-span-stands keeps outline now text spans all left span border rest so_far all_is =
-    let apart : AreApart border (span ∷ left) = subst (AreApart border) all_is so_far.apart in
-    let below = apart.1 in let room = so_far.room in (
-      apart.0,
-      apart.1,
-      so_far.room,
-      (let far = next_line-is text span.to (omega (arith, below, room)) in
-          omega (arith, far)),
-    )
-
 pub removing-first : (keeps : Bool) (outline : Outline) (text : List ℕ) (spans : List Span) (len : ℕ) → length text ≡ len →
     AreApart len spans → RemovingSpans keeps outline outline text spans spans len 0
 removing-first keeps outline text spans len long apart = record {
@@ -161,97 +134,79 @@ removing-first keeps outline text spans len long apart = record {
   };
 }
 
-one-removed : (recording : Recording) (kind : EditKind) (outline now new : Outline) (state : State) (text taken : List ℕ)
-    (spans left : List Span) (span : Span) (border rest behind line : ℕ)
-    → RemovedSoFar recording kind outline now state text spans (span ∷ left) border rest → border + rest ≤ length text →
-    span.from < span.to → span.to < border
-    → behind ≡ next_line text span.to → (recording.undo ≡ true → taken ≡ slice_range text span.from span.to) →
-    line ≡ line_start (line_of text span.from) text
-    → new ≡ record {
-      steps = now.steps ++ Remove span.from span.to ∷ [];
-      anchors = map (anchors_drawn line (span.from + (if nat_le behind border then behind - span.to
-          else border - span.to + rest)) span.from span.to) now.anchors;
-      actions = now.actions ++ record { inserts = false; at = span.from; text = taken } ∷ [];
-    }
-    → RemovedSoFar recording kind outline new state text spans left span.from (if nat_le behind border
-    then behind - span.to else border - span.to + rest)
-one-removed recording kind outline now new state text taken spans left span border rest behind line so_far room some below
-    behind_is taken_is line_is made =
-    let content = after now.steps state.content in
-    let old = characters content.cells in
-    let next = (if nat_le behind border then behind - span.to else border - span.to + rest) in
-    let counted = length-characters content.cells in
-    let within : border ≤ length old = so_far.long in
-    let rest_is : next ≡ line_start 1 (drop span.to old) = rest-is text old border rest span.to behind so_far.front
-    within room (omega (arith, below)) so_far.next behind_is in
-    let steps_are : (after new.steps state.content)
-    ≡ after_removal span.from span.to content = ap (λ (d : Outline). after d.steps state.content) made
-    ∙ after-append now.steps (Remove span.from span.to ∷ []) state.content in
-    let text_is : characters (after new.steps state.content).cells
-    ≡ removed span.from span.to old = ap (λ (c : Content). characters c.cells) steps_are
-    ∙ map-removed (λ (cell : Cell). cell.character) span.from span.to content.cells in
-    let shorter : take span.from old ≡ take span.from text = front-shorter span.from border old text
-    (omega (arith, some, below)) so_far.front in
-    record {
-      fits = subst (λ (d : Outline). Fits d.steps state.content) (sym made)
-          (Fits-append now.steps (Remove span.from span.to ∷ []) state.content so_far.fits
-          ((omega (arith, some), omega (arith, below, within, counted)), tt));
-      front = ap (take span.from) text_is
-          ∙ take-removed span.from span.to old span.from (omega (arith, some, below, within)) (omega arith) ∙ shorter;
-      long = let h = length-removed span.from span.to old (omega (arith, some)) (omega (arith, below, within)) in
-          let k = ap length text_is in omega (arith, h, k, some, below, within);
-      next = rest_is ∙ sym (ap (λ xs. line_start 1 (drop span.from xs)) text_is
-          ∙ ap (line_start 1) (drop-removed span.from span.to old span.from (omega (arith, some, below, within))
-          (omega (arith, some)) (omega arith)
-          ∙ ap (λ n. drop n old) (let e : span.from + (span.to - span.from) ≡ span.to = omega (arith, some) in e)));
-      makes = ap (removed_spans recording kind left)
-          (span-out recording kind now new state taken line (span.from + next) span.from span.to made some
-          (λ kept. taken_is kept
-          ∙ sym (slice-front span.from span.to border old text (omega (arith, some)) (omega (arith, below))
-          so_far.front))
-          (line_is ∙ sym (line-front old text span.from shorter))
-          (ap (λ n. span.from + n) rest_is
-          ∙ sym (next_line-removed old span.from span.to (omega (arith, some, below, within)))))
-          ∙ so_far.makes;
-    }
+-- the next of the spans that are left
+module _ {keeps : Bool} {outline now : Outline} {text : List ℕ} {spans all left : List Span} {span : Span}
+    {border rest : ℕ} (so_far : RemovingSpans keeps outline now text spans all border rest)
+    (all_is : all ≡ span ∷ left) where
+  apart : AreApart border (span ∷ left)
+  apart = subst (AreApart border) all_is so_far.apart
 
-pub removing-more : (keeps : Bool) (outline now new : Outline) (text taken : List ℕ) (spans all left : List Span)
-    (span : Span) (border rest behind line next : ℕ)
-    → RemovingSpans keeps outline now text spans all border rest → all ≡ span ∷ left → behind ≤ length text
-    → behind ≡ next_line text span.to → (keeps ≡ true → taken ≡ slice_range text span.from span.to) →
-    line ≡ line_start (line_of text span.from) text
-    → next ≡ (if nat_le behind border then behind - span.to else border - span.to + rest)
-    → new ≡ record {
-      steps = now.steps ++ Remove span.from span.to ∷ [];
-      anchors = map (anchors_drawn line (span.from + next) span.from span.to) now.anchors;
-      actions = now.actions ++ record { inserts = false; at = span.from; text = taken } ∷ [];
-    }
-    → RemovingSpans keeps outline new text spans left span.from next
-removing-more keeps outline now new text taken spans all left span border rest behind line next so_far all_is bound
-    behind_is taken_is line_is next_is made =
-    let apart : AreApart border (span ∷ left) = subst (AreApart border) all_is so_far.apart in
-    let some = apart.0 in let below = apart.1 in
-    record {
-      count = ap (λ (d : Outline). length d.anchors) made
-          ∙ length-map now.anchors (anchors_drawn line (span.from + next) span.from span.to) ∙ so_far.count;
-      apart = apart.2;
-      room = let room = so_far.room in
-          let far = behind_is ∙ next_line-is text span.to (omega (arith, below, room)) in
-          let fits = rest-fits (length text) border rest span.to behind room (omega (arith, below)) bound
-          (omega (arith, far)) in
-          omega (arith, fits, next_is, some);
-      goes = λ recording kind state kept fits is.
-          subst (RemovedSoFar recording kind outline new state text spans left span.from) (sym next_is)
-          (one-removed recording kind outline now new state text taken spans left span border rest behind line
-          (subst (λ xs. RemovedSoFar recording kind outline now state text spans xs border rest) all_is
-          (so_far.goes recording kind state kept fits is))
-          so_far.room some below behind_is (λ on. taken_is (kept on)) line_is
-          (made ∙ ap (λ n. record {
-            steps = now.steps ++ Remove span.from span.to ∷ [];
-            anchors = map (anchors_drawn line (span.from + n) span.from span.to) now.anchors;
-            actions = now.actions ++ record { inserts = false; at = span.from; text = taken } ∷ [];
-          }) next_is));
-    }
+  pub span-within : span.to ≤ next_line text span.to
+  span-within = let below = apart.1 in
+      let far = next_line-is text span.to (omega (arith, below, so_far.room)) in omega (arith, far)
+
+  -- it is taken out
+  pub removing-more : {new : Outline} {taken : List ℕ} {behind line next : ℕ} → behind ≤ length text
+      → behind ≡ next_line text span.to → (keeps ≡ true → taken ≡ slice_range text span.from span.to)
+      → line ≡ line_start (line_of text span.from) text
+      → next ≡ (if nat_le behind border then behind - span.to else border - span.to + rest)
+      → new ≡ record {
+        steps = now.steps ++ Remove span.from span.to ∷ [];
+        anchors = map (anchors_drawn line (span.from + next) span.from span.to) now.anchors;
+        actions = now.actions ++ record { inserts = false; at = span.from; text = taken } ∷ [];
+      }
+      → RemovingSpans keeps outline new text spans left span.from next
+  removing-more {new} {taken} {behind} {line} {next} bound behind_is taken_is line_is next_is made =
+      let some = apart.0 in let below = apart.1 in
+      record {
+        count = ap (λ (d : Outline). length d.anchors) made
+            ∙ length-map now.anchors (anchors_drawn line (span.from + next) span.from span.to) ∙ so_far.count;
+        apart = apart.2;
+        room = let fits = rest-fits (length text) border rest span.to behind so_far.room (omega (arith, below)) bound
+            (omega (arith, behind_is, span-within)) in
+            omega (arith, fits, next_is, some);
+        goes = λ recording kind state kept fits is.
+            let far = so_far.goes recording kind state kept fits is in
+            let content = after now.steps state.content in
+            let old = characters content.cells in
+            let counted = length-characters content.cells in
+            let within : border ≤ length old = far.long in
+            let begins : next ≡ line_start 1 (drop span.to old) = next_is ∙ rest-is text old border rest span.to behind
+            far.front within so_far.room (omega (arith, below)) far.next behind_is in
+            let steps_are : after new.steps state.content ≡ after_removal span.from span.to content =
+            ap (λ (d : Outline). after d.steps state.content) made
+            ∙ after-append now.steps (Remove span.from span.to ∷ []) state.content in
+            let text_is : characters (after new.steps state.content).cells ≡ removed span.from span.to old =
+            ap (λ (c : Content). characters c.cells) steps_are
+            ∙ map-removed (λ (cell : Cell). cell.character) span.from span.to content.cells in
+            let shorter : take span.from old ≡ take span.from text = front-shorter span.from border old text
+            (omega (arith, some, below)) far.front in
+            record {
+              fits = subst (λ (d : Outline). Fits d.steps state.content) (sym made)
+                  (Fits-append now.steps (Remove span.from span.to ∷ []) state.content far.fits
+                  ((omega (arith, some), omega (arith, below, within, counted)), tt));
+              front = ap (take span.from) text_is
+                  ∙ take-removed span.from span.to old span.from (omega (arith, some, below, within)) (omega arith)
+                  ∙ shorter;
+              long = let h = length-removed span.from span.to old (omega (arith, some)) (omega (arith, below, within))
+                  in let k = ap length text_is in omega (arith, h, k, some, below, within);
+              next = begins ∙ sym (ap (λ xs. line_start 1 (drop span.from xs)) text_is
+                  ∙ ap (line_start 1) (drop-removed span.from span.to old span.from (omega (arith, some, below, within))
+                  (omega (arith, some)) (omega arith)
+                  ∙ ap (λ n. drop n old)
+                  (let e : span.from + (span.to - span.from) ≡ span.to = omega (arith, some) in e)));
+              makes = ap (removed_spans recording kind left)
+                  (span-out recording kind now new state taken line (span.from + next) span.from span.to made some
+                  (λ on. taken_is (kept on)
+                  ∙ sym (slice-front span.from span.to border old text (omega (arith, some)) (omega (arith, below))
+                  far.front))
+                  (line_is ∙ sym (line-front old text span.from shorter))
+                  (ap (λ n. span.from + n) begins
+                  ∙ sym (next_line-removed old span.from span.to (omega (arith, some, below, within)))))
+                  ∙ ap (λ ss. removed_spans recording kind ss (outlineed recording kind now state)) (sym all_is)
+                  ∙ far.makes;
+            };
+      }
 
 -- ---- the slots of the last cell that is shown
 

@@ -1,12 +1,11 @@
 -- What hunks make of an old text.
-use Rattle.edit_ops.proofs.Words.{◌≡◌, ◌≢◌, ℕ, Bool, ◌+◌, ◌-◌, ◌<◌, ◌≤◌, true, false, List, [], ◌∷◌, ◌++◌, length, take}
-use Rattle.edit_ops.proofs.Words.{drop, map, refl, sym, ap, ap₂, ◌∙◌, arith, append-nil, length-append, length-take}
-use Rattle.edit_ops.proofs.Words.{subst, nat_lt, reverse, slice_range, if◌then◌else◌, lt-ltb, ltb-true, ltb-false}
-use Rattle.edit_ops.proofs.Words.{drop-append-le, drop_at, drop-map, drop-take, map-append, nil_from_length, take_at}
-use Rattle.edit_ops.proofs.Words.{reverse-append, drop_split, inserted, removed, length-removed, map-slice_range}
-use Rattle.edit_ops.proofs.Words.{take-removed, slice-join, AreApart, AreHunks, patched_by, putting, taking, taking_out}
-use Rattle.edit_ops.proofs.Words.{Hunk, Span}
-use Rattle.std.proofs.Common.{append_assoc}
+use Rattle.edit_ops.proofs.Common.{◌≡◌, ◌≢◌, ℕ, Bool, ◌+◌, ◌-◌, ◌<◌, ◌≤◌, true, false, List, [], ◌∷◌, ◌++◌, length}
+use Rattle.edit_ops.proofs.Common.{take, drop, map, refl, sym, ap, ap₂, ◌∙◌, arith, append-nil, length-append}
+use Rattle.edit_ops.proofs.Common.{length-take, subst, nat_lt, reverse, slice_range, if◌then◌else◌, lt-ltb, ltb-true}
+use Rattle.edit_ops.proofs.Common.{ltb-false, drop-append-le, drop_at, drop-map, map-append, nil_from_length, take_at}
+use Rattle.edit_ops.proofs.Common.{reverse-append, drop_split, inserted, removed, length-removed, map-slice_range}
+use Rattle.edit_ops.proofs.Common.{take-removed, slice-join, AreApart, AreHunks, patched_by, putting, taking}
+use Rattle.edit_ops.proofs.Common.{taking_out, Hunk, Span, append_assoc, between_is}
 use Rattle.edit_ops.proofs.TellLaws.{hunks-within}
 
 -- ---- parts of a list
@@ -154,22 +153,17 @@ stand-one-more at border len [] span stand before some within = (
 stand-one-more at border len (hunk ∷ hunks) span stand before some within =
     (stand.0, stand.1, stand-one-more hunk.to border len hunks span stand.2 before some within)
 
-slice-is : {A : Type 0} (at end : ℕ) (list : List A) → at ≤ end → drop at (take end list) ≡ slice_range list at end
-slice-is at end list ordered =
-    ap (λ n. drop at (take n list)) (let e : end ≡ at + (end - at) = omega (arith, ordered) in e)
-    ∙ drop-take at (end - at) list
-
 slice-before : {A : Type 0} (at end from to : ℕ) (list : List A) → at ≤ end → end ≤ from → from ≤ length list
     → slice_range (removed from to list) at end ≡ slice_range list at end
 slice-before at end from to list ordered before within =
-    sym (slice-is at end (removed from to list) ordered) ∙ ap (drop at) (take-removed from to list end within before)
-    ∙ slice-is at end list ordered
+    between_is (removed from to list) at end ∙ ap (drop at) (take-removed from to list end within before)
+    ∙ sym (between_is list at end)
 
 drop-before : {A : Type 0} (at from to : ℕ) (list : List A) → at ≤ from → from ≤ length list
     → drop at (removed from to list) ≡ slice_range list at from ++ drop to list
 drop-before at from to list before within =
     drop-append-le at (take from list) (drop to list) (let h = length-take from list in omega (arith, h, before, within))
-    ∙ ap (λ xs. xs ++ drop to list) (slice-is at from list before)
+    ∙ ap (λ xs. xs ++ drop to list) (sym (between_is list at from))
 
 -- a span that is taken out above all hunks, or before them
 one-more-is : {A : Type 0} (put : List ℕ → List A) (at border : ℕ) (hunks : List Hunk) (span : Span) (list : List A)
@@ -291,10 +285,3 @@ pub inserting-stand : (at len : ℕ) (texts : List (List ℕ)) (hunks : List Hun
 inserting-stand at len texts hunks within are =
     subst (AreHunks 0 len) (append-nil (putting at texts) ∙ sym are)
     (hunks-lower 0 at len (putting at texts ++ []) (omega arith) (putting-stand at len texts [] within))
-
-pub inserting-is : {A : Type 0} (put : List ℕ → List A) (at : ℕ) (texts : List (List ℕ)) (hunks : List Hunk)
-    (list : List A) → IsEach put → at ≤ length list → hunks ≡ putting at texts
-    → patched_by put 0 hunks list ≡ put_all put at texts list
-inserting-is put at texts hunks list each within are =
-    ap (λ hs. patched_by put 0 hs list) (are ∙ sym (append-nil (putting at texts)))
-    ∙ putting-is put at (length list) texts [] list each within within

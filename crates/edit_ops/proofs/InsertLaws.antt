@@ -1,20 +1,20 @@
 -- One text more is put in.
-use Rattle.edit_ops.proofs.Words.{◌≡◌, ℕ, zero, suc, ◌+◌, ◌-◌, ◌^◌, ◌<◌, ◌≤◌, Bool, true, false, List, [], ◌∷◌, ◌++◌}
-use Rattle.edit_ops.proofs.Words.{Option, Some, None, ◌==◌, ◌&&◌, map, length, get_or, refl, sym, ap, ap₂, ◌∙◌, arith}
-use Rattle.edit_ops.proofs.Words.{ne_eqb, eq-eqb, subst, slice_get, IfSome, option_map, nat_lt, if◌then◌else◌}
-use Rattle.edit_ops.proofs.Words.{encode_utf8_all, nat_cmp_total, is_none, All, nat_tests, length-map, get_or-map}
-use Rattle.edit_ops.proofs.Words.{get_or_from_slice_get, length-le-encodes, sum_by-cons, All-map, Cell, Insert, Content}
-use Rattle.edit_ops.proofs.Words.{Slots, slot_sets, slots_left_of, inserted, cells_of, Fits, after, after_insertion}
-use Rattle.edit_ops.proofs.Words.{length-cells_inserted, map-inserted, map-map, get_or-inserted_within}
-use Rattle.edit_ops.proofs.Words.{get_or-inserted_behind, Fits-append, after-append, noted, counted_new, Action}
-use Rattle.edit_ops.proofs.Words.{EditKind, Anchors, SlottedText, Recording, AnchorsStand, anchor_moved, anchors_moved}
-use Rattle.edit_ops.proofs.Words.{shared_slots, slots_around, length-slot_sets, slots_or, inserted_text, inserted_texts}
-use Rattle.edit_ops.proofs.Words.{total, total_bytes, needs_shared, IsBetween, State, Log, Outline, log_noted}
-use Rattle.edit_ops.proofs.Words.{all_noted, outlineed, state_of}
-use Rattle.std.specs.Prelude.{◌||◌}
-use Rattle.std.specs.FinSet as set
+use Rattle.edit_ops.proofs.Common.{◌≡◌, ℕ, zero, suc, ◌+◌, ◌-◌, ◌^◌, ◌<◌, ◌≤◌, Bool, true, false, List, [], ◌∷◌, ◌++◌}
+use Rattle.edit_ops.proofs.Common.{Option, Some, None, ◌==◌, ◌&&◌, map, length, get_or, refl, sym, ap, ap₂, ◌∙◌, arith}
+use Rattle.edit_ops.proofs.Common.{ne_eqb, eq-eqb, subst, slice_get, nat_lt, if◌then◌else◌, encode_utf8_all}
+use Rattle.edit_ops.proofs.Common.{nat_cmp_total, is_none, All, nat_tests, length-map, get_or-map}
+use Rattle.edit_ops.proofs.Common.{get_or_from_slice_get, length-le-encodes, sum_by-cons, All-map, Cell, Insert}
+use Rattle.edit_ops.proofs.Common.{Content, Slots, slot_sets, slots_left_of, inserted, cells_of, Fits, after}
+use Rattle.edit_ops.proofs.Common.{after_insertion, length-cells_inserted, map-inserted, map-map}
+use Rattle.edit_ops.proofs.Common.{get_or-inserted_within, get_or-inserted_behind, Fits-append, after-append, noted}
+use Rattle.edit_ops.proofs.Common.{counted_new, Action, EditKind, Anchors, SlottedText, Recording, AnchorsStand}
+use Rattle.edit_ops.proofs.Common.{anchor_moved, anchors_moved, shared_slots, slots_around, length-slot_sets, slots_or}
+use Rattle.edit_ops.proofs.Common.{inserted_texts, total, total_bytes, needs_shared, IsBetween, State, Log, Outline}
+use Rattle.edit_ops.proofs.Common.{log_noted, all_noted, outlineed, state_of, ◌||◌}
 use Rattle.std.specs.Ordering.{nat_cmp}
 use Rattle.std.proofs.Math.Bool.{or-true}
+use Rattle.edit_ops.proofs.AnchorLaws.{if-mapped}
+use Rattle.std.specs.FinSet as set
 
 pub noted-append : (recording : Recording) (kind : EditKind) (actions others : List Action) (log : Log)
     → all_noted recording kind (actions ++ others) log
@@ -23,30 +23,20 @@ noted-append recording kind [] others log = refl
 noted-append recording kind (action ∷ actions) others log =
     noted-append recording kind actions others (log_noted recording kind action log)
 
+if-alike : {A B : Type 0} (b : Bool) (f : A → B) (x y : A) (other : B) → (b ≡ true → x ≡ y) →
+    (if b then f x else other) ≡ (if b then f y else other)
+if-alike true f x y other same = ap f (same refl)
+if-alike false f x y other same = refl
+
 -- where no action is kept, its text doesn't matter
 pub noted-alike : (recording : Recording) (kind : EditKind) (inserts : Bool) (at : ℕ) (text other : List ℕ) (log : Log)
     → (recording.undo ≡ true → text ≡ other)
     → log_noted recording kind (record { inserts = inserts; at = at; text = text }) log
     ≡ log_noted recording kind (record { inserts = inserts; at = at; text = other }) log
 noted-alike recording kind inserts at text other log same =
-    let action : List ℕ → Action = λ t. record { inserts = inserts; at = at; text = t } in
-    elim recording.undo as (λ b. (b ≡ true → text ≡ other)
-    → record log {
-      history = if b then noted kind (action text) recording.separators log.most log.history
-          else log.history;
-      modified = counted_new log.modified;
-    }
-    ≡ record log {
-      history = if b then noted kind (action other) recording.separators log.most log.history
-          else log.history;
-      modified = counted_new log.modified;
-    }) [
-      | true ↦ λ is. ap (λ t. record log {
-        history = noted kind (action t) recording.separators log.most log.history;
-        modified = counted_new log.modified;
-      }) (is refl)
-      | false ↦ λ _. refl
-    ] same
+    ap (λ history. record log { history = history; modified = counted_new log.modified })
+    (if-alike recording.undo (λ t. noted kind (record { inserts = inserts; at = at; text = t }) recording.separators
+    log.most log.history) text other log.history same)
 
 -- the slots of text that is put in, and of the cells behind it
 slots-within : (at : ℕ) (text : List ℕ) (slots : Slots) (cells : List Cell) (i : ℕ) → at ≤ length cells →
@@ -122,74 +112,16 @@ moved-within : (at count len anchor : ℕ) → anchor ≤ len → anchor_moved a
 moved-within at count len anchor within = elim (nat_lt at anchor) as (λ b. (if b then anchor + count else anchor)
     ≤ len + count) [ true ↦ omega arith | false ↦ omega arith ]
 
-one-moved : (at count len : ℕ) (anchor : Option ℕ) → IfSome anchor (λ place. place ≤ len) →
-    IfSome (option_map (anchor_moved at count) anchor) (λ place. place ≤ len + count)
-one-moved at count len None stands = tt
-one-moved at count len (Some anchor) stands = moved-within at count len anchor stands
-
-stands-moved : (at count len : ℕ) (anchors : Anchors) → AnchorsStand len anchors →
-    AnchorsStand (len + count) (anchors_moved at count anchors)
-stands-moved at count len anchors stand = record {
-  start = one-moved at count len anchors.start stand.start;
-  end = one-moved at count len anchors.end stand.end;
-}
-
 -- the anchors of each widget still stand in the text
 pub stand-moved : (at count len : ℕ) (all : List Anchors) → All (AnchorsStand len) all →
     All (AnchorsStand (len + count)) (map (anchors_moved at count) all)
 stand-moved at count len all stand = All-map (AnchorsStand (len + count)) (anchors_moved at count) all (λ k d within.
-    stands-moved at count len (get_or all k d) (stand k d within))
-
--- one text more, of an edit that is put together
-pub record OneMore (recording : Recording) (kind : EditKind) (outline new : Outline) (state : State) (at len : ℕ)
-    (shared behind : Slots) (piece : SlottedText) (rest : List SlottedText) : Type 0 where
-  pub fits : Fits new.steps state.content
-  pub between : IsBetween (needs_shared rest) shared behind (len + length piece.text) (at + length piece.text)
-      (after new.steps state.content).cells
-  pub makes : outlineed recording kind new state
-      ≡ inserted_text recording kind at piece (outlineed recording kind outline state)
-
-pub one-more : (recording : Recording) (kind : EditKind) (outline new : Outline) (state : State) (at len : ℕ)
-    (shared behind slots : Slots) (piece : SlottedText) (rest : List SlottedText) (kept : List ℕ) → Fits outline.steps state.content
-    → IsBetween (needs_shared (piece ∷ rest)) shared behind len at (after outline.steps state.content).cells →
-    0 < length piece.text → slots ≡ slots_or piece.slots shared → (recording.undo ≡ true → kept ≡ piece.text)
-    → new ≡ record {
-      steps = outline.steps ++ Insert at piece.text slots ∷ [];
-      anchors = map (anchors_moved at (length piece.text)) outline.anchors;
-      actions = outline.actions ++ record { inserts = true; at = at; text = kept } ∷ [];
-    }
-    → OneMore recording kind outline new state at len (set.intersection slots behind) behind piece rest
-one-more recording kind outline new state at len shared behind slots piece rest kept fits is some slots_are kept_is made =
-    let before = after outline.steps state.content in
-    let step = Insert at piece.text slots in
-    let action : List ℕ → Action = λ text. record { inserts = true; at = at; text = text } in
-    let before_log = all_noted recording kind outline.actions state.log in
-    let content : after (outline.steps ++ step ∷ []) state.content
-    ≡ after_insertion at piece.text slots before = after-append outline.steps (step ∷ []) state.content in
-    let same : slots ≡ slots_or piece.slots (shared_slots at before.cells) = slots_are
-    ∙ slots-same piece.slots (needs_shared rest) shared (shared_slots at before.cells) is.around in
-    let log : all_noted recording kind (outline.actions ++ action kept ∷ []) state.log
-    ≡ log_noted recording kind (action piece.text) before_log =
-    noted-append recording kind outline.actions (action kept ∷ []) state.log
-    ∙ noted-alike recording kind true at kept piece.text before_log kept_is in
-    let anchors = map (anchors_moved at (length piece.text)) outline.anchors in
+    let anchors = get_or all k d in
+    let moves = if-mapped (λ place. place ≤ len) (λ place. place ≤ len + count) (anchor_moved at count) in
     record {
-      fits = subst (λ (d : Outline). Fits d.steps state.content) (sym made)
-          (Fits-append outline.steps (step ∷ []) state.content fits (omega (arith, is.within, is.counted), tt));
-      between = subst (λ (d : Outline). IsBetween (needs_shared rest) (set.intersection slots behind) behind
-          (len + length piece.text) (at + length piece.text) (after d.steps state.content).cells) (sym made)
-          (subst (λ (c : Content). IsBetween (needs_shared rest) (set.intersection slots behind) behind
-          (len + length piece.text) (at + length piece.text) c.cells) (sym content)
-          (between-next (needs_shared rest) shared behind slots len at piece.text before.cells
-          (fewer piece rest shared behind len at before.cells is) some));
-      makes =
-          ap (λ d. outlineed recording kind d state) made
-          ∙ ap₂ (λ c l. state_of c anchors l) (content ∙ ap (λ s. after_insertion at piece.text s before) same) log
-          ∙ ap (λ b. if b then outlineed recording kind outline state
-          else state_of (after_insertion at piece.text (slots_or piece.slots (shared_slots at before.cells)) before)
-          anchors (log_noted recording kind (action piece.text) before_log))
-          (sym (ne_eqb (length piece.text) 0 (λ none. omega (arith, none, some))));
-    }
+      start = moves anchors.start (moved-within at count len) (stand k d within).start;
+      end = moves anchors.end (moved-within at count len) (stand k d within).end;
+    })
 
 -- The first of the texts are put in, of an edit that is put together, and these are left.
 pub record InsertedSoFar (recording : Recording) (kind : EditKind) (outline new : Outline) (state : State) (from : ℕ)
@@ -242,113 +174,105 @@ inserting-first keeps outline at len shared behind pieces left left_is within st
       goes = λ recording kind state _ fits is. record { fits = fits; between = is; makes = refl };
     })
 
--- a text more
-pub inserting-more : (keeps : Bool) (outline now new : Outline) (from start : ℕ) (around : Slots) (pieces : List SlottedText)
-    (at len : ℕ) (shared behind slots : Slots) (piece : SlottedText) (kept : List ℕ) (rest left : List SlottedText)
-    → Inserting keeps outline now from start around pieces at len shared behind left → left ≡ piece ∷ rest →
-    0 < length piece.text → slots ≡ slots_or piece.slots shared → (keeps ≡ true → kept ≡ piece.text)
-    → new ≡ record {
-      steps = now.steps ++ Insert at piece.text slots ∷ [];
-      anchors = map (anchors_moved at (length piece.text)) now.anchors;
-      actions = now.actions ++ record { inserts = true; at = at; text = kept } ∷ [];
-    }
-    → Inserting keeps outline new from start around pieces (at + length piece.text) (len + length piece.text)
-    (set.intersection slots behind) behind rest
-inserting-more keeps outline now new from start around pieces at len shared behind slots piece kept rest left so_far
-    left_is some slots_are kept_is made =
-    let counted : total left ≡ length piece.text + total rest = ap total left_is ∙ total-cons piece rest in
-    record {
-      within = let h : at < len = so_far.within in omega arith;
-      count = ap (λ (d : Outline). length d.anchors) made ∙ length-map now.anchors (anchors_moved at (length piece.text))
-          ∙ so_far.count;
-      stand = subst (λ (d : Outline). All (AnchorsStand (len + length piece.text)) d.anchors) (sym made)
-          (stand-moved at (length piece.text) len now.anchors so_far.stand);
-      room = omega (arith, counted, so_far.room);
-      whole = omega (arith, counted, so_far.whole);
-      place = omega (arith, so_far.place);
-      goes = λ recording kind state keeping fits is.
-          let before = so_far.goes recording kind state keeping fits is in
-          let next = one-more recording kind now new state at len shared behind slots piece rest kept before.fits
-          (subst (λ ps. IsBetween (needs_shared ps) shared behind len at (after now.steps state.content).cells) left_is
-          before.between) some slots_are (λ on. kept_is (keeping on)) made in
-          record {
-            fits = next.fits;
-            between = next.between;
-            makes = ap (inserted_texts recording kind (at + length piece.text) rest) next.makes
-                ∙ ap (λ ps. inserted_texts recording kind at ps (outlineed recording kind now state)) (sym left_is)
-                ∙ before.makes;
-          };
-    }
+-- a text of those that are left
+module _ {keeps : Bool} {outline now : Outline} {from start : ℕ} {around : Slots} {pieces : List SlottedText}
+    {at len : ℕ} {shared behind : Slots} {piece : SlottedText} {rest left : List SlottedText}
+    (so_far : Inserting keeps outline now from start around pieces at len shared behind left)
+    (left_is : left ≡ piece ∷ rest) where
+  counted : total left ≡ length piece.text + total rest
+  counted = ap total left_is ∙ total-cons piece rest
 
--- no text more
-pub inserting-none : (keeps : Bool) (outline now : Outline) (from start : ℕ) (around : Slots) (pieces : List SlottedText)
-    (at len : ℕ) (shared behind : Slots) (piece : SlottedText) (rest left : List SlottedText)
-    → Inserting keeps outline now from start around pieces at len shared behind left → left ≡ piece ∷ rest →
-    length piece.text ≡ 0
-    → Inserting keeps outline now from start around pieces at len shared behind rest
-inserting-none keeps outline now from start around pieces at len shared behind piece rest left so_far left_is none =
-    let counted : total left ≡ length piece.text + total rest = ap total left_is ∙ total-cons piece rest in
-    record {
-      within = so_far.within;
-      count = so_far.count;
-      stand = so_far.stand;
-      room = omega (arith, counted, so_far.room);
-      whole = omega (arith, counted, so_far.whole, none);
-      place = so_far.place;
-      goes = λ recording kind state keeping fits is.
-          let before = so_far.goes recording kind state keeping fits is in
-          record {
-            fits = before.fits;
-            between = fewer piece rest shared behind len at (after now.steps state.content).cells
-                (subst (λ ps. IsBetween (needs_shared ps) shared behind len at (after now.steps state.content).cells)
-                left_is before.between);
-            makes =
-                ap₂ (λ n s. inserted_texts recording kind n rest s) (let e : at
-                ≡ at + length piece.text = omega (arith, none) in e)
-                (sym (ap (λ b. if b then outlineed recording kind now state else state_of
-                (after_insertion at piece.text
-                (slots_or piece.slots (shared_slots at (after now.steps state.content).cells))
-                (after now.steps state.content))
-                (map (anchors_moved at (length piece.text)) now.anchors)
-                (log_noted recording kind (record { inserts = true; at = at; text = piece.text })
-                (all_noted recording kind now.actions state.log)))
-                (eq-eqb (length piece.text) 0 none)))
-                ∙ ap (λ ps. inserted_texts recording kind at ps (outlineed recording kind now state)) (sym left_is)
-                ∙ before.makes;
-          };
-    }
+  pub piece-fits : (count : ℕ) → count ≡ length piece.text → (len + count < 2 ^ 64) × (at + count < 2 ^ 64)
+  piece-fits count is =
+      (omega (arith, counted, is, so_far.room), omega (arith, counted, is, so_far.room, so_far.within))
 
--- so many characters more
-pub inserting-count : (keeps : Bool) (outline now new : Outline) (from start : ℕ) (around : Slots) (pieces : List SlottedText)
-    (at len count : ℕ) (shared behind slots : Slots) (piece : SlottedText) (kept : List ℕ) (rest left : List SlottedText)
-    → Inserting keeps outline now from start around pieces at len shared behind left → left ≡ piece ∷ rest →
-    count ≡ length piece.text → 0 < count → slots ≡ slots_or piece.slots shared → (keeps ≡ true → kept ≡ piece.text)
-    → new ≡ record {
-      steps = now.steps ++ Insert at piece.text slots ∷ [];
-      anchors = map (anchors_moved at count) now.anchors;
-      actions = now.actions ++ record { inserts = true; at = at; text = kept } ∷ [];
-    }
-    → Inserting keeps outline new from start around pieces (at + count) (len + count) (set.intersection slots behind)
-    behind rest
-inserting-count keeps outline now new from start around pieces at len count shared behind slots piece kept rest left
-    so_far left_is counted some slots_are kept_is made =
-    subst (λ n. Inserting keeps outline new from start around pieces (at + n) (len + n) (set.intersection slots behind)
-    behind rest) (sym counted)
-    (inserting-more keeps outline now new from start around pieces at len shared behind slots piece kept rest left so_far
-    left_is (omega (arith, counted, some)) slots_are kept_is
-    (made ∙ ap (λ n. record {
-      steps = now.steps ++ Insert at piece.text slots ∷ [];
-      anchors = map (anchors_moved at n) now.anchors;
-      actions = now.actions ++ record { inserts = true; at = at; text = kept } ∷ [];
-    }) counted))
+  -- it is put in
+  pub inserting-more : {new : Outline} {slots : Slots} {kept : List ℕ} → 0 < length piece.text
+      → slots ≡ slots_or piece.slots shared → (keeps ≡ true → kept ≡ piece.text)
+      → new ≡ record {
+        steps = now.steps ++ Insert at piece.text slots ∷ [];
+        anchors = map (anchors_moved at (length piece.text)) now.anchors;
+        actions = now.actions ++ record { inserts = true; at = at; text = kept } ∷ [];
+      }
+      → Inserting keeps outline new from start around pieces (at + length piece.text) (len + length piece.text)
+      (set.intersection slots behind) behind rest
+  inserting-more {new} {slots} {kept} some slots_are kept_is made = record {
+    within = let h : at < len = so_far.within in omega arith;
+    count = ap (λ (d : Outline). length d.anchors) made
+        ∙ length-map now.anchors (anchors_moved at (length piece.text)) ∙ so_far.count;
+    stand = subst (λ (d : Outline). All (AnchorsStand (len + length piece.text)) d.anchors) (sym made)
+        (stand-moved at (length piece.text) len now.anchors so_far.stand);
+    room = omega (arith, counted, so_far.room);
+    whole = omega (arith, counted, so_far.whole);
+    place = omega (arith, so_far.place);
+    goes = λ recording kind state keeping fits begins.
+        let far = so_far.goes recording kind state keeping fits begins in
+        let before = after now.steps state.content in
+        let is = subst (λ ps. IsBetween (needs_shared ps) shared behind len at before.cells) left_is far.between in
+        let step = Insert at piece.text slots in
+        let action : List ℕ → Action = λ text. record { inserts = true; at = at; text = text } in
+        let before_log = all_noted recording kind now.actions state.log in
+        let content : after (now.steps ++ step ∷ []) state.content ≡ after_insertion at piece.text slots before =
+        after-append now.steps (step ∷ []) state.content in
+        let same : slots ≡ slots_or piece.slots (shared_slots at before.cells) =
+        slots_are ∙ slots-same piece.slots (needs_shared rest) shared (shared_slots at before.cells) is.around in
+        let log : all_noted recording kind (now.actions ++ action kept ∷ []) state.log
+        ≡ log_noted recording kind (action piece.text) before_log =
+        noted-append recording kind now.actions (action kept ∷ []) state.log
+        ∙ noted-alike recording kind true at kept piece.text before_log (λ on. kept_is (keeping on)) in
+        let anchors = map (anchors_moved at (length piece.text)) now.anchors in
+        record {
+          fits = subst (λ (d : Outline). Fits d.steps state.content) (sym made)
+              (Fits-append now.steps (step ∷ []) state.content far.fits (omega (arith, is.within, is.counted), tt));
+          between = subst (λ (c : Content). IsBetween (needs_shared rest) (set.intersection slots behind) behind
+              (len + length piece.text) (at + length piece.text) c.cells)
+              (sym (ap (λ (d : Outline). after d.steps state.content) made ∙ content))
+              (between-next (needs_shared rest) shared behind slots len at piece.text before.cells
+              (fewer piece rest shared behind len at before.cells is) some);
+          makes =
+              ap (λ d. inserted_texts recording kind (at + length piece.text) rest (outlineed recording kind d state))
+              made
+              ∙ ap (inserted_texts recording kind (at + length piece.text) rest)
+              (ap₂ (λ c l. state_of c anchors l) (content ∙ ap (λ s. after_insertion at piece.text s before) same) log
+              ∙ ap (λ b. if b then outlineed recording kind now state
+              else state_of (after_insertion at piece.text (slots_or piece.slots (shared_slots at before.cells)) before)
+              anchors (log_noted recording kind (action piece.text) before_log))
+              (sym (ne_eqb (length piece.text) 0 (λ none. omega (arith, none, some)))))
+              ∙ ap (λ ps. inserted_texts recording kind at ps (outlineed recording kind now state)) (sym left_is)
+              ∙ far.makes;
+        };
+  }
 
-pub piece-fits : (keeps : Bool) (outline now : Outline) (from start : ℕ) (around : Slots) (pieces : List SlottedText)
-    (at len count : ℕ) (shared behind : Slots) (piece : SlottedText) (rest left : List SlottedText)
-    → Inserting keeps outline now from start around pieces at len shared behind left → left ≡ piece ∷ rest →
-    count ≡ length piece.text → (len + count < 2 ^ 64) × (at + count < 2 ^ 64)
-piece-fits keeps outline now from start around pieces at len count shared behind piece rest left so_far left_is counted =
-    let whole : total left ≡ length piece.text + total rest = ap total left_is ∙ total-cons piece rest in
-    (omega (arith, whole, counted, so_far.room), omega (arith, whole, counted, so_far.room, so_far.within))
+  -- it has no characters
+  pub inserting-none : length piece.text ≡ 0 →
+      Inserting keeps outline now from start around pieces at len shared behind rest
+  inserting-none none = record {
+    within = so_far.within;
+    count = so_far.count;
+    stand = so_far.stand;
+    room = omega (arith, counted, so_far.room);
+    whole = omega (arith, counted, so_far.whole, none);
+    place = so_far.place;
+    goes = λ recording kind state keeping fits is.
+        let far = so_far.goes recording kind state keeping fits is in
+        let before = after now.steps state.content in
+        record {
+          fits = far.fits;
+          between = fewer piece rest shared behind len at before.cells
+              (subst (λ ps. IsBetween (needs_shared ps) shared behind len at before.cells) left_is far.between);
+          makes =
+              ap₂ (λ n s. inserted_texts recording kind n rest s)
+              (let e : at ≡ at + length piece.text = omega (arith, none) in e)
+              (sym (ap (λ b. if b then outlineed recording kind now state else state_of
+              (after_insertion at piece.text (slots_or piece.slots (shared_slots at before.cells)) before)
+              (map (anchors_moved at (length piece.text)) now.anchors)
+              (log_noted recording kind (record { inserts = true; at = at; text = piece.text })
+              (all_noted recording kind now.actions state.log)))
+              (eq-eqb (length piece.text) 0 none)))
+              ∙ ap (λ ps. inserted_texts recording kind at ps (outlineed recording kind now state)) (sym left_is)
+              ∙ far.makes;
+        };
+  }
 
 -- an edit that begins with texts that are put in
 pub put-in : (keeps : Bool) (outline new : Outline) (content : Content) (anchors : List Anchors) (shared behind : Slots)

@@ -1,25 +1,23 @@
 -- The history goes on fitting the text.
-use Rattle.edit_ops.proofs.Words.{◌≡◌, ℕ, zero, suc, ◌+◌, ◌-◌, ◌<◌, ◌≤◌, ◌==◌, ◌&&◌, Bool, true, false, inl, inr, List}
-use Rattle.edit_ops.proofs.Words.{[], ◌∷◌, Option, Some, None, map, length, get_or, refl, sym, ap, ap₂, ◌∙◌, arith}
-use Rattle.edit_ops.proofs.Words.{subst, slice_range, bytes_eq, nat_lt, nat_le, min, not, if◌then◌else◌}
-use Rattle.edit_ops.proofs.Words.{option_and_then, All, eqb-false, le-leb, lt-ltb, cases_eq, or_cases, and_parts}
-use Rattle.edit_ops.proofs.Words.{eqb-true, both_ways, not-true, All-tail, Cell, ClearTags, Place, Content, Slots}
-use Rattle.edit_ops.proofs.Words.{characters, inserted, removed, changed, is_newline, cells_of, after_step}
-use Rattle.edit_ops.proofs.Words.{after_insertion, after_removal, with_slot, without_slots, length-cells_inserted}
-use Rattle.edit_ops.proofs.Words.{length-removed, length-changed, map-inserted, map-removed, map-changed, changed-same}
-use Rattle.edit_ops.proofs.Words.{Action, EditKind, Replace, Delete, FitsText, repeated, History, noted, repeat-back}
-use Rattle.edit_ops.proofs.Words.{note-fits, SlottedText, Recording, Span, anchors_moved, anchors_removed, in_spans}
-use Rattle.edit_ops.proofs.Words.{run_start, delete_set, onto_runs, runs_below, AreApart, removed_spans, deleted}
-use Rattle.edit_ops.proofs.Words.{shared_slots, slots_or, inserted_text, inserted_texts, total, IsKept, removed_span}
-use Rattle.edit_ops.proofs.Words.{clipped, with_mark, replaced, State, Log, log_noted, state_of, SpanFits, tagged}
-use Rattle.edit_ops.proofs.Words.{characters-of, length-characters}
-use Rattle.std.specs.Prelude.{◌||◌}
-use Rattle.std.specs.FinMap as finite
-use Rattle.std.proofs.lemmas.Bool.{true≢false}
+use Rattle.edit_ops.proofs.Common.{◌≡◌, ℕ, zero, suc, ◌+◌, ◌-◌, ◌<◌, ◌≤◌, ◌==◌, ◌&&◌, Bool, true, false, inl, inr, List}
+use Rattle.edit_ops.proofs.Common.{[], ◌∷◌, Option, Some, None, map, length, get_or, refl, sym, ap, ap₂, ◌∙◌, arith}
+use Rattle.edit_ops.proofs.Common.{subst, slice_range, bytes_eq, nat_lt, nat_le, min, not, if◌then◌else◌}
+use Rattle.edit_ops.proofs.Common.{option_and_then, All, eqb-false, le-leb, lt-ltb, cases_eq, or_cases, and_parts}
+use Rattle.edit_ops.proofs.Common.{eqb-true, both_ways, not-true, All-tail, Cell, ClearTags, Place, Content, Slots}
+use Rattle.edit_ops.proofs.Common.{characters, inserted, removed, changed, is_newline, cells_of, after_step}
+use Rattle.edit_ops.proofs.Common.{after_insertion, after_removal, with_slot, without_slots, length-cells_inserted}
+use Rattle.edit_ops.proofs.Common.{length-removed, length-changed, map-inserted, map-removed, map-changed, changed-same}
+use Rattle.edit_ops.proofs.Common.{Action, EditKind, Replace, Delete, FitsText, repeated, History, noted, repeat-back}
+use Rattle.edit_ops.proofs.Common.{note-fits, SlottedText, Recording, Span, anchors_moved, anchors_removed, in_spans}
+use Rattle.edit_ops.proofs.Common.{run_start, delete_set, onto_runs, runs_below, AreApart, removed_spans, deleted}
+use Rattle.edit_ops.proofs.Common.{shared_slots, slots_or, inserted_text, inserted_texts, total, IsKept, removed_span}
+use Rattle.edit_ops.proofs.Common.{clipped, with_mark, replaced, State, log_noted, state_of, SpanFits, tagged}
+use Rattle.edit_ops.proofs.Common.{characters-of, length-characters, ◌||◌, true≢false, Anchors}
 use Rattle.std.proofs.lemmas.Slice.Eq.{bytes_eq-Decides}
 use Rattle.edit_ops.proofs.DeleteLaws.{length-slice}
 use Rattle.edit_ops.proofs.InsertLaws.{total-cons}
 use Rattle.edit_ops.proofs.RunLaws.{apart-wider, in-within}
+use Rattle.std.specs.FinMap as finite
 
 -- a history without groups fits
 empty-fits : (limit : ℕ) (text found : List ℕ) (history : History) → FitsText limit text history → history.groups ≡ [] →
@@ -33,11 +31,11 @@ empty-fits limit text found history fits none no_more short = record {
 }
 
 -- an action that was made on the text is noted, if it is kept
-pub note-kept : (limit : ℕ) (recording : Recording) (kind : EditKind) (action : Action) (state : State)
-    (content : Content) (new : State) → IsKept limit recording state
-    → repeated limit action (characters state.content.cells) ≡ Some (characters content.cells) → new.content ≡ content →
-    new.log ≡ log_noted recording kind action state.log → IsKept limit recording new
-note-kept limit recording kind action state content new kept made content_is log_is =
+note-kept : (limit : ℕ) (recording : Recording) (kind : EditKind) (action : Action) (state : State)
+    (content : Content) (anchors : List Anchors) → IsKept limit recording state
+    → repeated limit action (characters state.content.cells) ≡ Some (characters content.cells)
+    → IsKept limit recording (state_of content anchors (log_noted recording kind action state.log))
+note-kept limit recording kind action state content anchors kept made =
     let text = characters state.content.cells in
     let found = characters content.cells in
     let history = state.log.history in
@@ -60,9 +58,7 @@ note-kept limit recording kind action state content new kept made content_is log
         (λ _. kept.undone off),
       )
     ] refl in
-    subst (λ (c : Content). IsKept limit recording (record new { content = c })) (sym content_is)
-    (subst (λ (l : Log). IsKept limit recording (record new { content = content; log = l })) (sym log_is)
-    (record { fits = parts.0; groups = parts.1; undone = parts.2 }))
+    record { fits = parts.0; groups = parts.1; undone = parts.2 }
 
 -- ---- texts that are put in
 
@@ -97,8 +93,8 @@ text-kept limit at recording kind piece state kept within short =
       | true ↦ λ none. (kept, (let gone = eqb-true (length piece.text) 0 none in omega (arith, gone)))
       | false ↦ λ some. (
         note-kept limit recording kind (record { inserts = true; at = at; text = piece.text }) state
-            (after_insertion at piece.text slots state.content) made kept
-            (put-made limit at piece.text slots state.content within short) refl refl,
+            (after_insertion at piece.text slots state.content) made.anchors kept
+            (put-made limit at piece.text slots state.content within short),
         length-cells_inserted at piece.text slots state.content.cells (omega (arith, within)),
       )
     ] refl
@@ -148,8 +144,8 @@ span-kept limit from to recording kind state kept ordered within =
       | true ↦ λ none. (kept, (let same = eqb-true from to none in omega (arith, same)))
       | false ↦ λ some. (
         note-kept limit recording kind (record { inserts = false; at = from; text = taken }) state
-            (after_removal from to state.content) made kept
-            (take-made limit from to state.content ordered within) refl refl,
+            (after_removal from to state.content) made.anchors kept
+            (take-made limit from to state.content ordered within),
         (let h = length-removed from to state.content.cells ordered (omega (arith, within)) in omega (arith, h)),
       )
     ] refl

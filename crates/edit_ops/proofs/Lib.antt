@@ -1,6 +1,7 @@
 pub mod AnchorLaws
 pub mod AnchoredEditLaws
 pub mod AnchoredLaws
+pub mod Common
 pub mod CoverLaws
 pub mod CursorTextLaws
 pub mod DeleteLaws
@@ -20,4 +21,3 @@ pub mod SpotLaws
 pub mod StartLaws
 pub mod TagLaws
 pub mod TellLaws
-pub mod Words

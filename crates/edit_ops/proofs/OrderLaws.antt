@@ -1,19 +1,17 @@
 -- Steps that stand apart may be made in either order.
-use Rattle.edit_ops.proofs.Words.{◌≡◌, ℕ, ◌+◌, ◌-◌, ◌<◌, ◌≤◌, ◌==◌, ◌||◌, ◌&&◌, Bool, true, false, List, [], ◌∷◌, ◌++◌}
-use Rattle.edit_ops.proofs.Words.{length, take, drop, Option, Some, None, refl, sym, ap, ap₂, ◌∙◌, arith, subst, inl}
-use Rattle.edit_ops.proofs.Words.{inr, get_or, option_map, if◌then◌else◌, min, nat_lt, IfSome, append_assoc}
-use Rattle.edit_ops.proofs.Words.{length-take-le, cases_lt, nat_tests, Step, Remove, Insert, SetTag, ClearTags}
-use Rattle.edit_ops.proofs.Words.{ClearSlot, PutMark, TakeMark, Place, Content, Marks, Slots, map_marks, inserted}
-use Rattle.edit_ops.proofs.Words.{removed, goes_behind, is_right, moved, drawn, cells_of, Fits, after, after_step}
-use Rattle.edit_ops.proofs.Words.{inserted-append_left, inserted-append_right, removed-append_left}
-use Rattle.edit_ops.proofs.Words.{removed-append_right, length-cells_inserted, length-removed, length-inserted}
-use Rattle.edit_ops.proofs.Words.{length-cells_of, after-append, Fits-append, moved_le, Reach, Span, AreAlike, at_span}
-use Rattle.edit_ops.proofs.Words.{IsLowered, LetsPass, steps_in, AreWatched, Passes}
-use Rattle.std.proofs.Common.{take-append-drop}
-use Rattle.std.specs.FinMap as finite
-use Rattle.std.proofs.lemmas.List.{append-nil}
+use Rattle.edit_ops.proofs.Common.{◌≡◌, ℕ, ◌+◌, ◌-◌, ◌<◌, ◌≤◌, ◌==◌, ◌||◌, ◌&&◌, Bool, true, false, List, [], ◌∷◌, ◌++◌}
+use Rattle.edit_ops.proofs.Common.{length, take, drop, Option, Some, None, refl, sym, ap, ap₂, ◌∙◌, arith, subst, inl}
+use Rattle.edit_ops.proofs.Common.{inr, get_or, option_map, if◌then◌else◌, min, nat_lt, IfSome, append_assoc}
+use Rattle.edit_ops.proofs.Common.{length-take-le, cases_lt, nat_tests, Step, Remove, Insert, SetTag, ClearTags}
+use Rattle.edit_ops.proofs.Common.{ClearSlot, PutMark, TakeMark, Place, Content, Marks, Slots, map_marks, inserted}
+use Rattle.edit_ops.proofs.Common.{removed, goes_behind, is_right, moved, drawn, cells_of, Fits, after, after_step}
+use Rattle.edit_ops.proofs.Common.{inserted-append_left, inserted-append_right, removed-append_left}
+use Rattle.edit_ops.proofs.Common.{removed-append_right, length-cells_inserted, length-removed, length-inserted}
+use Rattle.edit_ops.proofs.Common.{length-cells_of, after-append, Fits-append, moved_le, Reach, Span, AreAlike, at_span}
+use Rattle.edit_ops.proofs.Common.{IsLowered, LetsPass, steps_in, AreWatched, Passes, take-append-drop, append-nil}
 use Rattle.text_model.proofs.PlaceLaws.{get-map_marks, same_marks}
 use Rattle.edit_ops.specs.declared.orders.Watched.{Watched}
+use Rattle.std.specs.FinMap as finite
 
 -- ---- steps that make the same
 

@@ -1,11 +1,11 @@
 -- Spans of a list that are changed by a function, one after the other. Where the function does no more the second time,
 -- what comes of it depends on the offsets that lie in the spans alone.
-use Rattle.edit_ops.proofs.Words.{◌≡◌, ℕ, suc, ◌+◌, ◌<◌, ◌≤◌, ◌||◌, Bool, true, false, List, [], ◌∷◌, ◌++◌, inl, inr}
-use Rattle.edit_ops.proofs.Words.{map, length, take, drop, get_or, refl, sym, ap, ap₂, ◌∙◌, arith, subst, slice_range}
-use Rattle.edit_ops.proofs.Words.{if◌then◌else◌, All, cases_lt, take-append-le, take-take, All-cons, All-head, All-nil}
-use Rattle.edit_ops.proofs.Words.{All-tail, changed, get_or-changed_before, get_or-changed_behind}
-use Rattle.edit_ops.proofs.Words.{get_or-changed_within, length-changed, AreApart, in_spans, SpanFits, Span}
-use Rattle.std.proofs.lemmas.List.{length-append, length-take}
+use Rattle.edit_ops.proofs.Common.{◌≡◌, ℕ, ◌+◌, ◌≤◌, ◌||◌, Bool, true, false, List, [], ◌∷◌, ◌++◌, inl, inr, map}
+use Rattle.edit_ops.proofs.Common.{length, take, drop, get_or, refl, sym, ap, ◌∙◌, arith, subst, slice_range}
+use Rattle.edit_ops.proofs.Common.{if◌then◌else◌, All, cases_lt, take-append-le, take-take, All-cons, All-head, All-nil}
+use Rattle.edit_ops.proofs.Common.{All-tail, changed, get_or-changed_before, get_or-changed_behind}
+use Rattle.edit_ops.proofs.Common.{get_or-changed_within, length-changed, AreApart, in_spans, SpanFits, Span}
+use Rattle.edit_ops.proofs.Common.{length-append, length-take, same_lists}
 use Rattle.edit_ops.proofs.RunLaws.{inside, inside-before, inside-behind, inside-is}
 
 -- spans that don't touch, of which the last comes first, fit a text that this one fits
@@ -15,14 +15,6 @@ apart-fit border len (run ∷ runs) low apart =
     let some = apart.0 in let below = apart.1 in
     All-cons (SpanFits len) run runs (record { ordered = omega (arith, some); within = omega (arith, below, low) })
     (apart-fit run.from len runs (omega (arith, some, below, low)) apart.2)
-
-same_lists : {A : Type 0} (d : A) (xs ys : List A) → length xs ≡ length ys →
-    ((k : ℕ) → k < length xs → get_or xs k d ≡ get_or ys k d) → xs ≡ ys
-same_lists d [] [] long same = refl
-same_lists d [] (y ∷ ys) long same = absurd (omega (arith, long))
-same_lists d (x ∷ xs) [] long same = absurd (omega (arith, long))
-same_lists d (x ∷ xs) (y ∷ ys) long same = ap₂ (λ a l. a ∷ l) (same 0 (omega arith))
-    (same_lists d xs ys (omega (arith, long)) (λ k within. same (suc k) (omega (arith, within))))
 
 take-changed : {A : Type 0} (f : A → A) (n from to : ℕ) (xs : List A) → n ≤ from → n ≤ length xs →
     take n (changed f from to xs) ≡ take n xs
@@ -115,15 +107,7 @@ module _ {A : Type 0} (f : A → A) where
     pub painted-same : (spans others : List Span) (xs : List A) → All (SpanFits (length xs)) spans →
         All (SpanFits (length xs)) others → ((offset : ℕ) → in_spans spans offset ≡ in_spans others offset)
         → painted spans xs ≡ painted others xs
-    painted-same spans others [] fits others_fit same =
-        empty (painted spans []) (painted-long spans [] fits)
-        ∙ sym (empty (painted others []) (painted-long others [] others_fit))
-      where
-        empty : (ys : List A) → length ys ≡ 0 → ys ≡ []
-        empty [] none = refl
-        empty (y ∷ ys) none = absurd (omega (arith, none))
-    painted-same spans others (x ∷ xs) fits others_fit same =
-        same_lists x _ _ (painted-long spans (x ∷ xs) fits ∙ sym (painted-long others (x ∷ xs) others_fit))
-        (λ k within. painted-at spans (x ∷ xs) k x fits
-        ∙ ap (λ here. touched here (get_or (x ∷ xs) k x)) (same k)
-        ∙ sym (painted-at others (x ∷ xs) k x others_fit))
+    painted-same spans others xs fits others_fit same =
+        same_lists _ _ (painted-long spans xs fits ∙ sym (painted-long others xs others_fit)) (λ k d within.
+        painted-at spans xs k d fits ∙ ap (λ here. touched here (get_or xs k d)) (same k)
+        ∙ sym (painted-at others xs k d others_fit))

@@ -1,10 +1,10 @@
 -- The hunks of an old text that make a text of parts of it and of new texts.
-use Rattle.edit_ops.proofs.Words.{◌≡◌, ◌≢◌, ℕ, ◌<◌, ◌≤◌, List, [], ◌∷◌, ◌++◌, Option, Some, None, length, refl, sym, ap}
-use Rattle.edit_ops.proofs.Words.{ap₂, ◌∙◌, arith, subst, slice_range, All, drop_all, map-append, All-head, All-tail}
-use Rattle.edit_ops.proofs.Words.{Cell, Slots, characters, map-slice_range, Part, cells_between, front_cells, old_place}
-use Rattle.edit_ops.proofs.Words.{part_cells, source_len, PartFits, Rise, characters-of, length-characters, Hunk}
-use Rattle.edit_ops.proofs.Words.{hunks_before, part_hunks, AreHunks, patched, patched_by, taking_out}
-use Rattle.std.proofs.lemmas.List.{append-nil}
+use Rattle.edit_ops.proofs.Common.{◌≡◌, ◌≢◌, ℕ, ◌<◌, ◌≤◌, List, [], ◌∷◌, ◌++◌, Option, Some, None, length, refl, sym}
+use Rattle.edit_ops.proofs.Common.{ap, ap₂, ◌∙◌, arith, subst, slice_range, All, drop_all, map-append, All-head}
+use Rattle.edit_ops.proofs.Common.{All-tail, Cell, Slots, characters, map-slice_range, Part, cells_between, front_cells}
+use Rattle.edit_ops.proofs.Common.{old_place, part_cells, source_len, PartFits, Rise, characters-of, length-characters}
+use Rattle.edit_ops.proofs.Common.{Hunk, hunks_before, part_hunks, AreHunks, patched, patched_by, taking_out}
+use Rattle.edit_ops.proofs.Common.{append-nil}
 use Rattle.edit_ops.proofs.DeleteLaws.{length-slice}
 use Rattle.edit_ops.proofs.HunkLaws.{hunks-lower, patched-lower, slice-none, taking-out-patched, taking-out-stands}
 

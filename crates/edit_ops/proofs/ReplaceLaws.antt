@@ -1,15 +1,15 @@
 -- Texts in the place of a span, and the mark that is clipped.
-use Rattle.edit_ops.proofs.Words.{◌≡◌, ℕ, ◌+◌, ◌-◌, ◌<◌, ◌≤◌, ◌==◌, ◌&&◌, Bool, true, false, List, [], ◌∷◌, ◌++◌}
-use Rattle.edit_ops.proofs.Words.{Option, Some, None, length, get_or, refl, sym, ap, ap₂, ◌∙◌, arith, subst, slice_get}
-use Rattle.edit_ops.proofs.Words.{min, nat_le, nat_lt, option_and_then, if◌then◌else◌, nat_tests, Cell, PutMark, Place}
-use Rattle.edit_ops.proofs.Words.{MarkNo, Content, Slots, slot_sets, slots_left_of, removed, Fits, after}
-use Rattle.edit_ops.proofs.Words.{length-removed, map-removed, get_or-removed_before, get_or-removed_behind}
-use Rattle.edit_ops.proofs.Words.{Fits-append, after-append, Replace, SlottedText, Recording, slots_around}
-use Rattle.edit_ops.proofs.Words.{inserted_texts, total, IsBetween, clipped, with_mark, removed_span, replaced_span}
-use Rattle.edit_ops.proofs.Words.{State, Outline, outlineed, length-slot_sets}
+use Rattle.edit_ops.proofs.Common.{◌≡◌, ℕ, ◌+◌, ◌-◌, ◌<◌, ◌≤◌, ◌==◌, ◌&&◌, Bool, true, false, List, [], ◌∷◌, ◌++◌}
+use Rattle.edit_ops.proofs.Common.{Option, Some, None, length, get_or, refl, sym, ap, ap₂, ◌∙◌, arith, subst, slice_get}
+use Rattle.edit_ops.proofs.Common.{min, nat_le, nat_lt, option_and_then, if◌then◌else◌, nat_tests, Cell, PutMark, Place}
+use Rattle.edit_ops.proofs.Common.{MarkNo, Content, Slots, slot_sets, slots_left_of, removed, Fits, after}
+use Rattle.edit_ops.proofs.Common.{length-removed, map-removed, get_or-removed_before, get_or-removed_behind}
+use Rattle.edit_ops.proofs.Common.{Fits-append, after-append, Replace, SlottedText, Recording, slots_around}
+use Rattle.edit_ops.proofs.Common.{inserted_texts, total, IsBetween, clipped, with_mark, removed_span, replaced_span}
+use Rattle.edit_ops.proofs.Common.{State, Outline, outlineed, length-slot_sets}
+use Rattle.edit_ops.proofs.InsertLaws.{around-is, behind-is}
 use Rattle.std.specs.FinSet as set
 use Rattle.std.specs.FinMap as finite
-use Rattle.edit_ops.proofs.InsertLaws.{around-is, behind-is}
 
 around-removed : (from to : ℕ) (cells : List Cell) → from ≤ to → to < length cells
     → slots_around from from (removed from to cells) ≡ slots_around from to cells

@@ -1,27 +1,25 @@
 -- Actions are made once more, or reverted, in a text on the way.
-use Rattle.edit_ops.proofs.Words.{◌≡◌, ℕ, ◌+◌, ◌-◌, ◌<◌, ◌≤◌, Bool, true, false, List, [], ◌∷◌, ◌++◌, Option, Some}
-use Rattle.edit_ops.proofs.Words.{None, ◌&&◌, ◌^◌, get_or, map, length, drop, refl, sym, ap, ap₂, ◌∙◌, arith, subst}
-use Rattle.edit_ops.proofs.Words.{reverse, not, slice_get, slice_range, bytes_eq, nat_lt, nat_le, option_and_then}
-use Rattle.edit_ops.proofs.Words.{option_map, IsSome, IfSome, if◌then◌else◌, All, false≢true, leb-true, ltb-true}
-use Rattle.edit_ops.proofs.Words.{and_parts, reverse-append, length-reverse, map-append, length-map, get_or-map}
-use Rattle.edit_ops.proofs.Words.{get_or-reverse, drop_more, get_or_from_slice_get, none-some, same_Some, Cell, Insert}
-use Rattle.edit_ops.proofs.Words.{Remove, PutMark, Content, Slots, characters, line_of, line_start, inserted, removed}
-use Rattle.edit_ops.proofs.Words.{Fits, after, after_insertion, after_removal, cells_of, map-removed, take-removed}
-use Rattle.edit_ops.proofs.Words.{Fits-append, after-append, MarkNo, Place, Anchors, Cursor, AnchorsStand}
-use Rattle.edit_ops.proofs.Words.{anchors_moved, anchors_drawn, anchors_removed, cursor_cells, Moves, Takes, Puts}
-use Rattle.edit_ops.proofs.Words.{shared_slots, next_line, Follows, drawn_up, action_end, replayed, replays}
-use Rattle.edit_ops.proofs.Words.{replayed_group, put_back, taken_back, action_redone, action_undone, group_redone}
-use Rattle.edit_ops.proofs.Words.{group_undone, redo_end, undo_end, stood, log_undone, log_redone, undone_group}
-use Rattle.edit_ops.proofs.Words.{redone_group, undone, redone, with_mark, State, Log, Outline, state_of, Action}
-use Rattle.edit_ops.proofs.Words.{put_in, take_out, repeated, reverted, repeated_group, reverted_group, FitsText}
-use Rattle.edit_ops.proofs.Words.{History, next_undo, next_redo, undo-goes, redo-goes, anchors_left, group_moved}
-use Rattle.edit_ops.proofs.Words.{log_after, planned, whole-is, length-characters, line-front, line-before}
-use Rattle.edit_ops.proofs.Words.{next_line-is}
+use Rattle.edit_ops.proofs.Common.{◌≡◌, ℕ, ◌+◌, ◌-◌, ◌<◌, ◌≤◌, Bool, true, false, List, [], ◌∷◌, ◌++◌, Option, Some}
+use Rattle.edit_ops.proofs.Common.{None, ◌^◌, get_or, map, length, drop, refl, sym, ap, ap₂, ◌∙◌, arith, subst, reverse}
+use Rattle.edit_ops.proofs.Common.{not, slice_get, option_and_then, option_map, IsSome, IfSome, if◌then◌else◌, All}
+use Rattle.edit_ops.proofs.Common.{false≢true, length-reverse, length-map, get_or-map, get_or-reverse, drop_more}
+use Rattle.edit_ops.proofs.Common.{get_or_from_slice_get, none-some, same_Some, Cell, Insert, Remove, PutMark, Content}
+use Rattle.edit_ops.proofs.Common.{Slots, characters, line_of, line_start, inserted, removed, Fits, after}
+use Rattle.edit_ops.proofs.Common.{after_insertion, after_removal, cells_of, map-removed, take-removed, Fits-append}
+use Rattle.edit_ops.proofs.Common.{after-append, MarkNo, Place, Anchors, Cursor, AnchorsStand, anchors_moved}
+use Rattle.edit_ops.proofs.Common.{anchors_drawn, anchors_removed, cursor_cells, Moves, Takes, Puts, shared_slots}
+use Rattle.edit_ops.proofs.Common.{next_line, Follows, drawn_up, action_end, replayed, replays, replayed_group}
+use Rattle.edit_ops.proofs.Common.{put_back, taken_back, action_redone, group_redone, redo_end, undo_end, stood}
+use Rattle.edit_ops.proofs.Common.{log_undone, log_redone, undone_group, redone_group, undone, redone, with_mark, State}
+use Rattle.edit_ops.proofs.Common.{Log, Outline, state_of, Action, put_in, take_out, repeated, repeated_group, FitsText}
+use Rattle.edit_ops.proofs.Common.{History, next_undo, next_redo, undo-goes, redo-goes, anchors_left, group_moved}
+use Rattle.edit_ops.proofs.Common.{log_after, planned, whole-is, length-characters, line-front, line-before}
+use Rattle.edit_ops.proofs.Common.{next_line-is}
 use Rattle.edit_ops.specs.declared.plans.Effects.{Effects}
 use Rattle.edit_ops.specs.declared.plans.Notes.TheVariants.{Undone, Redone}
 use Rattle.edit_ops.proofs.InsertLaws.{stand-moved}
 use Rattle.edit_ops.proofs.RemovalLaws.{stand-drawn}
-use Rattle.edit_ops.proofs.ReversalLaws.{redone-text}
+use Rattle.edit_ops.proofs.ReversalLaws.{back-cons, back-reverted, back-undone, puts-in, redone-text, takes-out}
 
 -- how long the text is
 pub follows-length : (content : Content) (outline : Outline) (cursor : Cursor) → Follows content outline cursor →
@@ -33,179 +31,110 @@ pub record Replayed (content : Content) (outline new : Outline) (now : Cursor) (
   pub follows : Follows content new now
   pub makes : (log : Log) → drawn_up new content log ≡ made (drawn_up outline content log)
 
-pub put-replayed : (content : Content) (outline new : Outline) (before moved now : Cursor) (at : ℕ) (text : List ℕ)
-    (slots : Slots) → Follows content outline before → Moves before moved → moved.at ≡ at
-    → Puts text slots moved now → slots ≡ shared_slots moved.at (cursor_cells content.cells moved) → at < before.len
-    → new ≡ record outline {
-      steps = outline.steps ++ Insert at text slots ∷ [];
-      anchors = map (anchors_moved at (length text)) outline.anchors;
-    }
-    → Replayed content outline new now (put_back at text)
-put-replayed content outline new before moved now at text slots follows moves at_is puts slots_are within made =
-    let between = after outline.steps content in
-    let old_cells : cursor_cells content.cells moved ≡ between.cells = moves.cells content.cells ∙ follows.cells in
-    let shared : slots ≡ shared_slots at between.cells = slots_are ∙ ap₂ shared_slots at_is old_cells in
-    let long = follows-length content outline before follows in
-    let content_is : after new.steps content
-    ≡ after_insertion at text slots between = ap (λ (d : Outline). after d.steps content) made
-    ∙ after-append outline.steps (Insert at text slots ∷ []) content in
-    let len_is : now.len ≡ before.len + length text = puts.len ∙ ap (λ n. n + length text) moves.len in
-    record {
-      follows = record {
-        is = puts.is;
-        old_len = puts.old_len ∙ moves.old_len ∙ follows.old_len;
-        cells =
-            puts.cells content.cells (sym (moves.old_len ∙ follows.old_len))
-            ∙ ap₂ (λ n cells. inserted n (cells_of text slots) cells) at_is old_cells
-            ∙ ap (λ (c : Content). c.cells) (sym content_is);
-        fits = subst (λ (d : Outline). Fits d.steps content) (sym made)
-            (Fits-append outline.steps (Insert at text slots ∷ []) content follows.fits (
-              omega (arith, within, long),
-              tt,
-            ));
-        stand = subst (λ (d : Outline). All (AnchorsStand now.len) d.anchors) (sym made)
-            (subst (λ n. All (AnchorsStand n) (map (anchors_moved at (length text)) outline.anchors)) (sym len_is)
-            (stand-moved at (length text) before.len outline.anchors follows.stand));
-      };
-      makes = λ log.
-          ap₂ (λ c anchors. state_of c anchors log) (content_is
-          ∙ ap (λ s. after_insertion at text s between) shared) (ap (λ (d : Outline). d.anchors) made);
-    }
+module _ {content : Content} {outline : Outline} {before moved : Cursor} {at : ℕ}
+    (follows : Follows content outline before) (moves : Moves before moved) (at_is : moved.at ≡ at) where
+  old_cells : cursor_cells content.cells moved ≡ (after outline.steps content).cells
+  old_cells = moves.cells content.cells ∙ follows.cells
 
-pub take-replayed : (content : Content) (outline new : Outline) (before moved now : Cursor) (from to line far : ℕ) →
-    Follows content outline before → Moves before moved → moved.at ≡ from
-    → Takes moved now → now.len ≡ moved.len - (to - from) → from ≤ to → to < before.len
-    → line ≡ line_start (line_of (characters (cursor_cells content.cells now)) now.at)
-    (characters (cursor_cells content.cells now))
-    → far ≡ line_start 1 (drop now.at (characters (cursor_cells content.cells now))) → now.at + far ≤ now.len
-    → new ≡ record outline {
-      steps = outline.steps ++ Remove from to ∷ [];
-      anchors = map (anchors_drawn line (from + far) from to) outline.anchors;
-    }
-    → Replayed content outline new now (taken_back from to)
-take-replayed content outline new before moved now from to line far follows moves at_is takes len_is ordered within
-    line_is far_is bound made =
-    let between = after outline.steps content in
-    let text = characters between.cells in
-    let old_cells : cursor_cells content.cells moved ≡ between.cells = moves.cells content.cells ∙ follows.cells in
-    let long = follows-length content outline before follows in
-    let counted = length-characters between.cells in
-    let moved_len = moves.len in
-    let now_at : now.at ≡ from = takes.at ∙ at_is in
-    let end_is : moved.at + (moved.len - now.len) ≡ to = omega (arith, at_is, len_is, moved_len, ordered, within) in
-    let cells_are : cursor_cells content.cells now ≡ removed from to between.cells =
-    takes.cells content.cells (sym (moves.old_len ∙ follows.old_len))
-    ∙ ap (λ n. removed moved.at n (cursor_cells content.cells moved)) end_is
-    ∙ ap₂ (λ n cells. removed n to cells) at_is old_cells in
-    let text_is : characters (cursor_cells content.cells now) ≡ removed from to text = ap characters cells_are
-    ∙ map-removed (λ (cell : Cell). cell.character) from to between.cells in
-    let line_old : line ≡ line_start (line_of text from) text =
-    line_is ∙ ap₂ (λ n xs. line_start (line_of xs n) xs) now_at text_is
-    ∙ line-front (removed from to text) text from
-    (take-removed from to text from (omega (arith, ordered, within, long, counted)) (omega arith)) in
-    let removed_len : from ≤ length (removed from to text) =
-    let h = whole-is now content.cells takes.is (sym (takes.old_len ∙ moves.old_len ∙ follows.old_len)) in
-    let k = length-characters (cursor_cells content.cells now) in let e = ap length text_is in
-    omega (arith, h, k, e, bound, now_at) in
-    let next_is : from + far ≡ next_line (removed from to text) from =
-    ap (λ n. from + n) (far_is ∙ ap₂ (λ n xs. line_start 1 (drop n xs)) now_at text_is)
-    ∙ sym (next_line-is (removed from to text) from removed_len) in
-    let content_is : after new.steps content
-    ≡ after_removal from to between = ap (λ (d : Outline). after d.steps content) made
-    ∙ after-append outline.steps (Remove from to ∷ []) content in
-    let before_line : line ≤ from = let h = line-before text from (omega (arith, ordered, within, long, counted)) in
-    omega (arith, h, line_old) in
-    let now_len : now.len ≡ before.len - (to - from) = omega (arith, len_is, moved_len) in
-    record {
-      follows = record {
-        is = takes.is;
-        old_len = takes.old_len ∙ moves.old_len ∙ follows.old_len;
-        cells = cells_are ∙ ap (λ (c : Content). c.cells) (sym content_is);
-        fits = subst (λ (d : Outline). Fits d.steps content) (sym made)
-            (Fits-append outline.steps (Remove from to ∷ []) content follows.fits (
-              (ordered, omega (arith, within, long)),
-              tt,
-            ));
-        stand = subst (λ (d : Outline). All (AnchorsStand now.len) d.anchors) (sym made)
-            (subst (λ n. All (AnchorsStand n) (map (anchors_drawn line (from + far) from to) outline.anchors))
-            (sym now_len)
-            (stand-drawn line (from + far) from to before.len outline.anchors follows.stand before_line ordered
-            (omega (arith, within)) (omega (arith, bound, now_at, now_len))));
-      };
-      makes = λ log.
-          ap₂ (λ c anchors. state_of c anchors log) content_is (ap (λ (d : Outline). d.anchors) made)
-          ∙ ap₂ (λ l n. state_of (after_removal from to between) (map (anchors_drawn l n from to) outline.anchors) log)
-          line_old next_is;
-    }
+  pub put-replayed : {new : Outline} {now : Cursor} {text : List ℕ} {slots : Slots} → Puts text slots moved now
+      → slots ≡ shared_slots moved.at (cursor_cells content.cells moved) → at < before.len
+      → new ≡ record outline {
+        steps = outline.steps ++ Insert at text slots ∷ [];
+        anchors = map (anchors_moved at (length text)) outline.anchors;
+      }
+      → Replayed content outline new now (put_back at text)
+  put-replayed {new} {now} {text} {slots} puts slots_are within made =
+      let between = after outline.steps content in
+      let shared : slots ≡ shared_slots at between.cells = slots_are ∙ ap₂ shared_slots at_is old_cells in
+      let long = follows-length content outline before follows in
+      let content_is : after new.steps content ≡ after_insertion at text slots between =
+      ap (λ (d : Outline). after d.steps content) made
+      ∙ after-append outline.steps (Insert at text slots ∷ []) content in
+      let len_is : now.len ≡ before.len + length text = puts.len ∙ ap (λ n. n + length text) moves.len in
+      record {
+        follows = record {
+          is = puts.is;
+          old_len = puts.old_len ∙ moves.old_len ∙ follows.old_len;
+          cells =
+              puts.cells content.cells (sym (moves.old_len ∙ follows.old_len))
+              ∙ ap₂ (λ n cells. inserted n (cells_of text slots) cells) at_is old_cells
+              ∙ ap (λ (c : Content). c.cells) (sym content_is);
+          fits = subst (λ (d : Outline). Fits d.steps content) (sym made)
+              (Fits-append outline.steps (Insert at text slots ∷ []) content follows.fits (
+                omega (arith, within, long),
+                tt,
+              ));
+          stand = subst (λ (d : Outline). All (AnchorsStand now.len) d.anchors) (sym made)
+              (subst (λ n. All (AnchorsStand n) (map (anchors_moved at (length text)) outline.anchors)) (sym len_is)
+              (stand-moved at (length text) before.len outline.anchors follows.stand));
+        };
+        makes = λ log.
+            ap₂ (λ c anchors. state_of c anchors log) (content_is
+            ∙ ap (λ s. after_insertion at text s between) shared) (ap (λ (d : Outline). d.anchors) made);
+      }
+
+  pub take-replayed : {new : Outline} {now : Cursor} {to line far : ℕ} → Takes moved now
+      → now.len ≡ moved.len - (to - at) → at ≤ to → to < before.len
+      → line ≡ line_start (line_of (characters (cursor_cells content.cells now)) now.at)
+      (characters (cursor_cells content.cells now))
+      → far ≡ line_start 1 (drop now.at (characters (cursor_cells content.cells now))) → now.at + far ≤ now.len
+      → new ≡ record outline {
+        steps = outline.steps ++ Remove at to ∷ [];
+        anchors = map (anchors_drawn line (at + far) at to) outline.anchors;
+      }
+      → Replayed content outline new now (taken_back at to)
+  take-replayed {new} {now} {to} {line} {far} takes len_is ordered within line_is far_is bound made =
+      let between = after outline.steps content in
+      let text = characters between.cells in
+      let long = follows-length content outline before follows in
+      let counted = length-characters between.cells in
+      let now_at : now.at ≡ at = takes.at ∙ at_is in
+      let now_len : now.len ≡ before.len - (to - at) = omega (arith, len_is, moves.len) in
+      let end_is : moved.at + (moved.len - now.len) ≡ to = omega (arith, at_is, len_is, moves.len, ordered, within) in
+      let cells_are : cursor_cells content.cells now ≡ removed at to between.cells =
+      takes.cells content.cells (sym (moves.old_len ∙ follows.old_len))
+      ∙ ap (λ n. removed moved.at n (cursor_cells content.cells moved)) end_is
+      ∙ ap₂ (λ n cells. removed n to cells) at_is old_cells in
+      let text_is : characters (cursor_cells content.cells now) ≡ removed at to text = ap characters cells_are
+      ∙ map-removed (λ (cell : Cell). cell.character) at to between.cells in
+      let line_old : line ≡ line_start (line_of text at) text =
+      line_is ∙ ap₂ (λ n xs. line_start (line_of xs n) xs) now_at text_is
+      ∙ line-front (removed at to text) text at
+      (take-removed at to text at (omega (arith, ordered, within, long, counted)) (omega arith)) in
+      let removed_len : at ≤ length (removed at to text) =
+      let h = whole-is now content.cells takes.is (sym (takes.old_len ∙ moves.old_len ∙ follows.old_len)) in
+      let k = length-characters (cursor_cells content.cells now) in let e = ap length text_is in
+      omega (arith, h, k, e, bound, now_at) in
+      let next_is : at + far ≡ next_line (removed at to text) at =
+      ap (λ n. at + n) (far_is ∙ ap₂ (λ n xs. line_start 1 (drop n xs)) now_at text_is)
+      ∙ sym (next_line-is (removed at to text) at removed_len) in
+      let content_is : after new.steps content ≡ after_removal at to between =
+      ap (λ (d : Outline). after d.steps content) made ∙ after-append outline.steps (Remove at to ∷ []) content in
+      let before_line : line ≤ at = let h = line-before text at (omega (arith, ordered, within, long, counted)) in
+      omega (arith, h, line_old) in
+      record {
+        follows = record {
+          is = takes.is;
+          old_len = takes.old_len ∙ moves.old_len ∙ follows.old_len;
+          cells = cells_are ∙ ap (λ (c : Content). c.cells) (sym content_is);
+          fits = subst (λ (d : Outline). Fits d.steps content) (sym made)
+              (Fits-append outline.steps (Remove at to ∷ []) content follows.fits (
+                (ordered, omega (arith, within, long)),
+                tt,
+              ));
+          stand = subst (λ (d : Outline). All (AnchorsStand now.len) d.anchors) (sym made)
+              (subst (λ n. All (AnchorsStand n) (map (anchors_drawn line (at + far) at to) outline.anchors))
+              (sym now_len)
+              (stand-drawn line (at + far) at to before.len outline.anchors follows.stand before_line ordered
+              (omega (arith, within)) (omega (arith, bound, now_at, now_len))));
+        };
+        makes = λ log.
+            ap₂ (λ c anchors. state_of c anchors log) content_is (ap (λ (d : Outline). d.anchors) made)
+            ∙ ap₂ (λ l n. state_of (after_removal at to between) (map (anchors_drawn l n at to) outline.anchors) log)
+            line_old next_is;
+      }
 
 -- ---- groups in the order in which they are made
-
-reverse-cons : (action : Action) (actions : List Action) → reverse (action ∷ actions) ≡ reverse actions ++ action ∷ []
-reverse-cons action actions = reverse-append (action ∷ []) actions
-
-pub back-cons : (action : Action) (actions : List Action) → replays true (action ∷ actions)
-    ≡ replays true actions ++ replayed true action ∷ []
-back-cons action actions =
-    ap (map (replayed true)) (reverse-cons action actions) ∙ map-append (replayed true) (reverse actions) (action ∷ [])
-
-redone-append : (actions others : List Action) (state : State) →
-    group_redone (actions ++ others) state ≡ group_redone others (group_redone actions state)
-redone-append [] others state = refl
-redone-append (action ∷ actions) others state = redone-append actions others (action_redone action state)
-
-flipped-is : (action : Action) (state : State) → action_redone (replayed true action) state ≡ action_undone action state
-flipped-is action state =
-    elim action.inserts as (λ b. (if not b then put_back action.at action.text state
-    else taken_back action.at (action.at + length action.text) state)
-    ≡ (if b then taken_back action.at (action.at + length action.text) state else put_back action.at action.text state))
-    [ true ↦ refl | false ↦ refl ]
-
-pub back-undone : (group : List Action) (state : State) →
-    group_redone (replays true group) state ≡ group_undone group state
-back-undone [] state = refl
-back-undone (action ∷ actions) state =
-    ap (λ all. group_redone all state) (back-cons action actions)
-    ∙ redone-append (replays true actions) (replayed true action ∷ []) state
-    ∙ flipped-is action (group_redone (replays true actions) state)
-    ∙ ap (action_undone action) (back-undone actions state)
-
-repeated-append : (limit : ℕ) (actions others : List Action) (text : List ℕ) →
-    repeated_group limit (actions ++ others) text
-    ≡ option_and_then (repeated_group limit others) (repeated_group limit actions text)
-repeated-append limit [] others text = refl
-repeated-append limit (action ∷ actions) others text =
-    elim (repeated limit action text) as (λ found. option_and_then (repeated_group limit (actions ++ others)) found
-    ≡ option_and_then (repeated_group limit others) (option_and_then (repeated_group limit actions) found)) [
-      | None ↦ refl
-      | Some next ↦ repeated-append limit actions others next
-    ]
-
-pub one-repeated : (limit : ℕ) (action : Action) (text : List ℕ) →
-    repeated_group limit (action ∷ []) text ≡ repeated limit action text
-one-repeated limit action text = elim (repeated limit action text) as (λ found.
-    option_and_then (repeated_group limit []) found ≡ found) [ None ↦ refl | Some next ↦ refl ]
-
-flipped-repeated : (limit : ℕ) (action : Action) (text : List ℕ) →
-    repeated limit (replayed true action) text ≡ reverted limit action text
-flipped-repeated limit action text =
-    elim action.inserts as (λ b. (if not b then put_in limit action.at action.text text
-    else take_out action.at action.text text)
-    ≡ (if b then take_out action.at action.text text else put_in limit action.at action.text text))
-    [ true ↦ refl | false ↦ refl ]
-
-pub back-reverted : (limit : ℕ) (group : List Action) (text : List ℕ) →
-    repeated_group limit (replays true group) text ≡ reverted_group limit group text
-back-reverted limit [] text = refl
-back-reverted limit (action ∷ actions) text =
-    ap (λ all. repeated_group limit all text) (back-cons action actions)
-    ∙ repeated-append limit (replays true actions) (replayed true action ∷ []) text
-    ∙ ap (option_and_then (repeated_group limit (replayed true action ∷ []))) (back-reverted limit actions text)
-    ∙ (elim (reverted_group limit actions text) as (λ found.
-    option_and_then (repeated_group limit (replayed true action ∷ [])) found
-    ≡ option_and_then (reverted limit action) found) [
-      | None ↦ refl
-      | Some next ↦ one-repeated limit (replayed true action) next ∙ flipped-repeated limit action next
-    ])
 
 end-append : (actions : List Action) (action : Action) → redo_end (actions ++ action ∷ []) ≡ Some (action_end action)
 end-append [] action = refl
@@ -223,7 +152,7 @@ pub replays-length : (back : Bool) (group : List Action) → length (replays bac
 replays-length true group = length-map (reverse group) (replayed true) ∙ length-reverse group
 replays-length false group = refl
 
-pub replays-at : (back : Bool) (group : List Action) (index : ℕ) (action d : Action) → index < length group →
+replays-at : (back : Bool) (group : List Action) (index : ℕ) (action d : Action) → index < length group →
     slice_get group (if back then length group - 1 - index else index) ≡ Some action
     → get_or (replays back group) index d ≡ replayed back action
 replays-at true group index action d within is =
@@ -232,7 +161,7 @@ replays-at true group index action d within is =
     ∙ get_or_from_slice_get group (length group - 1 - index) action d is)
 replays-at false group index action d within is = get_or_from_slice_get group index action d is
 
-pub replayed-is : (back inserts : Bool) (action : Action) →
+replayed-is : (back inserts : Bool) (action : Action) →
     inserts ≡ (if back then not action.inserts else action.inserts)
     → replayed back action ≡ record { inserts = inserts; at = action.at; text = action.text }
 replayed-is true inserts action is = ap (λ b. record action { inserts = b }) (sym is)
@@ -273,7 +202,7 @@ end-behind-more : (end : Option ℕ) (action : Action) (actions : List Action) �
 end-behind-more end action [] = refl
 end-behind-more end action (next ∷ actions) = end-behind-more (Some (action_end action)) next actions
 
-pub end-behind-none : (actions : List Action) → end_behind None actions ≡ redo_end actions
+end-behind-none : (actions : List Action) → end_behind None actions ≡ redo_end actions
 end-behind-none [] = refl
 end-behind-none (action ∷ actions) = end-behind-more None action actions
 
@@ -283,33 +212,24 @@ first-goes : (found : Option (List ℕ)) (after_it : List ℕ → Option (List �
 first-goes None after_it goes = absurd (false≢true goes)
 first-goes (Some next) after_it goes = (next, refl, goes)
 
-pub guarded-holds : {A : Type 0} (test : Bool) (x y : A) → (if test then Some x else None) ≡ Some y → test ≡ true
-guarded-holds true x y is = refl
-guarded-holds false x y is = absurd (let h : None ≡ Some y = is in cc)
-
 can-put : (limit at : ℕ) (text all found : List ℕ) → limit < 2 ^ 64 → put_in limit at text all ≡ Some found →
     Replays true at (length text) (length all)
 can-put limit at text all found bound is =
-    let tests = and_parts (nat_lt at (length all)) (nat_le (length all + length text) limit)
-    (guarded-holds (nat_lt at (length all) && nat_le (length all + length text) limit) (inserted at text all) found is)
-    in
-    let inside = ltb-true at (length all) tests.0 in let short = leb-true (length all + length text) limit tests.1 in
-    record { puts = λ _. inside; room = λ _. omega (arith, short, bound); takes = λ is. absurd (false≢true (sym is)) }
+    let puts = puts-in limit at text all found is in record {
+      puts = λ _. puts.inside;
+      room = λ _. omega (arith, puts.short, bound);
+      takes = λ is. absurd (false≢true (sym is));
+    }
 
 can-take : (at : ℕ) (text all found : List ℕ) → take_out at text all ≡ Some found →
     Replays false at (length text) (length all)
-can-take at text all found is =
-    let tests = and_parts (nat_lt (at + length text) (length all))
-    (bytes_eq (slice_range all at (at + length text)) text)
-    (guarded-holds (nat_lt (at + length text) (length all) && bytes_eq (slice_range all at (at + length text)) text)
-    (removed at (at + length text) all) found is) in
-    record {
-      puts = λ is. absurd (false≢true is);
-      room = λ is. absurd (false≢true is);
-      takes = λ _. ltb-true (at + length text) (length all) tests.0;
-    }
+can-take at text all found is = record {
+  puts = λ is. absurd (false≢true is);
+  room = λ is. absurd (false≢true is);
+  takes = λ _. (takes-out at text all found is).inside;
+}
 
-pub can-replay : (limit : ℕ) (action : Action) (all found : List ℕ) → limit < 2 ^ 64 →
+can-replay : (limit : ℕ) (action : Action) (all found : List ℕ) → limit < 2 ^ 64 →
     repeated limit action all ≡ Some found → Replays action.inserts action.at (length action.text) (length all)
 can-replay limit action all found bound is =
     elim action.inserts as (λ b. (if b then put_in limit action.at action.text all
@@ -334,47 +254,44 @@ pub replay-first : (limit : ℕ) (content : Content) (outline : Outline) (cursor
 replay-first limit content outline cursor all follows goes =
     record { follows = follows; goes = goes; ends = end-behind-none all; bound = tt; makes = λ log. refl }
 
--- what the next action wants
-pub replay-fits : (limit : ℕ) (content : Content) (outline now : Outline) (cursor : Cursor) (all left rest : List Action)
-    (action : Action) (end : Option ℕ) → limit < 2 ^ 64
-    → ReplayedSoFar limit content outline now cursor all left end → left ≡ action ∷ rest →
-    Replays action.inserts action.at (length action.text) cursor.len
-replay-fits limit content outline now cursor all left rest action end bound so_far is =
-    let text = characters (after now.steps content).cells in
-    let goes : IsSome (repeated_group limit (action ∷ rest) text) = subst (λ l. IsSome (repeated_group limit l text)) is
-    so_far.goes in
-    let first = first-goes (repeated limit action text) (repeated_group limit rest) goes in
-    subst (Replays action.inserts action.at (length action.text)) (length-characters (after now.steps content).cells
-    ∙ follows-length content now cursor so_far.follows)
-    (can-replay limit action text first.0 bound first.1)
+module _ {limit : ℕ} {content : Content} {outline now : Outline} {cursor : Cursor} {all left rest : List Action}
+    {action : Action} {end : Option ℕ} (so_far : ReplayedSoFar limit content outline now cursor all left end)
+    (is : left ≡ action ∷ rest) where
+  -- what the action makes of the text, of which the others are made
+  next-goes : (next : List ℕ) × (repeated limit action (characters (after now.steps content).cells) ≡ Some next)
+      × IsSome (repeated_group limit rest next)
+  next-goes =
+      let text = characters (after now.steps content).cells in
+      first-goes (repeated limit action text) (repeated_group limit rest)
+      (subst (λ l. IsSome (repeated_group limit l text)) is so_far.goes)
 
-pub replay-more : (limit : ℕ) (content : Content) (outline now new : Outline) (cursor moved : Cursor)
-    (all left rest : List Action) (action : Action) (end : Option ℕ) (at : ℕ)
-    → ReplayedSoFar limit content outline now cursor all left end → left ≡ action ∷ rest → Follows content new moved
-    → ((log : Log) → drawn_up new content log ≡ action_redone action (drawn_up now content log)) →
-    at ≡ action_end action → at ≤ moved.len → Log
-    → ReplayedSoFar limit content outline new moved all rest (Some at)
-replay-more limit content outline now new cursor moved all left rest action end at so_far is follows made at_is within log
-    =
-    let text = characters (after now.steps content).cells in
-    let goes : IsSome (repeated_group limit (action ∷ rest) text) = subst (λ l. IsSome (repeated_group limit l text)) is
-    so_far.goes in
-    let first = first-goes (repeated limit action text) (repeated_group limit rest) goes in
-    let text_is : characters (after new.steps content).cells
-    ≡ first.0 = ap (λ (s : State). characters s.content.cells) (made log)
-    ∙ redone-text limit action first.0 (drawn_up now content log) first.1 in
-    record {
-      follows = follows;
-      goes = subst (λ t. IsSome (repeated_group limit rest t)) (sym text_is) first.2;
-      ends = ap (λ n. end_behind (Some n) rest) at_is ∙ ap (end_behind end) (sym is) ∙ so_far.ends;
-      bound = within;
-      makes = λ log. ap (group_redone rest) (made log) ∙ ap (λ l. group_redone l (drawn_up now content log)) (sym is)
-          ∙ so_far.makes log;
-    }
+  -- what it wants
+  pub replay-fits : limit < 2 ^ 64 → Replays action.inserts action.at (length action.text) cursor.len
+  replay-fits bound =
+      let cells = (after now.steps content).cells in
+      subst (Replays action.inserts action.at (length action.text))
+      (length-characters cells ∙ follows-length content now cursor so_far.follows)
+      (can-replay limit action (characters cells) next-goes.0 bound next-goes.1)
+
+  pub replay-more : {new : Outline} {moved : Cursor} {at : ℕ} → Follows content new moved
+      → ((log : Log) → drawn_up new content log ≡ action_redone action (drawn_up now content log))
+      → at ≡ action_end action → at ≤ moved.len → Log → ReplayedSoFar limit content outline new moved all rest (Some at)
+  replay-more {new} {moved} {at} follows made at_is within log =
+      let text_is : characters (after new.steps content).cells ≡ next-goes.0 =
+      ap (λ (s : State). characters s.content.cells) (made log)
+      ∙ redone-text limit action next-goes.0 (drawn_up now content log) next-goes.1 in
+      record {
+        follows = follows;
+        goes = subst (λ t. IsSome (repeated_group limit rest t)) (sym text_is) next-goes.2;
+        ends = ap (λ n. end_behind (Some n) rest) at_is ∙ ap (end_behind end) (sym is) ∙ so_far.ends;
+        bound = within;
+        makes = λ log. ap (group_redone rest) (made log) ∙ ap (λ l. group_redone l (drawn_up now content log)) (sym is)
+            ∙ so_far.makes log;
+      }
 
 -- ---- what a plan leaves
 
-pub undone-is : (mark : ℕ) (found : Option (List Action)) (state : State)
+undone-is : (mark : ℕ) (found : Option (List Action)) (state : State)
     → state_of (replayed_group mark (option_map (replays true) found) state).content
     (replayed_group mark (option_map (replays true) found) state).anchors (group_moved log_undone found state.log)
     ≡ undone_group mark found state
@@ -383,7 +300,7 @@ undone-is mark (Some group) state =
     ap₂ (λ (made : State) end. state_of (stood mark end state.content made.content) made.anchors
     (log_undone group state.log)) (back-undone group state) (back-end group)
 
-pub redone-is : (mark : ℕ) (found : Option (List Action)) (state : State)
+redone-is : (mark : ℕ) (found : Option (List Action)) (state : State)
     → state_of (replayed_group mark (option_map (replays false) found) state).content
     (replayed_group mark (option_map (replays false) found) state).anchors (group_moved log_redone found state.log)
     ≡ redone_group mark found state
@@ -405,27 +322,20 @@ group-widgets [] state = refl
 group-widgets (action ∷ actions) state =
     group-widgets actions (action_redone action state) ∙ redone-widgets action state
 
-pub replayed-widgets : (mark : ℕ) (found : Option (List Action)) (state : State) →
+replayed-widgets : (mark : ℕ) (found : Option (List Action)) (state : State) →
     length (replayed_group mark found state).anchors ≡ length state.anchors
 replayed-widgets mark None state = refl
 replayed-widgets mark (Some group) state = group-widgets group state
 
 -- the mark of a number stands where the group ended
 pub mark-stood : (outline new : Outline) (content : Content) (mark : MarkNo) (found : Option Place) (place : Place)
-    (made : State) (log : Log) → found ≡ Some place
-    → new ≡ record outline { steps = outline.steps ++ PutMark mark place ∷ [] } → drawn_up outline content log ≡ made
-    → drawn_up new content log ≡ record made { content = with_mark mark.0 found made.content }
-mark-stood outline new content mark found place made log is new_is made_is =
+    (log : Log) → found ≡ Some place → new ≡ record outline { steps = outline.steps ++ PutMark mark place ∷ [] }
+    → drawn_up new content log
+    ≡ record (drawn_up outline content log) { content = with_mark mark.0 found (after outline.steps content) }
+mark-stood outline new content mark found place log is new_is =
     ap (λ (d : Outline). drawn_up d content log) new_is
-    ∙ ap (λ c. state_of c outline.anchors log) (after-append outline.steps (PutMark mark place ∷ []) content)
-    ∙ ap₂ (λ (s : State) o. record s { content = with_mark mark.0 o s.content }) made_is (sym is)
-
-pub mark-stays : (outline new : Outline) (content : Content) (mark : MarkNo) (found : Option Place) (made : State)
-    (log : Log) → found ≡ None → new ≡ outline → drawn_up outline content log ≡ made
-    → drawn_up new content log ≡ record made { content = with_mark mark.0 found made.content }
-mark-stays outline new content mark found made log is new_is made_is =
-    ap (λ (d : Outline). drawn_up d content log) new_is ∙ made_is
-    ∙ ap (λ o. record made { content = with_mark mark.0 o made.content }) (sym is)
+    ∙ ap (λ c. state_of c outline.anchors log) (after-append outline.steps (PutMark mark place ∷ []) content
+    ∙ ap (λ o. with_mark mark.0 o (after outline.steps content)) (sym is))
 
 -- where it stands lies in the text
 pub stood-within : (place : Option Place) (end : Option ℕ) (len : ℕ) (found : Place) → IfSome end (λ at. at ≤ len)

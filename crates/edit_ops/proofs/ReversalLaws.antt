@@ -1,38 +1,70 @@
 -- The history goes on fitting the text where a group is undone or redone.
-use Rattle.edit_ops.proofs.Words.{◌≡◌, ℕ, ◌+◌, ◌-◌, ◌&&◌, Bool, true, false, List, [], ◌∷◌, Option, Some, None, length}
-use Rattle.edit_ops.proofs.Words.{refl, sym, ap, ◌∙◌, subst, slice_range, slice_get, bytes_eq, nat_lt, nat_le}
-use Rattle.edit_ops.proofs.Words.{if◌then◌else◌, option_and_then_some, Cell, Place, Content, characters, inserted}
-use Rattle.edit_ops.proofs.Words.{removed, cells_of, map-inserted, map-removed, Action, FitsText, put_in, take_out}
-use Rattle.edit_ops.proofs.Words.{repeated, reverted, repeated_group, reverted_group, next_undo, next_redo, after_undo}
-use Rattle.edit_ops.proofs.Words.{after_redo, undo-goes, undo-fits, redo-goes, redo-fits, Recording, shared_slots}
-use Rattle.edit_ops.proofs.Words.{IsKept, with_mark, put_back, taken_back, action_redone, action_undone, group_redone}
-use Rattle.edit_ops.proofs.Words.{group_undone, undone_group, redone_group, undone, redone, State, characters-of}
+use Rattle.edit_ops.proofs.Common.{◌≡◌, ℕ, ◌+◌, ◌-◌, ◌&&◌, Bool, true, false, List, [], ◌∷◌, Option, Some, None, length}
+use Rattle.edit_ops.proofs.Common.{refl, sym, ap, ◌∙◌, subst, slice_range, slice_get, bytes_eq, nat_lt, nat_le}
+use Rattle.edit_ops.proofs.Common.{if◌then◌else◌, option_and_then_some, Cell, Place, Content, characters, inserted}
+use Rattle.edit_ops.proofs.Common.{removed, cells_of, map-inserted, map-removed, Action, FitsText, put_in, take_out}
+use Rattle.edit_ops.proofs.Common.{repeated, reverted, repeated_group, reverted_group, next_undo, next_redo, after_undo}
+use Rattle.edit_ops.proofs.Common.{after_redo, undo-goes, undo-fits, redo-goes, redo-fits, Recording, shared_slots}
+use Rattle.edit_ops.proofs.Common.{IsKept, with_mark, put_back, taken_back, action_redone, action_undone, group_redone}
+use Rattle.edit_ops.proofs.Common.{group_undone, undone_group, redone_group, undone, redone, State, characters-of}
+use Rattle.edit_ops.proofs.Common.{and_parts, leb-true, ltb-true, map, map-append, not, option_and_then, replayed}
+use Rattle.edit_ops.proofs.Common.{replays, reverse, reverse-append, ◌++◌, ◌<◌, ◌≤◌}
 
 -- what is there behind a test
 pub guarded : {A : Type 0} (test : Bool) (x y : A) → (if test then Some x else None) ≡ Some y → x ≡ y
 guarded true x y is = let h : Some x ≡ Some y = is in cc
 guarded false x y is = absurd (let h : None ≡ Some y = is in cc)
 
+pub guarded-holds : {A : Type 0} (test : Bool) (x y : A) → (if test then Some x else None) ≡ Some y → test ≡ true
+guarded-holds true x y is = refl
+guarded-holds false x y is = absurd (let h : None ≡ Some y = is in cc)
+
+-- ---- a text that goes in, or is taken out
+
+pub record PutsIn (limit at : ℕ) (text all found : List ℕ) : Type 0 where
+  pub inside : at < length all
+  pub short : length all + length text ≤ limit
+  pub is : inserted at text all ≡ found
+
+pub puts-in : (limit at : ℕ) (text all found : List ℕ) → put_in limit at text all ≡ Some found →
+    PutsIn limit at text all found
+puts-in limit at text all found is =
+    let test = nat_lt at (length all) && nat_le (length all + length text) limit in
+    let tests = and_parts (nat_lt at (length all)) (nat_le (length all + length text) limit)
+    (guarded-holds test (inserted at text all) found is) in
+    record {
+      inside = ltb-true at (length all) tests.0;
+      short = leb-true (length all + length text) limit tests.1;
+      is = guarded test (inserted at text all) found is;
+    }
+
+pub record TakesOut (at : ℕ) (text all found : List ℕ) : Type 0 where
+  pub inside : at + length text < length all
+  pub is : removed at (at + length text) all ≡ found
+
+pub takes-out : (at : ℕ) (text all found : List ℕ) → take_out at text all ≡ Some found → TakesOut at text all found
+takes-out at text all found is =
+    let to = at + length text in
+    let test = nat_lt to (length all) && bytes_eq (slice_range all at to) text in
+    let tests = and_parts (nat_lt to (length all)) (bytes_eq (slice_range all at to) text)
+    (guarded-holds test (removed at to all) found is) in
+    record { inside = ltb-true to (length all) tests.0; is = guarded test (removed at to all) found is }
+
 put-back-text : (limit at : ℕ) (text found : List ℕ) (state : State) →
     put_in limit at text (characters state.content.cells) ≡ Some found →
     characters (put_back at text state).content.cells ≡ found
 put-back-text limit at text found state is =
-    map-inserted (λ (cell : Cell). cell.character) at (cells_of text (shared_slots at state.content.cells))
-    state.content.cells
-    ∙ ap (λ new. inserted at new (characters state.content.cells))
-    (characters-of text (shared_slots at state.content.cells))
-    ∙ guarded (nat_lt at (length (characters state.content.cells))
-    && nat_le (length (characters state.content.cells) + length text) limit)
-    (inserted at text (characters state.content.cells)) found is
+    let slots = shared_slots at state.content.cells in
+    map-inserted (λ (cell : Cell). cell.character) at (cells_of text slots) state.content.cells
+    ∙ ap (λ new. inserted at new (characters state.content.cells)) (characters-of text slots)
+    ∙ (puts-in limit at text (characters state.content.cells) found is).is
 
 taken-back-text : (at : ℕ) (text found : List ℕ) (state : State) →
     take_out at text (characters state.content.cells) ≡ Some found
     → characters (taken_back at (at + length text) state).content.cells ≡ found
 taken-back-text at text found state is =
     map-removed (λ (cell : Cell). cell.character) at (at + length text) state.content.cells
-    ∙ guarded (nat_lt (at + length text) (length (characters state.content.cells))
-    && bytes_eq (slice_range (characters state.content.cells) at (at + length text)) text)
-    (removed at (at + length text) (characters state.content.cells)) found is
+    ∙ (takes-out at text (characters state.content.cells) found is).is
 
 pub redone-text : (limit : ℕ) (action : Action) (found : List ℕ) (state : State) →
     repeated limit action (characters state.content.cells) ≡ Some found →
@@ -46,28 +78,6 @@ redone-text limit action found state is =
       | false ↦ taken-back-text action.at action.text found state
     ] is
 
-pub undone-text : (limit : ℕ) (action : Action) (found : List ℕ) (state : State) →
-    reverted limit action (characters state.content.cells) ≡ Some found →
-    characters (action_undone action state).content.cells ≡ found
-undone-text limit action found state is =
-    elim action.inserts as (λ b. (if b then take_out action.at action.text (characters state.content.cells)
-    else put_in limit action.at action.text (characters state.content.cells)) ≡ Some found
-    → characters (if b then taken_back action.at (action.at + length action.text) state
-    else put_back action.at action.text state).content.cells ≡ found) [
-      | true ↦ taken-back-text action.at action.text found state
-      | false ↦ put-back-text limit action.at action.text found state
-    ] is
-
-pub group-undone-text : (limit : ℕ) (group : List Action) (found : List ℕ) (state : State) →
-    reverted_group limit group (characters state.content.cells) ≡ Some found
-    → characters (group_undone group state).content.cells ≡ found
-group-undone-text limit [] found state is = let h : Some (characters state.content.cells) ≡ Some found = is in cc
-group-undone-text limit (action ∷ actions) found state is =
-    option_and_then_some (reverted limit action) (reverted_group limit actions (characters state.content.cells)) found
-    is (λ between others one.
-    let rest = group-undone-text limit actions between state others in
-    undone-text limit action found (group_undone actions state) (ap (reverted limit action) rest ∙ one))
-
 pub group-redone-text : (limit : ℕ) (group : List Action) (found : List ℕ) (state : State) →
     repeated_group limit group (characters state.content.cells) ≡ Some found
     → characters (group_redone group state).content.cells ≡ found
@@ -78,6 +88,83 @@ group-redone-text limit (action ∷ actions) found state is =
     let first = redone-text limit action between state one in
     group-redone-text limit actions found (action_redone action state) (ap (repeated_group limit actions) first
     ∙ others))
+
+-- ---- a group that is undone, by what reverts its actions
+
+reverse-cons : (action : Action) (actions : List Action) → reverse (action ∷ actions) ≡ reverse actions ++ action ∷ []
+reverse-cons action actions = reverse-append (action ∷ []) actions
+
+pub back-cons : (action : Action) (actions : List Action) → replays true (action ∷ actions)
+    ≡ replays true actions ++ replayed true action ∷ []
+back-cons action actions =
+    ap (map (replayed true)) (reverse-cons action actions) ∙ map-append (replayed true) (reverse actions) (action ∷ [])
+
+redone-append : (actions others : List Action) (state : State) →
+    group_redone (actions ++ others) state ≡ group_redone others (group_redone actions state)
+redone-append [] others state = refl
+redone-append (action ∷ actions) others state = redone-append actions others (action_redone action state)
+
+flipped-is : (action : Action) (state : State) → action_redone (replayed true action) state ≡ action_undone action state
+flipped-is action state =
+    elim action.inserts as (λ b. (if not b then put_back action.at action.text state
+    else taken_back action.at (action.at + length action.text) state)
+    ≡ (if b then taken_back action.at (action.at + length action.text) state else put_back action.at action.text state))
+    [ true ↦ refl | false ↦ refl ]
+
+pub back-undone : (group : List Action) (state : State) →
+    group_redone (replays true group) state ≡ group_undone group state
+back-undone [] state = refl
+back-undone (action ∷ actions) state =
+    ap (λ all. group_redone all state) (back-cons action actions)
+    ∙ redone-append (replays true actions) (replayed true action ∷ []) state
+    ∙ flipped-is action (group_redone (replays true actions) state)
+    ∙ ap (action_undone action) (back-undone actions state)
+
+repeated-append : (limit : ℕ) (actions others : List Action) (text : List ℕ) →
+    repeated_group limit (actions ++ others) text
+    ≡ option_and_then (repeated_group limit others) (repeated_group limit actions text)
+repeated-append limit [] others text = refl
+repeated-append limit (action ∷ actions) others text =
+    elim (repeated limit action text) as (λ found. option_and_then (repeated_group limit (actions ++ others)) found
+    ≡ option_and_then (repeated_group limit others) (option_and_then (repeated_group limit actions) found)) [
+      | None ↦ refl
+      | Some next ↦ repeated-append limit actions others next
+    ]
+
+one-repeated : (limit : ℕ) (action : Action) (text : List ℕ) →
+    repeated_group limit (action ∷ []) text ≡ repeated limit action text
+one-repeated limit action text = elim (repeated limit action text) as (λ found.
+    option_and_then (repeated_group limit []) found ≡ found) [ None ↦ refl | Some next ↦ refl ]
+
+flipped-repeated : (limit : ℕ) (action : Action) (text : List ℕ) →
+    repeated limit (replayed true action) text ≡ reverted limit action text
+flipped-repeated limit action text =
+    elim action.inserts as (λ b. (if not b then put_in limit action.at action.text text
+    else take_out action.at action.text text)
+    ≡ (if b then take_out action.at action.text text else put_in limit action.at action.text text))
+    [ true ↦ refl | false ↦ refl ]
+
+pub back-reverted : (limit : ℕ) (group : List Action) (text : List ℕ) →
+    repeated_group limit (replays true group) text ≡ reverted_group limit group text
+back-reverted limit [] text = refl
+back-reverted limit (action ∷ actions) text =
+    ap (λ all. repeated_group limit all text) (back-cons action actions)
+    ∙ repeated-append limit (replays true actions) (replayed true action ∷ []) text
+    ∙ ap (option_and_then (repeated_group limit (replayed true action ∷ []))) (back-reverted limit actions text)
+    ∙ (elim (reverted_group limit actions text) as (λ found.
+    option_and_then (repeated_group limit (replayed true action ∷ [])) found
+    ≡ option_and_then (reverted limit action) found) [
+      | None ↦ refl
+      | Some next ↦ one-repeated limit (replayed true action) next ∙ flipped-repeated limit action next
+    ])
+
+pub group-undone-text : (limit : ℕ) (group : List Action) (found : List ℕ) (state : State) →
+    reverted_group limit group (characters state.content.cells) ≡ Some found
+    → characters (group_undone group state).content.cells ≡ found
+group-undone-text limit group found state is =
+    ap (λ (s : State). characters s.content.cells) (sym (back-undone group state))
+    ∙ group-redone-text limit (replays true group) found state
+    (back-reverted limit group (characters state.content.cells) ∙ is)
 
 -- the mark doesn't matter
 pub stood-cells : (number : ℕ) (place : Option Place) (content : Content) →

@@ -1,19 +1,16 @@
 -- The longest runs of offsets that lie in some spans.
-use Rattle.edit_ops.proofs.Words.{◌≡◌, ℕ, zero, suc, ◌+◌, ◌-◌, ◌<◌, ◌≤◌, ◌==◌, ◌&&◌, ◌||◌, Bool, true, false, inl, inr}
-use Rattle.edit_ops.proofs.Words.{List, [], ◌∷◌, ◌++◌, length, get_or, set, take, refl, sym, ap, ap₂, ◌∙◌, arith, subst}
-use Rattle.edit_ops.proofs.Words.{eq-eqb, ne_eqb, length-append, not, nat_le, nat_lt, min, IsSome, if◌then◌else◌, All}
-use Rattle.edit_ops.proofs.Words.{remove, false≢true, le-leb, lt-leb, lt-ltb, le-ltb, cases_eq, cases_lt, nat_tests}
-use Rattle.edit_ops.proofs.Words.{take_more, list_any-append, get_or-append, get_or-append_seam, is_newline, Span}
-use Rattle.edit_ops.proofs.Words.{in_spans, run_start, delete_set, onto_runs, runs_below, AreApart}
-use Rattle.std.specs.Prelude.{Option, Some, None}
+use Rattle.edit_ops.proofs.Common.{◌≡◌, ℕ, zero, suc, ◌+◌, ◌-◌, ◌<◌, ◌≤◌, ◌==◌, ◌&&◌, ◌||◌, Bool, true, false, inl, inr}
+use Rattle.edit_ops.proofs.Common.{List, [], ◌∷◌, ◌++◌, length, get_or, set, take, refl, sym, ap, ap₂, ◌∙◌, arith}
+use Rattle.edit_ops.proofs.Common.{subst, eq-eqb, ne_eqb, length-append, not, nat_le, nat_lt, min, IsSome}
+use Rattle.edit_ops.proofs.Common.{if◌then◌else◌, All, remove, false≢true, le-leb, lt-leb, lt-ltb, le-ltb, cases_eq}
+use Rattle.edit_ops.proofs.Common.{cases_lt, nat_tests, take_more, list_any-append, get_or-append, get_or-append_seam}
+use Rattle.edit_ops.proofs.Common.{is_newline, Span, in_spans, run_start, delete_set, onto_runs, runs_below, AreApart}
+use Rattle.edit_ops.proofs.Common.{Option, Some, None}
+use mathlib.Core.Bool.{and-false, and-true, or-false, or-true}
 use Rattle.std.specs.List.Sorted.{IsNonDecreasingBy}
 
 abbrev pub inside : Span → ℕ → Bool
 inside span offset = nat_le span.from offset && nat_lt offset span.to
-
-or-false : (b : Bool) → (b || false) ≡ b
-or-false true = refl
-or-false false = refl
 
 pub in-append : (spans : List Span) (span : Span) (offset : ℕ) →
     in_spans (spans ++ span ∷ []) offset ≡ (in_spans spans offset || inside span offset)
@@ -23,18 +20,6 @@ in-append spans span offset =
 
 pub inside-before : (span : Span) (offset : ℕ) → offset < span.from → inside span offset ≡ false
 inside-before span offset before = ap (λ b. b && nat_lt offset span.to) (lt-leb span.from offset before)
-
-or-true : (b : Bool) → (b || true) ≡ true
-or-true true = refl
-or-true false = refl
-
-and-true : (b : Bool) → (b && true) ≡ b
-and-true true = refl
-and-true false = refl
-
-and-false : (b : Bool) → (b && false) ≡ false
-and-false true = refl
-and-false false = refl
 
 pub inside-behind : (span : Span) (offset : ℕ) → span.to ≤ offset → inside span offset ≡ false
 inside-behind span offset behind =
@@ -148,47 +133,46 @@ merging-first spans kept left run is filled ordered covers =
           ∙ or-swap false (in_spans left offset) (inside run offset);
     }
 
-pub merging-joined : (spans before left runs : List Span) (run span : Span) (from : ℕ) → Merging spans before runs run →
-    before ≡ left ++ span ∷ [] → run.from ≤ span.to
-    → from ≡ min run.from span.from → Merging spans left runs (record run { from = from })
-merging-joined spans before left runs run span from so_far is touches from_is =
-    let some = all-init (λ (s : Span). s.from < s.to) left span
-    (subst (All (λ (s : Span). s.from < s.to)) is so_far.filled) in
-    let ends = all-init (λ (s : Span). s.to ≤ run.to) left span
-    (subst (All (λ (s : Span). s.to ≤ run.to)) is so_far.ends) in
-    let order = ordered-init left span (subst (IsNonDecreasingBy (λ (s : Span). s.to)) is so_far.ordered) in
-    let below : from ≤ run.from = omega (arith, from_is) in
-    record {
-      apart = (so_far.apart.0, apart-joined so_far.apart.0 runs run from so_far.apart.1 below);
-      filled = some.0;
-      ordered = order.0;
-      ends = ends.0;
-      covers = λ offset. so_far.covers offset
-          ∙ ap (λ xs. (in_spans runs offset || inside run offset) || in_spans xs offset) is
-          ∙ ap (λ b. (in_spans runs offset || inside run offset) || b) (in-append left span offset)
-          ∙ or-join (in_spans runs offset) (inside run offset) (in_spans left offset) (inside span offset)
-          ∙ ap (λ b. (in_spans runs offset || b) || in_spans left offset)
-          (sym (inside-joined run span from offset touches ends.1 some.1 from_is));
-    }
+module _ {spans before runs : List Span} {run : Span} (left : List Span) (span : Span)
+    (so_far : Merging spans before runs run) (is : before ≡ left ++ span ∷ []) where
+  filled : All (λ (s : Span). s.from < s.to) left × (span.from < span.to)
+  filled = all-init (λ (s : Span). s.from < s.to) left span (subst (All (λ (s : Span). s.from < s.to)) is so_far.filled)
 
-pub merging-next : (spans before left runs : List Span) (run span : Span) → Merging spans before runs run →
-    before ≡ left ++ span ∷ [] → span.to < run.from
-    → Merging spans left (runs ++ run ∷ []) span
-merging-next spans before left runs run span so_far is apart =
-    let some = all-init (λ (s : Span). s.from < s.to) left span
-    (subst (All (λ (s : Span). s.from < s.to)) is so_far.filled) in
-    let order = ordered-init left span (subst (IsNonDecreasingBy (λ (s : Span). s.to)) is so_far.ordered) in
-    record {
-      apart = (so_far.apart.0, apart-more so_far.apart.0 runs run span so_far.apart.1 some.1 apart);
-      filled = some.0;
-      ordered = order.0;
-      ends = order.1;
-      covers = λ offset. so_far.covers offset
-          ∙ ap (λ xs. (in_spans runs offset || inside run offset) || in_spans xs offset) is
-          ∙ ap (λ b. (in_spans runs offset || inside run offset) || b) (in-append left span offset)
-          ∙ or-swap (in_spans runs offset || inside run offset) (in_spans left offset) (inside span offset)
-          ∙ ap (λ b. (b || inside span offset) || in_spans left offset) (sym (in-append runs run offset));
-    }
+  order : IsNonDecreasingBy (λ (s : Span). s.to) left × All (λ (s : Span). s.to ≤ span.to) left
+  order = ordered-init left span (subst (IsNonDecreasingBy (λ (s : Span). s.to)) is so_far.ordered)
+
+  covered : (offset : ℕ) → in_spans spans offset
+      ≡ ((in_spans runs offset || inside run offset) || (in_spans left offset || inside span offset))
+  covered offset = so_far.covers offset
+      ∙ ap (λ xs. (in_spans runs offset || inside run offset) || in_spans xs offset) is
+      ∙ ap (λ b. (in_spans runs offset || inside run offset) || b) (in-append left span offset)
+
+  pub merging-joined : (from : ℕ) → run.from ≤ span.to → from ≡ min run.from span.from
+      → Merging spans left runs (record run { from = from })
+  merging-joined from touches from_is =
+      let ends = all-init (λ (s : Span). s.to ≤ run.to) left span
+      (subst (All (λ (s : Span). s.to ≤ run.to)) is so_far.ends) in
+      record {
+        apart = (so_far.apart.0, apart-joined so_far.apart.0 runs run from so_far.apart.1 (omega (arith, from_is)));
+        filled = filled.0;
+        ordered = order.0;
+        ends = ends.0;
+        covers = λ offset. covered offset
+            ∙ or-join (in_spans runs offset) (inside run offset) (in_spans left offset) (inside span offset)
+            ∙ ap (λ b. (in_spans runs offset || b) || in_spans left offset)
+            (sym (inside-joined run span from offset touches ends.1 filled.1 from_is));
+      }
+
+  pub merging-next : span.to < run.from → Merging spans left (runs ++ run ∷ []) span
+  merging-next apart = record {
+    apart = (so_far.apart.0, apart-more so_far.apart.0 runs run span so_far.apart.1 filled.1 apart);
+    filled = filled.0;
+    ordered = order.0;
+    ends = order.1;
+    covers = λ offset. covered offset
+        ∙ or-swap (in_spans runs offset || inside run offset) (in_spans left offset) (inside span offset)
+        ∙ ap (λ b. (b || inside span offset) || in_spans left offset) (sym (in-append runs run offset));
+  }
 
 -- runs of offsets that all lie below an end
 pub apart-below : (border end : ℕ) (runs : List Span) → AreApart border runs →
@@ -396,13 +380,6 @@ spared-alone run runs border last offset apart to =
     (none-last run.from last offset runs apart.2 (omega (arith, some, to)))
     ∙ ap (λ b. b || false) (to-is run (in_spans runs offset) last offset to)
 
-spared-only : (run : Span) (runs : List Span) (border last offset : ℕ) → AreApart border (run ∷ runs) →
-    run.to ≡ last + 1 → last ≤ run.from
-    → in_spans runs offset ≡ ((in_spans (run ∷ runs) offset && not (offset == last)) || false)
-spared-only run runs border last offset apart to short =
-    ap (λ b. b || in_spans runs offset) (sym (inside-none (record { from = run.from; to = last }) offset short))
-    ∙ spared-alone run runs border last offset apart to
-
 -- the offset before the first run joins it
 joined-first : (run : Span) (rest : Bool) (last offset : ℕ) → (offset ≡ last → rest ≡ false) → run.to ≡ last + 1 →
     0 < run.from → run.from < run.to
@@ -489,14 +466,12 @@ spare-alone (run ∷ runs) border last from joins d e some apart to alone from_i
     ∙ spared-alone run runs border last offset apart to
     ∙ ap (λ b. (in_spans (run ∷ runs) offset && not (offset == last)) || (b && (offset + 1 == run.from))) (sym alone)
 
-pub spare-only : (runs : List Span) (border last from : ℕ) (joins : Bool) (d e : Span) → 0 < length runs →
-    AreApart border runs → (get_or runs 0 d).to ≡ last + 1 → joins ≡ false → from ≡ (get_or runs 0 d).from → last ≤ from
-    → (offset : ℕ) → in_spans (remove runs 0) offset
-    ≡ ((in_spans runs offset && not (offset == last)) || (joins && (offset + 1 == (get_or runs 0 e).from)))
-spare-only [] border last from joins d e some apart to alone from_is short offset = absurd (omega (arith, some))
-spare-only (run ∷ runs) border last from joins d e some apart to alone from_is short offset =
-    spared-only run runs border last offset apart to (omega (arith, short, from_is))
-    ∙ ap (λ b. (in_spans (run ∷ runs) offset && not (offset == last)) || (b && (offset + 1 == run.from))) (sym alone)
+-- the first of the runs, where it is empty
+pub empty-first : (runs : List Span) (from to offset : ℕ) → to ≤ from
+    → in_spans (remove runs 0) offset ≡ in_spans (set runs 0 (record { from = from; to = to })) offset
+empty-first [] from to offset none = refl
+empty-first (run ∷ runs) from to offset none =
+    ap (λ b. b || in_spans runs offset) (sym (inside-none (record { from = from; to = to }) offset none))
 
 pub spare-joined : (runs : List Span) (border last from : ℕ) (joins : Bool) (d e : Span) → 0 < length runs →
     AreApart border runs → (get_or runs 0 d).to ≡ last + 1 → joins ≡ true
@@ -523,17 +498,6 @@ spare-both (run ∷ next ∷ runs) border last from joins d e f some apart to jo
     ∙ spared-both run next runs border last offset apart to (omega (arith, touch, before))
     ∙ ap (λ b. (in_spans (run ∷ next ∷ runs) offset && not (offset == last))
     || (b && (offset + 1 == run.from))) (sym joined)
-
-pub first-some : (runs : List Span) (border : ℕ) (d : Span) → 0 < length runs → AreApart border runs →
-    (get_or runs 0 d).from < (get_or runs 0 d).to
-first-some [] border d some apart = absurd (omega (arith, some))
-first-some (run ∷ runs) border d some apart = apart.0
-
-pub second-some : (runs : List Span) (border : ℕ) (d : Span) → 1 < length runs → AreApart border runs →
-    (get_or runs 1 d).from < (get_or runs 1 d).to
-second-some [] border d some apart = absurd (omega (arith, some))
-second-some (run ∷ []) border d some apart = absurd (omega (arith, some))
-second-some (run ∷ next ∷ runs) border d some apart = apart.2.0
 
 -- ---- what goes of the runs that are to be deleted
 

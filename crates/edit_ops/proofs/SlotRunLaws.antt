@@ -1,16 +1,15 @@
 -- The runs of what parts put in give its cells their slots.
-use Rattle.edit_ops.proofs.Words.{◌≡◌, ℕ, ◌+◌, ◌-◌, ◌<◌, ◌≤◌, List, [], ◌∷◌, ◌++◌, Option, Some, None, map, length}
-use Rattle.edit_ops.proofs.Words.{drop, take, refl, sym, ap, ap₂, ◌∙◌, arith, subst, length-append, slice_range, All}
-use Rattle.edit_ops.proofs.Words.{drop_at, length-map, take_at, All-cons, All-head, All-nil, All-tail, Cell, Content}
-use Rattle.edit_ops.proofs.Words.{Slots, changed, cells_of, map-map, Cursor, Part, parts_len, cells_between}
-use Rattle.edit_ops.proofs.Words.{front_cells, part_cells, source_len, PartFits, Rise, part-length, Hunk, part_hunks}
-use Rattle.edit_ops.proofs.Words.{part_runs, run_of, IsCursorOf, patched_by}
-use Rattle.std.proofs.Common.{append_assoc}
-use Rattle.std.specs.FinSet as set
+use Rattle.edit_ops.proofs.Common.{◌≡◌, ℕ, ◌+◌, ◌-◌, ◌<◌, ◌≤◌, List, [], ◌∷◌, ◌++◌, Option, Some, None, map, length}
+use Rattle.edit_ops.proofs.Common.{drop, take, refl, sym, ap, ap₂, ◌∙◌, arith, subst, length-append, slice_range, All}
+use Rattle.edit_ops.proofs.Common.{drop_at, length-map, take_at, All-cons, All-head, All-nil, All-tail, Cell, Content}
+use Rattle.edit_ops.proofs.Common.{Slots, changed, cells_of, map-map, Cursor, Part, parts_len, cells_between}
+use Rattle.edit_ops.proofs.Common.{front_cells, part_cells, source_len, PartFits, Rise, part-length, Hunk, part_hunks}
+use Rattle.edit_ops.proofs.Common.{part_runs, run_of, IsCursorOf, patched_by, append_assoc}
 use Rattle.edit_ops.specs.declared.slot_runs.SlotRun.{SlotRun}
 use Rattle.edit_ops.specs.SlotRuns.{bare_cells, slotted, with_slots, AreBareRuns}
 use Rattle.edit_ops.proofs.DeleteLaws.{length-slice}
 use Rattle.edit_ops.proofs.PartHunkLaws.{front_items, items_between, parts-patched}
+use Rattle.std.specs.FinSet as set
 
 -- ---- what stands between two lists
 
@@ -157,16 +156,16 @@ bare-is old fresh parts hunks runs of =
     ap (λ hs. patched_by bare_cells 0 hs old) of.hunks_are
     ∙ parts-patched bare_cells 0 (length old) fresh old parts refl refl of.rise of.fit
 
-pub made-bare : (old : List Cell) (fresh : List ℕ) (parts : List Part) (hunks : List Hunk) (runs : List SlotRun)
+pub made-bare : {old : List Cell} {fresh : List ℕ} {parts : List Part} {hunks : List Hunk} {runs : List SlotRun}
     → OfParts old fresh parts hunks runs → AreBareRuns 0 runs (patched_by bare_cells 0 hunks old)
-made-bare old fresh parts hunks runs of =
+made-bare {old} {fresh} {parts} {hunks} {runs} of =
     subst (AreBareRuns 0 runs) (sym (bare-is old fresh parts hunks runs of))
     (subst (λ rs. AreBareRuns 0 rs (front_items bare_cells old fresh parts)) (sym of.runs_are)
     (runs-bare 0 [] old fresh parts refl of.fit))
 
-pub made-slotted : (old : List Cell) (fresh : List ℕ) (parts : List Part) (hunks : List Hunk) (runs : List SlotRun)
+pub made-slotted : {old : List Cell} {fresh : List ℕ} {parts : List Part} {hunks : List Hunk} {runs : List SlotRun}
     → OfParts old fresh parts hunks runs → slotted runs (patched_by bare_cells 0 hunks old) ≡ front_cells old fresh parts
-made-slotted old fresh parts hunks runs of =
+made-slotted {old} {fresh} {parts} {hunks} {runs} of =
     ap₂ slotted of.runs_are (bare-is old fresh parts hunks runs of) ∙ runs-slotted 0 [] old fresh parts refl of.fit
 
 -- ---- the parts one after the other

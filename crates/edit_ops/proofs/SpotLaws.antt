@@ -1,16 +1,14 @@
 -- Spots: where a text ends, and where a place is, by what stands before it.
-use Rattle.edit_ops.proofs.Words.{◌≡◌, ℕ, zero, suc, ◌+◌, ◌-◌, ◌*◌, ◌^◌, ◌<◌, ◌≤◌, true, false, cond, List, [], ◌∷◌}
-use Rattle.edit_ops.proofs.Words.{◌++◌, length, take, drop, get_or, refl, sym, ap, ap₂, ◌∙◌, arith, subst, append-nil}
-use Rattle.edit_ops.proofs.Words.{slice_range, encode_utf8_all, encode_utf8, nat_lt, sum_by, if◌then◌else◌, len_utf8}
-use Rattle.edit_ops.proofs.Words.{nat_tests, take-add, take_all, take-take, length-map, length-drop, drop-append-le}
-use Rattle.edit_ops.proofs.Words.{append_assoc, drop_all, drop_more, length-take-le, take-append-drop, take_more}
-use Rattle.edit_ops.proofs.Words.{sum_by_push, sum_by-cons, encodes-append, length-encode, len_utf8_bounds, Cell}
-use Rattle.edit_ops.proofs.Words.{characters, is_newline, lines, line_of, line_start, lines-cons, lines-append}
-use Rattle.edit_ops.proofs.Words.{line_start-le, lines-le-length, line-append-same, line-front, Spot, units_of}
-use Rattle.edit_ops.proofs.Words.{line_front, spot_at, end_of, HasRoom}
-use Rattle.std.proofs.lemmas.List.{length-take, length-append}
-use Rattle.std.proofs.lemmas.Slice.{between_is}
-use Rattle.edit_ops.proofs.StartLaws.{is-start, line-begins}
+use Rattle.edit_ops.proofs.Common.{◌≡◌, ℕ, zero, suc, ◌+◌, ◌-◌, ◌*◌, ◌^◌, ◌<◌, ◌≤◌, true, false, cond, List, [], ◌∷◌}
+use Rattle.edit_ops.proofs.Common.{◌++◌, length, take, drop, get_or, refl, sym, ap, ap₂, ◌∙◌, arith, subst, append-nil}
+use Rattle.edit_ops.proofs.Common.{slice_range, encode_utf8_all, encode_utf8, nat_lt, sum_by, if◌then◌else◌, len_utf8}
+use Rattle.edit_ops.proofs.Common.{nat_tests, take-add, take_all, take-take, length-map, length-drop, drop-append-le}
+use Rattle.edit_ops.proofs.Common.{append_assoc, drop_all, drop_more, length-take-le, take_more, sum_by_push}
+use Rattle.edit_ops.proofs.Common.{sum_by-cons, encodes-append, length-encode, len_utf8_bounds, Cell, characters}
+use Rattle.edit_ops.proofs.Common.{is_newline, lines, line_of, line_start, lines-cons, lines-append, line_start-le}
+use Rattle.edit_ops.proofs.Common.{lines-le-length, line-append-same, line-front, Spot, units_of, line_front, spot_at}
+use Rattle.edit_ops.proofs.Common.{end_of, HasRoom, length-take, length-append, between_is}
+use Rattle.edit_ops.proofs.StartLaws.{is-start, line-begins, line_of-le}
 
 -- a spot by the line's number and what stands before it there
 abbrev spot_of : ℕ → List ℕ → Spot
@@ -155,13 +153,6 @@ start-number (c ∷ text) (suc line) within =
           ∙ start-number text (suc line) (omega (arith, within, counted))
     ] refl (lines-cons c text)
 
-line-le : (text : List ℕ) (offset : ℕ) → line_of text offset ≤ lines text
-line-le text offset = omega (
-  arith,
-  lines-append (take offset text) (drop offset text),
-  ap lines (take-append-drop offset text),
-)
-
 pub start-spot : (text : List ℕ) (offset : ℕ) →
     spot_at text (line_start (line_of text offset) text) ≡ first_of (line_of text offset + 1)
 start-spot text offset =
@@ -169,7 +160,7 @@ start-spot text offset =
     let stands = is-start text start (line-begins text offset) in
     let none : start - line_start (line_of text start) text ≡ 0 = omega (arith, stands.begins) in
     ap (λ n. spot_of (line_of text start) (take n (drop (line_start (line_of text start) text) text))) none
-    ∙ ap (λ n. first_of (n + 1)) (start-number text (line_of text offset) (line-le text offset))
+    ∙ ap (λ n. first_of (n + 1)) (start-number text (line_of text offset) (line_of-le text offset))
 
 pub start-at : (text : List ℕ) (offset number start : ℕ) (spot : Spot) → spot ≡ first_of (number + 1) →
     number ≡ line_of text offset → start ≡ line_start number text → spot ≡ spot_at text start

@@ -1,10 +1,10 @@
 -- Where a line starts: at the front of a text, and behind each newline.
-use Rattle.edit_ops.proofs.Words.{◌≡◌, ℕ, zero, suc, ◌+◌, ◌-◌, ◌<◌, ◌≤◌, true, false, cond, List, [], ◌∷◌, length, take}
-use Rattle.edit_ops.proofs.Words.{drop, get_or, refl, sym, ap, ◌∙◌, arith, subst, inl, inr, true≢false, ⊤}
-use Rattle.edit_ops.proofs.Words.{if◌then◌else◌, cases_lt, take-append-drop, ends_in_newline, IsLineStart, is_newline}
-use Rattle.edit_ops.proofs.Words.{lines, line_of, line_start, inserted, removed, lines-cons, lines-append}
-use Rattle.edit_ops.proofs.Words.{line_start-rises, get_or-inserted_before, get_or-inserted_behind}
-use Rattle.edit_ops.proofs.Words.{get_or-removed_before, get_or-removed_behind, next_line, line_start-past, number-of}
+use Rattle.edit_ops.proofs.Common.{◌≡◌, ℕ, zero, suc, ◌+◌, ◌-◌, ◌<◌, ◌≤◌, true, false, cond, List, [], ◌∷◌, length}
+use Rattle.edit_ops.proofs.Common.{take, drop, get_or, refl, sym, ap, ◌∙◌, arith, subst, inl, inr, true≢false, ⊤}
+use Rattle.edit_ops.proofs.Common.{if◌then◌else◌, cases_lt, take-append-drop, ends_in_newline, IsLineStart, is_newline}
+use Rattle.edit_ops.proofs.Common.{lines, line_of, line_start, inserted, removed, lines-cons, lines-append}
+use Rattle.edit_ops.proofs.Common.{line_start-rises, get_or-inserted_before, get_or-inserted_behind}
+use Rattle.edit_ops.proofs.Common.{get_or-removed_before, get_or-removed_behind, next_line, line_start-past, number-of}
 
 -- at the front, or right behind a newline
 abbrev pub Begins : List ℕ → ℕ → Type 0
@@ -40,7 +40,7 @@ start-begins (c ∷ text) (suc line) within =
           (start-begins text (suc line) (omega (arith, within, counted))))
     ] refl (lines-cons c text)
 
-line_of-le : (text : List ℕ) (place : ℕ) → line_of text place ≤ lines text
+pub line_of-le : (text : List ℕ) (place : ℕ) → line_of text place ≤ lines text
 line_of-le text place =
     omega (arith, lines-append (take place text) (drop place text), ap lines (take-append-drop place text))
 

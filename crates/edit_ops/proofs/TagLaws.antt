@@ -1,8 +1,8 @@
 -- One span more is tagged.
-use Rattle.edit_ops.proofs.Words.{◌≡◌, ℕ, ◌+◌, ◌<◌, Bool, List, [], ◌∷◌, ◌++◌, false, map, length, get_or, drop, sym}
-use Rattle.edit_ops.proofs.Words.{ap, ◌∙◌, drop_more, map-id, Step, SetTag, ClearSlot, Content, Fits, StepFits, after}
-use Rattle.edit_ops.proofs.Words.{with_slot, map-map, Fits-append, after-append, length-after_step, Span, SpanFits}
-use Rattle.edit_ops.proofs.Words.{tagged, cell_without, cleared}
+use Rattle.edit_ops.proofs.Common.{◌≡◌, ℕ, ◌+◌, ◌<◌, Bool, List, [], ◌∷◌, ◌++◌, false, map, length, get_or, drop, sym}
+use Rattle.edit_ops.proofs.Common.{ap, ◌∙◌, drop_more, map-id, Step, SetTag, ClearSlot, Content, Fits, StepFits, after}
+use Rattle.edit_ops.proofs.Common.{with_slot, map-map, Fits-append, after-append, length-after_step, Span, SpanFits}
+use Rattle.edit_ops.proofs.Common.{tagged, cell_without, cleared}
 use Rattle.text_model.specs.declared.places.TagSlot.{TagSlot}
 use Rattle.text_model.specs.TagBits.{slot_count}
 

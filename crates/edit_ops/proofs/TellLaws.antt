@@ -1,12 +1,11 @@
 -- The changes of hunks, the last hunk's first, tell what the hunks make of a text.
-use Rattle.edit_ops.proofs.Words.{◌≡◌, ◌≢◌, ℕ, ◌+◌, ◌-◌, ◌≤◌, List, [], ◌∷◌, ◌++◌, map, inl, inr, length, take, drop}
-use Rattle.edit_ops.proofs.Words.{refl, sym, ap, ◌∙◌, arith, subst, append-nil, slice_range, take-add, cases_lt}
-use Rattle.edit_ops.proofs.Words.{append_assoc, drop_at, length-take-le, nil_from_length, reverse-append, length-map}
-use Rattle.edit_ops.proofs.Words.{take_at, take-append-drop, take-append-le, take-take, Cell, characters, Hunk}
-use Rattle.edit_ops.proofs.Words.{SpotWalk, spot_at, end_of, after_change, after_change_by, after_changes_by}
-use Rattle.edit_ops.proofs.Words.{hunk_change, hunk_changes, patched, patched_by, AreHunks, IsChange, IsHunk, Tells}
-use Rattle.std.proofs.Common.{reverse}
-use Rattle.std.proofs.lemmas.List.{length-append}
+use Rattle.edit_ops.proofs.Common.{◌≡◌, ◌≢◌, ℕ, ◌+◌, ◌-◌, ◌≤◌, List, [], ◌∷◌, ◌++◌, map, inl, inr, length, take, drop}
+use Rattle.edit_ops.proofs.Common.{refl, sym, ap, ◌∙◌, arith, subst, append-nil, slice_range, take-add, cases_lt}
+use Rattle.edit_ops.proofs.Common.{append_assoc, drop_at, length-take-le, nil_from_length, reverse-append, take_at}
+use Rattle.edit_ops.proofs.Common.{take-append-drop, take-append-le, take-take, Cell, characters, Hunk, SpotWalk}
+use Rattle.edit_ops.proofs.Common.{spot_at, end_of, after_change, after_change_by, after_changes_by, hunk_change}
+use Rattle.edit_ops.proofs.Common.{hunk_changes, patched, patched_by, AreHunks, IsChange, IsHunk, Tells, reverse}
+use Rattle.edit_ops.proofs.Common.{length-append, length-characters}
 use Rattle.edit_ops.specs.declared.changes.TextChange.{TextChange}
 use Rattle.edit_ops.proofs.DeleteLaws.{length-slice}
 use Rattle.edit_ops.proofs.SpotLaws.{spot-end, spot-same}
@@ -154,74 +153,67 @@ pub record Telling (cells : List Cell) (hunks : List Hunk) (changes : List TextC
 abbrev pub walk_at : List ℕ → ℕ → SpotWalk
 walk_at text offset = record { offset = offset; spot = spot_at text offset }
 
-same-length : (cells : List Cell) → length cells ≡ length (characters cells)
-same-length cells = sym (length-map cells (λ (cell : Cell). cell.character))
-
 pub record IsNext (cells : List Cell) (walk : SpotWalk) (hunk : Hunk) : Type 0 where
   pub before : walk.offset ≤ hunk.from
   pub is : IsHunk hunk
   pub from : hunk.from ≤ length cells
   pub to : hunk.to ≤ length cells
 
-pub next-told : (cells : List Cell) (hunks : List Hunk) (changes : List TextChange) (walk : SpotWalk)
-    (all left : List Hunk) (hunk : Hunk) → Telling cells hunks changes walk all → all ≡ hunk ∷ left →
-    IsNext cells walk hunk
-next-told cells hunks changes walk all left hunk so_far is =
-    let are : AreHunks walk.offset (length cells) (hunk ∷ left) =
-    subst (AreHunks walk.offset (length cells)) is so_far.are in
-    let within = hunks-within hunk.to (length cells) left are.2 in
-    record { before = are.0; is = are.1; from = omega (arith, are.1.ordered, within); to = within }
+module _ {cells : List Cell} {hunks : List Hunk} {changes : List TextChange} {walk : SpotWalk} {all left : List Hunk}
+    {hunk : Hunk} (so_far : Telling cells hunks changes walk all) (is : all ≡ hunk ∷ left) where
+  next-are : AreHunks walk.offset (length cells) (hunk ∷ left)
+  next-are = subst (AreHunks walk.offset (length cells)) is so_far.are
 
-pub start-before : (text : List ℕ) (start : SpotWalk) (from to : ℕ) → start ≡ walk_at text from → from ≤ to →
-    start.offset ≤ to
-start-before text start from to is ordered =
-    let here : start.offset ≡ from = ap (λ (walk : SpotWalk). walk.offset) is in omega (arith, here, ordered)
+  pub next-told : IsNext cells walk hunk
+  next-told =
+      let within = hunks-within hunk.to (length cells) left next-are.2 in
+      record {
+        before = next-are.0;
+        is = next-are.1;
+        from = omega (arith, next-are.1.ordered, within);
+        to = within;
+      }
 
-pub more-told : (cells : List Cell) (hunks : List Hunk) (changes new : List TextChange) (walk start end : SpotWalk)
-    (all left : List Hunk) (hunk : Hunk) (change : TextChange) → Telling cells hunks changes walk all
-    → all ≡ hunk ∷ left
-    → start ≡ walk_at (characters cells) hunk.from → end ≡ walk_at (characters cells) hunk.to
-    → ((before : List ℕ) → start.spot ≡ end_of before → change ≡ record {
-      at = hunk.from;
-      removed = hunk.to - hunk.from;
-      inserted = hunk.text;
-      start = start.spot;
-      old_end = end.spot;
-      new_end = end_of (before ++ hunk.text);
-    })
-    → new ≡ changes ++ change ∷ [] → Telling cells hunks new end left
-more-told cells hunks changes new walk start end all left hunk change so_far is start_is end_is change_is new_is =
-    let text = characters cells in
-    let next = next-told cells hunks changes walk all left hunk so_far is in
-    let are : AreHunks walk.offset (length cells) (hunk ∷ left) =
-    subst (AreHunks walk.offset (length cells)) is so_far.are in
-    let from : start.spot ≡ spot_at text hunk.from = ap (λ (w : SpotWalk). w.spot) start_is in
-    let to : end.spot ≡ spot_at text hunk.to = ap (λ (w : SpotWalk). w.spot) end_is in
-    let offset : hunk.to ≡ end.offset = sym (ap (λ (w : SpotWalk). w.offset) end_is) in
-    let within : hunk.from ≤ length text = omega (arith, next.from, same-length cells) in
-    let plain = change_is (take hunk.from text) (from ∙ spot-end text hunk.from within) in
-    let exact : change ≡ hunk_change text hunk = plain ∙ λ i. record {
-      at = hunk.from;
-      removed = hunk.to - hunk.from;
-      inserted = hunk.text;
-      start = from i;
-      old_end = to i;
-      new_end = end_of (take hunk.from text ++ hunk.text);
-    } in
-    record {
-      made = ap (λ xs. xs ++ map (hunk_change text) left) new_is
-          ∙ ap (λ c. (changes ++ c ∷ []) ++ map (hunk_change text) left) exact
-          ∙ append_assoc changes (hunk_change text hunk ∷ []) (map (hunk_change text) left)
-          ∙ sym (ap (λ hs. changes ++ map (hunk_change text) hs) is)
-          ∙ so_far.made;
-      are = subst (λ n. AreHunks n (length cells) left) offset are.2;
-      stands = to ∙ ap (spot_at text) offset;
-    }
+  pub more-told : {new : List TextChange} {start end : SpotWalk} {change : TextChange}
+      → start ≡ walk_at (characters cells) hunk.from → end ≡ walk_at (characters cells) hunk.to
+      → ((before : List ℕ) → start.spot ≡ end_of before → change ≡ record {
+        at = hunk.from;
+        removed = hunk.to - hunk.from;
+        inserted = hunk.text;
+        start = start.spot;
+        old_end = end.spot;
+        new_end = end_of (before ++ hunk.text);
+      })
+      → new ≡ changes ++ change ∷ [] → Telling cells hunks new end left
+  more-told {new} {start} {end} {change} start_is end_is change_is new_is =
+      let text = characters cells in
+      let from : start.spot ≡ spot_at text hunk.from = ap (λ (w : SpotWalk). w.spot) start_is in
+      let to : end.spot ≡ spot_at text hunk.to = ap (λ (w : SpotWalk). w.spot) end_is in
+      let offset : hunk.to ≡ end.offset = sym (ap (λ (w : SpotWalk). w.offset) end_is) in
+      let within : hunk.from ≤ length text = omega (arith, next-told.from, length-characters cells) in
+      let plain = change_is (take hunk.from text) (from ∙ spot-end text hunk.from within) in
+      let exact : change ≡ hunk_change text hunk = plain ∙ λ i. record {
+        at = hunk.from;
+        removed = hunk.to - hunk.from;
+        inserted = hunk.text;
+        start = from i;
+        old_end = to i;
+        new_end = end_of (take hunk.from text ++ hunk.text);
+      } in
+      record {
+        made = ap (λ xs. xs ++ map (hunk_change text) left) new_is
+            ∙ ap (λ c. (changes ++ c ∷ []) ++ map (hunk_change text) left) exact
+            ∙ append_assoc changes (hunk_change text hunk ∷ []) (map (hunk_change text) left)
+            ∙ sym (ap (λ hs. changes ++ map (hunk_change text) hs) is)
+            ∙ so_far.made;
+        are = subst (λ n. AreHunks n (length cells) left) offset next-are.2;
+        stands = to ∙ ap (spot_at text) offset;
+      }
 
-pub all-changes : (cells : List Cell) (hunks : List Hunk) (changes told : List TextChange) (walk : SpotWalk)
-    (left : List Hunk) → Telling cells hunks changes walk left → left ≡ [] → told ≡ reverse changes
+pub all-changes : {cells : List Cell} {hunks : List Hunk} {changes told : List TextChange} {walk : SpotWalk}
+    {left : List Hunk} → Telling cells hunks changes walk left → left ≡ [] → told ≡ reverse changes
     → told ≡ hunk_changes (characters cells) hunks
-all-changes cells hunks changes told walk left so_far none told_is =
+all-changes {cells} {hunks} {changes} so_far none told_is =
     let change = hunk_change (characters cells) in
     told_is ∙ ap reverse (sym (append-nil changes) ∙ sym (ap (λ hs. changes ++ map change hs) none) ∙ so_far.made)
 
@@ -230,4 +222,4 @@ pub all-told : (cells : List Cell) (hunks : List Hunk) (told : List TextChange) 
 all-told cells hunks told are told_is =
     let text = characters cells in
     subst (λ changes. Tells changes text (patched 0 hunks text)) (sym told_is)
-    (hunks-told text 0 hunks (subst (λ n. AreHunks 0 n hunks) (same-length cells) are))
+    (hunks-told text 0 hunks (subst (λ n. AreHunks 0 n hunks) (sym (length-characters cells)) are))

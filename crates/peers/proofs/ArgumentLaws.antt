@@ -1,8 +1,7 @@
 -- The arguments of a command among its words.
-use Rattle.peers.proofs.Words.{◌≡◌, ◌-◌, List, take, drop, length, sym, ap, ◌∙◌, drop-map, take_rest, Shape, texts_of}
-use Rattle.peers.proofs.Words.{arguments_of, switches_of}
+use Rattle.peers.proofs.Common.{◌≡◌, ◌-◌, List, take, drop, length, sym, ap, ◌∙◌, drop-map, take_rest, Shape, texts_of}
+use Rattle.peers.proofs.Common.{arguments_of, switches_of, String, chars, string_bytes}
 use Rattle.std.specs.List.{take-map}
-use Rattle.std.specs.Prelude.{String, chars, string_bytes}
 
 pub arguments-part : {Z : Type 0} (words : List (String Z)) (shape : Shape)
     → texts_of (take (length words - shape.arguments) (drop shape.arguments words))

@@ -1,20 +1,21 @@
 -- What holds of a document before a command of a widget, and after each edit of it, holds after the command.
-use Rattle.peers.proofs.Words.{◌≡◌, ℕ, suc, ◌+◌, ◌≤◌, true, false, List, [], ◌∷◌, Option, Some, None, Ok, Err, length}
-use Rattle.peers.proofs.Words.{refl, ap, ◌∙◌, ok_or, ⊤, All, ltb-false, All-cons, All-nil, LimitTable, boolean_of}
-use Rattle.peers.proofs.Words.{Command, Insert, Delete, Replace, MarkGravity, MarkSet, MarkUnset, TagAdd, TagRemove}
-use Rattle.peers.proofs.Words.{TagDelete, TagRaise, TagLower, Configure, EditUndo, EditRedo, EditModified, EditReset}
-use Rattle.peers.proofs.Words.{EditSeparator, PeerCreate, first_of, first_two_of, none_or_one_of, one_or_two_of, two_of}
-use Rattle.peers.proofs.Words.{with_value, Pair, pairs_at, is_among, Empty, Word, Fault, BadBoolean, IndexOrder}
-use Rattle.peers.proofs.Words.{InvalidCommandName, TooManyWidgets, WindowExists, Settings, delete_places, replace_span}
-use Rattle.peers.proofs.Words.{Document, Widget, edit_reset, modified_set, place_at, mark_offset, place_named}
-use Rattle.peers.proofs.Words.{is_window_name, settings_of, with_settings, Change, answered, change_with, refused}
-use Rattle.peers.proofs.Words.{unless_idle, add_spans, lowered, raised, remove_spans, reordered, insert_at}
-use Rattle.peers.proofs.Words.{insertion_offset, shown, view_end, with_peer, Call, done, delete, replace}
-use Rattle.peers.proofs.Words.{replace_places, replace_words, gravity_asked, gravity_given, gravity_words, mark_gravity}
-use Rattle.peers.proofs.Words.{mark_set, set_at, set_words, configure, settings_given, places_at, add_words}
-use Rattle.peers.proofs.Words.{remove_words, tag_add, tag_lower, tag_raise, tag_remove, insert, insert_pairs}
-use Rattle.peers.proofs.Words.{insert_words, peer_create, peer_settings, peer_with}
-use Rattle.std.specs.Prelude.{Result, nat_le, nat_lt, if◌then◌else◌}
+use Rattle.peers.proofs.Common.{◌≡◌, ℕ, suc, ◌+◌, ◌≤◌, true, false, List, [], ◌∷◌, Option, Some, None, Ok, Err, length}
+use Rattle.peers.proofs.Common.{refl, ap, ◌∙◌, ok_or, ⊤, All, ltb-false, All-cons, All-nil, LimitTable, boolean_of}
+use Rattle.peers.proofs.Common.{Command, Insert, Delete, Replace, MarkGravity, MarkSet, MarkUnset, TagAdd, TagRemove}
+use Rattle.peers.proofs.Common.{TagDelete, TagRaise, TagLower, Configure, EditUndo, EditRedo, EditModified, EditReset}
+use Rattle.peers.proofs.Common.{EditSeparator, PeerCreate, first_of, first_two_of, none_or_one_of, one_or_two_of}
+use Rattle.peers.proofs.Common.{two_of, with_value, Pair, pairs_at, is_among, Empty, Word, Fault, BadBoolean}
+use Rattle.peers.proofs.Common.{IndexOrder, InvalidCommandName, TooManyWidgets, WindowExists, Settings, delete_places}
+use Rattle.peers.proofs.Common.{replace_span, Document, Widget, edit_reset, modified_set, place_at, mark_offset}
+use Rattle.peers.proofs.Common.{place_named, is_window_name, settings_of, with_settings, Change, answered, change_with}
+use Rattle.peers.proofs.Common.{refused, unless_idle, add_spans, lowered, raised, remove_spans, reordered, insert_at}
+use Rattle.peers.proofs.Common.{insertion_offset, shown, view_end, with_peer, Call, done, delete, replace}
+use Rattle.peers.proofs.Common.{replace_places, replace_words, gravity_asked, gravity_given, gravity_words}
+use Rattle.peers.proofs.Common.{mark_gravity, mark_set, set_at, set_words, configure, settings_given, places_at}
+use Rattle.peers.proofs.Common.{add_words, remove_words, tag_add, tag_lower, tag_raise, tag_remove, insert_pairs}
+use Rattle.peers.proofs.Common.{insert_words, peer_create, peer_settings, peer_with, Result, nat_le, nat_lt}
+use Rattle.peers.proofs.Common.{if◌then◌else◌}
+use Rattle.peers.specs.Texts.{insert}
 use Rattle.text_model.specs.declared.places.Gravity.{Gravity}
 use Rattle.text_model.specs.declared.places.Place.{Place}
 use Rattle.command_effects.specs.Marking.{gravity_of}
@@ -146,15 +147,9 @@ module _ (limits : LimitTable) (document : Document) (widget : Widget) (P : Docu
 
   -- any command, where it holds after those that edit the text or tags or move marks, and after three others
   pub quiet-done : (command : Command) (windows switches : List (List ℕ)) (position : ℕ) (arguments : List (List ℕ))
-      → (IsTextEdit command →
-      P (done command document (calling limits windows widget switches position arguments)).document)
-      → (IsTagEdit command →
-      P (done command document (calling limits windows widget switches position arguments)).document)
-      → (IsMarkMove command →
-      P (done command document (calling limits windows widget switches position arguments)).document)
-      → (IsOther command →
-      P (done command document (calling limits windows widget switches position arguments)).document)
-      → P (done command document (calling limits windows widget switches position arguments)).document
+      → let made = (done command document (calling limits windows widget switches position arguments)).document in
+      (IsTextEdit command → P made) → (IsTagEdit command → P made) → (IsMarkMove command → P made) →
+      (IsOther command → P made) → P made
   quiet-done Insert windows switches position arguments edit tag move other = edit tt
   quiet-done Delete windows switches position arguments edit tag move other = edit tt
   quiet-done Replace windows switches position arguments edit tag move other = edit tt
@@ -284,9 +279,8 @@ module _ (limits : LimitTable) (document : Document) (widget : Widget) (P : Docu
   -- ---- any command but three
 
   pub carried-done : (command : Command) (windows switches : List (List ℕ)) (position : ℕ) (arguments : List (List ℕ))
-      → (IsOther command →
-      P (done command document (calling limits windows widget switches position arguments)).document)
-      → P (done command document (calling limits windows widget switches position arguments)).document
+      → let made = (done command document (calling limits windows widget switches position arguments)).document in
+      (IsOther command → P made) → P made
   carried-done command windows switches position arguments other =
       quiet-done limits document widget P carried.quiet command windows switches position arguments
       (edits command windows switches position arguments)

@@ -1,26 +1,28 @@
 -- A document that keeps all its actions leads back to the text from the start, through commands that spare it.
-use Rattle.peers.proofs.Words.{◌≡◌, ℕ, zero, suc, ◌<◌, ◌==◌, ◌||◌, Bool, true, false, not, List, [], ◌∷◌, ◌++◌, Option}
-use Rattle.peers.proofs.Words.{Some, None, Ok, Err, filter, length, take, refl, sym, ap, ◌∙◌, arith, subst, true≢false}
-use Rattle.peers.proofs.Words.{inl, inr, Result, ◌&&◌, is_ok, is_some, nat_le, slice_set, if◌then◌else◌, AllByRecursion}
-use Rattle.peers.proofs.Words.{IsDistinct, and_parts, eqb-true, false_from_ne_true, Decides-eqb, length-append}
-use Rattle.peers.proofs.Words.{take-append-le, bytes_eq-Decides, LimitTable, reading, Command, Configure, EditReset}
-use Rattle.peers.proofs.Words.{PeerCreate, Shape, ShapeFault, among-append, Word, Fault, InvalidCommandName}
-use Rattle.peers.proofs.Words.{TooManyWidgets, WindowExists, Settings, first_settings, is_among, is_same, literal}
-use Rattle.peers.proofs.Words.{Document, Widget, characters, edit_reset, is_window_name, Change, IsWellFormedDocument}
-use Rattle.peers.proofs.Words.{window_names, bare_document, keeps_some, new_document, widget_named, Leads, AreNamed}
-use Rattle.peers.proofs.Words.{named-carried, named-same, leads-first, leads-left, arguments_of, command, done, shaped}
-use Rattle.peers.proofs.Words.{switches_of, settings_given, Outcome, changed, create, create_new, create_shaped}
-use Rattle.peers.proofs.Words.{create_with, destroy, destroy_shaped, on_found, on_home, on_widget, refuses, step}
-use Rattle.peers.proofs.Words.{AreSpared, BeginsToKeep, after_all, forgets, forgets_read, is_forgotten, is_spared}
-use Rattle.peers.proofs.Words.{names_dropped, names_read, place_after, place_after_all, text_at, IsWellFormed, World}
-use Rattle.peers.proofs.Words.{all_windows, document_at, home, windows_of}
+use Rattle.peers.proofs.Common.{◌≡◌, ℕ, zero, suc, ◌<◌, ◌==◌, ◌||◌, Bool, true, false, not, List, [], ◌∷◌, ◌++◌, Option}
+use Rattle.peers.proofs.Common.{Some, None, Ok, Err, filter, length, take, refl, sym, ap, ◌∙◌, arith, subst, true≢false}
+use Rattle.peers.proofs.Common.{inl, inr, Result, ◌&&◌, is_ok, is_some, nat_le, slice_set, if◌then◌else◌}
+use Rattle.peers.proofs.Common.{AllByRecursion, IsDistinct, and_parts, eqb-true, false_from_ne_true, Decides-eqb}
+use Rattle.peers.proofs.Common.{length-append, take-append-le, bytes_eq-Decides, LimitTable, reading, Command}
+use Rattle.peers.proofs.Common.{Configure, EditReset, PeerCreate, Shape, ShapeFault, among-append, Word, Fault}
+use Rattle.peers.proofs.Common.{InvalidCommandName, TooManyWidgets, WindowExists, Settings, first_settings, is_among}
+use Rattle.peers.proofs.Common.{is_same, literal, Document, Widget, characters, edit_reset, is_window_name, Change}
+use Rattle.peers.proofs.Common.{IsWellFormedDocument, window_names, bare_document, keeps_some, new_document}
+use Rattle.peers.proofs.Common.{widget_named, Leads, AreNamed, named-carried, named-same, leads-first, leads-left}
+use Rattle.peers.proofs.Common.{arguments_of, command, done, shaped, switches_of, settings_given, Outcome, changed}
+use Rattle.peers.proofs.Common.{create, create_new, create_shaped, create_with, destroy, destroy_shaped, on_found}
+use Rattle.peers.proofs.Common.{on_home, on_widget, refuses, step, AreSpared, BeginsToKeep, after_all, forgets}
+use Rattle.peers.proofs.Common.{forgets_read, is_forgotten, is_spared, names_dropped, names_read, place_after}
+use Rattle.peers.proofs.Common.{place_after_all, text_at, IsWellFormed, World, all_windows, document_at, home}
+use Rattle.peers.proofs.Common.{windows_of, or_parts, length-set}
 use Rattle.std.specs.Str.{chars}
+use Rattle.std.proofs.Math.ListN.{get_or-append}
 use Rattle.std.proofs.lemmas.Map.Keys.{IsDistinct-head, IsDistinct-tail}
 use Rattle.documents.proofs.EditLeadLaws.{found-anchored}
 use Rattle.documents.proofs.WidgetLeadLaws.{leads-carried}
 use Rattle.peers.proofs.DoneLaws.{IsOther, calling, carried-done}
 use Rattle.peers.proofs.FrontLaws.{IsBefore, before-grown, front-changed, front-stays, left-among, left-at, left-front}
-use Rattle.peers.proofs.FrontLaws.{neither, set-at, set-length, set-other}
+use Rattle.peers.proofs.FrontLaws.{set-at, set-other}
 use Rattle.peers.proofs.KeepingLaws.{leads-configured, leads-peered, named-configured, named-peered}
 use Rattle.peers.proofs.NameLaws.{placed-window}
 use Rattle.peers.proofs.WorldLaws.{all-at, own-absent}
@@ -97,7 +99,7 @@ module _ (start : List ℕ) (world : World) (place : ℕ) (follows : Follows sta
       let new = change.document in
       let within = follows.within in
       let here : document_at (slice_set documents place new) place ≡ new = set-at documents place new within in
-      let long = set-length documents place new in
+      let long = length-set documents place new in
       record {
         within = omega (arith, within, long);
         leads = subst (Leads world.limits.chars start) (sym here) leads;
@@ -122,7 +124,7 @@ module _ (start : List ℕ) (world : World) (place : ℕ) (follows : Follows sta
       let new = change.document in
       let within = follows.within in
       let here : document_at (slice_set documents at new) place ≡ document = set-other documents at place new apart in
-      let long = set-length documents at new in
+      let long = length-set documents at new in
       record {
         within = omega (arith, within, long);
         leads = subst (Leads world.limits.chars start) (sym here) follows.leads;
@@ -154,16 +156,11 @@ module _ (start : List ℕ) (world : World) (place : ℕ) (follows : Follows sta
             named
       ] refl
 
-  added-at : (all : List Document) (at : ℕ) (new : Document) → at < length all →
-      document_at (all ++ new ∷ []) at ≡ document_at all at
-  added-at [] at new within = absurd (omega (arith, within))
-  added-at (first ∷ all) zero new within = refl
-  added-at (first ∷ all) (suc at) new within = added-at all at new (omega (arith, within))
-
   follows-added : (new : Document) → Follows start (record world { documents = documents ++ new ∷ [] }) place
   follows-added new =
       let within = follows.within in
-      let here : document_at (documents ++ new ∷ []) place ≡ document = added-at documents place new within in
+      let here : document_at (documents ++ new ∷ []) place ≡ document =
+      get_or-append documents (new ∷ []) bare_document place within in
       let front : take place (documents ++ new ∷ [])
       ≡ take place documents = take-append-le place documents (new ∷ []) (omega (arith, within)) in
       record {
@@ -335,7 +332,7 @@ distinct-apart name (first ∷ names) others distinct there =
       | true ↦ λ same.
           let be : name ≡ first = (bytes_eq-Decides name first).0 same in
           let none = none-among first (names ++ others) (IsDistinct-head is_same first (names ++ others) distinct) in
-          let apart = neither (is_among first names) (is_among first others) (sym (among-append first names others)
+          let apart = or_parts (is_among first names) (is_among first others) (sym (among-append first names others)
           ∙ none) in
           absurd (true≢false (sym there ∙ ap (λ n. is_among n others) be ∙ apart.1))
       | false ↦ λ _. distinct-apart name names others (IsDistinct-tail is_same first (names ++ others) distinct) there

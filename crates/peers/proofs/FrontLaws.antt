@@ -1,35 +1,23 @@
 -- A document among others, by those before it: as one of them changes, one is added, and some end.
-use Rattle.peers.proofs.Words.{◌≡◌, ℕ, zero, suc, ◌<◌, ◌≤◌, ◌||◌, Bool, true, false, cond, not, List, [], ◌∷◌, Some}
-use Rattle.peers.proofs.Words.{None, filter, length, map, take, option_map, refl, sym, ap, ◌∙◌, arith, subst}
-use Rattle.peers.proofs.Words.{true≢false, ◌⊎◌, inl, inr, nat_lt, slice_set, if◌then◌else◌, AllByRecursion, lt-ltb}
-use Rattle.peers.proofs.Words.{ltb-true, bytes_eq-Decides, is_among, is_same, Document, Widget, window_names, is_kept}
-use Rattle.peers.proofs.Words.{keeps_some, widget_named, without_widgets, among-append, has_widgets, document_at, home}
-use Rattle.peers.proofs.Words.{windows_of}
-use Rattle.std.proofs.Common.{find}
+use Rattle.peers.proofs.Common.{◌≡◌, ℕ, zero, suc, ◌<◌, ◌≤◌, ◌||◌, Bool, true, false, cond, not, List, [], ◌∷◌, Some}
+use Rattle.peers.proofs.Common.{None, filter, length, map, take, option_map, refl, sym, ap, ◌∙◌, arith, subst}
+use Rattle.peers.proofs.Common.{true≢false, ◌⊎◌, inl, inr, nat_lt, slice_set, if◌then◌else◌, AllByRecursion, lt-ltb}
+use Rattle.peers.proofs.Common.{ltb-true, is_among, is_same, Document, Widget, window_names, is_kept, keeps_some}
+use Rattle.peers.proofs.Common.{widget_named, without_widgets, among-append, has_widgets, document_at, home, windows_of}
+use Rattle.peers.proofs.Common.{find, or_parts, or_right, get_or-set_other, get_or-set_same, bytes_eq-turned}
 use Rattle.peers.proofs.WorldLaws.{left-names}
+use Rattle.documents.specs.Widgets as widgets
 
 -- ---- a document is set
 
-pub set-length : (documents : List Document) (place : ℕ) (new : Document) →
-    length (slice_set documents place new) ≡ length documents
-set-length [] place new = refl
-set-length (document ∷ documents) zero new = refl
-set-length (document ∷ documents) (suc place) new = ap suc (set-length documents place new)
-
 pub set-at : (documents : List Document) (place : ℕ) (new : Document) → place < length documents →
     document_at (slice_set documents place new) place ≡ new
-set-at [] place new within = absurd (omega (arith, within))
-set-at (document ∷ documents) zero new within = refl
-set-at (document ∷ documents) (suc place) new within = set-at documents place new (omega (arith, within))
+set-at documents place new within = get_or-set_same documents place new widgets.bare_document within
 
 pub set-other : (documents : List Document) (at place : ℕ) (new : Document) → (at ≡ place → ⊥)
     → document_at (slice_set documents at new) place ≡ document_at documents place
-set-other [] at place new apart = refl
-set-other (document ∷ documents) zero zero new apart = absurd (apart refl)
-set-other (document ∷ documents) zero (suc place) new apart = refl
-set-other (document ∷ documents) (suc at) zero new apart = refl
-set-other (document ∷ documents) (suc at) (suc place) new apart =
-    set-other documents at place new (λ same. apart (ap suc same))
+set-other documents at place new apart =
+    get_or-set_other documents at place new widgets.bare_document (λ same. apart (sym same))
 
 pub set-twice : (documents : List Document) (place : ℕ) (one other : Document)
     → slice_set (slice_set documents place one) place other ≡ slice_set documents place other
@@ -49,34 +37,6 @@ front-changed Good (document ∷ documents) (suc place) (suc at) new all grow =
     (all.0, front-changed Good documents place at new all.1 (λ less good. grow (omega (arith, less)) good))
 
 -- ---- a name, and the first document that has it
-
-pub home-at : (name : List ℕ) (documents : List Document) (place : ℕ) → home name documents ≡ Some place
-    → (place < length documents) × (is_among name (window_names (document_at documents place)) ≡ true)
-home-at name [] place is = absurd (let h : None ≡ Some place = is in cc)
-home-at name (document ∷ documents) place is =
-    elim (is_among name (window_names document)) as
-    (λ b. is_among name (window_names document) ≡ b → (if b then Some 0 else option_map suc (home name documents))
-    ≡ Some place
-    → (place < length (document ∷ documents))
-    × (is_among name (window_names (document_at (document ∷ documents) place)) ≡ true)) [
-      | true ↦ λ there one.
-          let same : 0 ≡ place = cc in
-          subst (λ n. (n < length (document ∷ documents))
-          × (is_among name (window_names (document_at (document ∷ documents) n)) ≡ true)) same
-          (omega arith, there)
-      | false ↦ λ _ later. elim (home name documents) as (λ o. home name documents ≡ o → option_map suc o ≡ Some place
-          → (place < length (document ∷ documents))
-          × (is_among name (window_names (document_at (document ∷ documents) place)) ≡ true)) [
-            | None ↦ λ _ none. absurd (let h : None ≡ Some place = none in cc)
-            | Some k ↦ λ found one.
-                let rest = home-at name documents k found in
-                let within : k < length documents = rest.0 in
-                let same : suc k ≡ place = cc in
-                subst (λ n. (n < length (document ∷ documents))
-                × (is_among name (window_names (document_at (document ∷ documents) n)) ≡ true)) same
-                (omega (arith, within), rest.1)
-          ] refl later
-    ] refl is
 
 pub home-first : (name : List ℕ) (documents : List Document) (place : ℕ) → place < length documents
     → AllByRecursion (λ (d : Document). is_among name (window_names d) ≡ false) (take place documents)
@@ -98,9 +58,6 @@ home-same name (document ∷ documents) (suc place) new same =
     ap (λ found. if is_among name (window_names document) then Some 0
     else option_map suc found) (home-same name documents place new same)
 
-same-flipped : (one other : List ℕ) → is_same one other ≡ true → is_same other one ≡ true
-same-flipped one other same = (bytes_eq-Decides other one).1 (sym ((bytes_eq-Decides one other).0 same))
-
 -- the name of a widget that is found is one of the names
 pub found-among : (name : List ℕ) (document : Document) (widget : Widget) → widget_named name document ≡ Some widget
     → is_among name (window_names document) ≡ true
@@ -115,14 +72,10 @@ found-among name document widget is = by document.widgets is
         ≡ Some widget
         → (is_same name first.name || is_among name (map (λ (w : Widget). w.name) widgets)) ≡ true) [
           | true ↦ λ same _. ap (λ b. b || is_among name (map (λ (w : Widget). w.name) widgets))
-              (same-flipped first.name name same)
-          | false ↦ λ _ later. or-true (is_same name first.name) (is_among name (map (λ (w : Widget). w.name) widgets))
+              (bytes_eq-turned name first.name ∙ same)
+          | false ↦ λ _ later. or_right (is_same name first.name) (is_among name (map (λ (w : Widget). w.name) widgets))
               (by widgets later)
         ] refl there
-      where
-        or-true : (b c : Bool) → c ≡ true → (b || c) ≡ true
-        or-true true c is = refl
-        or-true false c is = is
 
 -- ---- documents before another one
 
@@ -131,10 +84,6 @@ pub record IsBefore (document before : Document) : Type 0 where
   pub shown : 0 < length before.widgets
   pub apart : (name : List ℕ) → is_among name (window_names document) ≡ true →
       is_among name (window_names before) ≡ false
-
-pub neither : (b c : Bool) → (b || c) ≡ false → (b ≡ false) × (c ≡ false)
-neither false c none = (refl, none)
-neither true c none = absurd (true≢false none)
 
 -- names that none had are apart from all others
 pub before-grown : (documents : List Document) (place : ℕ) (old new : Document)
@@ -146,7 +95,7 @@ before-grown [] (suc place) old new known all = tt
 before-grown (document ∷ documents) (suc place) old new known all =
     let split : (name : List ℕ) → is_among name (windows_of (document ∷ documents)) ≡ false
     → (is_among name (window_names document) ≡ false) × (is_among name (windows_of documents) ≡ false) = λ name none.
-    neither (is_among name (window_names document)) (is_among name (windows_of documents))
+    or_parts (is_among name (window_names document)) (is_among name (windows_of documents))
     (sym (among-append name (window_names document) (windows_of documents)) ∙ none) in (
       record {
         shown = all.0.shown;
@@ -221,7 +170,7 @@ module _ (names : List (List ℕ)) where
       is_among name (filter keeps all) ≡ false
   filtered-none name keeps [] none = refl
   filtered-none name keeps (first ∷ all) none =
-      let parts = neither (is_same name first) (is_among name all) none in
+      let parts = or_parts (is_same name first) (is_among name all) none in
       let rest = filtered-none name keeps all parts.1 in
       elim (keeps first) as (λ b. is_among name (cond b (first ∷ filter keeps all) (filter keeps all)) ≡ false) [
         | true ↦ ap (λ b. b || is_among name (filter keeps all)) parts.0 ∙ rest

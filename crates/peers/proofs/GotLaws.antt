@@ -1,11 +1,9 @@
 -- The texts of ranges, as a list of those that aren't empty.
-use Rattle.peers.proofs.Words.{◌≡◌, ◌≢◌, ℕ, zero, suc, true≢false, ◌-◌, ◌<◌, ◌≤◌, ◌==◌, true, false, cond, List, []}
-use Rattle.peers.proofs.Words.{◌∷◌, ◌++◌, length, take, drop, get_or, refl, sym, ap, subst, ◌∙◌, arith, filter}
-use Rattle.peers.proofs.Words.{if◌then◌else◌, take_rest, Goes, text_of, texts_of_places, got, is_filled, Text, Document}
-use Rattle.peers.proofs.Words.{Widget}
-use Rattle.std.proofs.lemmas.List.{append_assoc, append-nil}
+use Rattle.peers.proofs.Common.{◌≡◌, ℕ, suc, ◌-◌, ◌≤◌, true, false, cond, List, [], ◌∷◌, ◌++◌, length, take, drop}
+use Rattle.peers.proofs.Common.{get_or, refl, sym, ap, subst, ◌∙◌, arith, filter, if◌then◌else◌, take_rest, Goes}
+use Rattle.peers.proofs.Common.{text_of, texts_of_places, got, is_filled, Text, Document, Widget, append_assoc}
+use Rattle.peers.proofs.Common.{append-nil, nil_from_length, filter-append}
 use Rattle.tcl_words.proofs.ListGrowth.{goes_on}
-use Rattle.command_effects.proofs.WrittenLaws.{filter-append}
 
 -- the texts before some places are listed
 pub record AreGot (document : Document) (widget : Widget) (places rest : List ℕ) (old new : List ℕ) : Type 0 where
@@ -20,7 +18,7 @@ texts-two document widget [] two = absurd (omega arith)
 texts-two document widget (from ∷ []) two = absurd (omega arith)
 texts-two document widget (from ∷ to ∷ places) two = refl
 
-pub got-one_more : (document : Document) (widget : Widget) (old between new text : List ℕ) (done : List (List ℕ)) →
+got-one_more : (document : Document) (widget : Widget) (old between new text : List ℕ) (done : List (List ℕ)) →
     Goes old between (filter is_filled done)
     → Goes between new (if is_filled text then text ∷ [] else []) → Goes old new (filter is_filled (done ++ text ∷ []))
 got-one_more document widget old between new text done first second =
@@ -32,26 +30,26 @@ got-one_more document widget old between new text done first second =
       | false ↦ λ goes. goes
     ] second))
 
-pub got-more : (document : Document) (widget : Widget) (places rest old between new text : List ℕ) → 2 ≤ length rest →
-    AreGot document widget places rest old between
-    → text ≡ text_of document widget (get_or rest 0 0) (get_or rest 1 0) →
-    Goes between new (if is_filled text then text ∷ [] else [])
-    → AreGot document widget places (take (length rest - 2) (drop 2 rest)) old new
-got-more document widget places rest old between new text two got is goes = record {
-  done = got.done ++ text ∷ [];
-  texts = got.texts ∙ ap (λ ts. got.done ++ ts) (texts-two document widget rest two
-      ∙ ap (λ t. t ∷ texts_of_places document widget (drop 2 rest)) (sym is))
-      ∙ sym (append_assoc got.done (text ∷ []) (texts_of_places document widget (drop 2 rest)))
-      ∙ ap (λ ps. (got.done ++ text ∷ []) ++ texts_of_places document widget ps) (sym (take_rest rest 2));
-  goes = got-one_more document widget old between new text got.done got.goes goes;
-}
+module _ {document : Document} {widget : Widget} {places rest : List ℕ} {old between : List ℕ}
+    (got : AreGot document widget places rest old between) where
+  pub got-more : (new text : List ℕ) → 2 ≤ length rest
+      → text ≡ text_of document widget (get_or rest 0 0) (get_or rest 1 0)
+      → Goes between new (if is_filled text then text ∷ [] else [])
+      → AreGot document widget places (take (length rest - 2) (drop 2 rest)) old new
+  got-more new text two is goes = record {
+    done = got.done ++ text ∷ [];
+    texts = got.texts ∙ ap (λ ts. got.done ++ ts) (texts-two document widget rest two
+        ∙ ap (λ t. t ∷ texts_of_places document widget (drop 2 rest)) (sym is))
+        ∙ sym (append_assoc got.done (text ∷ []) (texts_of_places document widget (drop 2 rest)))
+        ∙ ap (λ ps. (got.done ++ text ∷ []) ++ texts_of_places document widget ps) (sym (take_rest rest 2));
+    goes = got-one_more document widget old between new text got.done got.goes goes;
+  }
 
-pub got-end : (document : Document) (widget : Widget) (places rest old new : List ℕ) → length rest ≡ 0 →
-    AreGot document widget places rest old new
-    → Goes old new (filter is_filled (texts_of_places document widget places))
-got-end document widget places [] old new none got =
-    subst (λ ts. Goes old new (filter is_filled ts)) (sym (got.texts ∙ append-nil got.done)) got.goes
-got-end document widget places (place ∷ rest) old new none got = absurd (omega (arith, none))
+  pub got-end : length rest ≡ 0 → Goes old between (filter is_filled (texts_of_places document widget places))
+  got-end none =
+      let texts = got.texts ∙ ap (λ ps. got.done ++ texts_of_places document widget ps) (nil_from_length rest none)
+      ∙ append-nil got.done in
+      subst (λ ts. Goes old between (filter is_filled ts)) (sym texts) got.goes
 
 pub got-last : (document : Document) (widget : Widget) (places rest old between new text : List ℕ) → length rest ≡ 1 →
     AreGot document widget places rest old between
@@ -64,18 +62,7 @@ got-last document widget places (from ∷ []) old between new text one got is go
     subst (λ ts. Goes old new (filter is_filled ts)) (sym (got.texts ∙ ap (λ t. got.done ++ t ∷ []) (sym is)))
     (got-one_more document widget old between new text got.done got.goes goes)
 
-pub one_left : (n : ℕ) → (n == 0) ≡ false → n < 2 → n ≡ 1
-one_left zero some few = absurd (true≢false some)
-one_left (suc zero) some few = refl
-one_left (suc (suc n)) some few = absurd (omega (arith, few))
-
 pub got-empty : (document : Document) (widget : Widget) (places : List ℕ) → length places ≡ 0 →
     got document widget places ≡ Text []
 got-empty document widget [] none = refl
 got-empty document widget (place ∷ places) none = absurd (omega (arith, none))
-
-pub none_left : (n : ℕ) → n ≤ 2 → n ≢ 2 → n ≢ 1 → n ≡ 0
-none_left zero few two one = refl
-none_left (suc zero) few two one = absurd (one refl)
-none_left (suc (suc zero)) few two one = absurd (two refl)
-none_left (suc (suc (suc n))) few two one = absurd (omega (arith, few))

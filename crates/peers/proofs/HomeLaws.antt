@@ -1,12 +1,13 @@
 -- Where widgets are found, as documents and widgets come and go. A document is known by the names of its widgets here.
-use Rattle.peers.proofs.Words.{◌≡◌, ℕ, zero, suc, ◌+◌, ◌-◌, ◌<◌, ◌≤◌, Bool, true, false, cond, List, [], ◌∷◌, ◌++◌}
-use Rattle.peers.proofs.Words.{length, map, take, drop, get_or, replicate, slice_set, filter, flat_map, option_map}
-use Rattle.peers.proofs.Words.{is_some, Option, Some, None, if◌then◌else◌, refl, sym, ap, ap₂, ◌∙◌, append_assoc}
-use Rattle.peers.proofs.Words.{append-nil, arith, ◌||◌, map-append, length-append, length-map, length-replicate}
-use Rattle.peers.proofs.Words.{length-take, take-append-le, take_all, take_more, insert_end, insert-append_left}
-use Rattle.peers.proofs.Words.{insert-append_right, is_among, is_same, Homes, homes_from, home_in, names_in, places_in}
-use Rattle.std.proofs.Common.{insert}
+use Rattle.peers.proofs.Common.{◌≡◌, ℕ, zero, suc, ◌+◌, ◌-◌, ◌<◌, ◌≤◌, Bool, true, false, cond, List, [], ◌∷◌, ◌++◌}
+use Rattle.peers.proofs.Common.{length, map, take, drop, get_or, replicate, slice_set, filter, flat_map, option_map}
+use Rattle.peers.proofs.Common.{is_some, Option, Some, None, if◌then◌else◌, refl, sym, ap, ap₂, ◌∙◌, append_assoc}
+use Rattle.peers.proofs.Common.{append-nil, arith, ◌||◌, map-append, length-append, length-map, length-replicate}
+use Rattle.peers.proofs.Common.{take-append-le, take_all, take_more, insert_end, insert-append_left}
+use Rattle.peers.proofs.Common.{insert-append_right, is_among, is_same, Homes, homes_from, home_in, names_in, places_in}
+use Rattle.peers.proofs.Common.{insert, length-take-le, filter-append}
 use lib.Seq.{take-append-add}
+use Rattle.std.proofs.lemmas.Grind.{flat_map-append}
 
 -- the widgets of one document at a place
 abbrev pub placed_at : ℕ → List (List ℕ) → Homes
@@ -153,9 +154,6 @@ module _ {D : Type 0} (names : D → List (List ℕ)) where
     pub end_is : end ≡ length (flat_map names (take count ds))
     pub right : take end (places_in homes) ≡ places_in (homes_from 0 (map names (take count ds)))
 
-  pub noted-none : (ds : List D) (homes : Homes) → names_in homes ≡ flat_map names ds → AreNoted ds 0 0 homes
-  noted-none ds homes names_are = record { names_stay = names_are; end_is = refl; right = refl }
-
   -- the widgets of the first documents are no more than all
   pub front-count : (count : ℕ) (ds : List D) → length (flat_map names (take count ds)) ≤ length (flat_map names ds)
   front-count zero ds = omega arith
@@ -173,14 +171,9 @@ module _ {D : Type 0} (names : D → List (List ℕ)) where
       ≡ length (flat_map names (take count ds)) + length (names (get_or ds count nothing))
   next-count count ds nothing within =
       ap (λ front. length (flat_map names front)) (take_more ds count nothing within)
-      ∙ ap length (flat_map-append (take count ds) (get_or ds count nothing ∷ []))
+      ∙ ap length (flat_map-append names (take count ds) (get_or ds count nothing ∷ []))
       ∙ length-append (flat_map names (take count ds)) (names (get_or ds count nothing) ++ [])
       ∙ ap (λ n. length (flat_map names (take count ds)) + n) (ap length (append-nil (names (get_or ds count nothing))))
-    where
-      flat_map-append : (xs ys : List D) → flat_map names (xs ++ ys) ≡ flat_map names xs ++ flat_map names ys
-      flat_map-append [] ys = refl
-      flat_map-append (x ∷ xs) ys = ap (λ rest. names x ++ rest) (flat_map-append xs ys)
-          ∙ sym (append_assoc (names x) (flat_map names xs) (flat_map names ys))
 
   -- the widgets of the next document end where others do, or at the end
   pub noted-within : (ds : List D) (count end : ℕ) (homes : Homes) (nothing : D) → AreNoted ds count end homes →
@@ -207,7 +200,7 @@ module _ {D : Type 0} (names : D → List (List ℕ)) where
       let front = take start (places_in old) in
       let fits = noted-within ds count start old nothing noted within in
       let long : length (places_in old) ≡ length old = length-map old (λ home. home.1) in
-      let front_long : length front ≡ start = length-take-least start (places_in old) (omega (arith, fits, long)) in
+      let front_long : length front ≡ start = length-take-le start (places_in old) (omega (arith, fits, long)) in
       let some : end - start ≡ c = omega (arith, is) in
       let at_end : end ≡ length front + c = omega (arith, is, front_long) in
       let counted : length (replicate c count) ≡ c = length-replicate c count in
@@ -226,15 +219,12 @@ module _ {D : Type 0} (names : D → List (List ℕ)) where
             ∙ sym (map-append (λ home. home.1) (homes_from 0 (map names (take count ds))) (placed_at count (names d)))
             ∙ ap places_in ((let here : count ≡ 0 + length (take count ds) = omega (
               arith,
-              length-take-least count ds (omega (arith, within)),
+              length-take-le count ds (omega (arith, within)),
             ) in
             ap (λ p. homes_from 0 (map names (take count ds)) ++ placed_at p (names d)) here)
             ∙ sym (homes-added 0 (take count ds) d)
             ∙ ap (λ front. homes_from 0 (map names front)) (sym (take_more ds count nothing within)));
       }
-    where
-      length-take-least : {A : Type 0} (n : ℕ) (xs : List A) → n ≤ length xs → length (take n xs) ≡ n
-      length-take-least n xs le = omega (arith, length-take n xs, le)
 
   pub noted-all : (ds : List D) (count end : ℕ) (homes : Homes) → AreNoted ds count end homes → length ds ≤ count →
       homes ≡ homes_from 0 (map names ds)
@@ -249,27 +239,6 @@ module _ {D : Type 0} (names : D → List (List ℕ)) where
       ∙ ap (λ front. places_in (homes_from 0 (map names front))) whole)
 
 -- ---- widgets that go
-
-pub names-filtered : (keeps : List ℕ → Bool) (homes : Homes) →
-    names_in (filter (λ home. keeps home.0) homes) ≡ filter keeps (names_in homes)
-names-filtered keeps [] = refl
-names-filtered keeps (home ∷ homes) =
-    elim (keeps home.0) as (λ b.
-    names_in (cond b (home ∷ filter (λ h. keeps h.0) homes) (filter (λ h. keeps h.0) homes))
-    ≡ cond b (home.0 ∷ filter keeps (names_in homes)) (filter keeps (names_in homes))) [
-      | false ↦ names-filtered keeps homes
-      | true ↦ ap (λ ns. home.0 ∷ ns) (names-filtered keeps homes)
-    ]
-
-filter-append : {A : Type 0} (keeps : A → Bool) (xs ys : List A) →
-    filter keeps (xs ++ ys) ≡ filter keeps xs ++ filter keeps ys
-filter-append keeps [] ys = refl
-filter-append keeps (x ∷ xs) ys =
-    elim (keeps x) as (λ b. cond b (x ∷ filter keeps (xs ++ ys)) (filter keeps (xs ++ ys))
-    ≡ cond b (x ∷ filter keeps xs) (filter keeps xs) ++ filter keeps ys) [
-      | false ↦ filter-append keeps xs ys
-      | true ↦ ap (λ zs. x ∷ zs) (filter-append keeps xs ys)
-    ]
 
 -- documents that are left, each with the widgets that are kept
 pub names-left : {D : Type 0} (names : D → List (List ℕ)) (thin : D → D) (has : D → Bool) (keeps : List ℕ → Bool)

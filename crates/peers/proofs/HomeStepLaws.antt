@@ -1,14 +1,14 @@
 -- What a change of one document makes of a world.
-use Rattle.peers.proofs.Words.{◌≡◌, ◌≢◌, ℕ, suc, ◌<◌, true, false, cond, List, [], ◌∷◌, length, slice_set, option_map}
-use Rattle.peers.proofs.Words.{Option, Some, None, refl, sym, ap, subst, ◌∙◌, arith, IsDistinct, length-map, LimitTable}
-use Rattle.peers.proofs.Words.{is_among, is_same, Answer, Fault, Memory, Document, Widget, Change, Does, refused}
-use Rattle.peers.proofs.Words.{widget_named, shape_fault, reading, PeerCreate, Shape, ShapeFault, arguments_of, call_of}
-use Rattle.peers.proofs.Words.{command, done, shaped, peer_create, IsWellFormedDocument, window_names, changed}
-use Rattle.peers.proofs.Words.{on_found, IsWellFormed, homes_of, names_in, World, all_windows, document_at, home}
-use Rattle.peers.proofs.Words.{windows_of}
-use Rattle.std.specs.Prelude.{Ok, Err, Result, IfErr, find, map, ◌||◌}
-use Rattle.documents.proofs.FindLaws.{bytes_eq-turned}
-use Rattle.peers.proofs.WorldLaws.{all-at, all-changed, homes-windows, same-homes, set-same, with_all}
+use Rattle.peers.proofs.Common.{◌≡◌, ◌≢◌, ℕ, suc, ◌<◌, true, false, cond, List, [], ◌∷◌, length, slice_set, option_map}
+use Rattle.peers.proofs.Common.{Option, Some, None, refl, sym, ap, subst, ◌∙◌, arith, IsDistinct, length-map}
+use Rattle.peers.proofs.Common.{LimitTable, is_among, is_same, Answer, Fault, Memory, Document, Widget, Change, Does}
+use Rattle.peers.proofs.Common.{refused, widget_named, shape_fault, reading, PeerCreate, Shape, ShapeFault}
+use Rattle.peers.proofs.Common.{arguments_of, call_of, command, done, shaped, peer_create, IsWellFormedDocument}
+use Rattle.peers.proofs.Common.{window_names, changed, on_found, IsWellFormed, homes_of, names_in, World, all_windows}
+use Rattle.peers.proofs.Common.{document_at, home, windows_of, Ok, Err, Result, IfErr, find, map, ◌||◌, bytes_eq-turned}
+use Rattle.peers.proofs.Common.{Homes, get_or, home_in}
+use Rattle.peers.proofs.WorldLaws.{all-at, all-changed, home-found, homes-windows, read-is, same-homes, set-same}
+use Rattle.peers.proofs.WorldLaws.{with_all}
 
 -- ---- where a widget is found
 
@@ -42,6 +42,29 @@ home-is name (document ∷ documents) place found =
         subst (λ at. (at < length (document ∷ documents))
         × (is_among name (window_names (document_at (document ∷ documents) at)) ≡ true)) next
         (omega (arith, rest.0), rest.1)
+
+pub home-stands : (name : List ℕ) (documents : List Document) {homes : Homes} {found : Option ℕ} →
+    homes ≡ homes_of documents → found ≡ home_in name homes → found ≡ home name documents
+home-stands name documents same is = is ∙ ap (home_in name) same ∙ home-found name documents
+
+-- a document that is read at the place of the widget of a name
+pub record IsHome (name : List ℕ) (documents : List Document) (place : ℕ) (document : Document) : Type 0 where
+  pub some : home name documents ≡ Some place
+  pub within : place < length documents
+  pub read : document ≡ document_at documents place
+  pub named : is_among name (window_names document) ≡ true
+
+pub is-home : (name : List ℕ) (documents : List Document) (place : ℕ) (document : Document) →
+    home name documents ≡ Some place → document ≡ get_or documents place document → IsHome name documents place document
+is-home name documents place document some is =
+    let found = home-is name documents place some in
+    let read = read-is documents place document found.0 is in
+    record {
+      some = some;
+      within = found.0;
+      read = read;
+      named = ap (λ (d : Document). is_among name (window_names d)) read ∙ found.1;
+    }
 
 -- a name of a document is that of one of its widgets
 pub some-widget : (name : List ℕ) (document : Document) → is_among name (window_names document) ≡ true →
@@ -93,9 +116,8 @@ bad-command limits windows document widget words fault is = ap (shaped limits wi
 
 -- ---- a command of one document
 
-module _ (limits : LimitTable) (documents : List Document) (place : ℕ) (new : Document) (result : Result Answer Fault)
-    (change : Change)
-    (does : Does limits (document_at documents place) new result change) where
+module _ (documents : List Document) (place : ℕ) {limits : LimitTable} {new : Document} {result : Result Answer Fault}
+    {change : Change} (does : Does limits (document_at documents place) new result change) where
   pub does-world : result ≢ Err Memory → with_all limits (slice_set documents place new)
       ≡ (changed (with_all limits documents) place change).world
   does-world not = ap (λ document. with_all limits (slice_set documents place document)) (does.document not)

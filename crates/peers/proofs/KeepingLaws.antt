@@ -1,18 +1,17 @@
 -- Options of which none says what is kept leave that, and so do the commands that take options.
-use Rattle.peers.proofs.Words.{◌≡◌, ℕ, ◌+◌, Bool, true, false, List, [], ◌∷◌, Ok, Err, refl, sym, ap, ◌∙◌, subst}
-use Rattle.peers.proofs.Words.{true≢false, ◌&&◌, ◌||◌, IfOk, Result, drop, is_ok, nat_le, length, if◌then◌else◌}
-use Rattle.peers.proofs.Words.{LimitTable, boolean_of, integer_of, Empty, Word, Fault, BadBoolean, BadInteger}
-use Rattle.peers.proofs.Words.{BadOption, InvalidCommandName, StartLineAfterEndLine, TooManyWidgets, WindowExists}
-use Rattle.peers.proofs.Words.{Settings, with_value, end_bound, is_behind, line_of_word, setting_read, settings_checked}
-use Rattle.peers.proofs.Words.{settings_read, start_bound, state_of, is_among, is_same, literal, Document, Widget}
-use Rattle.peers.proofs.Words.{characters, is_window_name, AreLines, settings_of, with_settings, Change, answered}
-use Rattle.peers.proofs.Words.{change_with, refused, with_peer, Leads, settings-kept, AreNamed, named-peer, named-same}
-use Rattle.peers.proofs.Words.{leads-peer, leads-settings, own-lines, configure, settings_given, peer_create}
-use Rattle.peers.proofs.Words.{peer_settings, peer_with, sets_keeping}
-use Rattle.std.proofs.Common.{ok_or}
+use Rattle.peers.proofs.Common.{◌≡◌, ℕ, ◌+◌, Bool, true, false, List, [], ◌∷◌, Ok, Err, refl, ap, ◌∙◌, subst}
+use Rattle.peers.proofs.Common.{true≢false, ◌&&◌, ◌||◌, IfOk, Result, drop, is_ok, nat_le, length, if◌then◌else◌}
+use Rattle.peers.proofs.Common.{LimitTable, boolean_of, Empty, Word, Fault, BadBoolean, BadInteger, BadOption}
+use Rattle.peers.proofs.Common.{InvalidCommandName, StartLineAfterEndLine, TooManyWidgets, WindowExists, Settings}
+use Rattle.peers.proofs.Common.{with_value, is_behind, line_of_word, setting_read, settings_checked, settings_read}
+use Rattle.peers.proofs.Common.{state_of, is_among, is_same, literal, Document, Widget, characters, is_window_name}
+use Rattle.peers.proofs.Common.{AreLines, settings_of, with_settings, Change, answered, change_with, refused, with_peer}
+use Rattle.peers.proofs.Common.{Leads, settings-kept, AreNamed, named-peer, named-same, leads-peer, leads-settings}
+use Rattle.peers.proofs.Common.{own-lines, configure, settings_given, peer_create, peer_settings, peer_with}
+use Rattle.peers.proofs.Common.{sets_keeping, ok_or, or_parts}
 use Rattle.text_model.specs.Lines.{lines}
 use Rattle.undo_stack.specs.History.{limit_of}
-use Rattle.peers.proofs.OptionLaws.{given-lines}
+use Rattle.peers.proofs.OptionLaws.{given-lines, if-ok, through}
 
 -- ---- options
 
@@ -23,79 +22,26 @@ record Keeps (old new : Settings) : Type 0 where
 keeps-all : (settings : Settings) → Keeps settings settings
 keeps-all settings = record { undo = refl; most = refl }
 
-through : {A : Type 0} (old : Settings) (found : Result A Fault) (next : A → Settings) →
-    ((value : A) → Keeps old (next value))
-    → IfOk (with_value found (λ value. Ok (next value))) (Keeps old)
-through old (Ok value) next keeps = keeps value
-through old (Err fault) next keeps = tt
+if-not : (P : Settings → Type 0) (test : Bool) (one other : Result Settings Fault) → test ≡ false → IfOk other P →
+    IfOk (if test then one else other) P
+if-not P true one other not second = absurd (true≢false not)
+if-not P false one other not second = second
 
 -- an option other than the first two
-abbrev third : ℕ → ℕ → List ℕ → List ℕ → Settings → Result Settings Fault
-third lines position option value settings =
-    if is_same option (literal "-autoseparators") then with_value (ok_or (boolean_of value) (BadBoolean position))
-    (λ separators. Ok (record settings { document = record settings.document { separators = separators } }))
-    else (if is_same option (literal "-state") then with_value (ok_or (state_of value) (BadOption position))
-    (λ disabled. Ok (record settings { disabled = disabled }))
-    else (if is_same option (literal "-startline") then with_value (ok_or (line_of_word value) (BadInteger position))
-    (λ line. Ok (record settings { start = start_bound lines line }))
-    else with_value (ok_or (line_of_word value) (BadInteger position)) (λ line.
-    Ok (record settings { end = end_bound lines line }))))
-
-if-keeps : (old : Settings) (test : Bool) (one other : Result Settings Fault) → IfOk one (Keeps old) →
-    IfOk other (Keeps old)
-    → IfOk (if test then one else other) (Keeps old)
-if-keeps old true one other first second = first
-if-keeps old false one other first second = second
-
-third-keeps : (lines position : ℕ) (option value : List ℕ) (settings : Settings) →
-    IfOk (third lines position option value settings) (Keeps settings)
-third-keeps lines position option value settings =
-    let separators = with_value (ok_or (boolean_of value) (BadBoolean position))
-    (λ separators. Ok (record settings { document = record settings.document { separators = separators } })) in
-    let state = with_value (ok_or (state_of value) (BadOption position)) (λ disabled.
-    Ok (record settings { disabled = disabled })) in
-    let start = with_value (ok_or (line_of_word value) (BadInteger position)) (λ line.
-    Ok (record settings { start = start_bound lines line })) in
-    let end = with_value (ok_or (line_of_word value) (BadInteger position)) (λ line.
-    Ok (record settings { end = end_bound lines line })) in
-    if-keeps settings (is_same option (literal "-autoseparators")) separators
-    (if is_same option (literal "-state") then state
-    else (if is_same option (literal "-startline") then start else end))
-    (through settings (ok_or (boolean_of value) (BadBoolean position))
-    (λ separators. record settings { document = record settings.document { separators = separators } }) (λ _.
-    record { undo = refl; most = refl }))
-    (if-keeps settings (is_same option (literal "-state")) state (if is_same option (literal "-startline") then start
-    else end)
-    (through settings (ok_or (state_of value) (BadOption position)) (λ disabled. record settings { disabled = disabled })
-    (λ _. record { undo = refl; most = refl }))
-    (if-keeps settings (is_same option (literal "-startline")) start end
-    (through settings (ok_or (line_of_word value) (BadInteger position)) (λ line.
-    record settings { start = start_bound lines line })
-    (λ _. record { undo = refl; most = refl }))
-    (through settings (ok_or (line_of_word value) (BadInteger position)) (λ line.
-    record settings { end = end_bound lines line })
-    (λ _. record { undo = refl; most = refl }))))
-
 one-keeps : (lines position : ℕ) (option value : List ℕ) (settings : Settings) → is_same option (literal "-undo") ≡ false
     → is_same option (literal "-maxundo") ≡ false
     → IfOk (setting_read lines position option value settings) (Keeps settings)
 one-keeps lines position option value settings no_undo no_most =
-    let undo : Result Settings Fault =
-    with_value (ok_or (boolean_of value) (BadBoolean position)) (λ undo.
-    Ok (record settings { document = record settings.document { undo = undo } })) in
-    let most : Result Settings Fault =
-    with_value (ok_or (integer_of value) (BadInteger position)) (λ most.
-    Ok (record settings { document = record settings.document { most_undo = most } })) in
-    let rest : Result Settings Fault = third lines position option value settings in
-    let is : setting_read lines position option value settings ≡ rest =
-    ap (λ b. if b then undo else (if is_same option (literal "-maxundo") then most else rest)) no_undo
-    ∙ ap (λ b. if b then most else rest) no_most in
-    subst (λ r. IfOk r (Keeps settings)) (sym is) (third-keeps lines position option value settings)
-
-neither : (a b c : Bool) → (a || b || c) ≡ false → (a ≡ false) × (b ≡ false) × (c ≡ false)
-neither true b c is = absurd (true≢false is)
-neither false true c is = absurd (true≢false is)
-neither false false c is = (refl, refl, is)
+    let P : Settings → Type 0 = Keeps settings in
+    if-not P (is_same option (literal "-undo")) _ _ no_undo
+    (if-not P (is_same option (literal "-maxundo")) _ _ no_most
+    (if-ok P (is_same option (literal "-autoseparators")) _ _
+    (through (ok_or (boolean_of value) (BadBoolean position)) _ P (λ _ _. record { undo = refl; most = refl }))
+    (if-ok P (is_same option (literal "-state")) _ _
+    (through (ok_or (state_of value) (BadOption position)) _ P (λ _ _. record { undo = refl; most = refl }))
+    (if-ok P (is_same option (literal "-startline")) _ _
+    (through (ok_or (line_of_word value) (BadInteger position)) _ P (λ _ _. record { undo = refl; most = refl }))
+    (through (ok_or (line_of_word value) (BadInteger position)) _ P (λ _ _. record { undo = refl; most = refl }))))))
 
 onward : (old : Settings) (found : Result Settings Fault) (next : Settings → Result Settings Fault) →
     IfOk found (Keeps old)
@@ -112,11 +58,12 @@ all-keep : (lines position : ℕ) (words : List (List ℕ)) (settings : Settings
 all-keep lines position [] settings none = keeps-all settings
 all-keep lines position (option ∷ []) settings none = tt
 all-keep lines position (option ∷ value ∷ words) settings none =
-    let parts = neither (is_same option (literal "-undo")) (is_same option (literal "-maxundo")) (sets_keeping words)
+    let parts = or_parts (is_same option (literal "-undo") || is_same option (literal "-maxundo")) (sets_keeping words)
     none in
+    let first = or_parts (is_same option (literal "-undo")) (is_same option (literal "-maxundo")) parts.0 in
     onward settings (setting_read lines (position + 1) option value settings) (settings_read lines (position + 2) words)
-    (one-keeps lines (position + 1) option value settings parts.0 parts.1)
-    (λ next. all-keep lines (position + 2) words next parts.2)
+    (one-keeps lines (position + 1) option value settings first.0 first.1)
+    (λ next. all-keep lines (position + 2) words next parts.1)
 
 -- what is given of options: lines of the text, the start not behind the end, and what is kept
 record AreGiven (document : Document) (words : List (List ℕ)) (old new : Settings) : Type 0 where

@@ -1,4 +1,5 @@
 pub mod ArgumentLaws
+pub mod Common
 pub mod DoneLaws
 pub mod FollowLaws
 pub mod FrontLaws
@@ -19,5 +20,4 @@ pub mod ToldStepLaws
 pub mod UndoBackLaws
 pub mod UndoStepLaws
 pub mod WindowLaws
-pub mod Words
 pub mod WorldLaws

@@ -1,6 +1,6 @@
 -- What a command makes of a world, where it is refused.
-use Rattle.peers.proofs.Words.{◌≡◌, ℕ, refl, sym, ap, subst, Err, Result, Answer, Fault, Memory, refused, Makes}
-use Rattle.peers.proofs.Words.{Outcome, changed, refuses, IsWellFormed, World, document_at}
+use Rattle.peers.proofs.Common.{◌≡◌, ℕ, refl, sym, ap, subst, Err, Result, Answer, Fault, Memory, refused, Makes}
+use Rattle.peers.proofs.Common.{Outcome, changed, refuses, IsWellFormed, World, document_at}
 use Rattle.peers.proofs.WorldLaws.{changed-refused}
 
 -- a command is refused with the fault that its definition has

@@ -1,12 +1,11 @@
 -- What is told of the marks that a command moves.
-use Rattle.peers.proofs.Words.{◌≡◌, ◌≢◌, ℕ, ◌<◌, true, false, List, [], ◌∷◌, Option, Some, None, Ok, arith, get_or}
-use Rattle.peers.proofs.Words.{length, refl, sym, ap, subst, true≢false, texts_of, LimitTable, reading, Command, Delete}
-use Rattle.peers.proofs.Words.{EditRedo, EditUndo, Insert, MarkSet, MarkUnset, Replace, Shape, Answer, Fault, Document}
-use Rattle.peers.proofs.Words.{Widget, ForetellsMarks, MarksTold, Change, change_with, widget_named, arguments_of}
-use Rattle.peers.proofs.Words.{call_of, done, shaped, switches_of, MarksTellAt, MarksTellOf, edits_reading, edits_text}
-use Rattle.peers.proofs.Words.{Makes, changed, on_found, on_home, on_widget, step, IsWellFormed, World, all_windows}
-use Rattle.peers.proofs.Words.{document_at, home}
-use Rattle.std.specs.Prelude.{Bool, Err, IfOk, Result, String, is_ok, string_bytes}
+use Rattle.peers.proofs.Common.{◌≡◌, ◌≢◌, ℕ, ◌<◌, true, false, List, [], ◌∷◌, Option, Some, None, Ok, arith, get_or}
+use Rattle.peers.proofs.Common.{length, refl, sym, ap, subst, true≢false, texts_of, LimitTable, reading, Command}
+use Rattle.peers.proofs.Common.{Delete, EditRedo, EditUndo, Insert, MarkSet, MarkUnset, Replace, Shape, Answer}
+use Rattle.peers.proofs.Common.{Document, Widget, ForetellsMarks, MarksTold, widget_named, arguments_of, call_of, done}
+use Rattle.peers.proofs.Common.{shaped, switches_of, MarksTellAt, MarksTellOf, edits_reading, edits_text, Makes}
+use Rattle.peers.proofs.Common.{changed, on_found, on_home, on_widget, step, IsWellFormed, World, all_windows}
+use Rattle.peers.proofs.Common.{document_at, home, Bool, Err, IfOk, Result, String, is_ok, string_bytes}
 use Rattle.std.specs.Bool.{MatchBool}
 use Rattle.std.specs.Str.{chars}
 use Rattle.documents.proofs.StillMarksLaws.{HasMarksOf, marks-configured, marks-peered, marks-quiet, marks-tagged}
@@ -52,12 +51,6 @@ marks-done limits windows document widget window found command switches position
     command switches position arguments)
 
 -- ---- a command, of all its words
-
--- what holds of a change, where the value that it follows is there
-pub holds-found : {A : Type 0} (P : Change → Type 0) (defined : Result A Fault) (value : A) (document : Document)
-    (next : A → Change) → defined ≡ Ok value → P (next value) → P (change_with document defined next)
-holds-found P defined value document next is holds =
-    subst (λ found. P (change_with document found next)) (sym is) holds
 
 module _ (limits : LimitTable) (windows : List (List ℕ)) (document : Document) (widget : Widget)
     (words : List (List ℕ)) (shape : Shape) (read : reading words ≡ Ok shape) where

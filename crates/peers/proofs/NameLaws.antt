@@ -1,9 +1,9 @@
 -- The names of widgets, by their bytes.
-use Rattle.peers.proofs.Words.{◌≡◌, ℕ, ◌<◌, ◌≤◌, Bool, true, false, List, [], ◌∷◌, ◌++◌, length, get_or, refl, sym, ap}
-use Rattle.peers.proofs.Words.{◌∙◌, arith, map, true≢false, chars, encode_utf8, ◌==◌, ◌||◌, AllByRecursion, false≢true}
-use Rattle.peers.proofs.Words.{Decides-eqb, chars-nil, chars_past_char, encodes-chars, encode_ascii, IsUtf8-past_char}
-use Rattle.peers.proofs.Words.{bytes_eq-Decides, is_among, is_same, Document, Widget, is_window_name, IsPlaced}
-use Rattle.std.proofs.Common.{IsUtf8, encode_utf8_all}
+use Rattle.peers.proofs.Common.{◌≡◌, ℕ, ◌<◌, ◌≤◌, Bool, true, false, List, [], ◌∷◌, ◌++◌, length, get_or, refl, sym, ap}
+use Rattle.peers.proofs.Common.{◌∙◌, arith, map, true≢false, chars, encode_utf8, ◌==◌, ◌||◌, AllByRecursion, false≢true}
+use Rattle.peers.proofs.Common.{Decides-eqb, chars-nil, chars_past_char, encodes-chars, encode_ascii, IsUtf8-past_char}
+use Rattle.peers.proofs.Common.{bytes_eq-Decides, is_among, is_same, Document, Widget, is_window_name, IsPlaced, IsUtf8}
+use Rattle.peers.proofs.Common.{encode_utf8_all}
 
 -- a character, and more
 abbrev begins : Bool → List ℕ → Bool

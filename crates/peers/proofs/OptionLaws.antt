@@ -1,10 +1,10 @@
 -- The lines of a view, as options give them.
-use Rattle.peers.proofs.Words.{◌≡◌, ℕ, ◌+◌, ◌<◌, ◌≤◌, true, false, List, [], ◌∷◌, refl, subst, arith, ℤ, pos, negsuc}
-use Rattle.peers.proofs.Words.{ok_or, option_and_then, IfSome, nat_tests, boolean_of, integer_of, Fault, BadBoolean}
-use Rattle.peers.proofs.Words.{BadInteger, BadOption, StartLineAfterEndLine, Settings, with_value, end_bound, is_behind}
-use Rattle.peers.proofs.Words.{line_numbered, line_of_word, setting_read, settings_checked, settings_read, start_bound}
-use Rattle.peers.proofs.Words.{state_of, is_same, literal, AreLines, IsLine}
-use Rattle.std.specs.Prelude.{option_map, nat_lt, nat_le, IfOk, Option, None, Some, Result, Ok, Err, if◌then◌else◌}
+use Rattle.peers.proofs.Common.{◌≡◌, ℕ, ◌+◌, ◌<◌, ◌≤◌, true, false, List, [], ◌∷◌, refl, subst, arith, ℤ, pos, negsuc}
+use Rattle.peers.proofs.Common.{ok_or, option_and_then, IfSome, nat_tests, boolean_of, integer_of, Fault, BadBoolean}
+use Rattle.peers.proofs.Common.{BadInteger, BadOption, StartLineAfterEndLine, Settings, with_value, end_bound}
+use Rattle.peers.proofs.Common.{is_behind, line_numbered, line_of_word, setting_read, settings_checked, settings_read}
+use Rattle.peers.proofs.Common.{start_bound, state_of, is_same, literal, AreLines, IsLine, option_map, nat_lt, nat_le}
+use Rattle.peers.proofs.Common.{Bool, IfOk, Option, None, Some, Result, Ok, Err, if◌then◌else◌}
 
 -- ---- values that are found
 
@@ -13,10 +13,15 @@ value-found : {A : Type 0} (found : Result A Fault) (P : A → Type 0) (value : 
 value-found (Ok other) P value holds is = (let same : other ≡ value = cc in subst P same holds)
 value-found (Err fault) P value holds is = absurd (cc)
 
-through : {A : Type 0} (found : Result A Fault) (next : A → Result Settings Fault) (P : Settings → Type 0) →
+pub through : {A : Type 0} (found : Result A Fault) (next : A → Result Settings Fault) (P : Settings → Type 0) →
     ((value : A) → found ≡ Ok value → IfOk (next value) P) → IfOk (with_value found next) P
 through (Ok value) next P holds = holds value refl
 through (Err fault) next P holds = tt
+
+pub if-ok : (P : Settings → Type 0) (test : Bool) (one other : Result Settings Fault) → IfOk one P → IfOk other P →
+    IfOk (if test then one else other) P
+if-ok P true one other first second = first
+if-ok P false one other first second = second
 
 -- ---- lines
 
@@ -72,87 +77,23 @@ one-lines : (lines position : ℕ) (option value : List ℕ) (settings : Setting
     IfOk (setting_read lines position option value settings) (AreLines lines)
 one-lines lines position option value settings are =
     let P : Settings → Type 0 = AreLines lines in
-    elim (is_same option (literal "-undo")) as (λ b.
-    IfOk (if b then with_value (ok_or (boolean_of value) (BadBoolean position)) (λ undo.
-    Ok (record settings { document = record settings.document { undo = undo } }))
-    else (if is_same option (literal "-maxundo")
-    then with_value (ok_or (integer_of value) (BadInteger position)) (λ most.
-    Ok (record settings { document = record settings.document { most_undo = most } }))
-    else (if is_same option (literal "-autoseparators")
-    then with_value (ok_or (boolean_of value) (BadBoolean position)) (λ separators.
-    Ok (record settings { document = record settings.document { separators = separators } }))
-    else (if is_same option (literal "-state")
-    then with_value (ok_or (state_of value) (BadOption position)) (λ disabled.
-    Ok (record settings { disabled = disabled }))
-    else (if is_same option (literal "-startline")
-    then with_value (ok_or (line_of_word value) (BadInteger position)) (λ line.
-    Ok (record settings { start = start_bound lines line }))
-    else with_value (ok_or (line_of_word value) (BadInteger position)) (λ line.
-    Ok (record settings { end = end_bound lines line }))))))) P) [
-      | true ↦ through (ok_or (boolean_of value) (BadBoolean position)) _ P (λ _ _.
-          record { start = are.start; end = are.end })
-      | false ↦ elim (is_same option (literal "-maxundo")) as (λ b.
-          IfOk (if b then with_value (ok_or (integer_of value) (BadInteger position)) (λ most.
-          Ok (record settings { document = record settings.document { most_undo = most } }))
-          else (if is_same option (literal "-autoseparators")
-          then with_value (ok_or (boolean_of value) (BadBoolean position)) (λ separators.
-          Ok (record settings { document = record settings.document { separators = separators } }))
-          else (if is_same option (literal "-state")
-          then with_value (ok_or (state_of value) (BadOption position)) (λ disabled.
-          Ok (record settings { disabled = disabled }))
-          else (if is_same option (literal "-startline")
-          then with_value (ok_or (line_of_word value) (BadInteger position)) (λ line.
-          Ok (record settings { start = start_bound lines line }))
-          else with_value (ok_or (line_of_word value) (BadInteger position)) (λ line.
-          Ok (record settings { end = end_bound lines line })))))) P) [
-            | true ↦ through (ok_or (integer_of value) (BadInteger position)) _ P (λ _ _.
-                record { start = are.start; end = are.end })
-            | false ↦ elim (is_same option (literal "-autoseparators")) as (λ b.
-                IfOk (if b then with_value (ok_or (boolean_of value) (BadBoolean position)) (λ separators.
-                Ok (record settings { document = record settings.document { separators = separators } }))
-                else (if is_same option (literal "-state")
-                then with_value (ok_or (state_of value) (BadOption position)) (λ disabled.
-                Ok (record settings { disabled = disabled }))
-                else (if is_same option (literal "-startline")
-                then with_value (ok_or (line_of_word value) (BadInteger position)) (λ line.
-                Ok (record settings { start = start_bound lines line }))
-                else with_value (ok_or (line_of_word value) (BadInteger position)) (λ line.
-                Ok (record settings { end = end_bound lines line }))))) P) [
-                  | true ↦ through (ok_or (boolean_of value) (BadBoolean position)) _ P (λ _ _.
-                      record { start = are.start; end = are.end })
-                  | false ↦ elim (is_same option (literal "-state")) as (λ b.
-                      IfOk (if b then with_value (ok_or (state_of value) (BadOption position)) (λ disabled.
-                      Ok (record settings { disabled = disabled }))
-                      else (if is_same option (literal "-startline")
-                      then with_value (ok_or (line_of_word value) (BadInteger position)) (λ line.
-                      Ok (record settings { start = start_bound lines line }))
-                      else with_value (ok_or (line_of_word value) (BadInteger position)) (λ line.
-                      Ok (record settings { end = end_bound lines line })))) P) [
-                        | true ↦ through (ok_or (state_of value) (BadOption position)) _ P (λ _ _.
-                            record { start = are.start; end = are.end })
-                        | false ↦ elim (is_same option (literal "-startline")) as (λ b.
-                            IfOk (if b then with_value (ok_or (line_of_word value) (BadInteger position)) (λ line.
-                            Ok (record settings { start = start_bound lines line }))
-                            else with_value (ok_or (line_of_word value) (BadInteger position)) (λ line.
-                            Ok (record settings { end = end_bound lines line }))) P) [
-                              | true ↦ through (ok_or (line_of_word value) (BadInteger position)) _ P
-                                  (λ line is.
-                                  record {
-                                    start = starts lines line
-                                        (at-word (line_of_word value) (BadInteger position) line (of-word value) is);
-                                    end = are.end;
-                                  })
-                              | false ↦ through (ok_or (line_of_word value) (BadInteger position)) _ P
-                                  (λ line is. record {
-                                    start = are.start;
-                                    end = ends lines line
-                                        (at-word (line_of_word value) (BadInteger position) line (of-word value) is);
-                                  })
-                            ]
-                      ]
-                ]
-          ]
-    ]
+    if-ok P (is_same option (literal "-undo")) _ _
+    (through (ok_or (boolean_of value) (BadBoolean position)) _ P (λ _ _. record { start = are.start; end = are.end }))
+    (if-ok P (is_same option (literal "-maxundo")) _ _
+    (through (ok_or (integer_of value) (BadInteger position)) _ P (λ _ _. record { start = are.start; end = are.end }))
+    (if-ok P (is_same option (literal "-autoseparators")) _ _
+    (through (ok_or (boolean_of value) (BadBoolean position)) _ P (λ _ _. record { start = are.start; end = are.end }))
+    (if-ok P (is_same option (literal "-state")) _ _
+    (through (ok_or (state_of value) (BadOption position)) _ P (λ _ _. record { start = are.start; end = are.end }))
+    (if-ok P (is_same option (literal "-startline")) _ _
+    (through (ok_or (line_of_word value) (BadInteger position)) _ P (λ line is. record {
+      start = starts lines line (at-word (line_of_word value) (BadInteger position) line (of-word value) is);
+      end = are.end;
+    }))
+    (through (ok_or (line_of_word value) (BadInteger position)) _ P (λ line is. record {
+      start = are.start;
+      end = ends lines line (at-word (line_of_word value) (BadInteger position) line (of-word value) is);
+    }))))))
 
 -- all of them
 read-lines : (lines position : ℕ) (words : List (List ℕ)) (settings : Settings) → AreLines lines settings →

@@ -1,8 +1,7 @@
 -- The places of indices, one after the other.
-use Rattle.peers.proofs.Words.{◌≡◌, ℕ, zero, suc, ◌+◌, ◌<◌, List, [], ◌∷◌, ◌++◌, length, drop, get_or, refl, sym, ap}
-use Rattle.peers.proofs.Words.{◌∙◌, arith, Result, Ok, Err, String, chars, string_bytes, texts_of, Fault, with_value}
-use Rattle.peers.proofs.Words.{place_at, and_place, places_at, Document, Widget}
-use Rattle.std.proofs.lemmas.List.{append_assoc}
+use Rattle.peers.proofs.Common.{◌≡◌, ℕ, zero, suc, ◌+◌, ◌<◌, List, [], ◌∷◌, ◌++◌, length, drop, get_or, refl, sym, ap}
+use Rattle.peers.proofs.Common.{◌∙◌, arith, Result, Ok, Err, String, chars, string_bytes, texts_of, Fault, with_value}
+use Rattle.peers.proofs.Common.{place_at, and_place, places_at, Document, Widget, append_assoc}
 
 drop-at : {A : Type 0} (xs : List A) (at : ℕ) (x : A) → at < length xs → x ≡ get_or xs at x →
     drop at xs ≡ x ∷ drop (at + 1) xs

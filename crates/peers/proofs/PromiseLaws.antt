@@ -1,6 +1,6 @@
 -- How a promise goes through a command, word by word.
-use Rattle.peers.proofs.Words.{◌≡◌, ◌≢◌, refl, sym, ap, ◌∙◌, Result, Ok, Err, IfErr, LimitTable, Answer, Fault, Memory}
-use Rattle.peers.proofs.Words.{Document, with_value, Change, Gives, Does, change_with}
+use Rattle.peers.proofs.Common.{◌≡◌, ◌≢◌, refl, sym, ap, ◌∙◌, Result, Ok, Err, IfErr, LimitTable, Answer, Fault, Memory}
+use Rattle.peers.proofs.Common.{Document, with_value, Change, Gives, Does, change_with}
 
 -- what is refused for memory is refused for memory
 abbrev pub refusal : (A : Type 0) → Fault → Result A Fault
@@ -47,39 +47,42 @@ gives-three (Ok value) defined (Ok between) also known result next first second 
     (gives-through also known result (next value between) second gives)
 
 -- the same of a command that changes a document
-pub does-same : (limits : LimitTable) (old new : Document) (result : Result Answer Fault) (one other : Change) →
-    (result ≢ Err Memory → one ≡ other) → Does limits old new result one → Does limits old new result other
-does-same limits old new result one other same does = record {
-  reply = λ not. does.reply not ∙ ap (λ (c : Change). c.reply) (same not);
-  document = λ not. does.document not ∙ ap (λ (c : Change). c.document) (same not);
-  refused = does.refused;
-  well_formed = does.well_formed;
-  windows = does.windows;
-}
+module _ {limits : LimitTable} {old new : Document} {result : Result Answer Fault} where
+  pub does-same : (one other : Change) → (result ≢ Err Memory → one ≡ other) → Does limits old new result one →
+      Does limits old new result other
+  does-same one other same does = record {
+    reply = λ not. does.reply not ∙ ap (λ (c : Change). c.reply) (same not);
+    document = λ not. does.document not ∙ ap (λ (c : Change). c.document) (same not);
+    refused = does.refused;
+    well_formed = does.well_formed;
+    windows = does.windows;
+  }
 
-pub does-through : {A : Type 0} (limits : LimitTable) (old new : Document) (result : Result Answer Fault)
-    (found defined : Result A Fault) (next : A → Change) → Gives found defined
-    → Does limits old new result (change_with old found next) →
-    Does limits old new result (change_with old defined next)
-does-through limits old new result (Err fault) defined next found does =
-    does-same limits old new result _ _ (λ other.
-    ap (λ f. change_with old f next) (found (λ memory. other (does.reply other ∙ refused-same _ _ fault memory))))
-    does
-does-through limits old new result (Ok value) defined next found does =
-    does-same limits old new result _ _ (λ other.
-    ap (λ f. change_with old f next) (found (value≢memory (Ok value) value refl))) does
+  pub does-through : {A : Type 0} (found defined : Result A Fault) (next : A → Change) → Gives found defined
+      → Does limits old new result (change_with old found next) →
+      Does limits old new result (change_with old defined next)
+  does-through (Err fault) defined next found does = does-same _ _ (λ other.
+      ap (λ f. change_with old f next) (found (λ memory. other (does.reply other ∙ refused-same _ _ fault memory))))
+      does
+  does-through (Ok value) defined next found does = does-same _ _ (λ other.
+      ap (λ f. change_with old f next) (found (value≢memory (Ok value) value refl))) does
 
--- the same with two words, one after the other
-pub does-both : {A B : Type 0} (limits : LimitTable) (old new : Document) (result : Result Answer Fault)
-    (found defined : Result A Fault) (also known : Result B Fault) (next : A → B → Change)
-    → Gives found defined → Gives also known →
-    Does limits old new result (change_with old found (λ a. change_with old also (next a)))
-    → Does limits old new result (change_with old defined (λ a. change_with old known (next a)))
-does-both limits old new result (Err fault) defined also known next first second does =
-    does-through limits old new result (Err fault) defined (λ a. change_with old known (next a)) first does
-does-both limits old new result (Ok value) defined also known next first second does =
-    does-through limits old new result (Ok value) defined (λ a. change_with old known (next a)) first
-    (does-through limits old new result also known (next value) second does)
+  -- the same with two words, one after the other
+  pub does-both : {A B : Type 0} (found defined : Result A Fault) (also known : Result B Fault) (next : A → B → Change)
+      → Gives found defined → Gives also known →
+      Does limits old new result (change_with old found (λ a. change_with old also (next a)))
+      → Does limits old new result (change_with old defined (λ a. change_with old known (next a)))
+  does-both (Err fault) defined also known next first second does =
+      does-through (Err fault) defined (λ a. change_with old known (next a)) first does
+  does-both (Ok value) defined also known next first second does =
+      does-through (Ok value) defined (λ a. change_with old known (next a)) first
+      (does-through also known (next value) second does)
+
+  pub does-found : {A : Type 0} (defined : Result A Fault) (value : A) (next : A → Change) → defined ≡ Ok value
+      → Does limits old new result (next value) → Does limits old new result (change_with old defined next)
+  does-found defined value next is does =
+      does-same (next value) (change_with old defined next) (λ _. ap (λ found. change_with old found next) (sym is))
+      does
 
 -- a command that only reads leaves the document
 pub does-nothing : (limits : LimitTable) (document : Document) (result defined : Result Answer Fault) →
@@ -87,14 +90,6 @@ pub does-nothing : (limits : LimitTable) (document : Document) (result defined :
     → Does limits document document result (record { reply = defined; document = document })
 does-nothing limits document result defined gives same =
     record { reply = gives; document = λ _. refl; refused = same; well_formed = λ is. is; windows = refl }
-
-pub does-found : {A : Type 0} (limits : LimitTable) (old new : Document) (result : Result Answer Fault)
-    (defined : Result A Fault) (value : A) (next : A → Change)
-    → defined ≡ Ok value → Does limits old new result (next value) →
-    Does limits old new result (change_with old defined next)
-does-found limits old new result defined value next is does =
-    does-same limits old new result (next value) (change_with old defined next) (λ _.
-    ap (λ found. change_with old found next) (sym is)) does
 
 pub does-refused : {A : Type 0} (limits : LimitTable) (old : Document) (defined : Result A Fault) (fault : Fault)
     (next : A → Change)

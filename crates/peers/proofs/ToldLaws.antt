@@ -1,9 +1,9 @@
 -- What is told of a command of a widget, by its words; and one that is no edit of the text or of tags leaves the
 -- characters with their tags.
-use Rattle.peers.proofs.Words.{◌≡◌, ◌≢◌, ℕ, List, Ok, Err, refl, sym, subst, IfOk, Result, LimitTable, reading, Command}
-use Rattle.peers.proofs.Words.{Delete, EditRedo, EditUndo, Insert, Replace, TagAdd, TagDelete, TagRemove, Shape, Fault}
-use Rattle.peers.proofs.Words.{Document, Widget, Change, change_with, Foretells, EditTold, arguments_of, call_of, done}
-use Rattle.peers.proofs.Words.{shaped, switches_of, no_edit}
+use Rattle.peers.proofs.Common.{◌≡◌, ◌≢◌, ℕ, List, Ok, refl, sym, subst, Result, LimitTable, reading, Command, Delete}
+use Rattle.peers.proofs.Common.{EditRedo, EditUndo, Insert, Replace, TagAdd, TagDelete, TagRemove, Shape, Fault}
+use Rattle.peers.proofs.Common.{Document, Widget, Change, change_with, Foretells, EditTold, arguments_of, call_of, done}
+use Rattle.peers.proofs.Common.{shaped, switches_of, no_edit}
 use Rattle.documents.proofs.StillCellLaws.{HasCellsOf, cells-marked, cells-quiet}
 use Rattle.documents.proofs.ToldLaws.{told-nothing}
 use Rattle.peers.specs.Commands.{command as command_of}
@@ -42,18 +42,11 @@ no-tags command add remove delete edit = edit
 
 -- ---- what is told
 
--- what a call ensures of what it tells
-pub told-through : {A E : Type 0} (P Q : A → Type 0) (result : Result A E) → ((told : A) → P told → Q told) →
-    IfOk result P → IfOk result Q
-told-through P Q (Ok told) goes is = goes told is
-told-through P Q (Err fault) goes is = tt
-
--- a word whose value is there
-pub foretells-found : {A : Type 0} (defined : Result A Fault) (value : A) (document : Document) (next : A → Change)
-    (told : EditTold) → defined ≡ Ok value → Foretells document (next value) told
-    → Foretells document (change_with document defined next) told
-foretells-found defined value document next told is foretold =
-    subst (λ found. Foretells document (change_with document found next) told) (sym is) foretold
+-- what holds of a change, where the value that it follows is there
+pub holds-found : {A : Type 0} (P : Change → Type 0) (defined : Result A Fault) (value : A) (document : Document)
+    (next : A → Change) → defined ≡ Ok value → P (next value) → P (change_with document defined next)
+holds-found P defined value document next is holds =
+    subst (λ found. P (change_with document found next)) (sym is) holds
 
 -- ---- a command, of all its words
 

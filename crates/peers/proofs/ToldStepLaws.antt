@@ -1,11 +1,11 @@
 -- What is told of a command of a world.
-use Rattle.peers.proofs.Words.{◌≡◌, ℕ, ◌<◌, true, false, List, [], ◌∷◌, Option, Some, None, Ok, refl, sym, ap, ◌∙◌}
-use Rattle.peers.proofs.Words.{arith, get_or, length, subst, true≢false, String, is_ok, string_bytes, if◌then◌else◌}
-use Rattle.peers.proofs.Words.{bytes_eq-Decides, texts_of, reading, Answer, is_same, literal, Document, Widget}
-use Rattle.peers.proofs.Words.{is_window_name, Change, Foretells, TellsCells, IsWellFormedDocument, widget_named}
-use Rattle.peers.proofs.Words.{EditTold, command, Makes, changed, create_shaped, destroy_shaped, on_found, on_home}
-use Rattle.peers.proofs.Words.{on_widget, step, TellsAt, TellsOf, cells_at, no_edit, IsWellFormed, World, all_windows}
-use Rattle.peers.proofs.Words.{document_at, home}
+use Rattle.peers.proofs.Common.{◌≡◌, ℕ, ◌<◌, true, false, List, [], ◌∷◌, Option, Some, None, Ok, refl, sym, ap, ◌∙◌}
+use Rattle.peers.proofs.Common.{arith, get_or, length, subst, true≢false, String, is_ok, string_bytes, if◌then◌else◌}
+use Rattle.peers.proofs.Common.{bytes_eq-Decides, texts_of, reading, Answer, is_same, literal, Document, Widget}
+use Rattle.peers.proofs.Common.{is_window_name, Change, Foretells, TellsCells, IsWellFormedDocument, widget_named}
+use Rattle.peers.proofs.Common.{EditTold, command, Makes, changed, create_shaped, destroy_shaped, on_found, on_home}
+use Rattle.peers.proofs.Common.{on_widget, step, TellsAt, TellsOf, cells_at, no_edit, IsWellFormed, World, all_windows}
+use Rattle.peers.proofs.Common.{document_at, home}
 use Rattle.std.specs.Str.{chars}
 use Rattle.peers.proofs.FrontLaws.{set-at}
 use Rattle.peers.proofs.HomeStepLaws.{home-is}

@@ -1,28 +1,18 @@
 -- What is seen of a map of names: each with the place of its document.
-use Rattle.peers.proofs.Words.{◌≡◌, ℕ, zero, suc, ◌+◌, ◌-◌, ◌<◌, ◌≤◌, true, false, cond, Bool, None, Some, List, []}
-use Rattle.peers.proofs.Words.{◌∷◌, ◌++◌, length, map, take, drop, get_or, slice_get, slice_set, replicate, filter}
-use Rattle.peers.proofs.Words.{refl, sym, ap, ap₂, ◌∙◌, arith, true≢false, append_assoc, append-nil, bytes_eq, IsUtf8}
-use Rattle.peers.proofs.Words.{encode_utf8_all, position, remove, AllByRecursion, keys_of, lookup, values_of}
-use Rattle.peers.proofs.Words.{same_from_decides, length-map, map-append, take-map, drop-map, length-append}
-use Rattle.peers.proofs.Words.{length-take, take_all, drop_all, drop_more, length-replicate, none-some}
-use Rattle.peers.proofs.Words.{bytes_eq-Decides, encodes-chars, IsUtf8-string_bytes, option_map_or, is_same, Homes}
-use Rattle.peers.proofs.Words.{home_in, home_kept, names_in, places_in}
-use Rattle.std.specs.Prelude.{chars, string_bytes, String, insert}
+use Rattle.peers.proofs.Common.{◌≡◌, ℕ, zero, suc, ◌+◌, ◌-◌, ◌<◌, ◌≤◌, true, false, cond, Bool, None, Some, List, []}
+use Rattle.peers.proofs.Common.{◌∷◌, ◌++◌, length, map, take, drop, get_or, slice_get, slice_set, replicate, filter}
+use Rattle.peers.proofs.Common.{refl, sym, ap, ap₂, ◌∙◌, arith, true≢false, append_assoc, bytes_eq, IsUtf8, position}
+use Rattle.peers.proofs.Common.{remove, AllByRecursion, keys_of, lookup, values_of, length-map, map-append, take-map}
+use Rattle.peers.proofs.Common.{drop-map, length-append, length-take, drop_more, length-replicate, none-some}
+use Rattle.peers.proofs.Common.{IsUtf8-string_bytes, option_map_or, is_same, Homes, home_in, home_kept, names_in}
+use Rattle.peers.proofs.Common.{places_in, chars, string_bytes, String, insert}
 use Rattle.std.specs.List.{IsDistinct}
 use Rattle.std.specs.String.{string_eq}
 use Rattle.indexmap.specs.IndexMap.{IndexMap, move_index, insert_entry, insert_index, set_value_at}
 use Rattle.std.specs.HashMap.{ContainsKey}
 use Rattle.indexmap.proofs.CallerLemmas.{insert_entry-new}
 use Rattle.indexmap.proofs.MapLemmas.{Found-position, Missing-position, absent_from_lookup, or_len-absent}
-
--- two texts are the same exactly where their characters are
-pub bytes_eq-chars : (a b : List ℕ) → IsUtf8 a → IsUtf8 b → bytes_eq a b ≡ bytes_eq (chars a) (chars b)
-bytes_eq-chars a b text other =
-    let bytes = bytes_eq-Decides a b in
-    let characters = bytes_eq-Decides (chars a) (chars b) in
-    let back : chars a ≡ chars b → a ≡ b = λ same. sym (encodes-chars a text) ∙ ap encode_utf8_all same
-    ∙ encodes-chars b other in
-    same_from_decides _ _ bytes (λ same. back (characters.0 same), λ same. characters.1 (ap chars same))
+use Rattle.command_effects.proofs.WordLaws.{bytes_eq-chars}
 
 module _ {Z : Type 0} where
   -- a name is found where its bytes are
@@ -156,10 +146,6 @@ pub kept-more : {A : Type 0} (keeps : A → Bool) (xs : List A) (at : ℕ) (x : 
 kept-more keeps xs at x is stays =
     let step : at + 1 ≡ suc at = omega arith in
     ap (λ n. kept_from keeps n xs) step ∙ kept-next keeps xs at x is stays
-
-pub kept-all : {A : Type 0} (keeps : A → Bool) (xs : List A) (at : ℕ) → length xs ≤ at → kept_from keeps at xs ≡ xs
-kept-all keeps xs at all =
-    ap₂ (λ ys zs. ys ++ filter keeps zs) (take_all at xs all) (drop_all at xs all) ∙ append-nil xs
 
 -- ---- places that are noted
 

@@ -1,20 +1,20 @@
 -- Documents in a world: where their widgets are found, as they come and go.
-use Rattle.peers.proofs.Words.{◌≡◌, ℕ, zero, suc, ◌+◌, ◌<◌, ◌≤◌, Bool, true, false, cond, not, List, [], ◌∷◌, ◌++◌}
-use Rattle.peers.proofs.Words.{length, map, get_or, filter, slice_set, option_map, Option, Some, None, is_some, take}
-use Rattle.peers.proofs.Words.{refl, sym, ap, subst, ◌∙◌, nat_lt, arith, AllByRecursion, length-append, get_or_read}
-use Rattle.peers.proofs.Words.{length-map, map-append, remove, OnErr, OnOk, nat_tests, among-append, is_among, is_same}
-use Rattle.peers.proofs.Words.{Settings, Document, Widget, window_names, IsWellFormedDocument, is_kept, keeps_some}
-use Rattle.peers.proofs.Words.{new_document, new_widget, thinned, with_peer, without_widgets, changed, create_named}
-use Rattle.peers.proofs.Words.{create_new, has_widgets, refuses, peer_with, Word, TooManyWidgets, WindowExists, Change}
-use Rattle.peers.proofs.Words.{answered, refused, AreLimits, LimitTable, IsWellFormed, Homes, home_in, homes_of}
-use Rattle.peers.proofs.Words.{names_in, World, all_windows, document_at, home, windows_of, insert_end, length-insert}
-use Rattle.std.proofs.Common.{insert}
+use Rattle.peers.proofs.Common.{◌≡◌, ℕ, zero, suc, ◌+◌, ◌<◌, ◌≤◌, Bool, true, false, cond, not, List, [], ◌∷◌, ◌++◌}
+use Rattle.peers.proofs.Common.{length, map, get_or, filter, slice_set, option_map, Option, Some, None, is_some, take}
+use Rattle.peers.proofs.Common.{refl, sym, ap, subst, ◌∙◌, nat_lt, arith, AllByRecursion, length-append, get_or_read}
+use Rattle.peers.proofs.Common.{length-map, map-append, remove, OnErr, OnOk, nat_tests, among-append, is_among, is_same}
+use Rattle.peers.proofs.Common.{Settings, Document, Widget, window_names, IsWellFormedDocument, is_kept, keeps_some}
+use Rattle.peers.proofs.Common.{new_document, new_widget, thinned, with_peer, without_widgets, changed, create_named}
+use Rattle.peers.proofs.Common.{create_new, has_widgets, refuses, peer_with, Word, TooManyWidgets, WindowExists, Change}
+use Rattle.peers.proofs.Common.{answered, refused, AreLimits, LimitTable, IsWellFormed, Homes, home_in, homes_of}
+use Rattle.peers.proofs.Common.{names_in, World, all_windows, document_at, home, windows_of, insert_end, length-insert}
+use Rattle.peers.proofs.Common.{insert, append-nil, Ok, Err, Result, if◌then◌else◌, nat_le, or_parts, set-get_or}
+use Rattle.peers.proofs.Common.{Outcome}
 use Rattle.std.specs.List.{IsDistinct}
-use Rattle.std.proofs.lemmas.List.{append-nil}
-use Rattle.std.specs.Prelude.{◌||◌, Ok, Err, Result, if◌then◌else◌, nat_le}
-use Rattle.peers.proofs.HomeLaws.{names-filtered, filter-changed, filter-twice, first_with, found-some, front-count}
-use Rattle.peers.proofs.HomeLaws.{homes-added, homes-count, homes-found, homes-names, homes-peer, names-left}
-use Rattle.peers.proofs.HomeLaws.{names-same, next-count}
+use Rattle.std.proofs.lemmas.List.Sums.{count_by-le-length, length-filter}
+use Rattle.peers.proofs.HomeLaws.{filter-changed, filter-twice, first_with, found-some, front-count, homes-added}
+use Rattle.peers.proofs.HomeLaws.{homes-count, homes-found, homes-names, homes-peer, names-left, names-same, next-count}
+use Rattle.documents.proofs.ClearedLaws.{map-filter}
 use Rattle.documents.specs.Widgets as widgets
 
 -- ---- a look-up
@@ -41,20 +41,8 @@ peer-names name settings document =
 
 pub left-names : (names : List (List ℕ)) (document : Document) →
     window_names (without_widgets names document) ≡ filter (λ name. not (is_among name names)) (window_names document)
-left-names names document = all document.widgets
-  where
-    all : (widgets : List Widget) → map (λ (widget : Widget). widget.name) (filter (is_kept names) widgets)
-        ≡ filter (λ name. not (is_among name names)) (map (λ (widget : Widget). widget.name) widgets)
-    all [] = refl
-    all (widget ∷ widgets) =
-        elim (not (is_among widget.name names)) as (λ b.
-        map (λ (w : Widget). w.name) (cond b (widget ∷ filter (is_kept names) widgets)
-        (filter (is_kept names) widgets))
-        ≡ cond b (widget.name ∷ filter (λ name. not (is_among name names)) (map (λ (w : Widget). w.name) widgets))
-        (filter (λ name. not (is_among name names)) (map (λ (w : Widget). w.name) widgets))) [
-          | false ↦ all widgets
-          | true ↦ ap (λ ns. widget.name ∷ ns) (all widgets)
-        ]
+left-names names document =
+    map-filter (λ (widget : Widget). widget.name) (λ name. not (is_among name names)) document.widgets
 
 bare-names : (document : Document) → has_widgets document ≡ false → window_names document ≡ []
 bare-names document none = all document.widgets none
@@ -223,17 +211,13 @@ pub own-absent : (name : List ℕ) (documents : List Document) (place : ℕ) →
     → is_among name (window_names (document_at documents place)) ≡ false
 own-absent name [] place within new = absurd (omega (arith, within))
 own-absent name (document ∷ documents) place within new =
-    let none = sym (among-append name (window_names document) (windows_of documents)) ∙ new in
+    let parts = or_parts (is_among name (window_names document)) (is_among name (windows_of documents))
+    (sym (among-append name (window_names document) (windows_of documents)) ∙ new) in
     elim place as (λ at. at < length (document ∷ documents) →
     is_among name (window_names (document_at (document ∷ documents) at)) ≡ false) [
-      | zero ↦ λ inside. (neither (is_among name (window_names document)) (is_among name (windows_of documents)) none).0
-      | suc at ↦ λ inside. own-absent name documents at (omega (arith, inside))
-          (neither (is_among name (window_names document)) (is_among name (windows_of documents)) none).1
+      | zero ↦ λ inside. parts.0
+      | suc at ↦ λ inside. own-absent name documents at (omega (arith, inside)) parts.1
     ] within
-  where
-    neither : (b c : Bool) → (b || c) ≡ false → (b ≡ false) × (c ≡ false)
-    neither false c none = (refl, none)
-    neither true c none = absurd (let h : true ≡ false = none in cc)
 
 -- its widgets are no more than all
 pub own-count : (documents : List Document) (place : ℕ) → place < length documents →
@@ -256,71 +240,63 @@ pub left-homes : (names : List (List ℕ)) (documents : List Document) (windows 
     → names_in (filter (λ home. not (is_among home.0 names)) windows)
     ≡ windows_of (filter has_widgets (map (without_widgets names) documents))
 left-homes names documents windows found =
-    names-filtered (λ name. not (is_among name names)) windows
+    map-filter (λ (home : List ℕ × ℕ). home.0) (λ name. not (is_among name names)) windows
     ∙ ap (λ homes. filter (λ name. not (is_among name names)) (names_in homes)) found
     ∙ ap (filter (λ name. not (is_among name names))) (homes-windows documents)
     ∙ sym (left-windows names documents)
 
 -- ---- a name that is taken, and too many widgets
 
-pub named-taken : (world : World) (name : List ℕ) (settings : Settings) → is_among name (all_windows world) ≡ true →
-    create_named world name settings ≡ refuses world (WindowExists 1)
-named-taken world name settings taken =
-    ap (λ b. if b then refuses world (WindowExists 1) else create_new world name settings) taken
+module _ (world : World) (name : List ℕ) (settings : Settings) where
+  abbrev by_count : Bool → Outcome
+  by_count many = if many then refuses world TooManyWidgets
+      else record {
+        reply = Ok (Word 1);
+        world = record world { documents = world.documents ++ new_document name settings ∷ [] };
+      }
 
-pub named-many : (world : World) (name : List ℕ) (settings : Settings) → is_among name (all_windows world) ≡ false →
-    nat_le world.limits.widgets (length (all_windows world)) ≡ true
-    → create_named world name settings ≡ refuses world TooManyWidgets
-named-many world name settings new many =
-    ap (λ b. if b then refuses world (WindowExists 1) else create_new world name settings) new
-    ∙ ap (λ b. if b then refuses world TooManyWidgets
-    else record {
-      reply = Ok (Word 1);
-      world = record world { documents = world.documents ++ new_document name settings ∷ [] };
-    }) many
+  abbrev by_name : Bool → Outcome
+  by_name taken = if taken then refuses world (WindowExists 1) else create_new world name settings
 
-pub named-new : (world : World) (name : List ℕ) (settings : Settings) → is_among name (all_windows world) ≡ false →
-    nat_le world.limits.widgets (length (all_windows world)) ≡ false
-    → create_named world name settings ≡ record {
-      reply = Ok (Word 1);
-      world = record world { documents = world.documents ++ new_document name settings ∷ [] };
-    }
-named-new world name settings new few =
-    ap (λ b. if b then refuses world (WindowExists 1) else create_new world name settings) new
-    ∙ ap (λ b. if b then refuses world TooManyWidgets
-    else record {
-      reply = Ok (Word 1);
-      world = record world { documents = world.documents ++ new_document name settings ∷ [] };
-    }) few
+  pub named-taken : is_among name (all_windows world) ≡ true →
+      create_named world name settings ≡ refuses world (WindowExists 1)
+  named-taken taken = ap by_name taken
 
-pub peer-taken : (limits : LimitTable) (windows : List (List ℕ)) (document : Document) (position : ℕ) (name : List ℕ)
-    (settings : Settings) → is_among name windows ≡ true
-    → peer_with limits windows document position name settings ≡ refused document (WindowExists position)
-peer-taken limits windows document position name settings taken =
-    ap (λ b. if b then refused document (WindowExists position)
-    else (if nat_le limits.widgets (length windows) then refused document TooManyWidgets
-    else answered (with_peer name settings document) (Word position))) taken
+  pub named-many : is_among name (all_windows world) ≡ false →
+      nat_le world.limits.widgets (length (all_windows world)) ≡ true
+      → create_named world name settings ≡ refuses world TooManyWidgets
+  named-many new many = ap by_name new ∙ ap by_count many
 
-pub peer-many : (limits : LimitTable) (windows : List (List ℕ)) (document : Document) (position : ℕ) (name : List ℕ)
-    (settings : Settings) → is_among name windows ≡ false
-    → nat_le limits.widgets (length windows) ≡ true → peer_with limits windows document position name settings
-    ≡ refused document TooManyWidgets
-peer-many limits windows document position name settings new many =
-    ap (λ b. if b then refused document (WindowExists position)
-    else (if nat_le limits.widgets (length windows) then refused document TooManyWidgets
-    else answered (with_peer name settings document) (Word position))) new
-    ∙ ap (λ b. if b then refused document TooManyWidgets
-    else answered (with_peer name settings document) (Word position)) many
+  pub named-new : is_among name (all_windows world) ≡ false →
+      nat_le world.limits.widgets (length (all_windows world)) ≡ false
+      → create_named world name settings ≡ record {
+        reply = Ok (Word 1);
+        world = record world { documents = world.documents ++ new_document name settings ∷ [] };
+      }
+  named-new new few = ap by_name new ∙ ap by_count few
 
-pub peer-new : (limits : LimitTable) (windows : List (List ℕ)) (document : Document) (position : ℕ) (name : List ℕ)
-    (settings : Settings) → is_among name windows ≡ false
-    → nat_le limits.widgets (length windows) ≡ false → peer_with limits windows document position name settings
-    ≡ answered (with_peer name settings document) (Word position)
-peer-new limits windows document position name settings new few =
-    ap (λ b. if b then refused document (WindowExists position)
-    else (if nat_le limits.widgets (length windows) then refused document TooManyWidgets
-    else answered (with_peer name settings document) (Word position))) new
-    ∙ ap (λ b. if b then refused document TooManyWidgets else answered (with_peer name settings document) (Word position)) few
+module _ (limits : LimitTable) (windows : List (List ℕ)) (document : Document) (position : ℕ) (name : List ℕ)
+    (settings : Settings) where
+  abbrev peer_by_count : Bool → Change
+  peer_by_count many = if many then refused document TooManyWidgets
+      else answered (with_peer name settings document) (Word position)
+
+  abbrev peer_by_name : Bool → Change
+  peer_by_name taken = if taken then refused document (WindowExists position)
+      else peer_by_count (nat_le limits.widgets (length windows))
+
+  pub peer-taken : is_among name windows ≡ true
+      → peer_with limits windows document position name settings ≡ refused document (WindowExists position)
+  peer-taken taken = ap peer_by_name taken
+
+  pub peer-many : is_among name windows ≡ false → nat_le limits.widgets (length windows) ≡ true
+      → peer_with limits windows document position name settings ≡ refused document TooManyWidgets
+  peer-many new many = ap peer_by_name new ∙ ap peer_by_count many
+
+  pub peer-new : is_among name windows ≡ false → nat_le limits.widgets (length windows) ≡ false
+      → peer_with limits windows document position name settings
+      ≡ answered (with_peer name settings document) (Word position)
+  peer-new new few = ap peer_by_name new ∙ ap peer_by_count few
 
 -- ---- a world that stays well formed
 
@@ -375,13 +351,7 @@ formed-added limits name settings documents new (Err error) formed few made kept
     subst (λ ds. IsWellFormed (with_all limits ds)) (sym kept) formed
 
 fewer : {A : Type 0} (passes : A → Bool) (xs : List A) → length (filter passes xs) ≤ length xs
-fewer passes [] = omega arith
-fewer passes (x ∷ xs) =
-    let rest = fewer passes xs in
-    elim (passes x) as (λ b. length (cond b (x ∷ filter passes xs) (filter passes xs)) ≤ length (x ∷ xs)) [
-      | true ↦ omega (arith, rest)
-      | false ↦ omega (arith, rest)
-    ]
+fewer passes xs = omega (arith, length-filter passes xs, count_by-le-length passes xs)
 
 pub formed-left : {A E : Type 0} (limits : LimitTable) (names : List (List ℕ)) (documents new : List Document)
     (result : Result A E) → IsWellFormed (with_all limits documents)
@@ -407,9 +377,7 @@ formed-left limits names documents new (Err error) formed made kept distinct all
 
 pub set-same : (documents : List Document) (place : ℕ) →
     slice_set documents place (document_at documents place) ≡ documents
-set-same [] place = refl
-set-same (document ∷ documents) zero = refl
-set-same (document ∷ documents) (suc place) = ap (λ ds. document ∷ ds) (set-same documents place)
+set-same documents place = set-get_or documents place widgets.bare_document
 
 -- what is refused changes no document
 pub changed-refused : (limits : LimitTable) (documents : List Document) (place : ℕ) (change : Change) →

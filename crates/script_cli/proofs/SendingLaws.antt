@@ -1,7 +1,9 @@
 -- Bytes that pass one after another, and bytes that wait.
-use Rattle.script_cli.proofs.Common.{◌≡◌, ℕ, ◌+◌, ◌-◌, arith, Bool, true, false, cond, List, [], ◌++◌, Option, None}
-use Rattle.script_cli.proofs.Common.{Some, refl, sym, ap, ◌∙◌, append_assoc, append-nil, ReadLog, WriteLog, Consumes}
-use Rattle.script_cli.proofs.Common.{HandsOut, Appends, Takes, Sends, Gathers}
+use Rattle.script_cli.proofs.Common.{◌≡◌, ℕ, ◌+◌, ◌-◌, arith, Bool, true, false, cond, List, [], ◌++◌, length, take}
+use Rattle.script_cli.proofs.Common.{drop, Option, None, Some, refl, sym, ap, ◌∙◌, append_assoc, common_steps}
+use Rattle.script_cli.proofs.Common.{take-append-drop, append-nil, take_all, ReadLog, WriteLog, Consumes, HandsOut}
+use Rattle.script_cli.proofs.Common.{Appends, Takes, Sends, Gathers}
+use Rattle.std.proofs.Math.Seq.{take-add}
 
 Appends-nil : (known : Option (List ℕ)) → Appends known known []
 Appends-nil None = tt
@@ -22,6 +24,14 @@ Takes-then old mid new a b first second = (
   second.0 ∙ ap (λ xs. xs ++ b) first.0 ∙ append_assoc old.bytes a b,
   Appends-then old.held mid.held new.held a b first.1 second.1,
 )
+
+pub Takes-more : (old mid new : WriteLog) (bytes : List ℕ) (n m : ℕ)
+    → Takes old mid (take n bytes) → Takes mid new (take m (take (length bytes - n) (drop n bytes))) →
+    Takes old new (take (n + m) bytes)
+Takes-more old mid new bytes n m first second =
+    let rest : take (length bytes - n) (drop n bytes)
+    ≡ drop n bytes = take_all (length bytes - n) (drop n bytes) (grind (arith, common_steps)) in
+    rw (take-add n m bytes) (Takes-then old mid new (take n bytes) (take m (drop n bytes)) first (rw rest at second))
 
 Consumes-nil : (known : Option (List ℕ)) → Consumes known known []
 Consumes-nil None = tt
@@ -50,6 +60,11 @@ HandsOut-then old mid new a b ended first second = (
   Consumes-then old.left mid.left new.left a b first.2 second.2,
   second.3,
 )
+
+-- what was written is a front
+pub Sends-front : (old new : WriteLog) (bytes : List ℕ) (n : ℕ) → Takes old new (take n bytes) →
+    Sends old new bytes false
+Sends-front old new bytes n sent = (take n bytes, drop n bytes, sym (take-append-drop n bytes), sent)
 
 -- the bytes are put behind those that wait
 pub Gathers-held : (log : WriteLog) (waited bytes : List ℕ) → Gathers log waited log (waited ++ bytes) bytes true
@@ -82,6 +97,33 @@ regroup : (p a s q b t r : List ℕ) → p ++ a ≡ s ++ q → q ++ b ≡ t ++ r
 regroup p a s q b t r e f =
     sym (append_assoc p a b) ∙ ap (λ xs. xs ++ b) e ∙ append_assoc s q b ∙ ap (λ xs. s ++ xs) f
     ∙ sym (append_assoc s t r)
+
+-- one after the other
+pub Gathers-then : (first_log mid last : WriteLog) (waited between waits a b : List ℕ) (done : Bool)
+    → Gathers first_log waited mid between a true → Gathers mid between last waits b done
+    → Gathers first_log waited last waits (a ++ b) done
+Gathers-then old mid new waited between waits a b true first second = (
+  first.0 ++ second.0,
+  regroup waited a first.0 between b second.0 waits first.1 second.1,
+  Takes-then old mid new first.0 second.0 first.2 second.2,
+)
+Gathers-then old mid new waited between waits a b false first second = (
+  first.0 ++ second.0,
+  second.1,
+  regroup waited a first.0 between b second.0 second.1 first.1 second.2,
+  Takes-then old mid new first.0 second.0 first.2 second.3,
+)
+
+-- the writer fails at the first
+pub Gathers-stop : (old new : WriteLog) (waited between waits a b : List ℕ)
+    → Gathers old waited new between a false → Gathers old waited new waits (a ++ b) false
+Gathers-stop old new waited between waits a b first = (
+  first.0,
+  first.1 ++ b,
+  sym (append_assoc waited a b) ∙ ap (λ xs. xs ++ b) first.2
+      ∙ append_assoc first.0 first.1 b,
+  first.3,
+)
 
 pub ruleset writing = Takes-nil
 

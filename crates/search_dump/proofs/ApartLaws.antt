@@ -1,16 +1,8 @@
 -- Matches that share no character with one that is listed before.
-use Rattle.search_dump.proofs.Words.{◌≡◌, ℕ, inl, inr, ◌||◌, Bool, true, false, cond, List, [], ◌∷◌, ◌++◌, refl, sym}
-use Rattle.search_dump.proofs.Words.{ap, ◌∙◌, not, filter, list_any, cases_Bool, or_left, or_right, list_any-append}
-use Rattle.search_dump.proofs.Words.{All-head, All-tail, All-weaker, apart, shares}
+use Rattle.search_dump.proofs.Common.{◌≡◌, ℕ, inl, inr, ◌||◌, Bool, true, false, cond, List, [], ◌∷◌, ◌++◌, refl, sym}
+use Rattle.search_dump.proofs.Common.{ap, ◌∙◌, not, filter, list_any, cases_Bool, or_left, or_right, list_any-append}
+use Rattle.search_dump.proofs.Common.{All-head, All-tail, All-weaker, apart, shares, or-false, or-true}
 use Rattle.std.specs.List.{All}
-
-or-false : (b : Bool) → (b || false) ≡ b
-or-false true = refl
-or-false false = refl
-
-or-true : (b : Bool) → (b || true) ≡ true
-or-true true = refl
-or-true false = refl
 
 -- those that share a character with one of the last listed are left out before
 pub apart-behind : (len : ℕ) (last kept xs : List ℕ) → apart len (kept ++ last) xs

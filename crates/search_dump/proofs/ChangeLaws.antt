@@ -1,12 +1,12 @@
 -- Where the tags of a view change next.
-use Rattle.search_dump.proofs.Words.{◌≡◌, ℕ, zero, suc, inl, inr, ◌+◌, ◌-◌, ◌<◌, ◌≤◌, ◌&&◌, ◌||◌, ◌==◌, min, Bool, true}
-use Rattle.search_dump.proofs.Words.{false, ◌≢◌, List, [], ◌∷◌, length, drop, set, refl, sym, subst, ap, ap₂, ◌∙◌}
-use Rattle.search_dump.proofs.Words.{arith, not, replicate, slice_index_or, list_any, prefix_len, cases_Bool, cases_eq}
-use Rattle.search_dump.proofs.Words.{cases_lt, cond-false, cond-true, false≢true, lt-ltb, true≢false, drop-drop}
-use Rattle.search_dump.proofs.Words.{drop_more, get_or-replicate, get_or-set_other, get_or-set_same, length-replicate}
-use Rattle.search_dump.proofs.Words.{length-set, flag_at, is_alike, next_change, Content, Tag, slots_of, tag_ranges}
-use Rattle.search_dump.proofs.Words.{shown_flags, TagRange, next-alike, next-other, AreAhead, IsKnown, IsNearest}
-use Rattle.search_dump.proofs.Words.{change_behind, slot_of_row, flag_before}
+use Rattle.search_dump.proofs.Common.{◌≡◌, ℕ, zero, suc, inl, inr, ◌+◌, ◌-◌, ◌<◌, ◌≤◌, ◌&&◌, ◌||◌, ◌==◌, min, Bool}
+use Rattle.search_dump.proofs.Common.{true, false, ◌≢◌, List, [], ◌∷◌, length, drop, set, refl, sym, subst, ap, ap₂}
+use Rattle.search_dump.proofs.Common.{◌∙◌, arith, not, slice_index_or, list_any, prefix_len, cases_Bool, cases_eq}
+use Rattle.search_dump.proofs.Common.{cases_lt, cond-false, cond-true, false≢true, lt-ltb, true≢false, drop-drop}
+use Rattle.search_dump.proofs.Common.{drop_more, get_or-set_other, get_or-set_same, length-set, flag_at, is_alike}
+use Rattle.search_dump.proofs.Common.{next_change, Content, Tag, slots_of, tag_ranges, shown_flags, TagRange}
+use Rattle.search_dump.proofs.Common.{next-alike, next-other, AreAhead, IsKnown, IsNearest, change_behind, slot_of_row}
+use Rattle.search_dump.proofs.Common.{flag_before, IsView, flags, length-part, flags-within}
 use Rattle.search_dump.proofs.DumpLaws.{begins-is, ends-is}
 
 -- one row more
@@ -54,7 +54,7 @@ prefix-drop test (suc n) (x ∷ xs) within =
       | inr is-not ↦ absurd (omega (arith, cond-false (test x) (1 + prefix_len test xs) 0 is-not, within))
     ]
 
-flag-same : (flags : List Bool) (at k : ℕ) → at ≤ k → k < next_change flags at → flag_at flags k ≡ flag_at flags at
+pub flag-same : (flags : List Bool) (at k : ℕ) → at ≤ k → k < next_change flags at → flag_at flags k ≡ flag_at flags at
 flag-same flags at k from below = same-flags (flag_at flags at) (flag_at flags k) (next-alike flags at k from below)
 
 -- the next change is one for all places up to it
@@ -105,10 +105,6 @@ turns-there flags at above within =
     ∙ a-turn (flag_at flags at)
 
 -- a flag is as it was up to the next change, and other there
-pub flag-still : (flags : List Bool) (at k : ℕ) → at ≤ k → k < next_change flags at →
-    flag_at flags k ≡ flag_at flags at
-flag-still flags at k from below = flag-same flags at k from below
-
 pub flag-upto : (flags : List Bool) (at k : ℕ) → at < k → k ≤ next_change flags at →
     flag_before flags k ≡ flag_at flags at
 flag-upto flags at k from upto =
@@ -133,20 +129,8 @@ ahead-on content start end tags widget place later next ahead from =
           (omega (arith, known)));
     }
 
-pub ahead-begun : (content : Content) (start end : ℕ) (tags : List Tag) (widget place rows : ℕ) (next : List ℕ) →
-    rows ≡ length tags → next ≡ replicate rows place → AreAhead content start end tags widget place next
-ahead-begun content start end tags widget place rows next count is =
-    record {
-      rows = ap length is ∙ length-replicate rows place ∙ count;
-      each = λ at within above. absurd (omega (
-        arith,
-        ap (λ xs. slice_index_or xs at 0) is,
-        get_or-replicate rows at place 0 (omega (arith, count)),
-      ));
-    }
-
 -- one row is looked up
-module _ (content : Content) (start end : ℕ) (tags : List Tag) (widget place at change : ℕ) (old new : List ℕ)
+module _ {content : Content} {start end : ℕ} {tags : List Tag} {widget place change : ℕ} {old new : List ℕ} (at : ℕ)
     (ahead : AreAhead content start end tags widget place old) (within : at < length tags) (is : new ≡ set old at change)
     (known : change ≡ change_behind content start end place (slot_of_row widget (slots_of tags) at)) where
   pub put-known : IsKnown content start end tags widget place new at
@@ -177,6 +161,12 @@ module _ (content : Content) (start end : ℕ) (tags : List Tag) (widget place a
               | inr apart ↦ put-keeps other (ahead.each other inside (omega (arith, above, put-apart other apart)))
             ];
       }
+
+-- a view has as many flags of a slot as places
+pub length-flags : (content : Content) (start end : ℕ) → IsView content start end → (slot : ℕ) →
+    length (shown_flags slot content start end) ≡ end - start
+length-flags content start end view slot =
+    length-part (flags slot content.cells) start end (flags-within content slot start end view) view.ordered
 
 alike-itself : (flag : Bool) → is_alike flag flag ≡ true
 alike-itself true = refl

@@ -1,5 +1,5 @@
 -- The numbers that were worked out by hand: in `ab`, `cd`, an empty line and `ef`, and in a new text.
-use Rattle.search_dump.proofs.Words.{◌≡◌, ℕ, List, [], ◌∷◌, refl, codes, decimal, counted}
+use Rattle.search_dump.proofs.Common.{◌≡◌, ℕ, List, [], ◌∷◌, refl, codes, decimal, counted}
 use Rattle.search_dump.specs.declared.counting.Counted.TheVariants.{Characters, Lines}
 
 abbrev text : List ℕ

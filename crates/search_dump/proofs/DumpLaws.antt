@@ -1,10 +1,10 @@
 -- What is listed of the tags at a place.
-use Rattle.search_dump.proofs.Words.{◌≡◌, ℕ, zero, suc, ◌+◌, ◌-◌, ◌<◌, ◌≤◌, ◌&&◌, ◌||◌, ◌==◌, Bool, true, false, cond}
-use Rattle.search_dump.proofs.Words.{List, [], ◌∷◌, ◌++◌, length, map, take, get_or, refl, sym, ap, subst, ◌∙◌, arith}
-use Rattle.search_dump.proofs.Words.{not, slice_index_or, filter, flat_map, list_any, prefix_len, eq-eqb, lt-ltb}
-use Rattle.search_dump.proofs.Words.{ne_eqb, true≢false, flat_map_more, get_or-map, take_more, Tag, slots_of, Goes}
-use Rattle.search_dump.proofs.Words.{goes_nowhere, goes_on, flag_at, Slots, is_set, ranges_behind, tag_ranges, TagRange}
-use Rattle.search_dump.proofs.Words.{slot_of_row, element, flag_before, if_listed, only_in, own_slot}
+use Rattle.search_dump.proofs.Common.{◌≡◌, ℕ, zero, suc, ◌+◌, ◌-◌, ◌<◌, ◌≤◌, ◌&&◌, ◌||◌, ◌==◌, Bool, true, false, cond}
+use Rattle.search_dump.proofs.Common.{List, [], ◌∷◌, ◌++◌, length, map, take, get_or, refl, sym, ap, subst, ◌∙◌, arith}
+use Rattle.search_dump.proofs.Common.{not, slice_index_or, filter, flat_map, list_any, prefix_len, eq-eqb, lt-ltb}
+use Rattle.search_dump.proofs.Common.{ne_eqb, true≢false, flat_map_more, get_or-map, take_more, Tag, slots_of, Goes}
+use Rattle.search_dump.proofs.Common.{goes_nowhere, goes_on, flag_at, Slots, is_set, ranges_behind, tag_ranges}
+use Rattle.search_dump.proofs.Common.{TagRange, slot_of_row, element, flag_before, if_listed, only_in, own_slot}
 use Rattle.tag_table.specs.Tags.{names_of}
 use Rattle.std.specs.Cmp.{nat_cmp_total}
 use Rattle.std.specs.FinSet as set
@@ -69,29 +69,20 @@ flat-cond : {B : Type 0} (b : Bool) (x : B) (xs : List B) (g : B → List (List 
 flat-cond true x xs g = refl
 flat-cond false x xs g = refl
 
-pub flat-filter : {A B : Type 0} (g : B → List (List ℕ)) (is : B → Bool) (f : A → B) (h : A →
-    List (List ℕ)) (xs : List A) → ((x : A) → if_listed (is (f x)) (g (f x)) ≡ h x)
-    → flat_map g (filter is (map f xs)) ≡ flat_map h xs
-flat-filter g is f h [] each = refl
-flat-filter g is f h (x ∷ xs) each =
-    flat-cond (is (f x)) (f x) (filter is (map f xs)) g ∙ ap (λ ys. ys ++ flat_map g (filter is (map f xs))) (each x)
-    ∙ ap (λ ys. h x ++ ys) (flat-filter g is f h xs each)
-
--- the same where it holds of what stands in the list
-pub flat-filter-row : {A B : Type 0} (g : B → List (List ℕ)) (is : B → Bool) (f : A → B) (h : A → List (List ℕ)) (d : A)
+pub flat-filter : {A B : Type 0} (g : B → List (List ℕ)) (is : B → Bool) (f : A → B) (h : A → List (List ℕ)) (d : A)
     (xs : List A)
     → ((at : ℕ) → at < length xs → if_listed (is (f (get_or xs at d))) (g (f (get_or xs at d))) ≡ h (get_or xs at d))
     → flat_map g (filter is (map f xs)) ≡ flat_map h xs
-flat-filter-row g is f h d [] each = refl
-flat-filter-row g is f h d (x ∷ xs) each =
+flat-filter g is f h d [] each = refl
+flat-filter g is f h d (x ∷ xs) each =
     flat-cond (is (f x)) (f x) (filter is (map f xs)) g
     ∙ ap (λ ys. ys ++ flat_map g (filter is (map f xs))) (each 0 (omega arith))
-    ∙ ap (λ ys. h x ++ ys) (flat-filter-row g is f h d xs (λ at within. each (suc at) (omega arith)))
+    ∙ ap (λ ys. h x ++ ys) (flat-filter g is f h d xs (λ at within. each (suc at) (omega arith)))
 
 -- ---- where the ranges of a tag begin and end
 
 -- whether the flag before a place is set, where another flag stands before all
-flag_behind : Bool → List Bool → ℕ → Bool
+abbrev flag_behind : Bool → List Bool → ℕ → Bool
 flag_behind before flags zero = before
 flag_behind before flags (suc k) = flag_at flags k
 
@@ -116,44 +107,8 @@ no-end false at place (true ∷ flags) past =
 
 behind-more : (before flag : Bool) (flags : List Bool) (k : ℕ) →
     flag_behind before (flag ∷ flags) (suc k) ≡ flag_behind flag flags k
-unfolding flag_behind
 behind-more before flag flags zero = refl
 behind-more before flag flags (suc k) = refl
-
-not-behind : (flags : List Bool) → false ≡ (flag_at (true ∷ flags) 0 && not (flag_behind true (true ∷ flags) 0))
-unfolding flag_behind
-not-behind flags = refl
-
-is-behind : (flags : List Bool) → true ≡ (flag_at (true ∷ flags) 0 && not (flag_behind false (true ∷ flags) 0))
-unfolding flag_behind
-is-behind flags = refl
-
-nothing-behind : (k : ℕ) → (flag_behind false [] k && not (flag_at [] k)) ≡ false
-unfolding flag_behind
-nothing-behind zero = refl
-nothing-behind (suc k) = refl
-
-is-open : true ≡ (flag_behind true [] 0 && not (flag_at [] 0))
-unfolding flag_behind
-is-open = refl
-
-nothing-open : (k : ℕ) → false ≡ (flag_behind true [] (suc k) && not (flag_at [] (suc k)))
-unfolding flag_behind
-nothing-open k = refl
-
-shut-begin : (flags : List Bool) → false ≡ (flag_behind false (false ∷ flags) 0 && not (flag_at (false ∷ flags) 0))
-unfolding flag_behind
-shut-begin flags = refl
-
-open-begin : (flags : List Bool) → true ≡ (flag_behind true (false ∷ flags) 0 && not (flag_at (false ∷ flags) 0))
-unfolding flag_behind
-open-begin flags = refl
-
-set-begin : (before : Bool) (flags : List Bool) → false
-    ≡ (flag_behind before (true ∷ flags) 0 && not (flag_at (true ∷ flags) 0))
-unfolding flag_behind
-set-begin true flags = refl
-set-begin false flags = refl
 
 starts-there : (before : Bool) (at k place : ℕ) (flags : List Bool) → at + k ≡ place
     → list_any (λ (range : TagRange). range.start == place) (ranges_behind before at flags)
@@ -163,13 +118,13 @@ starts-there before at zero place (false ∷ flags) is = no-start false (suc at)
 starts-there before at (suc k) place (false ∷ flags) is =
     starts-there false (suc at) k place flags (omega arith)
     ∙ ap (λ b. flag_at flags k && not b) (sym (behind-more before false flags k))
-starts-there true at zero place (true ∷ flags) is = no-start true (suc at) place flags (omega arith) ∙ not-behind flags
+starts-there true at zero place (true ∷ flags) is = no-start true (suc at) place flags (omega arith)
 starts-there true at (suc k) place (true ∷ flags) is =
     starts-there true (suc at) k place flags (omega arith)
     ∙ ap (λ b. flag_at flags k && not b) (sym (behind-more true true flags k))
 starts-there false at zero place (true ∷ flags) is =
     ap (λ b. b || list_any (λ (range : TagRange). range.start == place) (ranges_behind true (suc at) flags))
-    (eq-eqb at place (omega arith)) ∙ is-behind flags
+    (eq-eqb at place (omega arith))
 starts-there false at (suc k) place (true ∷ flags) is =
     ap (λ b. b || list_any (λ (range : TagRange). range.start == place) (ranges_behind true (suc at) flags))
     (ne_eqb at place (λ same. omega arith))
@@ -177,7 +132,7 @@ starts-there false at (suc k) place (true ∷ flags) is =
     ∙ ap (λ b. flag_at flags k && not b) (sym (behind-more false true flags k))
 
 -- the run that is open ends somewhere too
-ends_open : Bool → ℕ → List Bool → ℕ → Bool
+abbrev ends_open : Bool → ℕ → List Bool → ℕ → Bool
 ends_open before at flags place =
     cond before ((at + prefix_len is_set flags == place)
     || list_any (λ (range : TagRange). range.end == place) (ranges_behind true at flags))
@@ -185,18 +140,17 @@ ends_open before at flags place =
 
 ends-there : (before : Bool) (at k place : ℕ) (flags : List Bool) → at + k ≡ place →
     ends_open before at flags place ≡ (flag_behind before flags k && not (flag_at flags k))
-unfolding ends_open
-ends-there false at k place [] is = sym (nothing-behind k)
-ends-there true at zero place [] is = ap (λ b. b || false) (eq-eqb (at + 0) place (omega arith)) ∙ is-open
-ends-there true at (suc k) place [] is =
-    ap (λ b. b || false) (ne_eqb (at + 0) place (λ same. omega arith)) ∙ nothing-open k
-ends-there false at zero place (false ∷ flags) is = no-end false (suc at) place flags (omega arith) ∙ shut-begin flags
+ends-there false at zero place [] is = refl
+ends-there false at (suc k) place [] is = refl
+ends-there true at zero place [] is = ap (λ b. b || false) (eq-eqb (at + 0) place (omega arith))
+ends-there true at (suc k) place [] is = ap (λ b. b || false) (ne_eqb (at + 0) place (λ same. omega arith))
+ends-there false at zero place (false ∷ flags) is = no-end false (suc at) place flags (omega arith)
 ends-there false at (suc k) place (false ∷ flags) is =
     ends-there false (suc at) k place flags (omega arith)
     ∙ ap (λ b. b && not (flag_at flags k)) (sym (behind-more false false flags k))
 ends-there true at zero place (false ∷ flags) is =
     ap (λ b. b || list_any (λ (range : TagRange). range.end == place) (ranges_behind false (suc at) flags))
-    (eq-eqb (at + 0) place (omega arith)) ∙ open-begin flags
+    (eq-eqb (at + 0) place (omega arith))
 ends-there true at (suc k) place (false ∷ flags) is =
     ap (λ b. b || list_any (λ (range : TagRange). range.end == place) (ranges_behind false (suc at) flags))
     (ne_eqb (at + 0) place (λ same. omega arith))
@@ -205,7 +159,7 @@ ends-there true at (suc k) place (false ∷ flags) is =
 ends-there true at zero place (true ∷ flags) is =
     ap (λ b. b || list_any (λ (range : TagRange). range.end == place) (ranges_behind true (suc at) flags))
     (ne_eqb (at + (1 + prefix_len is_set flags)) place (λ same. omega arith))
-    ∙ no-end true (suc at) place flags (omega arith) ∙ set-begin true flags
+    ∙ no-end true (suc at) place flags (omega arith)
 ends-there true at (suc k) place (true ∷ flags) is =
     ap (λ n. (n == place) || list_any (λ (range : TagRange). range.end == place) (ranges_behind true (suc at) flags))
     (omega arith)
@@ -214,13 +168,12 @@ ends-there true at (suc k) place (true ∷ flags) is =
 ends-there false at zero place (true ∷ flags) is =
     ap (λ b. b || list_any (λ (range : TagRange). range.end == place) (ranges_behind true (suc at) flags))
     (ne_eqb (suc at + prefix_len is_set flags) place (λ same. omega arith))
-    ∙ no-end true (suc at) place flags (omega arith) ∙ set-begin false flags
+    ∙ no-end true (suc at) place flags (omega arith)
 ends-there false at (suc k) place (true ∷ flags) is =
     ends-there true (suc at) k place flags (omega arith)
     ∙ ap (λ b. b && not (flag_at flags k)) (sym (behind-more false true flags k))
 
 before-is : (flags : List Bool) (place : ℕ) → flag_behind false flags place ≡ flag_before flags place
-unfolding flag_behind
 before-is flags zero = refl
 before-is flags (suc k) =
     sym (ap (λ b. b && flag_at flags (suc k - 1)) (lt-ltb 0 (suc k) (omega arith)) ∙ ap (flag_at flags) (omega arith))
@@ -234,6 +187,5 @@ begins-is flags place = starts-there false 0 place place flags (omega arith)
 
 pub ends-is : (flags : List Bool) (place : ℕ) → list_any (λ (range : TagRange). range.end == place) (tag_ranges flags)
     ≡ (flag_before flags place && not (flag_at flags place))
-unfolding ends_open
 ends-is flags place = ends-there false 0 place place flags (omega arith)
     ∙ ap (λ b. b && not (flag_at flags place)) (before-is flags place)

@@ -1,6 +1,6 @@
 -- The dumps that were worked out by hand.
-use Rattle.search_dump.proofs.Words.{◌≡◌, ℕ, true, false, List, [], ◌∷◌, ◌++◌, refl, codes, Seen, Tagged, Marked}
-use Rattle.search_dump.proofs.Words.{dump_elements, element, Listed}
+use Rattle.search_dump.proofs.Common.{◌≡◌, ℕ, true, false, List, [], ◌∷◌, ◌++◌, refl, codes, Seen, Tagged, Marked}
+use Rattle.search_dump.proofs.Common.{dump_elements, element, Listed}
 
 abbrev everything : Listed
 everything = record { tags = true; marks = true; text = true }

@@ -1,8 +1,8 @@
 -- Where a dump ends.
-use Rattle.search_dump.proofs.Words.{◌≡◌, ◌≢◌, ℕ, ◌-◌, ◌<◌, ◌≤◌, ◌&&◌, ◌==◌, List, [], ◌++◌, length, ap, ap₂, arith}
-use Rattle.search_dump.proofs.Words.{subst, sym, ◌∙◌, if◌then◌else◌, flat_map, range_with_len, eq-eqb, le-leb, lt-leb}
-use Rattle.search_dump.proofs.Words.{ne_eqb, append-nil, Goes, goes_nowhere, goes_on, Seen, dump_elements, elements_at}
-use Rattle.search_dump.proofs.Words.{elements_at_end, if_listed, mark_elements, tagoff_elements, places, Listed}
+use Rattle.search_dump.proofs.Common.{◌≡◌, ◌≢◌, ℕ, ◌-◌, ◌<◌, ◌≤◌, ◌&&◌, ◌==◌, List, [], ◌++◌, length, ap, ap₂, arith}
+use Rattle.search_dump.proofs.Common.{subst, sym, ◌∙◌, if◌then◌else◌, flat_map, range_with_len, eq-eqb, le-leb, lt-leb}
+use Rattle.search_dump.proofs.Common.{ne_eqb, append-nil, Goes, goes_nowhere, goes_on, Seen, dump_elements, elements_at}
+use Rattle.search_dump.proofs.Common.{elements_at_end, if_listed, mark_elements, tagoff_elements, places, Listed}
 
 -- nothing is listed where the second place stands before the first
 pub turned-goes : (listed : Listed) (seen : Seen) (from to : ℕ) (bytes : List ℕ) → to < from →

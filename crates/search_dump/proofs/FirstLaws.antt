@@ -1,7 +1,7 @@
 -- The stretch that is searched first, up to a stop.
-use Rattle.search_dump.proofs.Words.{◌≡◌, ℕ, ◌≤◌, Bool, false, true, Some, List, ap, arith, refl, if◌then◌else◌}
-use Rattle.search_dump.proofs.Words.{Direction, Forward, Back, bound, candidates, limit, matches_at, places, first_high}
-use Rattle.search_dump.proofs.Words.{first_low, first_stretch, matches_in, ordered, SearchSwitches}
+use Rattle.search_dump.proofs.Common.{◌≡◌, ℕ, ◌≤◌, Bool, false, true, Some, List, ap, arith, refl, if◌then◌else◌}
+use Rattle.search_dump.proofs.Common.{Direction, Forward, Back, bound, candidates, limit, matches_at, places}
+use Rattle.search_dump.proofs.Common.{first_high, first_low, first_stretch, matches_in, ordered, SearchSwitches}
 use Rattle.std.specs.Prelude.{filter}
 use Rattle.search_dump.proofs.RoundLaws.{LiesIn}
 

@@ -1,5 +1,6 @@
 pub mod ApartLaws
 pub mod ChangeLaws
+pub mod Common
 pub mod CountRows
 pub mod DumpLaws
 pub mod DumpRows
@@ -25,4 +26,3 @@ pub mod TagStops
 pub mod TextLaws
 pub mod TurnLaws
 pub mod WindowLaws
-pub mod Words

@@ -1,9 +1,9 @@
 -- Where the next line begins.
-use Rattle.search_dump.proofs.Words.{◌≡◌, ℕ, zero, suc, inl, inr, ◌+◌, ◌-◌, ◌<◌, ◌≤◌, ◌⊎◌, ◌==◌, min, true, false, cond}
-use Rattle.search_dump.proofs.Words.{List, [], ◌∷◌, length, take, refl, sym, ap, ◌∙◌, arith, cases_Bool, cases_lt}
-use Rattle.search_dump.proofs.Words.{eq-eqb, ne_eqb, is_newline, line_of, line_start, lines, column_of, IsView, shown}
-use Rattle.search_dump.proofs.Words.{Content, characters, before-end, line_start-before, lines-of-part, lines-part}
-use Rattle.search_dump.proofs.Words.{IsSpot, IsNextStop}
+use Rattle.search_dump.proofs.Common.{◌≡◌, ℕ, zero, suc, inl, inr, ◌+◌, ◌-◌, ◌<◌, ◌≤◌, ◌⊎◌, ◌==◌, min, true, false}
+use Rattle.search_dump.proofs.Common.{cond, List, [], ◌∷◌, length, take, refl, sym, ap, ◌∙◌, arith, cases_Bool}
+use Rattle.search_dump.proofs.Common.{cases_lt, eq-eqb, ne_eqb, is_newline, line_of, line_start, lines, column_of}
+use Rattle.search_dump.proofs.Common.{IsView, shown, Content, characters, before-end, line_start-before, lines-of-part}
+use Rattle.search_dump.proofs.Common.{lines-part, IsSpot, IsNextStop}
 use Rattle.text_model.proofs.LineLaws.{lines-cons}
 use Rattle.search_dump.specs.declared.listing.Spot.{Spot}
 

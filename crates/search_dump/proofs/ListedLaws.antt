@@ -1,32 +1,24 @@
 -- Which matches of a search are listed.
-use Rattle.search_dump.proofs.Words.{◌≡◌, ℕ, inl, inr, ◌+◌, ◌-◌, ◌<◌, ◌≤◌, ◌&&◌, ◌||◌, max, min, Bool, true, false}
-use Rattle.search_dump.proofs.Words.{Option, None, Some, List, [], ◌∷◌, ◌++◌, length, map, reverse, refl, sym, ap}
-use Rattle.search_dump.proofs.Words.{subst, ◌∙◌, arith, IfSome, nat_le, nat_lt, not, none-some, Goes, goes_nowhere}
-use Rattle.search_dump.proofs.Words.{goes_on, filter, list_any, and_from, and_left, and_parts, and_right, cases_lt}
-use Rattle.search_dump.proofs.Words.{le-leb, le-ltb, lt-leb, lt-ltb, ltb-true, or_left, map-append, get_or-reverse}
-use Rattle.search_dump.proofs.Words.{length-reverse, All-filter, Direction, Forward, Back, Stretch, SearchSwitches}
-use Rattle.search_dump.proofs.Words.{Wanted, First, Apart, apart, bound, candidates, compared, found_places, matches}
-use Rattle.search_dump.proofs.Words.{matches_at, places, shares, wanted_of, HasMatch, first_high, first_low}
-use Rattle.search_dump.proofs.Words.{first_stretch, left_behind, left_round, listed_from, listed_round, matches_in}
-use Rattle.search_dump.proofs.Words.{nearest, next_of, ordered, second_stretch}
+use Rattle.search_dump.proofs.Common.{◌≡◌, ℕ, inl, inr, ◌+◌, ◌-◌, ◌<◌, ◌≤◌, ◌&&◌, ◌||◌, max, min, Bool, true, false}
+use Rattle.search_dump.proofs.Common.{Option, None, Some, List, [], ◌∷◌, ◌++◌, length, map, reverse, refl, sym, ap}
+use Rattle.search_dump.proofs.Common.{subst, ◌∙◌, arith, IfSome, nat_le, nat_lt, not, none-some, Goes, goes_nowhere}
+use Rattle.search_dump.proofs.Common.{goes_on, filter, list_any, and_from, and_left, and_parts, and_right, cases_lt}
+use Rattle.search_dump.proofs.Common.{le-leb, le-ltb, lt-leb, lt-ltb, ltb-true, or_left, map-append, get_or-reverse}
+use Rattle.search_dump.proofs.Common.{length-reverse, All-filter, Direction, Forward, Back, Stretch, SearchSwitches}
+use Rattle.search_dump.proofs.Common.{Wanted, First, Apart, apart, bound, candidates, compared, found_places, matches}
+use Rattle.search_dump.proofs.Common.{matches_at, places, shares, wanted_of, HasMatch, first_high, first_low}
+use Rattle.search_dump.proofs.Common.{first_stretch, left_behind, left_round, listed_from, listed_round, matches_in}
+use Rattle.search_dump.proofs.Common.{nearest, next_of, ordered, second_stretch, and-false, and-true}
 use Rattle.std.specs.List.{All}
 use Rattle.std.proofs.lemmas.List.FromFn.{get_or-range_with_len, length-range_with_len}
 use Rattle.search_dump.specs.declared.searching.Wanted.TheVariants.{All as Every}
 use Rattle.search_dump.proofs.ApartLaws.{apart-append, apart-behind, kept_by, kept_by-any, kept_by-first}
 use Rattle.search_dump.proofs.MatchLaws.{match-fits, match-from, match-same}
-use Rattle.search_dump.proofs.OrderLaws.{behind_high, behind_low, filter-both, filter-none, filter-ordered, first-of}
-use Rattle.search_dump.proofs.OrderLaws.{places-agree, places-from}
+use Rattle.search_dump.proofs.OrderLaws.{behind_first, filter-both, filter-none, filter-ordered, first-of, places-agree}
+use Rattle.search_dump.proofs.OrderLaws.{places-from}
 use Rattle.search_dump.proofs.PlaceLaws.{found-ordered}
 use Rattle.search_dump.proofs.StretchLaws.{matches-round}
 use Rattle.search_dump.proofs.WindowLaws.{length-compared, match-past, match-where}
-
-and-false : (b : Bool) → (b && false) ≡ false
-and-false true = refl
-and-false false = refl
-
-and-true : (b : Bool) → (b && true) ≡ b
-and-true true = refl
-and-true false = refl
 
 shares-yes : (len k place : ℕ) → k < place + len → place < k + len → shares len k place ≡ true
 shares-yes len k place first second = and_from _ _ (lt-ltb k (place + len) first) (lt-ltb place (k + len) second)
@@ -79,8 +71,7 @@ unshared-before pattern text end place k before =
 apart-left : (direction : Direction) (pattern text : List ℕ) (stretch : Stretch) (place : ℕ) → stretch.low ≤ place →
     place < stretch.high
     → apart (length pattern) (place ∷ []) (filter (matches_at pattern text stretch.end)
-    (ordered direction (places (behind_low direction stretch.low place)
-    (behind_high direction stretch.high place))))
+    (behind_first direction stretch.low stretch.high place))
     ≡ apart (length pattern) [] (matches_in direction pattern text
     (left_behind Apart direction stretch place (length pattern)))
 apart-left Forward pattern text stretch place above below =
@@ -112,8 +103,7 @@ apart-left Back pattern text stretch place above below =
 
 every-left : (direction : Direction) (pattern text : List ℕ) (stretch : Stretch) (place : ℕ) → stretch.low ≤ place →
     place < stretch.high
-    → filter (matches_at pattern text stretch.end)
-    (ordered direction (places (behind_low direction stretch.low place) (behind_high direction stretch.high place)))
+    → filter (matches_at pattern text stretch.end) (behind_first direction stretch.low stretch.high place)
     ≡ matches_in direction pattern text (left_behind Every direction stretch place (length pattern))
 every-left Forward pattern text stretch place above below =
     ap (λ low. filter (matches_at pattern text stretch.end) (places low stretch.high)) (omega arith)
@@ -122,15 +112,12 @@ every-left Back pattern text stretch place above below =
 
 wanted-none : (wanted : Wanted) (len : ℕ) → wanted_of wanted len [] ≡ []
 wanted-none First len = refl
-wanted-none Apart len = refl
-wanted-none Every len = refl
+wanted-none wanted len = refl
 
 listed-some : (wanted : Wanted) (direction : Direction) (pattern text : List ℕ) (stretch : Stretch) (place : ℕ) →
     stretch.low ≤ place → place < stretch.high
     → wanted_of wanted (length pattern) (place
-    ∷ filter (matches_at pattern text stretch.end)
-    (ordered direction (places (behind_low direction stretch.low place)
-    (behind_high direction stretch.high place))))
+    ∷ filter (matches_at pattern text stretch.end) (behind_first direction stretch.low stretch.high place))
     ≡ listed_from wanted direction pattern text stretch (Some place)
 listed-some First direction pattern text stretch place above below = refl
 listed-some Apart direction pattern text stretch place above below =
@@ -214,8 +201,7 @@ IsIn Back size from place = (0 ≤ place) × (place < from)
 apart-round : (direction : Direction) (pattern text : List ℕ) (size from place : ℕ) (test : ℕ → Bool)
     → IsIn direction size from place
     → apart (length pattern) (kept_by (length pattern) [] (place
-    ∷ filter test (ordered direction (places (behind_low direction (first_low direction from None) place)
-    (behind_high direction (first_high direction size from None) place)))))
+    ∷ filter test (behind_first direction (first_low direction from None) (first_high direction size from None) place)))
     (matches_in direction pattern text (second_stretch direction size from))
     ≡ apart (length pattern) [] (matches_in direction pattern text
     (left_round Apart direction (second_stretch direction size from) place (length pattern)))
@@ -261,18 +247,15 @@ apart-round Back pattern text size from place test within =
 round-some : (wanted : Wanted) (direction : Direction) (pattern text : List ℕ) (size from place : ℕ) (test : ℕ → Bool) →
     IsIn direction size from place
     → wanted_of wanted (length pattern) (place
-    ∷ filter test (ordered direction (places (behind_low direction (first_low direction from None) place)
-    (behind_high direction (first_high direction size from None) place)))
+    ∷ filter test (behind_first direction (first_low direction from None) (first_high direction size from None) place)
     ++ matches_in direction pattern text (second_stretch direction size from))
     ≡ wanted_of wanted (length pattern) (place
-    ∷ filter test (ordered direction (places (behind_low direction (first_low direction from None) place)
-    (behind_high direction (first_high direction size from None) place))))
+    ∷ filter test (behind_first direction (first_low direction from None) (first_high direction size from None) place))
     ++ listed_round wanted direction pattern text (second_stretch direction size from) (Some place)
 round-some First direction pattern text size from place test within = refl
 round-some Apart direction pattern text size from place test within =
-    let before = place ∷ filter test (ordered direction
-    (places (behind_low direction (first_low direction from None) place)
-    (behind_high direction (first_high direction size from None) place))) in
+    let before = place ∷ filter test
+    (behind_first direction (first_low direction from None) (first_high direction size from None) place) in
     apart-append (length pattern) [] before (matches_in direction pattern text (second_stretch direction size from))
     ∙ ap (λ xs. apart (length pattern) [] before ++ xs) (apart-round direction pattern text size from place test within)
 round-some Every direction pattern text size from place test within = refl
@@ -323,34 +306,15 @@ pub record IsNext (direction : Direction) (pattern text : List ℕ) (stretch : S
   pub fits : place + length pattern ≤ stretch.end
   pub matches : HasMatch pattern text place
 
-pub next-at : (direction : Direction) (pattern text : List ℕ) (stretch : Stretch) (next : Option ℕ) (place : ℕ) →
-    IfSome next (λ at. nearest direction pattern text stretch ≡ Some at) → next ≡ Some place
-    → stretch.end ≤ length text → IsNext direction pattern text stretch place
-next-at direction pattern text stretch next place some is within =
-    let found : nearest direction pattern text stretch
-    ≡ Some place = subst (λ o. IfSome o (λ at. nearest direction pattern text stretch ≡ Some at)) is some in
-    let at = found-ordered direction (matches_at pattern text stretch.end) stretch.low stretch.high place found in
-    let fits = match-fits pattern text stretch.end place at.passes in
-    record {
-      is = found;
-      above = at.above;
-      below = at.below;
-      fits = fits;
-      matches = match-from pattern text (length text) place (omega arith)
-          (match-same pattern text stretch.end place at.passes);
-    }
-
 -- fewer places are left behind it
 pub left-less : (wanted : Wanted) (direction : Direction) (stretch : Stretch) (place len : ℕ) → stretch.low ≤ place →
     place < stretch.high
     → (left_behind wanted direction stretch place len).high - (left_behind wanted direction stretch place len).low
     < stretch.high - stretch.low
 left-less First Forward stretch place len above below = omega arith
-left-less First Back stretch place len above below = omega arith
 left-less Apart Forward stretch place len above below = omega arith
-left-less Apart Back stretch place len above below = omega arith
 left-less Every Forward stretch place len above below = omega arith
-left-less Every Back stretch place len above below = omega arith
+left-less wanted direction stretch place len above below = omega arith
 
 -- and none goes further
 pub left-within : (wanted : Wanted) (direction : Direction) (stretch : Stretch) (place len size : ℕ) →
@@ -358,11 +322,9 @@ pub left-within : (wanted : Wanted) (direction : Direction) (stretch : Stretch) 
     → ((left_behind wanted direction stretch place len).high ≤ size)
     × ((left_behind wanted direction stretch place len).end ≤ size)
 left-within First Forward stretch place len size high end = (omega arith, omega arith)
-left-within First Back stretch place len size high end = (omega arith, omega arith)
 left-within Apart Forward stretch place len size high end = (omega arith, omega arith)
-left-within Apart Back stretch place len size high end = (omega arith, omega arith)
 left-within Every Forward stretch place len size high end = (omega arith, omega arith)
-left-within Every Back stretch place len size high end = (omega arith, omega arith)
+left-within wanted direction stretch place len size high end = (omega arith, omega arith)
 
 next-some : (wanted : Wanted) (direction : Direction) (pattern text : List ℕ) (stretch : Stretch) (next : Option ℕ) →
     next ≡ next_of wanted (nearest direction pattern text stretch)
@@ -387,12 +349,12 @@ pub record IsListing (wanted : Wanted) (direction : Direction) (pattern text : L
   pub high : rest.high ≤ size
   pub end : rest.end ≤ size
 
-pub listing-begun : (wanted : Wanted) (direction : Direction) (pattern text : List ℕ) (show : ℕ →
-    List ℕ) (old : List ℕ) (stretch : Stretch) (first : Option ℕ) (size : ℕ)
+pub listing-begun : {wanted : Wanted} {direction : Direction} {pattern text : List ℕ} {show : ℕ → List ℕ}
+    {old : List ℕ} {stretch : Stretch} {first : Option ℕ} {size : ℕ}
     → first ≡ nearest direction pattern text stretch → stretch.high ≤ size → stretch.end ≤ size
     → IsListing wanted direction pattern text show
     (wanted_of wanted (length pattern) (matches_in direction pattern text stretch)) old old stretch first size
-listing-begun wanted direction pattern text show old stretch first size is high end = record {
+listing-begun {wanted} {direction} {pattern} {text} {show} {old} {stretch} {first} is high end = record {
   goes = λ bytes goes. subst (λ xs. Goes old bytes (map show xs))
       (sym (listed-is wanted direction pattern text stretch first is)) goes;
   found = first-some direction pattern text stretch first is;
@@ -400,38 +362,50 @@ listing-begun wanted direction pattern text show old stretch first size is high 
   end = end;
 }
 
-pub listing-on : (wanted : Wanted) (direction : Direction) (pattern text : List ℕ) (show : ℕ →
-    List ℕ) (all old now later : List ℕ) (rest left : Stretch) (before next : Option ℕ) (place len size : ℕ)
-    → IsListing wanted direction pattern text show all old now rest before size → before ≡ Some place →
-    Goes now later (show place ∷ []) → len ≡ length pattern
-    → left ≡ left_behind wanted direction rest place len → next ≡ next_of wanted (nearest direction pattern text left)
-    → IsListing wanted direction pattern text show all old later left next size
-listing-on wanted direction pattern text show all old now later rest left before next place len size listing was pushed
-    is_len is_left is =
-    let same : left ≡ left_behind wanted direction rest place (length pattern) = is_left
-    ∙ ap (left_behind wanted direction rest place) is_len in
-    let bounds = left-within wanted direction rest place (length pattern) size listing.high listing.end in
-    record {
-      goes = λ bytes goes. listing.goes bytes
-          (subst (λ xs. Goes now bytes (map show xs))
-          (sym (ap (listed_from wanted direction pattern text rest) was
-          ∙ listed-next wanted direction pattern text rest place next (is
-          ∙ ap (λ s. next_of wanted (nearest direction pattern text s)) same)
-          ∙ ap (λ s. place ∷ listed_from wanted direction pattern text s next) (sym same)))
-          (goes_on now later bytes (show place ∷ []) (map show (listed_from wanted direction pattern text left next))
-          pushed goes));
-      found = next-some wanted direction pattern text left next is;
-      high = omega (arith, ap (λ (s : Stretch). s.high) same);
-      end = omega (arith, ap (λ (s : Stretch). s.end) same);
-    }
+module _ {wanted : Wanted} {direction : Direction} {pattern text : List ℕ} {show : ℕ → List ℕ}
+    {all old now : List ℕ} {rest : Stretch} {next : Option ℕ} {size : ℕ}
+    (listing : IsListing wanted direction pattern text show all old now rest next size) where
+  pub next-at : {place : ℕ} → next ≡ Some place → size ≤ length text → IsNext direction pattern text rest place
+  next-at {place} was within =
+      let found = subst (λ o. IfSome o (λ at. nearest direction pattern text rest ≡ Some at)) was listing.found in
+      let at = found-ordered direction (matches_at pattern text rest.end) rest.low rest.high place found in
+      let fits = match-fits pattern text rest.end place at.passes in
+      record {
+        is = found;
+        above = at.above;
+        below = at.below;
+        fits = fits;
+        matches = match-from pattern text (length text) place (omega (arith, listing.end))
+            (match-same pattern text rest.end place at.passes);
+      }
 
-pub listing-done : (wanted : Wanted) (direction : Direction) (pattern text : List ℕ) (show : ℕ →
-    List ℕ) (all old now : List ℕ) (rest : Stretch) (next : Option ℕ) (size : ℕ)
-    → IsListing wanted direction pattern text show all old now rest next size → next ≡ None →
-    Goes old now (map show all)
-listing-done wanted direction pattern text show all old now rest next size listing none =
-    listing.goes now (subst (λ o. Goes now now (map show (listed_from wanted direction pattern text rest o))) (sym none)
-    (goes_nowhere now))
+  pub listing-on : {later : List ℕ} {left : Stretch} {following : Option ℕ} {place len : ℕ} → next ≡ Some place →
+      Goes now later (show place ∷ []) → len ≡ length pattern
+      → left ≡ left_behind wanted direction rest place len
+      → following ≡ next_of wanted (nearest direction pattern text left)
+      → IsListing wanted direction pattern text show all old later left following size
+  listing-on {later} {left} {following} {place} was pushed is_len is_left is =
+      let same : left ≡ left_behind wanted direction rest place (length pattern) = is_left
+      ∙ ap (left_behind wanted direction rest place) is_len in
+      let bounds = left-within wanted direction rest place (length pattern) size listing.high listing.end in
+      record {
+        goes = λ bytes goes. listing.goes bytes
+            (subst (λ xs. Goes now bytes (map show xs))
+            (sym (ap (listed_from wanted direction pattern text rest) was
+            ∙ listed-next wanted direction pattern text rest place following (is
+            ∙ ap (λ s. next_of wanted (nearest direction pattern text s)) same)
+            ∙ ap (λ s. place ∷ listed_from wanted direction pattern text s following) (sym same)))
+            (goes_on now later bytes (show place ∷ [])
+            (map show (listed_from wanted direction pattern text left following)) pushed goes));
+        found = next-some wanted direction pattern text left following is;
+        high = omega (arith, ap (λ (s : Stretch). s.high) same);
+        end = omega (arith, ap (λ (s : Stretch). s.end) same);
+      }
+
+  pub listing-done : next ≡ None → Goes old now (map show all)
+  listing-done none =
+      listing.goes now (subst (λ o. Goes now now (map show (listed_from wanted direction pattern text rest o)))
+      (sym none) (goes_nowhere now))
 
 -- ---- the whole text
 

@@ -1,5 +1,5 @@
 -- The names of marks by their ranks.
-use Rattle.search_dump.proofs.Words.{◌≡◌, ℕ, suc, ◌+◌, List, [], refl, ap, arith, codes, slice_index_or, name_of_rank}
+use Rattle.search_dump.proofs.Common.{◌≡◌, ℕ, suc, ◌+◌, List, [], refl, ap, arith, codes, slice_index_or, name_of_rank}
 use Rattle.std.specs.Str.{chars}
 
 pub insert-characters : chars (codes "insert") ≡ codes "insert"

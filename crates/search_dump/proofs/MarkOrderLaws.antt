@@ -1,17 +1,16 @@
 -- The order of the marks that a widget can use.
-use Rattle.search_dump.proofs.Words.{◌≡◌, ◌≢◌, ℕ, zero, suc, inl, inr, ◌+◌, ◌-◌, ◌*◌, ◌<◌, ◌≤◌, ◌⊎◌, ◌&&◌, ◌==◌, max}
-use Rattle.search_dump.proofs.Words.{min, Bool, true, false, cond, Option, None, Some, List, [], ◌∷◌, ◌++◌, length}
-use Rattle.search_dump.proofs.Words.{refl, sym, ap, ap₂, subst, ◌∙◌, arith, MatchOption, codes, nat_le, nat_lt, not}
-use Rattle.search_dump.proofs.Words.{slice_get, filter, find, flat_map, fold, option_and_then, option_map, and_parts}
-use Rattle.search_dump.proofs.Words.{and_right, cases_Bool, cases_eq, cases_lt, cond-false, cond-true, eq-eqb}
-use Rattle.search_dump.proofs.Words.{false≢true, le-leb, leb-true, lt-ltb, ne_eqb, not-true, append-nil, append_assoc}
-use Rattle.search_dump.proofs.Words.{none-some, same_Some, slice_get_within, earlier, first, mark_of, next_mark}
-use Rattle.search_dump.proofs.Words.{next_shown, own_mark, own_place, rank_of, shared_mark, shared_marks, shown_mark}
-use Rattle.search_dump.proofs.Words.{Mark, names_of, numbers_of, Tag, Goes, goes_nowhere, goes_on, shown, Shown}
-use Rattle.search_dump.proofs.Words.{Content, Marks, element, if_listed, mark_elements, mark_seen, seen_by, stands_at}
-use Rattle.search_dump.proofs.Words.{Has, IsMarkBehind, IsMarkFrom, is_before, mark_element, own_place_in, passed}
-use Rattle.search_dump.proofs.Words.{place_in, shared_place_in, usable_by}
-use Rattle.std.specs.FinMap as finite
+use Rattle.search_dump.proofs.Common.{◌≡◌, ◌≢◌, ℕ, zero, suc, inl, inr, ◌+◌, ◌-◌, ◌*◌, ◌<◌, ◌≤◌, ◌⊎◌, ◌&&◌, ◌==◌, max}
+use Rattle.search_dump.proofs.Common.{min, Bool, true, false, cond, Option, None, Some, List, [], ◌∷◌, ◌++◌, length}
+use Rattle.search_dump.proofs.Common.{refl, sym, ap, ap₂, subst, ◌∙◌, arith, MatchOption, codes, nat_le, nat_lt, not}
+use Rattle.search_dump.proofs.Common.{slice_get, filter, find, flat_map, fold, option_and_then, option_map, and_parts}
+use Rattle.search_dump.proofs.Common.{and_right, cases_Bool, cases_eq, cases_lt, cond-false, cond-true, eq-eqb}
+use Rattle.search_dump.proofs.Common.{false≢true, le-leb, leb-true, lt-ltb, ne_eqb, not-true, append-nil, append_assoc}
+use Rattle.search_dump.proofs.Common.{none-some, same_Some, slice_get_within, earlier, first, mark_of, next_mark}
+use Rattle.search_dump.proofs.Common.{next_shown, own_mark, own_place, rank_of, shared_mark, shared_marks, shown_mark}
+use Rattle.search_dump.proofs.Common.{Mark, names_of, numbers_of, Tag, Goes, goes_nowhere, goes_on, shown, Shown}
+use Rattle.search_dump.proofs.Common.{Content, Marks, element, if_listed, mark_elements, mark_seen, seen_by, stands_at}
+use Rattle.search_dump.proofs.Common.{Has, IsMarkBehind, IsMarkFrom, is_before, mark_element, own_place_in, passed}
+use Rattle.search_dump.proofs.Common.{place_in, shared_place_in, usable_by}
 use Rattle.std.proofs.lemmas.Bool.Decides.{nat_tests}
 use Rattle.mark_table.specs.declared.order.MarkView.{MarkView}
 use Rattle.mark_table.specs.declared.order.Origin.{Origin}
@@ -19,6 +18,7 @@ use Rattle.mark_table.specs.declared.order.Origin.TheVariants.{Mark as FromMark,
 use Rattle.mark_table.specs.declared.order.WidgetMark.{WidgetMark}
 use Rattle.text_model.specs.declared.places.Place.{Place}
 use Rattle.search_dump.proofs.DumpLaws.{flat-filter}
+use Rattle.std.specs.FinMap as finite
 
 asym : (a b : Shown) → earlier a b ≡ true → earlier b a ≡ false
 asym a b is = grind (arith, nat_tests)
@@ -43,88 +43,87 @@ by-rank a b same = grind (arith, nat_tests)
 
 -- ---- the first of some marks
 
-fold-has : (x : Shown) (xs : List Shown) → Has (x ∷ xs) (fold (λ a b. cond (earlier b a) b a) x xs)
-fold-has x [] = inl refl
-fold-has x (y ∷ ys) =
-    elim (earlier y x) as (λ b. Has (x ∷ y ∷ ys) (fold (λ a c. cond (earlier c a) c a) (cond b y x) ys)) [
-      | true ↦ inr (fold-has y ys)
-      | false ↦ elim (fold-has x ys) [ inl same ↦ inl same | inr later ↦ inr (inr later) ]
+abbrev least : Shown → List Shown → Shown
+least x xs = fold (λ a b. cond (earlier b a) b a) x xs
+
+least-has : (x : Shown) (xs : List Shown) → Has (x ∷ xs) (least x xs)
+least-has x [] = inl refl
+least-has x (y ∷ ys) =
+    elim (earlier y x) as (λ b. Has (x ∷ y ∷ ys) (least (cond b y x) ys)) [
+      | true ↦ inr (least-has y ys)
+      | false ↦ elim (least-has x ys) [ inl same ↦ inl same | inr later ↦ inr (inr later) ]
     ]
 
-fold-least : (x : Shown) (xs : List Shown) (y : Shown) → Has (x ∷ xs) y →
-    earlier y (fold (λ a b. cond (earlier b a) b a) x xs) ≡ false
-fold-least x [] y (inl same) = subst (λ z. earlier z x ≡ false) same (not-itself x)
-fold-least x [] y (inr none) = absurd none
-fold-least x (z ∷ zs) y has =
+none-less : (x : Shown) (xs : List Shown) (y : Shown) → Has (x ∷ xs) y → earlier y (least x xs) ≡ false
+none-less x [] y (inl same) = subst (λ z. earlier z x ≡ false) same (not-itself x)
+none-less x [] y (inr none) = absurd none
+none-less x (z ∷ zs) y has =
     elim (cases_Bool (earlier z x)) [
       | inl before ↦
-          let same : fold (λ a b. cond (earlier b a) b a) x (z ∷ zs)
-          ≡ fold (λ a b. cond (earlier b a) b a) z zs = ap (λ b.
-          fold (λ a c. cond (earlier c a) c a) (cond b z x) zs) before in
+          let same : least x (z ∷ zs) ≡ least z zs = ap (λ b. least (cond b z x) zs) before in
           rw same (elim has [
-            | inl is-x ↦ subst (λ w. earlier w (fold (λ a b. cond (earlier b a) b a) z zs)
-                ≡ false) is-x (along x z (fold (λ a b. cond (earlier b a) b a) z zs) (asym z x before)
-                (fold-least z zs z (inl refl)))
-            | inr later ↦ fold-least z zs y later
+            | inl is-x ↦ subst (λ w. earlier w (least z zs) ≡ false) is-x
+                (along x z (least z zs) (asym z x before) (none-less z zs z (inl refl)))
+            | inr later ↦ none-less z zs y later
           ])
       | inr behind ↦
-          let same : fold (λ a b. cond (earlier b a) b a) x (z ∷ zs)
-          ≡ fold (λ a b. cond (earlier b a) b a) x zs = ap (λ b.
-          fold (λ a c. cond (earlier c a) c a) (cond b z x) zs) behind in
+          let same : least x (z ∷ zs) ≡ least x zs = ap (λ b. least (cond b z x) zs) behind in
           rw same (elim has [
-            | inl is-x ↦ fold-least x zs y (inl is-x)
+            | inl is-x ↦ none-less x zs y (inl is-x)
             | inr later ↦ elim later [
-              | inl is-z ↦ subst (λ w. earlier w (fold (λ a b. cond (earlier b a) b a) x zs)
-                  ≡ false) is-z (along z x (fold (λ a b. cond (earlier b a) b a) x zs) behind
-                  (fold-least x zs x (inl refl)))
-              | inr rest ↦ fold-least x zs y (inr rest)
+              | inl is-z ↦ subst (λ w. earlier w (least x zs) ≡ false) is-z
+                  (along z x (least x zs) behind (none-less x zs x (inl refl)))
+              | inr rest ↦ none-less x zs y (inr rest)
             ]
           ])
     ]
 
 first-has : (xs : List Shown) (mark : Shown) → first xs ≡ Some mark → Has xs mark
 first-has [] mark is = absurd (none-some mark is)
-first-has (x ∷ xs) mark is =
-    subst (Has (x ∷ xs)) (same_Some (fold (λ a b. cond (earlier b a) b a) x xs) mark is) (fold-has x xs)
+first-has (x ∷ xs) mark is = subst (Has (x ∷ xs)) (same_Some (least x xs) mark is) (least-has x xs)
 
 first-least : (xs : List Shown) (mark y : Shown) → first xs ≡ Some mark → Has xs y → earlier y mark ≡ false
 first-least [] mark y is has = absurd has
-first-least (x ∷ xs) mark y is has = subst (λ m. earlier y m
-    ≡ false) (same_Some (fold (λ a b. cond (earlier b a) b a) x xs) mark is) (fold-least x xs y has)
+first-least (x ∷ xs) mark y is has =
+    subst (λ m. earlier y m ≡ false) (same_Some (least x xs) mark is) (none-less x xs y has)
 
 first-none : (xs : List Shown) (y : Shown) → first xs ≡ None → Has xs y → ⊥
 first-none [] y is has = has
-first-none (x ∷ xs) y is has = none-some (fold (λ a b. cond (earlier b a) b a) x xs) (sym is)
+first-none (x ∷ xs) y is has = none-some (least x xs) (sym is)
+
+filter-yes : (test : Shown → Bool) (x : Shown) (xs : List Shown) → test x ≡ true →
+    filter test (x ∷ xs) ≡ x ∷ filter test xs
+filter-yes test x xs is = cond-true (test x) (x ∷ filter test xs) (filter test xs) is
+
+filter-no : (test : Shown → Bool) (x : Shown) (xs : List Shown) → test x ≡ false →
+    filter test (x ∷ xs) ≡ filter test xs
+filter-no test x xs is = cond-false (test x) (x ∷ filter test xs) (filter test xs) is
 
 has-filter : (test : Shown → Bool) (xs : List Shown) (y : Shown) → Has (filter test xs) y → Has xs y × (test y ≡ true)
 has-filter test [] y has = absurd has
 has-filter test (x ∷ xs) y has =
     elim (cases_Bool (test x)) [
       | inl is-it ↦
-          let there : Has (x ∷ filter test xs) y = subst (λ ys. Has ys y)
-          (cond-true (test x) (x ∷ filter test xs) (filter test xs) is-it) has in
+          let there : Has (x ∷ filter test xs) y = subst (λ ys. Has ys y) (filter-yes test x xs is-it) has in
           elim there [
             | inl same ↦ (inl same, subst (λ z. test z ≡ true) same is-it)
             | inr later ↦ let rest = has-filter test xs y later in (inr rest.0, rest.1)
           ]
       | inr is-not ↦
-          let rest = has-filter test xs y (subst (λ ys. Has ys y)
-          (cond-false (test x) (x ∷ filter test xs) (filter test xs) is-not) has) in (inr rest.0, rest.1)
+          let rest = has-filter test xs y (subst (λ ys. Has ys y) (filter-no test x xs is-not) has) in
+          (inr rest.0, rest.1)
     ]
 
 filter-has : (test : Shown → Bool) (xs : List Shown) (y : Shown) → Has xs y → test y ≡ true → Has (filter test xs) y
 filter-has test [] y has is = has
 filter-has test (x ∷ xs) y has is =
     elim has [
-      | inl same ↦ subst (λ ys. Has ys y)
-          (sym (cond-true (test x) (x ∷ filter test xs) (filter test xs) (ap test same ∙ is))) (inl same)
+      | inl same ↦ subst (λ ys. Has ys y) (sym (filter-yes test x xs (ap test same ∙ is))) (inl same)
       | inr later ↦
           let rest = filter-has test xs y later is in
           elim (cases_Bool (test x)) [
-            | inl is-it ↦ subst (λ ys. Has ys y) (sym (cond-true (test x) (x ∷ filter test xs) (filter test xs) is-it))
-                (inr rest)
-            | inr is-not ↦ subst (λ ys. Has ys y)
-                (sym (cond-false (test x) (x ∷ filter test xs) (filter test xs) is-not)) rest
+            | inl is-it ↦ subst (λ ys. Has ys y) (sym (filter-yes test x xs is-it)) (inr rest)
+            | inr is-not ↦ subst (λ ys. Has ys y) (sym (filter-no test x xs is-not)) rest
           ]
     ]
 
@@ -435,7 +434,7 @@ listed-alike place each one other mark alike =
     ]
 
 -- none is passed at first
-pub passed-none : (marks : List Shown) (place : ℕ) (each : Shown → List (List ℕ)) (next : Option Shown) →
+passed-none : (marks : List Shown) (place : ℕ) (each : Shown → List (List ℕ)) (next : Option Shown) →
     IsMarkFrom marks place next → passed place each next marks ≡ []
 passed-none marks place each None from =
     flat-none (λ mark. if_listed (mark.place == place && is_before None mark) (each mark)) marks (λ y has.
@@ -445,7 +444,7 @@ passed-none marks place each (Some next) from =
     listed-none place each (Some next) y (λ same. from.2 y has (omega arith)))
 
 -- all are in the end
-pub passed-all : (marks : List Shown) (place : ℕ) (each : Shown → List (List ℕ)) (next : Option Shown) →
+passed-all : (marks : List Shown) (place : ℕ) (each : Shown → List (List ℕ)) (next : Option Shown) →
     MatchOption next (Unit {0}) (λ m. place < m.place)
     → passed place each next marks ≡ passed place each None marks
 passed-all marks place each None end = refl
@@ -511,7 +510,7 @@ passed-step all place each mark next here behind rank (x ∷ xs) rising within h
     ]
 
 -- one mark more
-pub passed-on : (marks : List Shown) (place : ℕ) (each : Shown → List (List ℕ)) (mark : Shown) (next : Option Shown) →
+passed-on : (marks : List Shown) (place : ℕ) (each : Shown → List (List ℕ)) (mark : Shown) (next : Option Shown) →
     IsRising 0 marks → Has marks mark → mark.place ≡ place → IsMarkBehind marks mark next
     → passed place each next marks ≡ passed place each (Some mark) marks ++ each mark
 passed-on marks place each mark next rising has here behind =
@@ -597,12 +596,12 @@ IsMarkOn marks place next =
     (λ found. Has marks found × (place ≤ found.place)
     × ((mark : Shown) → Has marks mark → place + 1 ≤ mark.place → earlier mark found ≡ false))
 
-pub on-begun : (marks : List Shown) (place : ℕ) (next : Option Shown) → IsMarkFrom marks place next →
+on-begun : (marks : List Shown) (place : ℕ) (next : Option Shown) → IsMarkFrom marks place next →
     IsMarkOn marks place next
 on-begun marks place None from = λ mark has. omega (arith, from mark has)
 on-begun marks place (Some next) from = (from.0, from.1, λ mark has above. from.2 mark has (omega arith))
 
-pub on-step : (marks : List Shown) (place : ℕ) (mark : Shown) (next : Option Shown) → mark.place ≡ place →
+on-step : (marks : List Shown) (place : ℕ) (mark : Shown) (next : Option Shown) → mark.place ≡ place →
     IsMarkBehind marks mark next → IsMarkOn marks place next
 on-step marks place mark None here behind = λ other has.
     elim (cases_lt place other.place) [
@@ -615,7 +614,7 @@ on-step marks place mark (Some next) here behind = (
   λ other has above. behind.2 other has (earlier-place mark other (omega arith)),
 )
 
-pub on-above : (marks : List Shown) (place : ℕ) (next : Option Shown) → IsMarkOn marks place next →
+on-above : (marks : List Shown) (place : ℕ) (next : Option Shown) → IsMarkOn marks place next →
     MatchOption next (Unit {0}) (λ m. m.place ≢ place) → MatchOption next (Unit {0}) (λ m. place < m.place)
 on-above marks place None on end = tt
 on-above marks place (Some next) on end =
@@ -635,12 +634,8 @@ filter-less more fewer mark (x ∷ xs) each is none =
     let rest = filter-less more fewer mark xs each is none in
     elim (cases_Bool (fewer x)) [
       | inl in-fewer ↦
-          let few : length (filter fewer (x ∷ xs))
-          ≡ suc (length (filter fewer xs)) = ap length
-          (cond-true (fewer x) (x ∷ filter fewer xs) (filter fewer xs) in-fewer) in
-          let many : length (filter more (x ∷ xs))
-          ≡ suc (length (filter more xs)) = ap length
-          (cond-true (more x) (x ∷ filter more xs) (filter more xs) (each x in-fewer)) in (
+          let few = ap length (filter-yes fewer x xs in-fewer) in
+          let many = ap length (filter-yes more x xs (each x in-fewer)) in (
             omega (arith, few, many, rest.0),
             λ has. elim has [
               | inl same ↦ absurd (false≢true (sym none ∙ sym (ap fewer same) ∙ in-fewer))
@@ -648,19 +643,13 @@ filter-less more fewer mark (x ∷ xs) each is none =
             ],
           )
       | inr not-fewer ↦
-          let few : length (filter fewer (x ∷ xs))
-          ≡ length (filter fewer xs) = ap length
-          (cond-false (fewer x) (x ∷ filter fewer xs) (filter fewer xs) not-fewer) in
+          let few = ap length (filter-no fewer x xs not-fewer) in
           elim (cases_Bool (more x)) [
             | inl in-more ↦
-                let many : length (filter more (x ∷ xs))
-                ≡ suc (length (filter more xs)) = ap length
-                (cond-true (more x) (x ∷ filter more xs) (filter more xs) in-more) in
+                let many = ap length (filter-yes more x xs in-more) in
                 (omega (arith, few, many, rest.0), λ has. omega (arith, few, many, rest.0))
             | inr not-more ↦
-                let many : length (filter more (x ∷ xs))
-                ≡ length (filter more xs) = ap length
-                (cond-false (more x) (x ∷ filter more xs) (filter more xs) not-more) in (
+                let many = ap length (filter-no more x xs not-more) in (
                   omega (arith, few, many, rest.0),
                   λ has. elim has [
                     | inl same ↦ absurd (false≢true (sym not-more ∙ ap more same ∙ is))
@@ -676,7 +665,7 @@ some-left marks mark has =
     let less = (filter-less (λ (other : Shown). not (earlier other mark)) (λ (other : Shown). false) mark marks (λ y is.
     absurd (false≢true is)) (ap not (not-itself mark)) refl).1 has in omega arith
 
-pub left-fewer : (marks : List Shown) (mark : Shown) (next : Option Shown) → Has marks mark →
+left-fewer : (marks : List Shown) (mark : Shown) (next : Option Shown) → Has marks mark →
     IsMarkBehind marks mark next → marks_left marks next < marks_left marks (Some mark)
 left-fewer marks mark None has behind = some-left marks mark has
 left-fewer marks mark (Some next) has behind =
@@ -688,7 +677,7 @@ left-fewer marks mark (Some next) has behind =
     (ap not (not-itself mark)) (ap not behind.1)).1 has
 
 -- all the marks at a place
-pub marks-are : (content : Content) (start end : ℕ) (tags : List Tag) (marks : List Mark) (widget place : ℕ) →
+marks-are : (content : Content) (start end : ℕ) (tags : List Tag) (marks : List Mark) (widget place : ℕ) →
     start ≤ end
     → passed (start + place) (mark_element (shown content start end) (names_of marks) place) None
     (usable_by content start end marks widget) ≡ mark_elements (seen_by content start end tags marks widget) place
@@ -707,22 +696,22 @@ marks-are content start end tags marks widget place ordered =
           ∙ sym (ap (λ b. if_listed b (each mark)) (ne_eqb (mark.place - start) place (λ same. other (omega arith))))
     ])
     ∙ sym (flat-filter (λ mark. element (codes "mark") (shown content start end) place mark.name) (stands_at place)
-    (mark_seen marks start) (λ (mark : Shown). if_listed (mark.place - start == place) (each mark)) all (λ mark.
-    refl))
+    (mark_seen marks start) (λ (mark : Shown). if_listed (mark.place - start == place) (each mark))
+    (record { place = 0; rank = 0 }) all (λ at within. refl))
 
-pub listed-on : (listed : Bool) (old between new : List ℕ) (some more all : List (List ℕ)) → all ≡ some ++ more →
+listed-on : (listed : Bool) (old between new : List ℕ) (some more all : List (List ℕ)) → all ≡ some ++ more →
     Goes old between (if_listed listed some) → Goes between new (if_listed listed more)
     → Goes old new (if_listed listed all)
 listed-on true old between new some more all is first second =
     subst (Goes old new) (sym is) (goes_on old between new some more first second)
 listed-on false old between new some more all is first second = goes_on old between new [] [] first second
 
-pub listed-none-yet : (listed : Bool) (old : List ℕ) (some : List (List ℕ)) → some ≡ [] →
+listed-none-yet : (listed : Bool) (old : List ℕ) (some : List (List ℕ)) → some ≡ [] →
     Goes old old (if_listed listed some)
 listed-none-yet true old some is = subst (Goes old old) (sym is) (goes_nowhere old)
 listed-none-yet false old some is = goes_nowhere old
 
-pub goes-all : (content : Content) (start end : ℕ) (tags : List Tag) (marks : List Mark) (widget place : ℕ)
+goes-all : (content : Content) (start end : ℕ) (tags : List Tag) (marks : List Mark) (widget place : ℕ)
     (listed : Bool) (old now : List ℕ) (next : Option Shown) → start ≤ end
     → MatchOption next (Unit {0}) (λ m. start + place < m.place)
     →
@@ -735,3 +724,56 @@ goes-all content start end tags marks widget place listed old now next ordered a
     (passed-all (usable_by content start end marks widget) (start + place)
     (mark_element (shown content start end) (names_of marks) place) next above
     ∙ marks-are content start end tags marks widget place ordered) goes
+
+-- what is listed of the marks at a place is what stands before the next one
+pub record AreListed (content : Content) (start end : ℕ) (marks : List Mark) (widget place : ℕ) (listed : Bool)
+    (old now : List ℕ) (next : Option Shown) : Type 0 where
+  pub goes : Goes old now (if_listed listed (passed (start + place)
+      (mark_element (shown content start end) (names_of marks) place) next
+      (usable_by content start end marks widget)))
+  pub on : IsMarkOn (usable_by content start end marks widget) (start + place) next
+
+pub marks-begun : {content : Content} {start end : ℕ} {marks : List Mark} {widget place : ℕ} {listed : Bool}
+    {old : List ℕ} {next : Option Shown} → IsMarkFrom (usable_by content start end marks widget) (start + place) next →
+    AreListed content start end marks widget place listed old old next
+marks-begun {content} {start} {end} {marks} {widget} {place} {listed} {old} {next} from =
+    let all = usable_by content start end marks widget in
+    let each = mark_element (shown content start end) (names_of marks) place in
+    record {
+      goes = listed-none-yet listed old (passed (start + place) each next all)
+          (passed-none all (start + place) each next from);
+      on = on-begun all (start + place) next from;
+    }
+
+module _ {content : Content} {start end : ℕ} {marks : List Mark} {widget place : ℕ} {listed : Bool} {old now : List ℕ}
+    {before : Option Shown} (are : AreListed content start end marks widget place listed old now before) where
+  pub marks-on : {new : List ℕ} {mark : Shown} {next : Option Shown} → before ≡ Some mark →
+      mark.place ≡ start + place → IsMarkBehind (usable_by content start end marks widget) mark next
+      → Goes now new (if_listed listed (mark_element (shown content start end) (names_of marks) place mark)) →
+      AreListed content start end marks widget place listed old new next
+  marks-on {new} {mark} {next} is here behind pushed =
+      let all = usable_by content start end marks widget in
+      let each = mark_element (shown content start end) (names_of marks) place in
+      let at = start + place in
+      let still = subst (AreListed content start end marks widget place listed old now) is are in
+      record {
+        goes = listed-on listed old now new (passed at each (Some mark) all) (each mark) (passed at each next all)
+            (passed-on all at each mark next (usable-rising content start end marks widget) still.on.0 here behind)
+            still.goes pushed;
+        on = on-step all at mark next here behind;
+      }
+
+  pub marks-fewer : {mark : Shown} (next : Option Shown) → before ≡ Some mark →
+      IsMarkBehind (usable_by content start end marks widget) mark next
+      → marks_left (usable_by content start end marks widget) next
+      < marks_left (usable_by content start end marks widget) before
+  marks-fewer {mark} next is behind =
+      let all = usable_by content start end marks widget in
+      subst (λ o. marks_left all next < marks_left all o) (sym is)
+      (left-fewer all mark next (subst (IsMarkOn all (start + place)) is are.on).0 behind)
+
+  pub marks-done : (tags : List Tag) → start ≤ end → MatchOption before (Unit {0}) (λ m. m.place ≢ start + place) →
+      Goes old now (if_listed listed (mark_elements (seen_by content start end tags marks widget) place))
+  marks-done tags ordered apart =
+      goes-all content start end tags marks widget place listed old now before ordered
+      (on-above (usable_by content start end marks widget) (start + place) before are.on apart) are.goes

@@ -1,7 +1,6 @@
 -- The searches for `aba` that were worked out by hand, in the text `ababa`.
-use Rattle.search_dump.proofs.Words.{◌≡◌, ℕ, Bool, true, false, List, [], ◌∷◌, Some, None, refl, codes, Direction}
-use Rattle.search_dump.proofs.Words.{Forward, Back, found_places, SearchSwitches, Wanted, First, Apart, All}
-use Rattle.std.specs.Prelude.{Option}
+use Rattle.search_dump.proofs.Common.{◌≡◌, ℕ, Bool, true, false, List, [], ◌∷◌, Some, None, refl, codes, Direction}
+use Rattle.search_dump.proofs.Common.{Forward, Back, found_places, SearchSwitches, Wanted, First, Apart, All, Option}
 
 abbrev how : Direction → Wanted → Bool → SearchSwitches
 how direction wanted strict =

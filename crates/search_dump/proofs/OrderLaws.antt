@@ -1,9 +1,9 @@
 -- The places that pass a test, in the order of a search.
-use Rattle.search_dump.proofs.Words.{◌≡◌, ℕ, zero, suc, inl, inr, ◌+◌, ◌-◌, ◌<◌, ◌≤◌, ◌&&◌, Bool, true, false, None}
-use Rattle.search_dump.proofs.Words.{Some, cond, List, [], ◌∷◌, ◌++◌, reverse, refl, sym, ap, ◌∙◌, arith, nat_le}
-use Rattle.search_dump.proofs.Words.{filter, find, range_with_len, cases_Bool, cases_lt, cond-true, cond-false, le-leb}
-use Rattle.search_dump.proofs.Words.{lt-leb, append-nil, reverse-append, filter-append, none-some, Direction, Forward}
-use Rattle.search_dump.proofs.Words.{Back, places, ordered}
+use Rattle.search_dump.proofs.Common.{◌≡◌, ℕ, zero, suc, inl, inr, ◌+◌, ◌-◌, ◌<◌, ◌≤◌, ◌&&◌, Bool, true, false, None}
+use Rattle.search_dump.proofs.Common.{Some, cond, List, [], ◌∷◌, ◌++◌, reverse, refl, sym, ap, ◌∙◌, arith, nat_le}
+use Rattle.search_dump.proofs.Common.{filter, find, range_with_len, cases_Bool, cases_lt, cond-true, cond-false, le-leb}
+use Rattle.search_dump.proofs.Common.{lt-leb, append-nil, reverse-append, filter-append, none-some, Direction, Forward}
+use Rattle.search_dump.proofs.Common.{Back, places, ordered}
 use Rattle.search_dump.proofs.PlaceLaws.{NonePasses, greatest-find, least-find, places-none, places-split}
 
 pub filter-none : {A : Type 0} (test : A → Bool) (xs : List A) → find test xs ≡ None → filter test xs ≡ []
@@ -109,10 +109,13 @@ abbrev pub behind_high : Direction → ℕ → ℕ → ℕ
 behind_high Forward high at = high
 behind_high Back high at = at
 
+abbrev pub behind_first : Direction → ℕ → ℕ → ℕ → List ℕ
+behind_first direction low high at =
+    ordered direction (places (behind_low direction low at) (behind_high direction high at))
+
 pub first-of : (direction : Direction) (test : ℕ → Bool) (low high at : ℕ) →
     find test (ordered direction (places low high)) ≡ Some at
-    → filter test (ordered direction (places low high)) ≡ at
-    ∷ filter test (ordered direction (places (behind_low direction low at) (behind_high direction high at)))
+    → filter test (ordered direction (places low high)) ≡ at ∷ filter test (behind_first direction low high at)
 first-of Forward test low high at found =
     let least = least-find test low high at found in
     pick test low at high least.above least.below least.passes

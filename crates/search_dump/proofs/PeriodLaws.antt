@@ -1,9 +1,9 @@
 -- The period of a pattern, by its bytes.
-use Rattle.search_dump.proofs.Words.{◌≡◌, ◌≢◌, ℕ, ◌+◌, ◌-◌, ◌<◌, ◌≤◌, inl, inr, List, ◌++◌, refl, sym, ap, subst, ◌∙◌}
-use Rattle.search_dump.proofs.Words.{arith, length, take, drop, chars, encode_utf8, encode_utf8_all, IsCharBoundary}
-use Rattle.search_dump.proofs.Words.{IsUtf8, HasTextAt, LacksTextAt, cases_eq, drop_at, drop-drop, length-append}
-use Rattle.search_dump.proofs.Words.{length-drop, take-append-drop, take-append-le, take_at, IsCharBoundary-from_rest}
-use Rattle.search_dump.proofs.Words.{IsUtf8-drop, chars-append, encodes-append, encodes-chars, IsPeriod}
+use Rattle.search_dump.proofs.Common.{◌≡◌, ◌≢◌, ℕ, ◌+◌, ◌-◌, ◌<◌, ◌≤◌, inl, inr, List, ◌++◌, refl, sym, ap, subst, ◌∙◌}
+use Rattle.search_dump.proofs.Common.{arith, length, take, drop, chars, encode_utf8, encode_utf8_all, IsCharBoundary}
+use Rattle.search_dump.proofs.Common.{IsUtf8, HasTextAt, LacksTextAt, cases_eq, drop_at, drop-drop, length-append}
+use Rattle.search_dump.proofs.Common.{length-drop, take-append-drop, take-append-le, take_at, IsCharBoundary-from_rest}
+use Rattle.search_dump.proofs.Common.{IsUtf8-drop, chars-append, encodes-append, encodes-chars, IsPeriod}
 use Rattle.search_dump.proofs.TextLaws.{bytes_before, bytes_before-cut, bytes_before-least, bytes_before-less}
 use Rattle.search_dump.proofs.TextLaws.{bytes_of_first, bytes_of_none, chars-front, chars-rest, drop_bytes}
 use Rattle.search_dump.proofs.TextLaws.{front-within}
@@ -37,9 +37,7 @@ module _ (bs half later tail : List ℕ) (c i j at : ℕ) (utf8 : IsUtf8 bs) (fi
 
   fits : length half + at ≤ length bs
   fits =
-      let cut_off : length (drop i later) ≡ length half + length (drop j later) = ap length has.split
-      ∙ length-append half (drop j later) in
-      omega (arith, long, place, cut_off, length-drop i later, within)
+      omega (arith, long, place, ap length has.split ∙ length-append half (drop j later), length-drop i later, within)
 
   rest : drop distance (chars bs) ≡ chars (drop at bs)
   unfolding distance

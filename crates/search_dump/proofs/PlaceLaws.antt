@@ -1,8 +1,8 @@
 -- The first of some places in the order of a search, and those that pass a test.
-use Rattle.search_dump.proofs.Words.{◌≡◌, ℕ, zero, suc, inl, inr, ◌+◌, ◌-◌, ◌<◌, ◌≤◌, Bool, true, false, None, Some}
-use Rattle.search_dump.proofs.Words.{List, [], ◌∷◌, ◌++◌, reverse, refl, sym, ap, ◌∙◌, arith, find, range_with_len}
-use Rattle.search_dump.proofs.Words.{cases_Bool, cases_eq, cond-true, cond-false, reverse-append, none-some, same_Some}
-use Rattle.search_dump.proofs.Words.{Direction, Forward, Back, places, ordered}
+use Rattle.search_dump.proofs.Common.{◌≡◌, ℕ, zero, suc, inl, inr, ◌+◌, ◌-◌, ◌<◌, ◌≤◌, Bool, true, false, None, Some}
+use Rattle.search_dump.proofs.Common.{List, [], ◌∷◌, ◌++◌, reverse, refl, sym, ap, ◌∙◌, arith, find, range_with_len}
+use Rattle.search_dump.proofs.Common.{cases_eq, reverse-append, Direction, Forward, Back, places, ordered, cases_order}
+use Rattle.search_dump.proofs.Common.{true≢false, subst, Option, cond}
 
 -- the least place that passes, of those from one to before another
 pub record IsLeast (test : ℕ → Bool) (low high at : ℕ) : Type 0 where
@@ -23,101 +23,74 @@ NonePasses test low high = (k : ℕ) → low ≤ k → k < high → test k ≡ f
 
 -- ---- from the least
 
-range-least : (test : ℕ → Bool) (n low high at : ℕ) → low + n ≡ high → IsLeast test low high at →
-    find test (range_with_len low n) ≡ Some at
-range-least test zero low high at is first = absurd (omega (arith, first.above, first.below))
-range-least test (suc n) low high at is first =
-    elim (cases_eq low at) [
-      | inl same ↦ cond-true (test low) (Some low) (find test (range_with_len (low + 1) n)) (ap test same
-          ∙ first.passes) ∙ ap Some same
-      | inr other ↦
-          cond-false (test low) (Some low) (find test (range_with_len (low + 1) n))
-          (first.none low (omega arith) (omega (arith, first.above)))
-          ∙ range-least test n (low + 1) high at (omega arith)
-          (record {
-            above = omega (arith, first.above);
-            below = first.below;
-            passes = first.passes;
-            none = λ k above below. first.none k (omega arith) below;
-          })
+-- what a search from the least finds
+abbrev IsFirst : (ℕ → Bool) → ℕ → ℕ → Option ℕ → Type 0
+IsFirst test low high (Some at) = IsLeast test low high at
+IsFirst test low high None = NonePasses test low high
+
+none-from : (test : ℕ → Bool) (low high : ℕ) → test low ≡ false → NonePasses test (low + 1) high →
+    NonePasses test low high
+none-from test low high is-not none k above below =
+    elim (cases_eq low k) [
+      | inl same ↦ ap test (sym same) ∙ is-not
+      | inr other ↦ none k (omega arith) below
     ]
 
-range-none : (test : ℕ → Bool) (n low high : ℕ) → low + n ≡ high → NonePasses test low high →
-    find test (range_with_len low n) ≡ None
-range-none test zero low high is none = refl
-range-none test (suc n) low high is none =
-    cond-false (test low) (Some low) (find test (range_with_len (low + 1) n)) (none low (omega arith) (omega arith))
-    ∙ range-none test n (low + 1) high (omega arith) (λ k above below. none k (omega arith) below)
+first-step : (test : ℕ → Bool) (low high : ℕ) (passes : Bool) (later : Option ℕ) → low < high → test low ≡ passes →
+    IsFirst test (low + 1) high later → IsFirst test low high (cond passes (Some low) later)
+first-step test low high true later some is rest =
+    record { above = omega arith; below = some; passes = is; none = λ k above below. absurd (omega arith) }
+first-step test low high false (Some at) some is rest = record {
+  above = omega (arith, rest.above);
+  below = rest.below;
+  passes = rest.passes;
+  none = none-from test low at is rest.none;
+}
+first-step test low high false None some is rest = none-from test low high is rest
 
-range-find : (test : ℕ → Bool) (n low high at : ℕ) → low + n ≡ high → find test (range_with_len low n) ≡ Some at →
-    IsLeast test low high at
-range-find test zero low high at is found = absurd (none-some at found)
-range-find test (suc n) low high at is found =
-    elim (cases_Bool (test low)) [
-      | inl is-it ↦
-          let same : low ≡ at = same_Some low at
-          (sym (cond-true (test low) (Some low) (find test (range_with_len (low + 1) n)) is-it) ∙ found) in
-          record {
-            above = omega arith;
-            below = omega arith;
-            passes = ap test (sym same) ∙ is-it;
-            none = λ k above below. absurd (omega arith);
-          }
-      | inr is-not ↦
-          let later = range-find test n (low + 1) high at (omega arith)
-          (sym (cond-false (test low) (Some low) (find test (range_with_len (low + 1) n)) is-not) ∙ found) in
-          record {
-            above = omega (arith, later.above);
-            below = later.below;
-            passes = later.passes;
-            none = λ k above below. elim (cases_eq low k) [
-              | inl same ↦ ap test (sym same)
-                  ∙ is-not
-              | inr other ↦ later.none k (omega arith) below
-            ];
-          }
+first-found : (test : ℕ → Bool) (n low high : ℕ) → n ≡ high - low →
+    IsFirst test low high (find test (range_with_len low n))
+first-found test zero low high is = λ k above below. absurd (omega arith)
+first-found test (suc n) low high is =
+    first-step test low high (test low) (find test (range_with_len (low + 1) n)) (omega arith) refl
+    (first-found test n (low + 1) high (omega arith))
+
+first-is : (test : ℕ → Bool) (low high at : ℕ) (found : Option ℕ) → IsFirst test low high found →
+    IsLeast test low high at → found ≡ Some at
+first-is test low high at None none is = absurd (true≢false (sym is.passes ∙ none at is.above is.below))
+first-is test low high at (Some other) found is =
+    elim (cases_order other at) [
+      | inl same ↦ ap Some same
+      | inr apart ↦ elim apart [
+        | inl before ↦ absurd (true≢false (sym found.passes ∙ is.none other found.above before))
+        | inr behind ↦ absurd (true≢false (sym is.passes ∙ found.none at is.above behind))
+      ]
     ]
 
-range-none-find : (test : ℕ → Bool) (n low : ℕ) → find test (range_with_len low n) ≡ None →
-    NonePasses test low (low + n)
-range-none-find test zero low found k above below = absurd (omega arith)
-range-none-find test (suc n) low found k above below =
-    elim (cases_Bool (test low)) [
-      | inl is-it ↦ absurd (none-some low (sym found
-          ∙ cond-true (test low) (Some low) (find test (range_with_len (low + 1) n)) is-it))
-      | inr is-not ↦
-          elim (cases_eq low k) [
-            | inl same ↦ ap test (sym same) ∙ is-not
-            | inr other ↦ range-none-find test n (low + 1)
-                (sym (cond-false (test low) (Some low) (find test (range_with_len (low + 1) n)) is-not)
-                ∙ found) k (omega arith) (omega arith)
-          ]
-    ]
+first-none : (test : ℕ → Bool) (low high : ℕ) (found : Option ℕ) → IsFirst test low high found →
+    NonePasses test low high → found ≡ None
+first-none test low high None found none = refl
+first-none test low high (Some at) found none =
+    absurd (true≢false (sym found.passes ∙ none at found.above found.below))
+
+first : (test : ℕ → Bool) (low high : ℕ) → IsFirst test low high (find test (places low high))
+first test low high = first-found test (high - low) low high refl
 
 pub find-least : (test : ℕ → Bool) (low high at : ℕ) → IsLeast test low high at → find test (places low high) ≡ Some at
-find-least test low high at first =
-    range-least test (high - low) low high at (omega (arith, first.above, first.below)) first
+find-least test low high at = first-is test low high at (find test (places low high)) (first test low high)
 
 pub find-none : (test : ℕ → Bool) (low high : ℕ) → NonePasses test low high → find test (places low high) ≡ None
-find-none test low high none =
-    range-none test (high - low) low (low + (high - low)) refl (λ k above below. none k above (omega arith))
+find-none test low high = first-none test low high (find test (places low high)) (first test low high)
 
 pub least-find : (test : ℕ → Bool) (low high at : ℕ) → find test (places low high) ≡ Some at → IsLeast test low high at
-least-find test low high at found =
-    let first = range-find test (high - low) low (low + (high - low)) at refl found in
-    record {
-      above = first.above;
-      below = omega (arith, first.above, first.below);
-      passes = first.passes;
-      none = first.none;
-    }
+least-find test low high at found = subst (IsFirst test low high) found (first test low high)
 
 pub none-find : (test : ℕ → Bool) (low high : ℕ) → find test (places low high) ≡ None → NonePasses test low high
-none-find test low high found k above below = range-none-find test (high - low) low found k above (omega arith)
+none-find test low high found = subst (IsFirst test low high) found (first test low high)
 
 -- ---- from the greatest
 
-down : ℕ → ℕ → List ℕ
+abbrev down : ℕ → ℕ → List ℕ
 down low zero = []
 down low (suc n) = (low + n) ∷ down low n
 
@@ -127,110 +100,79 @@ range-last low (suc n) =
     ap (λ xs. low ∷ xs) (range-last (low + 1) n ∙ ap (λ k. range_with_len (low + 1) n ++ k ∷ []) (omega arith))
 
 reverse-range : (low n : ℕ) → reverse (range_with_len low n) ≡ down low n
-unfolding down
 reverse-range low zero = refl
 reverse-range low (suc n) = ap reverse (range-last low n) ∙ reverse-append (range_with_len low n) ((low + n) ∷ [])
     ∙ ap (λ xs. (low + n) ∷ xs) (reverse-range low n)
 
-down-greatest : (test : ℕ → Bool) (n low high at : ℕ) → low + n ≡ high → IsGreatest test low high at →
-    find test (down low n) ≡ Some at
-unfolding down
-down-greatest test zero low high at is last = absurd (omega (arith, last.above, last.below))
-down-greatest test (suc n) low high at is last =
-    elim (cases_eq (low + n) at) [
-      | inl same ↦ cond-true (test (low + n)) (Some (low + n)) (find test (down low n)) (ap test same ∙ last.passes)
-          ∙ ap Some same
-      | inr other ↦
-          cond-false (test (low + n)) (Some (low + n)) (find test (down low n))
-          (last.none (low + n) (omega (arith, last.below)) (omega arith))
-          ∙ down-greatest test n low (low + n) at refl
-          (record {
-            above = last.above;
-            below = omega (arith, last.below);
-            passes = last.passes;
-            none = λ k above below. last.none k above (omega arith);
-          })
+-- what a search from the greatest finds
+abbrev IsLast : (ℕ → Bool) → ℕ → ℕ → Option ℕ → Type 0
+IsLast test low high (Some at) = IsGreatest test low high at
+IsLast test low high None = NonePasses test low high
+
+none-to : (test : ℕ → Bool) (low at high : ℕ) → suc at ≡ high → test at ≡ false → NonePasses test low at →
+    NonePasses test low high
+none-to test low at high next is-not none k above below =
+    elim (cases_eq at k) [
+      | inl same ↦ ap test (sym same) ∙ is-not
+      | inr other ↦ none k above (omega arith)
     ]
 
-down-none : (test : ℕ → Bool) (n low : ℕ) → NonePasses test low (low + n) → find test (down low n) ≡ None
-unfolding down
-down-none test zero low none = refl
-down-none test (suc n) low none =
-    cond-false (test (low + n)) (Some (low + n)) (find test (down low n)) (none (low + n) (omega arith) (omega arith))
-    ∙ down-none test n low (λ k above below. none k above (omega arith))
+last-step : (test : ℕ → Bool) (low at high : ℕ) (passes : Bool) (later : Option ℕ) → low ≤ at → suc at ≡ high →
+    test at ≡ passes → IsLast test low at later → IsLast test low high (cond passes (Some at) later)
+last-step test low at high true later some next is rest =
+    record { above = some; below = omega arith; passes = is; none = λ k above below. absurd (omega arith) }
+last-step test low at high false (Some other) some next is rest = record {
+  above = rest.above;
+  below = omega (arith, rest.below);
+  passes = rest.passes;
+  none = none-to test (suc other) at high next is rest.none;
+}
+last-step test low at high false None some next is rest = none-to test low at high next is rest
 
-down-find : (test : ℕ → Bool) (n low at : ℕ) → find test (down low n) ≡ Some at → IsGreatest test low (low + n) at
-unfolding down
-down-find test zero low at found = absurd (none-some at found)
-down-find test (suc n) low at found =
-    elim (cases_Bool (test (low + n))) [
-      | inl is-it ↦
-          let same : low + n ≡ at = same_Some (low + n) at
-          (sym (cond-true (test (low + n)) (Some (low + n)) (find test (down low n)) is-it) ∙ found) in
-          record {
-            above = omega arith;
-            below = omega arith;
-            passes = ap test (sym same) ∙ is-it;
-            none = λ k above below. absurd (omega arith);
-          }
-      | inr is-not ↦
-          let later = down-find test n low at
-          (sym (cond-false (test (low + n)) (Some (low + n)) (find test (down low n)) is-not) ∙ found) in
-          record {
-            above = later.above;
-            below = omega (arith, later.below);
-            passes = later.passes;
-            none = λ k above below. elim (cases_eq (low + n) k) [
-              | inl same ↦ ap test (sym same)
-                  ∙ is-not
-              | inr other ↦ later.none k above (omega arith)
-            ];
-          }
+last-found : (test : ℕ → Bool) (n low high : ℕ) → n ≡ high - low → IsLast test low high (find test (down low n))
+last-found test zero low high is = λ k above below. absurd (omega arith)
+last-found test (suc n) low high is =
+    last-step test low (low + n) high (test (low + n)) (find test (down low n)) (omega arith) (omega arith) refl
+    (last-found test n low (low + n) (omega arith))
+
+last-is : (test : ℕ → Bool) (low high at : ℕ) (found : Option ℕ) → IsLast test low high found →
+    IsGreatest test low high at → found ≡ Some at
+last-is test low high at None none is = absurd (true≢false (sym is.passes ∙ none at is.above is.below))
+last-is test low high at (Some other) found is =
+    elim (cases_order other at) [
+      | inl same ↦ ap Some same
+      | inr apart ↦ elim apart [
+        | inl before ↦ absurd (true≢false (sym is.passes ∙ found.none at before is.below))
+        | inr behind ↦ absurd (true≢false (sym found.passes ∙ is.none other behind found.below))
+      ]
     ]
+
+last-none : (test : ℕ → Bool) (low high : ℕ) (found : Option ℕ) → IsLast test low high found →
+    NonePasses test low high → found ≡ None
+last-none test low high None found none = refl
+last-none test low high (Some at) found none =
+    absurd (true≢false (sym found.passes ∙ none at found.above found.below))
+
+last : (test : ℕ → Bool) (low high : ℕ) → IsLast test low high (find test (reverse (places low high)))
+last test low high =
+    subst (λ xs. IsLast test low high (find test xs)) (sym (reverse-range low (high - low)))
+    (last-found test (high - low) low high refl)
 
 pub find-greatest : (test : ℕ → Bool) (low high at : ℕ) → IsGreatest test low high at →
     find test (reverse (places low high)) ≡ Some at
-find-greatest test low high at last =
-    ap (find test) (reverse-range low (high - low))
-    ∙ down-greatest test (high - low) low high at (omega (arith, last.above, last.below)) last
+find-greatest test low high at = last-is test low high at (find test (reverse (places low high))) (last test low high)
 
 pub find-none-back : (test : ℕ → Bool) (low high : ℕ) → NonePasses test low high →
     find test (reverse (places low high)) ≡ None
-find-none-back test low high none = ap (find test) (reverse-range low (high - low))
-    ∙ down-none test (high - low) low (λ k above below. none k above (omega arith))
+find-none-back test low high = last-none test low high (find test (reverse (places low high))) (last test low high)
 
 pub greatest-find : (test : ℕ → Bool) (low high at : ℕ) → find test (reverse (places low high)) ≡ Some at →
     IsGreatest test low high at
-greatest-find test low high at found =
-    let last = down-find test (high - low) low at (sym (ap (find test) (reverse-range low (high - low))) ∙ found) in
-    record {
-      above = last.above;
-      below = omega (arith, last.above, last.below);
-      passes = last.passes;
-      none = λ k above below. last.none k above (omega (arith, last.above));
-    }
-
-down-none-find : (test : ℕ → Bool) (n low : ℕ) → find test (down low n) ≡ None → NonePasses test low (low + n)
-unfolding down
-down-none-find test zero low found k above below = absurd (omega arith)
-down-none-find test (suc n) low found k above below =
-    elim (cases_Bool (test (low + n))) [
-      | inl is-it ↦ absurd (none-some (low + n) (sym found
-          ∙ cond-true (test (low + n)) (Some (low + n)) (find test (down low n)) is-it))
-      | inr is-not ↦
-          elim (cases_eq (low + n) k) [
-            | inl same ↦ ap test (sym same) ∙ is-not
-            | inr other ↦ down-none-find test n low
-                (sym (cond-false (test (low + n)) (Some (low + n)) (find test (down low n)) is-not)
-                ∙ found) k above (omega arith)
-          ]
-    ]
+greatest-find test low high at found = subst (IsLast test low high) found (last test low high)
 
 pub none-find-back : (test : ℕ → Bool) (low high : ℕ) → find test (reverse (places low high)) ≡ None →
     NonePasses test low high
-none-find-back test low high found k above below =
-    down-none-find test (high - low) low (sym (ap (find test) (reverse-range low (high - low)))
-    ∙ found) k above (omega arith)
+none-find-back test low high found = subst (IsLast test low high) found (last test low high)
 
 -- ---- in the order of a search
 

@@ -1,10 +1,9 @@
 -- Words that stand as they are in a list: places, and what a dump calls its elements.
-use Rattle.search_dump.proofs.Words.{◌≡◌, ℕ, zero, suc, ◌<◌, ◌≤◌, ◌||◌, ◌==◌, ◌^◌, Bool, true, false, List, [], ◌∷◌}
-use Rattle.search_dump.proofs.Words.{◌++◌, length, chars, refl, sym, ap, ap₂, ◌∙◌, arith, codes, decimal, if◌then◌else◌}
-use Rattle.search_dump.proofs.Words.{IsAscii, ne_eqb, IsAscii-append, chars-IsAscii, has_special, is_special, is_white}
-use Rattle.search_dump.proofs.Words.{needs_quotes, space_behind, Goes}
-use Rattle.std.proofs.Common.{append-nil}
-use Rattle.std.specs.Prelude.{encode_utf8_all}
+use Rattle.search_dump.proofs.Common.{◌≡◌, ℕ, zero, suc, ◌<◌, ◌≤◌, ◌||◌, ◌==◌, ◌^◌, Bool, true, false, List, [], ◌∷◌}
+use Rattle.search_dump.proofs.Common.{◌++◌, length, chars, refl, sym, ap, ap₂, ◌∙◌, arith, codes, decimal}
+use Rattle.search_dump.proofs.Common.{if◌then◌else◌, IsAscii, ne_eqb, IsAscii-append, chars-IsAscii, has_special}
+use Rattle.search_dump.proofs.Common.{is_special, is_white, needs_quotes, space_behind, Goes, append-nil}
+use Rattle.search_dump.proofs.Common.{encode_utf8_all}
 use Rattle.std.specs.Str.Parse.{AllDigits}
 use Rattle.std.proofs.lemmas.Fmt.{IsAscii-decimal_wide, decimal_is_IsNumeral_wide}
 use Rattle.std.proofs.lemmas.Str.Parse.{tells_digits}

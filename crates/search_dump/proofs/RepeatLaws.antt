@@ -1,10 +1,10 @@
 -- Where a pattern that repeats itself stands again.
-use Rattle.search_dump.proofs.Words.{◌≡◌, ℕ, ◌+◌, ◌-◌, ◌<◌, ◌≤◌, Bool, true, false, Option, None, Some, List, ◌++◌, sym}
-use Rattle.search_dump.proofs.Words.{ap, ◌∙◌, arith, length, take, drop, nat_le, nat_lt, slice_range, SomeIff}
-use Rattle.search_dump.proofs.Words.{none-some, same_Some, and_parts, false_from_ne_true, leb-true, ltb-true, drop-drop}
-use Rattle.search_dump.proofs.Words.{drop-take, take-append-drop, take-take, Direction, Forward, Back, take-apart}
-use Rattle.search_dump.proofs.Words.{Stretch, matches_at, HasMatch, IsBehind, IsPeriod, beside, nearest}
-use Rattle.std.specs.Prelude.{◌&&◌, min}
+use Rattle.search_dump.proofs.Common.{◌≡◌, ℕ, ◌+◌, ◌-◌, ◌<◌, ◌≤◌, Bool, true, false, Option, None, Some, List, ◌++◌}
+use Rattle.search_dump.proofs.Common.{sym, ap, ◌∙◌, arith, length, take, drop, nat_le, nat_lt, slice_range, SomeIff}
+use Rattle.search_dump.proofs.Common.{none-some, same_Some, and_parts, false_from_ne_true, leb-true, ltb-true}
+use Rattle.search_dump.proofs.Common.{drop-drop, drop-take, take-append-drop, take-take, Direction, Forward, Back}
+use Rattle.search_dump.proofs.Common.{take-apart, Stretch, matches_at, HasMatch, IsBehind, IsPeriod, beside, nearest}
+use Rattle.search_dump.proofs.Common.{◌&&◌, min}
 use Rattle.search_dump.proofs.MatchLaws.{match-fits, match-from, match-same}
 use Rattle.search_dump.proofs.PlaceLaws.{find-greatest, find-least}
 use Rattle.search_dump.proofs.WindowLaws.{IsWithin}

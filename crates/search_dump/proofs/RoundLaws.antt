@@ -1,7 +1,7 @@
 -- The stretch round the end of the text.
-use Rattle.search_dump.proofs.Words.{◌≡◌, ℕ, ◌≤◌, Option, None, Some, List, [], length, ap, arith, refl, subst, sym}
-use Rattle.search_dump.proofs.Words.{unwrap_or, Direction, Forward, Back, wanted_of, left_round, left_to_list}
-use Rattle.search_dump.proofs.Words.{listed_round, matches_in, second_stretch, Stretch, Wanted, First, Apart, All}
+use Rattle.search_dump.proofs.Common.{◌≡◌, ℕ, ◌≤◌, Option, None, Some, List, [], length, ap, arith, refl, subst, sym}
+use Rattle.search_dump.proofs.Common.{unwrap_or, Direction, Forward, Back, wanted_of, left_round, left_to_list}
+use Rattle.search_dump.proofs.Common.{listed_round, matches_in, second_stretch, Stretch, Wanted, First, Apart, All}
 
 -- a stretch lies in a text of so many characters
 pub record LiesIn (len : ℕ) (stretch : Stretch) : Type 0 where
@@ -18,15 +18,15 @@ left-lies Forward len place count stretch lies = record { high = lies.high; end 
 left-lies Back len place count stretch lies = record { high = lies.high; end = lies.end }
 
 -- what is left of it lies there too
-pub rest-lies : (wanted : Wanted) (direction : Direction) (len count : ℕ) (stretch rest : Stretch) (listed : Option ℕ) →
-    LiesIn len stretch
-    → Some rest ≡ left_to_list wanted direction stretch listed count → LiesIn len rest
-rest-lies wanted direction len count stretch rest None lies is =
+pub rest-lies : (wanted : Wanted) (direction : Direction) (count : ℕ) (listed : Option ℕ) {len : ℕ}
+    {stretch rest : Stretch}
+    → LiesIn len stretch → Some rest ≡ left_to_list wanted direction stretch listed count → LiesIn len rest
+rest-lies wanted direction count None {len} {stretch} lies is =
     subst (LiesIn len) (sym (ap (λ o. unwrap_or o stretch) is)) lies
-rest-lies First direction len count stretch rest (Some place) lies is = absurd (cc)
-rest-lies Apart direction len count stretch rest (Some place) lies is =
+rest-lies First direction count (Some place) lies is = absurd (cc)
+rest-lies Apart direction count (Some place) {len} {stretch} lies is =
     subst (LiesIn len) (sym (ap (λ o. unwrap_or o stretch) is)) (left-lies direction len place count stretch lies)
-rest-lies All direction len count stretch rest (Some place) lies is =
+rest-lies All direction count (Some place) {len} {stretch} lies is =
     subst (LiesIn len) (sym (ap (λ o. unwrap_or o stretch) is)) lies
 
 -- it is listed whole
@@ -37,10 +37,8 @@ pub rest-listed : (wanted : Wanted) (direction : Direction) (pattern text : List
 rest-listed wanted direction pattern text stretch rest None is =
     ap (λ o. wanted_of wanted (length pattern) (matches_in direction pattern text (unwrap_or o stretch))) is
 rest-listed First direction pattern text stretch rest (Some place) is = absurd (cc)
-rest-listed Apart direction pattern text stretch rest (Some place) is =
-    ap (λ o. wanted_of Apart (length pattern) (matches_in direction pattern text (unwrap_or o stretch))) is
-rest-listed All direction pattern text stretch rest (Some place) is =
-    ap (λ o. wanted_of All (length pattern) (matches_in direction pattern text (unwrap_or o stretch))) is
+rest-listed wanted direction pattern text stretch rest (Some place) is =
+    ap (λ o. wanted_of wanted (length pattern) (matches_in direction pattern text (unwrap_or o stretch))) is
 
 -- nothing is listed where nothing is left
 pub none-listed : (wanted : Wanted) (direction : Direction) (pattern text : List ℕ) (stretch : Stretch)
@@ -48,5 +46,4 @@ pub none-listed : (wanted : Wanted) (direction : Direction) (pattern text : List
     → [] ≡ listed_round wanted direction pattern text stretch listed
 none-listed wanted direction pattern text stretch None is = absurd (cc)
 none-listed First direction pattern text stretch (Some place) is = refl
-none-listed Apart direction pattern text stretch (Some place) is = absurd (cc)
-none-listed All direction pattern text stretch (Some place) is = absurd (cc)
+none-listed wanted direction pattern text stretch (Some place) is = absurd (cc)

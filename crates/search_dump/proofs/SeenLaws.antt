@@ -1,11 +1,11 @@
 -- What a widget sees at a place, as the store tells it.
-use Rattle.search_dump.proofs.Words.{◌≡◌, ℕ, ◌<◌, ◌&&◌, Bool, List, length, get_or, refl, sym, ap, ap₂, subst, ◌∙◌}
-use Rattle.search_dump.proofs.Words.{codes, not, flat_map, Mark, Tag, flag_at, Content, Slots, shown, shown_flags}
-use Rattle.search_dump.proofs.Words.{AreAt, AreBefore, begins_at, element, ends_at, flag_before, if_listed, only_in}
-use Rattle.search_dump.proofs.Words.{own_slot, seen_by, tag_seen, tagoff_elements, tagon_elements}
-use Rattle.std.specs.FinSet as set
+use Rattle.search_dump.proofs.Common.{◌≡◌, ℕ, ◌<◌, ◌&&◌, Bool, List, length, get_or, refl, sym, ap, ap₂, subst, ◌∙◌}
+use Rattle.search_dump.proofs.Common.{codes, not, flat_map, Mark, Tag, flag_at, Content, Slots, shown, shown_flags}
+use Rattle.search_dump.proofs.Common.{AreAt, AreBefore, begins_at, element, ends_at, flag_before, if_listed, only_in}
+use Rattle.search_dump.proofs.Common.{own_slot, seen_by, tag_seen, tagoff_elements, tagon_elements}
 use Rattle.std.specs.Str.{chars}
-use Rattle.search_dump.proofs.DumpLaws.{begins-is, ends-is, flat-filter-row, no_tag, slot-there}
+use Rattle.search_dump.proofs.DumpLaws.{begins-is, ends-is, flat-filter, no_tag, slot-there}
+use Rattle.std.specs.FinSet as set
 
 pub tagoff-characters : chars (codes "tagoff") ≡ codes "tagoff"
 unfolding chars
@@ -26,31 +26,28 @@ text-characters = refl
 module _ (content : Content) (start end : ℕ) (tags : List Tag) (marks : List Mark) (widget place : ℕ)
     (before behind : Slots) (are_before : AreBefore content start end tags widget place before)
     (are_behind : AreAt content start end tags widget place behind) where
-  flags_of : Tag → List Bool
+  abbrev flags_of : Tag → List Bool
   flags_of tag = shown_flags (own_slot widget tag.slot) content start end
 
   before-there : (at : ℕ) → at < length tags → set.contains before (own_slot widget (get_or tags at no_tag).slot)
       ≡ flag_before (flags_of (get_or tags at no_tag)) place
-  unfolding flags_of
   before-there at within =
       subst (λ slot. set.contains before slot ≡ flag_before (shown_flags slot content start end) place)
       (slot-there widget tags at within) (are_before at within)
 
   behind-there : (at : ℕ) → at < length tags → set.contains behind (own_slot widget (get_or tags at no_tag).slot)
       ≡ flag_at (flags_of (get_or tags at no_tag)) place
-  unfolding flags_of
   behind-there at within =
       subst (λ slot. set.contains behind slot ≡ flag_at (shown_flags slot content start end) place)
       (slot-there widget tags at within) (are_behind at within)
 
-  written : List ℕ → Tag → List (List ℕ)
+  abbrev written : List ℕ → Tag → List (List ℕ)
   written key tag = element key (shown content start end) place tag.name
 
   pub tagoffs-are : flat_map (only_in before behind widget (codes "tagoff") (shown content start end) place) tags
       ≡ tagoff_elements (seen_by content start end tags marks widget) place
-  unfolding flags_of written
   tagoffs-are =
-      sym (flat-filter-row (λ tag. element (codes "tagoff") (shown content start end) place tag.name) (ends_at place)
+      sym (flat-filter (λ tag. element (codes "tagoff") (shown content start end) place tag.name) (ends_at place)
       (tag_seen content start end widget)
       (only_in before behind widget (codes "tagoff") (shown content start end) place) no_tag tags (λ at within.
       let tag = get_or tags at no_tag in
@@ -60,9 +57,8 @@ module _ (content : Content) (start end : ℕ) (tags : List Tag) (marks : List M
 
   pub tagons-are : flat_map (only_in behind before widget (codes "tagon") (shown content start end) place) tags
       ≡ tagon_elements (seen_by content start end tags marks widget) place
-  unfolding flags_of written
   tagons-are =
-      sym (flat-filter-row (λ tag. element (codes "tagon") (shown content start end) place tag.name) (begins_at place)
+      sym (flat-filter (λ tag. element (codes "tagon") (shown content start end) place tag.name) (begins_at place)
       (tag_seen content start end widget)
       (only_in behind before widget (codes "tagon") (shown content start end) place) no_tag tags (λ at within.
       let tag = get_or tags at no_tag in

@@ -1,18 +1,18 @@
 -- The next stop of a dump, and what is listed up to it.
-use Rattle.search_dump.proofs.Words.{◌≡◌, ℕ, zero, suc, inl, inr, ◌+◌, ◌-◌, ◌<◌, ◌≤◌, ◌⊎◌, ◌||◌, ◌==◌, Bool, true}
-use Rattle.search_dump.proofs.Words.{false, Option, None, Some, List, [], ◌∷◌, ◌++◌, length, take, drop, refl, sym, ap}
-use Rattle.search_dump.proofs.Words.{ap₂, subst, ◌∙◌, arith, MatchOption, codes, not, slice_range, filter, flat_map}
-use Rattle.search_dump.proofs.Words.{list_any, prefix_len, range_with_len, option_map, and_left, cases_eq, cases_lt}
-use Rattle.search_dump.proofs.Words.{cond-false, cond-true, eq-eqb, false≢true, ne_eqb, or_left, or_parts, or_right}
-use Rattle.search_dump.proofs.Words.{Mark, Shown, Tag, Goes, goes_nowhere, goes_on, flat_map-append, get_or_past}
-use Rattle.search_dump.proofs.Words.{flag_at, Content, flags, flags-within, length-part, length-shown, column_of}
-use Rattle.search_dump.proofs.Words.{IsView, shown, shown_flags, Seen, begins_at, element, elements_at, ends_at}
-use Rattle.search_dump.proofs.Words.{flag_before, if_listed, is_cut, mark_elements, mark_seen, own_slot, piece, seen_by}
-use Rattle.search_dump.proofs.Words.{stands_at, tag_seen, tagoff_elements, tagon_elements, text_elements, Has}
-use Rattle.search_dump.proofs.Words.{IsMarkFrom, shown_of, usable_by, places, FailsBetween, IsNextStop, IsStop}
-use Rattle.search_dump.proofs.Words.{has_mark_at, has_tag_at, stop_at_mark, stops_at_marks, stops_at_tags, tags_at}
-use Rattle.search_dump.proofs.Words.{Listed}
-use Rattle.std.proofs.Common.{append_assoc, append-nil}
+use Rattle.search_dump.proofs.Common.{◌≡◌, ℕ, zero, suc, inl, inr, ◌+◌, ◌-◌, ◌<◌, ◌≤◌, ◌⊎◌, ◌||◌, ◌==◌, Bool, true}
+use Rattle.search_dump.proofs.Common.{false, Option, None, Some, List, [], ◌∷◌, ◌++◌, length, take, drop, refl, sym, ap}
+use Rattle.search_dump.proofs.Common.{ap₂, subst, ◌∙◌, arith, MatchOption, codes, not, slice_range, filter, flat_map}
+use Rattle.search_dump.proofs.Common.{list_any, prefix_len, range_with_len, option_map, and_left, cases_eq, cases_lt}
+use Rattle.search_dump.proofs.Common.{cond-false, cond-true, eq-eqb, false≢true, ne_eqb, or_left, or_parts, or_right}
+use Rattle.search_dump.proofs.Common.{Mark, Shown, Tag, Goes, goes_nowhere, goes_on, flat_map-append, get_or_past}
+use Rattle.search_dump.proofs.Common.{flag_at, Content, length-shown, column_of, IsView, shown, shown_flags, Seen}
+use Rattle.search_dump.proofs.Common.{begins_at, element, elements_at, ends_at, flag_before, if_listed, is_cut}
+use Rattle.search_dump.proofs.Common.{mark_elements, mark_seen, own_slot, piece, seen_by, stands_at, tag_seen}
+use Rattle.search_dump.proofs.Common.{tagoff_elements, tagon_elements, text_elements, Has, IsMarkFrom, shown_of}
+use Rattle.search_dump.proofs.Common.{usable_by, places, FailsBetween, IsNextStop, IsStop, has_mark_at, has_tag_at}
+use Rattle.search_dump.proofs.Common.{stop_at_mark, stops_at_marks, stops_at_tags, tags_at, Listed, append_assoc}
+use Rattle.search_dump.proofs.Common.{append-nil}
+use Rattle.search_dump.proofs.ChangeLaws.{length-flags}
 use Rattle.search_dump.proofs.DumpLaws.{begins-is}
 use Rattle.search_dump.specs.declared.dumped_marks.Marked.{Marked}
 use Rattle.search_dump.proofs.MarkOrderLaws.{earlier-place, usable-placed}
@@ -355,8 +355,7 @@ tagons-end content start end tags marks widget place view is =
     (any-map (begins_at place) (tag_seen content start end widget) tags
     ∙ any-never (λ tag. begins_at place (tag_seen content start end widget tag)) tags (λ tag.
     let all = shown_flags (own_slot widget tag.slot) content start end in
-    let long : length all ≡ end - start = length-part (flags (own_slot widget tag.slot) content.cells) start end
-    (flags-within content (own_slot widget tag.slot) start end view) view.ordered in
+    let long = length-flags content start end view (own_slot widget tag.slot) in
     begins-is all place ∙ and_left (flag_at all place) (not (flag_before all place))
     (get_or_past all place false (omega (arith, long, length-shown content start end view))))))
 

@@ -1,8 +1,8 @@
 -- The matches of a search are those of its stretches.
-use Rattle.search_dump.proofs.Words.{◌≡◌, ℕ, List, ◌++◌, refl, ap, ◌∙◌, filter-append, Direction, Forward, Back}
-use Rattle.search_dump.proofs.Words.{SearchSwitches, candidates, matches_at, places, first_high, first_low}
-use Rattle.search_dump.proofs.Words.{first_stretch, matches_in, ordered, second_high, second_low, second_stretch}
-use Rattle.std.specs.Prelude.{None, filter}
+use Rattle.search_dump.proofs.Common.{◌≡◌, ℕ, List, ◌++◌, refl, ap, ◌∙◌, filter-append, Direction, Forward, Back}
+use Rattle.search_dump.proofs.Common.{SearchSwitches, candidates, matches_at, places, first_high, first_low}
+use Rattle.search_dump.proofs.Common.{first_stretch, matches_in, ordered, second_high, second_low, second_stretch, None}
+use Rattle.std.specs.Prelude.{filter}
 
 candidates-round : (direction : Direction) (len from : ℕ) → candidates direction len from None
     ≡ ordered direction (places (first_low direction from None) (first_high direction len from None))

@@ -1,13 +1,12 @@
 -- Which tags are on the cells of a view.
-use Rattle.search_dump.proofs.Words.{◌≡◌, ℕ, zero, suc, ◌+◌, ◌-◌, ◌<◌, ◌≤◌, ◌&&◌, Bool, false, List, [], ◌∷◌, ap, sym}
-use Rattle.search_dump.proofs.Words.{◌∙◌, arith, IsView, shown, shown_flags, length-shown, flag_before, slice_get}
-use Rattle.search_dump.proofs.Words.{get_or_past, none-some, same_Some, flag_at, Content, Slots, flags, slot_sets}
-use Rattle.search_dump.proofs.Words.{part-flag, length-part, flags-within}
-use Rattle.std.proofs.Common.{lt-ltb}
+use Rattle.search_dump.proofs.Common.{◌≡◌, ℕ, zero, suc, ◌+◌, ◌-◌, ◌<◌, ◌≤◌, ◌&&◌, Bool, false, List, [], ◌∷◌, ap, sym}
+use Rattle.search_dump.proofs.Common.{◌∙◌, arith, IsView, shown, shown_flags, length-shown, flag_before, slice_get}
+use Rattle.search_dump.proofs.Common.{get_or_past, none-some, same_Some, flag_at, Content, Slots, flags, slot_sets}
+use Rattle.search_dump.proofs.Common.{part-flag, lt-ltb, Some, length}
 use Rattle.std.specs.Ordering.{nat_cmp}
-use Rattle.std.specs.Prelude.{Some, length}
-use Rattle.std.specs.FinSet as set
 use Rattle.text_model.specs.declared.cells.Cell.{Cell}
+use Rattle.search_dump.proofs.ChangeLaws.{length-flags}
+use Rattle.std.specs.FinSet as set
 
 slots-flag : (slot : ℕ) (cells : List Cell) (at : ℕ) (slots : Slots) → slice_get (slot_sets cells) at ≡ Some slots →
     slice_get (flags slot cells) at ≡ Some (set.contains slots slot)
@@ -33,11 +32,8 @@ pub none-behind : (content : Content) (start end place : ℕ) → IsView content
     place ≡ length (shown content start end) → (slots : Slots) → slots ≡ set.empty
     → (slot : ℕ) → set.contains slots slot ≡ flag_at (shown_flags slot content start end) place
 none-behind content start end place view is slots empty slot =
-    let len : length (shown_flags slot content start end)
-    ≡ end - start = length-part (flags slot content.cells) start end (flags-within content slot start end view)
-    view.ordered in
-    let past : length (shown_flags slot content start end)
-    ≤ place = omega (arith, len, is, length-shown content start end view) in
+    let past : length (shown_flags slot content start end) ≤ place =
+    omega (arith, length-flags content start end view slot, is, length-shown content start end view) in
     ap (λ (s : Slots). set.contains s slot) empty ∙ set.contains-empty nat_cmp slot
     ∙ sym (get_or_past (shown_flags slot content start end) place false past)
 

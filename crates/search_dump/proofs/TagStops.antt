@@ -1,15 +1,15 @@
 -- Where a dump stops at tags.
-use Rattle.search_dump.proofs.Words.{◌≡◌, ℕ, zero, suc, inl, inr, ◌-◌, ◌<◌, ◌≤◌, ◌||◌, Bool, true, false, List, [], ◌∷◌}
-use Rattle.search_dump.proofs.Words.{length, map, get_or, refl, sym, ap, ◌∙◌, arith, list_any, cases_Bool, cases_lt}
-use Rattle.search_dump.proofs.Words.{or_left, or_right, true≢false, get_or-map, Mark, Tag, slots_of, next_change}
-use Rattle.search_dump.proofs.Words.{Content, Slots, shown_flags, AreAt, AreBefore, IsKnown, IsNearest, slot_of_row}
-use Rattle.search_dump.proofs.Words.{begins_at, ends_at, own_slot, seen_by, tag_seen, FailsBetween, IsNextStop}
-use Rattle.search_dump.proofs.Words.{has_tag_at}
+use Rattle.search_dump.proofs.Common.{◌≡◌, ℕ, zero, suc, inl, inr, ◌-◌, ◌<◌, ◌≤◌, ◌||◌, Bool, true, false, List, []}
+use Rattle.search_dump.proofs.Common.{◌∷◌, length, map, get_or, refl, sym, ap, ◌∙◌, arith, list_any, cases_Bool}
+use Rattle.search_dump.proofs.Common.{cases_lt, or_left, or_right, true≢false, get_or-map, Mark, Tag, slots_of}
+use Rattle.search_dump.proofs.Common.{next_change, Content, Slots, shown_flags, AreAt, AreBefore, IsKnown, IsNearest}
+use Rattle.search_dump.proofs.Common.{slot_of_row, begins_at, ends_at, own_slot, seen_by, tag_seen, FailsBetween}
+use Rattle.search_dump.proofs.Common.{IsNextStop, has_tag_at}
 use Rattle.search_dump.proofs.ChangeLaws.{quiet-between, quiet-upto, turns, turns-there}
 use Rattle.search_dump.proofs.DumpLaws.{no_tag, slot-there}
 
 -- whether one of some tags turns at a place
-tag_turns : Content → ℕ → ℕ → ℕ → ℕ → Tag → Bool
+abbrev tag_turns : Content → ℕ → ℕ → ℕ → ℕ → Tag → Bool
 tag_turns content start end widget place tag = turns (shown_flags (own_slot widget tag.slot) content start end) place
 
 pub any-map : {A B : Type 0} (test : B → Bool) (f : A → B) (xs : List A) →
@@ -32,7 +32,6 @@ one-of test d (x ∷ xs) (suc at) within is = or_right (test x) (list_any test x
 turns-same : (content : Content) (start end : ℕ) (tags : List Tag) (marks : List Mark) (widget place : ℕ)
     → has_tag_at (seen_by content start end tags marks widget) place
     ≡ list_any (tag_turns content start end widget place) tags
-unfolding tag_turns
 turns-same content start end tags marks widget place =
     any-map (λ tag. begins_at place tag || ends_at place tag) (tag_seen content start end widget) tags
 
@@ -44,7 +43,6 @@ pub tag-stop : (content : Content) (start end : ℕ) (tags : List Tag) (marks : 
     < next_change (shown_flags (slot_of_row widget (slots_of tags) at) content start end) place)
     → IsNearest next (length tags) to stop
     → (place < stop) × IsNextStop (has_tag_at (seen_by content start end tags marks widget)) place to stop
-unfolding tag_turns
 tag-stop content start end tags marks widget place to stop next some within long known later nearest =
     let change : ℕ → ℕ = λ at. next_change (shown_flags (slot_of_row widget (slots_of tags) at) content start end) place
     in
@@ -88,7 +86,6 @@ module _ (content : Content) (start end : ℕ) (tags : List Tag) (marks : List M
   none-turns : (k : ℕ) → has_tag_at (seen_by content start end tags marks widget) k ≡ false →
       (at : ℕ) → at < length tags
       → turns (shown_flags (slot_of_row widget (slots_of tags) at) content start end) k ≡ false
-  unfolding tag_turns
   none-turns k none at within =
       let test = tag_turns content start end widget k in
       ap (λ s. turns (shown_flags s content start end) k) (slot-there widget tags at within)

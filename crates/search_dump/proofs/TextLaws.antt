@@ -1,11 +1,10 @@
 -- The characters of a text and its bytes.
-use Rattle.search_dump.proofs.Words.{◌≡◌, inl, inr, ℕ, ◌+◌, ◌<◌, ◌≤◌, List, [], ◌∷◌, ◌++◌, refl, sym, ap, ◌∙◌, arith}
-use Rattle.search_dump.proofs.Words.{length, take, drop, get_or, map, chars, encode_utf8, encode_utf8_all, ap₂, suc}
-use Rattle.search_dump.proofs.Words.{IsAscii, IsCharBoundary, IsUtf8, cases_eq, drop_at, length-append, length-drop}
-use Rattle.search_dump.proofs.Words.{length-take, map_more, take-append-drop, take_at, take-take, IsUtf8-take}
-use Rattle.search_dump.proofs.Words.{chars-append, chars_past_char, encodes-append, encodes-chars, chars-IsAscii}
-use Rattle.search_dump.proofs.Words.{length-le-encodes, simple_fold-ascii, simple_fold}
-use Rattle.std.proofs.Common.{append-nil}
+use Rattle.search_dump.proofs.Common.{◌≡◌, inl, inr, ℕ, ◌+◌, ◌<◌, ◌≤◌, List, [], ◌∷◌, ◌++◌, refl, sym, ap, ◌∙◌, arith}
+use Rattle.search_dump.proofs.Common.{length, take, drop, get_or, map, chars, encode_utf8, encode_utf8_all, ap₂, suc}
+use Rattle.search_dump.proofs.Common.{IsAscii, IsCharBoundary, IsUtf8, cases_eq, drop_at, length-append, length-drop}
+use Rattle.search_dump.proofs.Common.{length-take, map_more, take-append-drop, take_at, take-take, IsUtf8-take}
+use Rattle.search_dump.proofs.Common.{chars-append, chars_past_char, encodes-append, encodes-chars, chars-IsAscii}
+use Rattle.search_dump.proofs.Common.{length-le-encodes, simple_fold-ascii, simple_fold, append-nil}
 use Rattle.std.specs.Char.{to_ascii_lowercase}
 use Rattle.std.proofs.lemmas.Str.Ascii.{IsAscii-map, lowercase_ascii}
 

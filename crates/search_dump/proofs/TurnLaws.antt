@@ -1,12 +1,12 @@
 -- Tags that are turned where they change.
-use Rattle.search_dump.proofs.Words.{◌≡◌, ◌≢◌, ℕ, inl, inr, ◌+◌, ◌<◌, ◌≤◌, ◌⊎◌, ◌==◌, Bool, cond, List, length, refl}
-use Rattle.search_dump.proofs.Words.{sym, ap, ◌∙◌, arith, not, if◌then◌else◌, cases_eq, eq-eqb, ne_eqb, Tag, slots_of}
-use Rattle.search_dump.proofs.Words.{flag_at, next_change, Content, Slots, shown_flags, AreAt, AreBefore, AreKept}
-use Rattle.search_dump.proofs.Words.{AreKnownTo, AreTurned, IsTurned, change_behind, slot_of_row, turned_at}
-use Rattle.search_dump.proofs.Words.{flag_before}
-use Rattle.std.specs.FinSet as set
+use Rattle.search_dump.proofs.Common.{◌≡◌, ◌≢◌, ℕ, inl, inr, ◌+◌, ◌<◌, ◌≤◌, ◌⊎◌, ◌==◌, Bool, cond, List, length, refl}
+use Rattle.search_dump.proofs.Common.{sym, ap, ◌∙◌, arith, not, if◌then◌else◌, cases_eq, eq-eqb, ne_eqb, Tag, slots_of}
+use Rattle.search_dump.proofs.Common.{flag_at, next_change, Content, Slots, shown_flags, AreAt, AreBefore, AreKept}
+use Rattle.search_dump.proofs.Common.{AreKnownTo, AreTurned, IsTurned, change_behind, slot_of_row, turned_at}
+use Rattle.search_dump.proofs.Common.{flag_before}
 use Rattle.text_model.proofs.CellLaws.{contains-set_slot}
-use Rattle.search_dump.proofs.ChangeLaws.{flag-other, flag-still, flag-upto}
+use Rattle.search_dump.proofs.ChangeLaws.{flag-other, flag-same, flag-upto}
+use Rattle.std.specs.FinSet as set
 
 -- what turning one slot leaves: each slot is as it was at first, or turned
 abbrev pub IsEither : (ℕ → ℕ) → ℕ → Slots → Slots → ℕ → Type 0
@@ -86,7 +86,7 @@ turned-flag flags place stop change before above within known upto is =
           ∙ sym (flag-other flags place stop (sym known ∙ there) within)
       | inr other ↦
           ap (λ b. if b then not before else before) (ne_eqb change stop other) ∙ was
-          ∙ sym (flag-still flags place stop (omega (arith, above)) (omega (arith, upto, known, other)))
+          ∙ sym (flag-same flags place stop (omega (arith, above)) (omega (arith, upto, known, other)))
     ]
 
 pub turned-are : (content : Content) (start end : ℕ) (tags : List Tag) (widget place stop : ℕ) (next : List ℕ)

@@ -1,11 +1,11 @@
 -- What is found in a part of a text, and so in the whole.
-use Rattle.search_dump.proofs.Words.{◌≡◌, ℕ, ◌+◌, ◌-◌, ◌<◌, ◌≤◌, ◌&&◌, inl, inr, min, Bool, true, false, Option, None}
-use Rattle.search_dump.proofs.Words.{Some, List, reverse, refl, sym, ap, subst, ◌∙◌, arith, length, take, drop}
-use Rattle.search_dump.proofs.Words.{bytes_eq, slice_range, find, is_some, option_or, find-append, and_left, cases_lt}
-use Rattle.search_dump.proofs.Words.{false≢true, le-leb, lt-leb, true≢false, drop-drop, drop-map, drop-take}
-use Rattle.search_dump.proofs.Words.{length-drop, length-map, length-take, take-map, take-take, simple_fold, compared}
-use Rattle.search_dump.proofs.Words.{matches_at, places, behind_front, front, nearest, ordered, Stretch, Direction}
-use Rattle.search_dump.proofs.Words.{Forward, Back}
+use Rattle.search_dump.proofs.Common.{◌≡◌, ℕ, ◌+◌, ◌-◌, ◌<◌, ◌≤◌, ◌&&◌, inl, inr, min, Bool, true, false, Option, None}
+use Rattle.search_dump.proofs.Common.{Some, List, reverse, refl, sym, ap, subst, ◌∙◌, arith, length, take, drop}
+use Rattle.search_dump.proofs.Common.{bytes_eq, slice_range, find, is_some, option_or, find-append, and_left, cases_lt}
+use Rattle.search_dump.proofs.Common.{false≢true, le-leb, lt-leb, true≢false, drop-drop, drop-map, drop-take}
+use Rattle.search_dump.proofs.Common.{length-drop, length-map, length-take, take-map, take-take, simple_fold, compared}
+use Rattle.search_dump.proofs.Common.{matches_at, places, behind_front, front, nearest, ordered, Stretch, Direction}
+use Rattle.search_dump.proofs.Common.{Forward, Back}
 use Rattle.search_dump.proofs.MatchLaws.{match-fits}
 use Rattle.search_dump.proofs.PlaceLaws.{NonePasses, find-greatest, find-least, find-none, find-none-back}
 use Rattle.search_dump.proofs.PlaceLaws.{found-ordered, greatest-find, least-find, none-find, none-find-back}
@@ -133,12 +133,12 @@ module _ (pattern text window : List ℕ) (low count end : ℕ) (part : IsWindow
       (none_here (none-find-back (matches_at pattern window (length window)) 0 (length window + 1) (sym found))))
 
 -- the part that is read
-pub window-read : (ignores_case : Bool) (pattern shown window read : List ℕ) (stretch : Stretch) (len : ℕ) →
+pub window-read : (ignores_case : Bool) (shown : List ℕ) (stretch : Stretch) {pattern window read : List ℕ} {len : ℕ} →
     len ≡ length pattern → stretch.low < stretch.high → stretch.high - 1 + len ≤ stretch.end
     → stretch.end ≤ length shown → window ≡ read → read
     ≡ compared ignores_case (slice_range shown stretch.low (stretch.high - 1 + len))
     → IsWindow pattern (compared ignores_case shown) window stretch.low (stretch.high - stretch.low) stretch.end
-window-read ignores_case pattern shown window read stretch len is_len some fits inside is_read was_read = record {
+window-read ignores_case shown stretch {len = len} is_len some fits inside is_read was_read = record {
   some = omega arith;
   fits = omega arith;
   inside = omega (arith, length-compared ignores_case shown);
@@ -256,10 +256,10 @@ left-cut direction pattern text stretch last is = record {
   fits = λ some. omega arith;
 }
 
-pub left-begun : (direction : Direction) (pattern text : List ℕ) (stretch rest : Stretch) (last len : ℕ) →
+pub left-begun : {direction : Direction} {pattern text : List ℕ} {stretch rest : Stretch} {last len : ℕ} →
     len ≡ length pattern → last ≡ min stretch.high (stretch.end + 1 - len)
     → rest ≡ record stretch { high = min stretch.high last } → IsLeft direction pattern text stretch rest
-left-begun direction pattern text stretch rest last len is_len is is_rest =
+left-begun {direction} {pattern} {text} {stretch} {last = last} is_len is is_rest =
     subst (IsLeft direction pattern text stretch) (sym is_rest)
     (left-cut direction pattern text stretch last (is ∙ ap (λ n. min stretch.high (stretch.end + 1 - n)) is_len))
 
@@ -278,36 +278,36 @@ left-behind Back pattern text stretch rest count found left within is none = rec
   fits = λ some. omega (arith, left.fits (omega arith));
 }
 
-pub left-on : (direction : Direction) (pattern text : List ℕ) (stretch rest part later : Stretch) (count : ℕ)
-    (found : Option ℕ) → IsLeft direction pattern text stretch rest → rest.low + count ≤ rest.high
+pub left-on : (count : ℕ) {direction : Direction} {pattern text : List ℕ} {stretch rest part later : Stretch}
+    {found : Option ℕ} → IsLeft direction pattern text stretch rest → rest.low + count ≤ rest.high
     → part ≡ front direction count rest → found ≡ nearest direction pattern text part → is_some found ≡ false →
     later ≡ behind_front direction count rest → IsLeft direction pattern text stretch later
-left-on direction pattern text stretch rest part later count found left within is_part is none is_later =
+left-on count {direction} {pattern} {text} {stretch} {rest} {found = found} left within is_part is none is_later =
     subst (IsLeft direction pattern text stretch) (sym is_later)
     (left-behind direction pattern text stretch rest count found left within (is
     ∙ ap (nearest direction pattern text) is_part) none)
 
-pub left-found : (direction : Direction) (pattern text : List ℕ) (stretch rest part : Stretch) (count : ℕ)
-    (found : Option ℕ) → IsLeft direction pattern text stretch rest → rest.low + count ≤ rest.high
+pub left-found : (count : ℕ) {direction : Direction} {pattern text : List ℕ} {stretch rest part : Stretch}
+    {found : Option ℕ} → IsLeft direction pattern text stretch rest → rest.low + count ≤ rest.high
     → part ≡ front direction count rest → found ≡ nearest direction pattern text part → is_some found ≡ true →
     found ≡ nearest direction pattern text stretch
-left-found direction pattern text stretch rest part count found left within is_part is some =
+left-found count {direction} {pattern} {text} {stretch} {rest} {found = found} left within is_part is some =
     nearest-front direction pattern text rest count found within (is ∙ ap (nearest direction pattern text) is_part) some
     ∙ left.same
 
 -- the part, as the code reads it
-pub read-some : (direction : Direction) (pattern text window : List ℕ) (stretch : Stretch) (at : ℕ) →
+pub read-some : (direction : Direction) (stretch : Stretch) {pattern text window : List ℕ} {at : ℕ} →
     stretch.low < stretch.high → IsWindow pattern text window stretch.low (stretch.high - stretch.low) stretch.end
     → Some at ≡ find (matches_at pattern window (length window)) (ordered direction (places 0 (length window + 1))) →
     Some (stretch.low + at) ≡ nearest direction pattern text stretch
-read-some direction pattern text window stretch at some part found =
+read-some direction stretch {pattern} {text} {window} {at} some part found =
     window-some pattern text window stretch.low (stretch.high - stretch.low) stretch.end part direction at found
     ∙ ap (λ n. find (matches_at pattern text stretch.end) (ordered direction (places stretch.low n))) (omega arith)
 
-pub read-none : (direction : Direction) (pattern text window : List ℕ) (stretch : Stretch) →
+pub read-none : (direction : Direction) (stretch : Stretch) {pattern text window : List ℕ} →
     stretch.low < stretch.high → IsWindow pattern text window stretch.low (stretch.high - stretch.low) stretch.end
     → None ≡ find (matches_at pattern window (length window)) (ordered direction (places 0 (length window + 1))) →
     None ≡ nearest direction pattern text stretch
-read-none direction pattern text window stretch some part found =
+read-none direction stretch {pattern} {text} {window} some part found =
     window-none pattern text window stretch.low (stretch.high - stretch.low) stretch.end part direction found
     ∙ ap (λ n. find (matches_at pattern text stretch.end) (ordered direction (places stretch.low n))) (omega arith)

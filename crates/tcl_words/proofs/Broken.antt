@@ -1,7 +1,8 @@
 -- Bytes at fault stay at fault, however they go on.
-use Rattle.tcl_words.proofs.Words.{◌≡◌, ℕ, ◌+◌, ◌/◌, ◌%◌, ◌<◌, ◌≤◌, ◌⊎◌, inl, inr, ⊎_elim, true, false, ltb, List, []}
-use Rattle.tcl_words.proofs.Words.{◌∷◌, ◌++◌, Some, None, refl, sym, ap, ◌∙◌, arith, StartsWithNoChar, second_byte_min}
-use Rattle.tcl_words.proofs.Words.{second_byte_max, is_in_range, IsScalar, nat_tests, leb_tells}
+use Rattle.tcl_words.proofs.Common.{◌≡◌, ℕ, ◌+◌, ◌/◌, ◌%◌, ◌<◌, ◌≤◌, ◌⊎◌, inl, inr, ⊎_elim, true, false, ltb, List, []}
+use Rattle.tcl_words.proofs.Common.{◌∷◌, ◌++◌, Some, None, refl, sym, ap, ◌∙◌, arith, StartsWithNoChar, second_byte_min}
+use Rattle.tcl_words.proofs.Common.{second_byte_max, is_in_range, IsScalar, nat_tests, leb_tells, append-nil}
+use Rattle.tcl_words.proofs.Common.{append_assoc, ⊤}
 use Rattle.std.specs.Str.Lossy.{utf8_error_len}
 use lib.Utf8.{encode, scalar_cases}
 
@@ -36,37 +37,21 @@ too_long : (xs : List ℕ) (b : ℕ) (t : List ℕ) → [] ≡ xs ++ b ∷ t →
 too_long [] b t h = cc
 too_long (x ∷ xs) b t h = cc
 
-cut_one : (a : ℕ) (bytes : List ℕ) (b : ℕ) (t : List ℕ) → a ∷ [] ≡ bytes ++ b ∷ t → utf8_error_len bytes ≡ None
-cut_one a [] b t h = err_nil
-cut_one a (x ∷ bytes) b t h = let short : [] ≡ bytes ++ b ∷ t = cc in absurd (too_long bytes b t short)
+-- each proper front of a list, behind another one, is no fault
+abbrev Fronts : List ℕ → List ℕ → Type 0
+Fronts front [] = ⊤
+Fronts front (x ∷ rest) = (utf8_error_len front ≡ None) × Fronts (front ++ x ∷ []) rest
 
-cut_two : (a d : ℕ) (bytes : List ℕ) (b : ℕ) (t : List ℕ) → is_in_range 194 244 a ≡ true → a ∷ d ∷ [] ≡ bytes ++ b ∷ t →
-    utf8_error_len bytes ≡ None
-cut_two a d [] b t p h = err_nil
-cut_two a d (x ∷ []) b t p h = let e : a ≡ x = cc in ap (λ n. utf8_error_len (n ∷ [])) (sym e) ∙ err_one a p
-cut_two a d (x ∷ y ∷ bytes) b t p h = let short : [] ≡ bytes ++ b ∷ t = cc in absurd (too_long bytes b t short)
-
-cut_three : (a d f : ℕ) (bytes : List ℕ) (b : ℕ) (t : List ℕ) → is_in_range 194 244 a ≡ true →
-    is_in_range (second_byte_min a) (second_byte_max a) d ≡ true
-    → a ∷ d ∷ f ∷ [] ≡ bytes ++ b ∷ t → utf8_error_len bytes ≡ None
-cut_three a d f [] b t p q h = err_nil
-cut_three a d f (x ∷ []) b t p q h = let e : a ≡ x = cc in ap (λ n. utf8_error_len (n ∷ [])) (sym e) ∙ err_one a p
-cut_three a d f (x ∷ y ∷ []) b t p q h =
-    let e : x ∷ y ∷ [] ≡ a ∷ d ∷ [] = cc in ap utf8_error_len e ∙ err_two a d p q
-cut_three a d f (x ∷ y ∷ z ∷ bytes) b t p q h = let short : [] ≡ bytes ++ b ∷ t = cc in
-    absurd (too_long bytes b t short)
-
-cut_four : (a d f g : ℕ) (bytes : List ℕ) (b : ℕ) (t : List ℕ) → is_in_range 194 244 a ≡ true →
-    is_in_range (second_byte_min a) (second_byte_max a) d ≡ true → is_in_range 128 191 f ≡ true
-    → a ∷ d ∷ f ∷ g ∷ [] ≡ bytes ++ b ∷ t → utf8_error_len bytes ≡ None
-cut_four a d f g [] b t p q r h = err_nil
-cut_four a d f g (x ∷ []) b t p q r h = let e : a ≡ x = cc in ap (λ n. utf8_error_len (n ∷ [])) (sym e) ∙ err_one a p
-cut_four a d f g (x ∷ y ∷ []) b t p q r h =
-    let e : x ∷ y ∷ [] ≡ a ∷ d ∷ [] = cc in ap utf8_error_len e ∙ err_two a d p q
-cut_four a d f g (x ∷ y ∷ z ∷ []) b t p q r h =
-    let e : x ∷ y ∷ z ∷ [] ≡ a ∷ d ∷ f ∷ [] = cc in ap utf8_error_len e ∙ err_three a d f p q r
-cut_four a d f g (x ∷ y ∷ z ∷ w ∷ bytes) b t p q r h = let short : [] ≡ bytes ++ b ∷ t = cc in
-    absurd (too_long bytes b t short)
+cut_at : (front rest bytes : List ℕ) (b : ℕ) (t : List ℕ) → Fronts front rest → rest ≡ bytes ++ b ∷ t →
+    utf8_error_len (front ++ bytes) ≡ None
+cut_at front [] bytes b t fine h = absurd (too_long bytes b t h)
+cut_at front (x ∷ rest) [] b t fine h = ap utf8_error_len (append-nil front) ∙ fine.0
+cut_at front (x ∷ rest) (y ∷ bytes) b t fine h =
+    let same : y ≡ x = cc in
+    let further : rest ≡ bytes ++ b ∷ t = cc in
+    ap (λ n. utf8_error_len (front ++ n ∷ bytes)) same
+    ∙ ap utf8_error_len (sym (append_assoc front (x ∷ []) bytes))
+    ∙ cut_at (front ++ x ∷ []) rest bytes b t fine.1 further
 
 encode_one : (c : ℕ) → c < 128 → encode c ≡ c ∷ []
 unfolding encode
@@ -102,10 +87,10 @@ cut_of_three : (c : ℕ) (bytes : List ℕ) (b : ℕ) (t : List ℕ) → 2048 �
 cut_of_three c bytes b t low high surrogate h =
     let x = 224 + c / 4096 in
     let y = 128 + (c / 64) % 64 in
-    cut_three x y (128 + c % 64) bytes b t
-    (in_range 194 244 x (omega arith) (omega arith))
-    (second_in_range x y (λ e. omega arith) (λ e. absurd (omega arith)) (λ e. let k = surrogate (omega arith) in
-    omega arith) (λ e. absurd (omega arith)) (omega arith) (omega arith))
+    let first = in_range 194 244 x (omega arith) (omega arith) in
+    let second = second_in_range x y (λ e. omega arith) (λ e. absurd (omega arith))
+    (λ e. let k = surrogate (omega arith) in omega arith) (λ e. absurd (omega arith)) (omega arith) (omega arith) in
+    cut_at [] (x ∷ y ∷ (128 + c % 64) ∷ []) bytes b t (err_nil, (err_one x first, (err_two x y first second, tt)))
     (sym (encode_three c low high) ∙ h)
 
 cut_of_four : (c : ℕ) (bytes : List ℕ) (b : ℕ) (t : List ℕ) → 65536 ≤ c → c < 1114112 → encode c ≡ bytes ++ b ∷ t →
@@ -114,19 +99,20 @@ cut_of_four c bytes b t low high h =
     let x = 240 + c / 262144 in
     let y = 128 + (c / 4096) % 64 in
     let z = 128 + (c / 64) % 64 in
-    cut_four x y z (128 + c % 64) bytes b t
-    (in_range 194 244 x (omega arith) (omega arith))
-    (second_in_range x y (λ e. absurd (omega arith)) (λ e. omega arith) (λ e. absurd (omega arith)) (λ e. omega arith)
-    (omega arith) (omega arith))
-    (in_range 128 191 z (omega arith) (omega arith))
+    let first = in_range 194 244 x (omega arith) (omega arith) in
+    let second = second_in_range x y (λ e. absurd (omega arith)) (λ e. omega arith) (λ e. absurd (omega arith))
+    (λ e. omega arith) (omega arith) (omega arith) in
+    let third = in_range 128 191 z (omega arith) (omega arith) in
+    cut_at [] (x ∷ y ∷ z ∷ (128 + c % 64) ∷ []) bytes b t
+    (err_nil, (err_one x first, (err_two x y first second, (err_three x y z first second third, tt))))
     (sym (encode_four c low) ∙ h)
 
 cut_of_two : (c : ℕ) (bytes : List ℕ) (b : ℕ) (t : List ℕ) → 128 ≤ c → c < 2048 → encode c ≡ bytes ++ b ∷ t →
     utf8_error_len bytes ≡ None
 cut_of_two c bytes b t low high h =
     let x = 192 + c / 64 in
-    cut_two x (128 + c % 64) bytes b t (in_range 194 244 x (omega arith) (omega arith)) (sym (encode_two c low high)
-    ∙ h)
+    cut_at [] (x ∷ (128 + c % 64) ∷ []) bytes b t
+    (err_nil, (err_one x (in_range 194 244 x (omega arith) (omega arith)), tt)) (sym (encode_two c low high) ∙ h)
 
 not_surrogate : (c : ℕ) → (c < 55296) ⊎ ((57344 ≤ c) × (c < 1114112)) → c / 4096 ≡ 13 → (c / 64) % 64 ≤ 31
 not_surrogate c (inl h) e = omega arith
@@ -147,7 +133,7 @@ cut_char c bytes b t s h = ⊎_elim
     (leb_tells 65536 c))
     (λ below. cut_of_two c bytes b t high.1 below.1 h)
     (leb_tells 2048 c))
-    (λ low. cut_one c bytes b t (sym (encode_one c low.1) ∙ h))
+    (λ low. cut_at [] (c ∷ []) bytes b t (err_nil, tt) (sym (encode_one c low.1) ∙ h))
     (leb_tells 128 c)
 
 -- one of two fronts of the same list goes on where the other ends

@@ -1,9 +1,9 @@
 -- Bytes that end within a character are made a character by some bytes after them.
-use Rattle.tcl_words.proofs.Words.{◌≡◌, ◌≢◌, ℕ, ◌+◌, ◌*◌, ◌-◌, ◌/◌, ◌%◌, ◌<◌, ◌≤◌, ◌==◌, ◌⊎◌, inl, inr, ⊎_elim, Bool}
-use Rattle.tcl_words.proofs.Words.{true, false, cond, List, [], ◌∷◌, ◌++◌, length, Option, Some, None, refl, sym, ap}
-use Rattle.tcl_words.proofs.Words.{◌∙◌, arith, nat_lt, StartsWithNoChar, error_len_after_one, error_len_after_two}
-use Rattle.tcl_words.proofs.Words.{second_byte_min, second_byte_max, is_in_range, IsScalar, nat_tests, leb_tells}
-use Rattle.tcl_words.proofs.Words.{BeginsOneChar}
+use Rattle.tcl_words.proofs.Common.{◌≡◌, ◌≢◌, ℕ, ◌+◌, ◌*◌, ◌-◌, ◌/◌, ◌%◌, ◌<◌, ◌≤◌, ◌==◌, ◌⊎◌, inl, inr, ⊎_elim, Bool}
+use Rattle.tcl_words.proofs.Common.{true, false, cond, List, [], ◌∷◌, ◌++◌, length, Option, Some, None, refl, sym, ap}
+use Rattle.tcl_words.proofs.Common.{◌∙◌, arith, nat_lt, StartsWithNoChar, error_len_after_one, error_len_after_two}
+use Rattle.tcl_words.proofs.Common.{second_byte_min, second_byte_max, is_in_range, IsScalar, nat_tests, leb_tells}
+use Rattle.tcl_words.proofs.Common.{BeginsOneChar}
 use Rattle.std.specs.Str.Lossy.{utf8_error_len}
 use lib.Utf8.{encode, scalar}
 use Rattle.tcl_words.proofs.Broken.{encode_two, encode_three, encode_four}
@@ -73,18 +73,17 @@ record MayFollow (x y : ℕ) : Type 0 where
   after_f0 : x ≡ 240 → 144 ≤ y
   after_f4 : x ≡ 244 → y ≤ 143
 
+follows : (x y : ℕ) → 128 ≤ y → y ≤ 191 → (x ≡ 224 → 160 ≤ y) → (x ≡ 237 → y ≤ 159) → (x ≡ 240 → 144 ≤ y) →
+    (x ≡ 244 → y ≤ 143) → MayFollow x y
+follows x y low high a b c d =
+    record { low = low; high = high; after_e0 = a; after_ed = b; after_f0 = c; after_f4 = d }
+
 may_follow : (x y : ℕ) → is_in_range (second_byte_min x) (second_byte_max x) y ≡ true → MayFollow x y
 may_follow x y h =
     let least = range_low (second_byte_min x) (second_byte_max x) y h in
     let most = range_high (second_byte_min x) (second_byte_max x) y h in
-    record {
-      low = grind (arith, nat_tests);
-      high = grind (arith, nat_tests);
-      after_e0 = λ e. grind (arith, nat_tests);
-      after_ed = λ e. grind (arith, nat_tests);
-      after_f0 = λ e. grind (arith, nat_tests);
-      after_f4 = λ e. grind (arith, nat_tests);
-    }
+    follows x y (grind (arith, nat_tests)) (grind (arith, nat_tests)) (λ e. grind (arith, nat_tests))
+    (λ e. grind (arith, nat_tests)) (λ e. grind (arith, nat_tests)) (λ e. grind (arith, nat_tests))
 
 is_or : (x y : ℕ) → (x ≡ y) ⊎ (x ≢ y)
 is_or x y = ⊎_elim (λ le. ⊎_elim (λ ge. inl (omega arith)) (λ less. inr (λ e. omega arith)) (leb_tells x y)) (λ more.
@@ -95,37 +94,19 @@ follower : (x : ℕ) → (y : ℕ) × MayFollow x y
 follower x = ⊎_elim
     (λ four. (
       144,
-      record {
-        low = omega arith;
-        high = omega arith;
-        after_e0 = λ e. absurd (omega arith);
-        after_ed = λ e. absurd (omega arith);
-        after_f0 = λ e. omega arith;
-        after_f4 = λ e. absurd (omega arith);
-      },
+      follows x 144 (omega arith) (omega arith) (λ e. omega arith) (λ e. omega arith) (λ e. omega arith)
+          (λ e. omega arith),
     ))
     (λ other. ⊎_elim
     (λ three. (
       160,
-      record {
-        low = omega arith;
-        high = omega arith;
-        after_e0 = λ e. omega arith;
-        after_ed = λ e. absurd (omega arith);
-        after_f0 = λ e. absurd (omega arith);
-        after_f4 = λ e. absurd (omega arith);
-      },
+      follows x 160 (omega arith) (omega arith) (λ e. omega arith) (λ e. omega arith)
+          (λ e. omega arith) (λ e. omega arith),
     ))
     (λ plain. (
       128,
-      record {
-        low = omega arith;
-        high = omega arith;
-        after_e0 = λ e. absurd (omega arith);
-        after_ed = λ e. omega arith;
-        after_f0 = λ e. absurd (omega arith);
-        after_f4 = λ e. omega arith;
-      },
+      follows x 128 (omega arith) (omega arith) (λ e. omega arith) (λ e. omega arith)
+          (λ e. omega arith) (λ e. omega arith),
     ))
     (is_or x 224))
     (is_or x 240)
@@ -154,8 +135,7 @@ three_in_range x y z h =
     let first = passes (is_in_range 194 244 x) 1 (error_len_after_one (x ∷ y ∷ z ∷ [])) h in
     let second = passes (is_in_range (second_byte_min x) (second_byte_max x) y) 1 (error_len_after_two (x ∷ y ∷ z ∷ []))
     first.1 in
-    let third = passes (is_in_range 128 191 z) 2 None second.1 in
-    (first.0, may_follow x y second.0, third.0)
+    (first.0, may_follow x y second.0, (passes (is_in_range 128 191 z) 2 None second.1).0)
 
 none_passes : (first second third : Bool) →
     cond {A = Option ℕ} first (cond second (cond third (Some 3) (Some 2)) (Some 1)) (Some 1) ≡ None → ⊥
@@ -178,7 +158,6 @@ four_at_fault x y z w bytes h =
 
 complete_two : (x y : ℕ) → is_in_range 194 244 x ≡ true → MayFollow x y → BeginsOneChar (x ∷ y ∷ [])
 complete_two x y h f =
-    let low = range_low 194 244 x h in
     let high = range_high 194 244 x h in
     let l = f.low in
     let m = f.high in
@@ -189,7 +168,7 @@ complete_two x y h f =
     (λ below. ⊎_elim
     (λ three. let k = from_three x y 128 three.1 (omega arith) l m f.after_e0 f.after_ed (omega arith) (omega arith) in
     (k.0, 128 ∷ [], k.1, k.2))
-    (λ two. let k = from_two x y low (omega arith) l m in (k.0, [], k.1, k.2))
+    (λ two. let k = from_two x y (range_low 194 244 x h) (omega arith) l m in (k.0, [], k.1, k.2))
     (leb_tells 224 x))
     (leb_tells 240 x)
 
@@ -202,7 +181,6 @@ complete_one x h =
 complete_three : (x y z : ℕ) → is_in_range 194 244 x ≡ true → MayFollow x y → is_in_range 128 191 z ≡ true →
     StartsWithNoChar (x ∷ y ∷ z ∷ []) → BeginsOneChar (x ∷ y ∷ z ∷ [])
 complete_three x y z h f g none =
-    let low = range_low 194 244 x h in
     let high = range_high 194 244 x h in
     let least = range_low 128 191 z g in
     let most = range_high 128 191 z g in
@@ -214,7 +192,7 @@ complete_three x y z h f g none =
     (λ below. ⊎_elim
     (λ three. let k = from_three x y z three.1 (omega arith) l m f.after_e0 f.after_ed least most in
     (k.0, [], k.1, k.2))
-    (λ two. let k = from_two x y low (omega arith) l m in
+    (λ two. let k = from_two x y (range_low 194 244 x h) (omega arith) l m in
     absurd (none k.0 (z ∷ []) k.1 (sym (ap (λ s. s ++ z ∷ []) k.2))))
     (leb_tells 224 x))
     (leb_tells 240 x)

@@ -1,15 +1,16 @@
 -- What the bytes not yet given hold next, by a scan of their text.
-use Rattle.tcl_words.proofs.Words.{◌≡◌, ◌≢◌, IfOk, IfNone, Option, Some, None, encode_utf8, ℕ, zero, suc, ◌+◌, ◌-◌, ◌<◌}
-use Rattle.tcl_words.proofs.Words.{◌≤◌, inl, inr, ⊎_elim, Bool, true, false, List, [], ◌∷◌, ◌++◌, length, take, drop}
-use Rattle.tcl_words.proofs.Words.{chars, encode_utf8_all, IsUtf8, Ok, refl, sym, ap, ◌∙◌, arith, subst, append_assoc}
-use Rattle.tcl_words.proofs.Words.{append-nil, length-append, length-take, length-drop, take-append-drop, take-add}
-use Rattle.tcl_words.proofs.Words.{all_scalars, StartsWithNoChar, encodes-append, chars_from_encodes, IsUtf8-append}
-use Rattle.tcl_words.proofs.Words.{IsUtf8-encode, length-le-encodes, take-take, drop-drop, take_at, Ending, Ends}
-use Rattle.tcl_words.proofs.Words.{Breaks, Continues, Command, Nothing, Fault, Open, first, Follows, MeetsFault}
-use Rattle.tcl_words.proofs.Words.{HoldsNoWhole, IsWholeCommand, scanned, later, pieces_from, last_step, depth_of}
-use Rattle.tcl_words.proofs.Words.{StopsAs, BeginsNoChar, IsNextCommand, HasFault, HasNoFault, IsProgress, IsCommandOf}
-use Rattle.tcl_words.proofs.Words.{IsNext, text_end, last_found, last_command, ScriptFault, NotUtf8, Memory, Progress}
-use Rattle.tcl_words.proofs.Words.{Stage, BeforeCommand, Next, Go, End, Refuse, Scan, EndsAt, Refused, Reaches}
+use Rattle.tcl_words.proofs.Common.{◌≡◌, ◌≢◌, IfOk, IfNone, Option, Some, None, encode_utf8, ℕ, zero, suc, ◌+◌, ◌-◌}
+use Rattle.tcl_words.proofs.Common.{◌<◌, ◌≤◌, inl, inr, ⊎_elim, Bool, true, false, List, [], ◌∷◌, ◌++◌, length, take}
+use Rattle.tcl_words.proofs.Common.{drop, chars, encode_utf8_all, IsUtf8, Ok, refl, sym, ap, ◌∙◌, arith, subst}
+use Rattle.tcl_words.proofs.Common.{append_assoc, append-nil, length-append, length-take, length-drop, take-append-drop}
+use Rattle.tcl_words.proofs.Common.{take-add, all_scalars, StartsWithNoChar, encodes-append, chars_from_encodes}
+use Rattle.tcl_words.proofs.Common.{IsUtf8-append, IsUtf8-encode, length-le-encodes, take-take, drop-drop, take_at}
+use Rattle.tcl_words.proofs.Common.{Ending, Ends, Breaks, Continues, Command, Nothing, Fault, Open, first, Follows}
+use Rattle.tcl_words.proofs.Common.{MeetsFault, HoldsNoWhole, IsWholeCommand, scanned, later, pieces_from, last_step}
+use Rattle.tcl_words.proofs.Common.{depth_of, StopsAs, BeginsNoChar, IsNextCommand, HasFault, HasNoFault, IsProgress}
+use Rattle.tcl_words.proofs.Common.{IsCommandOf, IsNext, text_end, last_found, last_command, ScriptFault, NotUtf8}
+use Rattle.tcl_words.proofs.Common.{Memory, Progress, Stage, BeforeCommand, Next, Go, End, Refuse, Scan, EndsAt}
+use Rattle.tcl_words.proofs.Common.{Refused, Reaches}
 use Rattle.tcl_words.specs.declared.encoding.TextStop.{TextStop}
 use Rattle.tcl_words.specs.declared.encoding.TextStop.TheVariants.{AtEnd, WithinCharacter, Broken}
 use Rattle.tcl_words.proofs.Verdicts.{IsMetAtEnd, met_at_end, at_last, Verdict, verdict, scanned-nil}
@@ -65,30 +66,25 @@ pub whole_front : (text : List ℕ) (n : ℕ) → IsUtf8 text → scanned text B
 whole_front text n u h = whole_front_by (scanned u.0 BeforeCommand) text u.0 n u.1.0 u.1.1 refl
     (verdict u.0 BeforeCommand) (sym h ∙ text_scan text u)
 
-refused_by : (scan : Scan) (cs : List ℕ) (fault : ScriptFault) → Verdict scan BeforeCommand cs →
-    Refused fault ≡ widened scan cs → Verdict (Refused fault) BeforeCommand cs
-refused_by (EndsAt m) cs fault v same = absurd cc
-refused_by (Refused met) cs fault v same = let e : met ≡ fault = cc in
-    subst (λ f. Verdict (Refused f) BeforeCommand cs) e v
-refused_by (Reaches last) cs fault v same = absurd cc
+-- what the scan of a text says of its characters, where it doesn't end
+same_scan : (scan found : Scan) (cs : List ℕ) → ((n : ℕ) → found ≢ EndsAt n) → found ≡ widened scan cs → found ≡ scan
+same_scan (EndsAt m) found cs other same = absurd (other _ same)
+same_scan (Refused fault) found cs other same = same
+same_scan (Reaches last) found cs other same = same
 
-reached_by : (scan : Scan) (cs : List ℕ) (last : Stage) → Verdict scan BeforeCommand cs →
-    Reaches last ≡ widened scan cs → Verdict (Reaches last) BeforeCommand cs
-reached_by (EndsAt m) cs last v same = absurd cc
-reached_by (Refused met) cs last v same = absurd cc
-reached_by (Reaches stage) cs last v same = let e : stage ≡ last = cc in
-    subst (λ s. Verdict (Reaches s) BeforeCommand cs) e v
+text_says : (text : List ℕ) (found : Scan) (u : IsUtf8 text) → ((n : ℕ) → found ≢ EndsAt n) →
+    scanned text BeforeCommand ≡ found → Verdict found BeforeCommand u.0
+text_says text found u other h = subst (λ scan. Verdict scan BeforeCommand u.0)
+    (sym (same_scan (scanned u.0 BeforeCommand) found u.0 other (sym h ∙ text_scan text u)))
+    (verdict u.0 BeforeCommand)
 
--- what the scan of a text says of its characters
 text_refused : (text : List ℕ) (fault : ScriptFault) (u : IsUtf8 text) → scanned text BeforeCommand ≡ Refused fault →
     Verdict (Refused fault) BeforeCommand u.0
-text_refused text fault u h =
-    refused_by (scanned u.0 BeforeCommand) u.0 fault (verdict u.0 BeforeCommand) (sym h ∙ text_scan text u)
+text_refused text fault u h = text_says text (Refused fault) u (λ n is. cc) h
 
 text_reached : (text : List ℕ) (last : Stage) (u : IsUtf8 text) → scanned text BeforeCommand ≡ Reaches last →
     Verdict (Reaches last) BeforeCommand u.0
-text_reached text last u h =
-    reached_by (scanned u.0 BeforeCommand) u.0 last (verdict u.0 BeforeCommand) (sym h ∙ text_scan text u)
+text_reached text last u h = text_says text (Reaches last) u (λ n is. cc) h
 
 -- The text meets the fault, whatever follows.
 pub refused_fault : (text back bytes : List ℕ) (fault : ScriptFault) → IsUtf8 text →
@@ -102,15 +98,13 @@ pub broken_fault : (text back bytes : List ℕ) (last : Stage) → IsUtf8 text �
     bytes ≡ text ++ back → 0 < length back → StartsWithNoChar back
     → MeetsFault bytes NotUtf8
 broken_fault text back bytes last u h split some none =
-    let v = text_reached text last u h in
-    (text, back, u.0, Breaks, split, u.1, (some, none), v.1)
+    (text, back, u.0, Breaks, split, u.1, (some, none), (text_reached text last u h).1)
 
 -- No command is whole in the text.
 pub no_whole : (text back bytes : List ℕ) (last : Stage) → IsUtf8 text → scanned text BeforeCommand ≡ Reaches last →
     bytes ≡ text ++ back → StartsWithNoChar back → HoldsNoWhole bytes
 no_whole text back bytes last u h split none words used rest e w =
-    let v = text_reached text last u h in
-    let undecided : first Continues u.0 ≡ Open = v.0 in
+    let undecided : first Continues u.0 ≡ Open = (text_reached text last u h).0 in
     ⊎_elim
     (λ g.
     let nil = no_char_nil g.0 rest (scalars_split u.0 g.0 (ap all_scalars (sym g.1) ∙ w.1.0)).1
@@ -122,26 +116,6 @@ no_whole text back bytes last u h split none words used rest e w =
     let no : Command words g.0 ≡ Open = ap (λ x. extended x g.0) (sym w.2) ∙ sym (stays w.0 g.0 Continues decided)
     ∙ ap (first Continues) (sym g.1) ∙ undecided in absurd cc)
     (one_goes_on u.0 w.0 back rest (ap (λ l. l ++ back) u.1.1 ∙ sym split ∙ e ∙ ap (λ l. l ++ rest) (sym w.1.1)))
-
--- the text at the front, read further
-
-pub text_more : (rest : List ℕ) (valid n : ℕ) → IsUtf8 (take valid rest) → IsUtf8 (take n (drop valid rest)) →
-    IsUtf8 (take (valid + n) rest)
-text_more rest valid n u v =
-    subst IsUtf8 (sym (take-add valid n rest)) (IsUtf8-append (take valid rest) (take n (drop valid rest)) u v)
-
-pub scan_more : (rest : List ℕ) (seen valid : ℕ) (stage : Stage) (scan : Scan) → seen ≤ valid → valid ≤ length rest →
-    scanned (take seen rest) BeforeCommand ≡ Reaches stage
-    → scan ≡ scanned (take (valid - seen) (drop seen rest)) stage →
-    scanned (take valid rest) BeforeCommand ≡ later seen scan
-scan_more rest seen valid stage scan order within reached is =
-    let sum : seen + (valid - seen) ≡ valid = omega arith in
-    let long : length (take seen rest) ≡ seen = omega (arith, length-take seen rest) in
-    ap (λ n. scanned (take n rest) BeforeCommand) (sym sum)
-    ∙ ap (λ l. scanned l BeforeCommand) (take-add seen (valid - seen) rest)
-    ∙ scanned-append (take seen rest) (take (valid - seen) (drop seen rest)) BeforeCommand stage reached
-    ∙ ap (λ n. later n (scanned (take (valid - seen) (drop seen rest)) stage)) long
-    ∙ ap (later seen) (sym is)
 
 next_whole : (finished : Bool) (rest : List ℕ) (words : List (List ℕ)) (bytes : List ℕ) → IsWholeCommand words bytes →
     IsNextCommand finished rest words bytes
@@ -197,9 +171,6 @@ broken_of false rest valid last text h none = λ more.
     broken_fault (take valid rest) (drop valid rest ++ more) (rest ++ more) last text h (split_at valid rest more)
     (omega (arith, length-append (drop valid rest) more)) (none.1 more)
 
-nil_no_char : (bytes : List ℕ) → bytes ≡ [] → StartsWithNoChar bytes
-nil_no_char bytes h c rest s e = encode_not_nil c rest (sym e ∙ h)
-
 all_taken : (valid : ℕ) (rest : List ℕ) → drop valid rest ≡ [] → take valid rest ≡ rest
 all_taken valid rest h =
     sym (append-nil (take valid rest)) ∙ ap (λ l. take valid rest ++ l) (sym h) ∙ take-append-drop valid rest
@@ -243,7 +214,7 @@ pub reached_of : (stop : TextStop) (finished : Bool) (rest : List ℕ) (valid : 
 reached_of AtEnd true rest valid last within text h stops = finished_of rest valid last within text h stops
 reached_of AtEnd false rest valid last within text h stops =
     no_whole (take valid rest) (drop valid rest) rest last text h (sym (take-append-drop valid rest))
-    (nil_no_char (drop valid rest) stops)
+    (λ c more s e. encode_not_nil c more (sym e ∙ stops))
 reached_of WithinCharacter true rest valid last within text h stops = (
   (λ e. cc),
   broken_fault (take valid rest) (drop valid rest) rest last text h (sym (take-append-drop valid rest))
@@ -358,38 +329,49 @@ no_fault_of Broken finished rest valid last within text h stops = tt
 
 -- the steps of the search for the next command
 
-pub progress_more : (rest slice : List ℕ) (progress : Progress) (n : ℕ) → IsProgress rest progress →
+pub progress_more : {rest slice : List ℕ} {progress : Progress} (n : ℕ) → IsProgress rest progress →
     slice ≡ drop progress.valid rest → n ≤ length slice → IsUtf8 (take n slice)
     → IsProgress rest (record progress { valid = progress.valid + n })
-progress_more rest slice progress n p is long text =
+progress_more {rest} {slice} {progress} n p is long text =
     let order = p.order in
     let within = p.within in
     record {
       order = omega arith;
       within = omega (arith, ap length is, length-drop progress.valid rest);
-      text = text_more rest progress.valid n p.text (subst (λ l. IsUtf8 (take n l)) is text);
+      text = subst IsUtf8 (sym (take-add progress.valid n rest)) (IsUtf8-append (take progress.valid rest)
+          (take n (drop progress.valid rest)) p.text (subst (λ l. IsUtf8 (take n l)) is text));
       reached = p.reached;
     }
 
-pub progress_scan : (rest : List ℕ) (progress : Progress) (scan : Scan) → IsProgress rest progress
+pub progress_scan : {rest : List ℕ} {progress : Progress} {scan : Scan} → IsProgress rest progress
     → scan ≡ scanned (take (progress.valid - progress.seen) (drop progress.seen rest)) progress.stage →
     scanned (take progress.valid rest) BeforeCommand ≡ later progress.seen scan
-progress_scan rest progress scan p is =
-    scan_more rest progress.seen progress.valid progress.stage scan p.order p.within p.reached is
+progress_scan {rest} {progress} p is =
+    let seen = progress.seen in
+    let more = take (progress.valid - seen) (drop seen rest) in
+    let order = p.order in
+    let within = p.within in
+    let sum : seen + (progress.valid - seen) ≡ progress.valid = omega arith in
+    let long : length (take seen rest) ≡ seen = omega (arith, length-take seen rest) in
+    ap (λ n. scanned (take n rest) BeforeCommand) (sym sum)
+    ∙ ap (λ l. scanned l BeforeCommand) (take-add seen (progress.valid - seen) rest)
+    ∙ scanned-append (take seen rest) more BeforeCommand progress.stage p.reached
+    ∙ ap (λ n. later n (scanned more progress.stage)) long
+    ∙ ap (later seen) (sym is)
 
-pub progress_reaches : (rest : List ℕ) (progress : Progress) (stage : Stage) → IsProgress rest progress →
+pub progress_reaches : {rest : List ℕ} {progress : Progress} (stage : Stage) → IsProgress rest progress →
     scanned (take progress.valid rest) BeforeCommand ≡ Reaches stage
     → IsProgress rest (record { valid = progress.valid; seen = progress.valid; stage = stage })
-progress_reaches rest progress stage p h = record {
+progress_reaches {progress = progress} stage p h = record {
   order = omega arith;
   within = p.within;
   text = p.text;
   reached = h;
 }
 
-pub stops_after : (rest slice : List ℕ) (valid n : ℕ) (stop : TextStop) → slice ≡ drop valid rest →
+pub stops_after : (rest : List ℕ) (valid n : ℕ) (stop : TextStop) {slice : List ℕ} → slice ≡ drop valid rest →
     StopsAs stop (drop n slice) → StopsAs stop (drop (valid + n) rest)
-stops_after rest slice valid n stop is h = subst (StopsAs stop) (ap (drop n) is ∙ drop-drop n valid rest) h
+stops_after rest valid n stop is h = subst (StopsAs stop) (ap (drop n) is ∙ drop-drop n valid rest) h
 
 -- no more braces are open than bytes were read
 pub progress_depth : (rest : List ℕ) (progress : Progress) → IsProgress rest progress →

@@ -1,4 +1,5 @@
 pub mod Broken
+pub mod Common
 pub mod Completion
 pub mod Finding
 pub mod ListForms
@@ -16,5 +17,4 @@ pub mod Splitting
 pub mod Stages
 pub mod Verdicts
 pub mod WordWriting
-pub mod Words
 pub mod Writing

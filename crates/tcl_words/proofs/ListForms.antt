@@ -1,10 +1,11 @@
 -- Steps of the loops that choose how an element is written, and write it.
-use Rattle.tcl_words.proofs.Words.{◌≡◌, ◌≢◌, ℕ, zero, suc, ◌+◌, ◌-◌, ◌<◌, ◌≤◌, ◌==◌, ◌||◌, Bool, true, false, cond}
-use Rattle.tcl_words.proofs.Words.{List, [], ◌∷◌, ◌++◌, length, drop, get_or, chars, encode_utf8, encode_utf8_all, refl}
-use Rattle.tcl_words.proofs.Words.{sym, ap, ◌∙◌, arith, append_assoc, append-nil, true≢false, length-append, nat_tests}
-use Rattle.tcl_words.proofs.Words.{drop_more, drop_all, chars-nil, encodes-append, length-le-encodes, begins_with}
-use Rattle.tcl_words.proofs.Words.{pushed, Goes, is_white, is_special, has_special, needs_quotes, less, balances}
-use Rattle.tcl_words.proofs.Words.{white_letter, backslashed, with_backslashes, element_text, list_text, space_behind}
+use Rattle.tcl_words.proofs.Common.{◌≡◌, ◌≢◌, ℕ, zero, suc, ◌+◌, ◌-◌, ◌<◌, ◌≤◌, ◌==◌, ◌||◌, Bool, true, false, cond}
+use Rattle.tcl_words.proofs.Common.{List, [], ◌∷◌, ◌++◌, length, drop, get_or, chars, encode_utf8, encode_utf8_all}
+use Rattle.tcl_words.proofs.Common.{refl, sym, ap, ◌∙◌, arith, append_assoc, append-nil, true≢false, length-append}
+use Rattle.tcl_words.proofs.Common.{nat_tests, drop_more, drop_all, chars-nil, encodes-append, length-le-encodes}
+use Rattle.tcl_words.proofs.Common.{begins_with, pushed, Goes, is_white, is_special, has_special, needs_quotes, less}
+use Rattle.tcl_words.proofs.Common.{balances, white_letter, backslashed, with_backslashes, element_text, list_text}
+use Rattle.tcl_words.proofs.Common.{space_behind, ne_eqb, cond-true, cond-false}
 use lib.Utf8.{encode}
 
 -- the character that a loop is at
@@ -21,14 +22,13 @@ pub special_found : (cs : List ℕ) (n c : ℕ) (test : Bool) → (n < length cs
     has_special (drop n cs) ≡ has_special cs → test ≡ (is_white c || is_special c) → test ≡ true
     → true ≡ has_special cs
 special_found cs n c test t before is found =
-    sym (ap (λ b. cond b true (has_special (drop (n + 1) cs))) (sym is ∙ found)) ∙ sym (special_on cs n c t) ∙ before
+    sym (special_on cs n c t ∙ cond-true _ _ _ (sym is ∙ found)) ∙ before
 
 pub special_goes : (cs : List ℕ) (n m c : ℕ) (test : Bool) → (n < length cs) × (c ≡ get_or cs n c) →
     has_special (drop n cs) ≡ has_special cs → test ≡ (is_white c || is_special c) → test ≡ false
     → m ≡ n + 1 → has_special (drop m cs) ≡ has_special cs
 special_goes cs n m c test t before is none long =
-    ap (λ k. has_special (drop k cs)) long ∙ sym (ap (λ b. cond b true (has_special (drop (n + 1) cs))) (sym is ∙ none))
-    ∙ sym (special_on cs n c t) ∙ before
+    ap (λ k. has_special (drop k cs)) long ∙ sym (special_on cs n c t ∙ cond-false _ _ _ (sym is ∙ none)) ∙ before
 
 pub special_ends : (cs : List ℕ) (n : ℕ) → length cs ≤ n → has_special (drop n cs) ≡ has_special cs →
     false ≡ has_special cs
@@ -44,38 +44,9 @@ balance_on : (cs : List ℕ) (n c depth : ℕ) → (n < length cs) × (c ≡ get
     balances (drop n cs) depth ≡ balance_step c depth (balances (drop (n + 1) cs))
 balance_on cs n c depth t = ap (λ l. balances l depth) (here cs n c t)
 
-pub balance_backslash : (cs : List ℕ) (n c depth : ℕ) → (n < length cs) × (c ≡ get_or cs n c) →
-    balances (drop n cs) depth ≡ balances cs 0 → c ≡ 92 → false ≡ balances cs 0
-balance_backslash cs n c depth t before is =
-    ap (λ d. balance_step d depth (balances (drop (n + 1) cs))) (sym is) ∙ sym (balance_on cs n c depth t) ∙ before
-
-pub balance_opens : (cs : List ℕ) (n m c depth : ℕ) → (n < length cs) × (c ≡ get_or cs n c) →
-    balances (drop n cs) depth ≡ balances cs 0 → c ≡ 123 → m ≡ n + 1 → balances (drop m cs) (depth + 1) ≡ balances cs 0
-balance_opens cs n m c depth t before is long =
-    let e : depth + 1 ≡ suc depth = omega arith in
-    ap (λ k. balances (drop k cs) (depth + 1)) long ∙ ap (balances (drop (n + 1) cs)) e
-    ∙ ap (λ d. balance_step d depth (balances (drop (n + 1) cs))) (sym is) ∙ sym (balance_on cs n c depth t) ∙ before
-
-pub balance_low : (cs : List ℕ) (n c depth : ℕ) → (n < length cs) × (c ≡ get_or cs n c) →
-    balances (drop n cs) depth ≡ balances cs 0 → c ≡ 125 → depth ≡ 0 → false ≡ balances cs 0
-balance_low cs n c depth t before is none =
-    ap (λ d. less d (balances (drop (n + 1) cs))) (sym none)
-    ∙ ap (λ d. balance_step d depth (balances (drop (n + 1) cs))) (sym is) ∙ sym (balance_on cs n c depth t)
-    ∙ before
-
 less_one : (depth : ℕ) (after : ℕ → Bool) → depth ≢ 0 → after (depth - 1) ≡ less depth after
 less_one zero after some = absurd (some refl)
 less_one (suc depth) after some = let e : suc depth - 1 ≡ depth = omega arith in ap after e
-
-pub balance_closes : (cs : List ℕ) (n m c depth : ℕ) → (n < length cs) × (c ≡ get_or cs n c) →
-    balances (drop n cs) depth ≡ balances cs 0 → c ≡ 125 → depth ≢ 0 → m ≡ n + 1 →
-    balances (drop m cs) (depth - 1) ≡ balances cs 0
-balance_closes cs n m c depth t before is some long =
-    ap (λ k. balances (drop k cs) (depth - 1)) long ∙ less_one depth (balances (drop (n + 1) cs)) some
-    ∙ ap (λ d. balance_step d depth (balances (drop (n + 1) cs))) (sym is) ∙ sym (balance_on cs n c depth t) ∙ before
-
-no_test : (c d : ℕ) → c ≢ d → (c == d) ≡ false
-no_test c d h = grind (arith, nat_tests)
 
 pass_all : (x y z : Bool) (p q r s : Bool) → x ≡ false → y ≡ false → z ≡ false → cond x p (cond y q (cond z r s)) ≡ s
 pass_all true y z p q r s h i j = absurd (true≢false h)
@@ -83,15 +54,39 @@ pass_all false true z p q r s h i j = absurd (true≢false i)
 pass_all false false true p q r s h i j = absurd (true≢false j)
 pass_all false false false p q r s h i j = refl
 
-pub balance_passes : (cs : List ℕ) (n m c depth : ℕ) → (n < length cs) × (c ≡ get_or cs n c) →
-    balances (drop n cs) depth ≡ balances cs 0 → c ≢ 92 → c ≢ 123 → c ≢ 125 → m ≡ n + 1 →
-    balances (drop m cs) depth ≡ balances cs 0
-balance_passes cs n m c depth t before p q r long =
-    ap (λ k. balances (drop k cs) depth) long
-    ∙ sym (pass_all (c == 92) (c == 123) (c == 125) false (balances (drop (n + 1) cs) (suc depth))
-    (less depth (balances (drop (n + 1) cs))) (balances (drop (n + 1) cs) depth)
-    (no_test c 92 p) (no_test c 123 q) (no_test c 125 r))
-    ∙ sym (balance_on cs n c depth t) ∙ before
+module _ (cs : List ℕ) (n c depth : ℕ) (t : (n < length cs) × (c ≡ get_or cs n c))
+    (before : balances (drop n cs) depth ≡ balances cs 0) where
+  step_is : balance_step c depth (balances (drop (n + 1) cs)) ≡ balances cs 0
+  step_is = sym (balance_on cs n c depth t) ∙ before
+
+  pub balance_backslash : c ≡ 92 → false ≡ balances cs 0
+  balance_backslash is = ap (λ d. balance_step d depth (balances (drop (n + 1) cs))) (sym is) ∙ step_is
+
+  pub balance_opens : {m : ℕ} → c ≡ 123 → m ≡ n + 1 → balances (drop m cs) (depth + 1) ≡ balances cs 0
+  balance_opens is long =
+      let e : depth + 1 ≡ suc depth = omega arith in
+      ap (λ k. balances (drop k cs) (depth + 1)) long ∙ ap (balances (drop (n + 1) cs)) e
+      ∙ ap (λ d. balance_step d depth (balances (drop (n + 1) cs))) (sym is) ∙ step_is
+
+  pub balance_low : c ≡ 125 → depth ≡ 0 → false ≡ balances cs 0
+  balance_low is none =
+      ap (λ d. less d (balances (drop (n + 1) cs))) (sym none)
+      ∙ ap (λ d. balance_step d depth (balances (drop (n + 1) cs))) (sym is) ∙ step_is
+
+  pub balance_closes : {m : ℕ} → c ≡ 125 → depth ≢ 0 → m ≡ n + 1 →
+      balances (drop m cs) (depth - 1) ≡ balances cs 0
+  balance_closes is some long =
+      ap (λ k. balances (drop k cs) (depth - 1)) long ∙ less_one depth (balances (drop (n + 1) cs)) some
+      ∙ ap (λ d. balance_step d depth (balances (drop (n + 1) cs))) (sym is) ∙ step_is
+
+  pub balance_passes : {m : ℕ} → c ≢ 92 → c ≢ 123 → c ≢ 125 → m ≡ n + 1 →
+      balances (drop m cs) depth ≡ balances cs 0
+  balance_passes p q r long =
+      ap (λ k. balances (drop k cs) depth) long
+      ∙ sym (pass_all (c == 92) (c == 123) (c == 125) false (balances (drop (n + 1) cs) (suc depth))
+      (less depth (balances (drop (n + 1) cs))) (balances (drop (n + 1) cs) depth)
+      (ne_eqb c 92 p) (ne_eqb c 123 q) (ne_eqb c 125 r))
+      ∙ step_is
 
 pub balance_ends : (cs : List ℕ) (n depth : ℕ) → length cs ≤ n → balances (drop n cs) depth ≡ balances cs 0 →
     (depth == 0) ≡ balances cs 0
@@ -103,20 +98,17 @@ pub hash_none : (bytes : List ℕ) → length bytes ≡ 0 → false ≡ begins_w
 hash_none [] h = ap (begins_with 35) (sym chars-nil)
 hash_none (b ∷ bytes) h = absurd (omega arith)
 
-pub hash_first : (cs rest : List ℕ) (c : ℕ) → cs ≡ c ∷ rest → (c == 35) ≡ begins_with 35 cs
-hash_first cs rest c h = ap (begins_with 35) (sym h)
-
 pub quotes_none : (bytes : List ℕ) → length bytes ≡ 0 → true ≡ needs_quotes (chars bytes)
 quotes_none [] h = ap needs_quotes (sym chars-nil)
 quotes_none (b ∷ bytes) h = absurd (omega arith)
 
 pub quotes_hash : (cs : List ℕ) → begins_with 35 cs ≡ true → true ≡ needs_quotes cs
 quotes_hash [] h = refl
-quotes_hash (c ∷ cs) h = sym (ap (λ b. cond b true (has_special (c ∷ cs))) h)
+quotes_hash (c ∷ cs) h = sym (cond-true _ _ _ h)
 
 pub quotes_other : (cs : List ℕ) → 0 < length cs → begins_with 35 cs ≡ false → has_special cs ≡ needs_quotes cs
 quotes_other [] some h = absurd (omega arith)
-quotes_other (c ∷ cs) some h = sym (ap (λ b. cond b true (has_special (c ∷ cs))) h)
+quotes_other (c ∷ cs) some h = sym (cond-false _ _ _ h)
 
 pub some_chars : (cs bytes : List ℕ) → encode_utf8_all cs ≡ bytes → (length bytes == 0) ≡ false → 0 < length cs
 some_chars [] bytes e h = let none : (length bytes == 0) ≡ true = ap (λ l. length l == 0) (sym e) in
@@ -129,29 +121,6 @@ back_on : (cs : List ℕ) (n c : ℕ) → (n < length cs) × (c ≡ get_or cs n 
     → backslashed (drop n cs) ≡ cond (is_white c || is_special c) (92 ∷ white_letter c ∷ backslashed (drop (n + 1) cs))
     (c ∷ backslashed (drop (n + 1) cs))
 back_on cs n c t = ap backslashed (here cs n c t)
-
-hash_is : (test : Bool) (c : ℕ) (cs : List ℕ) → (c == 35) ≡ test →
-    cond test (92 ∷ c ∷ backslashed cs) (backslashed (c ∷ cs))
-    ≡ cond test (92 ∷ backslashed (c ∷ cs)) (backslashed (c ∷ cs))
-hash_is true c cs h = let e : c ≡ 35 = grind (arith, nat_tests) in
-    ap (λ d. 92 ∷ d ∷ backslashed cs) e ∙ ap (λ d. 92 ∷ backslashed (d ∷ cs)) (sym e)
-hash_is false c cs h = refl
-
-with_hash : (cs : List ℕ) → with_backslashes cs ≡ cond (begins_with 35 cs) (92 ∷ backslashed cs) (backslashed cs)
-with_hash [] = refl
-with_hash (c ∷ cs) = hash_is (c == 35) c cs refl
-
-pub back_hash : (cs text front : List ℕ) (test : Bool) → test ≡ begins_with 35 cs → test ≡ true → front ≡ [] →
-    text ≡ front ++ encode_utf8 92 → text ++ encode_utf8_all (backslashed cs) ≡ encode_utf8_all (with_backslashes cs)
-back_hash cs text front test is found none e =
-    ap (λ l. l ++ encode_utf8_all (backslashed cs)) (e ∙ ap (λ l. l ++ encode_utf8 92) none)
-    ∙ sym (ap encode_utf8_all (with_hash cs ∙ ap (λ b. cond b (92 ∷ backslashed cs) (backslashed cs)) (sym is ∙ found)))
-
-pub back_plain : (cs text : List ℕ) (test : Bool) → test ≡ begins_with 35 cs → test ≡ false → text ≡ [] →
-    text ++ encode_utf8_all (backslashed cs) ≡ encode_utf8_all (with_backslashes cs)
-back_plain cs text test is none e =
-    ap (λ l. l ++ encode_utf8_all (backslashed cs)) e
-    ∙ sym (ap encode_utf8_all (with_hash cs ∙ ap (λ b. cond b (92 ∷ backslashed cs) (backslashed cs)) (sym is ∙ none)))
 
 abbrev pub IsBacked : List ℕ → ℕ → List ℕ → Type 0
 IsBacked cs n text = text ++ encode_utf8_all (backslashed (drop n cs)) ≡ encode_utf8_all (with_backslashes cs)
@@ -166,9 +135,7 @@ back_special cs n m c test text half more t before is found long e f =
     ∙ ap (λ l. l ++ rest) (f ∙ ap (λ l. l ++ encode_utf8 (white_letter c)) e)
     ∙ append_assoc (text ++ encode_utf8 92) (encode_utf8 (white_letter c)) rest
     ∙ append_assoc text (encode_utf8 92) (encode_utf8 (white_letter c) ++ rest)
-    ∙ sym (ap (λ l. text ++ encode_utf8_all l) (back_on cs n c t
-    ∙ ap (λ b. cond b (92 ∷ white_letter c ∷ backslashed (drop (n + 1) cs)) (c ∷ backslashed (drop (n + 1) cs)))
-    (sym is ∙ found)))
+    ∙ sym (ap (λ l. text ++ encode_utf8_all l) (back_on cs n c t ∙ cond-true _ _ _ (sym is ∙ found)))
     ∙ before
 
 pub back_other : (cs : List ℕ) (n m c : ℕ) (test : Bool) (text more : List ℕ) → (n < length cs) × (c ≡ get_or cs n c) →
@@ -178,9 +145,7 @@ back_other cs n m c test text more t before is none long e =
     let rest = encode_utf8_all (backslashed (drop (n + 1) cs)) in
     ap (λ k. more ++ encode_utf8_all (backslashed (drop k cs))) long
     ∙ ap (λ l. l ++ rest) e ∙ append_assoc text (encode_utf8 c) rest
-    ∙ sym (ap (λ l. text ++ encode_utf8_all l) (back_on cs n c t
-    ∙ ap (λ b. cond b (92 ∷ white_letter c ∷ backslashed (drop (n + 1) cs)) (c ∷ backslashed (drop (n + 1) cs)))
-    (sym is ∙ none)))
+    ∙ sym (ap (λ l. text ++ encode_utf8_all l) (back_on cs n c t ∙ cond-false _ _ _ (sym is ∙ none)))
     ∙ before
 
 pub back_ends : (cs : List ℕ) (n : ℕ) (text : List ℕ) → length cs ≤ n → IsBacked cs n text →

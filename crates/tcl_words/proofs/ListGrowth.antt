@@ -1,8 +1,7 @@
 -- A list that grows at its end.
-use Rattle.tcl_words.proofs.Words.{◌≡◌, ℕ, ◌+◌, ◌<◌, List, [], ◌∷◌, ◌++◌, sym, ap, subst, ◌∙◌, map-append, take_more}
-use Rattle.tcl_words.proofs.Words.{Goes, list_text}
-use Rattle.std.specs.Prelude.{encode_utf8_all, get_or, length, map, take}
-use Rattle.std.proofs.lemmas.List.{append_assoc, append-nil}
+use Rattle.tcl_words.proofs.Common.{◌≡◌, ℕ, ◌+◌, ◌<◌, List, [], ◌∷◌, ◌++◌, sym, ap, subst, ◌∙◌, map-append, take_more}
+use Rattle.tcl_words.proofs.Common.{Goes, list_text, encode_utf8_all, get_or, length, map, take, append_assoc}
+use Rattle.tcl_words.proofs.Common.{append-nil}
 
 pub goes_nowhere : (bytes : List ℕ) → Goes bytes bytes []
 goes_nowhere bytes list is = is ∙ ap (λ xs. encode_utf8_all (list_text xs)) (sym (append-nil list))

@@ -1,20 +1,20 @@
 -- What each stage of reading a list says of the list.
-use Rattle.tcl_words.proofs.Words.{◌≡◌, ℕ, zero, suc, ◌==◌, Bool, true, false, cond, Option, Some, None, List, [], ◌∷◌}
-use Rattle.tcl_words.proofs.Words.{refl, ap, ◌∙◌, Escape, Gives, NoCharacter, Undecided, further, escape, escape_step}
-use Rattle.tcl_words.proofs.Words.{is_white, Spot, AtElement, InElement, InBraces, Closed, onto_element, end_element}
-use Rattle.tcl_words.proofs.Words.{escaped_element, element_rule, close_element, kept_element, braced_element}
-use Rattle.tcl_words.proofs.Words.{begin_element, list_rule, list_passes, list_keeps, list_closes, no_list, list_after}
-use Rattle.tcl_words.proofs.Words.{text_element, step_in_element, step_at_element, close_brace, step_in_braces}
-use Rattle.tcl_words.proofs.Words.{element_by, list_step, last_element_by, last_list_step, onto_piece, given_onto}
-use Rattle.tcl_words.proofs.Words.{kept_onto, ended_before, written, Backslash, Letter, Digits, Gap, EscapeStep}
-use Rattle.tcl_words.proofs.Words.{TextWord, Bare, Quoted, Output, ListStage, ListNext, Bad, ListStep}
+use Rattle.tcl_words.proofs.Common.{◌≡◌, ℕ, zero, suc, ◌==◌, Bool, true, false, cond, Option, Some, None, List, [], ◌∷◌}
+use Rattle.tcl_words.proofs.Common.{refl, ap, ◌∙◌, Escape, Gives, NoCharacter, further, escape, escape_step, is_white}
+use Rattle.tcl_words.proofs.Common.{Spot, AtElement, InElement, Closed, onto_element, end_element, escaped_element}
+use Rattle.tcl_words.proofs.Common.{element_rule, close_element, kept_element, braced_element, begin_element, list_rule}
+use Rattle.tcl_words.proofs.Common.{list_passes, list_keeps, list_closes, no_list, list_after, text_element}
+use Rattle.tcl_words.proofs.Common.{step_in_element, step_at_element, close_brace, step_in_braces, element_by}
+use Rattle.tcl_words.proofs.Common.{list_step, last_element_by, last_list_step, onto_piece, given_onto, kept_onto}
+use Rattle.tcl_words.proofs.Common.{ended_before, written, Backslash, Digits, EscapeStep, TextWord, Bare, Quoted}
+use Rattle.tcl_words.proofs.Common.{Output, ListStage, ListNext, Bad, ListStep}
+use Rattle.tcl_words.specs.ListText.{InBraces, InQuotes, read_list}
 use lib.Utf8.{scalar}
 use Rattle.tcl_words.specs.Escapes.{numeral}
-use Rattle.tcl_words.specs.ListText.{InQuotes, read_list}
-use Rattle.tcl_words.specs.declared.escapes.EscapeStep.TheVariants as escape_steps
-use Rattle.tcl_words.specs.declared.list_steps.ListStage.TheVariants as stages
 use Rattle.tcl_words.specs.declared.list_steps.ListNext.TheVariants.{Go}
 use Rattle.tcl_words.proofs.Stages.{escape_from, escape_by, escape-step}
+use Rattle.tcl_words.specs.declared.escapes.EscapeStep.TheVariants as escape_steps
+use Rattle.tcl_words.specs.declared.list_steps.ListStage.TheVariants as stages
 
 -- a list that may be found
 abbrev pub Found : Type 0
@@ -104,8 +104,7 @@ further_element : (c : ℕ) (cs : List ℕ) (spot : Spot) (escape : Escape)
     ≡ escaped_element (λ n. read_list cs n spot) escape
 unfolding read_list
 further_element c cs spot (Gives d n) = refl
-further_element c cs spot NoCharacter = refl
-further_element c cs spot Undecided = refl
+further_element c cs spot escape = refl
 
 none_if : (b : Bool) (s t : ListStep) → s.output.given ≡ None → t.output.given ≡ None → (cond b s t).output.given ≡ None
 none_if true s t h k = h
@@ -173,20 +172,10 @@ quoted_element_end false value = refl
 pub list-end : (stage : ListStage) → list_from stage []
     ≡ list_put (last_list_step stage).output 0 (list_end (last_list_step stage).next)
 unfolding read_list numeral
-list-end stages.Between = refl
 list-end (stages.Text Bare) = refl
-list-end (stages.Text Quoted) = refl
-list-end (stages.Escaped Bare Backslash) = refl
-list-end (stages.Escaped Bare (Letter letter more)) = refl
 list-end (stages.Escaped Bare (Digits radix value more)) = valued_element (scalar value) value
-list-end (stages.Escaped Bare Gap) = refl
-list-end (stages.Escaped Quoted Backslash) = refl
-list-end (stages.Escaped Quoted (Letter letter more)) = refl
 list-end (stages.Escaped Quoted (Digits radix value more)) = quoted_element_end (scalar value) value
-list-end (stages.Escaped Quoted Gap) = refl
-list-end (stages.Braced depth) = refl
-list-end (stages.BracedBackslash depth) = refl
-list-end stages.Closed = refl
+list-end stage = refl
 
 -- what is put before a list
 
@@ -215,13 +204,10 @@ put_some output c xs =
 none_by : (given : Option ℕ) (kept ended : Bool) (c : ℕ) →
     given_before given (kept_before kept c (ends_before ended None)) ≡ None
 none_by None true true c = refl
-none_by None true false c = refl
 none_by None false true c = refl
-none_by None false false c = refl
 none_by (Some d) true true c = refl
-none_by (Some d) true false c = refl
 none_by (Some d) false true c = refl
-none_by (Some d) false false c = refl
+none_by given kept ended c = refl
 
 pub put_none : (output : Output) (c : ℕ) → list_put output c None ≡ None
 put_none output c = none_by output.given output.kept output.ended c

@@ -1,20 +1,20 @@
 -- Steps of the loop that reads a list's elements.
-use Rattle.tcl_words.proofs.Words.{◌≡◌, ℕ, zero, suc, ◌≤◌, ◌==◌, Bool, true, false, cond, Some, None, List, [], ◌∷◌}
-use Rattle.tcl_words.proofs.Words.{◌++◌, map, length, take, drop, chars, String, string_bytes, encode_utf8}
-use Rattle.tcl_words.proofs.Words.{encode_utf8_all, refl, sym, ap, ◌∙◌, arith, subst, append_assoc, append-nil}
-use Rattle.tcl_words.proofs.Words.{true≢false, ⊤, nat_tests, chars-nil, escape_step, is_white, AtElement, onto_element}
-use Rattle.tcl_words.proofs.Words.{read_list, ReadsList, list_keeps, text_element, step_in_element, close_brace}
-use Rattle.tcl_words.proofs.Words.{element_by, list_step, last_list_step, open_braces, script_stage, is_bare, is_quoted}
-use Rattle.tcl_words.proofs.Words.{is_braced, is_plain, prefixed, word_with, words_after, word_after, texts_of}
-use Rattle.tcl_words.proofs.Words.{EscapeStep, TextWord, Bare, Quoted, Output, ListStage, ListNext, Bad, ListStep}
-use Rattle.tcl_words.specs.declared.escapes.EscapeStep.TheVariants as escape_steps
-use Rattle.tcl_words.specs.declared.list_steps.ListStage.TheVariants as stages
+use Rattle.tcl_words.proofs.Common.{◌≡◌, ℕ, zero, suc, ◌≤◌, ◌==◌, Bool, true, false, cond, Some, None, List, [], ◌∷◌}
+use Rattle.tcl_words.proofs.Common.{◌++◌, map, length, take, drop, chars, String, string_bytes, encode_utf8}
+use Rattle.tcl_words.proofs.Common.{encode_utf8_all, refl, sym, ap, ◌∙◌, arith, subst, append_assoc, append-nil}
+use Rattle.tcl_words.proofs.Common.{true≢false, ⊤, nat_tests, chars-nil, escape_step, is_white, AtElement, onto_element}
+use Rattle.tcl_words.proofs.Common.{read_list, ReadsList, list_keeps, text_element, step_in_element, close_brace}
+use Rattle.tcl_words.proofs.Common.{element_by, list_step, last_list_step, open_braces, script_stage, is_plain}
+use Rattle.tcl_words.proofs.Common.{prefixed, word_with, words_after, word_after, texts_of, EscapeStep, TextWord, Bare}
+use Rattle.tcl_words.proofs.Common.{Quoted, Output, ListStage, ListNext, Bad, ListStep, cond-false}
 use Rattle.tcl_words.specs.declared.list_steps.ListNext.TheVariants.{Go}
 use Rattle.tcl_words.proofs.Plain.{AllPlain, RunOf}
-use Rattle.tcl_words.proofs.Writing.{spelled, prefixed_onto, prefixed_nil, written_more}
+use Rattle.tcl_words.proofs.Writing.{spelled, prefixed_onto, written_more}
 use Rattle.tcl_words.proofs.ListStages.{Found, list_from, list_put, list_arrive, list_does, list_end, list-step}
 use Rattle.tcl_words.proofs.ListStages.{list-end, put_some, put_none, onto_some}
 use Rattle.tcl_words.proofs.Splitting.{texts_are}
+use Rattle.tcl_words.specs.declared.escapes.EscapeStep.TheVariants as escape_steps
+use Rattle.tcl_words.specs.declared.list_steps.ListStage.TheVariants as stages
 
 -- no more braces are open than characters were read
 
@@ -64,31 +64,16 @@ list_depth stage next step c goes does =
 
 -- runs
 
-bare_other : (c : ℕ) → is_bare c ≡ true → (is_white c ≡ false) × ((c == 92) ≡ false)
-bare_other c h = (grind (arith, nat_tests), grind (arith, nat_tests))
-
-quoted_other : (c : ℕ) → is_quoted c ≡ true → ((c == 34) ≡ false) × ((c == 92) ≡ false)
-quoted_other c h = (grind (arith, nat_tests), grind (arith, nat_tests))
-
-braced_other : (c : ℕ) → is_braced c ≡ true → ((c == 125) ≡ false) × ((c == 123) ≡ false) × ((c == 92) ≡ false)
-braced_other c h = (grind (arith, nat_tests), grind (arith, nat_tests), grind (arith, nat_tests))
-
-not_taken : (test : Bool) (s t : ListStep) → test ≡ false → cond test s t ≡ t
-not_taken true s t h = absurd (true≢false h)
-not_taken false s t h = refl
-
 plain_element : (stage : ListStage) (c : ℕ) → is_plain (script_stage stage) c ≡ true →
     list_step stage c ≡ list_keeps stage
-plain_element stages.Between c h = absurd (true≢false (sym h))
-plain_element (stages.Text Bare) c h = let k = bare_other c h in
-    not_taken (is_white c) _ _ k.0 ∙ not_taken (c == 92) _ _ k.1
-plain_element (stages.Text Quoted) c h = let k = quoted_other c h in
-    not_taken (c == 34) _ _ k.0 ∙ not_taken (c == 92) _ _ k.1
-plain_element (stages.Escaped word stage) c h = absurd (true≢false (sym h))
-plain_element (stages.Braced depth) c h = let k = braced_other c h in
-    not_taken (c == 125) _ _ k.0 ∙ not_taken (c == 123) _ _ k.1 ∙ not_taken (c == 92) _ _ k.2
-plain_element (stages.BracedBackslash depth) c h = absurd (true≢false (sym h))
-plain_element stages.Closed c h = absurd (true≢false (sym h))
+plain_element (stages.Text Bare) c h =
+    cond-false (is_white c) _ _ (grind (arith, nat_tests)) ∙ cond-false (c == 92) _ _ (grind (arith, nat_tests))
+plain_element (stages.Text Quoted) c h =
+    cond-false (c == 34) _ _ (grind (arith, nat_tests)) ∙ cond-false (c == 92) _ _ (grind (arith, nat_tests))
+plain_element (stages.Braced depth) c h =
+    cond-false (c == 125) _ _ (grind (arith, nat_tests)) ∙ cond-false (c == 123) _ _ (grind (arith, nat_tests))
+    ∙ cond-false (c == 92) _ _ (grind (arith, nat_tests))
+plain_element stage c h = absurd (true≢false (sym h))
 
 -- what is found, in bytes, behind words that were written and one that is under way
 
@@ -120,18 +105,6 @@ behind_put output c words word (Some xs) =
 pub record IsReading (cs rest : List ℕ) (stage : ListStage) (words : List (List ℕ)) (word : List ℕ) : Type 0 where
   pub found : spelled_found (read_list cs 0 AtElement) ≡ behind words word (spelled_found (list_from stage rest))
 
-behind_nothing : (found : Found) → behind [] [] found ≡ found
-behind_nothing None = refl
-behind_nothing (Some xs) = ap Some (prefixed_nil xs)
-
-pub reading_starts : (cs : List ℕ) (words : List (List ℕ)) (word : List ℕ) → words ≡ [] → word ≡ [] →
-    IsReading cs cs stages.Between words word
-reading_starts cs words word none empty = record {
-  found = sym (ap (λ ws. behind ws word (spelled_found (read_list cs 0 AtElement))) none
-      ∙ ap (λ w. behind [] w (spelled_found (read_list cs 0 AtElement))) empty
-      ∙ behind_nothing (spelled_found (read_list cs 0 AtElement)));
-}
-
 run_read : (stage : ListStage) (run rest : List ℕ) (words : List (List ℕ)) (word : List ℕ) →
     AllPlain (script_stage stage) run
     → behind words word (spelled_found (list_from stage (run ++ rest)))
@@ -147,42 +120,14 @@ run_read stage (c ∷ run) rest words word h =
     ∙ ap (λ l. behind words l (spelled_found (list_from stage rest)))
     (append_assoc word (encode_utf8 c) (encode_utf8_all run))
 
-pub reading_runs : (cs : List ℕ) (bytes : List ℕ) (n : ℕ) (stage : ListStage) (words : List (List ℕ))
-    (word more : List ℕ) → IsReading cs (chars bytes) stage words word
-    → RunOf (script_stage stage) bytes n → more ≡ word ++ take n bytes →
+pub reading_runs : {cs bytes : List ℕ} {n : ℕ} {stage : ListStage} {words : List (List ℕ)} {word more : List ℕ} →
+    IsReading cs (chars bytes) stage words word → RunOf (script_stage stage) bytes n → more ≡ word ++ take n bytes →
     IsReading cs (chars (drop n bytes)) stage words more
-reading_runs cs bytes n stage words word more w r e = record {
+reading_runs {bytes = bytes} {n} {stage} {words} {word} w r e = record {
   found = w.found ∙ ap (λ l. behind words word (spelled_found (list_from stage l))) r.split
       ∙ run_read stage r.run (chars (drop n bytes)) words word r.plain
       ∙ ap (λ l. behind words l (spelled_found (list_from stage (chars (drop n bytes)))))
       (ap (λ l. word ++ l) (sym r.spelled) ∙ sym e);
-}
-
-found_more : (cs now later : List ℕ) (stage : ListStage) (words more : List (List ℕ)) (word rest : List ℕ)
-    (step : ListStep) (c : ℕ) → IsReading cs now stage words word
-    → now ≡ c ∷ later → step ≡ list_step stage c
-    → more ≡ words_after step.output.ended (word_with step.output c word) words →
-    rest ≡ word_after step.output.ended (word_with step.output c word)
-    → spelled_found (read_list cs 0 AtElement)
-    ≡ behind more rest (spelled_found (list_arrive step.next (λ next. list_from next later)))
-found_more cs now later stage words more word rest step c w here does e f =
-    w.found ∙ ap (λ l. behind words word (spelled_found (list_from stage l))) here
-    ∙ ap (λ l. behind words word (spelled_found l)) (list-step stage c later)
-    ∙ ap (λ (s : ListStep). behind words word (spelled_found (list_does s c (λ next. list_from next later)))) (sym does)
-    ∙ behind_put step.output c words word (list_arrive step.next (λ next. list_from next later))
-    ∙ ap (λ l. behind l (word_after step.output.ended (word_with step.output c word))
-    (spelled_found (list_arrive step.next (λ next. list_from next later)))) (sym e)
-    ∙ ap (λ l. behind more l (spelled_found (list_arrive step.next (λ next. list_from next later)))) (sym f)
-
-pub reading_goes : (cs now later : List ℕ) (stage next : ListStage) (words more : List (List ℕ)) (word rest : List ℕ)
-    (step : ListStep) (c : ℕ) → IsReading cs now stage words word
-    → now ≡ c ∷ later → step ≡ list_step stage c → step.next ≡ Go next
-    → more ≡ words_after step.output.ended (word_with step.output c word) words →
-    rest ≡ word_after step.output.ended (word_with step.output c word)
-    → IsReading cs later next more rest
-reading_goes cs now later stage next words more word rest step c w here does goes e f = record {
-  found = found_more cs now later stage words more word rest step c w here does e f
-      ∙ ap (λ s. behind more rest (spelled_found (list_arrive s (λ n. list_from n later)))) goes;
 }
 
 none_found : (found : Found) → spelled_found found ≡ None → found ≡ None
@@ -192,16 +137,32 @@ none_found (Some xs) h = cc
 no_list_of : (cs : List ℕ) → read_list cs 0 AtElement ≡ None → (xs : List (List ℕ)) → ¬ ReadsList cs xs
 no_list_of cs none xs r = let no = sym none ∙ r in cc
 
-pub reading_fails : (cs now later : List ℕ) (stage : ListStage) (words more : List (List ℕ)) (word rest : List ℕ)
-    (step : ListStep) (c : ℕ) → IsReading cs now stage words word
-    → now ≡ c ∷ later → step ≡ list_step stage c → step.next ≡ Bad
-    → more ≡ words_after step.output.ended (word_with step.output c word) words →
-    rest ≡ word_after step.output.ended (word_with step.output c word)
-    → (xs : List (List ℕ)) → ¬ ReadsList cs xs
-reading_fails cs now later stage words more word rest step c w here does bad e f =
-    no_list_of cs (none_found (read_list cs 0 AtElement)
-    (found_more cs now later stage words more word rest step c w here does e f
-    ∙ ap (λ s. behind more rest (spelled_found (list_arrive s (λ n. list_from n later)))) bad))
+-- one more character
+module _ {cs now later : List ℕ} {stage : ListStage} {words more : List (List ℕ)} {word rest : List ℕ} {step : ListStep}
+    {c : ℕ} (w : IsReading cs now stage words word) (here : now ≡ c ∷ later) (does : step ≡ list_step stage c)
+    (e : more ≡ words_after step.output.ended (word_with step.output c word) words)
+    (f : rest ≡ word_after step.output.ended (word_with step.output c word)) where
+  found_more : spelled_found (read_list cs 0 AtElement)
+      ≡ behind more rest (spelled_found (list_arrive step.next (λ next. list_from next later)))
+  found_more =
+      w.found ∙ ap (λ l. behind words word (spelled_found (list_from stage l))) here
+      ∙ ap (λ l. behind words word (spelled_found l)) (list-step stage c later)
+      ∙ ap (λ (s : ListStep). behind words word (spelled_found (list_does s c (λ next. list_from next later))))
+      (sym does)
+      ∙ behind_put step.output c words word (list_arrive step.next (λ next. list_from next later))
+      ∙ ap (λ l. behind l (word_after step.output.ended (word_with step.output c word))
+      (spelled_found (list_arrive step.next (λ next. list_from next later)))) (sym e)
+      ∙ ap (λ l. behind more l (spelled_found (list_arrive step.next (λ next. list_from next later)))) (sym f)
+
+  pub reading_goes : {next : ListStage} → step.next ≡ Go next → IsReading cs later next more rest
+  reading_goes goes = record {
+    found = found_more ∙ ap (λ s. behind more rest (spelled_found (list_arrive s (λ n. list_from n later)))) goes;
+  }
+
+  pub reading_fails : step.next ≡ Bad → (xs : List (List ℕ)) → ¬ ReadsList cs xs
+  reading_fails bad =
+      no_list_of cs (none_found (read_list cs 0 AtElement) (found_more
+      ∙ ap (λ s. behind more rest (spelled_found (list_arrive s (λ n. list_from n later)))) bad))
 
 -- the end of the text
 
@@ -225,25 +186,25 @@ texts_of_found (Some xs) strings h =
     let same : map (λ s. string_bytes s) strings ≡ map encode_utf8_all xs = cc in
     ap Some (sym (texts_are strings xs same))
 
-pub reading_ends : {Z : Type 0} (cs bytes : List ℕ) (stage next : ListStage) (words : List (List ℕ)) (word : List ℕ)
-    (step : ListStep) (strings : List (String Z)) → IsReading cs (chars bytes) stage words word
+pub reading_ends : {Z : Type 0} {cs : List ℕ} (bytes : List ℕ) {stage next : ListStage} {words : List (List ℕ)}
+    {word : List ℕ} {step : ListStep} (strings : List (String Z)) → IsReading cs (chars bytes) stage words word
     → length bytes ≡ 0 → step ≡ last_list_step stage → step.next ≡ Go next
     → map (λ s. string_bytes s) strings ≡ words_after step.output.ended (word_with step.output 0 word) words
     → ReadsList cs (texts_of strings)
-reading_ends cs bytes stage next words word step strings w h does goes e =
+reading_ends {cs = cs} bytes {stage} {words = words} {word} {step} strings w h does goes e =
     texts_of_found (read_list cs 0 AtElement) strings (found_at_end cs bytes stage words word step w h does
     ∙ ap (λ s. behind (words_after step.output.ended (word_with step.output 0 word) words)
     (word_after step.output.ended (word_with step.output 0 word)) (spelled_found (list_end s))) goes
     ∙ ap Some (append-nil (words_after step.output.ended (word_with step.output 0 word) words) ∙ sym e))
 
-pub reading_ends_badly : (cs bytes : List ℕ) (stage : ListStage) (words : List (List ℕ)) (word : List ℕ)
-    (step : ListStep) → IsReading cs (chars bytes) stage words word
+pub reading_ends_badly : {cs : List ℕ} (bytes : List ℕ) {stage : ListStage} {words : List (List ℕ)} {word : List ℕ}
+    {step : ListStep} → IsReading cs (chars bytes) stage words word
     → length bytes ≡ 0 → step ≡ last_list_step stage → step.next ≡ Bad → (xs : List (List ℕ)) → ¬ ReadsList cs xs
-reading_ends_badly cs bytes stage words word step w h does bad =
+reading_ends_badly {cs} bytes {stage} {words} {word} {step} w h does bad =
     no_list_of cs (none_found (read_list cs 0 AtElement) (found_at_end cs bytes stage words word step w h does
     ∙ ap (λ s. behind (words_after step.output.ended (word_with step.output 0 word) words)
     (word_after step.output.ended (word_with step.output 0 word)) (spelled_found (list_end s))) bad))
 
-pub reading_same : (cs rest : List ℕ) (stage : ListStage) (words more : List (List ℕ)) (word : List ℕ) →
+pub reading_same : {cs rest : List ℕ} {stage : ListStage} {words more : List (List ℕ)} {word : List ℕ} →
     IsReading cs rest stage words word → more ≡ words → IsReading cs rest stage more word
-reading_same cs rest stage words more word w same = subst (λ l. IsReading cs rest stage l word) (sym same) w
+reading_same {cs} {rest} {stage} {word = word} w same = subst (λ l. IsReading cs rest stage l word) (sym same) w

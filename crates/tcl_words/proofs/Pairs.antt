@@ -1,15 +1,15 @@
 -- Escapes of a backslash and one character behind it.
-use Rattle.tcl_words.proofs.Words.{◌≡◌, ℕ, ◌+◌, ◌<◌, Some, List, length, drop, get_or, refl, sym, ap, ◌∙◌, arith, true}
-use Rattle.tcl_words.proofs.Words.{◌≤◌, ◌∷◌, ◌++◌, take, chars, encode_utf8, IsUtf8, IsCharBoundary, drop_more}
-use Rattle.tcl_words.proofs.Words.{IsCharBoundary-after_ascii, escape_step, given_at, pair_gives, is_plain, step_by}
-use Rattle.tcl_words.proofs.Words.{step_of, later, scanned, onto_piece, written, words_next, pieces_from, prefixed}
-use Rattle.tcl_words.proofs.Words.{words_on, Backslash, EscapeStep, TextWord, Quoted, Stage, Text, Escaped, Step, Go}
-use Rattle.tcl_words.specs.declared.escapes.EscapeStep.TheVariants as escapes
-use Rattle.tcl_words.proofs.Spelling.{later-later, later-zero}
+use Rattle.tcl_words.proofs.Common.{◌≡◌, ℕ, ◌+◌, ◌<◌, Some, List, length, drop, get_or, refl, sym, ap, ◌∙◌, arith, true}
+use Rattle.tcl_words.proofs.Common.{◌≤◌, ◌∷◌, ◌++◌, take, chars, encode_utf8, IsUtf8, IsCharBoundary, drop_more}
+use Rattle.tcl_words.proofs.Common.{IsCharBoundary-after_ascii, escape_step, given_at, pair_gives, is_plain, step_by}
+use Rattle.tcl_words.proofs.Common.{step_of, later, scanned, onto_piece, written, words_next, pieces_from, prefixed}
+use Rattle.tcl_words.proofs.Common.{words_on, Backslash, EscapeStep, TextWord, Quoted, Stage, Text, Escaped, Step, Go}
+use Rattle.tcl_words.proofs.Spelling.{later-later}
 use Rattle.tcl_words.proofs.Scans.{scan_on}
 use Rattle.tcl_words.proofs.Plain.{plain_step, RunOf}
 use Rattle.tcl_words.proofs.Verdicts.{pieces-cons}
 use Rattle.tcl_words.proofs.Writing.{IsWritten, spelled, prefixed_onto, run_written, ascii_cons}
+use Rattle.tcl_words.specs.declared.escapes.EscapeStep.TheVariants as escapes
 
 goes_on : (word : TextWord) (c d : ℕ) (step : EscapeStep) → given_at c step ≡ Some d →
     (step_by word c step).next ≡ Go (Text word)
@@ -45,9 +45,6 @@ scan_pair bytes i d within slash gives before =
     ∙ later-later 1 1 (scanned (drop (i + 1 + 1) bytes) (Text Quoted)))
     ∙ later-later i 2 (scanned (drop (i + 1 + 1) bytes) (Text Quoted))
     ∙ ap (λ m. later (i + 2) (scanned (drop m bytes) (Text Quoted))) sum
-
-pub none_passed : (bytes : List ℕ) (stage : Stage) → scanned bytes stage ≡ later 0 (scanned (drop 0 bytes) stage)
-none_passed bytes stage = sym (later-zero (scanned bytes stage))
 
 -- Such an escape gives its character to the word.
 

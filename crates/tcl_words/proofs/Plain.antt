@@ -1,17 +1,17 @@
 -- Runs of characters that go onto a word as they are.
-use Rattle.tcl_words.proofs.Words.{◌≡◌, ℕ, zero, suc, ◌+◌, ◌-◌, ◌<◌, ◌≤◌, ⊎_elim, Bool, true, false, cond, ◌||◌, ◌==◌}
-use Rattle.tcl_words.proofs.Words.{IsUtf8, IsCharBoundary, List, [], ◌∷◌, ◌++◌, length, take, drop, get_or, chars}
-use Rattle.tcl_words.proofs.Words.{encode_utf8, encode_utf8_all, refl, sym, ap, ◌∙◌, arith, subst, true≢false}
-use Rattle.tcl_words.proofs.Words.{length-take, take-append-drop, ⊤, slice_range, len_utf8, nat_tests, leb_tells}
-use Rattle.tcl_words.proofs.Words.{drop-drop, drop_more, drop-append_seam, IsCharBoundary-past_char, encode_ascii}
-use Rattle.tcl_words.proofs.Words.{length-encode, len_utf8_bounds, encodes-chars, chars-append, IsUtf8-take}
-use Rattle.tcl_words.proofs.Words.{IsCharBoundary-end, IsCharBoundary-before_ascii, is_end, is_blank, is_ordinary}
-use Rattle.tcl_words.proofs.Words.{is_bare, is_quoted, is_braced, is_plain, begins_word, begins_command, begun, keeps}
-use Rattle.tcl_words.proofs.Words.{closes, text_step, step_of, later, scan_next, scanned, TextWord, Bare, Quoted, Stage}
-use Rattle.tcl_words.proofs.Words.{Step, Go, End}
-use Rattle.tcl_words.specs.declared.stage.Stage.TheVariants as stages
+use Rattle.tcl_words.proofs.Common.{◌≡◌, ℕ, zero, suc, ◌+◌, ◌-◌, ◌<◌, ◌≤◌, ⊎_elim, Bool, true, false, cond, ◌||◌, ◌==◌}
+use Rattle.tcl_words.proofs.Common.{IsUtf8, IsCharBoundary, List, [], ◌∷◌, ◌++◌, length, take, drop, get_or, chars}
+use Rattle.tcl_words.proofs.Common.{encode_utf8, encode_utf8_all, refl, sym, ap, ◌∙◌, arith, subst, true≢false}
+use Rattle.tcl_words.proofs.Common.{length-take, take-append-drop, ⊤, slice_range, len_utf8, nat_tests, leb_tells}
+use Rattle.tcl_words.proofs.Common.{drop-drop, drop_more, drop-append_seam, IsCharBoundary-past_char, encode_ascii}
+use Rattle.tcl_words.proofs.Common.{length-encode, len_utf8_bounds, encodes-chars, chars-append, IsUtf8-take}
+use Rattle.tcl_words.proofs.Common.{IsCharBoundary-end, IsCharBoundary-before_ascii, is_end, is_blank, is_ordinary}
+use Rattle.tcl_words.proofs.Common.{is_plain, begins_word, begins_command, begun, keeps, closes, text_step, step_of}
+use Rattle.tcl_words.proofs.Common.{later, scan_next, scanned, TextWord, Bare, Quoted, Stage, Step, Go, End, cond-false}
+use Rattle.tcl_words.proofs.Common.{cond-true}
 use Rattle.tcl_words.proofs.Verdicts.{scanned-cons}
 use Rattle.tcl_words.proofs.Spelling.{below_or, later-later, later-zero}
+use Rattle.tcl_words.specs.declared.stage.Stage.TheVariants as stages
 
 -- an ordinary character keeps the stage
 
@@ -31,22 +31,7 @@ plain_step (stages.Text Bare) c h =
 plain_step (stages.Text Quoted) c h = plain_if (c == 34) _ _ _ _ h (λ i. plain_text Quoted c i)
 plain_step (stages.Braced depth) c h =
     plain_if (c == 125) _ _ _ _ h (λ i. plain_if (c == 123) _ _ _ _ i (λ j. plain_if (c == 92) _ _ _ _ j (λ k. refl)))
-plain_step stages.BeforeCommand c h = absurd (true≢false (sym h))
-plain_step stages.CommandBackslash c h = absurd (true≢false (sym h))
-plain_step stages.Comment c h = absurd (true≢false (sym h))
-plain_step stages.CommentBackslash c h = absurd (true≢false (sym h))
-plain_step stages.BeforeWord c h = absurd (true≢false (sym h))
-plain_step stages.WordBackslash c h = absurd (true≢false (sym h))
-plain_step stages.BareBackslash c h = absurd (true≢false (sym h))
-plain_step (stages.AfterDollar word) c h = absurd (true≢false (sym h))
-plain_step (stages.AfterColon word) c h = absurd (true≢false (sym h))
-plain_step (stages.Escaped word stage) c h = absurd (true≢false (sym h))
-plain_step stages.AfterOpening c h = absurd (true≢false (sym h))
-plain_step stages.AfterStar c h = absurd (true≢false (sym h))
-plain_step (stages.BracedBackslash depth) c h = absurd (true≢false (sym h))
-plain_step (stages.BracedGap depth) c h = absurd (true≢false (sym h))
-plain_step (stages.Behind closing) c h = absurd (true≢false (sym h))
-plain_step (stages.BehindBackslash closing) c h = absurd (true≢false (sym h))
+plain_step stage c h = absurd (true≢false (sym h))
 
 abbrev pub AllPlain : Stage → List ℕ → Type 0
 AllPlain stage [] = ⊤
@@ -92,35 +77,11 @@ plain_split : (stage : Stage) (xs ys : List ℕ) → AllPlain stage (xs ++ ys) �
 plain_split stage [] ys h = (tt, h)
 plain_split stage (x ∷ xs) ys h = let k = plain_split stage xs ys h.1 in ((h.0, k.0), k.1)
 
-high_bare : (c : ℕ) → 128 ≤ c → is_bare c ≡ true
-high_bare c h = grind (arith, nat_tests)
-
-high_quoted : (c : ℕ) → 128 ≤ c → is_quoted c ≡ true
-high_quoted c h = grind (arith, nat_tests)
-
-high_braced : (c : ℕ) → 128 ≤ c → is_braced c ≡ true
-high_braced c h = grind (arith, nat_tests)
-
 high_plain : (stage : Stage) (b c : ℕ) → 128 ≤ c → is_plain stage b ≡ true → is_plain stage c ≡ true
-high_plain (stages.Text Bare) b c h k = high_bare c h
-high_plain (stages.Text Quoted) b c h k = high_quoted c h
-high_plain (stages.Braced depth) b c h k = high_braced c h
-high_plain stages.BeforeCommand b c h k = k
-high_plain stages.CommandBackslash b c h k = k
-high_plain stages.Comment b c h k = k
-high_plain stages.CommentBackslash b c h k = k
-high_plain stages.BeforeWord b c h k = k
-high_plain stages.WordBackslash b c h k = k
-high_plain stages.BareBackslash b c h k = k
-high_plain (stages.AfterDollar word) b c h k = k
-high_plain (stages.AfterColon word) b c h k = k
-high_plain (stages.Escaped word stage) b c h k = k
-high_plain stages.AfterOpening b c h k = k
-high_plain stages.AfterStar b c h k = k
-high_plain (stages.BracedBackslash depth) b c h k = k
-high_plain (stages.BracedGap depth) b c h k = k
-high_plain (stages.Behind closing) b c h k = k
-high_plain (stages.BehindBackslash closing) b c h k = k
+high_plain (stages.Text Bare) b c h k = grind (arith, nat_tests)
+high_plain (stages.Text Quoted) b c h k = grind (arith, nat_tests)
+high_plain (stages.Braced depth) b c h k = grind (arith, nat_tests)
+high_plain stage b c h k = k
 
 plain_first : (stage : Stage) (bs : List ℕ) (c : ℕ) → 0 < length bs → AllPlain stage bs → 128 ≤ c →
     is_plain stage c ≡ true
@@ -203,12 +164,6 @@ kept_false : (test plain : Bool) → cond test false plain ≡ true → (test �
 kept_false true plain h = absurd (true≢false (sym h))
 kept_false false plain h = (refl, h)
 
-pub by_false : (A : Type 0) (test : Bool) (s t : A) → test ≡ false → cond test s t ≡ t
-by_false A test s t h = ap (λ b. cond b s t) h
-
-pub by_true : (A : Type 0) (test : Bool) (s t : A) → test ≡ true → cond test s t ≡ s
-by_true A test s t h = ap (λ b. cond b s t) h
-
 word_begins : (c : ℕ) → begins_word c ≡ true → step_of stages.BeforeWord c ≡ step_of (stages.Text Bare) c
 word_begins c h =
     let brace = kept_false (c == 123) _ h in
@@ -216,11 +171,11 @@ word_begins c h =
     let end = kept_false (is_end c) _ quote.1 in
     let blank = kept_false (is_blank c) _ end.1 in
     let slash = kept_false (c == 92) _ blank.1 in
-    by_false Step (is_end c) _ _ end.0 ∙ by_false Step (is_blank c) _ _ blank.0 ∙ by_false Step (c == 92) _ _ slash.0
-    ∙ by_false Step (c == 123) _ _ brace.0
-    ∙ by_false Step (c == 34) _ _ quote.0
-    ∙ sym (by_false Step (is_end c) _ _ end.0 ∙ by_false Step (is_blank c) _ _ blank.0
-    ∙ by_false Step (c == 92) _ _ slash.0)
+    cond-false (is_end c) _ _ end.0 ∙ cond-false (is_blank c) _ _ blank.0 ∙ cond-false (c == 92) _ _ slash.0
+    ∙ cond-false (c == 123) _ _ brace.0
+    ∙ cond-false (c == 34) _ _ quote.0
+    ∙ sym (cond-false (is_end c) _ _ end.0 ∙ cond-false (is_blank c) _ _ blank.0
+    ∙ cond-false (c == 92) _ _ slash.0)
 
 either_false : (a b : Bool) → a ≡ false → b ≡ false → a || b ≡ false
 either_false a b h k = ap (λ x. x || b) h ∙ k
@@ -234,9 +189,9 @@ command_begins c h =
     let end = kept_false (is_end c) _ quote.1 in
     let blank = kept_false (is_blank c) _ end.1 in
     let slash = kept_false (c == 92) _ blank.1 in
-    by_false Step (is_end c || is_blank c) _ _ (either_false (is_end c) (is_blank c) end.0 blank.0)
-    ∙ by_false Step (c == 92) _ _ slash.0
-    ∙ by_false Step (c == 35) _ _ hash.0 ∙ word_begins c word
+    cond-false (is_end c || is_blank c) _ _ (either_false (is_end c) (is_blank c) end.0 blank.0)
+    ∙ cond-false (c == 92) _ _ slash.0
+    ∙ cond-false (c == 35) _ _ hash.0 ∙ word_begins c word
 
 pub begun_step : (stage : Stage) (c : ℕ) → step_of stage c ≡ step_of (begun stage c) c
 begun_step stages.BeforeCommand c =
@@ -247,22 +202,7 @@ begun_step stages.BeforeWord c =
     elim (begins_word c) as (λ b. begins_word c ≡ b → step_of stages.BeforeWord c
     ≡ step_of (cond b (stages.Text Bare) stages.BeforeWord) c)
     [ true ↦ λ is. word_begins c is | false ↦ λ isn't. refl ] refl
-begun_step stages.CommandBackslash c = refl
-begun_step stages.Comment c = refl
-begun_step stages.CommentBackslash c = refl
-begun_step stages.WordBackslash c = refl
-begun_step stages.BareBackslash c = refl
-begun_step (stages.Text word) c = refl
-begun_step (stages.AfterDollar word) c = refl
-begun_step (stages.AfterColon word) c = refl
-begun_step (stages.Escaped word stage) c = refl
-begun_step stages.AfterOpening c = refl
-begun_step stages.AfterStar c = refl
-begun_step (stages.Braced depth) c = refl
-begun_step (stages.BracedBackslash depth) c = refl
-begun_step (stages.BracedGap depth) c = refl
-begun_step (stages.Behind closing) c = refl
-begun_step (stages.BehindBackslash closing) c = refl
+begun_step stage c = refl
 
 here_step : (stage here : Stage) (c d : ℕ) → here ≡ begun stage c → c ≡ d → step_of stage d ≡ step_of here d
 here_step stage here c d is same = begun_step stage d ∙ ap (λ s. step_of s d) (ap (begun stage) (sym same) ∙ sym is)
@@ -280,36 +220,15 @@ scan_begun bytes i stage here c h is same =
 
 -- a character whose first byte begins a bare word does so too
 
-high_word : (c : ℕ) → 128 ≤ c → begins_word c ≡ true
-high_word c h = grind (arith, nat_tests)
-
-high_command : (c : ℕ) → 128 ≤ c → begins_command c ≡ true
-high_command c h = grind (arith, nat_tests)
-
 high_step : (stage : Stage) (b c : ℕ) → 128 ≤ c → step_of stage c ≡ step_of (begun stage b) c
 high_step stages.BeforeCommand b c h =
     elim (begins_command b) as (λ x. step_of stages.BeforeCommand c
     ≡ step_of (cond x (stages.Text Bare) stages.BeforeCommand) c)
-    [ true ↦ command_begins c (high_command c h) | false ↦ refl ]
+    [ true ↦ command_begins c (grind (arith, nat_tests)) | false ↦ refl ]
 high_step stages.BeforeWord b c h =
     elim (begins_word b) as (λ x. step_of stages.BeforeWord c ≡ step_of (cond x (stages.Text Bare) stages.BeforeWord) c)
-    [ true ↦ word_begins c (high_word c h) | false ↦ refl ]
-high_step stages.CommandBackslash b c h = refl
-high_step stages.Comment b c h = refl
-high_step stages.CommentBackslash b c h = refl
-high_step stages.WordBackslash b c h = refl
-high_step stages.BareBackslash b c h = refl
-high_step (stages.Text word) b c h = refl
-high_step (stages.AfterDollar word) b c h = refl
-high_step (stages.AfterColon word) b c h = refl
-high_step (stages.Escaped word stage) b c h = refl
-high_step stages.AfterOpening b c h = refl
-high_step stages.AfterStar b c h = refl
-high_step (stages.Braced depth) b c h = refl
-high_step (stages.BracedBackslash depth) b c h = refl
-high_step (stages.BracedGap depth) b c h = refl
-high_step (stages.Behind closing) b c h = refl
-high_step (stages.BehindBackslash closing) b c h = refl
+    [ true ↦ word_begins c (grind (arith, nat_tests)) | false ↦ refl ]
+high_step stage b c h = refl
 
 pub char_step : (stage here : Stage) (b c : ℕ) (more : List ℕ) → here ≡ begun stage b →
     b ≡ get_or (encode_utf8 c ++ more) 0 0 → step_of stage c ≡ step_of here c
@@ -322,7 +241,7 @@ char_step stage here b c more is first = ⊎_elim
 
 pub blank_step : (c : ℕ) → is_blank c ≡ true → is_end c ≡ false →
     step_of (stages.Text Bare) c ≡ closes (Go stages.BeforeWord)
-blank_step c blank end = by_false Step (is_end c) _ _ end ∙ by_true Step (is_blank c) _ _ blank
+blank_step c blank end = cond-false (is_end c) _ _ end ∙ cond-true (is_blank c) _ _ blank
 
 pub end_step : (c : ℕ) → is_end c ≡ true → step_of (stages.Text Bare) c ≡ closes End
-end_step c end = by_true Step (is_end c) _ _ end
+end_step c end = cond-true (is_end c) _ _ end

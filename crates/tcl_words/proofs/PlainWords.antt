@@ -1,20 +1,20 @@
 -- Words that stand in a command as they are, step by step.
-use Rattle.tcl_words.proofs.Words.{◌≡◌, ◌+◌, ◌-◌, ◌<◌, ◌==◌, ℕ, suc, ⊎_elim, get_or, IsUtf8, Bool, true, false, Option}
-use Rattle.tcl_words.proofs.Words.{Some, None, IfSome, List, [], ◌∷◌, ◌++◌, map, length, take, drop, chars, encode_utf8}
-use Rattle.tcl_words.proofs.Words.{encode_utf8_all, refl, sym, ap, ◌∙◌, arith, subst, append-nil, nat_tests}
-use Rattle.tcl_words.proofs.Words.{Decides-eqb, slice_range, encode_ascii, encodes-chars, IsUtf8-take, IsUtf8-drop}
-use Rattle.tcl_words.proofs.Words.{IsCharBoundary-before_ascii, IsCharBoundary-after_ascii, drop_more, is_end, is_blank}
-use Rattle.tcl_words.proofs.Words.{step_of, closes, no_output, prefixed, later, scan_next, scanned, written, words_next}
-use Rattle.tcl_words.proofs.Words.{pieces_from, is_plain, is_bare, is_quoted, is_braced, begun, scan_behind}
-use Rattle.tcl_words.proofs.Words.{words_behind, spelled_from, EndsWord, IsPlainWord, IsClosed, Bare, Quoted, Closing}
-use Rattle.tcl_words.proofs.Words.{Brace, Quote, Stage, BeforeWord, Text, AfterOpening, Braced, Step, Next, Go, End}
+use Rattle.tcl_words.proofs.Common.{◌≡◌, ◌+◌, ◌-◌, ◌<◌, ◌==◌, ℕ, suc, ⊎_elim, get_or, IsUtf8, Bool, true, false, Option}
+use Rattle.tcl_words.proofs.Common.{Some, None, IfSome, List, [], ◌∷◌, ◌++◌, map, length, take, drop, chars}
+use Rattle.tcl_words.proofs.Common.{encode_utf8, encode_utf8_all, refl, sym, ap, ◌∙◌, arith, subst, append-nil}
+use Rattle.tcl_words.proofs.Common.{nat_tests, slice_range, encode_ascii, encodes-chars, IsUtf8-take, IsUtf8-drop}
+use Rattle.tcl_words.proofs.Common.{IsCharBoundary-before_ascii, IsCharBoundary-after_ascii, drop_more, is_end}
+use Rattle.tcl_words.proofs.Common.{is_blank, step_of, closes, no_output, prefixed, later, scan_next, scanned, written}
+use Rattle.tcl_words.proofs.Common.{words_next, pieces_from, is_plain, is_bare, is_quoted, is_braced, begun}
+use Rattle.tcl_words.proofs.Common.{scan_behind, words_behind, spelled_from, EndsWord, IsPlainWord, IsClosed, Bare}
+use Rattle.tcl_words.proofs.Common.{Quoted, Closing, Brace, Quote, Stage, BeforeWord, Text, AfterOpening, Braced, Step}
+use Rattle.tcl_words.proofs.Common.{Next, Go, End, ne_eqb, cond-false, cond-true}
 use Rattle.tcl_words.specs.declared.plain_words.PlainWord.{PlainWord}
 use Rattle.tcl_words.specs.declared.stage.Stage.TheVariants.{Behind}
 use Rattle.tcl_words.proofs.Verdicts.{scanned-cons, pieces-cons}
 use Rattle.tcl_words.proofs.Spelling.{below_or, later-later}
-use Rattle.tcl_words.proofs.Plain.{scan_skips, scan_begun, run_of, RunOf, front_range, blank_step, end_step, by_true}
-use Rattle.tcl_words.proofs.Plain.{by_false}
-use Rattle.tcl_words.proofs.Writing.{spelled, prefixed_nil, run_written, pieces_begun, ascii_cons, low_blank, low_end}
+use Rattle.tcl_words.proofs.Plain.{scan_skips, scan_begun, run_of, RunOf, front_range, blank_step, end_step}
+use Rattle.tcl_words.proofs.Writing.{spelled, prefixed_nil, run_written, pieces_begun, ascii_cons}
 
 -- what ends a word, and the command where it is the last
 abbrev pub next_of : Bool → Next
@@ -95,12 +95,12 @@ bare_is stage here bytes c n last is first bare within plain low ends =
 -- what follows what closed a word
 behind_is : (closing : Closing) (c : ℕ) (last : Bool) → EndsWord c last →
     step_of (Behind closing) c ≡ record { output = no_output; next = next_of last }
-behind_is closing c true end = by_true Step (is_end c) _ _ end
-behind_is closing c false blank = by_false Step (is_end c) _ _ blank.1 ∙ by_true Step (is_blank c) _ _ blank.0
+behind_is closing c true end = cond-true (is_end c) _ _ end
+behind_is closing c false blank = cond-false (is_end c) _ _ blank.1 ∙ cond-true (is_blank c) _ _ blank.0
 
 low_ends : (c : ℕ) (last : Bool) → EndsWord c last → c < 128
-low_ends c true end = low_end c end
-low_ends c false blank = low_blank c blank.0
+low_ends c true end = grind (arith, nat_tests)
+low_ends c false blank = let is = blank.0 in grind (arith, nat_tests)
 
 ends_step : (c : ℕ) (last : Bool) → EndsWord c last → step_of (Text Bare) c ≡ closes (next_of last)
 ends_step c true end = end_step c end
@@ -201,7 +201,7 @@ brace_scan : (ys : List ℕ) → 0 < length ys → (get_or ys 0 0 == 42) ≡ fal
     scanned ys AfterOpening ≡ scanned ys (Braced 0)
 brace_scan [] some h = absurd (omega arith)
 brace_scan (c ∷ cs) some h =
-    scanned-cons c cs AfterOpening ∙ ap (λ (s : Step). scan_next s.next (scanned cs)) (by_false Step (c == 42) _ _ h)
+    scanned-cons c cs AfterOpening ∙ ap (λ (s : Step). scan_next s.next (scanned cs)) (cond-false (c == 42) _ _ h)
     ∙ sym (scanned-cons c cs (Braced 0))
 
 brace_pieces : (cs ys : List ℕ) → encode_utf8_all cs ≡ ys → 0 < length ys → (get_or ys 0 0 == 42) ≡ false →
@@ -210,12 +210,8 @@ brace_pieces [] ys is some h = absurd (omega (arith, ap length is))
 brace_pieces (c ∷ cs) ys is some h =
     pieces-cons c cs AfterOpening
     ∙ ap (λ (s : Step). written s.output c (words_next s.next (pieces_from cs)))
-    (by_false Step (c == 42) _ _ (no_star c (encode_utf8_all cs) (ap (λ l. get_or l 0 0 == 42) is ∙ h)))
+    (cond-false (c == 42) _ _ (no_star c (encode_utf8_all cs) (ap (λ l. get_or l 0 0 == 42) is ∙ h)))
     ∙ sym (pieces-cons c cs (Braced 0))
-
-not_same : (c d : ℕ) → ¬ (c ≡ d) → (c == d) ≡ false
-not_same c d h = elim (c == d) as (λ b. (c == d) ≡ b →
-    b ≡ false) [ true ↦ λ is. absurd (h ((Decides-eqb c d).0 is)) | false ↦ λ isn't. refl ] refl
 
 pub some_left : (xs : List ℕ) (test : Bool) → test ≡ (length xs == 0) → test ≡ false → 0 < length xs
 some_left xs test h k = grind (arith, nat_tests)
@@ -236,7 +232,7 @@ braced_is bytes slice n word first same some star plain closed =
     let there : slice ≡ ys = same ∙ ap (drop 1) e in
     let long : 0 < length ys = subst (λ l. 0 < length l) there some in
     let not : (get_or ys 0 0 == 42) ≡ false = subst (λ l. (get_or l 0 0 == 42)
-    ≡ false) there (not_same (get_or slice 0 0) 42 star) in (
+    ≡ false) there (ne_eqb (get_or slice 0 0) 42 star) in (
       scanned-cons o ys BeforeWord ∙ ap (λ c. scan_next (step_of BeforeWord c).next (scanned ys)) is
           ∙ ap (later 1) (brace_scan ys long not),
       λ u. pieces-cons o (chars ys) BeforeWord

@@ -1,15 +1,15 @@
 -- A script is read in one way.
-use Rattle.tcl_words.proofs.Words.{◌≡◌, ◌≢◌, ℕ, zero, suc, ◌<◌, ◌≤◌, ◌⊎◌, inl, inr, ⊎_elim, Bool, true, false, List, []}
-use Rattle.tcl_words.proofs.Words.{◌∷◌, ◌++◌, length, take, drop, Option, Some, None, is_some, encode_utf8}
-use Rattle.tcl_words.proofs.Words.{encode_utf8_all, IsUtf8, refl, sym, ap, ◌∙◌, arith, subst, append_assoc, append-nil}
-use Rattle.tcl_words.proofs.Words.{true≢false, length-append, length-take, length-drop, take-append-drop, all_scalars}
-use Rattle.tcl_words.proofs.Words.{StartsWithNoChar, IsValidUpTo, is_utf8, utf8_error_len, BeginsNoChar, BeginsOneChar}
-use Rattle.tcl_words.proofs.Words.{encodes-append, IsUtf8-from_is_utf8, is_utf8-from_IsUtf8, IsUtf8-append}
-use Rattle.tcl_words.proofs.Words.{IsUtf8-encode, IsUtf8-nil, length-le-encodes, leb_tells, take_at, Ending, Ends}
-use Rattle.tcl_words.proofs.Words.{Breaks, Continues, First, Command, Nothing, Fault, Open, first, Follows, MeetsFault}
-use Rattle.tcl_words.proofs.Words.{HoldsNothing, IsWholeCommand, IsCommandBefore, ReadsScript, ReadsFront, scanned}
-use Rattle.tcl_words.proofs.Words.{pieces_from, last_step, ScriptFault, NotUtf8, BeforeCommand, Next, Go, End, Refuse}
-use Rattle.tcl_words.proofs.Words.{Scan, EndsAt, Refused, Reaches}
+use Rattle.tcl_words.proofs.Common.{◌≡◌, ◌≢◌, ℕ, zero, suc, ◌<◌, ◌≤◌, ◌⊎◌, inl, inr, ⊎_elim, Bool, true, false, List}
+use Rattle.tcl_words.proofs.Common.{[], ◌∷◌, ◌++◌, length, take, drop, Option, Some, None, is_some, encode_utf8}
+use Rattle.tcl_words.proofs.Common.{encode_utf8_all, IsUtf8, refl, sym, ap, ◌∙◌, arith, subst, append_assoc, append-nil}
+use Rattle.tcl_words.proofs.Common.{true≢false, length-append, length-take, length-drop, take-append-drop, all_scalars}
+use Rattle.tcl_words.proofs.Common.{StartsWithNoChar, IsValidUpTo, is_utf8, utf8_error_len, BeginsNoChar, BeginsOneChar}
+use Rattle.tcl_words.proofs.Common.{encodes-append, IsUtf8-from_is_utf8, is_utf8-from_IsUtf8, IsUtf8-append}
+use Rattle.tcl_words.proofs.Common.{IsUtf8-encode, IsUtf8-nil, length-le-encodes, leb_tells, take_at, Ending, Ends}
+use Rattle.tcl_words.proofs.Common.{Breaks, Continues, First, Command, Nothing, Fault, Open, first, Follows, MeetsFault}
+use Rattle.tcl_words.proofs.Common.{HoldsNothing, IsWholeCommand, IsCommandBefore, ReadsScript, ReadsFront, scanned}
+use Rattle.tcl_words.proofs.Common.{pieces_from, last_step, ScriptFault, NotUtf8, BeforeCommand, Next, Go, End, Refuse}
+use Rattle.tcl_words.proofs.Common.{Scan, EndsAt, Refused, Reaches}
 use Rattle.tcl_words.proofs.Broken.{stays_broken}
 use Rattle.tcl_words.proofs.Completion.{completed}
 use Rattle.tcl_words.specs.ScriptGrammar.{read}
@@ -25,9 +25,7 @@ extended Open more = Open
 
 extended_nil : (found : First) → extended found [] ≡ found
 extended_nil (Command words rest) = ap (Command words) (append-nil rest)
-extended_nil Nothing = refl
-extended_nil (Fault fault) = refl
-extended_nil Open = refl
+extended_nil found = refl
 
 stays_by : (scan : Scan) (cs more : List ℕ) (e : Ending) → Verdict scan BeforeCommand cs → first Continues cs ≢ Open
     → first e (cs ++ more) ≡ extended (first Continues cs) more
@@ -62,9 +60,7 @@ placed_extended : (found : First) (more back : List ℕ) →
 placed_extended (Command words rest) more back =
     ap (Command words) (ap (λ l. l ++ back) (encodes-append rest more)
     ∙ append_assoc (encode_utf8_all rest) (encode_utf8_all more) back)
-placed_extended Nothing more back = refl
-placed_extended (Fault fault) more back = refl
-placed_extended Open more back = refl
+placed_extended found more back = refl
 
 placed_decided : (found : First) (back : List ℕ) → placed found back ≢ Open → found ≢ Open
 placed_decided found back h e = h (ap (λ x. placed x back) e)
@@ -242,15 +238,11 @@ front_first (words ∷ commands) front more all fault f r =
     let rest = front_first commands f.1 more here.0 fault f.4 here.2 in
     (rest.0, here.1 ∙ ap (λ l. words ∷ l) rest.1)
 
-fault_ends : (all : List (List (List ℕ))) (bytes : List ℕ) (met : ScriptFault) (fault : Option ScriptFault)
-    → MeetsFault bytes met → ReadsScript bytes all fault → (all ≡ []) × (fault ≡ Some met)
-fault_ends all bytes met fault m r = one_script all [] bytes fault (Some met) r m
-
 pub front_fault : (commands : List (List (List ℕ))) (front more : List ℕ) (all : List (List (List ℕ)))
     (met : ScriptFault) (fault : Option ScriptFault)
     → ReadsFront front commands (Some met) → ReadsScript (front ++ more) all fault →
     (all ≡ commands) × (fault ≡ Some met)
-front_fault [] front more all met fault f r = fault_ends all (front ++ more) met fault (f more) r
+front_fault [] front more all met fault f r = one_script all [] (front ++ more) fault (Some met) r (f more)
 front_fault (words ∷ commands) front more all met fault f r =
     let split : front ++ more ≡ f.0 ++ (f.1 ++ more) = ap (λ l. l ++ more) f.2 ∙ append_assoc f.0 f.1 more in
     let here = whole_first all words f.0 (f.1 ++ more) fault f.3 (subst (λ l. ReadsScript l all fault) split r) in

@@ -1,8 +1,8 @@
 -- Steps of the loops that scan a command and write its words.
-use Rattle.tcl_words.proofs.Words.{◌≡◌, ℕ, zero, suc, ◌+◌, ◌<◌, ◌≤◌, List, [], ◌∷◌, ◌++◌, length, take, drop, get_or}
-use Rattle.tcl_words.proofs.Words.{refl, sym, ap, ◌∙◌, arith, subst, drop_more, drop_all, step_of, depth_of, later}
-use Rattle.tcl_words.proofs.Words.{scan_next, scanned, written, words_next, pieces_from, Stage, Step, Next, Go, End}
-use Rattle.tcl_words.proofs.Words.{Refuse, Scan, EndsAt, Refused, Reaches}
+use Rattle.tcl_words.proofs.Common.{◌≡◌, ℕ, zero, suc, ◌+◌, ◌<◌, ◌≤◌, List, [], ◌∷◌, ◌++◌, length, take, drop, get_or}
+use Rattle.tcl_words.proofs.Common.{refl, sym, ap, ◌∙◌, arith, subst, drop_more, drop_all, step_of, depth_of, later}
+use Rattle.tcl_words.proofs.Common.{scan_next, scanned, written, words_next, pieces_from, Stage, Step, Next, Go, End}
+use Rattle.tcl_words.proofs.Common.{Refuse, Scan, EndsAt, Refused, Reaches}
 use Rattle.tcl_words.proofs.Verdicts.{IsSound, sound_step, scanned-nil, scanned-cons, pieces-cons}
 use Rattle.tcl_words.proofs.Spelling.{later-later, later-zero}
 

@@ -1,18 +1,18 @@
 -- Characters and their bytes in UTF-8.
-use Rattle.tcl_words.proofs.Words.{◌≡◌, ℕ, suc, ◌+◌, ◌<◌, ◌≤◌, ◌⊎◌, inl, inr, ⊎_elim, Bool, true, false, cond, ◌==◌}
-use Rattle.tcl_words.proofs.Words.{◌||◌, ◌&&◌, ltb, List, [], ◌∷◌, ◌++◌, length, take, encode_utf8, encode_utf8_all}
-use Rattle.tcl_words.proofs.Words.{refl, sym, ap, ◌∙◌, arith, append_assoc, append-nil, add_assoc, true≢false}
-use Rattle.tcl_words.proofs.Words.{length-append, one-add, ⊤, is_digit, all_scalars, StartsWithNoChar, nat_tests}
-use Rattle.tcl_words.proofs.Words.{leb_tells, encode_ascii, encode_same, length-encode, len_utf8_bounds, is_end}
-use Rattle.tcl_words.proofs.Words.{is_blank, begins_name, joins, base_of, limit_of, is_gap, is_letter, escape_step}
-use Rattle.tcl_words.proofs.Words.{fault_behind, text_step, inside_step, word_step, braced_step, step_by, step_of}
-use Rattle.tcl_words.proofs.Words.{later, scan_next, scanned, BadCharacterCode, Radix, Octal, Hexadecimal, EscapeStage}
-use Rattle.tcl_words.proofs.Words.{Backslash, Letter, Digits, Gap, EscapeStep, TextWord, Bare, Quoted, Stage, Next, Go}
-use Rattle.tcl_words.proofs.Words.{End, Refuse, Step, Scan, EndsAt, Refused, Reaches}
+use Rattle.tcl_words.proofs.Common.{◌≡◌, ℕ, suc, ◌+◌, ◌<◌, ◌≤◌, ◌⊎◌, inl, inr, ⊎_elim, Bool, true, false, cond, ◌==◌}
+use Rattle.tcl_words.proofs.Common.{◌||◌, ◌&&◌, ltb, List, [], ◌∷◌, ◌++◌, length, take, encode_utf8, encode_utf8_all}
+use Rattle.tcl_words.proofs.Common.{refl, sym, ap, ◌∙◌, arith, append_assoc, append-nil, add_assoc, true≢false}
+use Rattle.tcl_words.proofs.Common.{length-append, one-add, ⊤, is_digit, all_scalars, StartsWithNoChar, nat_tests}
+use Rattle.tcl_words.proofs.Common.{leb_tells, encode_ascii, encode_same, length-encode, len_utf8_bounds, is_end}
+use Rattle.tcl_words.proofs.Common.{is_blank, begins_name, joins, base_of, limit_of, is_gap, is_letter, escape_step}
+use Rattle.tcl_words.proofs.Common.{fault_behind, text_step, inside_step, word_step, braced_step, step_by, step_of}
+use Rattle.tcl_words.proofs.Common.{later, scan_next, scanned, BadCharacterCode, Radix, Octal, Hexadecimal, EscapeStage}
+use Rattle.tcl_words.proofs.Common.{Backslash, Letter, Digits, Gap, EscapeStep, TextWord, Bare, Quoted, Stage, Next, Go}
+use Rattle.tcl_words.proofs.Common.{End, Refuse, Step, Scan, EndsAt, Refused, Reaches}
 use lib.Utf8.{scalar, encode}
+use Rattle.tcl_words.proofs.Verdicts.{scanned-nil, scanned-cons}
 use Rattle.tcl_words.specs.declared.escapes.EscapeStep.TheVariants as escape_steps
 use Rattle.tcl_words.specs.declared.stage.Stage.TheVariants as stages
-use Rattle.tcl_words.proofs.Verdicts.{scanned-nil, scanned-cons}
 
 pub both : (x y : Bool) → (x && y) ≡ true → (x ≡ true) × (y ≡ true)
 both true y h = (refl, h)
@@ -88,21 +88,14 @@ below_or c = ⊎_elim (λ h. inr h.1) (λ h. inl h.1) (leb_tells 128 c)
 
 -- where such a byte leads
 abbrev settles : Stage → Next
-settles stages.BeforeCommand = Go (stages.Text Bare)
-settles stages.CommandBackslash = Go (stages.Text Bare)
 settles stages.Comment = Go stages.Comment
 settles stages.CommentBackslash = Go stages.Comment
-settles stages.BeforeWord = Go (stages.Text Bare)
-settles stages.WordBackslash = Go (stages.Text Bare)
-settles stages.BareBackslash = Go (stages.Text Bare)
 settles (stages.Text word) = Go (stages.Text word)
 settles (stages.AfterDollar word) = Go (stages.Text word)
 settles (stages.AfterColon word) = Go (stages.Text word)
-settles (stages.Escaped word Backslash) = Go (stages.Text word)
-settles (stages.Escaped word (Letter letter more)) = Go (stages.Text word)
 settles (stages.Escaped word (Digits radix value more)) =
     cond (scalar value) (Go (stages.Text word)) (Refuse BadCharacterCode)
-settles (stages.Escaped word Gap) = Go (stages.Text word)
+settles (stages.Escaped word stage) = Go (stages.Text word)
 settles stages.AfterOpening = Go (stages.Braced 0)
 settles stages.AfterStar = Go (stages.Braced 0)
 settles (stages.Braced depth) = Go (stages.Braced depth)
@@ -110,6 +103,7 @@ settles (stages.BracedBackslash depth) = Go (stages.Braced depth)
 settles (stages.BracedGap depth) = Go (stages.Braced depth)
 settles (stages.Behind closing) = Refuse (fault_behind closing)
 settles (stages.BehindBackslash closing) = Refuse (fault_behind closing)
+settles stage = Go (stages.Text Bare)
 
 -- a test that such a byte doesn't pass
 skip_if : (test : Bool) (s t : Step) (next : Next) → test ≡ false → t.next ≡ next → (cond test s t).next ≡ next
@@ -125,17 +119,8 @@ no_end c h = grind (arith, nat_tests)
 no_blank : (c : ℕ) → 128 ≤ c → is_blank c ≡ false
 no_blank c h = grind (arith, nat_tests)
 
-no_separator : (c : ℕ) → 128 ≤ c → (is_end c || is_blank c) ≡ false
-no_separator c h = grind (arith, nat_tests)
-
 no_gap : (c : ℕ) → 128 ≤ c → is_gap c ≡ false
 no_gap c h = grind (arith, nat_tests)
-
-no_name : (c : ℕ) → 128 ≤ c → begins_name c ≡ false
-no_name c h = grind (arith, nat_tests)
-
-no_letter : (c : ℕ) → 128 ≤ c → is_letter c ≡ false
-no_letter c h = grind (arith, nat_tests)
 
 no_digit : (c radix : ℕ) → 128 ≤ c → radix ≤ 16 → is_digit c radix ≡ false
 no_digit c radix h k = grind (arith, nat_tests)
@@ -192,7 +177,7 @@ high_escape word Backslash c h =
     (skip_escape word c (c == 117) _ _ _ (other c 117 h (omega arith))
     (skip_escape word c (c == 85) _ _ _ (other c 85 h (omega arith))
     (skip_escape word c (c == 10) _ _ _ (other c 10 h (omega arith))
-    (skip_escape word c (is_letter c) _ _ _ (no_letter c h) refl)))))
+    (skip_escape word c (is_letter c) _ _ _ (grind (arith, nat_tests)) refl)))))
 high_escape word (Letter letter more) c h =
     skip_escape word c (is_digit c 16) _ _ _ (no_digit c 16 h (omega arith)) (high_inside word c h)
 high_escape word (Digits radix value more) c h =
@@ -203,7 +188,7 @@ high_escape word Gap c h = skip_escape word c (is_gap c) _ _ _ (no_gap c h) (hig
 
 high_step : (stage : Stage) (c : ℕ) → 128 ≤ c → (step_of stage c).next ≡ settles stage
 high_step stages.BeforeCommand c h =
-    skip_if (is_end c || is_blank c) _ _ _ (no_separator c h)
+    skip_if (is_end c || is_blank c) _ _ _ (grind (arith, nat_tests))
     (skip_if (c == 92) _ _ _ (other c 92 h (omega arith))
     (skip_if (c == 35) _ _ _ (other c 35 h (omega arith)) (high_word c h)))
 high_step stages.CommandBackslash c h =
@@ -217,7 +202,7 @@ high_step stages.WordBackslash c h =
 high_step stages.BareBackslash c h =
     skip_if (c == 10) _ _ _ (other c 10 h (omega arith)) (high_escape Bare Backslash c h)
 high_step (stages.Text word) c h = high_inside word c h
-high_step (stages.AfterDollar word) c h = skip_if (begins_name c) _ _ _ (no_name c h)
+high_step (stages.AfterDollar word) c h = skip_if (begins_name c) _ _ _ (grind (arith, nat_tests))
     (skip_if (c == 58) _ _ _ (other c 58 h (omega arith)) (high_inside word c h))
 high_step (stages.AfterColon word) c h = skip_if (c == 58) _ _ _ (other c 58 h (omega arith)) (high_inside word c h)
 high_step (stages.Escaped word stage) c h = high_escape word stage c h
@@ -242,39 +227,20 @@ stays_or true word = refl
 stays_or false word = tt
 
 stays : (stage : Stage) → Stays (settles stage)
-stays stages.BeforeCommand = refl
-stays stages.CommandBackslash = refl
-stays stages.Comment = refl
-stays stages.CommentBackslash = refl
-stays stages.BeforeWord = refl
-stays stages.WordBackslash = refl
-stays stages.BareBackslash = refl
-stays (stages.Text word) = refl
-stays (stages.AfterDollar word) = refl
-stays (stages.AfterColon word) = refl
-stays (stages.Escaped word Backslash) = refl
-stays (stages.Escaped word (Letter letter more)) = refl
 stays (stages.Escaped word (Digits radix value more)) = stays_or (scalar value) word
-stays (stages.Escaped word Gap) = refl
-stays stages.AfterOpening = refl
-stays stages.AfterStar = refl
-stays (stages.Braced depth) = refl
-stays (stages.BracedBackslash depth) = refl
-stays (stages.BracedGap depth) = refl
 stays (stages.Behind closing) = tt
 stays (stages.BehindBackslash closing) = tt
+stays stage = refl
 
 -- a scan over such bytes
 
 pub later-later : (n m : ℕ) (scan : Scan) → later n (later m scan) ≡ later (n + m) scan
 later-later n m (EndsAt k) = ap EndsAt (sym (add_assoc n m k))
-later-later n m (Refused fault) = refl
-later-later n m (Reaches stage) = refl
+later-later n m scan = refl
 
 pub later-zero : (scan : Scan) → later 0 scan ≡ scan
 later-zero (EndsAt k) = let e : 0 + k ≡ k = omega arith in ap EndsAt e
-later-zero (Refused fault) = refl
-later-zero (Reaches stage) = refl
+later-zero scan = refl
 
 high_more : (bs rest : List ℕ) (stage : Stage) → AllHigh bs → settles stage ≡ Go stage →
     scanned (bs ++ rest) stage ≡ later (length bs) (scanned rest stage)

@@ -1,11 +1,12 @@
 -- What is written spells its list.
-use Rattle.tcl_words.proofs.Words.{◌≡◌, ℕ, zero, suc, ◌==◌, ◌||◌, ◌⊎◌, inl, inr, ⊎_elim, Bool, true, false, cond, Some}
-use Rattle.tcl_words.proofs.Words.{List, [], ◌∷◌, ◌++◌, refl, sym, ap, ◌∙◌, arith, subst, append_assoc, append-nil}
-use Rattle.tcl_words.proofs.Words.{true≢false, nat_tests, Gives, escape, is_white, is_special, has_special}
-use Rattle.tcl_words.proofs.Words.{needs_quotes, less, balances, white_letter, backslashed, with_backslashes}
-use Rattle.tcl_words.proofs.Words.{element_text, list_text, Spot, AtElement, InElement, InBraces, Closed, onto_element}
-use Rattle.tcl_words.proofs.Words.{end_element, escaped_element, close_element, ReadsList}
-use Rattle.tcl_words.specs.ListText.{read_list}
+use Rattle.tcl_words.proofs.Common.{◌≡◌, ℕ, zero, suc, ◌==◌, ◌||◌, ◌⊎◌, inl, inr, ⊎_elim, Bool, true, false, cond, Some}
+use Rattle.tcl_words.proofs.Common.{List, [], ◌∷◌, ◌++◌, refl, sym, ap, ◌∙◌, arith, subst, append_assoc, append-nil}
+use Rattle.tcl_words.proofs.Common.{true≢false, nat_tests, Gives, escape, is_white, is_special, has_special}
+use Rattle.tcl_words.proofs.Common.{needs_quotes, less, balances, white_letter, backslashed, with_backslashes}
+use Rattle.tcl_words.proofs.Common.{element_text, list_text, Spot, AtElement, InElement, Closed, onto_element}
+use Rattle.tcl_words.proofs.Common.{end_element, escaped_element, close_element, ReadsList, cond-false}
+use Rattle.tcl_words.specs.ListText.{InBraces, read_list}
+use Rattle.tcl_words.proofs.Stages.{same_char}
 use Rattle.tcl_words.proofs.ListStages.{Found}
 
 -- tests
@@ -17,9 +18,6 @@ or_false false y h = (refl, h)
 or_true : (x y : Bool) → (x || y) ≡ true → (x ≡ true) ⊎ (y ≡ true)
 or_true true y h = inl refl
 or_true false y h = inr h
-
-equal : (c d : ℕ) → (c == d) ≡ true → c ≡ d
-equal c d h = grind (arith, nat_tests)
 
 -- a character that is neither white space nor special
 record IsPlain (c : ℕ) : Type 0 where
@@ -47,7 +45,7 @@ abbrev GivesBack : ℕ → Type 0
 GivesBack c = (cs : List ℕ) → escape true (white_letter c ∷ cs) ≡ Gives c 1
 
 at : (c d : ℕ) → GivesBack d → (c == d) ≡ true → GivesBack c
-at c d h e = subst GivesBack (sym (equal c d e)) h
+at c d h e = subst GivesBack (sym (same_char c d e)) h
 
 or_at : (c d : ℕ) (x : Bool) → (x ≡ true → GivesBack c) → GivesBack d → (x || c == d) ≡ true → GivesBack c
 or_at c d x f g h = ⊎_elim f (at c d g) (or_true x (c == d) h)
@@ -95,20 +93,16 @@ goes_on more = record { bare = refl; closed = refl }
 
 -- a bare element
 
-pass : (test : Bool) (x y : Found) → test ≡ false → cond test x y ≡ y
-pass true x y h = absurd (true≢false h)
-pass false x y h = refl
-
 plain_inside : (c : ℕ) (cs : List ℕ) → IsPlain c → read_list (c ∷ cs) 0 InElement
     ≡ onto_element c (read_list cs 0 InElement)
 unfolding read_list
-plain_inside c cs p = pass (is_white c) _ _ p.white ∙ pass (c == 92) _ _ p.backslash
+plain_inside c cs p = cond-false (is_white c) _ _ p.white ∙ cond-false (c == 92) _ _ p.backslash
 
 plain_begins : (c : ℕ) (cs : List ℕ) → IsPlain c → read_list (c ∷ cs) 0 AtElement
     ≡ onto_element c (read_list cs 0 InElement)
 unfolding read_list
-plain_begins c cs p = pass (is_white c) _ _ p.white ∙ pass (c == 123) _ _ p.open_brace ∙ pass (c == 34) _ _ p.quote
-    ∙ pass (c == 92) _ _ p.backslash
+plain_begins c cs p = cond-false (is_white c) _ _ p.white ∙ cond-false (c == 123) _ _ p.open_brace ∙ cond-false (c == 34) _ _ p.quote
+    ∙ cond-false (c == 92) _ _ p.backslash
 
 some_if : (test rest : Bool) → cond test true rest ≡ false → (test ≡ false) × (rest ≡ false)
 some_if true rest h = absurd (true≢false h)
@@ -125,8 +119,7 @@ reads_bare : (cs tail : List ℕ) (found : Found) → IsTail tail found → need
     read_list (cs ++ tail) 0 AtElement ≡ onto_all cs (end_element found)
 reads_bare [] tail found t h = absurd (true≢false h)
 reads_bare (c ∷ cs) tail found t h =
-    let front = some_if (c == 35) (has_special (c ∷ cs)) h in
-    let k = some_if (is_white c || is_special c) (has_special cs) front.1 in
+    let k = some_if (is_white c || is_special c) (has_special cs) (some_if (c == 35) (has_special (c ∷ cs)) h).1 in
     plain_begins c (cs ++ tail) (plain_of c k.0) ∙ ap (onto_element c) (reads_inside cs tail found t k.1)
 
 -- a braced element
@@ -138,7 +131,7 @@ closes : (tail : List ℕ) (found : Found) (depth : ℕ) → IsTail tail found �
     BracedBy [] tail found depth
 unfolding read_list
 closes tail found zero t h = ap end_element t.closed
-closes tail found (suc depth) t h = absurd (let e : suc depth ≡ 0 = equal (suc depth) 0 h in omega arith)
+closes tail found (suc depth) t h = absurd (let e : suc depth ≡ 0 = same_char (suc depth) 0 h in omega arith)
 
 one_less : (depth c : ℕ) (cs tail : List ℕ) (found : Found) (balanced : ℕ → Bool) →
     ((n : ℕ) → balanced n ≡ true → BracedBy cs tail found n) → less depth balanced ≡ true
@@ -156,16 +149,13 @@ braced_tests false true false more same fewer x y z w found h other p q r = q h
 braced_tests false false true more same fewer x y z w found h other p q r = p h
 braced_tests false false false more same fewer x y z w found h other p q r = r h
 
-other_brace : (c : ℕ) → (c == 123) ≡ true → (c == 125) ≡ false
-other_brace c h = grind (arith, nat_tests)
-
 reads_braced : (cs tail : List ℕ) (found : Found) (depth : ℕ) → IsTail tail found → balances cs depth ≡ true →
     BracedBy cs tail found depth
 unfolding read_list
 reads_braced [] tail found depth t h = closes tail found depth t h
 reads_braced (c ∷ cs) tail found depth t h =
     braced_tests (c == 92) (c == 123) (c == 125) (balances cs (suc depth)) (balances cs depth)
-    (less depth (balances cs)) _ _ _ _ _ h (other_brace c)
+    (less depth (balances cs)) _ _ _ _ _ h (λ is. grind (arith, nat_tests))
     (one_less depth c cs tail found (balances cs) (λ n k. reads_braced cs tail found n t k))
     (λ k. ap (onto_element c) (reads_braced cs tail found (suc depth) t k))
     (λ k. ap (onto_element c) (reads_braced cs tail found depth t k))
@@ -207,14 +197,10 @@ hash_if : (test : Bool) (c : ℕ) (front rest tail : List ℕ) (found : Found)
 hash_if true c front rest tail found h k = h refl
 hash_if false c front rest tail found h k = k
 
-hash_at : (c : ℕ) (rest : List ℕ) → c ≡ 35 → read_list (92 ∷ c ∷ rest) 0 AtElement
-    ≡ onto_element c (read_list rest 0 InElement)
-unfolding read_list
-hash_at c rest h = rw h refl
-
 hash_begins : (c : ℕ) (rest : List ℕ) → (c == 35) ≡ true →
     read_list (92 ∷ c ∷ rest) 0 AtElement ≡ onto_element c (read_list rest 0 InElement)
-hash_begins c rest h = hash_at c rest (equal c 35 h)
+unfolding read_list
+hash_begins c rest h = rw (same_char c 35 h) refl
 
 reads_escaped : (cs tail : List ℕ) (found : Found) → IsTail tail found → balances cs 0 ≡ false →
     read_list (with_backslashes cs ++ tail) 0 AtElement ≡ onto_all cs (end_element found)

@@ -1,18 +1,19 @@
 -- What the splitter takes from the bytes not yet given.
-use Rattle.tcl_words.proofs.Words.{◌≡◌, ℕ, zero, suc, ◌+◌, ◌-◌, ◌<◌, ◌≤◌, ◌==◌, ◌||◌, ◌&&◌, inl, inr, ⊎_elim, Bool}
-use Rattle.tcl_words.proofs.Words.{true, false, cond, List, [], ◌∷◌, map, length, take, drop, Option, Some, None}
-use Rattle.tcl_words.proofs.Words.{Result, Ok, Err, IfOk, IfSome, String, string_bytes, chars, encode_utf8_all, IsUtf8}
-use Rattle.tcl_words.proofs.Words.{refl, sym, ap, ◌∙◌, arith, subst, length-drop, length-take, take-append-drop, ⊤}
-use Rattle.tcl_words.proofs.Words.{IsUtf8-string_bytes, chars_from_encodes, IsUtf8-nil, IsUtf8-drop}
-use Rattle.tcl_words.proofs.Words.{IsCharBoundary-from_take, leb_tells, take-take, drop-take, drop-drop, length-map}
-use Rattle.tcl_words.proofs.Words.{is_end, is_blank, is_joint, is_expansion, names_variable, Escape, Gives, NoCharacter}
-use Rattle.tcl_words.proofs.Words.{Undecided, escape, gap, Ending, Ends, Breaks, Continues, is_last, First, Command}
-use Rattle.tcl_words.proofs.Words.{Nothing, Fault, Open, onto_word, end_word, at_stop, Where, AtCommand, InComment}
-use Rattle.tcl_words.proofs.Words.{AtWord, InBare, InQuotes, Behind, at_end, escaped, text_rule, close_rule, kept_rule}
-use Rattle.tcl_words.proofs.Words.{open_rule, rule, first, IsCommandBefore, scanned, pieces_from, IsPlainCommand}
-use Rattle.tcl_words.proofs.Words.{Unread, IsNextCommand, HasNoCommand, TakesCommand, texts_of, IsProgress, IsCommandOf}
-use Rattle.tcl_words.proofs.Words.{IsFound, starting_at, Substitution, Progress, BeforeCommand, EndsAt}
-use Rattle.tcl_words.specs.ScriptGrammar.{InBraces, read}
+use Rattle.tcl_words.proofs.Common.{◌≡◌, ℕ, zero, suc, ◌+◌, ◌-◌, ◌<◌, ◌≤◌, ◌==◌, ◌||◌, ◌&&◌, inl, inr, ⊎_elim, Bool}
+use Rattle.tcl_words.proofs.Common.{true, false, cond, List, [], ◌∷◌, map, length, take, drop, Option, Some, None}
+use Rattle.tcl_words.proofs.Common.{Result, Ok, Err, IfOk, IfSome, String, string_bytes, chars, encode_utf8_all, IsUtf8}
+use Rattle.tcl_words.proofs.Common.{refl, sym, ap, ◌∙◌, arith, subst, length-drop, length-take, take-append-drop, ⊤}
+use Rattle.tcl_words.proofs.Common.{IsUtf8-string_bytes, chars_from_encodes, IsUtf8-nil, IsUtf8-drop}
+use Rattle.tcl_words.proofs.Common.{IsCharBoundary-from_take, leb_tells, take-take, drop-take, drop-drop, length-map}
+use Rattle.tcl_words.proofs.Common.{is_end, is_blank, is_joint, is_expansion, names_variable, Escape, Gives}
+use Rattle.tcl_words.proofs.Common.{NoCharacter, Undecided, escape, gap, Ending, Ends, Continues, is_last, First}
+use Rattle.tcl_words.proofs.Common.{Command, Nothing, Open, onto_word, end_word, at_stop, Where, AtCommand, InComment}
+use Rattle.tcl_words.proofs.Common.{AtWord, InBare, InQuotes, Behind, at_end, escaped, text_rule, close_rule, kept_rule}
+use Rattle.tcl_words.proofs.Common.{open_rule, rule, first, IsCommandBefore, scanned, pieces_from, IsPlainCommand}
+use Rattle.tcl_words.proofs.Common.{Unread, IsNextCommand, HasNoCommand, TakesCommand, texts_of, IsProgress}
+use Rattle.tcl_words.proofs.Common.{IsCommandOf, IsFound, starting_at, Substitution, Progress, BeforeCommand, EndsAt}
+use Rattle.tcl_words.proofs.Common.{InBraces}
+use Rattle.tcl_words.specs.ScriptGrammar.{read}
 use Rattle.std.specs.declared.alloc.AllocError.{AllocError}
 use Rattle.tcl_words.proofs.Verdicts.{scanned-nil}
 use Rattle.tcl_words.proofs.Finding.{command_of, command_words}
@@ -21,9 +22,7 @@ use Rattle.tcl_words.proofs.Readings.{one_found, reads_nothing, reads_before}
 -- a command that is found has a word
 abbrev HasWord : First → Type 0
 HasWord (Command words rest) = 0 < length words
-HasWord Nothing = ⊤
-HasWord (Fault fault) = ⊤
-HasWord Open = ⊤
+HasWord found = ⊤
 
 word_if : (test : Bool) (x y : First) → HasWord x → HasWord y → HasWord (cond test x y)
 word_if true x y p q = p
@@ -31,31 +30,22 @@ word_if false x y p q = q
 
 word_stop : (e : Ending) (found : First) → HasWord found → HasWord (at_stop e found)
 word_stop Ends found h = h
-word_stop Breaks found h = tt
-word_stop Continues found h = tt
+word_stop e found h = tt
 
 word_end : (found : First) → HasWord (end_word found)
 word_end (Command words rest) = omega arith
-word_end Nothing = tt
-word_end (Fault fault) = tt
-word_end Open = tt
+word_end found = tt
 
 word_onto : (c : ℕ) (found : First) → HasWord found → HasWord (onto_word c found)
 word_onto c (Command [] rest) h = h
 word_onto c (Command (word ∷ words) rest) h = omega arith
-word_onto c Nothing h = tt
-word_onto c (Fault fault) h = tt
-word_onto c Open h = tt
+word_onto c found h = tt
 
 -- the places where no word has begun, or one is under way
 abbrev Counts : Where → Type 0
-Counts AtCommand = ⊤
-Counts InComment = ⊤
 Counts AtWord = ⊥
-Counts InBare = ⊤
-Counts InQuotes = ⊤
-Counts (InBraces depth) = ⊤
 Counts (Behind fault) = ⊥
+Counts place = ⊤
 
 word_escaped : (e : Ending) (go : ℕ → First) (escape : Escape) → ((n : ℕ) → HasWord (go n)) →
     HasWord (escaped e go escape)
@@ -122,13 +112,10 @@ word_rules (InBraces depth) e c cs go k h =
 word_rules (Behind fault) e c cs go k h = absurd k
 
 word_at_end : (place : Where) → Counts place → HasWord (at_end place)
-word_at_end AtCommand k = tt
-word_at_end InComment k = tt
 word_at_end AtWord k = absurd k
 word_at_end InBare k = omega arith
-word_at_end InQuotes k = tt
-word_at_end (InBraces depth) k = tt
 word_at_end (Behind fault) k = absurd k
+word_at_end place k = tt
 
 has_word : (cs : List ℕ) (e : Ending) (n : ℕ) (place : Where) → Counts place → HasWord (read cs e n place)
 unfolding read
@@ -245,12 +232,11 @@ pub words_found : {Z : Type 0} (unread between : Unread) (slice : List ℕ) (len
 words_found unread between slice len strings same none k front made =
     let texts = texts_found between.finished between.rest slice len strings k front made in
     let some = texts.1 in
-    let many = length-map strings (λ s. chars (string_bytes s)) in
     subst (λ (u : Unread). IsFound u (texts_of strings) len) same (record {
       no_fault = none;
       is = k;
       same = texts.0;
-      some = omega (arith, many, some);
+      some = omega (arith, length-map strings (λ s. chars (string_bytes s)), some);
     })
 
 -- the progress after the next bytes of all are left behind
@@ -277,13 +263,12 @@ plain_found unread progress text strings len none p is plain =
     plain.pieces ∙ ap (λ l. map encode_utf8_all (pieces_from (chars l) BeforeCommand)) is
     ∙ ap (map encode_utf8_all) (command_words unread.finished unread.rest progress.valid len p.within p.text found)
     in
-    let many = length-map strings (λ s. chars (string_bytes s)) in
     let some = strings_some strings k.words spelled (has_words unread.finished unread.rest len k) in
     record {
       no_fault = none;
       is = k;
       same = texts_are strings k.words spelled;
-      some = omega (arith, many, some);
+      some = omega (arith, length-map strings (λ s. chars (string_bytes s)), some);
     }
 
 pub plain_result : {Z : Type 0} (result : Result (Option ℕ) AllocError) (unread : Unread) (progress : Progress)

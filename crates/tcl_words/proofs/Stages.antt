@@ -1,21 +1,21 @@
 -- What each stage of a scan says of the grammar.
-use Rattle.tcl_words.proofs.Words.{◌≡◌, ℕ, zero, suc, ◌+◌, ◌*◌, ◌-◌, ◌==◌, Bool, true, false, cond, ◌||◌, ◌&&◌, Option}
-use Rattle.tcl_words.proofs.Words.{Some, None, List, [], ◌∷◌, refl, sym, ap, ◌∙◌, arith, true≢false, nat_tests}
-use Rattle.tcl_words.proofs.Words.{is_digit, digit_value, is_end, is_blank, begins_name, begins_with, names_variable}
-use Rattle.tcl_words.proofs.Words.{Escape, Gives, NoCharacter, Undecided, further, valued, joins, hexadecimal, gap}
-use Rattle.tcl_words.proofs.Words.{letter_value, escape, base_of, limit_of, given, before, is_gap, is_letter}
-use Rattle.tcl_words.proofs.Words.{plain_step, escape_step, Ending, is_last, First, Command, Fault, at_stop, onto_word}
-use Rattle.tcl_words.proofs.Words.{end_word, Where, AtCommand, InComment, AtWord, InBare, InQuotes, Behind, escaped}
-use Rattle.tcl_words.proofs.Words.{text_rule, bare_rule, quoted_rule, close_rule, kept_rule, braced_rule, open_rule}
-use Rattle.tcl_words.proofs.Words.{word_rule, behind_rule, command_rule, rule, is_nil, passes, keeps, closes, ends_here}
-use Rattle.tcl_words.proofs.Words.{refuses, after, fault_behind, text_step, bare_step, quoted_step, inside_step}
-use Rattle.tcl_words.proofs.Words.{word_step, command_step, close_step, braced_step, behind_step, step_by, opening_step}
-use Rattle.tcl_words.proofs.Words.{step_of, ScriptFault, Substitution, Radix, Octal, Hexadecimal, EscapeStage}
-use Rattle.tcl_words.proofs.Words.{Backslash, Letter, Digits, Gap, EscapeStep, TextWord, Bare, Quoted, Closing, Quote}
-use Rattle.tcl_words.proofs.Words.{Expansion, Stage, Next, Go, End, Refuse, Output, Step}
+use Rattle.tcl_words.proofs.Common.{◌≡◌, ℕ, zero, suc, ◌+◌, ◌*◌, ◌-◌, ◌==◌, Bool, true, false, cond, ◌||◌, ◌&&◌, Option}
+use Rattle.tcl_words.proofs.Common.{Some, None, List, [], ◌∷◌, refl, sym, ap, ◌∙◌, arith, true≢false, nat_tests}
+use Rattle.tcl_words.proofs.Common.{is_digit, digit_value, is_end, is_blank, begins_name, begins_with, names_variable}
+use Rattle.tcl_words.proofs.Common.{Escape, Gives, NoCharacter, further, valued, joins, hexadecimal, gap, letter_value}
+use Rattle.tcl_words.proofs.Common.{escape, base_of, limit_of, given, before, is_gap, is_letter, plain_step}
+use Rattle.tcl_words.proofs.Common.{escape_step, Ending, is_last, First, Command, Fault, at_stop, onto_word, end_word}
+use Rattle.tcl_words.proofs.Common.{Where, AtCommand, InComment, AtWord, InBare, InQuotes, Behind, escaped, text_rule}
+use Rattle.tcl_words.proofs.Common.{bare_rule, quoted_rule, close_rule, kept_rule, braced_rule, open_rule, word_rule}
+use Rattle.tcl_words.proofs.Common.{behind_rule, command_rule, rule, is_nil, passes, keeps, closes, ends_here, refuses}
+use Rattle.tcl_words.proofs.Common.{after, fault_behind, text_step, bare_step, quoted_step, inside_step, word_step}
+use Rattle.tcl_words.proofs.Common.{command_step, close_step, braced_step, behind_step, step_by, opening_step, step_of}
+use Rattle.tcl_words.proofs.Common.{ScriptFault, Substitution, Radix, Octal, Hexadecimal, EscapeStage, Backslash}
+use Rattle.tcl_words.proofs.Common.{Letter, Digits, Gap, EscapeStep, TextWord, Bare, Quoted, Closing, Quote, Expansion}
+use Rattle.tcl_words.proofs.Common.{Stage, Next, Go, End, Refuse, Output, Step, InBraces}
 use lib.Utf8.{scalar}
 use Rattle.tcl_words.specs.Escapes.{numeral}
-use Rattle.tcl_words.specs.ScriptGrammar.{InBraces, read}
+use Rattle.tcl_words.specs.ScriptGrammar.{read}
 use Rattle.tcl_words.specs.declared.escapes.EscapeStep.TheVariants as escape_steps
 use Rattle.tcl_words.specs.declared.stage.Stage.TheVariants as stages
 
@@ -84,15 +84,8 @@ backslash_tests : (octal x u long newline : Bool) (c value : ℕ) (ends : Bool) 
     (cond u (escape_steps.Goes (Letter c 2))
     (cond long (escape_steps.Goes (Letter c 6)) (cond newline (escape_steps.Goes Gap) step))))) c (λ s.
     escape_from s ends cs)
-backslash_tests true x u long newline c value ends cs plain step h = refl
-backslash_tests false true u long newline c value ends cs plain step h = refl
-backslash_tests false false true long newline c value ends cs plain step h = refl
-backslash_tests false false false true newline c value ends cs plain step h = refl
-backslash_tests false false false false true c value ends cs plain step h = refl
 backslash_tests false false false false false c value ends cs plain step h = h
-
-letter_itself : (c : ℕ) → is_letter c ≡ false → letter_value c ≡ c
-letter_itself c h = grind (arith, nat_tests)
+backslash_tests octal x u long newline c value ends cs plain step h = refl
 
 gap_tests : (blank : Bool) (c : ℕ) (ends : Bool) (cs : List ℕ)
     → Gives 32 (cond blank (suc (gap cs)) 0)
@@ -107,7 +100,7 @@ unfolding numeral
 escape-step Backslash ends c cs =
     backslash_tests (is_digit c 8) (c == 120) (c == 117) (c == 85) (c == 10) c (digit_value c) ends cs
     (Gives (letter_value c) 1) (plain_step c)
-    (plain_tests (is_letter c) (letter_value c) c (λ s. escape_from s ends cs) (letter_itself c))
+    (plain_tests (is_letter c) (letter_value c) c (λ s. escape_from s ends cs) (λ isn't. grind (arith, nat_tests)))
 escape-step (Letter letter more) ends c cs = letter_tests (is_digit c 16) letter (digit_value c) more c ends cs
 escape-step (Digits radix value more) ends c cs =
     digit_tests (joins (base_of radix) (limit_of radix) value c) radix value (value * base_of radix + digit_value c)
@@ -177,13 +170,10 @@ text_tests false true false false word c cs go h other = ap (onto_word c) (sym h
 text_tests false false named true word c cs go h other = refl
 text_tests false false named false word c cs go h other = refl
 
-dollar_other : (c : ℕ) → (c == 36) ≡ true → (c == 92) ≡ false
-dollar_other c h = grind (arith, nat_tests)
-
 from_text : (word : TextWord) (e : Ending) (c : ℕ) (cs : List ℕ)
     → text_rule e c cs (λ n. read cs e n (place_of word)) ≡ does (text_step word c) c cs (λ stage. from stage e cs)
 from_text word e c cs = text_tests (c == 91) (c == 36) (names_variable cs) (c == 92) word c cs (λ stage.
-    from stage e cs) refl (dollar_other c)
+    from stage e cs) refl (λ is. grind (arith, nat_tests))
 
 -- the rules that ask for a backslash-newline
 joint_tests : (end blank back newline : Bool) (c : ℕ) (cs : List ℕ) (go : Stage →
@@ -199,7 +189,7 @@ joint_tests false false true newline c cs go ended spaced joined other end_step 
 joint_tests false false false newline c cs go ended spaced joined other end_step blank_step back_step step p q r s =
     s refl
 
-same_char : (c d : ℕ) → (c == d) ≡ true → c ≡ d
+pub same_char : (c d : ℕ) → (c == d) ≡ true → c ≡ d
 same_char c d h = grind (arith, nat_tests)
 
 from_bare : (e : Ending) (c : ℕ) (cs : List ℕ) → bare_rule e c cs (read cs e)
@@ -214,31 +204,22 @@ from_bare e c cs =
     (text_rule e d cs (λ n. read cs e n InBare))) (same_char c 92 h))
     (λ h. from_text Bare e c cs)
 
-quoted_tests : (quote : Bool) (c : ℕ) (cs : List ℕ) (go : Stage → First) (text : First) (step : Step) →
-    text ≡ does step c cs go
-    → cond quote (end_word (go (stages.Behind Quote))) text
-    ≡ does (cond quote (closes (Go (stages.Behind Quote))) step) c cs go
-quoted_tests true c cs go text step h = refl
-quoted_tests false c cs go text step h = h
+-- by a test, of which each side is what a step makes
+either_by : (test : Bool) (x y : First) (s t : Step) (c : ℕ) (cs : List ℕ) (go : Stage → First) →
+    x ≡ does s c cs go → y ≡ does t c cs go → cond test x y ≡ does (cond test s t) c cs go
+either_by true x y s t c cs go h k = h
+either_by false x y s t c cs go h k = k
 
 from_quoted : (e : Ending) (c : ℕ) (cs : List ℕ) → quoted_rule e c cs (read cs e)
     ≡ does (quoted_step c) c cs (λ stage. from stage e cs)
 from_quoted e c cs =
-    quoted_tests (c == 34) c cs (λ stage. from stage e cs) (text_rule e c cs (λ n. read cs e n InQuotes))
-    (text_step Quoted c) (from_text Quoted e c cs)
+    either_by (c == 34) _ _ (closes (Go (stages.Behind Quote))) (text_step Quoted c) c cs _ refl
+    (from_text Quoted e c cs)
 
 from_inside : (word : TextWord) (e : Ending) (c : ℕ) (cs : List ℕ) →
     rule e (place_of word) c cs (read cs e) ≡ does (inside_step word c) c cs (λ stage. from stage e cs)
 from_inside Bare e c cs = from_bare e c cs
 from_inside Quoted e c cs = from_quoted e c cs
-
-word_tests : (brace quote : Bool) (c : ℕ) (cs : List ℕ) (go : Stage → First) (text : First) (step : Step) →
-    text ≡ does step c cs go
-    → cond brace (go stages.AfterOpening) (cond quote (go (stages.Text Quoted)) text)
-    ≡ does (cond brace (passes stages.AfterOpening) (cond quote (passes (stages.Text Quoted)) step)) c cs go
-word_tests true quote c cs go text step h = refl
-word_tests false true c cs go text step h = refl
-word_tests false false c cs go text step h = h
 
 abbrev word_begin : Ending → List ℕ → ℕ → First
 word_begin e cs c =
@@ -254,14 +235,8 @@ from_word e c cs =
     (cond (c == 123) (passes stages.AfterOpening) (cond (c == 34) (passes (stages.Text Quoted)) (text_step Bare c)))
     refl refl
     (λ h. ap (λ d. cond (begins_with 10 cs) (read cs e 1 AtWord) (word_begin e cs d)) (same_char c 92 h))
-    (λ h. word_tests (c == 123) (c == 34) c cs (λ stage. from stage e cs) (text_rule e c cs (λ n. read cs e n InBare))
-    (text_step Bare c) (from_text Bare e c cs))
-
-hash_tests : (hash : Bool) (c : ℕ) (cs : List ℕ) (go : Stage → First) (words : First) (step : Step) →
-    words ≡ does step c cs go
-    → cond hash (go stages.Comment) words ≡ does (cond hash (passes stages.Comment) step) c cs go
-hash_tests true c cs go words step h = refl
-hash_tests false c cs go words step h = h
+    (λ h. either_by (c == 123) _ _ (passes stages.AfterOpening) _ c cs _ refl
+    (either_by (c == 34) _ _ (passes (stages.Text Quoted)) (text_step Bare c) c cs _ refl (from_text Bare e c cs)))
 
 abbrev command_begin : Ending → List ℕ → ℕ → First
 command_begin e cs c = cond (c == 35) (read cs e 0 InComment) (word_rule e c cs (read cs e))
@@ -275,27 +250,7 @@ from_command e c cs =
     (cond (c == 35) (passes stages.Comment) (word_step c))
     refl refl
     (λ h. ap (λ d. cond (begins_with 10 cs) (read cs e 1 AtCommand) (command_begin e cs d)) (same_char c 92 h))
-    (λ h. hash_tests (c == 35) c cs (λ stage. from stage e cs) (word_rule e c cs (read cs e)) (word_step c)
-    (from_word e c cs))
-
-comment_tests : (newline back : Bool) (c : ℕ) (cs : List ℕ) (go : Stage → First)
-    → cond newline (go stages.BeforeCommand) (cond back (go stages.CommentBackslash) (go stages.Comment))
-    ≡ does (cond newline (passes stages.BeforeCommand)
-    (cond back (passes stages.CommentBackslash) (passes stages.Comment))) c cs go
-comment_tests true back c cs go = refl
-comment_tests false true c cs go = refl
-comment_tests false false c cs go = refl
-
-braced_tests : (close opens back : Bool) (depth c : ℕ) (cs : List ℕ) (go : Stage → First) (closed : First) →
-    closed ≡ does (close_step depth) c cs go
-    → cond close closed (cond opens (onto_word c (go (stages.Braced (suc depth))))
-    (cond back (go (stages.BracedBackslash depth)) (onto_word c (go (stages.Braced depth)))))
-    ≡ does (cond close (close_step depth) (cond opens (keeps (stages.Braced (suc depth)))
-    (cond back (passes (stages.BracedBackslash depth)) (keeps (stages.Braced depth))))) c cs go
-braced_tests true opens back depth c cs go closed h = h
-braced_tests false true back depth c cs go closed h = refl
-braced_tests false false true depth c cs go closed h = refl
-braced_tests false false false depth c cs go closed h = refl
+    (λ h. either_by (c == 35) _ _ (passes stages.Comment) (word_step c) c cs _ refl (from_word e c cs))
 
 from_close : (depth : ℕ) (e : Ending) (c : ℕ) (cs : List ℕ) →
     close_rule depth c (read cs e) ≡ does (close_step depth) c cs (λ stage. from stage e cs)
@@ -305,20 +260,9 @@ from_close (suc depth) e c cs = refl
 from_braced : (depth : ℕ) (e : Ending) (c : ℕ) (cs : List ℕ) →
     braced_rule depth c cs (read cs e) ≡ does (braced_step depth c) c cs (λ stage. from stage e cs)
 from_braced depth e c cs =
-    braced_tests (c == 125) (c == 123) (c == 92) depth c cs (λ stage. from stage e cs) (close_rule depth c (read cs e))
-    (from_close depth e c cs)
-
-kept_tests : (newline : Bool) (depth c : ℕ) (cs : List ℕ) (go : Stage → First)
-    → cond newline (onto_word 32 (go (stages.BracedGap depth))) (onto_word 92 (onto_word c (go (stages.Braced depth))))
-    ≡ does (cond newline (after 32 (passes (stages.BracedGap depth))) (after 92 (keeps (stages.Braced depth)))) c cs go
-kept_tests true depth c cs go = refl
-kept_tests false depth c cs go = refl
-
-behind_joint_tests : (newline : Bool) (closing : Closing) (c : ℕ) (cs : List ℕ) (go : Stage → First)
-    → cond newline (go stages.BeforeWord) (Fault (fault_behind closing))
-    ≡ does (cond newline (passes stages.BeforeWord) (refuses (fault_behind closing))) c cs go
-behind_joint_tests true closing c cs go = refl
-behind_joint_tests false closing c cs go = refl
+    either_by (c == 125) _ _ (close_step depth) _ c cs _ (from_close depth e c cs)
+    (either_by (c == 123) _ _ (keeps (stages.Braced (suc depth))) _ c cs _ refl
+    (either_by (c == 92) _ _ (passes (stages.BracedBackslash depth)) (keeps (stages.Braced depth)) c cs _ refl refl))
 
 abbrev behind_other : Ending → ScriptFault → List ℕ → ℕ → First
 behind_other e fault cs c = cond (c == 92 && is_nil cs) (at_stop e (Fault fault)) (Fault fault)
@@ -356,20 +300,13 @@ colon_inside : (word : TextWord) (c : ℕ) → (c == 58) ≡ true → inside_ste
 colon_inside Bare c h = ap (inside_step Bare) (same_char c 58 h)
 colon_inside Quoted c h = ap (inside_step Quoted) (same_char c 58 h)
 
-colon_tests : (colon : Bool) (c : ℕ) (cs : List ℕ) (go : Stage → First) (words : First) (step : Step) →
-    words ≡ does step c cs go
-    → cond colon (Fault Substitution) words ≡ does (cond colon (refuses Substitution) step) c cs go
-colon_tests true c cs go words step h = refl
-colon_tests false c cs go words step h = h
-
 -- escapes in words
 
 escaped_further : (e : Ending) (c : ℕ) (cs : List ℕ) (place : Where) (escape : Escape)
     → escaped e (λ n. read (c ∷ cs) e n place) (further escape) ≡ escaped e (λ n. read cs e n place) escape
 unfolding read
 escaped_further e c cs place (Gives d n) = refl
-escaped_further e c cs place NoCharacter = refl
-escaped_further e c cs place Undecided = refl
+escaped_further e c cs place escape = refl
 
 given_none : (b : Bool) (s t : Step) → s.output.given ≡ None → t.output.given ≡ None → (cond b s t).output.given ≡ None
 given_none true s t h k = h
@@ -412,12 +349,6 @@ from_escaped : (word : TextWord) (stage : EscapeStage) (e : Ending) (c : ℕ) (c
     ≡ does (step_by word c (escape_step stage c)) c cs (λ stage. from stage e cs)
 from_escaped word stage e c cs =
     ap (escaped_in word e (c ∷ cs)) (escape-step stage (is_last e) c cs) ∙ from_by (escape_step stage c) word e c cs
-
-blank_tests : (newline : Bool) (c : ℕ) (cs : List ℕ) (go : Stage → First) (joined other : First) (blank step : Step)
-    → joined ≡ does blank c cs go → other ≡ does step c cs go →
-    cond newline joined other ≡ does (cond newline blank step) c cs go
-blank_tests true c cs go joined other blank step h k = h
-blank_tests false c cs go joined other blank step h k = k
 
 opening_tests : (star brace : Bool) (c : ℕ) (cs : List ℕ) (go : Stage →
     First) (closed plain braced : First) (step : Step)
@@ -464,23 +395,19 @@ unfolding read
 from-step stages.BeforeCommand e c cs = from_command e c cs
 from-step stages.CommandBackslash e c cs =
     asked_again (c == 10) (read cs e 0 AtCommand) (read cs e 0 AtWord) (from (stages.Escaped Bare Backslash) e (c ∷ cs))
-    ∙ blank_tests (c == 10) c cs (λ stage. from stage e cs) (read cs e 0 AtCommand)
-    (from (stages.Escaped Bare Backslash) e (c ∷ cs)) (passes stages.BeforeCommand)
-    (step_by Bare c (escape_step Backslash c))
-    refl (from_escaped Bare Backslash e c cs)
-from-step stages.Comment e c cs = comment_tests (c == 10) (c == 92) c cs (λ stage. from stage e cs)
+    ∙ either_by (c == 10) _ _ (passes stages.BeforeCommand) (step_by Bare c (escape_step Backslash c)) c cs _ refl
+    (from_escaped Bare Backslash e c cs)
+from-step stages.Comment e c cs =
+    either_by (c == 10) _ _ (passes stages.BeforeCommand) _ c cs _ refl
+    (either_by (c == 92) _ _ (passes stages.CommentBackslash) (passes stages.Comment) c cs _ refl refl)
 from-step stages.CommentBackslash e c cs = refl
 from-step stages.BeforeWord e c cs = from_word e c cs
 from-step stages.WordBackslash e c cs =
-    blank_tests (c == 10) c cs (λ stage. from stage e cs) (read cs e 0 AtWord)
-    (from (stages.Escaped Bare Backslash) e (c ∷ cs)) (passes stages.BeforeWord)
-    (step_by Bare c (escape_step Backslash c))
-    refl (from_escaped Bare Backslash e c cs)
+    either_by (c == 10) _ _ (passes stages.BeforeWord) (step_by Bare c (escape_step Backslash c)) c cs _ refl
+    (from_escaped Bare Backslash e c cs)
 from-step stages.BareBackslash e c cs =
-    blank_tests (c == 10) c cs (λ stage. from stage e cs) (end_word (read cs e 0 AtWord))
-    (from (stages.Escaped Bare Backslash) e (c ∷ cs)) (closes (Go stages.BeforeWord))
-    (step_by Bare c (escape_step Backslash c))
-    refl (from_escaped Bare Backslash e c cs)
+    either_by (c == 10) _ _ (closes (Go stages.BeforeWord)) (step_by Bare c (escape_step Backslash c)) c cs _ refl
+    (from_escaped Bare Backslash e c cs)
 from-step (stages.Text Bare) e c cs = from_bare e c cs
 from-step (stages.Text Quoted) e c cs = from_quoted e c cs
 from-step (stages.AfterDollar word) e c cs =
@@ -488,16 +415,17 @@ from-step (stages.AfterDollar word) e c cs =
     (read (c ∷ cs) e 0 (place_of word)) (inside_step word c)
     (from_inside word e c cs) (colon_inside word c) refl
 from-step (stages.AfterColon word) e c cs =
-    colon_tests (c == 58) c cs (λ stage. from stage e cs) (read (c ∷ cs) e 0 (place_of word)) (inside_step word c)
-    (from_inside word e c cs)
+    either_by (c == 58) _ _ (refuses Substitution) (inside_step word c) c cs _ refl (from_inside word e c cs)
 from-step (stages.Escaped word stage) e c cs = from_escaped word stage e c cs
 from-step stages.AfterOpening e c cs = from_opening e c cs
 from-step stages.AfterStar e c cs =
-    blank_tests (c == 125) c cs (λ stage. from stage e cs) (end_word (read cs e 0 (Behind Substitution)))
-    (braced_rule 0 c cs (read cs e)) (closes (Go (stages.Behind Expansion))) (braced_step 0 c)
-    refl (from_braced 0 e c cs)
+    either_by (c == 125) _ _ (closes (Go (stages.Behind Expansion))) (braced_step 0 c) c cs _ refl
+    (from_braced 0 e c cs)
 from-step (stages.Braced depth) e c cs = from_braced depth e c cs
-from-step (stages.BracedBackslash depth) e c cs = kept_tests (c == 10) depth c cs (λ stage. from stage e cs)
+from-step (stages.BracedBackslash depth) e c cs =
+    either_by (c == 10) _ _ (after 32 (passes (stages.BracedGap depth))) (after 92 (keeps (stages.Braced depth))) c cs _
+    refl refl
 from-step (stages.BracedGap depth) e c cs = gap_step_tests (is_gap c) depth e c cs
 from-step (stages.Behind closing) e c cs = from_behind closing e c cs
-from-step (stages.BehindBackslash closing) e c cs = behind_joint_tests (c == 10) closing c cs (λ stage. from stage e cs)
+from-step (stages.BehindBackslash closing) e c cs =
+    either_by (c == 10) _ _ (passes stages.BeforeWord) (refuses (fault_behind closing)) c cs _ refl refl

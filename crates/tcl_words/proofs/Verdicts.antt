@@ -1,22 +1,22 @@
 -- What a scan says of the grammar, whatever follows the characters.
-use Rattle.tcl_words.proofs.Words.{◌≡◌, ◌≢◌, ℕ, zero, suc, ◌<◌, ◌≤◌, ◌==◌, Bool, true, false, cond, ◌||◌, Option, Some}
-use Rattle.tcl_words.proofs.Words.{None, List, [], ◌∷◌, ◌++◌, length, take, refl, sym, ap, ◌∙◌, arith, one-add, ⊤}
-use Rattle.tcl_words.proofs.Words.{is_end, is_blank, begins_name, Gives, NoCharacter, is_gap, escape_step, last_given}
-use Rattle.tcl_words.proofs.Words.{Ending, Ends, Breaks, Continues, First, Command, Nothing, Fault, Open, onto_word}
-use Rattle.tcl_words.proofs.Words.{end_word, escaped, after, fault_behind, text_step, inside_step, word_step}
-use Rattle.tcl_words.proofs.Words.{close_step, braced_step, step_by, step_of, last_in_text, last_by, last_step}
-use Rattle.tcl_words.proofs.Words.{depth_of, later, scan_next, onto_piece, given_onto, kept_onto, ended_before, written}
-use Rattle.tcl_words.proofs.Words.{words_next, ScriptFault, MissingQuote, NotUtf8, Memory, EscapeStage, Backslash}
-use Rattle.tcl_words.proofs.Words.{Letter, Digits, Gap, EscapeStep, TextWord, Bare, Quoted, Closing, Brace, Quote}
-use Rattle.tcl_words.proofs.Words.{Expansion, Stage, Next, Go, End, Refuse, Output, Step, Scan, EndsAt, Refused}
-use Rattle.tcl_words.proofs.Words.{Reaches}
+use Rattle.tcl_words.proofs.Common.{◌≡◌, ◌≢◌, ℕ, zero, suc, ◌<◌, ◌≤◌, ◌==◌, Bool, true, false, cond, ◌||◌, Option, Some}
+use Rattle.tcl_words.proofs.Common.{None, List, [], ◌∷◌, ◌++◌, length, take, refl, sym, ap, ◌∙◌, arith, one-add, ⊤}
+use Rattle.tcl_words.proofs.Common.{is_end, is_blank, begins_name, Gives, NoCharacter, is_gap, escape_step, last_given}
+use Rattle.tcl_words.proofs.Common.{Ending, Ends, Breaks, Continues, First, Command, Nothing, Fault, Open, onto_word}
+use Rattle.tcl_words.proofs.Common.{end_word, escaped, after, fault_behind, text_step, inside_step, word_step}
+use Rattle.tcl_words.proofs.Common.{close_step, braced_step, step_by, step_of, last_in_text, last_by, last_step}
+use Rattle.tcl_words.proofs.Common.{depth_of, later, scan_next, onto_piece, given_onto, kept_onto, ended_before}
+use Rattle.tcl_words.proofs.Common.{written, words_next, ScriptFault, MissingQuote, NotUtf8, Memory, EscapeStage}
+use Rattle.tcl_words.proofs.Common.{Backslash, Digits, EscapeStep, TextWord, Bare, Quoted, Closing, Brace, Quote}
+use Rattle.tcl_words.proofs.Common.{Expansion, Stage, Next, Go, End, Refuse, Output, Step, Scan, EndsAt, Refused}
+use Rattle.tcl_words.proofs.Common.{Reaches}
 use lib.Utf8.{scalar}
 use Rattle.tcl_words.specs.Escapes.{numeral}
 use Rattle.tcl_words.specs.ScriptGrammar.{read}
 use Rattle.tcl_words.specs.Scanning.{scanned, pieces_from}
+use Rattle.tcl_words.proofs.Stages.{from, from-step, put, onto_given, arrive}
 use Rattle.tcl_words.specs.declared.escapes.EscapeStep.TheVariants as escape_steps
 use Rattle.tcl_words.specs.declared.stage.Stage.TheVariants as stages
-use Rattle.tcl_words.proofs.Stages.{from, from-step, put, onto_given, arrive}
 
 -- Which faults a scan meets, and how deep it goes.
 
@@ -116,13 +116,6 @@ met_by word (Some c) = met_in_text word
 met_by word None = ((λ e. cc), (λ e. cc))
 
 pub met_at_end : (stage : Stage) → IsMetAtEnd (last_step stage).next
-met_at_end stages.BeforeCommand = tt
-met_at_end stages.CommandBackslash = tt
-met_at_end stages.Comment = tt
-met_at_end stages.CommentBackslash = tt
-met_at_end stages.BeforeWord = tt
-met_at_end stages.WordBackslash = tt
-met_at_end stages.BareBackslash = tt
 met_at_end (stages.Text word) = met_in_text word
 met_at_end (stages.AfterDollar word) = met_in_text word
 met_at_end (stages.AfterColon word) = met_in_text word
@@ -132,8 +125,8 @@ met_at_end stages.AfterStar = ((λ e. cc), (λ e. cc))
 met_at_end (stages.Braced depth) = ((λ e. cc), (λ e. cc))
 met_at_end (stages.BracedBackslash depth) = ((λ e. cc), (λ e. cc))
 met_at_end (stages.BracedGap depth) = ((λ e. cc), (λ e. cc))
-met_at_end (stages.Behind closing) = tt
 met_at_end (stages.BehindBackslash closing) = met_behind closing
+met_at_end stage = tt
 
 -- What a character adds to what is found.
 
@@ -146,36 +139,27 @@ put_by given kept ended c found = onto_given given (kept_on kept c (cond ended (
 fault_by : (given : Option ℕ) (kept ended : Bool) (c : ℕ) (fault : ScriptFault) →
     put_by given kept ended c (Fault fault) ≡ Fault fault
 fault_by None true true c fault = refl
-fault_by None true false c fault = refl
 fault_by None false true c fault = refl
-fault_by None false false c fault = refl
 fault_by (Some d) true true c fault = refl
-fault_by (Some d) true false c fault = refl
 fault_by (Some d) false true c fault = refl
-fault_by (Some d) false false c fault = refl
+fault_by given kept ended c fault = refl
 
 pub put_fault : (output : Output) (c : ℕ) (fault : ScriptFault) → put output c (Fault fault) ≡ Fault fault
 put_fault output c fault = fault_by output.given output.kept output.ended c fault
 
 open_by : (given : Option ℕ) (kept ended : Bool) (c : ℕ) → put_by given kept ended c Open ≡ Open
 open_by None true true c = refl
-open_by None true false c = refl
 open_by None false true c = refl
-open_by None false false c = refl
 open_by (Some d) true true c = refl
-open_by (Some d) true false c = refl
 open_by (Some d) false true c = refl
-open_by (Some d) false false c = refl
+open_by given kept ended c = refl
 
 nothing_by : (given : Option ℕ) (kept ended : Bool) (c : ℕ) → put_by given kept ended c Nothing ≡ Nothing
 nothing_by None true true c = refl
-nothing_by None true false c = refl
 nothing_by None false true c = refl
-nothing_by None false false c = refl
 nothing_by (Some d) true true c = refl
-nothing_by (Some d) true false c = refl
 nothing_by (Some d) false true c = refl
-nothing_by (Some d) false false c = refl
+nothing_by given kept ended c = refl
 
 onto_command : (c : ℕ) (words : List (List ℕ)) (rest : List ℕ) →
     onto_word c (Command words rest) ≡ Command (onto_piece c words) rest
@@ -238,38 +222,17 @@ AtEnd stage = (from stage Continues [] ≡ Open) × (from stage Breaks [] ≡ Fa
 
 escaped_ends : (word : TextWord) (stage : EscapeStage) → AtEnd (stages.Escaped word stage)
 unfolding read numeral pieces_from
-escaped_ends Bare Backslash = (refl, refl, refl)
-escaped_ends Bare (Letter letter more) = (refl, refl, refl)
 escaped_ends Bare (Digits radix value more) = (refl, refl, valued_bare (scalar value) value)
-escaped_ends Bare Gap = (refl, refl, refl)
-escaped_ends Quoted Backslash = (refl, refl, refl)
-escaped_ends Quoted (Letter letter more) = (refl, refl, refl)
 escaped_ends Quoted (Digits radix value more) = (refl, refl, valued_quoted (scalar value) value)
-escaped_ends Quoted Gap = (refl, refl, refl)
+escaped_ends word stage = (refl, refl, refl)
 
 from_ends : (stage : Stage) → AtEnd stage
 unfolding read pieces_from
-from_ends stages.BeforeCommand = (refl, refl, refl)
-from_ends stages.CommandBackslash = (refl, refl, refl)
-from_ends stages.Comment = (refl, refl, refl)
-from_ends stages.CommentBackslash = (refl, refl, refl)
-from_ends stages.BeforeWord = (refl, refl, refl)
-from_ends stages.WordBackslash = (refl, refl, refl)
-from_ends stages.BareBackslash = (refl, refl, refl)
 from_ends (stages.Text Bare) = (refl, refl, refl)
-from_ends (stages.Text Quoted) = (refl, refl, refl)
 from_ends (stages.AfterDollar Bare) = (refl, refl, refl)
-from_ends (stages.AfterDollar Quoted) = (refl, refl, refl)
 from_ends (stages.AfterColon Bare) = (refl, refl, refl)
-from_ends (stages.AfterColon Quoted) = (refl, refl, refl)
 from_ends (stages.Escaped word stage) = escaped_ends word stage
-from_ends stages.AfterOpening = (refl, refl, refl)
-from_ends stages.AfterStar = (refl, refl, refl)
-from_ends (stages.Braced depth) = (refl, refl, refl)
-from_ends (stages.BracedBackslash depth) = (refl, refl, refl)
-from_ends (stages.BracedGap depth) = (refl, refl, refl)
-from_ends (stages.Behind closing) = (refl, refl, refl)
-from_ends (stages.BehindBackslash closing) = (refl, refl, refl)
+from_ends stage = (refl, refl, refl)
 
 -- what a scan says of the characters, whatever follows them
 abbrev pub Verdict : Scan → Stage → List ℕ → Type 0

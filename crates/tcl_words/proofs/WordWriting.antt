@@ -1,7 +1,7 @@
 -- Words that are written over others.
-use Rattle.tcl_words.proofs.Words.{◌≡◌, ℕ, ◌+◌, ◌<◌, List, [], ◌∷◌, ◌++◌, map, length, take, slice_set, String}
-use Rattle.tcl_words.proofs.Words.{string_bytes, Bor, ap, sym, ◌∙◌, add-one, length-map, map-set, take-map}
-use Rattle.tcl_words.proofs.Words.{take-suc-set, take-length}
+use Rattle.tcl_words.proofs.Common.{◌≡◌, ℕ, ◌+◌, ◌<◌, List, [], ◌∷◌, ◌++◌, map, length, take, slice_set, String}
+use Rattle.tcl_words.proofs.Common.{string_bytes, Bor, ap, sym, ◌∙◌, add-one, length-map, map-set, take-map}
+use Rattle.tcl_words.proofs.Common.{take-suc-set, take-length}
 
 pub written_over : {Z : Type 0} (words : List (String Z)) (place : ℕ) (word : String Z) (text : List ℕ) →
     place < length words → string_bytes word ≡ text

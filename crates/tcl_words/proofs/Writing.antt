@@ -1,11 +1,11 @@
 -- Steps of the loop that writes the words of a command.
-use Rattle.tcl_words.proofs.Words.{◌≡◌, ◌<◌, ℕ, get_or, ◌⊎◌, inl, inr, Bool, true, false, Option, Some, None, List, []}
-use Rattle.tcl_words.proofs.Words.{◌∷◌, ◌++◌, map, length, take, drop, chars, encode_utf8, encode_utf8_all, refl, sym}
-use Rattle.tcl_words.proofs.Words.{ap, ◌∙◌, arith, subst, append_assoc, append-nil, chars-nil, chars-append}
-use Rattle.tcl_words.proofs.Words.{chars-IsAscii, IsUtf8-from_ascii, nat_tests, is_end, is_blank, step_of, last_step}
-use Rattle.tcl_words.proofs.Words.{onto_piece, given_onto, kept_onto, ended_before, written, words_next, pieces_from}
-use Rattle.tcl_words.proofs.Words.{prefixed, given_bytes, kept_bytes, word_with, words_after, word_after, ScriptFault}
-use Rattle.tcl_words.proofs.Words.{Stage, BeforeCommand, Next, Go, End, Refuse, Output, Step, begun}
+use Rattle.tcl_words.proofs.Common.{◌≡◌, ◌<◌, ℕ, get_or, ◌⊎◌, inl, inr, Bool, true, false, Option, Some, None, List, []}
+use Rattle.tcl_words.proofs.Common.{◌∷◌, ◌++◌, map, length, take, drop, chars, encode_utf8, encode_utf8_all, refl, sym}
+use Rattle.tcl_words.proofs.Common.{ap, ◌∙◌, arith, subst, append_assoc, append-nil, chars-nil, chars-append}
+use Rattle.tcl_words.proofs.Common.{chars-IsAscii, IsUtf8-from_ascii, step_of, last_step, onto_piece, given_onto}
+use Rattle.tcl_words.proofs.Common.{kept_onto, ended_before, written, words_next, pieces_from, prefixed, given_bytes}
+use Rattle.tcl_words.proofs.Common.{kept_bytes, word_with, words_after, word_after, ScriptFault, Stage, BeforeCommand}
+use Rattle.tcl_words.proofs.Common.{Next, Go, End, Refuse, Output, Step, begun}
 use Rattle.std.proofs.lemmas.Str.Ascii.{IsAscii-cons, IsAscii-nil}
 use Rattle.tcl_words.proofs.Verdicts.{pieces-nil, pieces-cons}
 use Rattle.tcl_words.proofs.Plain.{AllPlain, plain_step, char_step, RunOf}
@@ -56,14 +56,6 @@ written_more output c word words others =
 pub record IsWritten (cs rest : List ℕ) (stage : Stage) (words : List (List ℕ)) (word : List ℕ) : Type 0 where
   pub pieces : spelled (pieces_from cs BeforeCommand) ≡ words ++ prefixed word (spelled (pieces_from rest stage))
 
-pub writing_starts : (cs : List ℕ) (words : List (List ℕ)) (word : List ℕ) → words ≡ [] → word ≡ [] →
-    IsWritten cs cs BeforeCommand words word
-writing_starts cs words word none empty = record {
-  pieces = sym (ap (λ l. l ++ prefixed word (spelled (pieces_from cs BeforeCommand))) none
-      ∙ ap (λ l. prefixed l (spelled (pieces_from cs BeforeCommand))) empty
-      ∙ prefixed_nil (spelled (pieces_from cs BeforeCommand)));
-}
-
 -- a run is written
 pub run_written : (stage : Stage) (run rest : List ℕ) (word : List ℕ) → AllPlain stage run
     → prefixed word (spelled (pieces_from (run ++ rest) stage))
@@ -76,43 +68,14 @@ run_written stage (c ∷ run) rest word h =
     ∙ prefixed_onto c word (pieces_from (run ++ rest) stage) ∙ run_written stage run rest (word ++ encode_utf8 c) h.1
     ∙ ap (λ l. prefixed l (spelled (pieces_from rest stage))) (append_assoc word (encode_utf8 c) (encode_utf8_all run))
 
-pub writing_runs : (cs : List ℕ) (bytes : List ℕ) (n : ℕ) (stage : Stage) (words : List (List ℕ)) (word more : List ℕ) →
-    IsWritten cs (chars bytes) stage words word
-    → RunOf stage bytes n → more ≡ word ++ take n bytes → IsWritten cs (chars (drop n bytes)) stage words more
-writing_runs cs bytes n stage words word more w r e = record {
+pub writing_runs : {cs bytes : List ℕ} {n : ℕ} {stage : Stage} {words : List (List ℕ)} {word more : List ℕ} →
+    IsWritten cs (chars bytes) stage words word → RunOf stage bytes n → more ≡ word ++ take n bytes →
+    IsWritten cs (chars (drop n bytes)) stage words more
+writing_runs {bytes = bytes} {n} {stage} {words} {word} w r e = record {
   pieces = w.pieces ∙ ap (λ l. words ++ prefixed word (spelled (pieces_from l stage))) r.split
       ∙ ap (λ l. words ++ l) (run_written stage r.run (chars (drop n bytes)) word r.plain)
       ∙ ap (λ l. words ++ prefixed l (spelled (pieces_from (chars (drop n bytes)) stage)))
       (ap (λ l. word ++ l) (sym r.spelled) ∙ sym e);
-}
-
--- the pieces after one more character
-pieces_more : (cs now later : List ℕ) (stage : Stage) (words more : List (List ℕ)) (word rest : List ℕ) (step : Step)
-    (c : ℕ) → IsWritten cs now stage words word
-    → now ≡ c ∷ later → step ≡ step_of stage c
-    → more ≡ words_after step.output.ended (word_with step.output c word) words →
-    rest ≡ word_after step.output.ended (word_with step.output c word)
-    → spelled (pieces_from cs BeforeCommand) ≡ more
-    ++ prefixed rest (spelled (words_next step.next (pieces_from later)))
-pieces_more cs now later stage words more word rest step c w here does e f =
-    w.pieces ∙ ap (λ l. words ++ prefixed word (spelled (pieces_from l stage))) here
-    ∙ ap (λ l. words ++ prefixed word (spelled l)) (pieces-cons c later stage)
-    ∙ ap (λ (s : Step). words ++ prefixed word (spelled (written s.output c (words_next s.next (pieces_from later)))))
-    (sym does)
-    ∙ written_more step.output c word words (words_next step.next (pieces_from later))
-    ∙ ap (λ l. l ++ prefixed (word_after step.output.ended (word_with step.output c word))
-    (spelled (words_next step.next (pieces_from later)))) (sym e)
-    ∙ ap (λ l. more ++ prefixed l (spelled (words_next step.next (pieces_from later)))) (sym f)
-
-pub writing_goes : (cs now later : List ℕ) (stage next : Stage) (words more : List (List ℕ)) (word rest : List ℕ)
-    (step : Step) (c : ℕ) → IsWritten cs now stage words word
-    → now ≡ c ∷ later → step ≡ step_of stage c → step.next ≡ Go next
-    → more ≡ words_after step.output.ended (word_with step.output c word) words →
-    rest ≡ word_after step.output.ended (word_with step.output c word)
-    → IsWritten cs later next more rest
-writing_goes cs now later stage next words more word rest step c w here does goes e f = record {
-  pieces = pieces_more cs now later stage words more word rest step c w here does e f
-      ∙ ap (λ s. more ++ prefixed rest (spelled (words_next s (pieces_from later)))) goes;
 }
 
 -- the command's end
@@ -130,28 +93,45 @@ no_more (Go stage) after h = absurd h
 no_more End after h = refl
 no_more (Refuse fault) after h = refl
 
-pub writing_stops : (cs now later : List ℕ) (stage : Stage) (words more : List (List ℕ)) (word rest : List ℕ)
-    (step : Step) (c : ℕ) → IsWritten cs now stage words word
-    → now ≡ c ∷ later → step ≡ step_of stage c → IsLast step.next
-    → more ≡ words_after step.output.ended (word_with step.output c word) words →
-    rest ≡ word_after step.output.ended (word_with step.output c word)
-    → more ≡ spelled (pieces_from cs BeforeCommand)
-writing_stops cs now later stage words more word rest step c w here does last e f =
-    sym (pieces_more cs now later stage words more word rest step c w here does e f
-    ∙ ap (λ l. more ++ prefixed rest (spelled l)) (no_more step.next (pieces_from later) last) ∙ append-nil more)
+-- one more character
+module _ {cs now later : List ℕ} {stage : Stage} {words more : List (List ℕ)} {word rest : List ℕ} {step : Step} {c : ℕ}
+    (w : IsWritten cs now stage words word) (here : now ≡ c ∷ later) (does : step ≡ step_of stage c)
+    (e : more ≡ words_after step.output.ended (word_with step.output c word) words)
+    (f : rest ≡ word_after step.output.ended (word_with step.output c word)) where
+  pieces_more : spelled (pieces_from cs BeforeCommand) ≡ more
+      ++ prefixed rest (spelled (words_next step.next (pieces_from later)))
+  pieces_more =
+      w.pieces ∙ ap (λ l. words ++ prefixed word (spelled (pieces_from l stage))) here
+      ∙ ap (λ l. words ++ prefixed word (spelled l)) (pieces-cons c later stage)
+      ∙ ap (λ (s : Step). words ++ prefixed word (spelled (written s.output c (words_next s.next (pieces_from later)))))
+      (sym does)
+      ∙ written_more step.output c word words (words_next step.next (pieces_from later))
+      ∙ ap (λ l. l ++ prefixed (word_after step.output.ended (word_with step.output c word))
+      (spelled (words_next step.next (pieces_from later)))) (sym e)
+      ∙ ap (λ l. more ++ prefixed l (spelled (words_next step.next (pieces_from later)))) (sym f)
+
+  pub writing_goes : {next : Stage} → step.next ≡ Go next → IsWritten cs later next more rest
+  writing_goes goes = record {
+    pieces = pieces_more ∙ ap (λ s. more ++ prefixed rest (spelled (words_next s (pieces_from later)))) goes;
+  }
+
+  pub writing_stops : IsLast step.next → more ≡ spelled (pieces_from cs BeforeCommand)
+  writing_stops last =
+      sym (pieces_more ∙ ap (λ l. more ++ prefixed rest (spelled l)) (no_more step.next (pieces_from later) last)
+      ∙ append-nil more)
 
 -- the end of the text
-pub writing_ends : (cs bytes : List ℕ) (stage : Stage) (words more : List (List ℕ)) (word : List ℕ) (step : Step) →
-    IsWritten cs (chars bytes) stage words word
+pub writing_ends : {cs : List ℕ} (bytes : List ℕ) {stage : Stage} {words more : List (List ℕ)} {word : List ℕ}
+    {step : Step} → IsWritten cs (chars bytes) stage words word
     → length bytes ≡ 0 → step ≡ last_step stage
     → more ≡ words_after step.output.ended (word_with step.output 0 word) words
     → more ≡ spelled (pieces_from cs BeforeCommand)
-writing_ends cs [] stage words more word step w h does e =
+writing_ends [] {stage} {words} {word = word} {step = step} w h does e =
     sym (w.pieces ∙ ap (λ l. words ++ prefixed word (spelled (pieces_from l stage))) chars-nil
     ∙ ap (λ l. words ++ prefixed word (spelled l)) (pieces-nil stage)
     ∙ ap (λ (s : Step). words ++ prefixed word (spelled (written s.output 0 []))) (sym does)
     ∙ written_more step.output 0 word words [] ∙ append-nil _ ∙ sym e)
-writing_ends cs (b ∷ bytes) stage words more word step w h does e = absurd (omega arith)
+writing_ends (b ∷ bytes) w h does e = absurd (omega arith)
 
 -- A bare word that is to begin may be taken as begun.
 pub pieces_begun : (cs bytes : List ℕ) (stage here : Stage) (b : ℕ) → encode_utf8_all cs ≡ bytes → 0 < length bytes →
@@ -172,12 +152,6 @@ ascii_cons c rest low =
     chars-append (c ∷ []) rest (IsUtf8-from_ascii (c ∷ []) ascii)
     ∙ ap (λ l. l ++ chars rest) (chars-IsAscii (c ∷ []) ascii)
 
-pub low_blank : (c : ℕ) → is_blank c ≡ true → c < 128
-low_blank c h = grind (arith, nat_tests)
-
-pub low_end : (c : ℕ) → is_end c ≡ true → c < 128
-low_end c h = grind (arith, nat_tests)
-
-pub writing_same : (cs rest : List ℕ) (stage : Stage) (words more : List (List ℕ)) (word : List ℕ) →
+pub writing_same : {cs rest : List ℕ} {stage : Stage} {words more : List (List ℕ)} {word : List ℕ} →
     IsWritten cs rest stage words word → more ≡ words → IsWritten cs rest stage more word
-writing_same cs rest stage words more word w same = subst (λ l. IsWritten cs rest stage l word) (sym same) w
+writing_same {cs} {rest} {stage} {word = word} w same = subst (λ l. IsWritten cs rest stage l word) (sym same) w

@@ -60,6 +60,15 @@ next_line-removed text from to within =
     ∙ ap (λ n. n + line_start 1 (drop to text)) (let e : length (take from text) ≡ from = length-take from text
     ∙ omega arith in e)
 
+-- the line behind what is taken out begins so much earlier
+pub next_line-drawn : (text : List ℕ) (from to : ℕ) → from ≤ to → to ≤ length text
+    → (to - from ≤ next_line text to) × (next_line text to - (to - from) ≡ next_line (removed from to text) from)
+next_line-drawn text from to ordered within =
+    let rest = line_start 1 (drop to text) in
+    let before : next_line text to ≡ to + rest = next_line-is text to within in
+    let after : next_line (removed from to text) from ≡ from + rest = next_line-removed text from to (omega arith) in
+    (omega (arith, before), omega (arith, before, after))
+
 pub number-of : (b : Bool) (m n : ℕ) → suc n ≡ cond b 1 0 + m → (if b then n else suc n) ≡ m
 number-of true m n is = omega (arith, is)
 number-of false m n is = omega (arith, is)

@@ -1,4 +1,4 @@
-use Rattle.documents.proofs.Words.{◌+◌, ◌*◌, length}
+use Rattle.documents.proofs.Common.{◌+◌, ◌*◌, length}
 use Rattle.documents.proofs.+drop.Given as goal
 
 abbrev pub decreases-documents::Document::drop_with : goal.decreases-documents::Document::drop_with

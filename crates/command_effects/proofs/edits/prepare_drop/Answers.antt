@@ -1,5 +1,5 @@
-use Rattle.command_effects.proofs.Words.{◌≡◌, sym, ap, subst, ◌∙◌, IfOk, get_or, ◌*◌, TakeMark, take_all, Fits, after}
-use Rattle.std.specs.Prelude.{◌+◌, ◌++◌, ◌∷◌, []}
+use Rattle.command_effects.proofs.Common.{◌≡◌, sym, ap, subst, ◌∙◌, IfOk, get_or, ◌*◌, TakeMark, take_all, Fits, after}
+use Rattle.command_effects.proofs.Common.{◌+◌, ◌++◌, ◌∷◌, []}
 use Rattle.command_effects.proofs.TakeLaws.{drops, drops-fit, drops-after, drops-more}
 use Rattle.command_effects.proofs.edits.prepare_drop.Goals as goal
 

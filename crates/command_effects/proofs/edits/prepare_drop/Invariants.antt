@@ -1,4 +1,4 @@
-use Rattle.command_effects.proofs.Words.{◌≡◌, take}
+use Rattle.command_effects.proofs.Common.{◌≡◌, take}
 use Rattle.command_effects.proofs.TakeLaws.{drops}
 use Rattle.command_effects.proofs.edits.prepare_drop.Given as goal
 

@@ -1,4 +1,4 @@
-use Rattle.command_effects.proofs.Words.{◌≡◌, sym, ap, subst, ◌∙◌, OnOk, take_all, Fits, after}
+use Rattle.command_effects.proofs.Common.{◌≡◌, sym, ap, subst, ◌∙◌, OnOk, take_all, Fits, after}
 use Rattle.command_effects.proofs.TakeLaws.{takes, takes-fit, takes-after, takes-more}
 use Rattle.command_effects.proofs.edits.take_marks.Goals as goal
 

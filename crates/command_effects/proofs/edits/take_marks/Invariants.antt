@@ -1,4 +1,4 @@
-use Rattle.command_effects.proofs.Words.{◌≡◌, take}
+use Rattle.command_effects.proofs.Common.{◌≡◌, take}
 use Rattle.command_effects.proofs.TakeLaws.{takes}
 use Rattle.command_effects.proofs.edits.take_marks.Given as goal
 

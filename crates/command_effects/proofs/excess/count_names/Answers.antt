@@ -1,5 +1,5 @@
-use Rattle.command_effects.proofs.Words.{◌≡◌, length, ap, sym, ◌∙◌, arith, chars, string_bytes, length-map}
-use Rattle.command_effects.proofs.Words.{listed_names}
+use Rattle.command_effects.proofs.Common.{◌≡◌, length, ap, sym, ◌∙◌, arith, chars, string_bytes, length-map}
+use Rattle.command_effects.proofs.Common.{listed_names}
 use Rattle.command_effects.proofs.MadeLaws.{names-step}
 use Rattle.command_effects.proofs.excess.count_names.Goals as goal
 

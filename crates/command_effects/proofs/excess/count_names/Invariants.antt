@@ -1,4 +1,4 @@
-use Rattle.command_effects.proofs.Words.{◌≡◌, ◌-◌, ◌^◌, length, take, min, all_names}
+use Rattle.command_effects.proofs.Common.{◌≡◌, ◌-◌, ◌^◌, length, take, min, all_names}
 use Rattle.command_effects.proofs.excess.count_names.Given as goal
 
 abbrev pub invariant-loop-pair : goal.invariant-loop-pair

@@ -1,9 +1,9 @@
-use Rattle.command_effects.proofs.Words.{◌+◌, length, take, sym, ap, ◌∙◌, arith, chars, names_of, texts_of, all_names}
-use Rattle.command_effects.proofs.Words.{with_names}
+use Rattle.command_effects.proofs.Common.{◌+◌, length, take, sym, ap, ◌∙◌, arith, chars, names_of, texts_of, all_names}
+use Rattle.command_effects.proofs.Common.{with_names}
 use Rattle.command_effects.proofs.CountLaws.{count-known, count-new}
 use Rattle.command_effects.proofs.MadeLaws.{too_many, with_names-step}
-use Rattle.command_effects.proofs.excess.count_with.Goals as goal
 use Rattle.command_effects.proofs.excess.count_with.Goals.{then-is_new+else-count-most, else-is_new}
+use Rattle.command_effects.proofs.excess.count_with.Goals as goal
 
 pub returns-then-count-most-clause-many : goal.returns-then-count-most-clause-many
 returns-then-count-most-clause-many c = λ _.

@@ -1,4 +1,4 @@
-use Rattle.command_effects.proofs.Words.{◌≡◌, ◌≤◌, length, take, names_of, texts_of, all_names, with_names}
+use Rattle.command_effects.proofs.Common.{◌≡◌, ◌≤◌, length, take, names_of, texts_of, all_names, with_names}
 use Rattle.command_effects.proofs.excess.count_with.Given as goal
 
 abbrev pub invariant-loop-place : goal.invariant-loop-place

@@ -1,5 +1,5 @@
-use Rattle.command_effects.proofs.Words.{◌+◌, ◌<◌, ◌≤◌, length, take, refl, ap, ◌∙◌, arith, nat_tests, length-map, Tag}
-use Rattle.command_effects.proofs.Words.{names_of, all_names, with_names}
+use Rattle.command_effects.proofs.Common.{◌+◌, ◌<◌, ◌≤◌, length, take, refl, ap, ◌∙◌, arith, nat_tests, length-map, Tag}
+use Rattle.command_effects.proofs.Common.{names_of, all_names, with_names}
 use Rattle.command_effects.proofs.MadeLaws.{listed-step, too_many_listed, with_names-longer, with_names-within}
 use Rattle.command_effects.proofs.excess.has_too_many_tags.Goals as goal
 

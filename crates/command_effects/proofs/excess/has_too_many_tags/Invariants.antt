@@ -1,4 +1,4 @@
-use Rattle.command_effects.proofs.Words.{◌≡◌, ◌≤◌, length, take, names_of, all_names, with_names}
+use Rattle.command_effects.proofs.Common.{◌≡◌, ◌≤◌, length, take, names_of, all_names, with_names}
 use Rattle.command_effects.proofs.excess.has_too_many_tags.Given as goal
 
 abbrev pub invariant-loop-place : goal.invariant-loop-place

@@ -1,6 +1,7 @@
-use Rattle.command_effects.proofs.Words.{◌≡◌, ◌-◌, true, false, take, sym, ap, ◌∙◌, arith, chars, all_names}
-use Rattle.command_effects.proofs.Words.{listed_names, is_among}
-use Rattle.command_effects.proofs.CountLaws.{listed-back, or-true, or-false}
+use Rattle.command_effects.proofs.Common.{◌≡◌, ◌-◌, ◌||◌, true, false, take, sym, ap, ◌∙◌, arith, chars, all_names}
+use Rattle.command_effects.proofs.Common.{listed_names, is_among, or_right}
+use mathlib.Core.Bool.{or-false}
+use Rattle.command_effects.proofs.CountLaws.{listed-back}
 use Rattle.command_effects.proofs.excess.is_listed.Goals as goal
 
 pub returns-then-is_repeated : goal.returns-then-is_repeated
@@ -11,7 +12,7 @@ returns-then-is_repeated c =
     let here : is_among name (listed_names c.index-pairs-left.result.names) ≡ true =
     ap (is_among name) (sym c.listed_names.ensures) ∙ sym c.is_repeated.ensures ∙ c.if-is_repeated.true in
     sym (c.loop-left.invariant.1 ∙ front
-    ∙ or-true (is_among name (all_names (take (c.loop-left.left - 1) c.args.pairs.now))) _ here)
+    ∙ or_right (is_among name (all_names (take (c.loop-left.left - 1) c.args.pairs.now))) _ here)
 
 pub loop-left-preserved : goal.loop-left-preserved
 loop-left-preserved c =
@@ -19,8 +20,8 @@ loop-left-preserved c =
     let front = listed-back name c.args.pairs.now c.loop-left.left c.index-pairs-left.result
     (omega (arith, c.loop-left-test.true)) c.loop-left.invariant.0 c.index-pairs-left.is in
     let here : is_among name (listed_names c.index-pairs-left.result.names) ≡ false =
-    ap (is_among name) (sym c.listed_names.ensures) ∙ sym c.is_repeated.ensures ∙ c.if-is_repeated.false in (
+    ap (is_among name) (sym c.listed_names.ensures) ∙ sym c.is_repeated.ensures ∙ c.if-is_repeated.false in
+    let before = is_among name (all_names (take (c.loop-left.left - 1) c.args.pairs.now)) in (
       omega (arith, c.loop-left.invariant.0),
-      c.loop-left.invariant.1 ∙ front
-          ∙ or-false (is_among name (all_names (take (c.loop-left.left - 1) c.args.pairs.now))) _ here,
+      c.loop-left.invariant.1 ∙ front ∙ ap (λ b. before || b) here ∙ or-false before,
     )

@@ -1,5 +1,4 @@
-use Rattle.command_effects.proofs.Words.{◌≡◌, ◌≤◌, length, take, all_names, is_among}
-use Rattle.std.proofs.Common.{chars}
+use Rattle.command_effects.proofs.Common.{◌≡◌, ◌≤◌, length, take, all_names, is_among, chars}
 use Rattle.command_effects.proofs.excess.is_listed.Given as goal
 
 abbrev pub invariant-loop-left : goal.invariant-loop-left

@@ -1,4 +1,4 @@
-use Rattle.command_effects.proofs.Words.{true, false, not, sym, ap, ◌∙◌, chars, names_of, texts_of, all_names}
+use Rattle.command_effects.proofs.Common.{not, sym, ap, ◌∙◌, chars, names_of, texts_of, all_names}
 use Rattle.command_effects.proofs.CountLaws.{new-known, new-listed, new-repeated, tag-known}
 use Rattle.command_effects.proofs.excess.is_new.Goals as goal
 

@@ -1,5 +1,5 @@
-use Rattle.command_effects.proofs.Words.{◌+◌, not, sym, ap, ap₂, ◌∙◌, arith, chars, nat_lt, nat_tests, length-map, Tag}
-use Rattle.command_effects.proofs.Words.{names_of}
+use Rattle.command_effects.proofs.Common.{◌+◌, not, sym, ap, ap₂, ◌∙◌, arith, chars, nat_lt, nat_tests, length-map, Tag}
+use Rattle.command_effects.proofs.Common.{names_of}
 use Rattle.command_effects.proofs.CountLaws.{count-known, count-new, tag-known}
 use Rattle.command_effects.proofs.excess.is_one_too_many.Goals as goal
 

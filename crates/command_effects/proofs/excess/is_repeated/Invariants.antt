@@ -1,5 +1,4 @@
-use Rattle.command_effects.proofs.Words.{◌≡◌, ◌≤◌, length, take, texts_of, is_among}
-use Rattle.std.proofs.Common.{chars}
+use Rattle.command_effects.proofs.Common.{◌≡◌, ◌≤◌, length, take, texts_of, is_among, chars}
 use Rattle.command_effects.proofs.excess.is_repeated.Given as goal
 
 abbrev pub invariant-loop-left : goal.invariant-loop-left

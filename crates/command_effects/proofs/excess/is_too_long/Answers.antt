@@ -1,4 +1,4 @@
-use Rattle.command_effects.proofs.Words.{◌+◌, ◌≤◌, arith, nat_tests, total}
+use Rattle.command_effects.proofs.Common.{◌+◌, ◌≤◌, arith, nat_tests, total}
 use Rattle.command_effects.proofs.ExcessLaws.{total-in-bytes}
 use Rattle.command_effects.proofs.excess.is_too_long.Goals as goal
 

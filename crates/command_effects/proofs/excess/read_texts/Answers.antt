@@ -1,4 +1,4 @@
-use Rattle.command_effects.proofs.Words.{subst, ap, ◌∙◌, IsScalar, All, All-more, chars-scalars, Pair}
+use Rattle.command_effects.proofs.Common.{subst, ap, ◌∙◌, IsScalar, All, All-more, chars-scalars, Pair}
 use Rattle.command_effects.proofs.excess.read_texts.Goals as goal
 
 pub loop-pair-preserved : goal.loop-pair-preserved

@@ -1,4 +1,4 @@
-use Rattle.command_effects.proofs.Words.{take, IsScalar, All, Pair}
+use Rattle.command_effects.proofs.Common.{take, IsScalar, All, Pair}
 use Rattle.command_effects.proofs.excess.read_texts.Given as goal
 
 abbrev pub invariant-loop-pair : goal.invariant-loop-pair

@@ -1,4 +1,4 @@
-use Rattle.command_effects.proofs.Words.{◌≡◌, ◌-◌, ◌^◌, take, min, total}
+use Rattle.command_effects.proofs.Common.{◌≡◌, ◌-◌, ◌^◌, take, min, total}
 use Rattle.command_effects.proofs.excess.total_of.Given as goal
 
 abbrev pub invariant-loop-pair : goal.invariant-loop-pair

@@ -1,5 +1,5 @@
-use Rattle.command_effects.proofs.Words.{sym, subst, eqb-true, length, ◌∷◌, [], string_bytes, if◌then◌else◌, Goes}
-use Rattle.command_effects.proofs.Words.{goes_nowhere}
+use Rattle.command_effects.proofs.Common.{sym, subst, eqb-true, length, ◌∷◌, [], string_bytes, if◌then◌else◌, Goes}
+use Rattle.command_effects.proofs.Common.{goes_nowhere}
 use Rattle.command_effects.proofs.ListingLaws.{unfilled}
 use Rattle.command_effects.proofs.listing.push_filled.Goals as goal
 

@@ -1,4 +1,4 @@
-use Rattle.command_effects.proofs.Words.{◌∷◌, [], string_bytes, literal, goes_on}
+use Rattle.command_effects.proofs.Common.{◌∷◌, [], string_bytes, literal, goes_on}
 use Rattle.mark_table.specs.SharedMarks.{names_of}
 use Rattle.command_effects.proofs.listing.push_mark_names.Goals as goal
 

@@ -1,5 +1,4 @@
-use Rattle.command_effects.proofs.Words.{string_bytes, names_of, Goes}
-use Rattle.std.specs.Prelude.{take}
+use Rattle.command_effects.proofs.Common.{string_bytes, names_of, Goes, take}
 use Rattle.command_effects.proofs.listing.push_names.Given as goal
 
 abbrev pub invariant-loop-place : goal.invariant-loop-place

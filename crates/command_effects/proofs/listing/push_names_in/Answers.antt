@@ -1,6 +1,6 @@
 use Rattle.std.specs.FinSet as set
-use Rattle.command_effects.proofs.Words.{subst, ap, ◌∙◌, chars, string_bytes, if◌then◌else◌, Goes, Tag, own_slot}
-use Rattle.std.specs.Prelude.{◌∷◌, []}
+use Rattle.command_effects.proofs.Common.{subst, ap, ◌∙◌, chars, string_bytes, if◌then◌else◌, Goes, Tag, own_slot, ◌∷◌}
+use Rattle.command_effects.proofs.Common.{[]}
 use Rattle.command_effects.proofs.ListingLaws.{goes_wanted}
 use Rattle.command_effects.proofs.listing.push_names_in.Goals as goal
 

@@ -1,6 +1,5 @@
 use Rattle.std.specs.FinSet as set
-use Rattle.command_effects.proofs.Words.{string_bytes, filter, Tag, names_of, Goes, own_slot}
-use Rattle.std.specs.Prelude.{take}
+use Rattle.command_effects.proofs.Common.{string_bytes, filter, Tag, names_of, Goes, own_slot, take}
 use Rattle.command_effects.proofs.listing.push_names_in.Given as goal
 
 abbrev pub invariant-loop-place : goal.invariant-loop-place

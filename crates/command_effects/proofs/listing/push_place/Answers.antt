@@ -1,5 +1,5 @@
-use Rattle.command_effects.proofs.Words.{◌++◌, ◌∷◌, [], ap, subst, ◌∙◌, chars, string_bytes, OnOk, position_text, shown}
-use Rattle.command_effects.proofs.Words.{Goes, chars-nil}
+use Rattle.command_effects.proofs.Common.{◌++◌, ◌∷◌, [], ap, subst, ◌∙◌, chars, string_bytes, OnOk, position_text}
+use Rattle.command_effects.proofs.Common.{shown, Goes, chars-nil}
 use Rattle.command_effects.proofs.listing.push_place.Goals as goal
 
 pub returns : goal.returns

@@ -1,4 +1,4 @@
-use Rattle.command_effects.proofs.Words.{string_bytes, shown, shown_flags, range-unset}
+use Rattle.command_effects.proofs.Common.{string_bytes, shown, shown_flags, range-unset}
 use Rattle.command_effects.proofs.ListingLaws.{listed-none, listed-more}
 use Rattle.command_effects.proofs.listing.push_ranges.Goals as goal
 

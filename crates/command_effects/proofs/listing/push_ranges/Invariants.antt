@@ -1,4 +1,4 @@
-use Rattle.command_effects.proofs.Words.{◌≡◌, ◌<◌, ◌≤◌, ◌+◌, false, string_bytes, IfSome, shown, shown_flags}
+use Rattle.command_effects.proofs.Common.{◌≡◌, ◌<◌, ◌≤◌, ◌+◌, false, string_bytes, IfSome, shown, shown_flags}
 use Rattle.text_model.specs.Changes.{flag_at}
 use Rattle.command_effects.proofs.ListingLaws.{IsListed, left_of}
 use Rattle.command_effects.proofs.listing.push_ranges.Given as goal

@@ -1,4 +1,4 @@
-use Rattle.command_effects.proofs.Words.{chars, string_bytes}
+use Rattle.command_effects.proofs.Common.{chars, string_bytes}
 use Rattle.mark_table.specs.SharedMarks.{names_of}
 use Rattle.command_effects.proofs.ListingLaws.{goes_name}
 use Rattle.command_effects.proofs.listing.push_shared_names.Goals as goal

@@ -1,5 +1,4 @@
-use Rattle.command_effects.proofs.Words.{string_bytes, Goes}
-use Rattle.std.specs.Prelude.{take}
+use Rattle.command_effects.proofs.Common.{string_bytes, Goes, take}
 use Rattle.mark_table.specs.SharedMarks.{names_of}
 use Rattle.command_effects.proofs.listing.push_shared_names.Given as goal
 

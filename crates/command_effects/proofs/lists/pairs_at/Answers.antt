@@ -1,4 +1,4 @@
-use Rattle.command_effects.proofs.Words.{arith, ap₂, sym, ◌∙◌, length-drop, Some, take_rest, pair_at}
+use Rattle.command_effects.proofs.Common.{arith, ap₂, sym, ◌∙◌, length-drop, Some, take_rest, pair_at}
 use Rattle.command_effects.proofs.PairLaws.{word_read, pairs_at-more}
 use Rattle.command_effects.proofs.lists.pairs_at.Goals as goal
 

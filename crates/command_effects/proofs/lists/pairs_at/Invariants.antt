@@ -1,5 +1,4 @@
-use Rattle.command_effects.proofs.Words.{◌≡◌, ◌++◌, ◌≤◌, ◌+◌, length, texts_of, with_value, pairs_at}
-use Rattle.std.proofs.Common.{Ok}
+use Rattle.command_effects.proofs.Common.{◌≡◌, ◌++◌, ◌≤◌, ◌+◌, length, texts_of, with_value, pairs_at, Ok}
 use Rattle.command_effects.proofs.lists.pairs_at.Given as goal
 
 abbrev pub invariant-loop-rest : goal.invariant-loop-rest

@@ -1,4 +1,4 @@
-use Rattle.command_effects.proofs.Words.{◌≡◌, map, take, texts_of, MarkNo, numbers_named}
+use Rattle.command_effects.proofs.Common.{◌≡◌, map, take, texts_of, MarkNo, numbers_named}
 use Rattle.command_effects.proofs.marking.numbers_named.Given as goal
 
 abbrev pub invariant-loop-name : goal.invariant-loop-name

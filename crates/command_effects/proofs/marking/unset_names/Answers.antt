@@ -1,4 +1,4 @@
-use Rattle.command_effects.proofs.Words.{take, sym, ap, ◌∙◌, chars, SharedMarks, without, texts_of, marks_left}
+use Rattle.command_effects.proofs.Common.{take, sym, ap, ◌∙◌, chars, SharedMarks, without, texts_of, marks_left}
 use Rattle.mark_table.specs.SharedMarks.{is_named}
 use Rattle.command_effects.proofs.LeftLaws.{marks_left-more, marks_left-none}
 use Rattle.command_effects.proofs.SlotLaws.{texts-more}

@@ -1,4 +1,4 @@
-use Rattle.command_effects.proofs.Words.{arith, ℕ, ◌≤◌, ◌-◌, drop, length, All-take, All-drop}
+use Rattle.command_effects.proofs.Common.{arith, ℕ, ◌≤◌, ◌-◌, drop, length, All-take, All-drop}
 use Rattle.command_effects.proofs.PairLaws.{spans_of-more}
 use Rattle.command_effects.proofs.ranges.spans_of.Goals as goal
 

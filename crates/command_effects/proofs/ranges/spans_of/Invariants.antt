@@ -1,4 +1,4 @@
-use Rattle.command_effects.proofs.Words.{◌≡◌, ◌++◌, ◌≤◌, length, All, spans_of}
+use Rattle.command_effects.proofs.Common.{◌≡◌, ◌++◌, ◌≤◌, length, All, spans_of}
 use Rattle.command_effects.proofs.ranges.spans_of.Given as goal
 
 abbrev pub invariant-loop-rest : goal.invariant-loop-rest

@@ -1,5 +1,5 @@
-use Rattle.command_effects.proofs.Words.{sym, subst, arith, IsScalar, All, take_all, All-more, get_or_from_slice_get}
-use Rattle.command_effects.proofs.Words.{chars-scalars, Action}
+use Rattle.command_effects.proofs.Common.{sym, subst, arith, IsScalar, All, take_all, All-more, get_or_from_slice_get}
+use Rattle.command_effects.proofs.Common.{chars-scalars, Action}
 use Rattle.command_effects.proofs.reversals.read_group.Goals as goal
 
 pub loop-index-preserved : goal.loop-index-preserved

@@ -1,4 +1,4 @@
-use Rattle.command_effects.proofs.Words.{take, IsScalar, All, Action}
+use Rattle.command_effects.proofs.Common.{take, IsScalar, All, Action}
 use Rattle.command_effects.proofs.reversals.read_group.Given as goal
 
 abbrev pub invariant-loop-index : goal.invariant-loop-index

@@ -1,4 +1,4 @@
-use Rattle.command_effects.proofs.Words.{sym, ap, ◌∙◌, chars, chars-IsAscii, line_answer}
+use Rattle.command_effects.proofs.Common.{sym, ap, ◌∙◌, chars, chars-IsAscii, line_answer}
 use Rattle.command_effects.specs.declared.answers.Answer.TheVariants.{Text}
 use Rattle.command_effects.proofs.settings.line_answer.Goals as goal
 

@@ -1,4 +1,4 @@
-use Rattle.command_effects.proofs.Words.{sym, ap, ◌∙◌, chars, ok_or, encodes-chars, BadInteger}
+use Rattle.command_effects.proofs.Common.{sym, ap, ◌∙◌, chars, ok_or, encodes-chars, BadInteger}
 use Rattle.tcl_words.proofs.ListForms.{some_chars}
 use Rattle.tcl_words.proofs.Plain.{none_left}
 use Rattle.command_effects.proofs.SettingLaws.{line_of_word-none, line_of_word-fault}

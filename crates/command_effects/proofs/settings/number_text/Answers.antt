@@ -1,4 +1,4 @@
-use Rattle.command_effects.proofs.Words.{ap, ◌∙◌, w32, chars, chars-IsAscii}
+use Rattle.command_effects.proofs.Common.{ap, ◌∙◌, w32, chars, chars-IsAscii}
 use Rattle.std.specs.Fmt.{signed_decimal}
 use Rattle.std.proofs.lemmas.Int.{to_z-of_z}
 use Rattle.command_effects.proofs.settings.number_text.Goals as goal

@@ -1,11 +1,9 @@
-use Rattle.command_effects.proofs.Words.{◌≡◌, ◌≢◌, ◌+◌, ◌<◌, ◌≤◌, List, sym, ap, length, subst, ◌∙◌, IfErr-weaker}
-use Rattle.command_effects.proofs.Words.{on_ok_weaker, state_in, names_of, Memory, TextTooLong, excess, Pair, all_names}
-use Rattle.command_effects.proofs.Words.{total, with_names}
-use Rattle.std.proofs.Common.{Some}
-use Rattle.edit_ops.specs.Insertions as pieces
+use Rattle.command_effects.proofs.Common.{◌≡◌, ◌+◌, ◌<◌, ◌≤◌, List, sym, ap, length, subst, ◌∙◌, IfErr-weaker}
+use Rattle.command_effects.proofs.Common.{on_ok_weaker, state_in, names_of, Pair, all_names, total, with_names}
 use Rattle.edit_ops.specs.Insertions.{inserted_texts}
 use Rattle.undo_stack.specs.declared.actions.EditKind.TheVariants.{Insert}
 use Rattle.command_effects.proofs.ExcessLaws.{excess-chars, excess-few, excess-none, total-pieces}
+use Rattle.edit_ops.specs.Insertions as pieces
 use Rattle.command_effects.proofs.tagged_edits.put_pairs.Goals as goal
 
 pub returns-clause-made : goal.returns-clause-made
@@ -45,9 +43,7 @@ returns-clause-fault g c =
     let same : pieces.total c.in_ok-pieces.pieces.items ≡ total c.args.pairs.items =
     ap pieces.total c.in_ok-pieces.ensures.pieces
     ∙ total-pieces c.make_pieces.new.tags.tags c.args.own.0 c.args.pairs.items in
-    IfErr-weaker c.put_texts.result (λ fault. fault ≢ Memory →
-    (fault ≡ TextTooLong) × (c.args.rules.now.limits.now.chars < left + pieces.total c.in_ok-pieces.pieces.items))
-    (λ fault. fault ≢ Memory → excess c.args.rules.now.limits.now tags (left + total c.args.pairs.items) ≡ Some fault)
-    (λ fault why other. excess-chars c.args.rules.now.limits.now tags (left + total c.args.pairs.items) fault few
+    IfErr-weaker c.put_texts.result _ _ (λ fault why other.
+    excess-chars c.args.rules.now.limits.now tags (left + total c.args.pairs.items) fault few
     ((why other).0, subst (λ n. c.args.rules.now.limits.now.chars < left + n) same (why other).1))
     c.put_texts.ensures.fault

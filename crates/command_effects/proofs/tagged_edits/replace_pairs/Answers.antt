@@ -1,10 +1,9 @@
-use Rattle.command_effects.proofs.Words.{◌≡◌, ◌≢◌, ◌+◌, ◌<◌, ◌≤◌, List, sym, ap, length, subst, ◌∙◌, IfErr-weaker}
-use Rattle.command_effects.proofs.Words.{on_ok_weaker, state_in, names_of, Memory, TextTooLong, excess, length_replaced}
-use Rattle.command_effects.proofs.Words.{Pair, all_names, total, with_names}
-use Rattle.std.proofs.Common.{Some}
-use Rattle.edit_ops.specs.Insertions as pieces
+use Rattle.command_effects.proofs.Common.{◌≡◌, ◌+◌, ◌<◌, ◌≤◌, List, sym, ap, length, subst, ◌∙◌, IfErr-weaker}
+use Rattle.command_effects.proofs.Common.{on_ok_weaker, state_in, names_of, length_replaced, Pair, all_names, total}
+use Rattle.command_effects.proofs.Common.{with_names}
 use Rattle.edit_ops.specs.Removals.{replaced}
 use Rattle.command_effects.proofs.ExcessLaws.{excess-chars, excess-few, excess-none, total-pieces}
+use Rattle.edit_ops.specs.Insertions as pieces
 use Rattle.command_effects.proofs.tagged_edits.replace_pairs.Goals as goal
 
 pub returns-clause-made : goal.returns-clause-made
@@ -47,9 +46,7 @@ returns-clause-fault g c =
     let same : pieces.total c.in_ok-pieces.pieces.items ≡ total c.args.pairs.items =
     ap pieces.total c.in_ok-pieces.ensures.pieces
     ∙ total-pieces c.make_pieces.new.tags.tags c.args.own.0 c.args.pairs.items in
-    IfErr-weaker c.replace_texts.result (λ fault. fault ≢ Memory →
-    (fault ≡ TextTooLong) × (c.args.rules.now.limits.now.chars < left + pieces.total c.in_ok-pieces.pieces.items))
-    (λ fault. fault ≢ Memory → excess c.args.rules.now.limits.now tags (left + total c.args.pairs.items) ≡ Some fault)
-    (λ fault why other. excess-chars c.args.rules.now.limits.now tags (left + total c.args.pairs.items) fault few
+    IfErr-weaker c.replace_texts.result _ _ (λ fault why other.
+    excess-chars c.args.rules.now.limits.now tags (left + total c.args.pairs.items) fault few
     ((why other).0, subst (λ n. c.args.rules.now.limits.now.chars < left + n) same (why other).1))
     c.replace_texts.ensures.fault

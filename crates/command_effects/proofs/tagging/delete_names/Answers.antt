@@ -1,4 +1,4 @@
-use Rattle.command_effects.proofs.Words.{take, sym, ap, ◌∙◌, chars, deleted, Tags, texts_of, tags_left}
+use Rattle.command_effects.proofs.Common.{take, sym, ap, ◌∙◌, chars, deleted, Tags, texts_of, tags_left}
 use Rattle.command_effects.proofs.LeftLaws.{tags_left-more, tags_left-none}
 use Rattle.command_effects.proofs.SlotLaws.{texts-more}
 use Rattle.command_effects.proofs.tagging.delete_names.Goals as goal

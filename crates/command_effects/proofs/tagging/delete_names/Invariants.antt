@@ -1,4 +1,4 @@
-use Rattle.command_effects.proofs.Words.{◌≡◌, take, texts_of, tags_left}
+use Rattle.command_effects.proofs.Common.{◌≡◌, take, texts_of, tags_left}
 use Rattle.command_effects.proofs.tagging.delete_names.Given as goal
 
 abbrev pub invariant-loop-name : goal.invariant-loop-name

@@ -1,4 +1,4 @@
-use Rattle.command_effects.proofs.Words.{◌≡◌, ◌<◌, map, take, All, texts_of, slot_count, TagSlot, slots_deleted}
+use Rattle.command_effects.proofs.Common.{◌≡◌, ◌<◌, map, take, All, texts_of, slot_count, TagSlot, slots_deleted}
 use Rattle.command_effects.proofs.tagging.deleted_slots.Given as goal
 
 abbrev pub invariant-loop-name : goal.invariant-loop-name

@@ -1,6 +1,5 @@
-use Rattle.command_effects.proofs.Words.{ap, sym, ◌∙◌, subst, arith, ◌+◌, ◌<◌, ◌++◌, ◌∷◌, [], length, map, map-append}
-use Rattle.command_effects.proofs.Words.{names_of, all_names, listed_names, with_names, piece_of}
-use Rattle.std.proofs.Common.{append_assoc}
+use Rattle.command_effects.proofs.Common.{ap, sym, ◌∙◌, subst, arith, ◌+◌, ◌<◌, ◌++◌, ◌∷◌, [], length, map, map-append}
+use Rattle.command_effects.proofs.Common.{names_of, all_names, listed_names, with_names, piece_of, append_assoc}
 use Rattle.command_effects.proofs.MadeLaws.{front_on, listed-push, too_many_before}
 use Rattle.command_effects.proofs.tagging.make_listed_pieces.Goals as goal
 

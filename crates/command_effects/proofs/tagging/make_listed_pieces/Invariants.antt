@@ -1,4 +1,4 @@
-use Rattle.command_effects.proofs.Words.{◌≡◌, ◌++◌, map, Tags, names_of, with_names, all_names, IsFront, piece_of}
+use Rattle.command_effects.proofs.Common.{◌≡◌, ◌++◌, map, Tags, names_of, with_names, all_names, IsFront, piece_of}
 use Rattle.command_effects.proofs.tagging.make_listed_pieces.Given as goal
 
 abbrev pub invariant-loop-pair : goal.invariant-loop-pair

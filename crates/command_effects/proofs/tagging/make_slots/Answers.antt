@@ -1,9 +1,9 @@
-use Rattle.command_effects.proofs.Words.{ap, sym, ◌∙◌, arith, ◌+◌, length, take, chars, names_of, texts_of, with_name}
-use Rattle.command_effects.proofs.Words.{own_slot, slots_named, with_found}
-use Rattle.std.specs.FinSet as set
+use Rattle.command_effects.proofs.Common.{ap, sym, ◌∙◌, arith, ◌+◌, length, take, chars, names_of, texts_of, with_name}
+use Rattle.command_effects.proofs.Common.{own_slot, slots_named, with_found}
 use Rattle.std.specs.Option.{option_map}
 use Rattle.command_effects.proofs.MadeLaws.{front_on, slot_of-front, too_many, with_names-step}
 use Rattle.command_effects.proofs.SlotLaws.{slots_named-step}
+use Rattle.std.specs.FinSet as set
 use Rattle.command_effects.proofs.tagging.make_slots.Goals as goal
 
 pub returns-in-Err-clause-fault : goal.returns-in-Err-clause-fault

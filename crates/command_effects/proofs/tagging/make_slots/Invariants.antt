@@ -1,4 +1,4 @@
-use Rattle.command_effects.proofs.Words.{◌≡◌, take, Tags, names_of, texts_of, with_names, IsFront, slots_named}
+use Rattle.command_effects.proofs.Common.{◌≡◌, take, Tags, names_of, texts_of, with_names, IsFront, slots_named}
 use Rattle.command_effects.proofs.tagging.make_slots.Given as goal
 
 abbrev pub invariant-loop-name : goal.invariant-loop-name

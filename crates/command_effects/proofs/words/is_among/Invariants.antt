@@ -1,5 +1,4 @@
-use Rattle.command_effects.proofs.Words.{◌≡◌, drop, texts_of, is_among}
-use Rattle.std.proofs.Common.{chars}
+use Rattle.command_effects.proofs.Common.{◌≡◌, drop, texts_of, is_among, chars}
 use Rattle.command_effects.proofs.words.is_among.Given as goal
 
 abbrev pub invariant-loop-other : goal.invariant-loop-other

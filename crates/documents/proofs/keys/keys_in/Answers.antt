@@ -1,5 +1,5 @@
-use Rattle.documents.proofs.Words.{◌++◌, map, filter, ◌∙◌, ap, sym, is_shared, key_pairs, keys_listed, seat_pair}
-use Rattle.documents.proofs.Words.{tag_pair}
+use Rattle.documents.proofs.Common.{◌++◌, map, filter, ◌∙◌, ap, sym, is_shared, key_pairs, keys_listed, seat_pair}
+use Rattle.documents.proofs.Common.{tag_pair}
 use Rattle.documents.proofs.KeyListLaws.{listed-append, listed-none}
 use Rattle.documents.proofs.keys.keys_in.Goals as goal
 

@@ -1,10 +1,10 @@
-use Rattle.documents.proofs.Words.{◌≡◌, ◌+◌, sym, subst, ap, ◌∙◌, chars, string_bytes, take, true, contains_text}
-use Rattle.documents.proofs.Words.{texts_of, key_named, keys_named, AreKeysOf}
+use Rattle.documents.proofs.Common.{◌≡◌, ◌+◌, sym, subst, ap, ◌∙◌, chars, string_bytes, take, true, contains_text}
+use Rattle.documents.proofs.Common.{texts_of, key_named, keys_named, AreKeysOf}
 use Rattle.std.proofs.lemmas.Map.Text.{btree_set_updates_text}
 use Rattle.documents.proofs.KeyListLaws.{keys-in, keys-out, spelled-more}
 use Rattle.documents.proofs.MarksToldLaws.{not-false, not-true}
-use Rattle.documents.proofs.keys.keys_named.Goals as goal
 use Rattle.documents.proofs.keys.keys_named.Goals.{then-branch+in_ok-named+in_ok-push, else-branch}
+use Rattle.documents.proofs.keys.keys_named.Goals as goal
 
 pub loop-name-preserved : goal.loop-name-preserved
 loop-name-preserved c =

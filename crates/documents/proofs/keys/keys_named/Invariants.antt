@@ -1,4 +1,4 @@
-use Rattle.documents.proofs.Words.{◌≡◌, ℕ, List, chars, take, contains_text, texts_of, keys_named, AreKeysOf}
+use Rattle.documents.proofs.Common.{◌≡◌, ℕ, List, chars, take, contains_text, texts_of, keys_named, AreKeysOf}
 use Rattle.documents.proofs.KeyListLaws.{is_spelled}
 use Rattle.documents.proofs.keys.keys_named.Given as goal
 

@@ -1,7 +1,7 @@
-use Rattle.documents.proofs.Words.{ap, ◌∙◌, chars}
+use Rattle.documents.proofs.Common.{ap, ◌∙◌, chars}
 use Rattle.documents.proofs.KeyListLaws.{selection-in, selection-out}
-use Rattle.documents.proofs.keys.push_selections.Goals as goal
 use Rattle.documents.proofs.keys.push_selections.Goals.{then-has+in_ok-new+in_ok-push, else-has}
+use Rattle.documents.proofs.keys.push_selections.Goals as goal
 
 pub loop-place-preserved : goal.loop-place-preserved
 loop-place-preserved c =

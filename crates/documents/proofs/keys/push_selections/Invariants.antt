@@ -1,4 +1,4 @@
-use Rattle.documents.proofs.Words.{◌≡◌, ◌++◌, map, take, keys_listed, seat_pair}
+use Rattle.documents.proofs.Common.{◌≡◌, ◌++◌, map, take, keys_listed, seat_pair}
 use Rattle.documents.proofs.keys.push_selections.Given as goal
 
 abbrev pub invariant-loop-place : goal.invariant-loop-place

@@ -1,9 +1,9 @@
-use Rattle.documents.proofs.Words.{ap, ◌∙◌, chars, is_same}
+use Rattle.documents.proofs.Common.{ap, ◌∙◌, chars, is_same}
 use Rattle.documents.proofs.KeyListLaws.{own-out, sel-is, shared-in, shared-out}
-use Rattle.documents.proofs.keys.push_tags.Goals as goal
 use Rattle.documents.proofs.keys.push_tags.Goals.{then-not-is_word+then-has+in_ok-new+in_ok-push, else-not-is_word}
 use Rattle.documents.proofs.keys.push_tags.Goals.{else-not-is_word-via-then-not-is_word+else-has}
 use Rattle.documents.proofs.keys.push_tags.Goals.{else-not-is_word-via-else-not-is_word}
+use Rattle.documents.proofs.keys.push_tags.Goals as goal
 
 pub loop-place-preserved : goal.loop-place-preserved
 loop-place-preserved c =

@@ -1,4 +1,4 @@
-use Rattle.documents.proofs.Words.{◌≡◌, ◌++◌, filter, map, take, is_shared, keys_listed, tag_pair}
+use Rattle.documents.proofs.Common.{◌≡◌, ◌++◌, filter, map, take, is_shared, keys_listed, tag_pair}
 use Rattle.documents.proofs.keys.push_tags.Given as goal
 
 abbrev pub invariant-loop-place : goal.invariant-loop-place

@@ -1,7 +1,7 @@
-use Rattle.documents.proofs.Words.{ap₂, ◌∙◌, with_found}
+use Rattle.documents.proofs.Common.{ap₂, ◌∙◌, with_found}
 use Rattle.command_effects.proofs.SlotLaws.{slots_named-step}
-use Rattle.documents.proofs.keys.slots_named.Goals as goal
 use Rattle.documents.proofs.keys.slots_named.Goals.{in-Some, in_default}
+use Rattle.documents.proofs.keys.slots_named.Goals as goal
 
 pub loop-name-preserved : goal.loop-name-preserved
 loop-name-preserved c =

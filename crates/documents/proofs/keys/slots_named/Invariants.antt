@@ -1,4 +1,4 @@
-use Rattle.documents.proofs.Words.{◌≡◌, take, texts_of, slots_named}
+use Rattle.documents.proofs.Common.{◌≡◌, take, texts_of, slots_named}
 use Rattle.documents.proofs.keys.slots_named.Given as goal
 
 abbrev pub invariant-loop-name : goal.invariant-loop-name

@@ -1,4 +1,4 @@
-use Rattle.documents.proofs.Words.{arith, length-map, Cell}
+use Rattle.documents.proofs.Common.{arith, length-map, Cell}
 use Rattle.text_model.specs.Content.{characters}
 use Rattle.documents.proofs.WidgetLaws.{line-short}
 use Rattle.documents.proofs.options.line_at.Goals as goal

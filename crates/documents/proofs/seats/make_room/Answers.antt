@@ -1,5 +1,5 @@
-use Rattle.documents.proofs.Words.{◌+◌, ◌++◌, ◌∷◌, [], length, ap, ◌∙◌, arith, replicate, length-append, replicate_more}
-use Rattle.std.proofs.lemmas.List.{append_assoc}
+use Rattle.documents.proofs.Common.{◌+◌, ◌++◌, ◌∷◌, [], length, ap, ◌∙◌, arith, replicate, length-append}
+use Rattle.documents.proofs.Common.{replicate_more, append_assoc}
 use Rattle.documents.proofs.seats.make_room.Goals as goal
 
 pub loop-preserved : goal.loop-preserved

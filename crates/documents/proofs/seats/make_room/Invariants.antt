@@ -1,4 +1,4 @@
-use Rattle.documents.proofs.Words.{◌≤◌, length, IsLonger}
+use Rattle.documents.proofs.Common.{◌≤◌, length, IsLonger}
 use Rattle.documents.proofs.seats.make_room.Given as goal
 
 abbrev pub invariant-loop : goal.invariant-loop

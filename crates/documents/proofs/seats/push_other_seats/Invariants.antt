@@ -1,5 +1,4 @@
-use Rattle.documents.proofs.Words.{is_same, Goes}
-use Rattle.std.specs.Prelude.{chars, filter, not, string_bytes, take}
+use Rattle.documents.proofs.Common.{is_same, Goes, chars, filter, not, string_bytes, take}
 use Rattle.name_list.specs.Names.{names_of}
 use Rattle.documents.proofs.seats.push_other_seats.Given as goal
 

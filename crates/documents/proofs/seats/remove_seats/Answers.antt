@@ -1,4 +1,4 @@
-use Rattle.documents.proofs.Words.{sym, ap, ◌∙◌, chars, Names, texts_of}
+use Rattle.documents.proofs.Common.{sym, ap, ◌∙◌, chars, Names, texts_of}
 use Rattle.documents.proofs.SeatLaws.{left_from, left-kept, left-removed}
 use Rattle.documents.proofs.seats.remove_seats.Goals as goal
 

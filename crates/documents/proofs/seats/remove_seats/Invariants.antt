@@ -1,4 +1,4 @@
-use Rattle.documents.proofs.Words.{◌≡◌, ◌-◌, length, texts_of, seats_left}
+use Rattle.documents.proofs.Common.{◌≡◌, ◌-◌, length, texts_of, seats_left}
 use Rattle.documents.proofs.SeatLaws.{left_from}
 use Rattle.documents.proofs.seats.remove_seats.Given as goal
 

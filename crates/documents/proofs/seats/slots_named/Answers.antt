@@ -1,9 +1,9 @@
-use Rattle.documents.proofs.Words.{◌≡◌, ◌+◌, ◌++◌, ◌∷◌, ◌<◌, List, [], arith, map, take, subst, sym, ap, ◌∙◌, chars}
-use Rattle.documents.proofs.Words.{All, map-append, All-append, All-cons, All-nil, texts_of, TagSlot, MOST_WIDGETS}
-use Rattle.documents.proofs.Words.{numbers_gone}
+use Rattle.documents.proofs.Common.{◌≡◌, ◌+◌, ◌++◌, ◌∷◌, ◌<◌, List, [], arith, map, take, subst, sym, ap, ◌∙◌, chars}
+use Rattle.documents.proofs.Common.{All, map-append, All-append, All-cons, All-nil, texts_of, TagSlot, MOST_WIDGETS}
+use Rattle.documents.proofs.Common.{numbers_gone}
 use Rattle.documents.proofs.SeatLaws.{gone-in, gone-out}
-use Rattle.documents.proofs.seats.slots_named.Goals as goal
 use Rattle.documents.proofs.seats.slots_named.Goals.{then-is_among+in_ok-push, else-is_among}
+use Rattle.documents.proofs.seats.slots_named.Goals as goal
 
 pub loop-place-preserved : goal.loop-place-preserved
 loop-place-preserved c =

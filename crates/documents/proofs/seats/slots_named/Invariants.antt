@@ -1,6 +1,5 @@
-use Rattle.documents.proofs.Words.{◌≡◌, map, take, texts_of, TagSlot, numbers_gone, All, MOST_WIDGETS}
+use Rattle.documents.proofs.Common.{◌≡◌, map, take, texts_of, TagSlot, numbers_gone, All, MOST_WIDGETS, ◌<◌}
 use Rattle.documents.proofs.seats.slots_named.Given as goal
-use Rattle.std.specs.Prelude.{◌<◌}
 
 abbrev pub invariant-loop-place : goal.invariant-loop-place
 invariant-loop-place l =

@@ -1,4 +1,4 @@
-use Rattle.documents.proofs.Words.{◌<◌, length, sym, ◌∙◌, arith, chars, nat_tests, texts_of, seats_left}
+use Rattle.documents.proofs.Common.{◌<◌, length, sym, ◌∙◌, arith, chars, nat_tests, texts_of, seats_left}
 use Rattle.documents.proofs.SeatLaws.{left-out, left-some}
 use Rattle.documents.proofs.seats.some_left.Goals as goal
 

@@ -1,4 +1,4 @@
-use Rattle.documents.proofs.Words.{◌≡◌, take, [], texts_of, seats_left}
+use Rattle.documents.proofs.Common.{◌≡◌, take, [], texts_of, seats_left}
 use Rattle.documents.proofs.seats.some_left.Given as goal
 
 abbrev pub invariant-loop-place : goal.invariant-loop-place

@@ -1,4 +1,4 @@
-use Rattle.documents.proofs.Words.{◌^◌, ◌<◌, arith, sum_by_more_le}
+use Rattle.documents.proofs.Common.{◌^◌, ◌<◌, arith, sum_by_more_le}
 use Rattle.documents.proofs.SpanToldLaws.{apart-at, counted, long}
 use Rattle.documents.proofs.tags_told.count_in.Goals as goal
 

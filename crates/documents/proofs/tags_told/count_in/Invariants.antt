@@ -1,4 +1,4 @@
-use Rattle.documents.proofs.Words.{◌≡◌, take, sum_by}
+use Rattle.documents.proofs.Common.{◌≡◌, take, sum_by}
 use Rattle.documents.proofs.SpanToldLaws.{long}
 use Rattle.documents.proofs.tags_told.count_in.Given as goal
 

@@ -1,5 +1,5 @@
-use Rattle.documents.proofs.Words.{◌≡◌, None, sym, subst, ap, ◌∙◌, chars, option_map, IfOk-weaker, texts_of, Pair}
-use Rattle.documents.proofs.Words.{keys_or, keys_named, keys_of, key_pairs, AreKeysOf}
+use Rattle.documents.proofs.Common.{◌≡◌, None, sym, subst, ap, ◌∙◌, chars, option_map, IfOk-weaker, texts_of, Pair}
+use Rattle.documents.proofs.Common.{keys_or, keys_named, keys_of, key_pairs, AreKeysOf}
 use Rattle.documents.proofs.TagsToldLaws.{keys-listed}
 use Rattle.documents.proofs.tags_told.keys_of_pair.Goals as goal
 

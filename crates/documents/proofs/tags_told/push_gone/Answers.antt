@@ -1,8 +1,8 @@
-use Rattle.documents.proofs.Words.{◌≡◌, None, Some, false, sym, subst, ◌∙◌, chars, on_ok_weaker, flags, TellsSpan}
+use Rattle.documents.proofs.Common.{◌≡◌, None, Some, false, sym, subst, ◌∙◌, chars, on_ok_weaker, flags, TellsSpan}
 use Rattle.documents.proofs.GoneLaws.{found-as, gone-more, gone-seen, gone-selection, gone-unknown}
-use Rattle.documents.proofs.tags_told.push_gone.Goals as goal
 use Rattle.documents.proofs.tags_told.push_gone.Goals.{then-slot-eq0-via-then-slot-eq0}
 use Rattle.documents.proofs.tags_told.push_gone.Goals.{then-slot-eq0-via-else-slot-eq0+then-has}
+use Rattle.documents.proofs.tags_told.push_gone.Goals as goal
 
 pub returns-in_default : goal.returns-in_default
 returns-in_default g c = λ seats names seated gone.

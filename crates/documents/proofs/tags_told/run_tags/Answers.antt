@@ -1,4 +1,4 @@
-use Rattle.documents.proofs.Words.{◌∙◌, key_pairs}
+use Rattle.documents.proofs.Common.{◌∙◌, key_pairs}
 use Rattle.documents.proofs.KeyListLaws.{slot_changes-more}
 use Rattle.documents.proofs.tags_told.run_tags.Goals as goal
 

@@ -1,4 +1,4 @@
-use Rattle.documents.proofs.Words.{◌≡◌, take, key_pairs, slot_changes}
+use Rattle.documents.proofs.Common.{◌≡◌, take, key_pairs, slot_changes}
 use Rattle.documents.proofs.tags_told.run_tags.Given as goal
 
 abbrev pub invariant-loop-run : goal.invariant-loop-run

@@ -1,4 +1,4 @@
-use Rattle.documents.proofs.Words.{subst, take, take_all, texts_of, AreGone}
+use Rattle.documents.proofs.Common.{subst, take, take_all, texts_of, AreGone}
 use Rattle.documents.proofs.GoneLaws.{gone-none, names-more}
 use Rattle.documents.proofs.tags_told.tell_gone.Goals as goal
 

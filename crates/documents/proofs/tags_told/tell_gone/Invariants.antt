@@ -1,4 +1,4 @@
-use Rattle.documents.proofs.Words.{List, take, Named, texts_of, AreSeats, AreGone}
+use Rattle.documents.proofs.Common.{List, take, Named, texts_of, AreSeats, AreGone}
 use Rattle.documents.proofs.tags_told.tell_gone.Given as goal
 
 abbrev pub invariant-loop-name : goal.invariant-loop-name

@@ -1,4 +1,4 @@
-use Rattle.documents.proofs.Words.{ap, Pair}
+use Rattle.documents.proofs.Common.{ap, Pair}
 use Rattle.documents.proofs.ToldLaws.{texts-more}
 use Rattle.documents.proofs.told.push_texts.Goals as goal
 

@@ -1,4 +1,4 @@
-use Rattle.documents.proofs.Words.{◌≡◌, ◌++◌, putting}
+use Rattle.documents.proofs.Common.{◌≡◌, ◌++◌, putting}
 use Rattle.documents.proofs.PairTagLaws.{texts_of}
 use Rattle.documents.proofs.told.push_texts.Given as goal
 

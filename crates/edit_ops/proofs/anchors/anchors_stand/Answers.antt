@@ -1,5 +1,4 @@
-use Rattle.edit_ops.proofs.Words.{rules, subst, All, All-more, AnchorsStand}
-use Rattle.std.proofs.Common.{take_all}
+use Rattle.edit_ops.proofs.Common.{rules, subst, All, All-more, AnchorsStand, take_all}
 use Rattle.edit_ops.proofs.anchors.anchors_stand.Goals as goal
 
 pub loop-anchors-preserved : goal.loop-anchors-preserved

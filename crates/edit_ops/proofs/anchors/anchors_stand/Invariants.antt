@@ -1,4 +1,4 @@
-use Rattle.edit_ops.proofs.Words.{take, All, AnchorsStand}
+use Rattle.edit_ops.proofs.Common.{take, All, AnchorsStand}
 use Rattle.edit_ops.proofs.anchors.anchors_stand.Given as goal
 
 abbrev pub invariant-loop-anchors : goal.invariant-loop-anchors

@@ -1,4 +1,4 @@
-use Rattle.edit_ops.proofs.Words.{anchors_drawn}
+use Rattle.edit_ops.proofs.Common.{anchors_drawn}
 use Rattle.edit_ops.proofs.AnchorLaws.{one_more}
 use Rattle.edit_ops.proofs.anchors.draw_anchors.Goals as goal
 

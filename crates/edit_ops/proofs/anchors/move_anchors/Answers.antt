@@ -1,4 +1,4 @@
-use Rattle.edit_ops.proofs.Words.{anchors_moved}
+use Rattle.edit_ops.proofs.Common.{anchors_moved}
 use Rattle.edit_ops.proofs.AnchorLaws.{stands_yet, one_more}
 use Rattle.edit_ops.proofs.anchors.move_anchors.Goals as goal
 

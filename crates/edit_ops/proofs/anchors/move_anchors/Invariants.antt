@@ -1,4 +1,4 @@
-use Rattle.edit_ops.proofs.Words.{◌≡◌, ◌++◌, map, take, drop, anchors_moved}
+use Rattle.edit_ops.proofs.Common.{◌≡◌, ◌++◌, map, take, drop, anchors_moved}
 use Rattle.edit_ops.proofs.anchors.move_anchors.Given as goal
 
 abbrev pub invariant-loop-anchors : goal.invariant-loop-anchors

@@ -1,4 +1,4 @@
-use Rattle.edit_ops.proofs.Words.{length, characters}
+use Rattle.edit_ops.proofs.Common.{length, characters}
 use Rattle.edit_ops.proofs.RunLaws.{apart-wider}
 use Rattle.edit_ops.proofs.DeleteLaws.{runs-left}
 use Rattle.edit_ops.proofs.deletions.deleted_runs.Goals as goal

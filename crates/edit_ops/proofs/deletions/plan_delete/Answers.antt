@@ -1,4 +1,4 @@
-use Rattle.edit_ops.proofs.Words.{log_of}
+use Rattle.edit_ops.proofs.Common.{log_of}
 use Rattle.edit_ops.proofs.deletions.plan_delete.Goals as goal
 
 pub prepare-requires : goal.prepare-requires

@@ -1,11 +1,10 @@
-use Rattle.edit_ops.proofs.Words.{◌-◌, ◌<◌, length, get_or, ap, sym, ◌∙◌, arith, nat_lt, eqb-true, eqb-false}
-use Rattle.edit_ops.proofs.Words.{get_or_default, characters, is_newline, Span, AreApart}
-use Rattle.std.specs.Prelude.{◌&&◌}
+use Rattle.edit_ops.proofs.Common.{◌-◌, ◌<◌, length, get_or, ap, sym, ◌∙◌, arith, nat_lt, eqb-true, eqb-false}
+use Rattle.edit_ops.proofs.Common.{get_or_default, characters, is_newline, Span, AreApart, ◌&&◌}
 use Rattle.edit_ops.proofs.RunLaws.{apart-short, last-out, none-spared, spared-is}
-use Rattle.edit_ops.proofs.deletions.spare_shown.Goals as goal
-use Rattle.edit_ops.proofs.deletions.spare_shown.Given as given
 use Rattle.edit_ops.proofs.deletions.spare_shown.Goals.{then-is_empty-via-then-is_empty}
 use Rattle.edit_ops.proofs.deletions.spare_shown.Goals.{then-is_empty-via-else-is_empty+then-index-end}
+use Rattle.edit_ops.proofs.deletions.spare_shown.Goals as goal
+use Rattle.edit_ops.proofs.deletions.spare_shown.Given as given
 
 -- the runs end before the last character that is shown
 ends : (g : given.Over) (c : goal.Joined-then-is_empty g) → AreApart c.args.end c.args.runs.now.items

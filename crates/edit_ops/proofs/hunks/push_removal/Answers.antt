@@ -1,4 +1,4 @@
-use Rattle.edit_ops.proofs.Words.{◌≡◌, ◌<◌, [], arith, ap, ◌∙◌, chars, chars-nil}
+use Rattle.edit_ops.proofs.Common.{◌≡◌, ◌<◌, [], arith, ap, ◌∙◌, chars, chars-nil}
 use Rattle.edit_ops.proofs.HunkLaws.{one-removal-more}
 use Rattle.edit_ops.proofs.hunks.push_removal.Goals as goal
 

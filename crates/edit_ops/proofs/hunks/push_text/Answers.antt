@@ -1,5 +1,5 @@
-use Rattle.edit_ops.proofs.Words.{◌≡◌, ◌≢◌, [], length, ap, sym, ◌∙◌, chars, encode_utf8_all, eqb-true, eqb-false}
-use Rattle.edit_ops.proofs.Words.{nil_from_length, chars-nil}
+use Rattle.edit_ops.proofs.Common.{◌≡◌, ◌≢◌, [], length, ap, sym, ◌∙◌, chars, encode_utf8_all, eqb-true, eqb-false}
+use Rattle.edit_ops.proofs.Common.{nil_from_length, chars-nil}
 use Rattle.edit_ops.proofs.HunkLaws.{none-more, one-more}
 use Rattle.edit_ops.proofs.hunks.push_text.Goals as goal
 

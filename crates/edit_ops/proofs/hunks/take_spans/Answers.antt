@@ -1,4 +1,4 @@
-use Rattle.edit_ops.proofs.Words.{◌≡◌, [], ◌∷◌, ◌++◌, ap, ap₂, sym, ◌∙◌, chars, map-append, chars-nil, Span}
+use Rattle.edit_ops.proofs.Common.{◌≡◌, [], ◌∷◌, ◌++◌, ap, ap₂, sym, ◌∙◌, chars, map-append, chars-nil, Span}
 use Rattle.edit_ops.proofs.HunkLaws.{taken}
 use Rattle.edit_ops.proofs.hunks.take_spans.Goals as goal
 

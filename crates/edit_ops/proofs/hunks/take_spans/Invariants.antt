@@ -1,4 +1,4 @@
-use Rattle.edit_ops.proofs.Words.{◌≡◌, [], map, Span}
+use Rattle.edit_ops.proofs.Common.{◌≡◌, [], map, Span}
 use Rattle.edit_ops.proofs.hunks.take_spans.Given as goal
 
 abbrev pub invariant-loop-span : goal.invariant-loop-span

@@ -1,4 +1,4 @@
-use Rattle.edit_ops.proofs.Words.{◌≡◌, ◌-◌, ◌^◌, take, min, total_bytes}
+use Rattle.edit_ops.proofs.Common.{◌≡◌, ◌-◌, ◌^◌, take, min, total_bytes}
 use Rattle.edit_ops.proofs.insertions.bytes_of.Given as goal
 
 abbrev pub invariant-loop-piece : goal.invariant-loop-piece

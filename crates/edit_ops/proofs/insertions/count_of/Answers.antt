@@ -1,4 +1,4 @@
-use Rattle.edit_ops.proofs.Words.{rules, chars_from_encodes}
+use Rattle.edit_ops.proofs.Common.{rules, chars_from_encodes}
 use Rattle.edit_ops.proofs.insertions.count_of.Goals as goal
 
 pub returns : goal.returns

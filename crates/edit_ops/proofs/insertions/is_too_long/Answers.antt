@@ -1,4 +1,4 @@
-use Rattle.edit_ops.proofs.Words.{◌+◌, ◌≤◌, arith, nat_tests, total}
+use Rattle.edit_ops.proofs.Common.{◌+◌, ◌≤◌, arith, nat_tests, total}
 use Rattle.edit_ops.proofs.InsertLaws.{total-in-bytes}
 use Rattle.edit_ops.proofs.insertions.is_too_long.Goals as goal
 

@@ -1,4 +1,4 @@
-use Rattle.edit_ops.proofs.Words.{◌≡◌, false, take, needs_shared}
+use Rattle.edit_ops.proofs.Common.{◌≡◌, false, take, needs_shared}
 use Rattle.edit_ops.proofs.insertions.needs_shared.Given as goal
 
 abbrev pub invariant-loop-piece : goal.invariant-loop-piece

@@ -1,6 +1,6 @@
-use Rattle.edit_ops.proofs.Words.{◌≡◌, true, arith, ap, sym, ◌∙◌, needs_shared}
-use Rattle.std.specs.FinSet as set
+use Rattle.edit_ops.proofs.Common.{◌≡◌, true, arith, ap, sym, ◌∙◌, needs_shared}
 use Rattle.edit_ops.proofs.InsertLaws.{put-in, around-is, behind-is}
+use Rattle.std.specs.FinSet as set
 use Rattle.edit_ops.proofs.insertions.outline_insert.Goals as goal
 
 pub returns-clause-makes : goal.returns-clause-makes

@@ -1,4 +1,4 @@
-use Rattle.edit_ops.proofs.Words.{◌+◌, ◌<◌, ◌^◌, refl, subst, sym, ◌∙◌, ltb-false, ltb-true, total, log_of}
+use Rattle.edit_ops.proofs.Common.{◌+◌, ◌<◌, ◌^◌, refl, subst, sym, ◌∙◌, ltb-false, ltb-true, total, log_of}
 use Rattle.undo_stack.specs.declared.actions.EditKind.TheVariants.{Insert}
 use Rattle.edit_ops.proofs.ReplaceLaws.{no-longer}
 use Rattle.edit_ops.proofs.insertions.plan_insert.Goals as goal

@@ -1,4 +1,4 @@
-use Rattle.edit_ops.proofs.Words.{◌≡◌, ◌-◌, ◌^◌, take, min, total}
+use Rattle.edit_ops.proofs.Common.{◌≡◌, ◌-◌, ◌^◌, take, min, total}
 use Rattle.edit_ops.proofs.insertions.total_of.Given as goal
 
 abbrev pub invariant-loop-piece : goal.invariant-loop-piece

@@ -1,4 +1,4 @@
-use Rattle.edit_ops.proofs.Words.{◌++◌, ◌/◌}
+use Rattle.edit_ops.proofs.Common.{◌++◌, ◌/◌}
 use Rattle.edit_ops.proofs.OrderLaws.{both-halves, alike-trans}
 use Rattle.edit_ops.proofs.orders.+sorted.Goals as goal
 

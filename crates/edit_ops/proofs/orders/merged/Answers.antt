@@ -1,4 +1,4 @@
-use Rattle.edit_ops.proofs.Words.{◌++◌, refl, steps_in}
+use Rattle.edit_ops.proofs.Common.{◌++◌, refl, steps_in}
 use Rattle.edit_ops.proofs.OrderLaws.{one-more, no-more}
 use Rattle.edit_ops.proofs.orders.merged.Goals as goal
 

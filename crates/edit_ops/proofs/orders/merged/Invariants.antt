@@ -1,4 +1,4 @@
-use Rattle.edit_ops.proofs.Words.{◌+◌, ◌++◌, length, AreAlike, AreWatched, steps_in}
+use Rattle.edit_ops.proofs.Common.{◌+◌, ◌++◌, length, AreAlike, AreWatched, steps_in}
 use Rattle.edit_ops.proofs.orders.merged.Given as goal
 
 abbrev pub invariant-loop-step : goal.invariant-loop-step

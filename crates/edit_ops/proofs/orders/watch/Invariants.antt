@@ -1,4 +1,4 @@
-use Rattle.edit_ops.proofs.Words.{◌≡◌, ◌++◌, length, AreWatched, steps_in}
+use Rattle.edit_ops.proofs.Common.{◌≡◌, ◌++◌, length, AreWatched, steps_in}
 use Rattle.edit_ops.proofs.orders.watch.Given as goal
 
 abbrev pub invariant-loop-step : goal.invariant-loop-step

@@ -1,4 +1,4 @@
-use Rattle.edit_ops.proofs.Words.{drop, sym, arith, subst, drop_all, part_hunks, AreHunks}
+use Rattle.edit_ops.proofs.Common.{drop, sym, arith, subst, drop_all, part_hunks, AreHunks}
 use Rattle.edit_ops.proofs.PartHunkLaws.{hunks-end, parts-stand, parts-written}
 use Rattle.edit_ops.proofs.part_hunks.hunks_of.Goals as goal
 

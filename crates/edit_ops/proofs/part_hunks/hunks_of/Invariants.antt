@@ -1,4 +1,4 @@
-use Rattle.edit_ops.proofs.Words.{◌≡◌, ◌++◌, drop, part_hunks}
+use Rattle.edit_ops.proofs.Common.{◌≡◌, ◌++◌, drop, part_hunks}
 use Rattle.edit_ops.proofs.part_hunks.hunks_of.Given as goal
 
 abbrev pub invariant-loop-part : goal.invariant-loop-part

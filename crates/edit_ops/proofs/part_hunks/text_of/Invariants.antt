@@ -1,4 +1,4 @@
-use Rattle.edit_ops.proofs.Words.{◌≡◌, take, chars, string_bytes}
+use Rattle.edit_ops.proofs.Common.{◌≡◌, take, chars, string_bytes}
 use Rattle.edit_ops.proofs.part_hunks.text_of.Given as goal
 
 abbrev pub invariant-loop-character : goal.invariant-loop-character

@@ -1,4 +1,4 @@
-use Rattle.edit_ops.proofs.Words.{◌≡◌, ◌+◌, ◌≤◌, true, length, all_noted, log_of}
+use Rattle.edit_ops.proofs.Common.{◌≡◌, ◌+◌, ◌≤◌, true, length, all_noted, log_of}
 use Rattle.edit_ops.proofs.plans.note_all.Given as goal
 
 abbrev pub invariant-loop : goal.invariant-loop

@@ -1,6 +1,5 @@
-use Rattle.edit_ops.proofs.Words.{◌≡◌, ◌+◌, ◌-◌, ◌<◌, ◌^◌, length, ap, ap₂, refl, subst, sym, ◌∙◌, ltb-false, ltb-true}
-use Rattle.edit_ops.proofs.Words.{total, replaced_span, log_of, state_of}
-use Rattle.std.proofs.Common.{min}
+use Rattle.edit_ops.proofs.Common.{◌≡◌, ◌+◌, ◌-◌, ◌<◌, ◌^◌, length, ap, ap₂, refl, subst, sym, ◌∙◌, ltb-false, ltb-true}
+use Rattle.edit_ops.proofs.Common.{total, replaced_span, log_of, state_of, min}
 use Rattle.edit_ops.proofs.ReplaceLaws.{no-longer}
 use Rattle.edit_ops.proofs.replacements.plan_replace.Goals as goal
 

@@ -1,4 +1,4 @@
-use Rattle.edit_ops.proofs.Words.{arith}
+use Rattle.edit_ops.proofs.Common.{arith}
 use Rattle.edit_ops.proofs.CursorTextLaws.{put-cells, put-fits, put-makes}
 use Rattle.edit_ops.proofs.replaying.put_text.Goals as goal
 
@@ -6,32 +6,26 @@ pub seek-requires-clause-within : goal.seek-requires-clause-within
 seek-requires-clause-within g c =
     let fits = put-fits (g.S.TextStore.content c.args.store.now) c.args.cursor.now c.args.limit c.args.at
     c.args.text.now c.requires.stands c.requires.fits in
-    let inside = fits.0 in
-    omega (arith, inside)
+    omega (arith, fits.0)
 
 pub shared-slots-requires-clause-within : goal.shared-slots-requires-clause-within
 shared-slots-requires-clause-within g c =
     let fits = put-fits (g.S.TextStore.content c.args.store.now) c.args.cursor.now c.args.limit c.args.at
     c.args.text.now c.requires.stands c.requires.fits in
-    let inside = fits.0 in let there = c.in_ok-seek.ensures.there in let len = c.in_ok-seek.ensures.moves.len in
-    omega (arith, inside, there, len)
+    omega (arith, fits.0, c.in_ok-seek.ensures.there, c.in_ok-seek.ensures.moves.len)
 
 pub put-requires-clause-fits : goal.put-requires-clause-fits
 put-requires-clause-fits g c =
     let fits = put-fits (g.S.TextStore.content c.args.store.now) c.args.cursor.now c.args.limit c.args.at
     c.args.text.now c.requires.stands c.requires.fits in
-    let short = fits.1 in let len = c.in_ok-seek.ensures.moves.len in let counted = c.count_of-count.ensures in
-    let bound = c.ranges.limit.fits in
-    omega (arith, short, len, counted, bound)
+    omega (arith, fits.1, c.in_ok-seek.ensures.moves.len, c.count_of-count.ensures, c.ranges.limit.fits)
 
 pub returns-clause-makes : goal.returns-clause-makes
 returns-clause-makes g c =
-    put-makes (g.S.TextStore.content c.args.store.now) c.args.cursor.now c.seek.new.self c.put.new.self c.args.limit
-    c.args.at c.args.text.now c.shared-slots.result c.requires.stands c.in_ok-seek.ensures.moves
-    c.in_ok-seek.ensures.there c.in_ok-put.ensures c.requires.fits
+    put-makes c.requires.stands c.in_ok-seek.ensures.moves c.in_ok-seek.ensures.there c.in_ok-put.ensures c.args.limit
+    c.requires.fits
 
 pub returns-clause-cells : goal.returns-clause-cells
 returns-clause-cells g c =
-    put-cells (g.S.TextStore.content c.args.store.now) c.args.cursor.now c.seek.new.self c.put.new.self c.args.at
-    c.args.text.now c.shared-slots.result c.requires.stands c.in_ok-seek.ensures.moves c.in_ok-seek.ensures.there
-    c.in_ok-put.ensures c.shared-slots.ensures
+    put-cells c.requires.stands c.in_ok-seek.ensures.moves c.in_ok-seek.ensures.there c.in_ok-put.ensures
+    c.shared-slots.ensures

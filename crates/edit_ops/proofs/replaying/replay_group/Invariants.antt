@@ -1,4 +1,4 @@
-use Rattle.edit_ops.proofs.Words.{drop, replays}
+use Rattle.edit_ops.proofs.Common.{drop, replays}
 use Rattle.edit_ops.proofs.CursorTextLaws.{MadeSoFar}
 use Rattle.edit_ops.proofs.replaying.replay_group.Given as goal
 

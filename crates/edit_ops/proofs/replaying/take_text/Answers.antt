@@ -1,4 +1,4 @@
-use Rattle.edit_ops.proofs.Words.{arith}
+use Rattle.edit_ops.proofs.Common.{arith}
 use Rattle.edit_ops.proofs.CursorTextLaws.{take-cells, take-fits, take-makes}
 use Rattle.edit_ops.proofs.replaying.take_text.Goals as goal
 
@@ -18,12 +18,10 @@ remove-requires-clause-within g c =
 
 pub returns-clause-makes : goal.returns-clause-makes
 returns-clause-makes g c =
-    take-makes (g.S.TextStore.content c.args.store.now) c.args.cursor.now c.seek.new.self c.remove.new.self c.args.at
-    c.count_of-count.result c.args.text.now c.requires.stands c.in_ok-seek.ensures.moves c.in_ok-seek.ensures.there
+    take-makes c.args.text.now c.requires.stands c.in_ok-seek.ensures.moves c.in_ok-seek.ensures.there
     c.in_ok-remove.ensures.takes c.in_ok-remove.ensures.len c.count_of-count.ensures c.requires.fits
 
 pub returns-clause-cells : goal.returns-clause-cells
 returns-clause-cells g c =
-    take-cells (g.S.TextStore.content c.args.store.now) c.args.cursor.now c.seek.new.self c.remove.new.self c.args.at
-    c.count_of-count.result c.args.text.now c.requires.stands c.in_ok-seek.ensures.moves c.in_ok-seek.ensures.there
+    take-cells c.args.text.now c.requires.stands c.in_ok-seek.ensures.moves c.in_ok-seek.ensures.there
     c.in_ok-remove.ensures.takes c.in_ok-remove.ensures.len c.count_of-count.ensures c.requires.fits

@@ -1,5 +1,5 @@
-use Rattle.edit_ops.proofs.Words.{◌≡◌, ◌≤◌, sym, ap, ap₂, subst, ◌∙◌, IfSome, drawn_up, replays, group_redone, stood}
-use Rattle.edit_ops.proofs.Words.{State, Outline, state_of}
+use Rattle.edit_ops.proofs.Common.{◌≡◌, ◌≤◌, sym, ap, ap₂, subst, ◌∙◌, IfSome, drawn_up, replays, group_redone, stood}
+use Rattle.edit_ops.proofs.Common.{State, Outline, state_of}
 use Rattle.edit_ops.proofs.ReplayLaws.{follows-length}
 use Rattle.edit_ops.proofs.reversals.outline_group.Goals as goal
 

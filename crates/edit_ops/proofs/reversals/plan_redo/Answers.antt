@@ -1,4 +1,4 @@
-use Rattle.edit_ops.proofs.Words.{false, ◌∙◌, characters, anchors_left, log_of}
+use Rattle.edit_ops.proofs.Common.{false, ◌∙◌, characters, anchors_left, log_of}
 use Rattle.edit_ops.proofs.ReplayLaws.{redo-fits-replay, redo-planned, plan-widgets}
 use Rattle.edit_ops.proofs.reversals.plan_redo.Goals as goal
 

@@ -1,4 +1,4 @@
-use Rattle.edit_ops.proofs.Words.{true, ◌∙◌, characters, anchors_left, log_of}
+use Rattle.edit_ops.proofs.Common.{true, ◌∙◌, characters, anchors_left, log_of}
 use Rattle.edit_ops.proofs.ReplayLaws.{undo-fits-replay, undo-planned, plan-widgets}
 use Rattle.edit_ops.proofs.reversals.plan_undo.Goals as goal
 

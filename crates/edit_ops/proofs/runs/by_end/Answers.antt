@@ -1,5 +1,4 @@
-use Rattle.edit_ops.proofs.Words.{◌<◌, ◌∙◌, rules, nat_le, nat_lt, Span}
-use Rattle.std.specs.Prelude.{◌&&◌}
+use Rattle.edit_ops.proofs.Common.{◌<◌, ◌∙◌, rules, nat_le, nat_lt, Span, ◌&&◌}
 use Rattle.std.proofs.lemmas.List.Sorted.{All-permutation, list_any-IsPermutation, IsNonDecreasingBy-from_sort_by_key}
 use Rattle.std.proofs.lemmas.List.Sorted.{IsPermutation-sym}
 use Rattle.edit_ops.proofs.runs.by_end.Goals as goal

@@ -1,8 +1,7 @@
-use Rattle.edit_ops.proofs.Words.{◌<◌, ap, ◌∙◌, All-push, Span, in_spans}
-use Rattle.std.proofs.Common.{take_all}
+use Rattle.edit_ops.proofs.Common.{◌<◌, ap, ◌∙◌, All-push, Span, in_spans, take_all}
 use Rattle.edit_ops.proofs.RunLaws.{in-more, in-more-none}
-use Rattle.edit_ops.proofs.runs.filled.Goals as goal
 use Rattle.edit_ops.proofs.runs.filled.Goals.{then-span+in_ok-push, else-span}
+use Rattle.edit_ops.proofs.runs.filled.Goals as goal
 
 pub loop-span-preserved : goal.loop-span-preserved
 loop-span-preserved c =

@@ -1,4 +1,4 @@
-use Rattle.edit_ops.proofs.Words.{◌≡◌, ℕ, ◌<◌, take, All, in_spans, Span}
+use Rattle.edit_ops.proofs.Common.{◌≡◌, ℕ, ◌<◌, take, All, in_spans, Span}
 use Rattle.edit_ops.proofs.runs.filled.Given as goal
 
 abbrev pub invariant-loop-span : goal.invariant-loop-span

@@ -1,10 +1,10 @@
-use Rattle.edit_ops.proofs.Words.{◌≡◌, ℕ, ◌+◌, ◌++◌, [], ◌∷◌, length, ap, sym, ◌∙◌, arith, IsSome, option_to_list}
-use Rattle.edit_ops.proofs.Words.{nil_from_length, length_push, in_spans}
+use Rattle.edit_ops.proofs.Common.{◌≡◌, ℕ, ◌+◌, ◌++◌, [], ◌∷◌, length, ap, sym, ◌∙◌, arith, IsSome, option_to_list}
+use Rattle.edit_ops.proofs.Common.{nil_from_length, length_push, in_spans}
 use Rattle.edit_ops.proofs.RunLaws.{merging-first, merging-joined, merging-next, some_is, merged-in, apart-below}
 use Rattle.edit_ops.proofs.RunLaws.{few-apart, in-within}
-use Rattle.edit_ops.proofs.runs.union.Goals as goal
 use Rattle.edit_ops.proofs.runs.union.Goals.{in-Some-pop+then-span-run+in_ok-push, in-Some-pop+else-span-run}
 use Rattle.edit_ops.proofs.runs.union.Goals.{in_default-pop}
+use Rattle.edit_ops.proofs.runs.union.Goals as goal
 
 pub loop-init : goal.loop-init
 loop-init c = record {
@@ -28,8 +28,7 @@ loop-preserved c =
             left = let long : length before ≡ length left + 1 = ap length apart ∙ length_push left w.in-Some-pop.span in
                 omega (arith, counted, long);
             merges = rw (w.runs-is, w.run-is, w.in_ok-push.ensures.items)
-                (merging-next c.args.spans.now before left c.loop.runs.items c.loop.run w.in-Some-pop.span
-                c.loop.invariant.merges apart w.if-span-run.true);
+                (merging-next left w.in-Some-pop.span c.loop.invariant.merges apart w.if-span-run.true);
           }
       | in-Some-pop+else-span-run w ↦
           let apart : before ≡ left ++ w.in-Some-pop.span ∷ [] = c.pop-in-loop.ensures.items
@@ -38,8 +37,8 @@ loop-preserved c =
             left = let long : length before ≡ length left + 1 = ap length apart ∙ length_push left w.in-Some-pop.span in
                 omega (arith, counted, long);
             merges = rw (w.runs-is, w.run-is)
-                (merging-joined c.args.spans.now before left c.loop.runs.items c.loop.run w.in-Some-pop.span
-                w.min.result c.loop.invariant.merges apart w.if-span-run.false w.min.ensures);
+                (merging-joined left w.in-Some-pop.span c.loop.invariant.merges apart w.min.result w.if-span-run.false
+                w.min.ensures);
           }
       | in_default-pop w ↦
           let some : IsSome c.pop-in-loop.result = c.pop-in-loop.ensures.variant.1

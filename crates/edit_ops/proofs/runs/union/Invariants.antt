@@ -1,4 +1,4 @@
-use Rattle.edit_ops.proofs.Words.{◌≡◌, ◌+◌, length}
+use Rattle.edit_ops.proofs.Common.{◌≡◌, ◌+◌, length}
 use Rattle.edit_ops.proofs.RunLaws.{Merging}
 use Rattle.edit_ops.proofs.runs.union.Given as goal
 

@@ -1,4 +1,4 @@
-use Rattle.edit_ops.proofs.Words.{◌≡◌, [], drop, sym, ◌∙◌, drop_of_length-le, after}
+use Rattle.edit_ops.proofs.Common.{◌≡◌, [], drop, sym, ◌∙◌, drop_of_length-le, after}
 use Rattle.edit_ops.proofs.TagLaws.{clearing-more, cleared-none}
 use Rattle.edit_ops.proofs.tagging.clear_steps.Goals as goal
 

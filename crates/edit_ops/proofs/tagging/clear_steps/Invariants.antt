@@ -1,4 +1,4 @@
-use Rattle.edit_ops.proofs.Words.{drop, Content}
+use Rattle.edit_ops.proofs.Common.{drop, Content}
 use Rattle.edit_ops.proofs.TagLaws.{Clearing}
 use Rattle.edit_ops.proofs.tagging.clear_steps.Given as goal
 

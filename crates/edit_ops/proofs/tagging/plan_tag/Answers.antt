@@ -1,4 +1,4 @@
-use Rattle.edit_ops.proofs.Words.{sym}
+use Rattle.edit_ops.proofs.Common.{sym}
 use Rattle.edit_ops.proofs.tagging.plan_tag.Goals as goal
 
 pub prepare_steps-requires : goal.prepare_steps-requires

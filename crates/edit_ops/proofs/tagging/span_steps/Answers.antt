@@ -1,4 +1,4 @@
-use Rattle.edit_ops.proofs.Words.{◌≡◌, [], drop, ap, sym, ◌∙◌, drop_of_length-le, after, tagged}
+use Rattle.edit_ops.proofs.Common.{◌≡◌, [], drop, ap, sym, ◌∙◌, drop_of_length-le, after, tagged}
 use Rattle.edit_ops.proofs.TagLaws.{tagging-more}
 use Rattle.edit_ops.proofs.tagging.span_steps.Goals as goal
 

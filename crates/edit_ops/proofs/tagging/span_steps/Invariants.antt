@@ -1,4 +1,4 @@
-use Rattle.edit_ops.proofs.Words.{◌≡◌, drop, length, Content}
+use Rattle.edit_ops.proofs.Common.{◌≡◌, drop, length, Content}
 use Rattle.edit_ops.proofs.TagLaws.{Tagging}
 use Rattle.edit_ops.proofs.tagging.span_steps.Given as goal
 

@@ -1,4 +1,4 @@
-use Rattle.edit_ops.proofs.Words.{◌≡◌, sym, ap, ◌∙◌, subst, All, in_spans, SpanFits}
+use Rattle.edit_ops.proofs.Common.{◌≡◌, sym, ap, ◌∙◌, subst, All, in_spans, SpanFits}
 use Rattle.std.proofs.lemmas.Result.{IfOk-weaker}
 use Rattle.edit_ops.proofs.CoverLaws.{in-reversed, runs-fit, tagged-same}
 use Rattle.edit_ops.proofs.tagging.tag_steps.Goals as goal

@@ -1,4 +1,4 @@
-use Rattle.peers.proofs.Words.{sym, ap, ap₂, ◌∙◌, texts_of, done, shaped, widget_at}
+use Rattle.peers.proofs.Common.{sym, ap, ap₂, ◌∙◌, texts_of, done, shaped, widget_at}
 use Rattle.peers.proofs.ArgumentLaws.{arguments-part, switches-part}
 use Rattle.peers.proofs.PromiseLaws.{does-same}
 use Rattle.peers.proofs.commands.command.Goals as goal
@@ -7,7 +7,7 @@ pub returns-clause-does : goal.returns-clause-does
 returns-clause-does g c = λ windows.
     let document = c.args.document.now in let limits = c.args.limits.now in
     let widget = widget_at document c.args.seat in let shape = c.args.shape in
-    does-same limits document c.carry_out.new.document c.carry_out.result _ _
+    does-same _ _
     (λ _. ap₂ (λ switches arguments. done shape.command document (record {
       limits = limits;
       windows = windows;

@@ -1,5 +1,5 @@
-use Rattle.peers.proofs.Words.{◌≡◌, false, sym, ap, arith, if◌then◌else◌, nat_lt, nat_tests, IndexOrder, replace_span}
-use Rattle.peers.proofs.Words.{replace_places, refused, unless_idle, insertion_offset, widget_at}
+use Rattle.peers.proofs.Common.{◌≡◌, false, sym, ap, arith, if◌then◌else◌, nat_lt, nat_tests, IndexOrder, replace_span}
+use Rattle.peers.proofs.Common.{replace_places, refused, unless_idle, insertion_offset, widget_at}
 use Rattle.peers.proofs.PromiseLaws.{does-same}
 use Rattle.peers.proofs.deletions.replace_places.Goals as goal
 
@@ -12,7 +12,7 @@ returns g c =
     let change = unless_idle widget document
     (replace_span limits document widget (insertion_offset document widget c.args.places.0)
     (insertion_offset document widget c.args.places.1) c.args.pairs.items) in
-    does-same limits document c.replace_ordered.new.document c.replace_ordered.result change
+    does-same change
     (replace_places limits document widget c.args.second c.args.places.0 c.args.places.1 c.args.pairs.items)
     (λ _. ap (λ b. if b then refused document (IndexOrder c.args.second) else change) (sym in_order))
     c.replace_ordered.ensures

@@ -1,4 +1,4 @@
-use Rattle.peers.proofs.Words.{◌+◌, arith}
+use Rattle.peers.proofs.Common.{◌+◌, arith}
 use Rattle.peers.proofs.WorldLaws.{front-windows, next-windows, read-count}
 use Rattle.peers.proofs.document_list.count_to.Goals as goal
 

@@ -1,4 +1,4 @@
-use Rattle.peers.proofs.Words.{◌≡◌, length, take, windows_of}
+use Rattle.peers.proofs.Common.{◌≡◌, length, take, windows_of}
 use Rattle.peers.proofs.document_list.count_to.Given as goal
 
 abbrev pub invariant-loop-index : goal.invariant-loop-index

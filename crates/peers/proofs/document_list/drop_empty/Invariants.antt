@@ -1,4 +1,4 @@
-use Rattle.peers.proofs.Words.{◌≡◌, ◌-◌, filter, length, texts_of, keeps_some}
+use Rattle.peers.proofs.Common.{◌≡◌, ◌-◌, filter, length, texts_of, keeps_some}
 use Rattle.peers.proofs.WindowLaws.{kept_from}
 use Rattle.peers.proofs.document_list.drop_empty.Given as goal
 

@@ -1,4 +1,4 @@
-use Rattle.peers.proofs.Words.{length, sym, ap, ◌∙◌, ◌+◌, arith, length-map, window_names, bare_document}
+use Rattle.peers.proofs.Common.{length, sym, ap, ◌∙◌, ◌+◌, arith, length-map, window_names, bare_document}
 use Rattle.peers.proofs.HomeLaws.{noted-all, noted-more, noted-within}
 use Rattle.peers.proofs.WorldLaws.{read-count}
 use Rattle.peers.proofs.document_list.note_places.Goals as goal

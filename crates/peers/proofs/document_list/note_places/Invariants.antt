@@ -1,4 +1,4 @@
-use Rattle.peers.proofs.Words.{window_names}
+use Rattle.peers.proofs.Common.{window_names}
 use Rattle.peers.proofs.HomeLaws.{AreNoted}
 use Rattle.peers.proofs.document_list.note_places.Given as goal
 

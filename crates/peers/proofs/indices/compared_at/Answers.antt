@@ -1,4 +1,4 @@
-use Rattle.peers.proofs.Words.{◌+◌, Ok, ap, ◌∙◌, chars, Flag, place_at, widget_at}
+use Rattle.peers.proofs.Common.{◌+◌, Ok, ap, ◌∙◌, chars, Flag, place_at, widget_at}
 use Rattle.peers.specs.Indices.{compared}
 use Rattle.command_effects.specs.Comparisons.{comparison_at, comparison_of, holds}
 use Rattle.peers.proofs.PromiseLaws.{gives-three}

@@ -1,16 +1,14 @@
-use Rattle.peers.proofs.Words.{List, ℕ, sym, subst, texts_of, LimitTable, MarkSet, MarkUnset, widget_at, mark_unset}
-use Rattle.peers.proofs.Words.{ForetellsMarks, command, mark_set}
+use Rattle.peers.proofs.Common.{sym, subst, texts_of, MarkSet, MarkUnset, widget_at, mark_unset, ForetellsMarks}
+use Rattle.peers.proofs.Common.{command, mark_set, IfOk-weaker}
 use Rattle.peers.proofs.ArgumentLaws.{arguments-part}
 use Rattle.peers.proofs.MarksToldLaws.{marks-command, marks-other}
-use Rattle.peers.proofs.ToldLaws.{told-through}
 use Rattle.peers.proofs.marks_told.told_marks_of.Goals as goal
 
 pub returns-in-MarkSet-clause-moves : goal.returns-in-MarkSet-clause-moves
 returns-in-MarkSet-clause-moves g c = λ _.
     let document = c.args.document.now in let widget = widget_at document c.args.seat in
     let shape = c.args.shape in let words = texts_of c.args.words.now in
-    told-through _ (λ told. (limits : LimitTable) (windows : List (List ℕ)) → ForetellsMarks document widget
-    (command limits windows document widget words) told) c.told_set.result
+    IfOk-weaker c.told_set.result _ _
     (λ told foretold limits windows. marks-command limits windows document widget words shape c.requires.shape MarkSet
     told c.in-MarkSet.is (subst (λ arguments. ForetellsMarks document widget
     (mark_set limits document widget shape.arguments arguments) told) (arguments-part c.args.words.now shape)
@@ -20,8 +18,7 @@ pub returns-in-MarkUnset-clause-moves : goal.returns-in-MarkUnset-clause-moves
 returns-in-MarkUnset-clause-moves g c = λ _.
     let document = c.args.document.now in let widget = widget_at document c.args.seat in
     let shape = c.args.shape in let words = texts_of c.args.words.now in
-    told-through _ (λ told. (limits : LimitTable) (windows : List (List ℕ)) → ForetellsMarks document widget
-    (command limits windows document widget words) told) c.told_mark_unset.result
+    IfOk-weaker c.told_mark_unset.result _ _
     (λ told foretold limits windows. marks-command limits windows document widget words shape c.requires.shape MarkUnset
     told c.in-MarkUnset.is (subst (λ arguments. ForetellsMarks document widget (mark_unset document arguments) told)
     (arguments-part c.args.words.now shape) (foretold widget))) c.told_mark_unset.ensures

@@ -1,5 +1,5 @@
-use Rattle.peers.proofs.Words.{◌≡◌, sym, ap₂, ◌∙◌, texts_of, with_value, settings_checked, settings_read, Empty}
-use Rattle.peers.proofs.Words.{widget_at, settings_of, with_settings, answered, settings_given}
+use Rattle.peers.proofs.Common.{◌≡◌, sym, ap₂, ◌∙◌, texts_of, with_value, settings_checked, settings_read, Empty}
+use Rattle.peers.proofs.Common.{widget_at, settings_of, with_settings, answered, settings_given}
 use Rattle.peers.proofs.PromiseLaws.{does-found, does-refused}
 use Rattle.peers.proofs.options.configure.Goals as goal
 
@@ -22,5 +22,5 @@ returns-in-Ok g c = λ limits.
     c.settings_given.ensures.value ∙ ap₂ (λ lines settings.
     with_value (settings_read lines c.args.position (texts_of c.args.words.now) settings) settings_checked)
     c.lines.ensures c.settings.ensures.value in
-    does-found limits document c.put_settings.new.self _ defined c.in-Ok.settings (λ settings.
+    does-found defined c.in-Ok.settings (λ settings.
     answered (with_settings widget settings document) Empty) (sym same ∙ c.in-Ok.is) (c.put_settings.ensures limits)

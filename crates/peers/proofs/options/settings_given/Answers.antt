@@ -1,4 +1,4 @@
-use Rattle.peers.proofs.Words.{sym, ap, subst, ◌∙◌, IfOk, texts_of, with_value, settings_checked, AreLines}
+use Rattle.peers.proofs.Common.{sym, ap, subst, ◌∙◌, IfOk, texts_of, with_value, settings_checked, AreLines}
 use Rattle.peers.proofs.OptionLaws.{given-lines}
 use Rattle.peers.proofs.options.settings_given.Goals as goal
 

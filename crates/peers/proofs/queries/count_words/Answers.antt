@@ -1,5 +1,4 @@
-use Rattle.peers.proofs.Words.{place_at, count_between, widget_at}
-use Rattle.std.specs.Prelude.{◌+◌, chars}
+use Rattle.peers.proofs.Common.{place_at, count_between, widget_at, ◌+◌, chars}
 use Rattle.peers.proofs.PromiseLaws.{gives-both}
 use Rattle.peers.proofs.queries.count_words.Goals as goal
 

@@ -1,4 +1,4 @@
-use Rattle.peers.proofs.Words.{◌≡◌, map, take, texts_of, counted_as}
+use Rattle.peers.proofs.Common.{◌≡◌, map, take, texts_of, counted_as}
 use Rattle.peers.proofs.queries.counted_options.Given as goal
 
 abbrev pub invariant-loop-word : goal.invariant-loop-word

@@ -1,4 +1,4 @@
-use Rattle.peers.proofs.Words.{◌∙◌}
+use Rattle.peers.proofs.Common.{◌∙◌}
 use Rattle.peers.proofs.SwitchLaws.{direction-step}
 use Rattle.peers.proofs.queries.direction_of.Goals as goal
 

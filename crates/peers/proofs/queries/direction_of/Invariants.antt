@@ -1,4 +1,4 @@
-use Rattle.peers.proofs.Words.{◌≡◌, take, texts_of, direction_of}
+use Rattle.peers.proofs.Common.{◌≡◌, take, texts_of, direction_of}
 use Rattle.peers.proofs.queries.direction_of.Given as goal
 
 abbrev pub invariant-loop-word : goal.invariant-loop-word

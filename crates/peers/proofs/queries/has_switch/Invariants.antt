@@ -1,4 +1,4 @@
-use Rattle.peers.proofs.Words.{◌≡◌, drop, chars, texts_of, has_switch}
+use Rattle.peers.proofs.Common.{◌≡◌, drop, chars, texts_of, has_switch}
 use Rattle.peers.proofs.queries.has_switch.Given as goal
 
 abbrev pub invariant-loop-word : goal.invariant-loop-word

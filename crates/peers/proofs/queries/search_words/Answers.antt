@@ -1,5 +1,4 @@
-use Rattle.peers.proofs.Words.{place_at, searched, stop_at, widget_at}
-use Rattle.std.specs.Prelude.{◌+◌, chars, option_map}
+use Rattle.peers.proofs.Common.{place_at, searched, stop_at, widget_at, ◌+◌, chars, option_map}
 use Rattle.peers.proofs.PromiseLaws.{gives-both}
 use Rattle.peers.proofs.queries.search_words.Goals as goal
 

@@ -1,5 +1,5 @@
-use Rattle.peers.proofs.Words.{◌≤◌, ◌∷◌, [], ℕ, length, ◌+◌, chars, All-append, All-cons, All-nil, place_at, shown}
-use Rattle.peers.proofs.Words.{widget_at}
+use Rattle.peers.proofs.Common.{◌≤◌, ◌∷◌, [], ℕ, length, ◌+◌, chars, All-append, All-cons, All-nil, place_at, shown}
+use Rattle.peers.proofs.Common.{widget_at}
 use Rattle.peers.proofs.PlaceLaws.{found-more, found-fault}
 use Rattle.peers.proofs.PromiseLaws.{fault-defined, value-defined}
 use Rattle.peers.proofs.ranges.places_at.Goals as goal

@@ -1,4 +1,4 @@
-use Rattle.peers.proofs.Words.{ℕ, ◌≤◌, length, All, shown, widget_at}
+use Rattle.peers.proofs.Common.{ℕ, ◌≤◌, length, All, shown, widget_at}
 use Rattle.peers.proofs.PlaceLaws.{Found}
 use Rattle.peers.proofs.ranges.places_at.Given as goal
 

@@ -1,5 +1,5 @@
-use Rattle.peers.proofs.Words.{subst, ◌+◌, chars, option_map, with_value, place_at, Gives, next_between, place_or}
-use Rattle.peers.proofs.Words.{widget_at}
+use Rattle.peers.proofs.Common.{subst, ◌+◌, chars, option_map, with_value, place_at, Gives, next_between, place_or}
+use Rattle.peers.proofs.Common.{widget_at}
 use Rattle.peers.proofs.PromiseLaws.{gives-both}
 use Rattle.peers.proofs.tags.next_words.Goals as goal
 

@@ -1,4 +1,4 @@
-use Rattle.peers.proofs.Words.{ap, sym, ◌∙◌, ◌+◌, Ok, chars, texts_of, places_at, remove_spans, widget_at}
+use Rattle.peers.proofs.Common.{ap, sym, ◌∙◌, ◌+◌, Ok, chars, texts_of, places_at, remove_spans, widget_at}
 use Rattle.peers.proofs.PromiseLaws.{does-found, does-refused}
 use Rattle.peers.proofs.tags.remove_words.Goals as goal
 
@@ -11,7 +11,6 @@ returns-in-Err g c = λ limits.
 pub returns-in-Ok : goal.returns-in-Ok
 returns-in-Ok g c = λ limits.
     let document = c.args.document.now in let widget = widget_at document c.args.seat in
-    does-found limits document c.remove_spans.new.self c.remove_spans.result
-    (places_at document widget (c.args.position + 1) (texts_of c.args.words.now)) c.deref.result.now
+    does-found (places_at document widget (c.args.position + 1) (texts_of c.args.words.now)) c.deref.result.now
     (remove_spans document widget (chars c.args.name.now))
     (c.in-Ok.ensures.ok ∙ ap Ok (sym c.deref.ensures.value)) (c.remove_spans.ensures limits)

@@ -1,4 +1,4 @@
-use Rattle.peers.proofs.Words.{ℕ, ◌≤◌, length, string_bytes, All, shown, widget_at}
+use Rattle.peers.proofs.Common.{ℕ, ◌≤◌, length, string_bytes, All, shown, widget_at}
 use Rattle.peers.proofs.GotLaws.{AreGot}
 use Rattle.peers.proofs.texts.got_list.Given as goal
 

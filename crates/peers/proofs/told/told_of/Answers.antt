@@ -1,15 +1,15 @@
-use Rattle.peers.proofs.Words.{List, ℕ, sym, subst, texts_of, Delete, Insert, Replace, TagAdd, TagDelete, TagRemove}
-use Rattle.peers.proofs.Words.{widget_at, tag_delete, Foretells, command, delete, replace, tag_add, tag_remove, insert}
+use Rattle.peers.proofs.Common.{sym, subst, texts_of, Delete, Insert, Replace, TagAdd, TagDelete, TagRemove, widget_at}
+use Rattle.peers.proofs.Common.{tag_delete, Foretells, command, delete, replace, tag_add, tag_remove, IfOk-weaker}
+use Rattle.peers.specs.Texts.{insert}
 use Rattle.peers.proofs.ArgumentLaws.{arguments-part}
-use Rattle.peers.proofs.ToldLaws.{foretells-command, foretells-other, told-through}
+use Rattle.peers.proofs.ToldLaws.{foretells-command, foretells-other}
 use Rattle.peers.proofs.told.told_of.Goals as goal
 
 pub returns-in-Insert : goal.returns-in-Insert
 returns-in-Insert g c =
     let document = c.args.document.now in let widget = widget_at document c.args.seat in
     let shape = c.args.shape in let limits = c.args.limits.now in let words = texts_of c.args.words.now in
-    told-through _ (λ told. (windows : List (List ℕ)) → Foretells document
-    (command limits windows document widget words) told) c.told_insert.result
+    IfOk-weaker c.told_insert.result _ _
     (λ told foretold windows. foretells-command limits windows document widget words shape c.requires.shape Insert told
     c.in-Insert.is (subst (λ arguments. Foretells document (insert limits document widget shape.arguments arguments)
     told) (arguments-part c.args.words.now shape) (foretold limits c.requires.limits))) c.told_insert.ensures
@@ -18,8 +18,7 @@ pub returns-in-Delete : goal.returns-in-Delete
 returns-in-Delete g c =
     let document = c.args.document.now in let widget = widget_at document c.args.seat in
     let shape = c.args.shape in let limits = c.args.limits.now in let words = texts_of c.args.words.now in
-    told-through _ (λ told. (windows : List (List ℕ)) → Foretells document
-    (command limits windows document widget words) told) c.told_delete.result
+    IfOk-weaker c.told_delete.result _ _
     (λ told foretold windows. foretells-command limits windows document widget words shape c.requires.shape Delete told
     c.in-Delete.is (subst (λ arguments. Foretells document (delete document widget shape.arguments arguments)
     told) (arguments-part c.args.words.now shape) foretold)) c.told_delete.ensures
@@ -28,8 +27,7 @@ pub returns-in-Replace : goal.returns-in-Replace
 returns-in-Replace g c =
     let document = c.args.document.now in let widget = widget_at document c.args.seat in
     let shape = c.args.shape in let limits = c.args.limits.now in let words = texts_of c.args.words.now in
-    told-through _ (λ told. (windows : List (List ℕ)) → Foretells document
-    (command limits windows document widget words) told) c.told_replace.result
+    IfOk-weaker c.told_replace.result _ _
     (λ told foretold windows. foretells-command limits windows document widget words shape c.requires.shape Replace told
     c.in-Replace.is (subst (λ arguments. Foretells document (replace limits document widget shape.arguments arguments)
     told) (arguments-part c.args.words.now shape) (foretold limits c.requires.limits))) c.told_replace.ensures
@@ -38,8 +36,7 @@ pub returns-in-TagAdd : goal.returns-in-TagAdd
 returns-in-TagAdd g c =
     let document = c.args.document.now in let widget = widget_at document c.args.seat in
     let shape = c.args.shape in let limits = c.args.limits.now in let words = texts_of c.args.words.now in
-    told-through _ (λ told. (windows : List (List ℕ)) → Foretells document
-    (command limits windows document widget words) told) c.told_add.result
+    IfOk-weaker c.told_add.result _ _
     (λ told foretold windows. foretells-command limits windows document widget words shape c.requires.shape TagAdd told
     c.in-TagAdd.is (subst (λ arguments. Foretells document (tag_add limits document widget shape.arguments arguments) told)
     (arguments-part c.args.words.now shape) (foretold limits))) c.told_add.ensures
@@ -48,8 +45,7 @@ pub returns-in-TagRemove : goal.returns-in-TagRemove
 returns-in-TagRemove g c =
     let document = c.args.document.now in let widget = widget_at document c.args.seat in
     let shape = c.args.shape in let limits = c.args.limits.now in let words = texts_of c.args.words.now in
-    told-through _ (λ told. (windows : List (List ℕ)) → Foretells document
-    (command limits windows document widget words) told) c.told_remove.result
+    IfOk-weaker c.told_remove.result _ _
     (λ told foretold windows. foretells-command limits windows document widget words shape c.requires.shape TagRemove told
     c.in-TagRemove.is (subst (λ arguments. Foretells document (tag_remove document widget shape.arguments arguments) told)
     (arguments-part c.args.words.now shape) foretold)) c.told_remove.ensures
@@ -58,8 +54,7 @@ pub returns-in-TagDelete : goal.returns-in-TagDelete
 returns-in-TagDelete g c =
     let document = c.args.document.now in let widget = widget_at document c.args.seat in
     let shape = c.args.shape in let limits = c.args.limits.now in let words = texts_of c.args.words.now in
-    told-through _ (λ told. (windows : List (List ℕ)) → Foretells document
-    (command limits windows document widget words) told) c.told_tag_delete.result
+    IfOk-weaker c.told_tag_delete.result _ _
     (λ told foretold windows. foretells-command limits windows document widget words shape c.requires.shape TagDelete told
     c.in-TagDelete.is (subst (λ arguments. Foretells document (tag_delete document arguments) told)
     (arguments-part c.args.words.now shape) foretold)) c.told_tag_delete.ensures

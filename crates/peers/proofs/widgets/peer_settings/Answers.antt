@@ -1,4 +1,4 @@
-use Rattle.peers.proofs.Words.{false, ap₂, ◌∙◌, texts_of, with_value, settings_checked, settings_read, Settings}
+use Rattle.peers.proofs.Common.{false, ap₂, ◌∙◌, texts_of, with_value, settings_checked, settings_read, Settings}
 use Rattle.peers.proofs.widgets.peer_settings.Goals as goal
 
 pub returns-clause-value : goal.returns-clause-value

@@ -1,4 +1,4 @@
-use Rattle.peers.proofs.Words.{sym, ap, ◌∙◌, is_window_name}
+use Rattle.peers.proofs.Common.{sym, ap, ◌∙◌, is_window_name}
 use Rattle.peers.proofs.NameLaws.{is_window_name-chars, is_window_name-short, is_window_name-long}
 use Rattle.peers.proofs.words.is_window_name.Goals as goal
 

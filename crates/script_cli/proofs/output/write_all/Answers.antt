@@ -1,5 +1,4 @@
-use Rattle.script_cli.proofs.Common.{◌+◌, sym, ◌∙◌, arith}
-use Rattle.std.proofs.lemmas.Grind.{common_steps}
+use Rattle.script_cli.proofs.Common.{◌+◌, sym, ◌∙◌, arith, common_steps}
 use Rattle.script_cli.proofs.SendingLaws.{Takes-more, Sends-front}
 use Rattle.script_cli.proofs.output.write_all.Goals as goal
 

@@ -1,5 +1,4 @@
-use Rattle.search_dump.proofs.Words.{shown, distance, goes_all}
-use Rattle.std.specs.Prelude.{map, string_bytes}
+use Rattle.search_dump.proofs.Common.{shown, distance, goes_all, map, string_bytes}
 use Rattle.search_dump.proofs.counting.list_counts.Goals as goal
 
 pub returns : goal.returns

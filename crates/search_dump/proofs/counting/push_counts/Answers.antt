@@ -1,5 +1,5 @@
-use Rattle.search_dump.proofs.Words.{arith, map, string_bytes, subst, get_or_default, take_all, Goes, goes_mapped}
-use Rattle.search_dump.proofs.Words.{goes_nowhere, distance, text_in}
+use Rattle.search_dump.proofs.Common.{arith, map, string_bytes, subst, get_or_default, take_all, Goes, goes_mapped}
+use Rattle.search_dump.proofs.Common.{goes_nowhere, distance, text_in}
 use Rattle.search_dump.proofs.counting.push_counts.Goals as goal
 
 pub loop-option-init : goal.loop-option-init

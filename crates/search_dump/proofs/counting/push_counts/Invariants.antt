@@ -1,5 +1,4 @@
-use Rattle.search_dump.proofs.Words.{shown, distance, Goes}
-use Rattle.std.specs.Prelude.{map, string_bytes, take}
+use Rattle.search_dump.proofs.Common.{shown, distance, Goes, map, string_bytes, take}
 use Rattle.search_dump.proofs.counting.push_counts.Given as goal
 
 abbrev pub invariant-loop-option : goal.invariant-loop-option

@@ -1,5 +1,5 @@
-use Rattle.search_dump.proofs.Words.{◌∷◌, [], ap, subst, ◌∙◌, OnOk, chars-IsAscii, difference, Goes}
-use Rattle.std.specs.Prelude.{chars, string_bytes}
+use Rattle.search_dump.proofs.Common.{◌∷◌, [], ap, subst, ◌∙◌, OnOk, chars-IsAscii, difference, Goes, chars}
+use Rattle.search_dump.proofs.Common.{string_bytes}
 use Rattle.search_dump.proofs.counting.push_difference.Goals as goal
 
 pub returns : goal.returns

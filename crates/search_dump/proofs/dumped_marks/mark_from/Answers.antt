@@ -1,4 +1,4 @@
-use Rattle.search_dump.proofs.Words.{◌+◌, sym, option_map, shown_of, usable_by}
+use Rattle.search_dump.proofs.Common.{◌+◌, sym, option_map, shown_of, usable_by}
 use Rattle.search_dump.proofs.MarkOrderLaws.{mark-from}
 use Rattle.search_dump.proofs.dumped_marks.mark_from.Goals as goal
 

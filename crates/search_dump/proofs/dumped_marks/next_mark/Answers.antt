@@ -1,4 +1,4 @@
-use Rattle.search_dump.proofs.Words.{sym, ◌∙◌, none-some}
+use Rattle.search_dump.proofs.Common.{sym, ◌∙◌, none-some}
 use Rattle.search_dump.proofs.MarkOrderLaws.{mark-is, mark-of}
 use Rattle.search_dump.proofs.dumped_marks.next_mark.Goals as goal
 

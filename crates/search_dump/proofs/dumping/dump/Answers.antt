@@ -1,4 +1,4 @@
-use Rattle.search_dump.proofs.Words.{string_bytes, goes_all, dump_elements, seen_by}
+use Rattle.search_dump.proofs.Common.{string_bytes, goes_all, dump_elements, seen_by}
 use Rattle.search_dump.proofs.dumping.dump.Goals as goal
 
 pub returns : goal.returns

@@ -1,4 +1,4 @@
-use Rattle.search_dump.proofs.Words.{◌≤◌, arith, or_left}
+use Rattle.search_dump.proofs.Common.{◌≤◌, arith, or_left}
 use Rattle.search_dump.proofs.ChangeLaws.{ahead-on}
 use Rattle.search_dump.proofs.StopLaws.{mark-stays, stop-is, stop-within}
 use Rattle.search_dump.proofs.dumping.next_stop.Goals as goal

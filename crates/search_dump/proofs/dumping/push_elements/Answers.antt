@@ -1,19 +1,16 @@
-use Rattle.search_dump.proofs.Words.{◌≡◌, ℕ, ◌+◌, ◌||◌, ◌==◌, arith, inr, refl, string_bytes, subst, IsTrue, flat_map}
-use Rattle.search_dump.proofs.Words.{eq-eqb, or_left, Goes, elements_at, is_cut, seen_by, places, seen_in, text_in}
-use Rattle.search_dump.proofs.Words.{AreTagsBefore, IsFirstMark, IsSpot, stops_at_marks}
+use Rattle.search_dump.proofs.Common.{◌≡◌, ℕ, ◌+◌, ◌||◌, ◌==◌, arith, inr, refl, string_bytes, subst, IsTrue, flat_map}
+use Rattle.search_dump.proofs.Common.{eq-eqb, or_left, Goes, elements_at, is_cut, places, seen_in, text_in}
+use Rattle.search_dump.proofs.Common.{AreTagsBefore, IsFirstMark, IsSpot, stops_at_marks}
 use Rattle.search_dump.proofs.StopLaws.{cut-next, cut-there, dump-begun, dump-on}
 use Rattle.search_dump.proofs.TagStops.{before-on}
 use Rattle.search_dump.proofs.dumping.push_elements.Goals as goal
 
 pub loop-place-init : goal.loop-place-init
 loop-place-init g c =
-    let view = c.args.sight.now.view.now in
-    let names = c.args.sight.now.names.now in
-    let content = g.S.TextStore.content view.store.now in
-    let seen = seen_by content view.s view.e names.tags.now.tags names.marks.now.marks names.widget.0 in
+    let seen = seen_in g.S.TextStore.content c.args.sight.now.view.now c.args.sight.now.names.now in
     record {
-      goes =
-          dump-begun (elements_at c.args.listed seen c.args.from c.args.to) c.args.from (string_bytes c.args.out.now.list);
+      goes = dump-begun (elements_at c.args.listed seen c.args.from c.args.to) c.args.from
+          (string_bytes c.args.out.now.list);
       spot = record { line = c.line_at-line.ensures.line; before = c.line_at-line.ensures.before };
       begun = omega arith;
       within = c.requires.ordered;
@@ -30,7 +27,7 @@ loop-place-preserved g c =
     let view = c.args.sight.now.view.now in
     let names = c.args.sight.now.names.now in
     let content = g.S.TextStore.content view.store.now in
-    let seen = seen_by content view.s view.e names.tags.now.tags names.marks.now.marks names.widget.0 in
+    let seen = seen_in g.S.TextStore.content view names in
     let before = c.loop-place.invariant in
     let stop = c.next_stop-next.ensures.stop in
     let next = c.next_stop-next.result in
@@ -67,8 +64,8 @@ turned_tags-behind-requires-clause-before g c is =
 
 pub returns-clause-goes : goal.returns-clause-goes
 returns-clause-goes g c =
-    let each = elements_at c.args.listed (seen_in g.S.TextStore.content c.args.sight.now.view.now c.args.sight.now.names.now) c.args.from
-    c.args.to in
+    let seen = seen_in g.S.TextStore.content c.args.sight.now.view.now c.args.sight.now.names.now in
+    let each = elements_at c.args.listed seen c.args.from c.args.to in
     let end : c.loop-place.place ≡ c.args.to = omega (arith, c.loop-place.invariant.within, c.loop-place-test.false) in
     subst (λ place. Goes (string_bytes c.args.out.now.list) (string_bytes c.loop-place.out.list)
     (flat_map each (places c.args.from place))) end c.loop-place.invariant.goes

@@ -1,4 +1,4 @@
-use Rattle.search_dump.proofs.Words.{string_bytes, slots_of, slot_of_row}
+use Rattle.search_dump.proofs.Common.{string_bytes, slots_of, slot_of_row}
 use Rattle.search_dump.proofs.StopLaws.{end-goes}
 use Rattle.search_dump.proofs.TagLaws.{none-behind}
 use Rattle.search_dump.proofs.dumping.push_end.Goals as goal

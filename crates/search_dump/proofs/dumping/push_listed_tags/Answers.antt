@@ -1,5 +1,5 @@
-use Rattle.search_dump.proofs.Words.{◌++◌, ap, string_bytes, subst, sym, ◌∙◌, flat_map, not-false, Goes, goes_on, shown}
-use Rattle.search_dump.proofs.Words.{if_listed, only_in, seen_by, tagoff_elements, tagon_elements}
+use Rattle.search_dump.proofs.Common.{◌++◌, ap, string_bytes, subst, sym, ◌∙◌, flat_map, not-false, Goes, goes_on}
+use Rattle.search_dump.proofs.Common.{shown, if_listed, only_in, seen_by, tagoff_elements, tagon_elements}
 use Rattle.search_dump.proofs.PlainWords.{tagoff-plain, tagon-plain}
 use Rattle.search_dump.proofs.SeenLaws.{tagoff-characters, tagoffs-are, tagon-characters, tagons-are}
 use Rattle.search_dump.proofs.dumping.push_listed_tags.Goals as goal

@@ -1,5 +1,5 @@
-use Rattle.search_dump.proofs.Words.{ap, ap₂, chars, string_bytes, subst, sym, ◌∙◌, OnOk, codes, slice_range, not-false}
-use Rattle.search_dump.proofs.Words.{on_ok_weaker, Goes, characters, shown, element, if_listed, text_in}
+use Rattle.search_dump.proofs.Common.{ap, ap₂, chars, string_bytes, subst, sym, ◌∙◌, OnOk, codes, slice_range}
+use Rattle.search_dump.proofs.Common.{not-false, on_ok_weaker, Goes, characters, element, if_listed, text_in}
 use Rattle.search_dump.proofs.PlainWords.{text-plain}
 use Rattle.search_dump.proofs.SeenLaws.{text-characters}
 use Rattle.search_dump.proofs.WindowLaws.{slice-part}
@@ -9,7 +9,7 @@ pub returns : goal.returns
 returns g c =
     let view = c.args.view.now in
     let content = g.S.TextStore.content view.store.now in
-    let text = shown content view.s view.e in
+    let text = text_in g.S.TextStore.content view in
     let written = element (codes "text") text c.args.spot.place (slice_range text c.args.spot.place c.args.to) in
     subst (λ xs. OnOk c.push.result (Goes (string_bytes c.args.out.now.list) (string_bytes c.push.new.self.list)
     xs))
@@ -18,7 +18,7 @@ returns g c =
     ∙ sym (slice-part (characters content.cells) view.s view.e c.args.spot.place c.args.to c.requires.ordered
     c.requires.within))
     ∙ sym (ap (λ b. if_listed b written) (not-false c.args.listed.text c.if-not-listed.false)))
-    (on_ok_weaker c.push.result (λ all. all (text_in g.S.TextStore.content c.args.view.now) c.requires.spot) c.push.ensures)
+    (on_ok_weaker c.push.result (λ all. all text c.requires.spot) c.push.ensures)
 
 pub push-requires-clause-plain : goal.push-requires-clause-plain
 push-requires-clause-plain g c = text-plain

@@ -1,5 +1,5 @@
-use Rattle.search_dump.proofs.Words.{arith, chars, string_bytes, slice_index_or, shown, element, if_listed, only_in}
-use Rattle.std.specs.Prelude.{[]}
+use Rattle.search_dump.proofs.Common.{arith, chars, string_bytes, slice_index_or, shown, element, if_listed, only_in}
+use Rattle.search_dump.proofs.Common.{[]}
 use Rattle.tag_table.specs.Tags.{names_of}
 use Rattle.search_dump.proofs.DumpLaws.{goes-within, goes_flat, no_tag, tag-row}
 use Rattle.search_dump.proofs.dumping.push_tags.Goals as goal

@@ -1,4 +1,4 @@
-use Rattle.search_dump.proofs.Words.{◌+◌, ap, ◌∙◌, arith, line_start, shown, length-shown}
+use Rattle.search_dump.proofs.Common.{◌+◌, ap, ◌∙◌, arith, line_start, shown, length-shown}
 use Rattle.search_dump.proofs.LineStops.{earlier-one, line-stop, view-line}
 use Rattle.search_dump.proofs.dumping.stop_at_line.Goals as goal
 

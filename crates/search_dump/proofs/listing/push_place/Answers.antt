@@ -1,5 +1,5 @@
-use Rattle.search_dump.proofs.Words.{◌++◌, ◌∷◌, [], ap, subst, ◌∙◌, OnOk, position_text, shown, Goes, chars-nil}
-use Rattle.std.specs.Prelude.{chars, string_bytes}
+use Rattle.search_dump.proofs.Common.{◌++◌, ◌∷◌, [], ap, subst, ◌∙◌, OnOk, position_text, shown, Goes, chars-nil, chars}
+use Rattle.search_dump.proofs.Common.{string_bytes}
 use Rattle.search_dump.proofs.listing.push_place.Goals as goal
 
 pub returns : goal.returns

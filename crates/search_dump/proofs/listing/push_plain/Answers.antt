@@ -1,4 +1,4 @@
-use Rattle.search_dump.proofs.Words.{chars, string_bytes, on_ok_weaker, encodes-chars}
+use Rattle.search_dump.proofs.Common.{chars, string_bytes, on_ok_weaker, encodes-chars}
 use Rattle.search_dump.proofs.PlainWords.{goes-plain}
 use Rattle.search_dump.proofs.listing.push_plain.Goals as goal
 

@@ -1,6 +1,5 @@
-use Rattle.search_dump.proofs.Words.{◌∷◌, ◌++◌, ◌+◌, ◌-◌, ap, arith, ◌∙◌, chars-nil, needs_quotes, position_text}
-use Rattle.std.proofs.Common.{decimal}
-use Rattle.std.specs.Prelude.{chars}
+use Rattle.search_dump.proofs.Common.{◌∷◌, ◌++◌, ◌+◌, ◌-◌, ap, arith, ◌∙◌, chars-nil, needs_quotes, position_text}
+use Rattle.search_dump.proofs.Common.{decimal, chars}
 use Rattle.search_dump.proofs.PlainWords.{chars-place, plain-place}
 use Rattle.search_dump.proofs.listing.write_place.Goals as goal
 

@@ -1,26 +1,29 @@
-use Rattle.search_dump.proofs.Words.{◌≡◌, ◌+◌, ◌-◌, ◌≤◌, ap, arith, chars, length, subst, sym, ◌∙◌, IsTrue, slice_range}
-use Rattle.search_dump.proofs.Words.{IfOk-weaker, shown, length-shown, compared, HasMatch, HasRoom, beside}
+use Rattle.search_dump.proofs.Common.{◌≡◌, ◌+◌, ◌-◌, ◌≤◌, ap, arith, chars, length, subst, sym, ◌∙◌, IsTrue}
+use Rattle.search_dump.proofs.Common.{slice_range, IfOk-weaker, shown, length-shown, compared, HasMatch, HasRoom}
+use Rattle.search_dump.proofs.Common.{beside, text_in}
 use Rattle.search_dump.proofs.RepeatLaws.{goes-back, goes-on}
 use Rattle.search_dump.proofs.WindowLaws.{length-compared}
+use Rattle.search_dump.proofs.matching.goes_on.Given.{Over}
+use Rattle.search_dump.proofs.matching.goes_on.Goals.{In-Forward}
 use Rattle.search_dump.proofs.matching.goes_on.Goals as goal
+
+-- the text has room for the pattern further on
+room : (g : Over) (c : In-Forward g) → c.args.place + c.args.pattern.now.len + c.args.period.len
+    ≤ length (text_in g.S.TextStore.content c.args.view.now)
+room g c = subst (λ d. HasRoom d (text_in g.S.TextStore.content c.args.view.now) c.args.place c.args.pattern.now.len
+    c.args.period.len) c.in-Forward.is c.requires.room
 
 pub overflow_add-from : goal.overflow_add-from
 overflow_add-from g c =
     let view = c.args.view.now in
-    let all = shown (g.S.TextStore.content view.store.now) view.s view.e in
-    let room : c.args.place + c.args.pattern.now.len + c.args.period.len
-    ≤ length all = subst (λ d. HasRoom d all c.args.place c.args.pattern.now.len c.args.period.len) c.in-Forward.is
-    c.requires.room in
-    omega (arith, length-shown (g.S.TextStore.content view.store.now) view.s view.e c.requires.view)
+    let long = length-shown (g.S.TextStore.content view.store.now) view.s view.e c.requires.view in
+    omega (arith, long, room g (goal.at.overflow_add-from g c).In-Forward)
 
 pub overflow_add-from-in-Forward : goal.overflow_add-from-in-Forward
 overflow_add-from-in-Forward g c =
     let view = c.args.view.now in
-    let all = shown (g.S.TextStore.content view.store.now) view.s view.e in
-    let room : c.args.place + c.args.pattern.now.len + c.args.period.len
-    ≤ length all = subst (λ d. HasRoom d all c.args.place c.args.pattern.now.len c.args.period.len) c.in-Forward.is
-    c.requires.room in
-    omega (arith, length-shown (g.S.TextStore.content view.store.now) view.s view.e c.requires.view)
+    let long = length-shown (g.S.TextStore.content view.store.now) view.s view.e c.requires.view in
+    omega (arith, long, room g (goal.at.overflow_add-from-in-Forward g c).In-Forward)
 
 pub returns-in-Forward : goal.returns-in-Forward
 returns-in-Forward g c =
@@ -29,8 +32,7 @@ returns-in-Forward g c =
     let period = c.args.period in
     let all = shown (g.S.TextStore.content view.store.now) view.s view.e in
     let text = compared pattern.ignores_case all in
-    let room : c.args.place + pattern.len + period.len
-    ≤ length all = subst (λ d. HasRoom d all c.args.place pattern.len period.len) c.in-Forward.is c.requires.room in
+    let room = room g (goal.at.returns-in-Forward g c).In-Forward in
     IfOk-weaker c.stands.result (λ stands. IsTrue stands →
     slice_range text (c.args.place + pattern.len) (c.args.place + pattern.len + period.len) ≡ chars period.tail.now)
     (λ stands. IsTrue stands → HasMatch (chars pattern.text.now) text (beside c.args.direction c.args.place period.len))
@@ -38,7 +40,7 @@ returns-in-Forward g c =
     subst (λ d. HasMatch (chars pattern.text.now) text (beside d c.args.place period.len)) (sym c.in-Forward.is)
     (goes-on (chars pattern.text.now) text period.len (chars period.front.now) (chars period.tail.now) c.requires.period
     c.args.place c.requires.matches
-    (omega (arith, c.args.pattern.now.counted, length-compared pattern.ignores_case all))
+    (omega (arith, room, c.args.pattern.now.counted, length-compared pattern.ignores_case all))
     (ap (λ n. slice_range text (c.args.place + n) (c.args.place + n + period.len)) (sym c.args.pattern.now.counted)
     ∙ says is)))
     c.stands.ensures

@@ -1,9 +1,9 @@
-use Rattle.search_dump.proofs.Words.{◌≡◌, ◌+◌, ◌-◌, ◌<◌, ◌≤◌, ◌^◌, Some, ap, chars, length, subst, sym, ◌∙◌, shown}
-use Rattle.search_dump.proofs.Words.{compared, IsPeriod, beside}
+use Rattle.search_dump.proofs.Common.{◌≡◌, ◌+◌, ◌-◌, ◌<◌, ◌≤◌, ◌^◌, Some, ap, chars, length, subst, sym, ◌∙◌, shown}
+use Rattle.search_dump.proofs.Common.{compared, beside}
 use Rattle.search_dump.proofs.RepeatLaws.{has-within, nearest-beside, some-given}
 use Rattle.search_dump.proofs.WindowLaws.{IsWithin}
-use Rattle.search_dump.proofs.matching.match_beside.Goals as goal
 use Rattle.search_dump.proofs.matching.match_beside.Goals.{in-Forward, in-Back}
+use Rattle.search_dump.proofs.matching.match_beside.Goals as goal
 
 pub returns-in-Some-beside : goal.returns-in-Some-beside
 returns-in-Some-beside g c =
@@ -25,12 +25,10 @@ returns-in-Some-beside g c =
           (sym w.beside-is ∙ c.in-Some-beside.is)
           ∙ sym (ap (λ d. beside d place distance) w.in-Back.is)
     ] in
-    let period : IsPeriod characters distance (chars c.in-Some.period.front.now) (chars c.in-Some.period.tail.now) =
-    pattern.repeats c.in-Some.period c.in-Some.is in
     let within = has-within c.args.stretch at pattern.len c.has.result c.has.ensures c.if-has.true in
     ap Some is
     ∙ nearest-beside characters text distance (chars c.in-Some.period.front.now) (chars c.in-Some.period.tail.now)
-    period c.args.direction c.args.stretch place
+    (pattern.repeats c.in-Some.period c.in-Some.is) c.args.direction c.args.stretch place
     c.requires.matches c.requires.behind (subst (IsWithin c.args.stretch (length characters)) is
     (subst (λ n. IsWithin c.args.stretch n at) c.args.pattern.now.counted within))
     (c.in_ok-goes_on.ensures c.if-branch.true)

@@ -1,4 +1,4 @@
-use Rattle.search_dump.proofs.Words.{◌-◌, ◌<◌, chars, shown, compared}
+use Rattle.search_dump.proofs.Common.{◌-◌, ◌<◌, chars, shown, compared}
 use Rattle.search_dump.proofs.WindowLaws.{IsLeft}
 use Rattle.search_dump.proofs.matching.nearest_match.Given as goal
 

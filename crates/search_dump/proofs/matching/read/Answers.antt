@@ -1,4 +1,4 @@
-use Rattle.search_dump.proofs.Words.{◌≡◌, chars, string_bytes, subst, sym, ◌∙◌, IfOk, characters, compared}
+use Rattle.search_dump.proofs.Common.{◌≡◌, chars, string_bytes, subst, sym, ◌∙◌, IfOk, characters, compared}
 use Rattle.search_dump.proofs.WindowLaws.{slice-part}
 use Rattle.search_dump.proofs.matching.read.Goals as goal
 

@@ -1,4 +1,4 @@
-use Rattle.search_dump.proofs.Words.{ap, chars, sym, ◌∙◌, bytes_eq-Decides, shown}
+use Rattle.search_dump.proofs.Common.{ap, chars, sym, ◌∙◌, bytes_eq-Decides, shown}
 use Rattle.search_dump.proofs.WindowLaws.{compared-part}
 use Rattle.search_dump.proofs.matching.stands.Goals as goal
 

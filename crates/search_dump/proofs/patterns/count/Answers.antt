@@ -1,4 +1,4 @@
-use Rattle.search_dump.proofs.Words.{YieldsList-from_chars, count_from_yields_List}
+use Rattle.search_dump.proofs.Common.{YieldsList-from_chars, count_from_yields_List}
 use Rattle.search_dump.proofs.patterns.count.Goals as goal
 
 pub returns : goal.returns

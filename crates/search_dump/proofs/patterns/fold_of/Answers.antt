@@ -1,4 +1,4 @@
-use Rattle.search_dump.proofs.Words.{sym, ◌∙◌, ltb-true, simple_fold-ascii}
+use Rattle.search_dump.proofs.Common.{sym, ◌∙◌, ltb-true, simple_fold-ascii}
 use Rattle.search_dump.proofs.patterns.fold_of.Goals as goal
 
 pub returns-then-is_ascii : goal.returns-then-is_ascii

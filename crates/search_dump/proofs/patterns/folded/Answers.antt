@@ -1,6 +1,6 @@
-use Rattle.search_dump.proofs.Words.{length, chars, string_bytes, map, sym, ap, ◌∙◌, encode_utf8_all, arith}
-use Rattle.search_dump.proofs.Words.{YieldsList-from_chars, YieldsList-turn, YieldsList-end, length_push, take_all}
-use Rattle.search_dump.proofs.Words.{chars_from_encodes, IsUtf8-string_bytes, simple_fold}
+use Rattle.search_dump.proofs.Common.{length, chars, string_bytes, map, sym, ap, ◌∙◌, encode_utf8_all, arith}
+use Rattle.search_dump.proofs.Common.{YieldsList-from_chars, YieldsList-turn, YieldsList-end, length_push, take_all}
+use Rattle.search_dump.proofs.Common.{chars_from_encodes, IsUtf8-string_bytes, simple_fold}
 use Rattle.search_dump.proofs.TextLaws.{folded-more}
 use Rattle.search_dump.proofs.patterns.folded.Goals as goal
 

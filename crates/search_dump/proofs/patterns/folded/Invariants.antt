@@ -1,4 +1,4 @@
-use Rattle.search_dump.proofs.Words.{◌≡◌, chars, encode_utf8_all, length, map, string_bytes, take, simple_fold}
+use Rattle.search_dump.proofs.Common.{◌≡◌, chars, encode_utf8_all, length, map, string_bytes, take, simple_fold}
 use Rattle.search_dump.proofs.patterns.folded.Given as goal
 
 abbrev pub invariant-loop-character : goal.invariant-loop-character

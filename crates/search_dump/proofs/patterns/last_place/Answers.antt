@@ -1,4 +1,4 @@
-use Rattle.search_dump.proofs.Words.{◌≡◌, Some, chars, drop, length, take, ap, arith, ◌∙◌, sym}
+use Rattle.search_dump.proofs.Common.{◌≡◌, Some, chars, drop, length, take, ap, arith, ◌∙◌, sym}
 use Rattle.search_dump.proofs.MatchLaws.{last_place-at, last_place-none}
 use Rattle.search_dump.proofs.patterns.last_place.Goals as goal
 
@@ -13,5 +13,5 @@ returns c =
     let front : c.range.result.now ≡ take at c.args.text.now = c.range.ensures.value
     ∙ ap (λ n. take n (drop 0 c.args.text.now)) (omega arith) in
     ap Some (c.count.ensures ∙ ap (λ bytes. length (chars bytes)) front)
-    ∙ sym (last_place-at c.args.pattern.now c.args.text.now at found.0 c.utf8.pattern c.utf8.text found.3 found.4
+    ∙ sym (last_place-at c.args.pattern.now c.args.text.now c.utf8.pattern c.utf8.text at found.0 found.3 found.4
     found.1.1 found.1.0)

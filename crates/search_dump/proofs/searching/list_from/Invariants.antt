@@ -1,5 +1,5 @@
-use Rattle.search_dump.proofs.Words.{◌-◌, chars, length, string_bytes, position_text, shown, compared, wanted_of}
-use Rattle.search_dump.proofs.Words.{matches_in}
+use Rattle.search_dump.proofs.Common.{◌-◌, chars, length, string_bytes, position_text, shown, compared, wanted_of}
+use Rattle.search_dump.proofs.Common.{matches_in}
 use Rattle.search_dump.proofs.ListedLaws.{IsListing}
 use Rattle.search_dump.proofs.searching.list_from.Given as goal
 

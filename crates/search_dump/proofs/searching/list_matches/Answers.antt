@@ -1,8 +1,10 @@
-use Rattle.search_dump.proofs.Words.{◌≡◌, ◌+◌, ◌≤◌, Some, ap, arith, chars, length, map, string_bytes, subst, sym, ◌∙◌}
-use Rattle.search_dump.proofs.Words.{IfSome, OnOk, Goes, position_text, length-shown, wanted_of, listed_in}
-use Rattle.search_dump.proofs.Words.{listed_whole, searched, text_in, first_stretch}
+use Rattle.search_dump.proofs.Common.{◌≡◌, ◌+◌, ◌≤◌, Some, ap, arith, chars, length, map, string_bytes, subst, sym, ◌∙◌}
+use Rattle.search_dump.proofs.Common.{IfSome, OnOk, Goes, position_text, length-shown, wanted_of, listed_in}
+use Rattle.search_dump.proofs.Common.{listed_whole, searched, text_in, first_stretch}
 use Rattle.search_dump.proofs.FirstLaws.{first-lies, first-matches}
 use Rattle.search_dump.proofs.RoundLaws.{LiesIn}
+use Rattle.search_dump.proofs.searching.list_matches.Given.{Over}
+use Rattle.search_dump.proofs.searching.list_matches.Goals.{After-first_stretch-stretch}
 use Rattle.search_dump.proofs.searching.list_matches.Goals as goal
 
 pub returns-in-None : goal.returns-in-None
@@ -12,31 +14,31 @@ returns-in-None g c =
     (listed_whole g.S.TextStore.content c.args.view.now c.args.pattern.now c.args.search c.args.from stop)))
     (sym c.in-None.is) c.list_round_whole.ensures
 
-pub list_stretch-requires-clause-high : goal.list_stretch-requires-clause-high
-list_stretch-requires-clause-high g c =
+-- the stretch up to the stop
+is : (g : Over) (c : After-first_stretch-stretch g) → c.first_stretch-stretch.result
+    ≡ first_stretch c.args.search (length (text_in g.S.TextStore.content c.args.view.now)) c.args.from
+    (Some c.in-Some.place)
+is g c = c.first_stretch-stretch.ensures
+    ∙ ap (λ n. first_stretch c.args.search n c.args.from (Some c.in-Some.place)) c.len.ensures
+
+lies : (g : Over) (c : After-first_stretch-stretch g) →
+    LiesIn (length (text_in g.S.TextStore.content c.args.view.now)) c.first_stretch-stretch.result
+lies g c =
     let view = c.args.view.now in
     let len = length (text_in g.S.TextStore.content view) in
     let long = length-shown (g.S.TextStore.content view.store.now) view.s view.e c.requires.view in
     let stop : c.in-Some.place ≤ len =
     omega (arith, long, subst (λ o. IfSome o (λ place. view.s + place ≤ view.e)) c.in-Some.is c.requires.stop) in
-    let is : c.first_stretch-stretch.result ≡ first_stretch c.args.search len c.args.from (Some c.in-Some.place) =
-    c.first_stretch-stretch.ensures ∙ ap (λ n. first_stretch c.args.search n c.args.from (Some c.in-Some.place))
-    c.len.ensures in
-    (subst (LiesIn len) (sym is) (first-lies c.args.search len c.args.from c.in-Some.place
-    (omega (arith, long, c.requires.from)) stop)).high
+    subst (LiesIn len) (sym (is g c)) (first-lies c.args.search len c.args.from c.in-Some.place
+    (omega (arith, long, c.requires.from)) stop)
+
+pub list_stretch-requires-clause-high : goal.list_stretch-requires-clause-high
+list_stretch-requires-clause-high g c =
+    (lies g (goal.at.list_stretch-requires-clause-high g c).After-first_stretch-stretch).high
 
 pub list_stretch-requires-clause-within : goal.list_stretch-requires-clause-within
 list_stretch-requires-clause-within g c =
-    let view = c.args.view.now in
-    let len = length (text_in g.S.TextStore.content view) in
-    let long = length-shown (g.S.TextStore.content view.store.now) view.s view.e c.requires.view in
-    let stop : c.in-Some.place ≤ len =
-    omega (arith, long, subst (λ o. IfSome o (λ place. view.s + place ≤ view.e)) c.in-Some.is c.requires.stop) in
-    let is : c.first_stretch-stretch.result ≡ first_stretch c.args.search len c.args.from (Some c.in-Some.place) =
-    c.first_stretch-stretch.ensures ∙ ap (λ n. first_stretch c.args.search n c.args.from (Some c.in-Some.place))
-    c.len.ensures in
-    (subst (LiesIn len) (sym is) (first-lies c.args.search len c.args.from c.in-Some.place
-    (omega (arith, long, c.requires.from)) stop)).end
+    (lies g (goal.at.list_stretch-requires-clause-within g c).After-first_stretch-stretch).end
 
 pub returns-in-Some : goal.returns-in-Some
 returns-in-Some g c =
@@ -44,9 +46,7 @@ returns-in-Some g c =
     let search = c.args.search in
     let all = text_in g.S.TextStore.content view in
     let pattern = chars c.args.pattern.now.text.now in
-    let is : c.first_stretch-stretch.result ≡ first_stretch search (length all) c.args.from (Some c.in-Some.place) =
-    c.first_stretch-stretch.ensures ∙ ap (λ n. first_stretch search n c.args.from (Some c.in-Some.place)) c.len.ensures
-    in
+    let is = is g (goal.at.returns-in-Some g c).After-first_stretch-stretch in
     subst (λ stop. OnOk c.list_stretch.result
     (Goes (string_bytes c.args.list.now) (string_bytes c.list_stretch.new.list)
     (listed_whole g.S.TextStore.content view c.args.pattern.now search c.args.from stop))) (sym c.in-Some.is)

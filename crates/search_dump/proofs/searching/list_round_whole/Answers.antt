@@ -1,5 +1,5 @@
-use Rattle.search_dump.proofs.Words.{None, ap, arith, chars, length, string_bytes, ◌∙◌, on_ok_weaker, position_text}
-use Rattle.search_dump.proofs.Words.{shown, compared, first_stretch}
+use Rattle.search_dump.proofs.Common.{None, ap, arith, chars, length, string_bytes, ◌∙◌, on_ok_weaker, position_text}
+use Rattle.search_dump.proofs.Common.{shown, compared, first_stretch}
 use Rattle.search_dump.proofs.ListedLaws.{first-fits, round-goes}
 use Rattle.search_dump.proofs.searching.list_round_whole.Goals as goal
 

@@ -1,5 +1,5 @@
-use Rattle.search_dump.proofs.Words.{ap, chars, encode_utf8_all, length, map, string_bytes, ◌∙◌, list_text, goes_all}
-use Rattle.search_dump.proofs.Words.{position_text, shown, bound, candidates, compared, matches_at, wanted_of}
+use Rattle.search_dump.proofs.Common.{ap, chars, encode_utf8_all, length, map, string_bytes, ◌∙◌, list_text, goes_all}
+use Rattle.search_dump.proofs.Common.{position_text, shown, bound, candidates, compared, matches_at, wanted_of}
 use Rattle.std.specs.Prelude.{filter}
 use Rattle.search_dump.proofs.ListedLaws.{search-is}
 use Rattle.search_dump.proofs.searching.search.Goals as goal

@@ -1,4 +1,4 @@
-use Rattle.search_dump.proofs.Words.{◌≤◌, ◌-◌, min, length, ap, ◌∙◌, flags, part-next, flags-within}
+use Rattle.search_dump.proofs.Common.{◌≤◌, ◌-◌, min, length, ap, ◌∙◌, flags, part-next, flags-within}
 use Rattle.search_dump.proofs.tag_changes.change_behind.Goals as goal
 
 pub returns-clause-value : goal.returns-clause-value

@@ -1,4 +1,4 @@
-use Rattle.search_dump.proofs.Words.{◌<◌, arith, shown_flags}
+use Rattle.search_dump.proofs.Common.{◌<◌, arith, shown_flags}
 use Rattle.search_dump.proofs.TagLaws.{none-before, some-before}
 use Rattle.search_dump.proofs.tag_changes.tags_before.Goals as goal
 

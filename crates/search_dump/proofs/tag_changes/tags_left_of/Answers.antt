@@ -1,5 +1,4 @@
-use Rattle.search_dump.proofs.Words.{◌≡◌, ◌+◌, ◌<◌, arith, shown, length-shown}
-use Rattle.std.specs.Prelude.{length}
+use Rattle.search_dump.proofs.Common.{◌≡◌, ◌+◌, ◌<◌, arith, shown, length-shown, length}
 use Rattle.search_dump.proofs.TagLaws.{none-behind, slots-shown}
 use Rattle.search_dump.proofs.tag_changes.tags_left_of.Goals as goal
 

@@ -1,4 +1,4 @@
-use Rattle.tcl_words.proofs.Words.{valid_up_to, error_len}
+use Rattle.tcl_words.proofs.Common.{valid_up_to, error_len}
 use Rattle.tcl_words.proofs.Readings.{after_cut, after_fault}
 use Rattle.tcl_words.proofs.encoding.text_front.Goals as goal
 

@@ -1,4 +1,4 @@
-use Rattle.tcl_words.proofs.Words.{list_text}
+use Rattle.tcl_words.proofs.Common.{list_text}
 use Rattle.tcl_words.proofs.SpellsBack.{spelled_back, one_list}
 use Rattle.tcl_words.proofs.laws.spells_back.Goals as goal
 

@@ -1,5 +1,5 @@
-use Rattle.tcl_words.proofs.Words.{length, chars, arith, YieldsList-from_chars, YieldsList-turn, YieldsList-end}
-use Rattle.tcl_words.proofs.Words.{length_push}
+use Rattle.tcl_words.proofs.Common.{length, chars, arith, YieldsList-from_chars, YieldsList-turn, YieldsList-end}
+use Rattle.tcl_words.proofs.Common.{length_push}
 use Rattle.tcl_words.proofs.ListForms.{balance_backslash, balance_opens, balance_low, balance_closes, balance_passes}
 use Rattle.tcl_words.proofs.ListForms.{balance_ends}
 use Rattle.tcl_words.proofs.list_writing.balances.Goals as goal
@@ -18,7 +18,7 @@ loop-c-preserved-then-c-eq123 c =
     let long = length_push c.loop-c.yielded c.in-Some.c in
     let low = c.loop-c.invariant.low in
     record {
-      balanced = balance_opens (chars c.args.element.now) (length c.loop-c.yielded) _ c.in-Some.c c.loop-c.depth t
+      balanced = balance_opens (chars c.args.element.now) (length c.loop-c.yielded) c.in-Some.c c.loop-c.depth t
           c.loop-c.invariant.balanced c.if-c-eq123.true long;
       low = omega arith;
     }
@@ -37,7 +37,7 @@ loop-c-preserved-then-c-eq125 c =
     let long = length_push c.loop-c.yielded c.in-Some.c in
     let low = c.loop-c.invariant.low in
     record {
-      balanced = balance_closes (chars c.args.element.now) (length c.loop-c.yielded) _ c.in-Some.c c.loop-c.depth t
+      balanced = balance_closes (chars c.args.element.now) (length c.loop-c.yielded) c.in-Some.c c.loop-c.depth t
           c.loop-c.invariant.balanced c.if-c-eq125.true c.if-depth-eq0.false long;
       low = omega arith;
     }
@@ -49,7 +49,7 @@ loop-c-preserved c =
     let long = length_push c.loop-c.yielded c.in-Some.c in
     let low = c.loop-c.invariant.low in
     record {
-      balanced = balance_passes (chars c.args.element.now) (length c.loop-c.yielded) _ c.in-Some.c c.loop-c.depth t
+      balanced = balance_passes (chars c.args.element.now) (length c.loop-c.yielded) c.in-Some.c c.loop-c.depth t
           c.loop-c.invariant.balanced c.if-c-eq92.false c.if-c-eq123.false c.if-c-eq125.false long;
       low = omega arith;
     }

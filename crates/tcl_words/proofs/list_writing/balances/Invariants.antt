@@ -1,4 +1,4 @@
-use Rattle.tcl_words.proofs.Words.{◌≡◌, ◌≤◌, length, drop, chars, balances}
+use Rattle.tcl_words.proofs.Common.{◌≡◌, ◌≤◌, length, drop, chars, balances}
 use Rattle.tcl_words.proofs.list_writing.balances.Given as goal
 
 abbrev pub invariant-loop-c : goal.invariant-loop-c

@@ -1,5 +1,5 @@
-use Rattle.tcl_words.proofs.Words.{length, chars, arith, YieldsList-from_chars, YieldsList-turn, YieldsList-end}
-use Rattle.tcl_words.proofs.Words.{length_push}
+use Rattle.tcl_words.proofs.Common.{length, chars, arith, YieldsList-from_chars, YieldsList-turn, YieldsList-end}
+use Rattle.tcl_words.proofs.Common.{length_push}
 use Rattle.tcl_words.proofs.ListForms.{special_found, special_goes, special_ends}
 use Rattle.tcl_words.proofs.list_writing.has_special.Goals as goal
 

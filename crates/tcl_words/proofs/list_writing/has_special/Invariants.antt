@@ -1,4 +1,4 @@
-use Rattle.tcl_words.proofs.Words.{◌≡◌, length, drop, chars, has_special}
+use Rattle.tcl_words.proofs.Common.{◌≡◌, length, drop, chars, has_special}
 use Rattle.tcl_words.proofs.list_writing.has_special.Given as goal
 
 abbrev pub invariant-loop-c : goal.invariant-loop-c

@@ -1,4 +1,4 @@
-use Rattle.tcl_words.proofs.Words.{chars, sym, ◌∙◌, encodes-chars}
+use Rattle.tcl_words.proofs.Common.{chars, sym, ◌∙◌, encodes-chars}
 use Rattle.tcl_words.proofs.Plain.{none_left}
 use Rattle.tcl_words.proofs.ListForms.{quotes_none, quotes_other, some_chars}
 use Rattle.tcl_words.proofs.list_writing.needs_quotes.Goals as goal

@@ -1,4 +1,4 @@
-use Rattle.tcl_words.proofs.Words.{chars, string_bytes, sym, ◌∙◌, encodes-chars}
+use Rattle.tcl_words.proofs.Common.{chars, string_bytes, sym, ◌∙◌, encodes-chars}
 use Rattle.tcl_words.proofs.ListForms.{goes_on, push_bare, push_braced, push_escaped}
 use Rattle.tcl_words.proofs.list_writing.push_element.Goals as goal
 

@@ -1,20 +1,7 @@
-use Rattle.tcl_words.proofs.Words.{◌++◌, ◌∙◌, ap, length, chars, string_bytes, encode_utf8, arith}
-use Rattle.tcl_words.proofs.Words.{YieldsList-from_chars, YieldsList-turn, YieldsList-end, length_push}
-use Rattle.tcl_words.proofs.ListForms.{back_hash, back_plain, back_special, back_other, back_ends}
+use Rattle.tcl_words.proofs.Common.{◌++◌, ◌∙◌, ap, length, chars, string_bytes, encode_utf8, arith}
+use Rattle.tcl_words.proofs.Common.{YieldsList-from_chars, YieldsList-turn, YieldsList-end, length_push}
+use Rattle.tcl_words.proofs.ListForms.{back_special, back_other, back_ends}
 use Rattle.tcl_words.proofs.list_writing.with_backslashes.Goals as goal
-use Rattle.tcl_words.proofs.list_writing.with_backslashes.Goals.{then-begins_with_hash+in_ok-push}
-use Rattle.tcl_words.proofs.list_writing.with_backslashes.Goals.{else-begins_with_hash}
-
-pub loop-c-init : goal.loop-c-init
-loop-c-init c =
-    elim c.if-begins_with_hash.branch [
-      | then-begins_with_hash+in_ok-push w ↦
-          rw w.text-is (back_hash (chars c.args.element.now) _ _ c.begins_with_hash.result c.begins_with_hash.ensures
-          w.if-begins_with_hash.true c.in_ok-text.ensures.bytes w.in_ok-push.ensures.bytes)
-      | else-begins_with_hash w ↦
-          rw w.text-is (back_plain (chars c.args.element.now) _ c.begins_with_hash.result c.begins_with_hash.ensures
-          w.if-begins_with_hash.false c.in_ok-text.ensures.bytes)
-    ]
 
 pub loop-c-preserved-in-Continue-branch-4 : goal.loop-c-preserved-in-Continue-branch-4
 loop-c-preserved-in-Continue-branch-4 c =

@@ -1,4 +1,4 @@
-use Rattle.tcl_words.proofs.Words.{length, chars, string_bytes}
+use Rattle.tcl_words.proofs.Common.{length, chars, string_bytes}
 use Rattle.tcl_words.proofs.ListForms.{IsBacked}
 use Rattle.tcl_words.proofs.list_writing.with_backslashes.Given as goal
 

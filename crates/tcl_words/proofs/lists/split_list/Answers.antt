@@ -1,23 +1,8 @@
-use Rattle.tcl_words.proofs.Words.{◌++◌, ◌∙◌, map, chars, string_bytes, sym, ap, subst, arith, IsUtf8, IsUtf8-drop}
-use Rattle.tcl_words.proofs.ListWriting.{list_depth, reading_starts, reading_same, reading_runs, reading_goes}
-use Rattle.tcl_words.proofs.ListWriting.{reading_fails, reading_ends, reading_ends_badly}
+use Rattle.tcl_words.proofs.Common.{◌++◌, ◌∙◌, string_bytes, sym, ap, subst, arith, IsUtf8, IsUtf8-drop}
+use Rattle.tcl_words.proofs.ListWriting.{list_depth, reading_same, reading_runs, reading_goes, reading_fails}
+use Rattle.tcl_words.proofs.ListWriting.{reading_ends, reading_ends_badly}
 use Rattle.tcl_words.proofs.Plain.{run_at, front_range, char_boundary, after_char, none_left, RunOf}
 use Rattle.tcl_words.proofs.lists.split_list.Goals as goal
-
-pub loop-rest-init : goal.loop-rest-init
-loop-rest-init c = record {
-  utf8 = c.utf8.text;
-  reading = reading_starts (chars c.args.text.now) _ _ (ap (map (λ word. string_bytes word)) c.new-writer.ensures.words)
-      c.new-writer.ensures.word;
-  depth = omega arith;
-}
-
-pub range-requires : goal.range-requires
-range-requires c =
-    let run = run_at c.script_stage.result c.loop-rest.rest.now _ c.plain_run-run.result c.as_bytes.ensures.value
-    c.loop-rest.invariant.utf8 c.if-run-gt0.true
-    c.plain_run-run.ensures.within c.plain_run-run.ensures.plain c.plain_run-run.ensures.end in
-    record { start_le_end = omega arith; start_boundary = λ h. absurd (omega arith); end_boundary = run.0 }
 
 pub loop-rest-preserved-then-run-gt0 : goal.loop-rest-preserved-then-run-gt0
 loop-rest-preserved-then-run-gt0 c =
@@ -31,8 +16,7 @@ loop-rest-preserved-then-run-gt0 c =
     let long = c.range_from-rest.ensures.len in
     record {
       utf8 = subst IsUtf8 (sym after) (IsUtf8-drop rest n c.loop-rest.invariant.utf8 run.0);
-      reading = rw after (reading_same (chars c.args.text.now) _ c.loop-rest.stage _ _ _
-          (reading_runs (chars c.args.text.now) rest n c.loop-rest.stage _ _ _ c.loop-rest.invariant.reading
+      reading = rw after (reading_same (reading_runs c.loop-rest.invariant.reading
           (subst (λ s. RunOf s rest n) c.script_stage.ensures run.1)
           (c.in_ok-keep.ensures.word ∙ ap (λ l. string_bytes c.loop-rest.writer.word ++ l) (c.range.ensures.value
           ∙ front_range n rest))) c.keep.ensures.words);
@@ -41,9 +25,8 @@ loop-rest-preserved-then-run-gt0 c =
 
 pub returns-in-Bad-clause-bad : goal.returns-in-Bad-clause-bad
 returns-in-Bad-clause-bad c =
-    λ e. reading_fails (chars c.args.text.now) (chars c.loop-rest.rest.now) _ c.loop-rest.stage _ _ _ _
-    c.step_from-step.result c.first_char-c.result c.loop-rest.invariant.reading
-    c.first_char-c.ensures.2 c.step_from-step.ensures c.in-Bad.is c.in_ok-write.ensures.words c.in_ok-write.ensures.word
+    λ e. reading_fails c.loop-rest.invariant.reading c.first_char-c.ensures.2 c.step_from-step.ensures
+    c.in_ok-write.ensures.words c.in_ok-write.ensures.word c.in-Bad.is
 
 pub range_from-rest-requires-in-loop-rest : goal.range_from-rest-requires-in-loop-rest
 range_from-rest-requires-in-loop-rest c =
@@ -65,23 +48,19 @@ loop-rest-preserved c =
     let some = c.len_utf8.ensures.lower_bound in
     record {
       utf8 = subst IsUtf8 (sym after) (IsUtf8-drop rest n c.loop-rest.invariant.utf8 boundary);
-      reading = rw behind (reading_goes (chars c.args.text.now) (chars rest) _ c.loop-rest.stage c.in-Go.next _ _ _ _
-          c.step_from-step.result c.first_char-c.result c.loop-rest.invariant.reading
-          c.first_char-c.ensures.2 c.step_from-step.ensures c.in-Go.is c.in_ok-write.ensures.words
-          c.in_ok-write.ensures.word);
+      reading = rw behind (reading_goes c.loop-rest.invariant.reading c.first_char-c.ensures.2
+          c.step_from-step.ensures c.in_ok-write.ensures.words c.in_ok-write.ensures.word c.in-Go.is);
       depth = omega arith;
     }
 
 pub returns-in-Go-next-clause-list : goal.returns-in-Go-next-clause-list
 returns-in-Go-next-clause-list c =
-    reading_ends (chars c.args.text.now) c.loop-rest.rest.now c.loop-rest.stage _ _ _ c.last_from-step.result
-    c.write-2.new.self.words.items c.loop-rest.invariant.reading
+    reading_ends c.loop-rest.rest.now c.write-2.new.self.words.items c.loop-rest.invariant.reading
     (none_left c.loop-rest.rest.now c.is_empty.result c.is_empty.ensures c.loop-rest-test.false)
     c.last_from-step.ensures c.in-Go-next.is c.in_ok-write-2.ensures.words
 
 pub returns-in-Bad-next-clause-bad : goal.returns-in-Bad-next-clause-bad
 returns-in-Bad-next-clause-bad c =
-    λ e. reading_ends_badly (chars c.args.text.now) c.loop-rest.rest.now c.loop-rest.stage _ _ c.last_from-step.result
-    c.loop-rest.invariant.reading
+    λ e. reading_ends_badly c.loop-rest.rest.now c.loop-rest.invariant.reading
     (none_left c.loop-rest.rest.now c.is_empty.result c.is_empty.ensures c.loop-rest-test.false)
     c.last_from-step.ensures c.in-Bad-next.is

@@ -1,4 +1,4 @@
-use Rattle.tcl_words.proofs.Words.{◌+◌, ◌≤◌, IsUtf8, map, length, chars, string_bytes, open_braces}
+use Rattle.tcl_words.proofs.Common.{◌+◌, ◌≤◌, IsUtf8, map, length, chars, string_bytes, open_braces}
 use Rattle.tcl_words.proofs.ListWriting.{IsReading}
 use Rattle.tcl_words.proofs.lists.split_list.Given as goal
 

@@ -1,4 +1,4 @@
-use Rattle.tcl_words.proofs.Words.{◌+◌, ◌≤◌, IsUtf8, map, length, chars, string_bytes, depth_of}
+use Rattle.tcl_words.proofs.Common.{◌+◌, ◌≤◌, IsUtf8, map, length, chars, string_bytes, depth_of}
 use Rattle.tcl_words.proofs.Writing.{IsWritten}
 use Rattle.tcl_words.proofs.pieces.words_of.Given as goal
 

@@ -1,4 +1,4 @@
-use Rattle.tcl_words.proofs.Words.{arith}
+use Rattle.tcl_words.proofs.Common.{arith}
 use Rattle.tcl_words.proofs.PlainWords.{bare_found}
 use Rattle.tcl_words.proofs.plain_words.bare_word.Goals as goal
 

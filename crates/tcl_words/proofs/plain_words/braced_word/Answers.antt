@@ -1,4 +1,4 @@
-use Rattle.tcl_words.proofs.Words.{take_rest, BeforeWord, IsPlainWord, IsClosed}
+use Rattle.tcl_words.proofs.Common.{take_rest, BeforeWord, IsPlainWord, IsClosed}
 use Rattle.tcl_words.proofs.PlainWords.{braced_is, some_left, if_word}
 use Rattle.tcl_words.proofs.plain_words.braced_word.Goals as goal
 

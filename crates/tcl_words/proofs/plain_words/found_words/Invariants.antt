@@ -1,5 +1,5 @@
-use Rattle.tcl_words.proofs.Words.{◌≡◌, ◌≤◌, ◌++◌, IsUtf8, map, length, take, drop, scanned, later, spelled_from}
-use Rattle.tcl_words.proofs.Words.{BeforeCommand}
+use Rattle.tcl_words.proofs.Common.{◌≡◌, ◌≤◌, ◌++◌, IsUtf8, map, length, take, drop, scanned, later, spelled_from}
+use Rattle.tcl_words.proofs.Common.{BeforeCommand}
 use Rattle.tcl_words.proofs.plain_words.found_words.Given as goal
 
 abbrev pub invariant-loop-count : goal.invariant-loop-count

@@ -1,4 +1,4 @@
-use Rattle.tcl_words.proofs.Words.{rules}
+use Rattle.tcl_words.proofs.Common.{rules}
 use Rattle.std.proofs.lemmas.Fn.{filter_same}
 use Rattle.tcl_words.proofs.plain_words.keep_short.Goals as goal
 

@@ -1,4 +1,4 @@
-use Rattle.tcl_words.proofs.Words.{take_rest, BeforeWord, IsPlainWord, IsClosed}
+use Rattle.tcl_words.proofs.Common.{take_rest, BeforeWord, IsPlainWord, IsClosed}
 use Rattle.tcl_words.proofs.PlainWords.{quoted_is, if_word}
 use Rattle.tcl_words.proofs.plain_words.quoted_word.Goals as goal
 

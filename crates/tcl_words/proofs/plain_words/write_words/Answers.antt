@@ -1,4 +1,4 @@
-use Rattle.tcl_words.proofs.Words.{arith}
+use Rattle.tcl_words.proofs.Common.{arith}
 use Rattle.tcl_words.proofs.WordWriting.{written_all}
 use Rattle.tcl_words.proofs.plain_words.write_words.Goals as goal
 

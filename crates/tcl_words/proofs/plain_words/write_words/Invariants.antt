@@ -1,4 +1,4 @@
-use Rattle.tcl_words.proofs.Words.{◌≡◌, ◌≤◌, map, take, vec_len, string_bytes}
+use Rattle.tcl_words.proofs.Common.{◌≡◌, ◌≤◌, map, take, vec_len, string_bytes}
 use Rattle.tcl_words.proofs.plain_words.write_words.Given as goal
 
 abbrev pub invariant-loop-place : goal.invariant-loop-place

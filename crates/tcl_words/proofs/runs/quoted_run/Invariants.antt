@@ -1,4 +1,4 @@
-use Rattle.tcl_words.proofs.Words.{◌≡◌, ℕ, ◌<◌, true, get_or, is_quoted}
+use Rattle.tcl_words.proofs.Common.{◌≡◌, ℕ, ◌<◌, true, get_or, is_quoted}
 use Rattle.tcl_words.proofs.runs.quoted_run.Given as goal
 
 abbrev pub invariant-loop-index : goal.invariant-loop-index

@@ -1,13 +1,12 @@
-use Rattle.tcl_words.proofs.Words.{◌∙◌, sym, ap, arith, pair_gives, Text, Quoted}
+use Rattle.tcl_words.proofs.Common.{◌∙◌, sym, ap, arith, pair_gives, Text, Quoted}
 use Rattle.tcl_words.proofs.Pairs.{scan_plain, scan_pair}
 use Rattle.tcl_words.proofs.scanner.quoted_front.Goals as goal
 
 pub loop-index-preserved-then-is_quoted : goal.loop-index-preserved-then-is_quoted
 loop-index-preserved-then-is_quoted c =
-    let less = c.loop-index-test.true in
     record {
       within = omega arith;
-      scans = scan_plain c.args.bytes.now c.loop-index.index (Text Quoted) less
+      scans = scan_plain c.args.bytes.now c.loop-index.index (Text Quoted) c.loop-index-test.true
           (sym c.is_quoted.ensures ∙ c.if-is_quoted.true) c.loop-index.invariant.scans;
     }
 

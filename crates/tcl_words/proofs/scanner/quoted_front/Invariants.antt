@@ -1,4 +1,4 @@
-use Rattle.tcl_words.proofs.Words.{◌≡◌, ◌-◌, ◌≤◌, length, drop, scanned, later, Text, Quoted}
+use Rattle.tcl_words.proofs.Common.{◌≡◌, ◌-◌, ◌≤◌, length, drop, scanned, later, Text, Quoted}
 use Rattle.tcl_words.proofs.scanner.quoted_front.Given as goal
 
 abbrev pub invariant-loop-index : goal.invariant-loop-index

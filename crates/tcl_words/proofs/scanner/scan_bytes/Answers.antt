@@ -1,4 +1,4 @@
-use Rattle.tcl_words.proofs.Words.{◌+◌, sym, ap, ◌∙◌, arith, drop, length-drop, take_rest, scanned, later}
+use Rattle.tcl_words.proofs.Common.{◌+◌, sym, ap, ◌∙◌, arith, drop, length-drop, take_rest, scanned, later}
 use Rattle.tcl_words.proofs.Spelling.{later-later}
 use Rattle.tcl_words.proofs.Scans.{scan_by, scan_over, depth_on}
 use Rattle.tcl_words.proofs.Plain.{scan_skips}

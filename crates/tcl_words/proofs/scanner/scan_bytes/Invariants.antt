@@ -1,4 +1,4 @@
-use Rattle.tcl_words.proofs.Words.{◌≡◌, ◌+◌, ◌-◌, ◌≤◌, length, drop, scanned, later, depth_of}
+use Rattle.tcl_words.proofs.Common.{◌≡◌, ◌+◌, ◌-◌, ◌≤◌, length, drop, scanned, later, depth_of}
 use Rattle.tcl_words.proofs.scanner.scan_bytes.Given as goal
 
 abbrev pub invariant-loop-index : goal.invariant-loop-index

@@ -1,6 +1,6 @@
-use Rattle.command_effects.proofs.Words.{◌+◌, sym, ap₂, ◌∙◌, arith, length-drop, take_rest, setting_read}
+use Rattle.command_effects.proofs.Common.{◌+◌, sym, ap₂, ◌∙◌, arith, length-drop, take_rest, setting_read}
 use Rattle.command_effects.proofs.PairLaws.{word_read}
-use Rattle.command_effects.proofs.SettingLaws.{settings_read-more, settings_read-fault}
+use Rattle.command_effects.proofs.SettingLaws.{settings_read-next}
 use Rattle.command_effects.proofs.settings.Settings.read.Goals as goal
 
 pub loop-rest-preserved : goal.loop-rest-preserved
@@ -11,8 +11,8 @@ loop-rest-preserved c =
     let second = word_read rest 1 c.index-rest-1.result c.as_str-in-loop-rest.result.now
     (omega (arith, c.loop-rest-test.true)) c.index-rest-1.is c.as_str-in-loop-rest.ensures.value in
     record {
-      value = settings_read-more c.args.lines _ c.loop-rest.here rest c.loop-rest.settings c.in-Ok.next
-          c.read_one.result (omega (arith, c.loop-rest-test.true)) c.loop-rest.invariant.value
+      value = settings_read-next c.args.lines _ c.loop-rest.here rest c.loop-rest.settings c.read_one.result _
+          (omega (arith, c.loop-rest-test.true)) c.loop-rest.invariant.value
           (c.read_one.ensures
           ∙ ap₂ (λ o v. setting_read c.args.lines (c.loop-rest.here + 1) o v c.loop-rest.settings) first second)
           c.in-Ok.is;
@@ -27,7 +27,7 @@ returns-in-Err c =
     c.index-rest-0.is c.as_str.ensures.value in
     let second = word_read rest 1 c.index-rest-1.result c.as_str-in-loop-rest.result.now
     (omega (arith, c.loop-rest-test.true)) c.index-rest-1.is c.as_str-in-loop-rest.ensures.value in
-    sym (settings_read-fault c.args.lines _ c.loop-rest.here rest c.loop-rest.settings c.in-Err.fault
-    c.read_one.result (omega (arith, c.loop-rest-test.true)) c.loop-rest.invariant.value
+    sym (settings_read-next c.args.lines _ c.loop-rest.here rest c.loop-rest.settings c.read_one.result _
+    (omega (arith, c.loop-rest-test.true)) c.loop-rest.invariant.value
     (c.read_one.ensures ∙ ap₂ (λ o v. setting_read c.args.lines (c.loop-rest.here + 1) o v c.loop-rest.settings)
     first second) c.in-Err.is)

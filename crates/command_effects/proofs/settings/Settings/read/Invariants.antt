@@ -1,4 +1,4 @@
-use Rattle.command_effects.proofs.Words.{◌≡◌, ◌≤◌, ◌+◌, length, texts_of, settings_read}
+use Rattle.command_effects.proofs.Common.{◌≡◌, ◌≤◌, ◌+◌, length, texts_of, settings_read}
 use Rattle.command_effects.proofs.settings.Settings.read.Given as goal
 
 abbrev pub invariant-loop-rest : goal.invariant-loop-rest

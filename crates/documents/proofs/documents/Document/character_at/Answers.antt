@@ -1,5 +1,4 @@
-use Rattle.documents.proofs.Words.{◌≡◌, ◌+◌, ◌≤◌, length, min, suc, ap, ◌∙◌, arith}
-use Rattle.std.proofs.Common.{slice_range}
+use Rattle.documents.proofs.Common.{◌≡◌, ◌+◌, ◌≤◌, length, min, suc, ap, ◌∙◌, arith, slice_range}
 use Rattle.text_model.specs.Content.{characters}
 use Rattle.documents.proofs.ViewLaws.{counted, part-one}
 use Rattle.documents.proofs.documents.Document.character_at.Goals as goal

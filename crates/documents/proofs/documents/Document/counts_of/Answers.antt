@@ -1,4 +1,4 @@
-use Rattle.documents.proofs.Words.{ap, ◌∙◌, list_text}
+use Rattle.documents.proofs.Common.{ap, ◌∙◌, list_text}
 use Rattle.search_dump.specs.Counts.{counted}
 use Rattle.text_index.specs.Views.{shown}
 use Rattle.documents.proofs.QueryLaws.{spelled}

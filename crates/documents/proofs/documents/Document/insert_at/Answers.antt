@@ -1,116 +1,67 @@
-use Rattle.documents.proofs.Words.{ap, ap₂, ◌∙◌, arith, map, take, sel, slot_of, Insert, inserted_texts, log_of}
-use Rattle.documents.proofs.Words.{state_of, recording_of, piece_of, document_of, widget_at, parts_of, Stands}
-use Rattle.documents.proofs.Words.{insert_at}
-use Rattle.documents.proofs.ChangeLaws.{does-left, stands-same, table-back}
-use Rattle.documents.proofs.InsertionLaws.{leaves-put, put-left, with_tags}
-use Rattle.documents.proofs.PartsLaws.{cells-kept, sits}
-use Rattle.documents.proofs.StateLaws.{anchors-stand, edited-is, unedited-is, with_state}
+use Rattle.documents.proofs.Common.{ap, ◌∙◌, arith, map, take, sel, slot_of, Insert, inserted_texts, log_of, Ok, Empty}
+use Rattle.documents.proofs.Common.{state_of, piece_of, widget_at, parts_of, Stands, insert_at}
+use Rattle.documents.proofs.ChangeLaws.{Leaves, leaves-left}
+use Rattle.documents.proofs.InsertionLaws.{leaves-put, put-left, stands-back, with_tags}
+use Rattle.documents.proofs.PartsLaws.{cells-kept, sits, stand}
+use Rattle.documents.proofs.StateLaws.{anchors-stand, state_in, with_state}
+use Rattle.documents.proofs.documents.Document.insert_at.Given.{Over}
+use Rattle.documents.proofs.documents.Document.insert_at.Goals.{After-truncate, In-Ok}
 use Rattle.documents.proofs.documents.Document.insert_at.Goals as goal
 
 pub put_pairs-put-requires-clause-within : goal.put_pairs-put-requires-clause-within
 put_pairs-put-requires-clause-within g c =
-    let old = c.self.inside in
-    let parts = parts_of g.S.TextStore.content old in
+    let parts = parts_of g.S.TextStore.content c.self.inside in
     omega (arith, c.requires.within, cells-kept parts c.args.self.now c.self.view_is)
 
 pub put_pairs-put-requires-clause-stand : goal.put_pairs-put-requires-clause-stand
-put_pairs-put-requires-clause-stand g c =
-    let old = c.self.inside in
-    let parts = parts_of g.S.TextStore.content old in
-    anchors-stand parts c.args.self.now (record { sound = c.self.invariant; is = c.self.view_is })
+put_pairs-put-requires-clause-stand g c = anchors-stand (stand c.self.invariant c.self.view_is)
 
 pub truncate-requires : goal.truncate-requires
 truncate-requires g c =
     ap (λ n. slot_of sel (take n c.put_pairs-put.new.tags.tags)) c.len-front.ensures.value
     ∙ ap (slot_of sel) c.in-Err.ensures.front.tags ∙ c.len-front.ensures.sound.selection
 
-pub invariant_of-self : goal.invariant_of-self
-invariant_of-self g c =
-    let old = c.self.inside in
-    let new = c.put_pairs-put.new in
-    let content = g.S.TextStore.content old.text.store in
-    let changed = g.S.TextStore.content new.text.store in
-    let parts = parts_of g.S.TextStore.content old in
-    let stands : Stands parts c.args.self.now = record { sound = c.self.invariant; is = c.self.view_is } in
-    let kept = new.text.anchors.items in
+-- what is left where the texts were put in
+left : (g : Over) (c : In-Ok g)
+    → Leaves c.args.limits.now (with_state (with_tags c.put_pairs-put.new.tags
+    (parts_of g.S.TextStore.content c.self.inside)) (state_of (g.S.TextStore.content c.put_pairs-put.new.text.store)
+    c.put_pairs-put.new.text.anchors.items (log_of c.put_pairs-put.new.text.history))) c.args.self.now (Ok Empty)
+    (insert_at c.args.limits.now c.args.self.now (widget_at c.args.self.now c.args.seat) c.args.at c.args.pairs.items)
+left g c =
+    let parts = parts_of g.S.TextStore.content c.self.inside in
+    let stands = stand c.self.invariant c.self.view_is in
+    let slot = c.number.result in
     let told = c.in-Ok.ensures in
-    (leaves-put c.args.limits.now parts new.tags (state_of changed kept (log_of new.text.history)) c.args.self.now
-    c.args.seat c.number.result c.args.at c.args.pairs.items stands
-    (sits parts c.args.self.now c.args.seat c.number.result stands c.number.ensures.value)
-    (record {
+    leaves-put stands (sits c.args.seat stands c.number.ensures.value) (record {
       bounds = told.bounds;
       front = told.front;
       sound = told.sound;
       scalars = told.scalars;
       made = told.made;
       room = told.room;
-    }) c.requires.within
-    (edited-is (λ recording state. inserted_texts recording Insert c.args.at
-    (map (piece_of new.tags.tags c.number.result) c.args.pairs.items) state)
-    (state_of content old.text.anchors.items (log_of old.text.history))
-    (state_of changed kept (log_of new.text.history)) (recording_of old.settings) c.recording.result c.recording.ensures told.ok)).sound
+    }) c.requires.within (told.ok ∙ ap (λ recording. inserted_texts recording Insert c.args.at
+    (map (piece_of c.put_pairs-put.new.tags.tags slot) c.args.pairs.items) (state_in parts)) c.recording.ensures)
+
+pub invariant_of-self : goal.invariant_of-self
+invariant_of-self g c = (left g c).sound
 
 pub returns-in-Ok : goal.returns-in-Ok
-returns-in-Ok g c =
-    let old = c.self.inside in
-    let new = c.put_pairs-put.new in
-    let content = g.S.TextStore.content old.text.store in
-    let changed = g.S.TextStore.content new.text.store in
-    let parts = parts_of g.S.TextStore.content old in
-    let stands : Stands parts c.args.self.now = record { sound = c.self.invariant; is = c.self.view_is } in
-    let kept = new.text.anchors.items in
-    let told = c.in-Ok.ensures in
-    (leaves-put c.args.limits.now parts new.tags (state_of changed kept (log_of new.text.history)) c.args.self.now
-    c.args.seat c.number.result c.args.at c.args.pairs.items stands
-    (sits parts c.args.self.now c.args.seat c.number.result stands c.number.ensures.value)
-    (record {
-      bounds = told.bounds;
-      front = told.front;
-      sound = told.sound;
-      scalars = told.scalars;
-      made = told.made;
-      room = told.room;
-    }) c.requires.within
-    (edited-is (λ recording state. inserted_texts recording Insert c.args.at
-    (map (piece_of new.tags.tags c.number.result) c.args.pairs.items) state)
-    (state_of content old.text.anchors.items (log_of old.text.history))
-    (state_of changed kept (log_of new.text.history)) (recording_of old.settings) c.recording.result c.recording.ensures told.ok)).does
+returns-in-Ok g c = (left g c).does
+
+-- nothing is left of an insertion that was refused
+back : (g : Over) (c : After-truncate g)
+    → Stands (with_state (with_tags c.truncate.new.self (parts_of g.S.TextStore.content c.self.inside)) (state_of
+    (g.S.TextStore.content c.put_pairs-put.new.text.store) c.put_pairs-put.new.text.anchors.items
+    (log_of c.put_pairs-put.new.text.history))) c.args.self.now
+back g c =
+    let err = c.in-Err.ensures.err in
+    stands-back (stand c.self.invariant c.self.view_is) c.len-front.ensures.value c.in-Err.ensures.front
+    c.truncate.ensures err.0 err.1 err.2
 
 pub invariant_of-self-in-Err : goal.invariant_of-self-in-Err
-invariant_of-self-in-Err g c =
-    let old = c.self.inside in
-    let new = c.put_pairs-put.new in
-    let content = g.S.TextStore.content old.text.store in
-    let changed = g.S.TextStore.content new.text.store in
-    let parts = parts_of g.S.TextStore.content old in
-    let stands : Stands parts c.args.self.now = record { sound = c.self.invariant; is = c.self.view_is } in
-    let kept = new.text.anchors.items in
-    let err = c.in-Err.ensures.err in
-    let back = table-back old.tags new.tags c.truncate.new.self c.len-front.result c.len-front.ensures.value
-    c.in-Err.ensures.front c.truncate.ensures in
-    let state = unedited-is content changed old.text.anchors.items kept (log_of old.text.history)
-    (log_of new.text.history) err.0 err.1 err.2 in
-    let after = with_state (with_tags c.truncate.new.self parts) (state_of changed kept (log_of new.text.history)) in
-    (stands-same parts after c.args.self.now stands (ap₂ (λ t s. with_state (with_tags t parts) s) back state)).sound
+invariant_of-self-in-Err g c = (back g c).sound
 
 pub returns-in-Err : goal.returns-in-Err
 returns-in-Err g c =
-    let old = c.self.inside in
-    let new = c.put_pairs-put.new in
-    let content = g.S.TextStore.content old.text.store in
-    let changed = g.S.TextStore.content new.text.store in
-    let document = c.args.self.now in
-    let parts = parts_of g.S.TextStore.content old in
-    let stands : Stands parts document = record { sound = c.self.invariant; is = c.self.view_is } in
-    let kept = new.text.anchors.items in
-    let err = c.in-Err.ensures.err in
-    let back = table-back old.tags new.tags c.truncate.new.self c.len-front.result c.len-front.ensures.value
-    c.in-Err.ensures.front c.truncate.ensures in
-    let state = unedited-is content changed old.text.anchors.items kept (log_of old.text.history)
-    (log_of new.text.history) err.0 err.1 err.2 in
-    let after = with_state (with_tags c.truncate.new.self parts) (state_of changed kept (log_of new.text.history)) in
-    let same = stands-same parts after document stands (ap₂ (λ t s. with_state (with_tags t parts) s) back state) in
-    does-left c.args.limits.now document (document_of after) c.in-Err.fault
-    (insert_at c.args.limits.now document (widget_at document c.args.seat) c.args.at c.args.pairs.items) same.is
-    (λ other. put-left c.args.limits.now parts document (widget_at document c.args.seat) c.args.at c.args.pairs.items
-    c.in-Err.fault stands (c.in-Err.ensures.fault other))
+    (leaves-left (back g c) (λ other. put-left c.args.limits.now (widget_at c.args.self.now c.args.seat) c.args.at
+    c.args.pairs.items (stand c.self.invariant c.self.view_is) (c.in-Err.ensures.fault other))).does

@@ -1,4 +1,4 @@
-use Rattle.documents.proofs.Words.{◌∙◌, texts_of, Parts, parts_of}
+use Rattle.documents.proofs.Common.{◌∙◌, texts_of, Parts, parts_of}
 use Rattle.documents.proofs.UnseatedLaws.{some-kept}
 use Rattle.documents.proofs.documents.Document.keeps_some.Goals as goal
 

@@ -1,4 +1,4 @@
-use Rattle.documents.proofs.Words.{ap, ◌∙◌, chars, list_text}
+use Rattle.documents.proofs.Common.{ap, ◌∙◌, chars, list_text}
 use Rattle.search_dump.specs.Matches.{search_result}
 use Rattle.text_index.specs.Views.{shown}
 use Rattle.documents.proofs.QueryLaws.{spelled}

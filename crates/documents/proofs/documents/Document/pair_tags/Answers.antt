@@ -1,13 +1,13 @@
-use Rattle.documents.proofs.Words.{◌≡◌, ◌+◌, ◌<◌, ◌++◌, true, [], chars, drop, length, option_map, take, arith, ap}
-use Rattle.documents.proofs.Words.{refl, subst, sym, ◌∙◌, drop_all, take_all, same_Some, removed, Named, slots_or, Pair}
-use Rattle.documents.proofs.Words.{slots_named, Document, Widget, widget_at, keys_or, parts_of, Stands, keys_named}
-use Rattle.documents.proofs.Words.{keys_of, AreKeysOf, run_changes}
-use Rattle.std.specs.FinSet as set
+use Rattle.documents.proofs.Common.{◌≡◌, ◌+◌, ◌<◌, ◌++◌, true, [], chars, drop, length, option_map, take, arith, ap}
+use Rattle.documents.proofs.Common.{refl, subst, sym, ◌∙◌, drop_all, take_all, same_Some, removed, Named, slots_or}
+use Rattle.documents.proofs.Common.{Pair, slots_named, Document, Widget, widget_at, keys_or, parts_of, Stands}
+use Rattle.documents.proofs.Common.{keys_named, keys_of, AreKeysOf, run_changes}
 use Rattle.documents.proofs.PairTagLaws.{PairsTold, base-within, none-goes, one-goes, pairs-told, room-for, told-start}
 use Rattle.documents.proofs.PartsLaws.{cells-kept, mapped-at, pairs_of, sits}
-use Rattle.documents.proofs.documents.Document.pair_tags.Goals as goal
 use Rattle.documents.proofs.documents.Document.pair_tags.Goals.{then-count-gt0+in_ok-keys+in_ok-push_run}
 use Rattle.documents.proofs.documents.Document.pair_tags.Goals.{else-count-gt0}
+use Rattle.std.specs.FinSet as set
+use Rattle.documents.proofs.documents.Document.pair_tags.Goals as goal
 
 pub loop-pair-init : goal.loop-pair-init
 loop-pair-init g c = λ room.
@@ -30,7 +30,7 @@ loop-pair-preserved g c = λ room.
     let parts = parts_of g.S.TextStore.content c.self.inside in
     let stands : Stands parts document = record { sound = c.self.invariant; is = c.self.view_is } in
     let kept = c.self.invariant.kept in
-    let seated = sits parts document c.args.seat c.number.result stands c.number.ensures.value in
+    let seated = sits c.args.seat stands c.number.ensures.value in
     let widget : Widget = widget_at document c.args.seat in
     let base = removed c.args.from c.args.to document.cells in
     let i = c.loop-pair.pair-index in

@@ -1,4 +1,4 @@
-use Rattle.documents.proofs.Words.{◌+◌, ◌<◌, ◌^◌, drop, length, take, removed, total, widget_at, parts_of}
+use Rattle.documents.proofs.Common.{◌+◌, ◌<◌, ◌^◌, drop, length, take, removed, total, widget_at, parts_of}
 use Rattle.documents.proofs.PairTagLaws.{PairsTold}
 use Rattle.documents.proofs.PartsLaws.{pairs_of}
 use Rattle.documents.proofs.documents.Document.pair_tags.Given as goal

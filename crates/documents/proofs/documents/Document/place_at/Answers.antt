@@ -1,42 +1,31 @@
-use Rattle.documents.proofs.Words.{length, ap, ◌∙◌, arith, chars, widget_at, parts_of, Stands, place_of, shown}
+use Rattle.documents.proofs.Common.{length, ◌∙◌, chars, widget_at, parts_of, place_of, shown}
 use Rattle.documents.proofs.MeaningLaws.{found-within, gives-place, place-found}
-use Rattle.documents.proofs.PartsLaws.{sits}
-use Rattle.documents.proofs.ViewLaws.{length-found, see, view-found}
+use Rattle.documents.proofs.PartsLaws.{anchors-there, stand}
+use Rattle.documents.proofs.ViewLaws.{IsSeen, length-found, see, view-found}
+use Rattle.documents.proofs.documents.Document.place_at.Given.{Over}
+use Rattle.documents.proofs.documents.Document.place_at.Goals.{After-view_of-view}
 use Rattle.documents.proofs.documents.Document.place_at.Goals as goal
 
 pub view_of-view-requires : goal.view_of-view-requires
 view_of-view-requires g c =
-    let old = c.self.inside in
-    let parts = parts_of g.S.TextStore.content old in
-    let stands : Stands parts c.args.self.now = record { sound = c.self.invariant; is = c.self.view_is } in
-    let seated = sits parts c.args.self.now c.args.seat c.number-slot.result stands c.number-slot.ensures.value in
-    omega (arith, seated.anchors, ap length c.deref.ensures.value)
+    anchors-there c.args.seat (stand c.self.invariant c.self.view_is) c.number-slot.ensures.value c.deref.ensures.value
+
+-- the view of the widget
+seen : (g : Over) (c : After-view_of-view g)
+    → IsSeen (parts_of g.S.TextStore.content c.self.inside) c.args.self.now c.args.seat c.number-slot.result
+    (g.S.TextStore.content c.view_of-view.result.store.now) c.view_of-view.result.s c.view_of-view.result.e
+seen g c =
+    let found = c.view_of-view.ensures in
+    see (stand c.self.invariant c.self.view_is) c.number-slot.ensures.value c.deref.ensures.value found.start found.end
+    found.store
 
 pub locate-requires-clause-view : goal.locate-requires-clause-view
-locate-requires-clause-view g c =
-    let old = c.self.inside in
-    let found = c.view_of-view in
-    let content = g.S.TextStore.content found.result.store.now in
-    let parts = parts_of g.S.TextStore.content old in
-    let stands : Stands parts c.args.self.now = record { sound = c.self.invariant; is = c.self.view_is } in
-    let seen = see parts c.args.self.now c.args.seat c.number-slot.result content found.result.s found.result.e
-    c.deref.result.now stands c.number-slot.ensures.value
-    c.deref.ensures.value found.ensures.start found.ensures.end found.ensures.store in
-    view-found parts c.args.self.now c.args.seat c.number-slot.result content found.result.s found.result.e seen
+locate-requires-clause-view g c = view-found (seen g (goal.at.locate-requires-clause-view g c).After-view_of-view)
 
 pub returns-clause-value : goal.returns-clause-value
 returns-clause-value g c =
-    let old = c.self.inside in
-    let found = c.view_of-view in
     let word = chars c.args.word.now in
-    let content = g.S.TextStore.content found.result.store.now in
-    let parts = parts_of g.S.TextStore.content old in
-    let stands : Stands parts c.args.self.now = record { sound = c.self.invariant; is = c.self.view_is } in
-    let seen = see parts c.args.self.now c.args.seat c.number-slot.result content found.result.s found.result.e
-    c.deref.result.now stands c.number-slot.ensures.value
-    c.deref.ensures.value found.ensures.start found.ensures.end found.ensures.store in
-    let defined = place-found parts c.args.self.now c.args.seat c.number-slot.result content found.result.s
-    found.result.e word seen in
+    let defined = place-found word (seen g (goal.at.returns-clause-value g c).After-view_of-view) in
     let gives = gives-place c.args.position c.locate.result
     (place_of c.args.self.now (widget_at c.args.self.now c.args.seat) word) (λ other. c.locate.ensures.value other
     ∙ defined) in
@@ -44,16 +33,7 @@ returns-clause-value g c =
 
 pub returns-clause-within : goal.returns-clause-within
 returns-clause-within g c =
-    let old = c.self.inside in
-    let found = c.view_of-view in
-    let content = g.S.TextStore.content found.result.store.now in
-    let parts = parts_of g.S.TextStore.content old in
-    let stands : Stands parts c.args.self.now = record { sound = c.self.invariant; is = c.self.view_is } in
-    let seen = see parts c.args.self.now c.args.seat c.number-slot.result content found.result.s found.result.e
-    c.deref.result.now stands c.number-slot.ensures.value
-    c.deref.ensures.value found.ensures.start found.ensures.end found.ensures.store in
-    let long = length-found parts c.args.self.now c.args.seat c.number-slot.result content found.result.s
-    found.result.e seen in
+    let found = c.view_of-view.result in
+    let long = length-found (seen g (goal.at.returns-clause-within g c).After-view_of-view) in
     let most = length (shown c.args.self.now (widget_at c.args.self.now c.args.seat)) in
-    c.at_position.ensures.within most (found-within c.locate.result found.result.s found.result.e most long
-    c.locate.ensures.within)
+    c.at_position.ensures.within most (found-within c.locate.result found.s found.e most long c.locate.ensures.within)

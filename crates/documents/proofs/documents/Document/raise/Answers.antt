@@ -1,49 +1,29 @@
-use Rattle.documents.proofs.Words.{sym, subst, chars, option_map, Result, Moved, Neighbour, Answer, Fault, document_of}
-use Rattle.documents.proofs.Words.{parts_of, Stands, Does, raised, reordered}
-use Rattle.documents.proofs.ChangeLaws.{some_limits}
+use Rattle.documents.proofs.Common.{sym, subst, chars, option_map, LimitTable, Result, Moved, Neighbour, Answer, Fault}
+use Rattle.documents.proofs.Common.{parts_of, raised, reordered}
+use Rattle.documents.proofs.ChangeLaws.{Leaves, some_limits}
 use Rattle.documents.proofs.OrderLaws.{length-raised, raised-ordered}
+use Rattle.documents.proofs.PartsLaws.{stand}
 use Rattle.documents.proofs.ReorderLaws.{IsUnknown, raised-unknown}
 use Rattle.documents.proofs.TagLaws.{does-unordered, leaves-ordered}
+use Rattle.documents.proofs.documents.Document.raise.Given.{Over}
+use Rattle.documents.proofs.documents.Document.raise.Goals.{Joined-raise, in-Ok, in-Err-Moved, in-Err-Neighbour}
 use Rattle.documents.proofs.documents.Document.raise.Goals as goal
-use Rattle.documents.proofs.documents.Document.raise.Goals.{in-Ok, in-Err-Moved, in-Err-Neighbour}
 
-pub invariant_of-self : goal.invariant_of-self
-invariant_of-self g c =
+-- what is left, whether the tags are known or not
+left : (g : Over) (c : Joined-raise g) (limits : LimitTable)
+    → Leaves limits (record (parts_of g.S.TextStore.content c.self.inside) { tags = c.raise.new.self }) c.args.self.now
+    c.match-raise.result (reordered c.args.self.now c.args.position raised
+    (chars c.args.name.now, option_map (λ w. chars w.now) c.args.above))
+left g c limits =
     let old = c.self.inside in
     let document = c.args.self.now in
     let parts = parts_of g.S.TextStore.content old in
-    let stands : Stands parts document = record { sound = c.self.invariant; is = c.self.view_is } in
-    let new = c.raise.new.self in
-    let word = chars c.args.name.now in
-    let other = option_map (λ w. chars w.now) c.args.above in
-    elim c.match-raise.branch [
-      | in-Ok w ↦
-          let ordered = raised-ordered word other old.tags.tags new.tags stands.sound.kept.tags.names_apart
-          w.in-Ok.ensures.ok in
-          (leaves-ordered some_limits parts new document c.args.position raised word other stands ordered
-          w.len-count.ensures.sound w.in-Ok.ensures.limit (length-raised _ word other ordered.known)).sound
-      | in-Err-Moved w ↦ (does-unordered some_limits parts new document c.args.position raised word other Moved stands
-          w.in-Err-Moved.ensures.err
-          (subst (IsUnknown word other old.tags.tags) w.in-Err-Moved.field-0-is
-          (raised-unknown word other old.tags.tags w.in-Err-Moved.field-0 w.in-Err-Moved.ensures.fault))).sound
-      | in-Err-Neighbour w ↦ (does-unordered some_limits parts new document c.args.position raised word other Neighbour
-          stands w.in-Err-Neighbour.ensures.err
-          (subst (IsUnknown word other old.tags.tags) w.in-Err-Neighbour.field-0-is
-          (raised-unknown word other old.tags.tags w.in-Err-Neighbour.field-0
-          w.in-Err-Neighbour.ensures.fault))).sound
-    ]
-
-pub returns : goal.returns
-returns g c = λ limits.
-    let old = c.self.inside in
-    let document = c.args.self.now in
-    let parts = parts_of g.S.TextStore.content old in
-    let stands : Stands parts document = record { sound = c.self.invariant; is = c.self.view_is } in
+    let stands = stand c.self.invariant c.self.view_is in
     let new = c.raise.new.self in
     let word = chars c.args.name.now in
     let other = option_map (λ w. chars w.now) c.args.above in
     let P : Result Answer Fault → Type 0 = λ result.
-    Does limits document (document_of (record parts { tags = new })) result
+    Leaves limits (record parts { tags = new }) document result
     (reordered document c.args.position raised (word, other)) in
     elim c.match-raise.branch [
       | in-Ok w ↦
@@ -51,16 +31,22 @@ returns g c = λ limits.
           w.in-Ok.ensures.ok in
           subst P (sym w.result-is) (leaves-ordered limits parts new document c.args.position raised word other
           stands ordered w.len-count.ensures.sound w.in-Ok.ensures.limit
-          (length-raised _ word other ordered.known)).does
+          (length-raised _ word other ordered.known))
       | in-Err-Moved w ↦ subst P (sym w.result-is)
           (does-unordered limits parts new document c.args.position raised word other Moved stands
           w.in-Err-Moved.ensures.err
           (subst (IsUnknown word other old.tags.tags) w.in-Err-Moved.field-0-is
-          (raised-unknown word other old.tags.tags w.in-Err-Moved.field-0 w.in-Err-Moved.ensures.fault))).does
+          (raised-unknown word other old.tags.tags w.in-Err-Moved.field-0 w.in-Err-Moved.ensures.fault)))
       | in-Err-Neighbour w ↦ subst P (sym w.result-is)
           (does-unordered limits parts new document c.args.position raised word other Neighbour stands
           w.in-Err-Neighbour.ensures.err
           (subst (IsUnknown word other old.tags.tags) w.in-Err-Neighbour.field-0-is
           (raised-unknown word other old.tags.tags w.in-Err-Neighbour.field-0
-          w.in-Err-Neighbour.ensures.fault))).does
+          w.in-Err-Neighbour.ensures.fault)))
     ]
+
+pub invariant_of-self : goal.invariant_of-self
+invariant_of-self g c = (left g c some_limits).sound
+
+pub returns : goal.returns
+returns g c = λ limits. (left g c limits).does

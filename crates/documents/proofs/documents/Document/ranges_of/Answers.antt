@@ -1,68 +1,48 @@
-use Rattle.documents.proofs.Words.{ap, ◌∙◌, subst, length, arith, string_bytes, chars, IsUtf8-string_bytes, chars-nil}
-use Rattle.documents.proofs.Words.{list_text, Goes, tag_ranges, range_words, widget_at, parts_of, Stands, shown}
-use Rattle.text_index.specs.Views as view
-use Rattle.documents.proofs.ListedLaws.{written}
-use Rattle.documents.proofs.PartsLaws.{sits}
+use Rattle.documents.proofs.Common.{ap, ◌∙◌, chars, chars-nil, list_text, tag_ranges, range_words, widget_at, parts_of}
+use Rattle.documents.proofs.Common.{shown}
+use Rattle.documents.proofs.ListedLaws.{listed}
+use Rattle.documents.proofs.PartsLaws.{anchors-there, stand}
 use Rattle.documents.proofs.TaggedLaws.{flags-known, flags-unknown}
-use Rattle.documents.proofs.ViewLaws.{see, shown-found, view-found}
+use Rattle.documents.proofs.ViewLaws.{IsSeen, see, shown-found, view-found}
+use Rattle.documents.proofs.documents.Document.ranges_of.Given.{Over}
+use Rattle.documents.proofs.documents.Document.ranges_of.Goals.{After-view_of-view}
+use Rattle.text_index.specs.Views as view
 use Rattle.documents.proofs.documents.Document.ranges_of.Goals as goal
 
 pub returns-in_default : goal.returns-in_default
 returns-in_default g c =
-    let old = c.self.inside in
-    let document = c.args.self.now in
-    let parts = parts_of g.S.TextStore.content old in
-    let stands : Stands parts document = record { sound = c.self.invariant; is = c.self.view_is } in
     c.new.ensures ∙ ap chars c.new-list.ensures.bytes ∙ chars-nil
-    ∙ ap (λ flags. list_text (range_words (shown document (widget_at document c.args.seat)) (tag_ranges flags)))
-    (flags-unknown parts document c.args.seat c.number-number.result stands (chars c.args.name.now)
-    c.in_default.ensures.value)
+    ∙ ap (λ flags. list_text (range_words (shown c.args.self.now (widget_at c.args.self.now c.args.seat))
+    (tag_ranges flags))) (flags-unknown c.args.seat c.number-number.result
+    (stand c.self.invariant c.self.view_is) (chars c.args.name.now) c.in_default.ensures.value)
 
 pub view_of-view-requires : goal.view_of-view-requires
 view_of-view-requires g c =
-    let old = c.self.inside in
-    let document = c.args.self.now in
-    let parts = parts_of g.S.TextStore.content old in
-    let stands : Stands parts document = record { sound = c.self.invariant; is = c.self.view_is } in
-    let seated = sits parts document c.args.seat c.number-number.result stands c.number-number.ensures.value in
-    omega (arith, seated.anchors, ap length c.deref.ensures.value)
+    anchors-there c.args.seat (stand c.self.invariant c.self.view_is) c.number-number.ensures.value
+    c.deref.ensures.value
+
+-- the view of the widget
+seen : (g : Over) (c : After-view_of-view g)
+    → IsSeen (parts_of g.S.TextStore.content c.self.inside) c.args.self.now c.args.seat c.number-number.result
+    (g.S.TextStore.content c.view_of-view.result.store.now) c.view_of-view.result.s c.view_of-view.result.e
+seen g c =
+    let found = c.view_of-view.ensures in
+    see (stand c.self.invariant c.self.view_is) c.number-number.ensures.value c.deref.ensures.value found.start
+    found.end found.store
 
 pub push_ranges-requires-clause-view : goal.push_ranges-requires-clause-view
 push_ranges-requires-clause-view g c =
-    let old = c.self.inside in
-    let document = c.args.self.now in
-    let parts = parts_of g.S.TextStore.content old in
-    let stands : Stands parts document = record { sound = c.self.invariant; is = c.self.view_is } in
-    let found = c.view_of-view in
-    let content = g.S.TextStore.content found.result.store.now in
-    let seen = see parts document c.args.seat c.number-number.result content found.result.s found.result.e
-    c.deref.result.now stands c.number-number.ensures.value c.deref.ensures.value found.ensures.start
-    found.ensures.end
-    found.ensures.store in
-    view-found parts document c.args.seat c.number-number.result content found.result.s found.result.e seen
+    view-found (seen g (goal.at.push_ranges-requires-clause-view g c).After-view_of-view)
 
 pub returns : goal.returns
 returns g c =
-    let old = c.self.inside in
-    let document = c.args.self.now in
-    let parts = parts_of g.S.TextStore.content old in
-    let stands : Stands parts document = record { sound = c.self.invariant; is = c.self.view_is } in
-    let found = c.view_of-view in
-    let content = g.S.TextStore.content found.result.store.now in
-    let seen = see parts document c.args.seat c.number-number.result content found.result.s found.result.e
-    c.deref.result.now stands c.number-number.ensures.value c.deref.ensures.value found.ensures.start
-    found.ensures.end
-    found.ensures.store in
-    let text = shown-found parts document c.args.seat c.number-number.result content found.result.s found.result.e
-    seen in
-    let flags = flags-known parts document c.args.seat c.number-number.result content found.result.s found.result.e
-    seen (chars c.args.name.now) c.in-Some.slot.0 c.in-Some.ensures.value in
-    let new = c.push_ranges.new.list in
-    let words = range_words (view.shown content found.result.s found.result.e)
-    (tag_ranges (view.shown_flags c.in-Some.slot.0 content found.result.s found.result.e)) in
-    c.new-2.ensures ∙ written (string_bytes new) words (IsUtf8-string_bytes new)
-    (subst (λ bytes. Goes bytes (string_bytes new) words) c.new-list.ensures.bytes c.in_ok-push_ranges.ensures)
-    ∙ ap (λ t.
-    list_text
-    (range_words t (tag_ranges (view.shown_flags c.in-Some.slot.0 content found.result.s found.result.e)))) text
-    ∙ ap (λ flags. list_text (range_words (shown document (widget_at document c.args.seat)) (tag_ranges flags))) flags
+    let found = c.view_of-view.result in
+    let content = g.S.TextStore.content found.store.now in
+    let sight = seen g (goal.at.returns g c).After-view_of-view in
+    let flags = flags-known sight (chars c.args.name.now) c.in-Some.slot.0 c.in-Some.ensures.value in
+    let ranges = tag_ranges (view.shown_flags c.in-Some.slot.0 content found.s found.e) in
+    let words = range_words (view.shown content found.s found.e) ranges in
+    c.new-2.ensures ∙ listed c.push_ranges.new.list words c.new-list.ensures.bytes c.in_ok-push_ranges.ensures
+    ∙ ap (λ t. list_text (range_words t ranges)) (shown-found sight)
+    ∙ ap (λ flags. list_text (range_words (shown c.args.self.now (widget_at c.args.self.now c.args.seat))
+    (tag_ranges flags))) flags

@@ -1,82 +1,47 @@
-use Rattle.documents.proofs.Words.{◌≡◌, ℕ, false, length, sym, subst, chars, All, log_of, SpanFits, front_same}
-use Rattle.documents.proofs.Words.{parts_of, Stands}
-use Rattle.documents.proofs.ChangeLaws.{some_limits}
-use Rattle.documents.proofs.PartsLaws.{cells-kept, sits}
-use Rattle.documents.proofs.SpanLaws.{IsTagged, does-remove_none, leaves-removed}
+use Rattle.documents.proofs.Common.{ℕ, length, sym, subst, chars, All, LimitTable, Ok, Empty, log_of, SpanFits}
+use Rattle.documents.proofs.Common.{front_same, parts_of, remove_spans, widget_at}
+use Rattle.documents.proofs.ChangeLaws.{Leaves, some_limits}
+use Rattle.documents.proofs.PartsLaws.{cells-kept, sits, stand}
+use Rattle.documents.proofs.SpanLaws.{does-remove_none, leaves-removed}
+use Rattle.documents.proofs.TableLaws.{relogged, retagged}
+use Rattle.documents.proofs.documents.Document.remove_spans.Given.{Over}
+use Rattle.documents.proofs.documents.Document.remove_spans.Goals.{After-deref, After-drop-spans}
 use Rattle.documents.proofs.documents.Document.remove_spans.Goals as goal
 
 pub returns-in_default : goal.returns-in_default
 returns-in_default g c = λ limits.
-    let old = c.self.inside in
-    let document = c.args.self.now in
-    let parts = parts_of g.S.TextStore.content old in
-    let stands : Stands parts document = record { sound = c.self.invariant; is = c.self.view_is } in
-    does-remove_none limits parts document c.args.seat c.number-number.result (chars c.args.name.now)
-    c.args.places.now stands c.in_default.ensures.value
+    does-remove_none limits c.args.seat c.number-number.result (chars c.args.name.now) c.args.places.now
+    (stand c.self.invariant c.self.view_is) c.in_default.ensures.value
+
+-- the spans lie within the text
+fit : (g : Over) (c : After-deref g)
+    → All (SpanFits (length (g.S.TextStore.content c.self.inside.text.store).cells)) c.deref.result.now
+fit g c =
+    subst (λ (n : ℕ). All (SpanFits n) c.deref.result.now)
+    (cells-kept (parts_of g.S.TextStore.content c.self.inside) c.args.self.now c.self.view_is)
+    (subst (All (SpanFits (length c.args.self.now.cells))) (sym c.deref.ensures.value) c.in_ok-spans.ensures.fit)
 
 pub set_slot-requires-clause-spans : goal.set_slot-requires-clause-spans
-set_slot-requires-clause-spans g c =
-    let old = c.self.inside in
-    let document = c.args.self.now in
-    let parts = parts_of g.S.TextStore.content old in
-    let stands : Stands parts document = record { sound = c.self.invariant; is = c.self.view_is } in
-    subst (λ (n : ℕ). All (SpanFits n) c.deref.result.now) (cells-kept parts document stands.is)
-    (subst (All (SpanFits (length document.cells))) (sym c.deref.ensures.value) c.in_ok-spans.ensures.fit)
+set_slot-requires-clause-spans g c = fit g (goal.at.set_slot-requires-clause-spans g c).After-deref
+
+-- what is left where the tag was taken off
+left : (g : Over) (c : After-drop-spans g) (limits : LimitTable)
+    → Leaves limits (relogged (retagged (parts_of g.S.TextStore.content c.self.inside) c.self.inside.tags
+    (g.S.TextStore.content c.set_slot.new.text.store)) (log_of c.set_slot.new.text.history)) c.args.self.now (Ok Empty)
+    (remove_spans c.args.self.now (widget_at c.args.self.now c.args.seat) (chars c.args.name.now) c.args.places.now)
+left g c limits =
+    let stands = stand c.self.invariant c.self.view_is in
+    leaves-removed limits c.args.places.now stands (sits c.args.seat stands c.number-number.ensures.value) (record {
+      slot = c.in-Some.slot.0;
+      front = front_same c.self.inside.tags;
+      sound = stands.sound.kept.tags;
+      is = c.in-Some.ensures.value;
+      fit = fit g (goal.at.returns-in-Ok g c).After-deref;
+      content_is = c.in-Ok.ensures.ok;
+    }) c.in-Ok.ensures.log c.deref.ensures.value c.in_ok-spans.ensures.value
 
 pub invariant_of-self : goal.invariant_of-self
-invariant_of-self g c =
-    let old = c.self.inside in
-    let document = c.args.self.now in
-    let parts = parts_of g.S.TextStore.content old in
-    let stands : Stands parts document = record { sound = c.self.invariant; is = c.self.view_is } in
-    let new = c.set_slot.new in
-    let word = chars c.args.name.now in
-    let given = c.deref.result.now in
-    let spans : given ≡ c.in_ok-spans.spans.items = c.deref.ensures.value in
-    let widget = c.number-number.result in
-    let seat = sits parts document c.args.seat widget stands c.number-number.ensures.value in
-    let content = g.S.TextStore.content new.text.store in
-    let fit = subst (λ (n : ℕ). All (SpanFits n) given) (cells-kept parts document stands.is)
-    (subst (All (SpanFits (length document.cells))) (sym spans) c.in_ok-spans.ensures.fit) in
-    let made : IsTagged parts parts.tags content widget word false given =
-    record {
-      slot = c.in-Some.slot.0;
-      front = front_same parts.tags;
-      sound = stands.sound.kept.tags;
-      is = c.in-Some.ensures.value;
-      fit = fit;
-      content_is = c.in-Ok.ensures.ok;
-    } in
-    let leaves = leaves-removed some_limits parts content (log_of new.text.history) document c.args.seat widget word
-    c.args.places.now given c.in_ok-spans.spans.items stands seat made c.in-Ok.ensures.log
-    spans c.in_ok-spans.ensures.value in
-    rw c.in-Ok.ensures.anchors leaves.sound
+invariant_of-self g c = rw c.in-Ok.ensures.anchors (left g c some_limits).sound
 
 pub returns-in-Ok : goal.returns-in-Ok
-returns-in-Ok g c = λ limits.
-    let old = c.self.inside in
-    let document = c.args.self.now in
-    let parts = parts_of g.S.TextStore.content old in
-    let stands : Stands parts document = record { sound = c.self.invariant; is = c.self.view_is } in
-    let new = c.set_slot.new in
-    let word = chars c.args.name.now in
-    let given = c.deref.result.now in
-    let spans : given ≡ c.in_ok-spans.spans.items = c.deref.ensures.value in
-    let widget = c.number-number.result in
-    let seat = sits parts document c.args.seat widget stands c.number-number.ensures.value in
-    let content = g.S.TextStore.content new.text.store in
-    let fit = subst (λ (n : ℕ). All (SpanFits n) given) (cells-kept parts document stands.is)
-    (subst (All (SpanFits (length document.cells))) (sym spans) c.in_ok-spans.ensures.fit) in
-    let made : IsTagged parts parts.tags content widget word false given =
-    record {
-      slot = c.in-Some.slot.0;
-      front = front_same parts.tags;
-      sound = stands.sound.kept.tags;
-      is = c.in-Some.ensures.value;
-      fit = fit;
-      content_is = c.in-Ok.ensures.ok;
-    } in
-    let leaves = leaves-removed limits parts content (log_of new.text.history) document c.args.seat widget word
-    c.args.places.now given c.in_ok-spans.spans.items stands seat made c.in-Ok.ensures.log
-    spans c.in_ok-spans.ensures.value in
-    rw c.in-Ok.ensures.anchors leaves.does
+returns-in-Ok g c = λ limits. rw c.in-Ok.ensures.anchors (left g c limits).does

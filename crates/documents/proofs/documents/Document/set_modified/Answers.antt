@@ -1,4 +1,4 @@
-use Rattle.documents.proofs.Words.{parts_of, Stands}
+use Rattle.documents.proofs.Common.{parts_of, Stands}
 use Rattle.documents.proofs.ChangeLaws.{some_limits}
 use Rattle.documents.proofs.JournalLaws.{leaves-modified}
 use Rattle.documents.proofs.documents.Document.set_modified.Goals as goal

@@ -1,13 +1,13 @@
-use Rattle.documents.proofs.Words.{◌≡◌, ◌+◌, ◌≤◌, length, refl, sym, subst, ◌∙◌, chars, length-map, All-weaker, flags}
-use Rattle.documents.proofs.Words.{SpanFits, Span, KeyedCell, widget_at, with_tag, parts_of, Stands, key_of, TellsSpans}
-use Rattle.documents.proofs.Words.{TellsTags, flags_of}
-use Rattle.std.specs.FinSet as set
+use Rattle.documents.proofs.Common.{◌≡◌, ◌+◌, ◌≤◌, length, refl, sym, subst, ◌∙◌, chars, length-map, All-weaker, flags}
+use Rattle.documents.proofs.Common.{SpanFits, Span, KeyedCell, widget_at, with_tag, parts_of, Stands, key_of}
+use Rattle.documents.proofs.Common.{TellsSpans, TellsTags, flags_of}
 use Rattle.edit_ops.specs.Deletions.{AreApart}
 use Rattle.documents.proofs.PartsLaws.{sits}
 use Rattle.documents.proofs.SpanToldLaws.{runs-told, seen-flags, seen-named, seen-none}
-use Rattle.documents.proofs.documents.Document.span_tags.Goals as goal
 use Rattle.documents.proofs.documents.Document.span_tags.Goals.{in-Some+in_ok-push_spans-in-Some}
 use Rattle.documents.proofs.documents.Document.span_tags.Goals.{in-None+in_ok-push_whole-in-None}
+use Rattle.std.specs.FinSet as set
+use Rattle.documents.proofs.documents.Document.span_tags.Goals as goal
 
 pub returns : goal.returns
 returns g c =
@@ -17,7 +17,7 @@ returns g c =
     let stands : Stands parts document = record { sound = c.self.invariant; is = c.self.view_is } in
     let place = c.args.seat in
     let slot = c.number.result in
-    let seat = sits parts document place slot stands c.number.ensures.value in
+    let seat = sits place stands c.number.ensures.value in
     let name = chars c.args.name.now in
     let key = key_of (widget_at document place) name in
     let on = c.args.on in

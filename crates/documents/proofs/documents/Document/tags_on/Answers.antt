@@ -1,90 +1,57 @@
-use Rattle.documents.proofs.Words.{◌<◌, ◌+◌, ap, ◌∙◌, subst, length, arith, IsUtf8-string_bytes, chars-nil, list_text}
-use Rattle.documents.proofs.Words.{Goes, Tag, names_of, own_slot, widget_at, parts_of, Stands}
-use Rattle.std.specs.FinSet as set
-use Rattle.std.specs.Prelude.{string_bytes, chars, filter}
-use Rattle.documents.proofs.ListedLaws.{written}
-use Rattle.documents.proofs.PartsLaws.{sits}
+use Rattle.documents.proofs.Common.{ap, ◌∙◌, arith, chars-nil, list_text, Tag, names_of, own_slot, widget_at, parts_of}
+use Rattle.documents.proofs.Common.{chars, filter}
+use Rattle.documents.proofs.ListedLaws.{listed}
+use Rattle.documents.proofs.PartsLaws.{anchors-there, stand}
 use Rattle.documents.proofs.TaggedLaws.{tags_on-end, tags_on-known}
-use Rattle.documents.proofs.ViewLaws.{ends-found, length-found, ordered-found, see}
+use Rattle.documents.proofs.ViewLaws.{IsSeen, ends-found, length-found, ordered-found, see}
+use Rattle.documents.proofs.documents.Document.tags_on.Given.{Over}
+use Rattle.documents.proofs.documents.Document.tags_on.Goals.{After-view_of-view}
+use Rattle.std.specs.FinSet as set
 use Rattle.documents.proofs.documents.Document.tags_on.Goals as goal
 
 pub view_of-view-requires : goal.view_of-view-requires
 view_of-view-requires g c =
-    let old = c.self.inside in
-    let document = c.args.self.now in
-    let parts = parts_of g.S.TextStore.content old in
-    let stands : Stands parts document = record { sound = c.self.invariant; is = c.self.view_is } in
-    let seated = sits parts document c.args.seat c.number-number.result stands c.number-number.ensures.value in
-    omega (arith, seated.anchors, ap length c.deref.ensures.value)
+    anchors-there c.args.seat (stand c.self.invariant c.self.view_is) c.number-number.ensures.value
+    c.deref.ensures.value
+
+-- the view of the widget
+seen : (g : Over) (c : After-view_of-view g)
+    → IsSeen (parts_of g.S.TextStore.content c.self.inside) c.args.self.now c.args.seat c.number-number.result
+    (g.S.TextStore.content c.view_of-view.result.store.now) c.view_of-view.result.s c.view_of-view.result.e
+seen g c =
+    let found = c.view_of-view.ensures in
+    see (stand c.self.invariant c.self.view_is) c.number-number.ensures.value c.deref.ensures.value found.start
+    found.end found.store
 
 pub tags_at-requires : goal.tags_at-requires
 tags_at-requires g c =
-    let old = c.self.inside in
-    let document = c.args.self.now in
-    let parts = parts_of g.S.TextStore.content old in
-    let stands : Stands parts document = record { sound = c.self.invariant; is = c.self.view_is } in
-    let found = c.view_of-view in
-    let content = g.S.TextStore.content found.result.store.now in
-    let seen = see parts document c.args.seat c.number-number.result content found.result.s found.result.e
-    c.deref.result.now stands c.number-number.ensures.value c.deref.ensures.value found.ensures.start
-    found.ensures.end
-    found.ensures.store in
-    let long = length-found parts document c.args.seat c.number-number.result content found.result.s found.result.e
-    seen in
+    let sight = seen g (goal.at.tags_at-requires g c).After-view_of-view in
     omega (
       arith,
-      long,
-      ends-found parts document c.args.seat c.number-number.result content found.result.s found.result.e seen,
-      ordered-found parts document c.args.seat c.number-number.result content found.result.s found.result.e seen,
+      length-found sight,
+      ends-found sight,
+      ordered-found sight,
       c.requires.within,
       c.if-offset-view.false,
     )
 
 pub returns-then-offset-view : goal.returns-then-offset-view
 returns-then-offset-view g c =
-    let old = c.self.inside in
-    let document = c.args.self.now in
-    let parts = parts_of g.S.TextStore.content old in
-    let stands : Stands parts document = record { sound = c.self.invariant; is = c.self.view_is } in
-    let found = c.view_of-view in
-    let content = g.S.TextStore.content found.result.store.now in
-    let seen = see parts document c.args.seat c.number-number.result content found.result.s found.result.e
-    c.deref.result.now stands c.number-number.ensures.value c.deref.ensures.value found.ensures.start
-    found.ensures.end
-    found.ensures.store in
-    let long = length-found parts document c.args.seat c.number-number.result content found.result.s found.result.e
-    seen in
+    let long = length-found (seen g (goal.at.returns-then-offset-view g c).After-view_of-view) in
     c.new.ensures ∙ ap chars c.new-list.ensures.bytes ∙ chars-nil
-    ∙ ap list_text (tags_on-end document (widget_at document c.args.seat) c.args.place
+    ∙ ap list_text (tags_on-end c.args.self.now (widget_at c.args.self.now c.args.seat) c.args.place
     (omega (arith, long, c.if-offset-view.true)))
 
 pub returns : goal.returns
 returns g c =
-    let old = c.self.inside in
-    let document = c.args.self.now in
-    let parts = parts_of g.S.TextStore.content old in
-    let stands : Stands parts document = record { sound = c.self.invariant; is = c.self.view_is } in
-    let found = c.view_of-view in
-    let content = g.S.TextStore.content found.result.store.now in
-    let seen = see parts document c.args.seat c.number-number.result content found.result.s found.result.e
-    c.deref.result.now stands c.number-number.ensures.value c.deref.ensures.value found.ensures.start
-    found.ensures.end
-    found.ensures.store in
-    let long = length-found parts document c.args.seat c.number-number.result content found.result.s found.result.e
-    seen in
-    let within : found.result.s + c.args.place < found.result.e =
-    omega (
+    let sight = seen g (goal.at.returns g c).After-view_of-view in
+    let names = names_of (filter (λ (tag : Tag).
+    set.contains c.tags_at.result (own_slot c.number-number.result tag.slot)) c.self.inside.tags.tags) in
+    c.new-2.ensures ∙ listed c.push_names_in.new.list names c.new-list.ensures.bytes c.in_ok-push_names_in.ensures
+    ∙ ap list_text (tags_on-known sight c.tags_at.result c.args.place (omega (
       arith,
-      long,
-      ordered-found parts document c.args.seat c.number-number.result content found.result.s
-          found.result.e seen,
+      length-found sight,
+      ordered-found sight,
       c.requires.within,
       c.if-offset-view.false,
-    ) in
-    let names = names_of (filter (λ (tag : Tag).
-    set.contains c.tags_at.result (own_slot c.number-number.result tag.slot)) old.tags.tags) in
-    let new = c.push_names_in.new.list in
-    c.new-2.ensures ∙ written (string_bytes new) names (IsUtf8-string_bytes new)
-    (subst (λ bytes. Goes bytes (string_bytes new) names) c.new-list.ensures.bytes c.in_ok-push_names_in.ensures)
-    ∙ ap list_text (tags_on-known parts document c.args.seat c.number-number.result content found.result.s
-    found.result.e seen c.tags_at.result c.args.place within c.tags_at.ensures)
+    )) c.tags_at.ensures)

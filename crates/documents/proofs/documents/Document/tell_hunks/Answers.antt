@@ -1,5 +1,5 @@
-use Rattle.documents.proofs.Words.{List, ℕ, ap, arith, subst, sym, ◌∙◌, AreHunks, Tells, hunk_changes, patched}
-use Rattle.documents.proofs.Words.{parts_of}
+use Rattle.documents.proofs.Common.{List, ℕ, ap, arith, subst, sym, ◌∙◌, AreHunks, Tells, hunk_changes, patched}
+use Rattle.documents.proofs.Common.{parts_of}
 use Rattle.documents.proofs.PartsLaws.{cells-kept, characters-kept}
 use Rattle.documents.proofs.ToldLaws.{hunks-tell}
 use Rattle.documents.proofs.documents.Document.tell_hunks.Goals as goal

@@ -1,5 +1,5 @@
-use Rattle.documents.proofs.Words.{List, [], ℕ, IsSome, ap, refl, subst, sym, ◌∙◌, repeated_group, replays, State}
-use Rattle.documents.proofs.Words.{state_of, Document, group_again, parts_of, key_pairs, slot_changes}
+use Rattle.documents.proofs.Common.{List, [], ℕ, IsSome, ap, refl, subst, sym, ◌∙◌, repeated_group, replays, State}
+use Rattle.documents.proofs.Common.{state_of, Document, group_again, parts_of, key_pairs, slot_changes}
 use Rattle.documents.proofs.PartsLaws.{characters-kept}
 use Rattle.documents.proofs.ToldLaws.{reversal-tells}
 use Rattle.documents.proofs.documents.Document.tell_reversal.Goals as goal

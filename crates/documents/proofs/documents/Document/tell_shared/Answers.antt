@@ -1,5 +1,5 @@
-use Rattle.documents.proofs.Words.{◌++◌, ◌∷◌, [], ℕ, Bool, refl, sym, ap, subst, chars, is_at, list_any, IsUnchanged}
-use Rattle.documents.proofs.Words.{contains, nat_cmp, AreGathered}
+use Rattle.documents.proofs.Common.{◌++◌, ◌∷◌, [], ℕ, Bool, refl, sym, ap, subst, chars, is_at, list_any, IsUnchanged}
+use Rattle.documents.proofs.Common.{contains, nat_cmp, AreGathered}
 use Rattle.documents.proofs.MarksToldLaws.{gathered-kept, gathered-more, gathered-seen, not-false, not-true, on-false}
 use Rattle.documents.proofs.MarksToldLaws.{other-number}
 use Rattle.documents.proofs.documents.Document.tell_shared.Goals as goal

@@ -1,5 +1,4 @@
-use Rattle.documents.proofs.Words.{◌≡◌, ◌+◌, ◌-◌, ◌≤◌, ap, ◌∙◌, arith}
-use Rattle.std.proofs.Common.{slice_range}
+use Rattle.documents.proofs.Common.{◌≡◌, ◌+◌, ◌-◌, ◌≤◌, ap, ◌∙◌, arith, slice_range}
 use Rattle.text_model.specs.Content.{characters}
 use Rattle.documents.proofs.ViewLaws.{part-of-part}
 use Rattle.documents.proofs.documents.Document.text_between.Goals as goal

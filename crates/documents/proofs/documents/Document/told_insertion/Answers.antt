@@ -1,5 +1,5 @@
-use Rattle.documents.proofs.Words.{◌+◌, ◌<◌, ◌^◌, ◌++◌, List, arith, length, ap, subst, ◌∙◌, putting, inserting-stand}
-use Rattle.documents.proofs.Words.{Pair, total, Widget, widget_at, TellsPairs}
+use Rattle.documents.proofs.Common.{◌+◌, ◌<◌, ◌^◌, ◌++◌, List, arith, length, ap, subst, ◌∙◌, putting, inserting-stand}
+use Rattle.documents.proofs.Common.{Pair, total, Widget, widget_at, TellsPairs}
 use Rattle.documents.proofs.PairTagLaws.{texts_of}
 use Rattle.documents.proofs.ToldLaws.{insertion-foretold}
 use Rattle.documents.proofs.documents.Document.told_insertion.Goals as goal

@@ -1,9 +1,8 @@
-use Rattle.documents.proofs.Words.{◌≡◌, ◌++◌, ◌∷◌, [], List, ℕ, Some, refl, sym, ap, ◌∙◌, subst, Decides, widget_at}
-use Rattle.documents.proofs.Words.{mark_offset, place_named, set_found, ForetellsMarks, offset_named}
-use Rattle.std.specs.Prelude.{chars}
+use Rattle.documents.proofs.Common.{◌≡◌, ◌++◌, ◌∷◌, [], List, ℕ, Some, refl, sym, ap, ◌∙◌, subst, Decides, widget_at}
+use Rattle.documents.proofs.Common.{mark_offset, place_named, set_found, ForetellsMarks, offset_named, chars}
 use Rattle.documents.proofs.MarksToldLaws.{foretells-set, told_of}
-use Rattle.documents.proofs.documents.Document.told_mark_set.Goals as goal
 use Rattle.documents.proofs.documents.Document.told_mark_set.Goals.{then-not-stands_at+in_ok-push, else-not-stands_at}
+use Rattle.documents.proofs.documents.Document.told_mark_set.Goals as goal
 
 pub returns : goal.returns
 returns g c = λ limits.

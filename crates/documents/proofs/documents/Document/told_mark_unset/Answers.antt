@@ -1,4 +1,4 @@
-use Rattle.documents.proofs.Words.{ℕ, Bool, take, subst, contains, nat_cmp, take_all, texts_of, AreGathered}
+use Rattle.documents.proofs.Common.{ℕ, Bool, take, subst, contains, nat_cmp, take_all, texts_of, AreGathered}
 use Rattle.documents.proofs.MarksToldLaws.{foretells-unset, texts-more}
 use Rattle.documents.proofs.documents.Document.told_mark_unset.Goals as goal
 

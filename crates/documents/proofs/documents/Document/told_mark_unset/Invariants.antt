@@ -1,4 +1,4 @@
-use Rattle.documents.proofs.Words.{take, contains, nat_cmp, texts_of, AreGathered}
+use Rattle.documents.proofs.Common.{take, contains, nat_cmp, texts_of, AreGathered}
 use Rattle.documents.proofs.documents.Document.told_mark_unset.Given as goal
 
 abbrev pub invariant-loop-name : goal.invariant-loop-name

@@ -1,5 +1,5 @@
-use Rattle.documents.proofs.Words.{◌≡◌, false, IsSome, Some, ap, subst, sym, ◌∙◌, repeated_group, next_redo, replays}
-use Rattle.documents.proofs.Words.{redo-fits-replay, Document, Widget, characters, widget_at, is_idle}
+use Rattle.documents.proofs.Common.{◌≡◌, false, IsSome, Some, ap, subst, sym, ◌∙◌, repeated_group, next_redo, replays}
+use Rattle.documents.proofs.Common.{redo-fits-replay, Document, Widget, characters, widget_at}
 use Rattle.documents.proofs.ToldLaws.{redo-some}
 use Rattle.documents.proofs.documents.Document.told_redo.Goals as goal
 

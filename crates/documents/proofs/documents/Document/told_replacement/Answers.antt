@@ -1,6 +1,6 @@
-use Rattle.documents.proofs.Words.{◌+◌, ◌<◌, ◌≤◌, ◌^◌, ◌++◌, List, arith, length, ap, subst, ◌∙◌, putting, taking_out}
-use Rattle.documents.proofs.Words.{replacing-stand, Pair, total, Widget, widget_at, parts_of, TellsPairs}
-use Rattle.documents.proofs.Words.{insertion_offset}
+use Rattle.documents.proofs.Common.{◌+◌, ◌<◌, ◌≤◌, ◌^◌, ◌++◌, List, arith, length, ap, subst, ◌∙◌, putting, taking_out}
+use Rattle.documents.proofs.Common.{replacing-stand, Pair, total, Widget, widget_at, parts_of, TellsPairs}
+use Rattle.documents.proofs.Common.{insertion_offset}
 use Rattle.documents.proofs.PairTagLaws.{texts_of}
 use Rattle.documents.proofs.PartsLaws.{cells-kept}
 use Rattle.documents.proofs.ToldLaws.{replacement-foretold}

@@ -1,5 +1,5 @@
-use Rattle.documents.proofs.Words.{chars, true, sym, subst, widget_at, with_tag, key_of, add_spans, TellsTags}
-use Rattle.documents.proofs.Words.{Foretells}
+use Rattle.documents.proofs.Common.{chars, true, sym, subst, widget_at, with_tag, key_of, add_spans, TellsTags}
+use Rattle.documents.proofs.Common.{Foretells}
 use Rattle.documents.proofs.SpanToldLaws.{foretells-added}
 use Rattle.documents.proofs.documents.Document.told_tag_add.Goals as goal
 

@@ -1,4 +1,4 @@
-use Rattle.documents.proofs.Words.{map, sym, subst, texts_of, Document, tag_delete, without_tags, TellsTags, Foretells}
+use Rattle.documents.proofs.Common.{map, sym, subst, texts_of, Document, tag_delete, without_tags, TellsTags, Foretells}
 use Rattle.documents.proofs.SpanToldLaws.{tags-alone}
 use Rattle.documents.proofs.documents.Document.told_tag_delete.Goals as goal
 

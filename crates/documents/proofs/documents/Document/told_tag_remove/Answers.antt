@@ -1,5 +1,5 @@
-use Rattle.documents.proofs.Words.{chars, false, sym, subst, widget_at, with_tag, parts_of, Stands, key_of}
-use Rattle.documents.proofs.Words.{remove_spans, TellsTags, Foretells}
+use Rattle.documents.proofs.Common.{chars, false, sym, subst, widget_at, with_tag, parts_of, Stands, key_of}
+use Rattle.documents.proofs.Common.{remove_spans, TellsTags, Foretells}
 use Rattle.documents.proofs.PartsLaws.{sits-shown}
 use Rattle.documents.proofs.SpanToldLaws.{foretells-removed}
 use Rattle.documents.proofs.documents.Document.told_tag_remove.Goals as goal

@@ -1,5 +1,5 @@
-use Rattle.documents.proofs.Words.{◌≡◌, true, false, IsSome, Some, ap, subst, sym, ◌∙◌, repeated_group, next_undo}
-use Rattle.documents.proofs.Words.{replays, undo-fits-replay, Document, Widget, characters, widget_at, is_idle}
+use Rattle.documents.proofs.Common.{◌≡◌, true, IsSome, Some, ap, subst, sym, ◌∙◌, repeated_group, next_undo, replays}
+use Rattle.documents.proofs.Common.{undo-fits-replay, Document, Widget, characters, widget_at}
 use Rattle.documents.proofs.ToldLaws.{undo-some}
 use Rattle.documents.proofs.documents.Document.told_undo.Goals as goal
 

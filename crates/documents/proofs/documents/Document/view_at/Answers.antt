@@ -1,72 +1,34 @@
-use Rattle.documents.proofs.Words.{length, ap, arith, parts_of, Stands}
-use Rattle.documents.proofs.PartsLaws.{sits}
-use Rattle.documents.proofs.ViewLaws.{end-found-is, length-found, see, shown-found, start-found-is, view-found}
+use Rattle.documents.proofs.Common.{parts_of}
+use Rattle.documents.proofs.PartsLaws.{anchors-there, stand}
+use Rattle.documents.proofs.ViewLaws.{IsSeen, end-found-is, length-found, see, shown-found, start-found-is, view-found}
+use Rattle.documents.proofs.documents.Document.view_at.Given.{Over}
+use Rattle.documents.proofs.documents.Document.view_at.Goals.{After-view_of}
 use Rattle.documents.proofs.documents.Document.view_at.Goals as goal
 
 pub view_of-requires : goal.view_of-requires
 view_of-requires g c =
-    let old = c.self.inside in
-    let parts = parts_of g.S.TextStore.content old in
-    let stands : Stands parts c.args.self.now = record { sound = c.self.invariant; is = c.self.view_is } in
-    let seated = sits parts c.args.self.now c.args.seat c.number.result stands c.number.ensures.value in
-    omega (arith, seated.anchors, ap length c.deref.ensures.value)
+    anchors-there c.args.seat (stand c.self.invariant c.self.view_is) c.number.ensures.value c.deref.ensures.value
+
+-- the view of the widget
+seen : (g : Over) (c : After-view_of g)
+    → IsSeen (parts_of g.S.TextStore.content c.self.inside) c.args.self.now c.args.seat c.number.result
+    (g.S.TextStore.content c.view_of.result.store.now) c.view_of.result.s c.view_of.result.e
+seen g c =
+    let found = c.view_of.ensures in
+    see (stand c.self.invariant c.self.view_is) c.number.ensures.value c.deref.ensures.value found.start found.end
+    found.store
 
 pub returns-clause-lines : goal.returns-clause-lines
-returns-clause-lines g c =
-    let old = c.self.inside in
-    let found = c.view_of in
-    let content = g.S.TextStore.content found.result.store.now in
-    let parts = parts_of g.S.TextStore.content old in
-    let stands : Stands parts c.args.self.now = record { sound = c.self.invariant; is = c.self.view_is } in
-    let seen = see parts c.args.self.now c.args.seat c.number.result content found.result.s found.result.e
-    c.deref.result.now stands c.number.ensures.value
-    c.deref.ensures.value found.ensures.start found.ensures.end found.ensures.store in
-    view-found parts c.args.self.now c.args.seat c.number.result content found.result.s found.result.e seen
+returns-clause-lines g c = view-found (seen g (goal.at.returns-clause-lines g c).After-view_of)
 
 pub returns-clause-text : goal.returns-clause-text
-returns-clause-text g c =
-    let old = c.self.inside in
-    let found = c.view_of in
-    let content = g.S.TextStore.content found.result.store.now in
-    let parts = parts_of g.S.TextStore.content old in
-    let stands : Stands parts c.args.self.now = record { sound = c.self.invariant; is = c.self.view_is } in
-    let seen = see parts c.args.self.now c.args.seat c.number.result content found.result.s found.result.e
-    c.deref.result.now stands c.number.ensures.value
-    c.deref.ensures.value found.ensures.start found.ensures.end found.ensures.store in
-    shown-found parts c.args.self.now c.args.seat c.number.result content found.result.s found.result.e seen
+returns-clause-text g c = shown-found (seen g (goal.at.returns-clause-text g c).After-view_of)
 
 pub returns-clause-start : goal.returns-clause-start
-returns-clause-start g c =
-    let old = c.self.inside in
-    let found = c.view_of in
-    let content = g.S.TextStore.content found.result.store.now in
-    let parts = parts_of g.S.TextStore.content old in
-    let stands : Stands parts c.args.self.now = record { sound = c.self.invariant; is = c.self.view_is } in
-    let seen = see parts c.args.self.now c.args.seat c.number.result content found.result.s found.result.e
-    c.deref.result.now stands c.number.ensures.value
-    c.deref.ensures.value found.ensures.start found.ensures.end found.ensures.store in
-    start-found-is parts c.args.self.now c.args.seat c.number.result content found.result.s found.result.e seen
+returns-clause-start g c = start-found-is (seen g (goal.at.returns-clause-start g c).After-view_of)
 
 pub returns-clause-end : goal.returns-clause-end
-returns-clause-end g c =
-    let old = c.self.inside in
-    let found = c.view_of in
-    let content = g.S.TextStore.content found.result.store.now in
-    let parts = parts_of g.S.TextStore.content old in
-    let stands : Stands parts c.args.self.now = record { sound = c.self.invariant; is = c.self.view_is } in
-    let seen = see parts c.args.self.now c.args.seat c.number.result content found.result.s found.result.e
-    c.deref.result.now stands c.number.ensures.value
-    c.deref.ensures.value found.ensures.start found.ensures.end found.ensures.store in
-    end-found-is parts c.args.self.now c.args.seat c.number.result content found.result.s found.result.e seen
+returns-clause-end g c = end-found-is (seen g (goal.at.returns-clause-end g c).After-view_of)
 
 pub returns-clause-count : goal.returns-clause-count
-returns-clause-count g c =
-    let old = c.self.inside in
-    let found = c.view_of in
-    let content = g.S.TextStore.content found.result.store.now in
-    let parts = parts_of g.S.TextStore.content old in
-    let stands : Stands parts c.args.self.now = record { sound = c.self.invariant; is = c.self.view_is } in
-    let seen = see parts c.args.self.now c.args.seat c.number.result content found.result.s found.result.e
-    c.deref.result.now stands c.number.ensures.value
-    c.deref.ensures.value found.ensures.start found.ensures.end found.ensures.store in
-    length-found parts c.args.self.now c.args.seat c.number.result content found.result.s found.result.e seen
+returns-clause-count g c = length-found (seen g (goal.at.returns-clause-count g c).After-view_of)

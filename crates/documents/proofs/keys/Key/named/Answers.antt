@@ -1,6 +1,5 @@
-use Rattle.documents.proofs.Words.{◌≡◌, List, Bool, ℕ, true, false, sym, subst, ap, ◌∙◌, chars, IfOk, sel, is_same, Key}
-use Rattle.documents.proofs.Words.{key_named}
-use Rattle.std.proofs.Common.{if◌then◌else◌}
+use Rattle.documents.proofs.Common.{◌≡◌, List, Bool, ℕ, true, false, sym, subst, ap, ◌∙◌, chars, IfOk, sel, is_same}
+use Rattle.documents.proofs.Common.{Key, key_named, if◌then◌else◌}
 use Rattle.documents.proofs.KeyListLaws.{sel-is}
 use Rattle.documents.proofs.keys.Key.named.Goals as goal
 

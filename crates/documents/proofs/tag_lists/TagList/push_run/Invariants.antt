@@ -1,4 +1,4 @@
-use Rattle.documents.proofs.Words.{◌≡◌, ◌++◌, take, run_changes}
+use Rattle.documents.proofs.Common.{◌≡◌, ◌++◌, take, run_changes}
 use Rattle.documents.proofs.tag_lists.TagList.push_run.Given as goal
 
 abbrev pub invariant-loop-key : goal.invariant-loop-key

@@ -1,7 +1,7 @@
-use Rattle.documents.proofs.Words.{◌+◌, length, subst, sym, length-map, flags, Cell, Span}
-use Rattle.std.specs.FinSet as set
+use Rattle.documents.proofs.Common.{◌+◌, length, subst, sym, length-map, flags, Cell, Span}
 use Rattle.edit_ops.specs.Deletions.{AreApart}
 use Rattle.documents.proofs.SpanToldLaws.{apart-fits, spans-then}
+use Rattle.std.specs.FinSet as set
 use Rattle.documents.proofs.tag_lists.TagList.push_spans.Goals as goal
 
 abbrev no_span : Span

@@ -1,4 +1,4 @@
-use Rattle.documents.proofs.Words.{take, flags, TellsSpans}
+use Rattle.documents.proofs.Common.{take, flags, TellsSpans}
 use Rattle.documents.proofs.tag_lists.TagList.push_spans.Given as goal
 
 abbrev pub invariant-loop-span : goal.invariant-loop-span

@@ -1,6 +1,6 @@
-use Rattle.documents.proofs.Words.{◌<◌, ◌≤◌, arith, length-map, next_change, flags, Cell}
-use Rattle.std.specs.FinSet as set
+use Rattle.documents.proofs.Common.{◌<◌, ◌≤◌, arith, length-map, next_change, flags, Cell}
 use Rattle.documents.proofs.SpanToldLaws.{run-passed, run-told}
+use Rattle.std.specs.FinSet as set
 use Rattle.documents.proofs.tag_lists.TagList.push_unlike.Goals as goal
 
 pub loop-at-preserved-in_ok-push : goal.loop-at-preserved-in_ok-push

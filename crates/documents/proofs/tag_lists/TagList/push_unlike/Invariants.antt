@@ -1,4 +1,4 @@
-use Rattle.documents.proofs.Words.{◌≤◌, ◌-◌, flags, TellsSpan}
+use Rattle.documents.proofs.Common.{◌≤◌, ◌-◌, flags, TellsSpan}
 use Rattle.documents.proofs.tag_lists.TagList.push_unlike.Given as goal
 
 abbrev pub invariant-loop-at : goal.invariant-loop-at

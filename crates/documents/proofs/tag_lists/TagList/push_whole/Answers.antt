@@ -1,4 +1,4 @@
-use Rattle.documents.proofs.Words.{sym, subst, TellsSpans}
+use Rattle.documents.proofs.Common.{sym, subst, TellsSpans}
 use Rattle.documents.proofs.SpanToldLaws.{whole-none, whole-then}
 use Rattle.documents.proofs.tag_lists.TagList.push_whole.Goals as goal
 

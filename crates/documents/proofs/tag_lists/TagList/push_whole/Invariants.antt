@@ -1,4 +1,4 @@
-use Rattle.documents.proofs.Words.{◌≡◌, ◌+◌, Bool, List, length, take, false, true, All, TellsSpans}
+use Rattle.documents.proofs.Common.{◌≡◌, ◌+◌, Bool, List, length, take, false, true, All, TellsSpans}
 use Rattle.edit_ops.specs.Deletions.{AreApart}
 use Rattle.documents.proofs.tag_lists.TagList.push_whole.Given as goal
 

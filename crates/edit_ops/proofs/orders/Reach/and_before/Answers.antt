@@ -1,4 +1,4 @@
-use Rattle.edit_ops.proofs.Words.{◌∷◌, refl, sym, subst, arith, Step, Reach, LetsPass}
+use Rattle.edit_ops.proofs.Common.{◌∷◌, refl, sym, subst, arith, Step, Reach, LetsPass}
 use Rattle.edit_ops.proofs.OrderLaws.{over-insert, over-remove}
 use Rattle.edit_ops.proofs.orders.Reach.and_before.Goals as goal
 

@@ -1,6 +1,6 @@
-use Rattle.edit_ops.proofs.Words.{◌≡◌, [], ap, sym, ◌∙◌, arith, nil_from_length, inserted_texts, total, outlineed}
+use Rattle.edit_ops.proofs.Common.{◌≡◌, [], ap, sym, ◌∙◌, arith, nil_from_length, inserted_texts, total, outlineed}
+use Rattle.edit_ops.proofs.InsertLaws.{inserting-first, inserting-more, inserting-none, piece-fits}
 use Rattle.std.specs.FinSet as set
-use Rattle.edit_ops.proofs.InsertLaws.{inserting-count, inserting-first, inserting-none, piece-fits}
 use Rattle.edit_ops.proofs.outlines.Outline.insert_pieces.Goals as goal
 
 pub loop-piece-init : goal.loop-piece-init
@@ -11,38 +11,23 @@ loop-piece-init c =
 
 pub insert-requires-clause-fits : goal.insert-requires-clause-fits
 insert-requires-clause-fits c =
-    let around = set.intersection c.args.before c.args.behind.now in
-    let shared = set.intersection c.loop-piece.slots c.args.behind.now in
-    (piece-fits c.args.keeps c.args.self.now c.loop-piece.self c.args.at c.args.len around c.args.pieces.items
-    c.loop-piece.at c.loop-piece.len c.count_of-count.result shared c.args.behind.now c.in-Some.piece _ _
-    c.loop-piece.invariant c.in-Some.ensures.steps.0 c.count_of-count.ensures).0
+    (piece-fits c.loop-piece.invariant c.in-Some.ensures.steps.0 c.count_of-count.result c.count_of-count.ensures).0
 
 pub overflow_add-at : goal.overflow_add-at
 overflow_add-at c =
-    let around = set.intersection c.args.before c.args.behind.now in
-    let shared = set.intersection c.loop-piece.slots c.args.behind.now in
-    let fits = (piece-fits c.args.keeps c.args.self.now c.loop-piece.self c.args.at c.args.len around
-    c.args.pieces.items c.loop-piece.at c.loop-piece.len c.count_of-count.result shared c.args.behind.now
-    c.in-Some.piece _ _ c.loop-piece.invariant c.in-Some.ensures.steps.0 c.count_of-count.ensures) in
+    let fits = piece-fits c.loop-piece.invariant c.in-Some.ensures.steps.0 c.count_of-count.result
+    c.count_of-count.ensures in
     omega (arith, fits.1)
 
 pub loop-piece-preserved-then-count-gt0 : goal.loop-piece-preserved-then-count-gt0
 loop-piece-preserved-then-count-gt0 c =
-    let around = set.intersection c.args.before c.args.behind.now in
-    let shared = set.intersection c.loop-piece.slots c.args.behind.now in
-    inserting-count c.args.keeps c.args.self.now c.loop-piece.self c.insert.new.self c.args.at c.args.len
-    around c.args.pieces.items c.loop-piece.at c.loop-piece.len c.count_of-count.result shared
-    c.args.behind.now c.slots_or-slots.result c.in-Some.piece c.in_ok-kept.kept c.next.new.self.rest.items _
-    c.loop-piece.invariant c.in-Some.ensures.steps.0 c.count_of-count.ensures c.if-count-gt0.true
-    c.slots_or-slots.ensures c.in_ok-kept.ensures c.in_ok-insert.ensures
+    let counted = c.count_of-count.ensures in
+    rw counted (inserting-more c.loop-piece.invariant c.in-Some.ensures.steps.0 (rw counted at c.if-count-gt0.true)
+    c.slots_or-slots.ensures c.in_ok-kept.ensures (rw counted at c.in_ok-insert.ensures))
 
 pub loop-piece-preserved : goal.loop-piece-preserved
 loop-piece-preserved c =
-    let around = set.intersection c.args.before c.args.behind.now in
-    let shared = set.intersection c.loop-piece.slots c.args.behind.now in
-    inserting-none c.args.keeps c.args.self.now c.loop-piece.self c.args.at c.args.len around
-    c.args.pieces.items c.loop-piece.at c.loop-piece.len shared c.args.behind.now c.in-Some.piece
-    c.next.new.self.rest.items _ c.loop-piece.invariant c.in-Some.ensures.steps.0
+    inserting-none c.loop-piece.invariant c.in-Some.ensures.steps.0
     (omega (arith, c.if-count-gt0.false, c.count_of-count.ensures))
 
 pub returns-clause-end : goal.returns-clause-end

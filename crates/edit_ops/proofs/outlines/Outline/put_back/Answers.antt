@@ -1,29 +1,15 @@
-use Rattle.edit_ops.proofs.Words.{◌≡◌, ◌++◌, ◌∷◌, [], map, subst, Insert, anchors_moved}
-use Rattle.edit_ops.proofs.ReplayLaws.{put-replayed}
+use Rattle.edit_ops.proofs.Common.{put_back}
+use Rattle.edit_ops.proofs.ReplayLaws.{Replayed, put-replayed}
 use Rattle.edit_ops.proofs.outlines.Outline.put_back.Goals as goal
 
+all : (g : _) (c : goal.In_ok-put g) → Replayed (g.S.TextStore.content c.args.store.now) c.args.self.now
+    c.put_copy.new.self c.put.new.self (put_back c.args.at c.args.text.now)
+all g c =
+    put-replayed c.requires.follows c.in_ok-seek.ensures.moves c.in_ok-seek.ensures.there c.in_ok-put.ensures
+    c.shared-slots.ensures c.requires.within (rw c.requires.counted at c.in_ok-put_copy.ensures)
+
 pub returns-clause-follows : goal.returns-clause-follows
-returns-clause-follows g c =
-    let all =
-    put-replayed (g.S.TextStore.content c.args.store.now) c.args.self.now c.put_copy.new.self c.args.cursor.now
-    c.seek.new.self c.put.new.self c.args.at c.args.text.now c.shared-slots.result
-    c.requires.follows c.in_ok-seek.ensures.moves c.in_ok-seek.ensures.there c.in_ok-put.ensures c.shared-slots.ensures
-    c.requires.within
-    (subst (λ n. c.put_copy.new.self ≡ record c.args.self.now {
-      steps = c.args.self.now.steps ++ Insert c.args.at c.args.text.now c.shared-slots.result ∷ [];
-      anchors = map (anchors_moved c.args.at n) c.args.self.now.anchors;
-    }) c.requires.counted c.in_ok-put_copy.ensures) in
-    all.follows
+returns-clause-follows g c = (all g c).follows
 
 pub returns-clause-makes : goal.returns-clause-makes
-returns-clause-makes g c =
-    let all =
-    put-replayed (g.S.TextStore.content c.args.store.now) c.args.self.now c.put_copy.new.self c.args.cursor.now
-    c.seek.new.self c.put.new.self c.args.at c.args.text.now c.shared-slots.result
-    c.requires.follows c.in_ok-seek.ensures.moves c.in_ok-seek.ensures.there c.in_ok-put.ensures c.shared-slots.ensures
-    c.requires.within
-    (subst (λ n. c.put_copy.new.self ≡ record c.args.self.now {
-      steps = c.args.self.now.steps ++ Insert c.args.at c.args.text.now c.shared-slots.result ∷ [];
-      anchors = map (anchors_moved c.args.at n) c.args.self.now.anchors;
-    }) c.requires.counted c.in_ok-put_copy.ensures) in
-    all.makes
+returns-clause-makes g c = (all g c).makes

@@ -1,6 +1,7 @@
-use Rattle.edit_ops.proofs.Words.{◌≡◌, ◌+◌, [], length, get_or, drop, ap, sym, ◌∙◌, arith, drop_of_length-le, drop_more}
-use Rattle.edit_ops.proofs.Words.{characters, line_of, line_start-le, removed_spans, outlineed, length-characters}
-use Rattle.edit_ops.proofs.DeleteLaws.{removing-first, removing-more, span-stands}
+use Rattle.edit_ops.proofs.Common.{◌≡◌, ◌+◌, [], length, get_or, drop, ap, sym, ◌∙◌, arith, drop_of_length-le}
+use Rattle.edit_ops.proofs.Common.{drop_more, characters, line_of, line_start-le, removed_spans, outlineed}
+use Rattle.edit_ops.proofs.Common.{length-characters, Span}
+use Rattle.edit_ops.proofs.DeleteLaws.{removing-first, removing-more, span-within}
 use Rattle.edit_ops.proofs.outlines.Outline.remove_spans.Goals as goal
 
 pub loop-span-init : goal.loop-span-init
@@ -12,28 +13,19 @@ loop-span-init g c =
 
 pub to_next_line-rest-requires-clause-behind : goal.to_next_line-rest-requires-clause-behind
 to_next_line-rest-requires-clause-behind g c =
-    let text = characters (g.S.TextStore.content c.args.store.now).cells in
-    let i = c.loop-span.span-index in
-    let stands = span-stands c.args.keeps c.args.self.now c.loop-span.self text c.args.spans.now
-    (drop i c.args.spans.now) (drop (i + 1) c.args.spans.now)
-    (get_or c.args.spans.now i (record { from = 0; to = 0 })) c.loop-span.border c.loop-span.rest c.loop-span.invariant
-    (drop_more c.args.spans.now i _ c.loop-span-test.true) in
-    let far = stands.3 in
+    let left = drop_more c.args.spans.now c.loop-span.span-index (record { from = 0; to = 0 }) c.loop-span-test.true in
+    let far = span-within c.loop-span.invariant left in
     omega (arith, far, c.line_behind-behind.ensures)
 
 pub loop-span-preserved : goal.loop-span-preserved
 loop-span-preserved g c =
     let text = characters (g.S.TextStore.content c.args.store.now).cells in
     let i = c.loop-span.span-index in
-    let left = drop_more c.args.spans.now i _ c.loop-span-test.true in
-    let bound = line_start-le text (line_of text (get_or c.args.spans.now i (record { from = 0; to = 0 })).to + 1) in
-    removing-more c.args.keeps c.args.self.now c.loop-span.self c.remove.new.self text c.in_ok-text.text
-    c.args.spans.now (drop i c.args.spans.now) (drop (i + 1) c.args.spans.now)
-    (get_or c.args.spans.now i (record { from = 0; to = 0 })) c.loop-span.border c.loop-span.rest
-    c.line_behind-behind.result c.line_at-line.result c.to_next_line-rest.result
-    c.loop-span.invariant left (omega (arith, bound, c.line_behind-behind.ensures)) c.line_behind-behind.ensures
-    c.in_ok-text.ensures c.line_at-line.ensures c.to_next_line-rest.ensures
-    c.in_ok-remove.ensures
+    let d : Span = record { from = 0; to = 0 } in
+    let bound = line_start-le text (line_of text (get_or c.args.spans.now i d).to + 1) in
+    removing-more c.loop-span.invariant (drop_more c.args.spans.now i d c.loop-span-test.true)
+    (omega (arith, bound, c.line_behind-behind.ensures)) c.line_behind-behind.ensures c.in_ok-text.ensures
+    c.line_at-line.ensures c.to_next_line-rest.ensures c.in_ok-remove.ensures
 
 pub returns-clause-makes : goal.returns-clause-makes
 returns-clause-makes g c = λ recording kind state kept fits is.

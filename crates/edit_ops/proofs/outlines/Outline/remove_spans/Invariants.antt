@@ -1,4 +1,4 @@
-use Rattle.edit_ops.proofs.Words.{drop, characters}
+use Rattle.edit_ops.proofs.Common.{drop, characters}
 use Rattle.edit_ops.proofs.DeleteLaws.{RemovingSpans}
 use Rattle.edit_ops.proofs.outlines.Outline.remove_spans.Given as goal
 

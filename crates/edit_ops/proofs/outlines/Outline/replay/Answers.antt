@@ -1,4 +1,4 @@
-use Rattle.edit_ops.proofs.Words.{◌+◌, length, ap, sym, ◌∙◌, if◌then◌else◌, drawn_up, put_back, taken_back}
+use Rattle.edit_ops.proofs.Common.{◌+◌, length, ap, sym, ◌∙◌, if◌then◌else◌, drawn_up, put_back, taken_back}
 use Rattle.edit_ops.proofs.outlines.Outline.replay.Goals as goal
 
 pub returns-in_ok-put_back-clause-makes : goal.returns-in_ok-put_back-clause-makes

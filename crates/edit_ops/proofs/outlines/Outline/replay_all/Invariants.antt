@@ -1,4 +1,4 @@
-use Rattle.edit_ops.proofs.Words.{drop, replays}
+use Rattle.edit_ops.proofs.Common.{drop, replays}
 use Rattle.edit_ops.proofs.ReplayLaws.{ReplayedSoFar}
 use Rattle.edit_ops.proofs.outlines.Outline.replay_all.Given as goal
 

@@ -1,5 +1,5 @@
-use Rattle.edit_ops.proofs.Words.{◌≡◌, ap, arith, subst, sym, chars, slice_range, length-map, Cell, characters}
-use Rattle.edit_ops.proofs.Words.{SpotWalk, Spot}
+use Rattle.edit_ops.proofs.Common.{◌≡◌, ap, arith, subst, sym, chars, slice_range, length-map, Cell, characters}
+use Rattle.edit_ops.proofs.Common.{SpotWalk, Spot}
 use Rattle.edit_ops.proofs.SpotLaws.{room-at, spot-along}
 use Rattle.edit_ops.proofs.spot_walks.SpotWalk.along.Goals as goal
 

@@ -1,4 +1,4 @@
-use Rattle.edit_ops.proofs.Words.{ap, ◌∙◌, arith, length-map, Cell, characters, line_start, line-before}
+use Rattle.edit_ops.proofs.Common.{ap, ◌∙◌, arith, length-map, Cell, characters, line_start, line-before}
 use Rattle.edit_ops.proofs.SpotLaws.{start-at}
 use Rattle.edit_ops.proofs.spot_walks.SpotWalk.to.Goals as goal
 

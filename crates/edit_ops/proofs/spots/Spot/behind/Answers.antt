@@ -1,5 +1,5 @@
-use Rattle.edit_ops.proofs.Words.{◌+◌, ◌++◌, ap, length, take, drop, sym, subst, append-nil, ◌∙◌, arith, chars}
-use Rattle.edit_ops.proofs.Words.{encode_utf8_all, len_utf8, length_push, take_all, encodes-chars, end_of, HasRoom}
+use Rattle.edit_ops.proofs.Common.{◌+◌, ◌++◌, ap, length, take, drop, sym, subst, append-nil, ◌∙◌, arith, chars}
+use Rattle.edit_ops.proofs.Common.{encode_utf8_all, len_utf8, length_push, take_all, encodes-chars, end_of, HasRoom}
 use Rattle.std.proofs.lemmas.Iterator.{YieldsList-from_chars}
 use Rattle.std.proofs.lemmas.Iterator.Consumers.{YieldsList-turn, YieldsList-end}
 use Rattle.edit_ops.proofs.SpotLaws.{front-more, rest-more, room-less}

@@ -1,4 +1,4 @@
-use Rattle.edit_ops.proofs.Words.{◌≡◌, ℕ, List, ◌++◌, length, take, drop, chars, encode_utf8_all, end_of, HasRoom}
+use Rattle.edit_ops.proofs.Common.{◌≡◌, ℕ, List, ◌++◌, length, take, drop, chars, encode_utf8_all, end_of, HasRoom}
 use Rattle.edit_ops.proofs.spots.Spot.behind.Given as goal
 
 abbrev pub invariant-loop-character : goal.invariant-loop-character

@@ -1,4 +1,4 @@
-use Rattle.edit_ops.proofs.Words.{◌+◌, sym, ap, ◌∙◌, is_newline, Spot}
+use Rattle.edit_ops.proofs.Common.{◌+◌, sym, ap, ◌∙◌, is_newline, Spot}
 use Rattle.edit_ops.proofs.SpotLaws.{end-newline, end-other, first_of, grown-is, newline-no}
 use Rattle.edit_ops.proofs.spots.Spot.past.Goals as goal
 

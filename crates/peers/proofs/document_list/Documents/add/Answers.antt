@@ -1,5 +1,5 @@
-use Rattle.peers.proofs.Words.{[], ◌∷◌, ◌++◌, sym, ap, subst, ◌∙◌, arith, chars, AllByRecursion, IsDistinct, is_same}
-use Rattle.peers.proofs.Words.{Document, IsWellFormedDocument, homes_of, names_in}
+use Rattle.peers.proofs.Common.{[], ◌∷◌, ◌++◌, sym, ap, subst, ◌∙◌, arith, chars, AllByRecursion, IsDistinct, is_same}
+use Rattle.peers.proofs.Common.{Document, IsWellFormedDocument, homes_of, names_in}
 use Rattle.peers.proofs.WorldLaws.{absent-home, added-homes, all-added, homes-windows}
 use Rattle.peers.proofs.document_list.Documents.add.Goals as goal
 

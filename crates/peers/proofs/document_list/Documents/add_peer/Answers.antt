@@ -1,7 +1,6 @@
-use Rattle.peers.proofs.Words.{◌≤◌, ◌+◌, length, slice_set, take, sym, ap, subst, ◌∙◌, arith, chars, IsDistinct}
-use Rattle.peers.proofs.Words.{length-insert, is_among, is_same, Document, IsWellFormedDocument, window_names}
-use Rattle.peers.proofs.Words.{with_peer, Homes, homes_of, names_in, windows_of}
-use Rattle.std.proofs.Common.{remove}
+use Rattle.peers.proofs.Common.{◌≤◌, ◌+◌, length, slice_set, take, sym, ap, subst, ◌∙◌, arith, chars, IsDistinct}
+use Rattle.peers.proofs.Common.{length-insert, is_among, is_same, Document, IsWellFormedDocument, window_names}
+use Rattle.peers.proofs.Common.{with_peer, Homes, homes_of, names_in, windows_of, remove}
 use Rattle.peers.proofs.WorldLaws.{absent-home, all-at, all-changed, front-windows, homes-windows, own-absent}
 use Rattle.peers.proofs.WorldLaws.{own-count, peer-homes, read-is, remove-insert, same-homes, windows-count}
 use Rattle.peers.proofs.document_list.Documents.add_peer.Goals as goal
@@ -87,17 +86,9 @@ returns-in-Ok-clause-found g c =
 
 pub returns-in-Ok-clause-distinct : goal.returns-in-Ok-clause-distinct
 returns-in-Ok-clause-distinct g c =
-    let documents = c.args.self.now.list.items in
-    let name = chars c.args.name.now in
-    let end = c.count_to-index.ensures ∙ ap (λ ds. length (windows_of (take (c.args.place + 1) ds)))
-    c.deref.ensures.value in
-    let here = read-is documents c.args.place c.index_mut.result.now c.requires.place c.index_mut.ensures.value in
-    let made = c.in-Ok.ensures.ok ∙ ap (with_peer name c.args.settings) here in
-    let found = peer-homes name c.args.settings documents c.args.self.now.windows c.put.new.self c.count_to-index.result
-    c.args.place c.requires.found c.requires.place end c.in_ok-put.ensures.ok
-    ∙ ap (λ (d : Document). homes_of (slice_set documents c.args.place d)) (sym made) in
-    subst (IsDistinct is_same) (ap names_in found
-    ∙ homes-windows (slice_set documents c.args.place c.add_widget.new.self)) c.len-count.ensures.distinct
+    subst (IsDistinct is_same) (ap names_in (returns-in-Ok-clause-found g c)
+    ∙ homes-windows (slice_set c.args.self.now.list.items c.args.place c.add_widget.new.self))
+    c.len-count.ensures.distinct
 
 pub returns-in-Ok-clause-well_formed : goal.returns-in-Ok-clause-well_formed
 returns-in-Ok-clause-well_formed g c = λ limits all.

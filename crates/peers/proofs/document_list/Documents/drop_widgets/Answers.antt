@@ -1,6 +1,6 @@
-use Rattle.peers.proofs.Words.{drop, filter, length, map, sym, ap, subst, ◌∙◌, arith, AllByRecursion, IsDistinct}
-use Rattle.peers.proofs.Words.{take_at, texts_of, is_same, IsWellFormedDocument, keeps_some, thinned, names_in}
-use Rattle.peers.proofs.Words.{windows_of}
+use Rattle.peers.proofs.Common.{drop, filter, length, map, sym, ap, subst, ◌∙◌, arith, AllByRecursion, IsDistinct}
+use Rattle.peers.proofs.Common.{take_at, texts_of, is_same, IsWellFormedDocument, keeps_some, thinned, names_in}
+use Rattle.peers.proofs.Common.{windows_of}
 use Rattle.peers.proofs.WorldLaws.{all-kept, homes-windows, left-documents, left-homes}
 use Rattle.peers.proofs.document_list.Documents.drop_widgets.Goals as goal
 

@@ -1,4 +1,4 @@
-use Rattle.peers.proofs.Words.{sym, ap, ◌∙◌, chars, home_in}
+use Rattle.peers.proofs.Common.{sym, ap, ◌∙◌, chars, home_in}
 use Rattle.peers.proofs.WindowLaws.{home-seen}
 use Rattle.peers.proofs.windows.Windows.home.Goals as goal
 

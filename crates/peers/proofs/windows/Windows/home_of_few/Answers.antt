@@ -1,10 +1,10 @@
-use Rattle.peers.proofs.Words.{rules, tests, ◌≡◌, String, Global, ap, sym, ◌∙◌, keys_of, bytes_eq, position, home_in}
-use Rattle.std.specs.Prelude.{chars, string_bytes}
+use Rattle.peers.proofs.Common.{rules, tests, ◌≡◌, String, Global, ap, sym, ◌∙◌, keys_of, bytes_eq, position, home_in}
+use Rattle.peers.proofs.Common.{chars, string_bytes}
 use Rattle.std.proofs.lemmas.Iterator.Consumers.{YieldsList-from_rest}
 use Rattle.std.proofs.lemmas.Iterator.Search.{position_from_yields_List}
 use Rattle.peers.proofs.WindowLaws.{home-at, home-none}
-use Rattle.peers.proofs.windows.Windows.home_of_few.Goals as goal
 use Rattle.peers.proofs.windows.Windows.home_of_few.Goals.{After-position}
+use Rattle.peers.proofs.windows.Windows.home_of_few.Goals as goal
 
 found : (c : After-position) → c.position.result
     ≡ position (λ (key : String Global). bytes_eq c.args.name.now (string_bytes key)) (keys_of c.self.inside.homes.entries)

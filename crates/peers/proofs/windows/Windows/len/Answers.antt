@@ -1,4 +1,4 @@
-use Rattle.peers.proofs.Words.{subst, IsDistinct, is_same, Homes, names_in}
+use Rattle.peers.proofs.Common.{subst, IsDistinct, is_same, Homes, names_in}
 use Rattle.peers.proofs.WindowLaws.{names-distinct}
 use Rattle.peers.proofs.windows.Windows.len.Goals as goal
 

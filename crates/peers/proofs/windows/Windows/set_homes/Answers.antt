@@ -1,4 +1,4 @@
-use Rattle.peers.proofs.Words.{length, ap, arith, length-map, home_kept}
+use Rattle.peers.proofs.Common.{length, ap, arith, length-map, home_kept}
 use Rattle.peers.proofs.WindowLaws.{fills-more}
 use Rattle.peers.proofs.windows.Windows.set_homes.Goals as goal
 

@@ -1,6 +1,5 @@
-use Rattle.peers.proofs.Words.{ap, sym, not, map, ◌∙◌, slice_get-map, texts_of, is_among, home_kept}
+use Rattle.peers.proofs.Common.{ap, sym, not, map, ◌∙◌, slice_get-map, texts_of, is_among, home_kept, chars}
 use Rattle.std.specs.Option.{option_map}
-use Rattle.std.specs.Prelude.{chars}
 use Rattle.peers.proofs.WindowLaws.{homes-removed, kept_from, kept-more, kept-removed}
 use Rattle.peers.proofs.windows.Windows.take_names.Goals as goal
 

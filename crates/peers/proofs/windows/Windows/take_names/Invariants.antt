@@ -1,4 +1,4 @@
-use Rattle.peers.proofs.Words.{◌≡◌, ◌-◌, length, filter, not, map, texts_of, is_among, home_kept}
+use Rattle.peers.proofs.Common.{◌≡◌, ◌-◌, length, filter, not, map, texts_of, is_among, home_kept}
 use Rattle.peers.proofs.WindowLaws.{kept_from}
 use Rattle.peers.proofs.windows.Windows.take_names.Given as goal
 

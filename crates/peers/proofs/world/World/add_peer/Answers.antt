@@ -1,6 +1,6 @@
-use Rattle.peers.proofs.Words.{◌≡◌, ◌<◌, false, length, sym, ap, subst, ◌∙◌, arith, chars, nat_le, nat_tests, is_among}
-use Rattle.peers.proofs.Words.{TooManyWidgets, WindowExists, Change, changed, IsWellFormed, World, all_windows}
-use Rattle.peers.proofs.Words.{document_at, windows_of}
+use Rattle.peers.proofs.Common.{◌≡◌, ◌<◌, false, length, sym, ap, subst, ◌∙◌, arith, chars, nat_le, nat_tests, is_among}
+use Rattle.peers.proofs.Common.{TooManyWidgets, WindowExists, Change, changed, IsWellFormed, World, all_windows}
+use Rattle.peers.proofs.Common.{document_at, windows_of}
 use Rattle.peers.proofs.MakesLaws.{changed-refuses, makes-refused}
 use Rattle.peers.proofs.WorldLaws.{formed-peer, peer-many, peer-new, peer-taken, with_all}
 use Rattle.peers.proofs.world.World.add_peer.Goals as goal

@@ -1,5 +1,5 @@
-use Rattle.peers.proofs.Words.{◌≡◌, Err, None, [], true, rules, ap, subst, chars, is_ok, texts_of, Memory, on_widget}
-use Rattle.peers.proofs.Words.{step, MarksTellAt, TellsAt, answer_of, no_edit, IsWellFormed, home}
+use Rattle.peers.proofs.Common.{◌≡◌, Err, None, [], true, rules, ap, subst, chars, is_ok, texts_of, Memory, on_widget}
+use Rattle.peers.proofs.Common.{step, MarksTellAt, TellsAt, answer_of, no_edit, IsWellFormed, home}
 use Rattle.peers.proofs.MakesLaws.{makes-memory}
 use Rattle.peers.proofs.MarksToldLaws.{marks-call}
 use Rattle.peers.proofs.ToldStepLaws.{tells-call}

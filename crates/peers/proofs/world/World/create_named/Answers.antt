@@ -1,5 +1,5 @@
-use Rattle.peers.proofs.Words.{◌≡◌, false, length, sym, ap, subst, ◌∙◌, chars, nat_le, is_among, TooManyWidgets}
-use Rattle.peers.proofs.Words.{WindowExists, Outcome, IsWellFormed, World, all_windows, windows_of}
+use Rattle.peers.proofs.Common.{◌≡◌, false, length, sym, ap, subst, ◌∙◌, chars, nat_le, is_among, TooManyWidgets}
+use Rattle.peers.proofs.Common.{WindowExists, Outcome, IsWellFormed, World, all_windows, windows_of}
 use Rattle.peers.proofs.MakesLaws.{makes-refused}
 use Rattle.peers.proofs.WorldLaws.{formed-added, named-many, named-new, named-taken, with_all}
 use Rattle.peers.proofs.world.World.create_named.Goals as goal

@@ -1,6 +1,6 @@
-use Rattle.peers.proofs.Words.{◌≡◌, ◌+◌, ◌<◌, length, true, sym, ap, subst, ◌∙◌, chars, texts_of, Document, widget_at}
-use Rattle.peers.proofs.Words.{is_window_name, settings_given, Makes, changed, IsWellFormed, peer_settings, World}
-use Rattle.peers.proofs.Words.{all_windows, document_at}
+use Rattle.peers.proofs.Common.{◌≡◌, ◌+◌, ◌<◌, length, true, sym, ap, subst, ◌∙◌, chars, texts_of, Document, widget_at}
+use Rattle.peers.proofs.Common.{is_window_name, settings_given, Makes, changed, IsWellFormed, peer_settings, World}
+use Rattle.peers.proofs.Common.{all_windows, document_at}
 use Rattle.peers.proofs.MakesLaws.{changed-refuses, makes-refused}
 use Rattle.peers.proofs.PeerLaws.{bad-peer, good-peer}
 use Rattle.peers.proofs.WorldLaws.{read-is}

@@ -1,4 +1,4 @@
-use Rattle.peers.proofs.Words.{refl, ap, texts_of}
+use Rattle.peers.proofs.Common.{refl, ap, texts_of}
 use Rattle.peers.proofs.WorldLaws.{formed-left, with_all}
 use Rattle.peers.proofs.world.World.destroy.Goals as goal
 

@@ -1,4 +1,4 @@
-use Rattle.peers.proofs.Words.{sym, ap, subst, ◌∙◌, texts_of, Makes, destroy, destroy_shaped}
+use Rattle.peers.proofs.Common.{sym, ap, subst, ◌∙◌, texts_of, Makes, destroy, destroy_shaped}
 use Rattle.peers.proofs.ArgumentLaws.{arguments-part}
 use Rattle.peers.proofs.world.World.destroy_shaped.Goals as goal
 

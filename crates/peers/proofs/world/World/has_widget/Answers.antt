@@ -1,4 +1,4 @@
-use Rattle.peers.proofs.Words.{is_some, ap, ◌∙◌, chars}
+use Rattle.peers.proofs.Common.{is_some, ap, ◌∙◌, chars}
 use Rattle.peers.proofs.WorldLaws.{some-home}
 use Rattle.peers.proofs.world.World.has_widget.Goals as goal
 

@@ -1,4 +1,4 @@
-use Rattle.peers.proofs.Words.{ap₂, ◌∙◌, nat_le}
+use Rattle.peers.proofs.Common.{ap₂, ◌∙◌, nat_le}
 use Rattle.peers.proofs.WorldLaws.{windows-count}
 use Rattle.peers.proofs.world.World.is_full.Goals as goal
 

@@ -1,12 +1,20 @@
-use Rattle.peers.proofs.Words.{◌≡◌, ◌<◌, Some, true, false, is_some, length, slice_set, sym, ap, subst, ◌∙◌, arith}
-use Rattle.peers.proofs.Words.{IfErr, chars, texts_of, is_among, Document, widget_at, Does, IsWellFormedDocument}
-use Rattle.peers.proofs.Words.{window_names, widget_named, command, peer_create, Makes, Outcome, changed, on_found}
-use Rattle.peers.proofs.Words.{World, all_windows, document_at, home, windows_of}
+use Rattle.peers.proofs.Common.{◌≡◌, ◌<◌, Some, true, false, is_some, length, slice_set, sym, ap, subst, ◌∙◌, arith}
+use Rattle.peers.proofs.Common.{IfErr, chars, texts_of, Document, widget_at, Does, IsWellFormedDocument, widget_named}
+use Rattle.peers.proofs.Common.{command, peer_create, Makes, Outcome, changed, on_found, World, all_windows}
+use Rattle.peers.proofs.Common.{document_at, home, windows_of}
 use Rattle.peers.proofs.ArgumentLaws.{arguments-part}
-use Rattle.peers.proofs.HomeStepLaws.{does-form, does-homes, does-refuse, does-world, found-change, home-is}
-use Rattle.peers.proofs.HomeStepLaws.{peer-command}
+use Rattle.peers.proofs.HomeStepLaws.{IsHome, does-form, does-homes, does-refuse, does-world, found-change, home-is}
+use Rattle.peers.proofs.HomeStepLaws.{is-home, peer-command}
 use Rattle.peers.proofs.WorldLaws.{all-at, read-is, with_all}
+use Rattle.peers.proofs.world.World.on_document.Goals.{After-command, After-index}
 use Rattle.peers.proofs.world.World.on_document.Goals as goal
+
+-- the document that has the widget
+here : (g : _) (c : After-index g) → IsHome (chars c.args.name.now) c.self.inside.documents.list.items c.args.place
+    c.index.result.now
+here g c = is-home (chars c.args.name.now) c.self.inside.documents.list.items c.args.place c.index.result.now
+    (subst (λ (w : World). home (chars c.args.name.now) w.documents ≡ Some c.args.place) (sym c.self.view_is)
+    c.requires.home) c.index.ensures
 
 pub index-requires : goal.index-requires
 index-requires g c =
@@ -17,86 +25,73 @@ index-requires g c =
 
 pub unreachable-requires : goal.unreachable-requires
 unreachable-requires g c =
-    let documents = c.self.inside.documents.list.items in let name = chars c.args.name.now in
-    let found = home-is name documents c.args.place
-    (subst (λ (w : World). home name w.documents ≡ Some c.args.place) (sym c.self.view_is) c.requires.home) in
-    let read = read-is documents c.args.place c.index.result.now found.0 c.index.ensures in
     let no : false ≡ true = ap is_some (sym c.in_default.is) ∙ c.find_widget.ensures.named
-    ∙ ap (λ (d : Document). is_among name (window_names d)) read ∙ found.1 in
+    ∙ (here g (goal.at.unreachable-requires g c).After-index).named in
     absurd (cc)
 
 pub create_peer-requires-clause-place : goal.create_peer-requires-clause-place
 create_peer-requires-clause-place g c =
-    let documents = c.self.inside.documents.list.items in let name = chars c.args.name.now in
-    let found = home-is name documents c.args.place
-    (subst (λ (w : World). home name w.documents ≡ Some c.args.place) (sym c.self.view_is) c.requires.home) in
-    subst (λ (w : World). c.args.place < length w.documents) c.self.view_is found.0
+    subst (λ (w : World). c.args.place < length w.documents) c.self.view_is
+    (here g (goal.at.create_peer-requires-clause-place g c).After-index).within
 
 pub create_peer-requires-clause-shown : goal.create_peer-requires-clause-shown
 create_peer-requires-clause-shown g c =
-    let documents = c.self.inside.documents.list.items in let name = chars c.args.name.now in
-    let found = home-is name documents c.args.place
-    (subst (λ (w : World). home name w.documents ≡ Some c.args.place) (sym c.self.view_is) c.requires.home) in
-    let read = read-is documents c.args.place c.index.result.now found.0 c.index.ensures in
-    subst (λ (d : Document). c.in-Some.seat < length d.widgets) (read
+    subst (λ (d : Document). c.in-Some.seat < length d.widgets)
+    ((here g (goal.at.create_peer-requires-clause-shown g c).After-index).read
     ∙ ap (λ (w : World). document_at w.documents c.args.place) c.self.view_is) c.in-Some.ensures.within
 
 pub index_mut-requires : goal.index_mut-requires
-index_mut-requires g c =
-    let documents = c.self.inside.documents.list.items in let name = chars c.args.name.now in
-    let found = home-is name documents c.args.place
-    (subst (λ (w : World). home name w.documents ≡ Some c.args.place) (sym c.self.view_is) c.requires.home) in
-    omega (arith, found.0, c.self.inside.documents.list.ok.0)
+index_mut-requires g c = omega (
+  arith,
+  (here g (goal.at.index_mut-requires g c).After-index).within,
+  c.self.inside.documents.list.ok.0,
+)
 
 pub command-requires : goal.command-requires
 command-requires g c =
-    let documents = c.self.inside.documents.list.items in let name = chars c.args.name.now in
-    let found = home-is name documents c.args.place
-    (subst (λ (w : World). home name w.documents ≡ Some c.args.place) (sym c.self.view_is) c.requires.home) in
-    let read = read-is documents c.args.place c.index.result.now found.0 c.index.ensures in
-    let limits = c.self.inside.limits in let seat = c.in-Some.seat in let words = texts_of c.args.words.now in
-    let old = document_at documents c.args.place in
-    let lent = read-is documents c.args.place c.index_mut.result.now found.0 c.index_mut.ensures.value in
+    let documents = c.self.inside.documents.list.items in let limits = c.self.inside.limits in
+    let at = here g (goal.at.command-requires g c).After-index in
+    let lent = read-is documents c.args.place c.index_mut.result.now at.within c.index_mut.ensures.value in
     record {
-      shown = subst (λ (d : Document). seat < length d.widgets) (read ∙ sym lent) c.in-Some.ensures.within;
+      shown = subst (λ (d : Document). c.in-Some.seat < length d.widgets) (at.read ∙ sym lent) c.in-Some.ensures.within;
       formed = subst (IsWellFormedDocument limits) (sym lent)
-          (all-at (IsWellFormedDocument limits) documents c.args.place c.self.invariant.0.documents found.0);
+          (all-at (IsWellFormedDocument limits) documents c.args.place c.self.invariant.0.documents at.within);
       shape = c.requires.shape;
       within = c.requires.within;
       ordered = c.requires.ordered;
       own = c.in_default-command.not-PeerCreate;
     }
 
+-- what the command does to that document
+does : (g : _) (c : After-command g) → (within : c.args.place < length c.self.inside.documents.list.items)
+    → let documents = c.self.inside.documents.list.items in let old = document_at documents c.args.place in
+    Does c.self.inside.limits old c.command.new.document c.command.result (command c.self.inside.limits
+    (windows_of documents) old (widget_at old c.in-Some.seat) (texts_of c.args.words.now))
+does g c within =
+    let documents = c.self.inside.documents.list.items in let limits = c.self.inside.limits in
+    subst (λ (d : Document). Does limits d c.command.new.document c.command.result
+    (command limits (windows_of documents) d (widget_at d c.in-Some.seat) (texts_of c.args.words.now)))
+    (read-is documents c.args.place c.index_mut.result.now within c.index_mut.ensures.value)
+    (c.command.ensures.does (windows_of documents))
+
 pub invariant_of-self : goal.invariant_of-self
 invariant_of-self g c =
-    let documents = c.self.inside.documents.list.items in let name = chars c.args.name.now in
-    let found = home-is name documents c.args.place
-    (subst (λ (w : World). home name w.documents ≡ Some c.args.place) (sym c.self.view_is) c.requires.home) in
-    let limits = c.self.inside.limits in let seat = c.in-Some.seat in let words = texts_of c.args.words.now in
-    let old = document_at documents c.args.place in
-    let lent = read-is documents c.args.place c.index_mut.result.now found.0 c.index_mut.ensures.value in
-    let change = command limits (windows_of documents) old (widget_at old seat) words in
-    let does : Does limits old c.command.new.document c.command.result change =
-    subst (λ (d : Document). Does limits d c.command.new.document c.command.result
-    (command limits (windows_of documents) d (widget_at d seat) words)) lent
-    (c.command.ensures.does (windows_of documents)) in (
-      does-form limits documents c.args.place c.command.new.document c.command.result change does c.self.invariant.0
-          found.0,
-      c.self.invariant.1
-          ∙ sym (does-homes limits documents c.args.place c.command.new.document c.command.result change does),
+    let documents = c.self.inside.documents.list.items in
+    let inside = (here g (goal.at.invariant_of-self g c).After-index).within in
+    let done = does g (goal.at.invariant_of-self g c).After-command inside in (
+      does-form documents c.args.place done c.self.invariant.0 inside,
+      c.self.invariant.1 ∙ sym (does-homes documents c.args.place done),
     )
 
 pub returns-in-PeerCreate-clause-makes : goal.returns-in-PeerCreate-clause-makes
 returns-in-PeerCreate-clause-makes g c =
-    let documents = c.self.inside.documents.list.items in let name = chars c.args.name.now in
-    let found = home-is name documents c.args.place
-    (subst (λ (w : World). home name w.documents ≡ Some c.args.place) (sym c.self.view_is) c.requires.home) in
-    let read = read-is documents c.args.place c.index.result.now found.0 c.index.ensures in
+    let name = chars c.args.name.now in
     let world = c.args.self.now in let document = document_at world.documents c.args.place in
     let seat = c.in-Some.seat in let words = texts_of c.args.words.now in
-    let here = read ∙ ap (λ (w : World). document_at w.documents c.args.place) c.self.view_is in
+    let read = (here g (goal.at.returns-in-PeerCreate-clause-makes g c).After-index).read
+    ∙ ap (λ (w : World). document_at w.documents c.args.place) c.self.view_is in
     let named : widget_named name document ≡ Some (widget_at document seat) =
-    subst (λ (d : Document). widget_named name d ≡ Some (widget_at d seat)) here c.in-Some.ensures.some in
+    subst (λ (d : Document). widget_named name d ≡ Some (widget_at d seat)) read c.in-Some.ensures.some in
     let change = peer-command world.limits (all_windows world) document (widget_at document seat) words c.args.shape
     c.requires.shape c.in-PeerCreate.is in
     let step = found-change world c.args.place document words (widget_named name document) (widget_at document seat)
@@ -110,35 +105,27 @@ returns-in-PeerCreate-clause-makes g c =
 pub returns-in_default-command : goal.returns-in_default-command
 returns-in_default-command g c =
     let documents = c.self.inside.documents.list.items in let name = chars c.args.name.now in
-    let found = home-is name documents c.args.place
-    (subst (λ (w : World). home name w.documents ≡ Some c.args.place) (sym c.self.view_is) c.requires.home) in
-    let read = read-is documents c.args.place c.index.result.now found.0 c.index.ensures in
     let limits = c.self.inside.limits in let seat = c.in-Some.seat in let words = texts_of c.args.words.now in
     let old = document_at documents c.args.place in
-    let lent = read-is documents c.args.place c.index_mut.result.now found.0 c.index_mut.ensures.value in
-    let change = command limits (windows_of documents) old (widget_at old seat) words in
-    let does : Does limits old c.command.new.document c.command.result change =
-    subst (λ (d : Document). Does limits d c.command.new.document c.command.result
-    (command limits (windows_of documents) d (widget_at d seat) words)) lent
-    (c.command.ensures.does (windows_of documents)) in
+    let at = here g (goal.at.returns-in_default-command g c).After-index in
+    let done = does g (goal.at.returns-in_default-command g c).After-command at.within in
     let named : widget_named name old ≡ Some (widget_at old seat) =
-    subst (λ (d : Document). widget_named name d ≡ Some (widget_at d seat)) read c.in-Some.ensures.some in
+    subst (λ (d : Document). widget_named name d ≡ Some (widget_at d seat)) at.read c.in-Some.ensures.some in
     let step = found-change (with_all limits documents) c.args.place old words (widget_named name old)
     (widget_at old seat) named in
     let after : World → Outcome = λ w. on_found w c.args.place (document_at w.documents c.args.place) words
     (widget_named name (document_at w.documents c.args.place)) in
     record {
       makes = record {
-        reply = λ other. does.reply other ∙ sym (ap (λ (o : Outcome). o.reply) step)
+        reply = λ other. done.reply other ∙ sym (ap (λ (o : Outcome). o.reply) step)
             ∙ ap (λ (w : World). (after w).reply) c.self.view_is;
         world = λ other.
-            does-world limits documents c.args.place c.command.new.document c.command.result change does other
+            does-world documents c.args.place done other
             ∙ sym (ap (λ (o : Outcome). o.world) step) ∙ ap (λ (w : World). (after w).world) c.self.view_is;
         refused = subst (λ (w : World). IfErr c.command.result (λ _.
             with_all limits (slice_set documents c.args.place c.command.new.document) ≡ w)) c.self.view_is
-            (does-refuse limits documents c.args.place c.command.new.document c.command.result change does);
-        well_formed = does-form limits documents c.args.place c.command.new.document c.command.result change does
-            c.self.invariant.0 found.0;
+            (does-refuse documents c.args.place done);
+        well_formed = does-form documents c.args.place done c.self.invariant.0 at.within;
       };
       frugal = c.command.ensures.frugal;
     }

@@ -1,36 +1,32 @@
-use Rattle.peers.proofs.Words.{◌≡◌, Some, None, sym, ap, subst, ◌∙◌, chars, texts_of, shape_fault, InvalidCommandName}
-use Rattle.peers.proofs.Words.{widget_named, Makes, changed, on_home, refuses, IsWellFormed, home_in, World}
-use Rattle.peers.proofs.Words.{all_windows, document_at, home}
-use Rattle.peers.proofs.HomeStepLaws.{bad-command, found-change, home-is, some-widget}
+use Rattle.peers.proofs.Common.{◌≡◌, Some, None, sym, ap, subst, ◌∙◌, chars, texts_of, shape_fault, InvalidCommandName}
+use Rattle.peers.proofs.Common.{widget_named, Makes, changed, on_home, refuses, IsWellFormed, World, all_windows}
+use Rattle.peers.proofs.Common.{document_at, home}
+use Rattle.peers.proofs.HomeStepLaws.{bad-command, found-change, home-is, home-stands, some-widget}
 use Rattle.peers.proofs.MakesLaws.{changed-refuses, makes-refused}
-use Rattle.peers.proofs.WorldLaws.{home-found}
 use Rattle.peers.proofs.world.World.on_widget.Goals as goal
 
 pub returns-in_default-clause-makes : goal.returns-in_default-clause-makes
 returns-in_default-clause-makes g c =
     let world = c.args.self.now in let name = chars c.args.name.now in let words = texts_of c.args.words.now in
-    let homes : home_in name c.self.inside.documents.windows ≡ home name world.documents =
-    ap (home_in name) c.self.invariant.1 ∙ home-found name c.self.inside.documents.list.items
+    let homes = home-stands name c.self.inside.documents.list.items c.self.invariant.1 c.home.ensures
     ∙ ap (λ (w : World). home name w.documents) c.self.view_is in
-    let none : home name world.documents ≡ None = sym homes ∙ sym c.home.ensures ∙ c.in_default.is in
+    let none : home name world.documents ≡ None = sym homes ∙ c.in_default.is in
     makes-refused world (InvalidCommandName 0) _ (subst IsWellFormed c.self.view_is c.self.invariant.0)
     (ap (on_home world name words) none)
 
 pub on_document-requires-clause-home : goal.on_document-requires-clause-home
 on_document-requires-clause-home g c =
     let world = c.args.self.now in let name = chars c.args.name.now in
-    let homes : home_in name c.self.inside.documents.windows ≡ home name world.documents =
-    ap (home_in name) c.self.invariant.1 ∙ home-found name c.self.inside.documents.list.items
+    let homes = home-stands name c.self.inside.documents.list.items c.self.invariant.1 c.home.ensures
     ∙ ap (λ (w : World). home name w.documents) c.self.view_is in
-    sym homes ∙ sym c.home.ensures ∙ c.in-Some.is
+    sym homes ∙ c.in-Some.is
 
 pub returns-in-Err-clause-makes : goal.returns-in-Err-clause-makes
 returns-in-Err-clause-makes g c =
     let world = c.args.self.now in let name = chars c.args.name.now in let words = texts_of c.args.words.now in
-    let homes : home_in name c.self.inside.documents.windows ≡ home name world.documents =
-    ap (home_in name) c.self.invariant.1 ∙ home-found name c.self.inside.documents.list.items
+    let homes = home-stands name c.self.inside.documents.list.items c.self.invariant.1 c.home.ensures
     ∙ ap (λ (w : World). home name w.documents) c.self.view_is in
-    let some : home name world.documents ≡ Some c.in-Some.place = sym homes ∙ sym c.home.ensures ∙ c.in-Some.is in
+    let some : home name world.documents ≡ Some c.in-Some.place = sym homes ∙ c.in-Some.is in
     let document = document_at world.documents c.in-Some.place in
     let widget = some-widget name document (home-is name world.documents c.in-Some.place some).1 in
     let change = bad-command world.limits (all_windows world) document widget.0 words c.in-Err.fault
@@ -44,9 +40,8 @@ returns-in-Err-clause-makes g c =
 pub returns-in-Ok-clause-makes : goal.returns-in-Ok-clause-makes
 returns-in-Ok-clause-makes g c =
     let world = c.args.self.now in let name = chars c.args.name.now in let words = texts_of c.args.words.now in
-    let homes : home_in name c.self.inside.documents.windows ≡ home name world.documents =
-    ap (home_in name) c.self.invariant.1 ∙ home-found name c.self.inside.documents.list.items
+    let homes = home-stands name c.self.inside.documents.list.items c.self.invariant.1 c.home.ensures
     ∙ ap (λ (w : World). home name w.documents) c.self.view_is in
-    let some : home name world.documents ≡ Some c.in-Some.place = sym homes ∙ sym c.home.ensures ∙ c.in-Some.is in
+    let some : home name world.documents ≡ Some c.in-Some.place = sym homes ∙ c.in-Some.is in
     subst (Makes world c.on_document.new.self c.on_document.result) (sym (ap (on_home world name words) some))
     c.on_document.ensures.makes

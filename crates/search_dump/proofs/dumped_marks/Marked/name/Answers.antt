@@ -1,4 +1,4 @@
-use Rattle.search_dump.proofs.Words.{[], sym, ap, ◌∙◌, get_or_from_slice_get, rank_of, names_of, name_of_rank}
+use Rattle.search_dump.proofs.Common.{[], sym, ap, ◌∙◌, get_or_from_slice_get, rank_of, names_of, name_of_rank}
 use Rattle.std.specs.Str.{chars}
 use Rattle.search_dump.proofs.MarkLaws.{insert-characters, current-characters, shared-name}
 use Rattle.search_dump.proofs.dumped_marks.Marked.name.Goals as goal

@@ -1,4 +1,4 @@
-use Rattle.search_dump.proofs.Words.{refl, sym, option_map, shown_of, usable_by}
+use Rattle.search_dump.proofs.Common.{refl, sym, option_map, shown_of, usable_by}
 use Rattle.search_dump.proofs.MarkOrderLaws.{mark-behind, usable-rising}
 use Rattle.search_dump.proofs.dumped_marks.Marked.next.Goals as goal
 

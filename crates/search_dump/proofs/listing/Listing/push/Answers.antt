@@ -1,10 +1,9 @@
-use Rattle.search_dump.proofs.Words.{[], ◌∷◌, ap, subst, ◌∙◌, on_ok_weaker, Goes, needs_quotes, goes_on, position_text}
-use Rattle.std.specs.Prelude.{chars, string_bytes}
+use Rattle.search_dump.proofs.Common.{[], ◌∷◌, ap, subst, ◌∙◌, on_ok_weaker, Goes, needs_quotes, goes_on, position_text}
+use Rattle.search_dump.proofs.Common.{chars, string_bytes}
 use Rattle.search_dump.proofs.listing.Listing.push.Goals as goal
 
 pub returns : goal.returns
 returns c =
-    let key = chars c.args.key.now in
     let value = chars c.args.value.now in
     let first = string_bytes c.args.self.now.list in
     let second = string_bytes c.push_plain.new.list in
@@ -14,7 +13,7 @@ returns c =
     (λ end text spot.
     let place = position_text text c.args.spot.place in
     let word = ap chars c.as_str.ensures.value ∙ c.in_ok-write_place.ensures.place text spot in
-    goes_on first second last (key ∷ []) (value ∷ place ∷ []) c.in_ok-push_plain.ensures
+    goes_on first second last (chars c.args.key.now ∷ []) (value ∷ place ∷ []) c.in_ok-push_plain.ensures
     (goes_on second third last (value ∷ []) (place ∷ []) c.in_ok-push_element.ensures.list
     (subst (λ w. Goes third last (w ∷ [])) word end)))
     c.push_plain-2.ensures

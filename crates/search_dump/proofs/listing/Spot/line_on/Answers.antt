@@ -1,4 +1,4 @@
-use Rattle.search_dump.proofs.Words.{text_in}
+use Rattle.search_dump.proofs.Common.{text_in}
 use Rattle.search_dump.proofs.LineStops.{spot-on}
 use Rattle.search_dump.proofs.listing.Spot.line_on.Goals as goal
 

@@ -1,4 +1,4 @@
-use Rattle.search_dump.proofs.Words.{chars, subst, IfSome, YieldsList-from_chars, count_from_yields_List, IsPeriod}
+use Rattle.search_dump.proofs.Common.{chars, subst, IfSome, YieldsList-from_chars, count_from_yields_List, IsPeriod}
 use Rattle.search_dump.proofs.patterns.Pattern.new.Goals as goal
 
 pub invariant_of-result : goal.invariant_of-result

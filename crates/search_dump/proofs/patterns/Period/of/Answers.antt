@@ -1,6 +1,6 @@
-use Rattle.search_dump.proofs.Words.{◌≡◌, ◌++◌, ◌+◌, ◌-◌, ◌<◌, ap, arith, chars, drop, encode_utf8, length, refl, sym}
-use Rattle.search_dump.proofs.Words.{take, ◌∙◌, YieldsList-from_chars, count_from_yields_List, length-take, take_min}
-use Rattle.search_dump.proofs.Words.{len_utf8_bounds, length-encode}
+use Rattle.search_dump.proofs.Common.{◌≡◌, ◌++◌, ◌+◌, ◌-◌, ◌<◌, ap, arith, chars, drop, encode_utf8, length, refl, sym}
+use Rattle.search_dump.proofs.Common.{take, ◌∙◌, YieldsList-from_chars, count_from_yields_List, length-take, take_min}
+use Rattle.search_dump.proofs.Common.{len_utf8_bounds, length-encode}
 use Rattle.search_dump.proofs.PeriodLaws.{later-boundary, period-at}
 use Rattle.search_dump.proofs.patterns.Period.of.Goals as goal
 

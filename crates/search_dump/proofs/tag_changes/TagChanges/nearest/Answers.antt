@@ -1,4 +1,4 @@
-use Rattle.search_dump.proofs.Words.{ap, arith, min, ◌∙◌, get_or_default_zero}
+use Rattle.search_dump.proofs.Common.{ap, arith, min, ◌∙◌, get_or_default_zero}
 use Rattle.search_dump.proofs.ChangeLaws.{nearest-more}
 use Rattle.search_dump.proofs.tag_changes.TagChanges.nearest.Goals as goal
 

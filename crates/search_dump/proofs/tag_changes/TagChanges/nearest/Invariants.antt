@@ -1,4 +1,4 @@
-use Rattle.search_dump.proofs.Words.{IsNearest}
+use Rattle.search_dump.proofs.Common.{IsNearest}
 use Rattle.search_dump.proofs.tag_changes.TagChanges.nearest.Given as goal
 
 abbrev pub invariant-loop-at : goal.invariant-loop-at

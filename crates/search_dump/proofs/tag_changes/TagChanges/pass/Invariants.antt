@@ -1,4 +1,4 @@
-use Rattle.search_dump.proofs.Words.{ℕ, ◌<◌, AreChangesAhead, IsChangeKnown}
+use Rattle.search_dump.proofs.Common.{ℕ, ◌<◌, AreChangesAhead, IsChangeKnown}
 use Rattle.search_dump.proofs.tag_changes.TagChanges.pass.Given as goal
 
 abbrev pub invariant-loop-at : goal.invariant-loop-at

@@ -1,5 +1,4 @@
-use Rattle.search_dump.proofs.Words.{arith, inl, refl, slots_of, slot_of_row}
-use Rattle.std.proofs.Common.{slice_index_or}
+use Rattle.search_dump.proofs.Common.{arith, inl, refl, slots_of, slot_of_row, slice_index_or}
 use Rattle.search_dump.proofs.TurnLaws.{turn-either, turn-more}
 use Rattle.search_dump.proofs.tag_changes.TagChanges.turned.Goals as goal
 

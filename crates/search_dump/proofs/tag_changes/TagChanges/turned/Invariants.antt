@@ -1,4 +1,4 @@
-use Rattle.search_dump.proofs.Words.{ℕ, length, slots_of, AreKept, AreTurned}
+use Rattle.search_dump.proofs.Common.{ℕ, length, slots_of, AreKept, AreTurned}
 use Rattle.search_dump.proofs.TurnLaws.{IsEither}
 use Rattle.search_dump.proofs.tag_changes.TagChanges.turned.Given as goal
 

@@ -1,5 +1,5 @@
-use Rattle.tcl_words.proofs.Words.{◌++◌, ◌∙◌, IsUtf8, string_bytes, sym, ap, subst, arith, IsUtf8-drop, pair_gives}
-use Rattle.tcl_words.proofs.Words.{Text, Quoted}
+use Rattle.tcl_words.proofs.Common.{◌++◌, ◌∙◌, IsUtf8, string_bytes, sym, ap, subst, arith, IsUtf8-drop, pair_gives}
+use Rattle.tcl_words.proofs.Common.{Text, Quoted}
 use Rattle.tcl_words.proofs.Plain.{run_at, front_range}
 use Rattle.tcl_words.proofs.Pairs.{run_kept, pair_written, pair_boundary}
 use Rattle.tcl_words.proofs.pieces.Writer.keep_quoted.Goals as goal

@@ -1,4 +1,4 @@
-use Rattle.tcl_words.proofs.Words.{◌≡◌, ◌≤◌, IsUtf8, map, length, string_bytes, words_on, Text, Quoted}
+use Rattle.tcl_words.proofs.Common.{◌≡◌, ◌≤◌, IsUtf8, map, length, string_bytes, words_on, Text, Quoted}
 use Rattle.tcl_words.proofs.pieces.Writer.keep_quoted.Given as goal
 
 abbrev pub invariant-loop-bytes : goal.invariant-loop-bytes

@@ -1,4 +1,4 @@
-use Rattle.tcl_words.proofs.Words.{◌∙◌, sym, subst, ap, take, Unread, IsCommandOf}
+use Rattle.tcl_words.proofs.Common.{◌∙◌, sym, subst, ap, take, Unread, IsCommandOf}
 use Rattle.tcl_words.proofs.Splitting.{words_found, not_none}
 use Rattle.tcl_words.proofs.splitter.Splitter.find_words.Goals as goal
 

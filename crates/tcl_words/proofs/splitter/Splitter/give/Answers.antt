@@ -1,4 +1,4 @@
-use Rattle.tcl_words.proofs.Words.{arith, ap, Unread}
+use Rattle.tcl_words.proofs.Common.{arith, ap, Unread}
 use Rattle.tcl_words.proofs.Splitting.{passed_in}
 use Rattle.tcl_words.proofs.splitter.Splitter.give.Goals as goal
 

@@ -1,4 +1,4 @@
-use Rattle.tcl_words.proofs.Words.{arith, IsUtf8-nil}
+use Rattle.tcl_words.proofs.Common.{arith, IsUtf8-nil}
 use Rattle.tcl_words.proofs.Splitting.{starts}
 use Rattle.tcl_words.proofs.splitter.Splitter.new.Goals as goal
 

@@ -1,4 +1,4 @@
-use Rattle.tcl_words.proofs.Words.{◌≡◌, ◌∙◌, None, sym, ap, rules, subst, take, drop, take_rest, Unread, IsProgress}
+use Rattle.tcl_words.proofs.Common.{◌≡◌, ◌∙◌, None, sym, ap, rules, subst, take, drop, take_rest, Unread, IsProgress}
 use Rattle.tcl_words.proofs.Splitting.{plain_result}
 use Rattle.tcl_words.proofs.splitter.Splitter.plain_command.Goals as goal
 

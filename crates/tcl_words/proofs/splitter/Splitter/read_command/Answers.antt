@@ -1,7 +1,7 @@
-use Rattle.tcl_words.proofs.Words.{◌≡◌, ◌∙◌, false, is_some, sym, ap, subst, Unread, TakesCommand, texts_of}
+use Rattle.tcl_words.proofs.Common.{◌≡◌, ◌∙◌, false, is_some, sym, ap, subst, Unread, TakesCommand, texts_of}
 use Rattle.tcl_words.proofs.Splitting.{takes}
-use Rattle.tcl_words.proofs.splitter.Splitter.read_command.Goals as goal
 use Rattle.tcl_words.proofs.splitter.Splitter.read_command.Goals.{in-Some, in_default}
+use Rattle.tcl_words.proofs.splitter.Splitter.read_command.Goals as goal
 
 pub returns-clause-command : goal.returns-clause-command
 returns-clause-command c =

@@ -1,4 +1,4 @@
-use Rattle.tcl_words.proofs.Words.{refl}
+use Rattle.tcl_words.proofs.Common.{refl}
 use Rattle.tcl_words.proofs.Splitting.{takes}
 use Rattle.tcl_words.proofs.splitter.Splitter.skip_command.Goals as goal
 

@@ -1,8 +1,9 @@
--- The words that most proofs of this crate cite, passed on from one place. Declares nothing.
+-- The names that most proofs of this crate cite, passed on from one place. Declares nothing.
 pub use Rattle.std.proofs.Common.{[], ap₂, ℕ, ◌&&◌, ◌*◌, ◌++◌, ◌+◌, ◌-◌, ◌<◌, ◌==◌, ◌^◌, ◌||◌, ◌∙◌, ◌∷◌, ◌≡◌, ◌≢◌, ◌≤◌}
-pub use Rattle.std.proofs.Common.{◌⊎◌, Bool, List, None, Option, Some, ap, arith, chars, cond, drop, encode_utf8}
-pub use Rattle.std.proofs.Common.{encode_utf8_all, false, get_or, inl, inr, length, map, max, min, refl, reverse, set}
-pub use Rattle.std.proofs.Common.{string_bytes, subst, suc, sym, take, true, zero}
+pub use Rattle.std.proofs.Common.{◌⊎◌, Bool, List, None, Option, Some, ap, append-nil, append_assoc, arith, chars, cond}
+pub use Rattle.std.proofs.Common.{decimal, drop, encode_utf8, encode_utf8_all, false, get_or, inl, inr, length, lt-ltb}
+pub use Rattle.std.proofs.Common.{map, max, min, refl, reverse, set, slice_index_or, string_bytes, subst, suc, sym}
+pub use Rattle.std.proofs.Common.{take, true, zero}
 pub use Rattle.index_grammar.specs.declared.indices.Direction.{Direction}
 pub use Rattle.index_grammar.specs.declared.indices.Direction.TheVariants.{Back, Forward}
 pub use Rattle.mark_table.specs.Order.{earlier, first, mark_of, next_mark, next_shown, own_mark, own_place, rank_of}
@@ -21,7 +22,8 @@ pub use Rattle.search_dump.specs.MarksAhead.{passed, place_in, shared_place_in, 
 pub use Rattle.search_dump.specs.Matches.{apart, bound, candidates, compared, found_places, limit, matches, matches_at}
 pub use Rattle.search_dump.specs.Matches.{places, shares, wanted_of}
 pub use Rattle.search_dump.specs.Searched.{listed_in, listed_whole, searched}
-pub use Rattle.search_dump.specs.Sight.{AreChangesAhead, AreTagsBefore, IsChangeKnown, IsFirstMark, seen_in, text_in}
+pub use Rattle.search_dump.specs.Sight.{AreChangesAhead, AreTagsAt, AreTagsBefore, IsChangeKnown, IsFirstMark, marks_in}
+pub use Rattle.search_dump.specs.Sight.{seen_in, text_in}
 pub use Rattle.search_dump.specs.Spots.{IsSpot}
 pub use Rattle.search_dump.specs.Stops.{FailsBetween, IsNextStop, IsStop, has_mark_at, has_tag_at, stop_at_mark}
 pub use Rattle.search_dump.specs.Stops.{stops_at_marks, stops_at_tags, tags_at}
@@ -34,17 +36,17 @@ pub use Rattle.search_dump.specs.declared.matching.Stretch.{Stretch}
 pub use Rattle.search_dump.specs.declared.searching.SearchSwitches.{SearchSwitches}
 pub use Rattle.search_dump.specs.declared.searching.Wanted.{Wanted}
 pub use Rattle.search_dump.specs.declared.searching.Wanted.TheVariants.{All, Apart, First}
+pub use Rattle.std.proofs.Math.Bool.{and-false, and-true, or-false, or-true}
 pub use Rattle.std.proofs.lemmas.Bool.{false≢true, true≢false, and_from, and_left, and_parts, and_right, cases_Bool}
-pub use Rattle.std.proofs.lemmas.Bool.{cases_eq, cases_lt, cond-false, cond-true, eq-eqb, false_from_ne_true, le-leb}
-pub use Rattle.std.proofs.lemmas.Bool.{le-ltb, leb-true, lt-leb, lt-ltb, ltb-true, ne_eqb, not-false, not-true, or_left}
-pub use Rattle.std.proofs.lemmas.Bool.{or_parts, or_right}
+pub use Rattle.std.proofs.lemmas.Bool.{cases_eq, cases_lt, cases_order, cond-false, cond-true, eq-eqb}
+pub use Rattle.std.proofs.lemmas.Bool.{false_from_ne_true, le-leb, le-ltb, leb-true, lt-leb, ltb-true, ne_eqb}
+pub use Rattle.std.proofs.lemmas.Bool.{not-false, not-true, or_left, or_parts, or_right}
 pub use Rattle.std.proofs.lemmas.Grind.{flat_map-append, get_or_default_zero}
 pub use Rattle.std.proofs.lemmas.Iterator.{YieldsList-from_chars}
 pub use Rattle.std.proofs.lemmas.Iterator.Consumers.{YieldsList-end, YieldsList-turn, count_from_yields_List}
-pub use Rattle.std.proofs.lemmas.List.{append-nil, append_assoc, drop-drop, drop-map, drop-take, drop_at, drop_more}
-pub use Rattle.std.proofs.lemmas.List.{flat_map_more, get_or-map, get_or-replicate, get_or-reverse, get_or-set_other}
-pub use Rattle.std.proofs.lemmas.List.{get_or-set_same, get_or_default, get_or_past, length-append, length-drop}
-pub use Rattle.std.proofs.lemmas.List.{length-map, length-replicate, length-reverse, length-set, length-take}
+pub use Rattle.std.proofs.lemmas.List.{drop-drop, drop-map, drop-take, drop_at, drop_more, flat_map_more, get_or-map}
+pub use Rattle.std.proofs.lemmas.List.{get_or-reverse, get_or-set_other, get_or-set_same, get_or_default, get_or_past}
+pub use Rattle.std.proofs.lemmas.List.{length-append, length-drop, length-map, length-reverse, length-set, length-take}
 pub use Rattle.std.proofs.lemmas.List.{length_push, map-append, map_more, reverse-append, take-append-drop}
 pub use Rattle.std.proofs.lemmas.List.{take-append-le, take-map, take-take, take_all, take_at, take_min, take_more}
 pub use Rattle.std.proofs.lemmas.List.Elements.{All-filter, All-head, All-tail, All-weaker, filter-append}
@@ -58,8 +60,8 @@ pub use Rattle.std.proofs.lemmas.Str.{chars_past_char, encodes-append, encodes-c
 pub use Rattle.std.proofs.lemmas.Str.{length-le-encodes}
 pub use Rattle.std.specs.List.{filter, find, flat_map, fold, list_any, prefix_len, range_with_len}
 pub use Rattle.std.specs.Option.{SomeIff, is_some, option_and_then, option_map, option_or}
-pub use Rattle.std.specs.Prelude.{if◌then◌else◌, IfOk, IfSome, IsTrue, MatchOption, OnOk, bytes_eq, codes, decimal}
-pub use Rattle.std.specs.Prelude.{nat_le, nat_lt, not, replicate, slice_get, slice_index_or, slice_range, unwrap_or}
+pub use Rattle.std.specs.Prelude.{if◌then◌else◌, IfOk, IfSome, IsTrue, MatchOption, OnOk, bytes_eq, codes, nat_le}
+pub use Rattle.std.specs.Prelude.{nat_lt, not, slice_get, slice_range, unwrap_or}
 pub use Rattle.std.specs.Str.{IsAscii, IsCharBoundary, IsUtf8}
 pub use Rattle.std.specs.Str.Pattern.{HasTextAt, LacksTextAt}
 pub use Rattle.tag_table.specs.Tags.{Tag, slots_of}

@@ -1,8 +1,9 @@
--- The words that most proofs of this crate cite, passed on from one place. Declares nothing.
+-- The names that most proofs of this crate cite, passed on from one place. Declares nothing.
 pub use Rattle.std.proofs.Common.{[], ap₂, true≢false, ℕ, ◌&&◌, ◌*◌, ◌++◌, ◌+◌, ◌-◌, ◌/◌, ◌<◌, ◌==◌, ◌^◌, ◌||◌, ◌∙◌}
-pub use Rattle.std.proofs.Common.{◌∷◌, ◌≡◌, ◌≢◌, ◌≤◌, Bool, List, None, Option, Some, ap, append-nil, arith, cond, drop}
-pub use Rattle.std.proofs.Common.{eq-eqb, false, get_or, inl, inr, length, length-append, length-take, map, ne_eqb}
-pub use Rattle.std.proofs.Common.{refl, rules, set, subst, suc, sym, take, true, zero}
+pub use Rattle.std.proofs.Common.{◌∷◌, ◌≡◌, ◌≢◌, ◌≤◌, Bool, List, None, Option, Some, ap, append-nil, append_assoc}
+pub use Rattle.std.proofs.Common.{arith, cond, drop, eq-eqb, false, get_or, inl, inr, length, length-append}
+pub use Rattle.std.proofs.Common.{length-drop, length-take, map, min, ne_eqb, refl, reverse, rules, set, subst, suc}
+pub use Rattle.std.proofs.Common.{sym, take, take-append-drop, take_all, true, zero}
 pub use Rattle.edit_ops.specs.Anchors.{AnchorsStand, AreAnchored, anchor_moved, anchors_drawn, anchors_moved}
 pub use Rattle.edit_ops.specs.Anchors.{anchors_removed, end_drawn, start_drawn}
 pub use Rattle.edit_ops.specs.Deletions.{AreApart, delete_set, deleted, in_spans, onto_runs, removed_spans, run_start}
@@ -38,24 +39,24 @@ pub use Rattle.std.proofs.lemmas.Bool.{false≢true, and_parts, both_ways, cases
 pub use Rattle.std.proofs.lemmas.Bool.{le-leb, le-ltb, leb-false, leb-true, lt-leb, lt-ltb, ltb-false, ltb-true}
 pub use Rattle.std.proofs.lemmas.Bool.{not-true, or_cases}
 pub use Rattle.std.proofs.lemmas.Bool.Decides.{nat_tests}
-pub use Rattle.std.proofs.lemmas.List.{append_assoc, drop-append-le, drop-map, drop-take, drop_all, drop_at, drop_more}
-pub use Rattle.std.proofs.lemmas.List.{get_or-map, get_or-reverse, get_or_default, length-drop, length-map}
-pub use Rattle.std.proofs.lemmas.List.{length-reverse, length-take-le, length_push, map-append, map-id, nil_from_length}
-pub use Rattle.std.proofs.lemmas.List.{reverse-append, take-append-drop, take-append-le, take-take, take_all, take_at}
-pub use Rattle.std.proofs.lemmas.List.{take_more}
+pub use Rattle.std.proofs.lemmas.List.{drop-append-le, drop-map, drop_all, drop_at, drop_more, get_or-map}
+pub use Rattle.std.proofs.lemmas.List.{get_or-reverse, get_or_default, length-map, length-reverse, length-take-le}
+pub use Rattle.std.proofs.lemmas.List.{length_push, map-append, map-id, nil_from_length, reverse-append, same_lists}
+pub use Rattle.std.proofs.lemmas.List.{take-append-le, take-take, take_at, take_more}
 pub use Rattle.std.proofs.lemmas.List.Elements.{All-cons, All-get_or, All-head, All-map, All-more, All-nil, All-push}
 pub use Rattle.std.proofs.lemmas.List.Elements.{All-tail}
 pub use Rattle.std.proofs.lemmas.List.Folds.{drop_split, list_any-append}
 pub use Rattle.std.proofs.lemmas.List.Sums.{sum_by-cons, sum_by_push}
-pub use Rattle.std.proofs.lemmas.Option.{get_or_from_slice_get, none-some, option_and_then_some, same_Some}
+pub use Rattle.std.proofs.lemmas.Option.{IfSome_then, get_or_from_slice_get, none-some, option_and_then_some, same_Some}
+pub use Rattle.std.proofs.lemmas.Slice.{between_is}
 pub use Rattle.std.proofs.lemmas.Str.{IsUtf8-string_bytes, chars-nil, chars_from_encodes, encodes-append, encodes-chars}
 pub use Rattle.std.proofs.lemmas.Str.{len_utf8_bounds, length-encode, length-le-encodes}
 pub use Rattle.std.specs.Char.{len_utf8}
 pub use Rattle.std.specs.Cmp.{nat_cmp_total}
 pub use Rattle.std.specs.List.{All, remove}
 pub use Rattle.std.specs.Option.{is_none, option_to_list}
-pub use Rattle.std.specs.Prelude.{if◌then◌else◌, ⊤, IfSome, IsSome, bytes_eq, chars, encode_utf8, encode_utf8_all, min}
-pub use Rattle.std.specs.Prelude.{nat_le, nat_lt, not, option_and_then, option_map, reverse, slice_get, slice_range}
+pub use Rattle.std.specs.Prelude.{if◌then◌else◌, ⊤, IfSome, IsSome, bytes_eq, chars, encode_utf8, encode_utf8_all}
+pub use Rattle.std.specs.Prelude.{nat_le, nat_lt, not, option_and_then, option_map, slice_get, slice_range}
 pub use Rattle.std.specs.Prelude.{string_bytes, sum_by, unwrap_or}
 pub use Rattle.text_cursor.proofs.AroundLaws.{characters-of, length-characters, length-slot_sets, line-append-same}
 pub use Rattle.text_cursor.proofs.AroundLaws.{line-before, line-front, line_start-past, next-behind, next-within}

@@ -1,13 +1,14 @@
--- The words that most proofs of this crate cite, passed on from one place. Declares nothing.
+-- The names that most proofs of this crate cite, passed on from one place. Declares nothing.
 pub use Rattle.std.proofs.Common.{[], true≢false, ℕ, ⊎_elim, ◌%◌, ◌&&◌, ◌*◌, ◌++◌, ◌+◌, ◌-◌, ◌/◌, ◌<◌, ◌==◌, ◌||◌, ◌∙◌}
 pub use Rattle.std.proofs.Common.{◌∷◌, ◌≡◌, ◌≢◌, ◌≤◌, ◌⊎◌, Bool, Bor, Err, IfNone, IfOk, IfSome, IsCharBoundary, IsUtf8}
 pub use Rattle.std.proofs.Common.{List, None, Ok, Option, Result, Some, String, add-one, add_assoc, ap, append-nil}
 pub use Rattle.std.proofs.Common.{append_assoc, arith, chars, cond, drop, encode_utf8, encode_utf8_all, false, get_or}
 pub use Rattle.std.proofs.Common.{inl, inr, is_some, length, length-append, length-drop, length-take, ltb, map, one-add}
 pub use Rattle.std.proofs.Common.{refl, rules, slice_set, string_bytes, subst, suc, sym, take, take-add}
-pub use Rattle.std.proofs.Common.{take-append-drop, take_all, true, vec_len, zero}
+pub use Rattle.std.proofs.Common.{take-append-drop, true, vec_len, zero}
 pub use Rattle.std.proofs.Math.Seq.{drop-append_seam, take-length, take-suc-set}
-pub use Rattle.std.proofs.lemmas.Bool.Decides.{Decides-eqb, leb_tells, nat_tests}
+pub use Rattle.std.proofs.lemmas.Bool.{cond-false, cond-true, ne_eqb}
+pub use Rattle.std.proofs.lemmas.Bool.Decides.{leb_tells, nat_tests}
 pub use Rattle.std.proofs.lemmas.Iterator.{YieldsList-from_chars}
 pub use Rattle.std.proofs.lemmas.Iterator.Consumers.{YieldsList-end, YieldsList-turn}
 pub use Rattle.std.proofs.lemmas.List.{drop-drop, drop-take, drop_all, drop_more, length-map, length_push, map-append}
@@ -37,7 +38,7 @@ pub use Rattle.tcl_words.specs.ListGrowth.{Goes, pushed}
 pub use Rattle.tcl_words.specs.ListSteps.{close_brace, element_by, last_element_by, last_list_step, list_after}
 pub use Rattle.tcl_words.specs.ListSteps.{list_closes, list_keeps, list_passes, list_step, no_list, open_braces}
 pub use Rattle.tcl_words.specs.ListSteps.{script_stage, step_at_element, step_in_braces, step_in_element, text_element}
-pub use Rattle.tcl_words.specs.ListText.{AtElement, Closed, InBraces, InElement, ReadsList, Spot, backslashed, balances}
+pub use Rattle.tcl_words.specs.ListText.{AtElement, Closed, InElement, ReadsList, Spot, backslashed, balances}
 pub use Rattle.tcl_words.specs.ListText.{begin_element, braced_element, close_element, element_rule, element_text}
 pub use Rattle.tcl_words.specs.ListText.{end_element, escaped_element, has_special, is_special, is_white, kept_element}
 pub use Rattle.tcl_words.specs.ListText.{less, list_rule, list_text, needs_quotes, onto_element, read_list}
@@ -52,12 +53,12 @@ pub use Rattle.tcl_words.specs.Scanning.{ended_before, given_bytes, given_onto, 
 pub use Rattle.tcl_words.specs.Scanning.{onto_piece, pieces_from, prefixed, scan_next, scanned, word_after, word_with}
 pub use Rattle.tcl_words.specs.Scanning.{words_after, words_next, words_on, written}
 pub use Rattle.tcl_words.specs.ScriptGrammar.{AtCommand, AtWord, Behind, Breaks, Command, Continues, Ending, Ends}
-pub use Rattle.tcl_words.specs.ScriptGrammar.{Fault, First, Follows, HoldsNoWhole, HoldsNothing, InBare, InComment}
-pub use Rattle.tcl_words.specs.ScriptGrammar.{InQuotes, IsCommandBefore, IsWholeCommand, MeetsFault, Nothing, Open}
-pub use Rattle.tcl_words.specs.ScriptGrammar.{ReadsFront, ReadsScript, Where, at_end, at_stop, bare_rule, behind_rule}
-pub use Rattle.tcl_words.specs.ScriptGrammar.{braced_rule, close_rule, command_rule, end_word, escaped, first, is_last}
-pub use Rattle.tcl_words.specs.ScriptGrammar.{is_nil, kept_rule, onto_word, open_rule, quoted_rule, rule, text_rule}
-pub use Rattle.tcl_words.specs.ScriptGrammar.{word_rule}
+pub use Rattle.tcl_words.specs.ScriptGrammar.{Fault, First, Follows, HoldsNoWhole, HoldsNothing, InBare, InBraces}
+pub use Rattle.tcl_words.specs.ScriptGrammar.{InComment, InQuotes, IsCommandBefore, IsWholeCommand, MeetsFault, Nothing}
+pub use Rattle.tcl_words.specs.ScriptGrammar.{Open, ReadsFront, ReadsScript, Where, at_end, at_stop, bare_rule}
+pub use Rattle.tcl_words.specs.ScriptGrammar.{behind_rule, braced_rule, close_rule, command_rule, end_word, escaped}
+pub use Rattle.tcl_words.specs.ScriptGrammar.{first, is_last, is_nil, kept_rule, onto_word, open_rule, quoted_rule}
+pub use Rattle.tcl_words.specs.ScriptGrammar.{rule, text_rule, word_rule}
 pub use Rattle.tcl_words.specs.Steps.{after, bare_step, behind_step, braced_step, close_step, closes, command_step}
 pub use Rattle.tcl_words.specs.Steps.{depth_of, ends_here, fault_behind, inside_step, keeps, last_by, last_in_text}
 pub use Rattle.tcl_words.specs.Steps.{last_step, no_output, opening_step, passes, quoted_step, refuses, step_by}

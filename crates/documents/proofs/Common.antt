@@ -1,9 +1,12 @@
--- The words that most proofs of this crate cite, passed on from one place. Declares nothing.
-pub use Rattle.std.proofs.Common.{[], ap₂, true≢false, ℕ, ◌&&◌, ◌*◌, ◌++◌, ◌+◌, ◌-◌, ◌<◌, ◌==◌, ◌^◌, ◌||◌, ◌∙◌, ◌∷◌}
-pub use Rattle.std.proofs.Common.{◌≡◌, ◌≢◌, ◌≤◌, ◌⊎◌, Bool, Contains, Err, IfOk, IsSome, List, None, Ok, OnErr, Option}
-pub use Rattle.std.proofs.Common.{Result, Some, ap, append_assoc, arith, chars, cond, drop, encode_utf8_all, eq-eqb}
-pub use Rattle.std.proofs.Common.{false, filter, get_or, get_or-append-add, inl, inr, length, map, max, min, ne_eqb}
-pub use Rattle.std.proofs.Common.{not, option_map, refl, remove, set, string_bytes, subst, suc, sym, take, true, zero}
+-- The names that most proofs of this crate cite, passed on from one place. Declares nothing.
+pub use Rattle.std.proofs.Common.{[], ap₂, if◌then◌else◌, true≢false, ℕ, ◌&&◌, ◌*◌, ◌++◌, ◌+◌, ◌-◌, ◌<◌, ◌==◌, ◌^◌}
+pub use Rattle.std.proofs.Common.{◌||◌, ◌∙◌, ◌∷◌, ◌≡◌, ◌≢◌, ◌≤◌, ◌⊎◌, Bool, Contains, Err, IfOk, IfSome, IsSome, List}
+pub use Rattle.std.proofs.Common.{None, Ok, OnErr, Option, Result, Some, ap, append-nil, append_assoc, arith, bytes_eq}
+pub use Rattle.std.proofs.Common.{chars, cond, drop, encode_utf8_all, eq-eqb, eqb-true, false, filter, find, get_or}
+pub use Rattle.std.proofs.Common.{get_or-append-add, inl, inr, is_some, length, length-append, length-drop, length-take}
+pub use Rattle.std.proofs.Common.{map, max, min, nat_le, nat_lt, ne_eqb, not, option_and_then, option_map, refl, remove}
+pub use Rattle.std.proofs.Common.{set, slice_get, slice_index_or, slice_range, string_bytes, subst, suc, sum_by, sym}
+pub use Rattle.std.proofs.Common.{take, true, zero}
 pub use Rattle.command_effects.proofs.LeftLaws.{AreApart-head, AreApart-tail}
 pub use Rattle.command_effects.proofs.MadeLaws.{absent_slot, among_slot, found_tag, front_same, take-more}
 pub use Rattle.command_effects.proofs.PairLaws.{spans_of-fit}
@@ -23,8 +26,8 @@ pub use Rattle.command_effects.specs.declared.answers.Answer.{Answer}
 pub use Rattle.command_effects.specs.declared.answers.Answer.TheVariants.{Empty}
 pub use Rattle.command_effects.specs.declared.answers.Fault.{Fault}
 pub use Rattle.command_effects.specs.declared.answers.Fault.TheVariants.{InvalidCommandName, Memory, NoSuchTag}
-pub use Rattle.command_effects.specs.declared.answers.Fault.TheVariants.{NothingToRedo, NothingToUndo, TextTooLong}
-pub use Rattle.command_effects.specs.declared.answers.Fault.TheVariants.{TooManyMarks, TooManyTags}
+pub use Rattle.command_effects.specs.declared.answers.Fault.TheVariants.{NothingToUndo, TextTooLong, TooManyMarks}
+pub use Rattle.command_effects.specs.declared.answers.Fault.TheVariants.{TooManyTags}
 pub use Rattle.command_effects.specs.declared.settings.DocumentSettings.{DocumentSettings}
 pub use Rattle.command_effects.specs.declared.settings.Settings.{Settings}
 pub use Rattle.documents.specs.Deletions.{delete_places, delete_spans, deleted_runs, last_bare, replace_span, replaced}
@@ -72,8 +75,9 @@ pub use Rattle.edit_ops.proofs.AnchoredLaws.{all-moved, all-removed, anchored-st
 pub use Rattle.edit_ops.proofs.HunkLaws.{inserting-stand, joined, map-patched, put-behind, put_all, putting-append}
 pub use Rattle.edit_ops.proofs.HunkLaws.{removed_all, replacing-is, replacing-stand, taking-is, taking-stand}
 pub use Rattle.edit_ops.proofs.KeepLaws.{deleted-kept, deleted-runs, replaced-kept, texts-kept}
-pub use Rattle.edit_ops.proofs.ReplayLaws.{back-cons, guarded-holds, redo-fits-replay, undo-fits-replay}
-pub use Rattle.edit_ops.proofs.ReversalLaws.{group-redone-text, group-undone-text, guarded, redone-kept, redone-text}
+pub use Rattle.edit_ops.proofs.ReplayLaws.{back-end, redo-fits-replay, undo-fits-replay}
+pub use Rattle.edit_ops.proofs.ReversalLaws.{back-cons, back-reverted, back-undone, group-redone-text}
+pub use Rattle.edit_ops.proofs.ReversalLaws.{group-undone-text, guarded, guarded-holds, redone-kept, redone-text}
 pub use Rattle.edit_ops.proofs.ReversalLaws.{undone-kept}
 pub use Rattle.edit_ops.proofs.StartLaws.{Begins, inserted-behind, is-start, removed-behind, text-end-begins}
 pub use Rattle.edit_ops.specs.Anchors.{AnchorsStand, AreAnchored, anchors_moved, anchors_removed}
@@ -81,8 +85,8 @@ pub use Rattle.edit_ops.specs.Deletions.{delete_set, deleted, in_spans, removed_
 pub use Rattle.edit_ops.specs.Insertions.{inserted_text, inserted_texts, slots_or}
 pub use Rattle.edit_ops.specs.Removals.{clipped, removed_span, replaced_span}
 pub use Rattle.edit_ops.specs.Replays.{replayed, replays}
-pub use Rattle.edit_ops.specs.Reversals.{action_redone, action_undone, group_redone, group_undone, log_redone}
-pub use Rattle.edit_ops.specs.Reversals.{log_undone, put_back, redo_end, taken_back, undo_end}
+pub use Rattle.edit_ops.specs.Reversals.{action_redone, group_redone, group_undone, log_redone, log_undone, put_back}
+pub use Rattle.edit_ops.specs.Reversals.{redo_end, taken_back, undo_end}
 pub use Rattle.edit_ops.specs.SlotRuns.{AreBareRuns, IsBareRun, bare_cells, slotted, with_slots}
 pub use Rattle.edit_ops.specs.States.{Log, State, log_noted, log_of, state_of}
 pub use Rattle.edit_ops.specs.Tagging.{SpanFits, cell_without, cleared, tagged, without}
@@ -93,22 +97,21 @@ pub use Rattle.edit_ops.specs.declared.slotted_texts.SlottedText.{SlottedText}
 pub use Rattle.edit_ops.specs.declared.spans.Span.{Span}
 pub use Rattle.index_grammar.specs.Names.{known_marks, known_tags}
 pub use Rattle.mark_table.specs.Order.{earlier, rank_of, usable}
-pub use Rattle.mark_table.specs.SharedMarks.{AreMarks, Mark, SharedMarks, first_number, is_named, number_of, turned}
+pub use Rattle.mark_table.specs.SharedMarks.{AreMarks, Mark, SharedMarks, first_number, number_of, turned}
 pub use Rattle.mark_table.specs.declared.order.Shown.{Shown}
 pub use Rattle.name_list.proofs.ListLaws.{AreApart-insert, Contains-from_stands, get_push_cases, stands_from_Contains}
 pub use Rattle.name_list.proofs.ListLaws.{stands_map, stood_at}
 pub use Rattle.name_list.specs.Names.{AreApart, AreNames, IsLeastFree, Named, Names, numbers_of}
 pub use Rattle.search_dump.specs.Dump.{dump_elements, name_of_rank, seen_by}
 pub use Rattle.std.proofs.Math.ListN.{replicate}
-pub use Rattle.std.proofs.lemmas.Bool.{false≢true, and_parts, cases_lt, eqb-false, eqb-true, false_from_ne_true, le-leb}
-pub use Rattle.std.proofs.lemmas.Bool.{lt-ltb, ltb-false, ltb-true, or_left, or_right}
+pub use Rattle.std.proofs.lemmas.Bool.{false≢true, and_parts, cases_lt, eqb-false, false_from_ne_true, le-leb, lt-ltb}
+pub use Rattle.std.proofs.lemmas.Bool.{ltb-false, ltb-true, or_left, or_right}
 pub use Rattle.std.proofs.lemmas.Bool.Decides.{nat_tests}
 pub use Rattle.std.proofs.lemmas.Grind.{get_or-set_at}
-pub use Rattle.std.proofs.lemmas.List.{append-nil, drop-drop, drop-take, drop_all, drop_at, drop_more, get_or-drop}
-pub use Rattle.std.proofs.lemmas.List.{get_or-map, get_or-set_other, get_or-take, get_or_append_left, get_or_default}
-pub use Rattle.std.proofs.lemmas.List.{get_or_past, length-append, length-drop, length-map, length-set, length-take}
-pub use Rattle.std.proofs.lemmas.List.{length-take-le, map-append, map-id, replicate_more, take-append-drop, take-take}
-pub use Rattle.std.proofs.lemmas.List.{take_all, take_at, take_more}
+pub use Rattle.std.proofs.lemmas.List.{drop-drop, drop-take, drop_all, drop_at, drop_more, get_or-drop, get_or-map}
+pub use Rattle.std.proofs.lemmas.List.{get_or-set_other, get_or-take, get_or_append_left, get_or_default, get_or_past}
+pub use Rattle.std.proofs.lemmas.List.{length-map, length-set, length-take-le, map-append, map-id, nil_from_length}
+pub use Rattle.std.proofs.lemmas.List.{replicate_more, take-append-drop, take-take, take_all, take_at, take_more}
 pub use Rattle.std.proofs.lemmas.List.Edits.{split_between}
 pub use Rattle.std.proofs.lemmas.List.Elements.{All-append, All-cons, All-drop, All-from_get_or, All-get_or, All-head}
 pub use Rattle.std.proofs.lemmas.List.Elements.{All-map, All-nil, All-push, All-replicate, All-set, All-tail, All-take}
@@ -130,11 +133,10 @@ pub use Rattle.std.specs.Cmp.{Equal-is, IsTotalOrder, both_ways, nat_cmp_total, 
 pub use Rattle.std.specs.List.{All, AllByRecursion, cons_option, fold, list_any, position_from}
 pub use Rattle.std.specs.Option.{option_or}
 pub use Rattle.std.specs.Ordering.{eq_by_cmp, is_eq, nat_cmp}
-pub use Rattle.std.specs.Prelude.{if◌then◌else◌, IfSome, IsUtf8, bytes_eq, codes, find, is_some, nat_le, nat_lt}
-pub use Rattle.std.specs.Prelude.{option_and_then, slice_get, slice_index_or, slice_range, sum_by, unwrap_or}
+pub use Rattle.std.specs.Prelude.{IsUtf8, codes, unwrap_or}
 pub use Rattle.std.specs.declared.string.String.{String}
 pub use Rattle.tag_table.specs.Priority.{next_to}
-pub use Rattle.tag_table.specs.Tags.{AreTags, Tag, Tags, first_slot, names_of, sel, slot_of, slots_of}
+pub use Rattle.tag_table.specs.Tags.{AreTags, Tag, Tags, first_slot, is_named, names_of, sel, slot_of, slots_of}
 pub use Rattle.tag_table.specs.declared.faults.NoSuchTag.TheVariants.{Moved, Neighbour}
 pub use Rattle.tcl_words.specs.ListGrowth.{Goes}
 pub use Rattle.tcl_words.specs.ListText.{list_text}
@@ -170,8 +172,8 @@ pub use Rattle.text_model.specs.declared.places.TagSlot.{TagSlot}
 pub use Rattle.undo_stack.proofs.FitsLaws.{last-apart, limited-fits, note-fits, nothing-fits, redo-fits, redo-goes}
 pub use Rattle.undo_stack.proofs.FitsLaws.{separated-fits, undo-fits, undo-goes}
 pub use Rattle.undo_stack.proofs.OriginLaws.{note-origin, redo-origin, revert-groups-back, undo-origin}
-pub use Rattle.undo_stack.specs.Fits.{FitsText, put_in, repeated, repeated_group, repeated_groups, reverted}
-pub use Rattle.undo_stack.specs.Fits.{reverted_group, reverted_groups, take_out}
+pub use Rattle.undo_stack.specs.Fits.{FitsText, put_in, repeated, repeated_group, repeated_groups, reverted_group}
+pub use Rattle.undo_stack.specs.Fits.{reverted_groups, take_out}
 pub use Rattle.undo_stack.specs.History.{History, after_redo, after_undo, limit_of, limited, newest, next_redo}
 pub use Rattle.undo_stack.specs.History.{next_undo, no_history, noted, separated}
 pub use Rattle.undo_stack.specs.Modified.{counted_down, counted_new, counted_up, set_to, times, unmodified}

@@ -1,7 +1,8 @@
--- The words that most proofs of this crate cite, passed on from one place. Declares nothing.
-pub use Rattle.std.proofs.Common.{[], ap₂, true≢false, ℕ, ℤ, ◌&&◌, ◌++◌, ◌+◌, ◌-◌, ◌<◌, ◌^◌, ◌∙◌, ◌∷◌, ◌≡◌, ◌≢◌, ◌≤◌}
-pub use Rattle.std.proofs.Common.{◌⊎◌, Bool, Global, List, Vec, ap, arith, cond, drop, eqb-true, false, inl, inr}
-pub use Rattle.std.proofs.Common.{length, length-drop, map, not, refl, subst, suc, sym, take, true, w32, zero}
+-- The names that most proofs of this crate cite, passed on from one place. Declares nothing.
+pub use Rattle.std.proofs.Common.{[], ap₂, true≢false, ℕ, ℤ, ◌&&◌, ◌++◌, ◌+◌, ◌-◌, ◌<◌, ◌^◌, ◌||◌, ◌∙◌, ◌∷◌, ◌≡◌, ◌≤◌}
+pub use Rattle.std.proofs.Common.{◌⊎◌, Bool, Global, List, None, Ok, Option, Some, Vec, ap, append_assoc, arith, chars}
+pub use Rattle.std.proofs.Common.{cond, drop, eqb-true, false, filter, get_or, inl, inr, length, length-drop, map, not}
+pub use Rattle.std.proofs.Common.{refl, slice_get, subst, suc, sym, take, true, w32, zero}
 pub use Rattle.command_effects.specs.Edits.{excess, length_replaced, without_widget, without_widgets}
 pub use Rattle.command_effects.specs.Faults.{with_value}
 pub use Rattle.command_effects.specs.Lists.{Pair, all_names, and_pairs, listed_names, pair_at, pairs_at, total}
@@ -13,15 +14,14 @@ pub use Rattle.command_effects.specs.Tagging.{IsFront, own_slot, piece_of, slot_
 pub use Rattle.command_effects.specs.Tagging.{stays, tags_left, with_found}
 pub use Rattle.command_effects.specs.Words.{is_among, is_same, literal}
 pub use Rattle.command_effects.specs.declared.answers.Fault.{Fault}
-pub use Rattle.command_effects.specs.declared.answers.Fault.TheVariants.{BadInteger, Memory, TextTooLong, TooManyTags}
+pub use Rattle.command_effects.specs.declared.answers.Fault.TheVariants.{BadInteger, TextTooLong, TooManyTags}
 pub use Rattle.edit_ops.specs.States.{state_in}
 pub use Rattle.mark_table.specs.SharedMarks.{Mark, SharedMarks, number_of}
 pub use Rattle.name_list.specs.Moves.{without}
-pub use Rattle.std.proofs.Math.Seq.{take-suc}
 pub use Rattle.std.proofs.lemmas.Bool.{false_from_ne_true, le-ltb, lt-ltb, or_right}
-pub use Rattle.std.proofs.lemmas.Bool.Decides.{nat_tests, same_from_decides}
-pub use Rattle.std.proofs.lemmas.List.{append-nil, append_assoc, drop-map, get_or-map, length-append, length-map}
-pub use Rattle.std.proofs.lemmas.List.{map-append, take-append-drop, take-append-le, take_all, take_rest}
+pub use Rattle.std.proofs.lemmas.Bool.Decides.{nat_tests}
+pub use Rattle.std.proofs.lemmas.List.{append-nil, drop-map, get_or-map, length-append, length-map, map-append}
+pub use Rattle.std.proofs.lemmas.List.{take-append-drop, take-append-le, take-take, take_all, take_more, take_rest}
 pub use Rattle.std.proofs.lemmas.List.Elements.{All-cons, All-drop, All-head, All-more, All-nil, All-push, All-tail}
 pub use Rattle.std.proofs.lemmas.List.Elements.{All-take, filter_map-append}
 pub use Rattle.std.proofs.lemmas.List.Folds.{find-append, list_any-append}
@@ -31,11 +31,11 @@ pub use Rattle.std.proofs.lemmas.Slice.Eq.{bytes_eq-Decides}
 pub use Rattle.std.proofs.lemmas.Str.{chars-IsAscii, chars-nil, encodes-chars, length-le-encodes}
 pub use Rattle.std.specs.Char.{IsScalar}
 pub use Rattle.std.specs.Cmp.{both_ways, nat_cmp_total}
-pub use Rattle.std.specs.List.{All, cons_option, position_from}
+pub use Rattle.std.specs.List.{All, cons_option, filter_map, position_from}
 pub use Rattle.std.specs.Option.{option_or}
-pub use Rattle.std.specs.Prelude.{if◌then◌else◌, ◌*◌, ◌||◌, Err, IfOk, IfSome, IsNone, IsUtf8, None, Ok, OnOk, Option}
-pub use Rattle.std.specs.Prelude.{Result, Some, String, bytes_eq, chars, encode_utf8_all, filter, find, get_or, is_some}
-pub use Rattle.std.specs.Prelude.{min, nat_lt, ok_or, option_and_then, option_map, slice_get, string_bytes}
+pub use Rattle.std.specs.Prelude.{if◌then◌else◌, ◌*◌, Err, IfOk, IfSome, IsNone, OnOk, Result, String, bytes_eq}
+pub use Rattle.std.specs.Prelude.{encode_utf8_all, find, is_some, min, nat_lt, ok_or, option_and_then, option_map}
+pub use Rattle.std.specs.Prelude.{string_bytes}
 pub use Rattle.tag_table.specs.Priority.{deleted}
 pub use Rattle.tag_table.specs.Tags.{IsFull, Tag, Tags, is_named, names_of, sel, slot_of, slots_of}
 pub use Rattle.tcl_words.proofs.ListGrowth.{goes_nowhere, goes_on}
