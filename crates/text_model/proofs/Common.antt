@@ -7,7 +7,7 @@ pub use Rattle.std.proofs.Common.{nat_eq, nat_le, nat_lt, not, refl, replicate, 
 pub use Rattle.std.proofs.Common.{subst, suc, sym, take, true, vec_len, w64, zero}
 pub use Rattle.std.proofs.lemmas.Bool.{false≢true, cases_eq, cases_lt}
 pub use Rattle.std.proofs.lemmas.Bool.Decides.{nat_tests}
-pub use Rattle.std.proofs.lemmas.List.{append-nil, append_assoc, drop-append-le, drop-drop, drop-map, drop_at}
+pub use Rattle.std.proofs.lemmas.List.{append-nil, append_assoc, drop-append-le, drop-drop, drop-map, drop_all, drop_at}
 pub use Rattle.std.proofs.lemmas.List.{drop_more, get_or-append_right, get_or-drop, get_or-map, get_or-take}
 pub use Rattle.std.proofs.lemmas.List.{get_or_append_left, get_or_default, get_or_past, length-map, length-replicate}
 pub use Rattle.std.proofs.lemmas.List.{length-take-le, map-append, map-id, places, set_split, take-append-le, take-map}
@@ -43,11 +43,12 @@ pub use Rattle.text_model.specs.OneWord.{AreBits, AreSlots, IsOneWord, alone, ha
 pub use Rattle.text_model.specs.OneWord.{word_count, word_index, words_below}
 pub use Rattle.text_model.specs.OneWordLaws.{AreWords-alone, alone-other, alone-same, contains-slots_in}
 pub use Rattle.text_model.specs.OneWordLaws.{word_bits-slots_in, word_index-slots_in}
-pub use Rattle.text_model.specs.Plain.{IsPlain, places_from, plain_content, plain_marks}
+pub use Rattle.text_model.specs.Plain.{IsPlain, places_from, plain_content, plain_marks, stands_at, with_next}
+pub use Rattle.text_model.specs.Plain.{with_previous}
 pub use Rattle.text_model.specs.SlotSets.{differing}
 pub use Rattle.text_model.specs.Splices.{changed, drawn, goes_behind, inserted, moved, removed}
-pub use Rattle.text_model.specs.Steps.{Fits, FitsIn, StepFits, after, after_insertion, after_removal, after_step}
-pub use Rattle.text_model.specs.Steps.{cells_of, length_after, set_slot, with_slot, without_slots}
+pub use Rattle.text_model.specs.Steps.{Fits, FitsIn, InsertsScalars, StepFits, after, after_insertion, after_removal}
+pub use Rattle.text_model.specs.Steps.{after_step, cells_of, length_after, set_slot, with_slot, without_slots}
 pub use Rattle.text_model.specs.TagBitLaws.{contains-slots_below, contains_inserted, word_of_bits, word_of_slots}
 pub use Rattle.text_model.specs.TagBitLaws.{words_of-slots_of}
 pub use Rattle.text_model.specs.TagBits.{AreWords, has_bit, slot_count, slots_below, slots_of, words_of}

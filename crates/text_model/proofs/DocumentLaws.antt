@@ -1,8 +1,12 @@
 -- A document stays a document.
-use Rattle.text_model.proofs.Common.{◌≡◌, ℕ, zero, suc, ◌+◌, ◌<◌, List, [], ◌∷◌, ◌++◌, length, take, drop, refl, ◌∙◌}
-use Rattle.text_model.proofs.Common.{arith, length-drop, IsScalar, All, length-map, All-append, All-cons, All-drop}
-use Rattle.text_model.proofs.Common.{All-nil, All-take, Cell, characters, new_content, IsDocument, ends_in_newline}
-use Rattle.text_model.proofs.Common.{inserted, removed}
+use Rattle.text_model.proofs.Common.{◌≡◌, ℕ, zero, suc, ◌+◌, ◌<◌, false, List, [], ◌∷◌, ◌++◌, length, take, drop, refl}
+use Rattle.text_model.proofs.Common.{sym, subst, ◌∙◌, arith, length-drop, IsScalar, All, length-map, All-append}
+use Rattle.text_model.proofs.Common.{All-cons, All-drop, All-nil, All-take, Cell, Step, Remove, Insert, SetTag}
+use Rattle.text_model.proofs.Common.{ClearTags, ClearSlot, PutMark, TakeMark, Content, characters, new_content}
+use Rattle.text_model.proofs.Common.{IsDocument, ends_in_newline, inserted, removed, StepFits, InsertsScalars}
+use Rattle.text_model.proofs.Common.{after_step}
+use Rattle.text_model.proofs.CellLaws.{characters-inserted, characters-removed, characters-with_slot}
+use Rattle.text_model.proofs.CellLaws.{characters-without_slots, characters-all_with_slot}
 
 ends_in_newline-append : (xs ys : List ℕ) → 0 < length ys → ends_in_newline (xs ++ ys) ≡ ends_in_newline ys
 ends_in_newline-append [] ys some = refl
@@ -44,5 +48,26 @@ IsDocument-removed from to text within is = record {
 pub IsDocument-new : IsDocument (characters new_content.cells)
 IsDocument-new = record { newline = refl; scalars = All-cons IsScalar 10 [] refl (All-nil IsScalar) }
 
+same_text : (text other : List ℕ) → other ≡ text → IsDocument text → IsDocument other
+same_text text other same is = subst IsDocument (sym same) is
+
 fewer : (cells : List Cell) (n : ℕ) → n < length cells → n < length (characters cells)
 fewer cells n within = omega (arith, within, length-map cells (λ (cell : Cell). cell.character))
+
+-- a step that fits leaves a document
+pub IsDocument-after_step : (step : Step) (content : Content) → StepFits step content → InsertsScalars step →
+    IsDocument (characters content.cells) → IsDocument (characters (after_step step content).cells)
+IsDocument-after_step (Remove from to) content fits scalars is =
+    same_text _ _ (characters-removed from to content.cells)
+    (IsDocument-removed from to (characters content.cells) (fewer content.cells to fits.1) is)
+IsDocument-after_step (Insert at text slots) content fits scalars is =
+    same_text _ _ (characters-inserted at text slots content.cells)
+    (IsDocument-inserted at text (characters content.cells) (fewer content.cells at fits) scalars is)
+IsDocument-after_step (SetTag from to slot on) content fits scalars is =
+    same_text _ _ (characters-with_slot slot.0 on from to content.cells fits.0) is
+IsDocument-after_step (ClearTags at) content fits scalars is =
+    same_text _ _ (characters-without_slots at (at + 1) content.cells (omega arith)) is
+IsDocument-after_step (ClearSlot slot) content fits scalars is =
+    same_text _ _ (characters-all_with_slot slot.0 false content.cells) is
+IsDocument-after_step (PutMark number place) content fits scalars is = is
+IsDocument-after_step (TakeMark number) content fits scalars is = is

@@ -1,11 +1,11 @@
 -- Where the lines of a text begin, and the lines before an offset after an insertion and a removal.
 use Rattle.text_model.proofs.Common.{◌≡◌, ◌≢◌, ℕ, zero, suc, ◌+◌, ◌-◌, ◌<◌, ◌≤◌, true, false, cond, List, [], ◌∷◌, ◌++◌}
-use Rattle.text_model.proofs.Common.{length, take, drop, get_or, refl, sym, ap, ◌∙◌, arith, add_assoc, if◌then◌else◌}
-use Rattle.text_model.proofs.Common.{drop_more, get_or-map, sum_by-append, sum_by-cons, sum_by-take-drop}
-use Rattle.text_model.proofs.Common.{count_by-le-length, Cell, characters, inserted, removed, is_newline, lines}
-use Rattle.text_model.proofs.Common.{line_of, line_start}
+use Rattle.text_model.proofs.Common.{length, take, drop, get_or, refl, sym, ap, ◌∙◌, arith, add_assoc, slice_range}
+use Rattle.text_model.proofs.Common.{if◌then◌else◌, drop_more, get_or-map, sum_by-append, sum_by-cons, sum_by-take-drop}
+use Rattle.text_model.proofs.Common.{count_by-le-length, split_between, Cell, characters, inserted, removed, is_newline}
+use Rattle.text_model.proofs.Common.{lines, line_of, line_start}
 use Rattle.std.proofs.lemmas.Grind.{common_steps}
-use Rattle.text_model.proofs.SpliceLaws.{take-removed}
+use Rattle.text_model.proofs.SpliceLaws.{take-inserted, drop-inserted, take-removed, drop-removed}
 
 -- past a character, one newline fewer is to be passed if it is one
 line_start-drop : (text : List ℕ) (at left c : ℕ) → at < length text → c ≡ get_or text at c →
@@ -93,6 +93,45 @@ lines-inserted at new text = omega (
   lines-parts text at,
 )
 
+pub lines-removed : (from to : ℕ) (text : List ℕ) → from ≤ to →
+    lines (removed from to text) + lines (slice_range text from to) ≡ lines text
+lines-removed from to text ordered =
+    let middle = slice_range text from to in
+    omega (
+      arith,
+      lines-append (take from text) (drop to text),
+      ap lines (split_between text from to ordered),
+      lines-append (take from text) (middle ++ drop to text),
+      lines-append middle (drop to text),
+    )
+
+-- the lines before an offset: before the step and behind it
+pub line_of-inserted_before : (at : ℕ) (new text : List ℕ) (offset : ℕ) → at ≤ length text → offset ≤ at →
+    line_of (inserted at new text) offset ≡ line_of text offset
+line_of-inserted_before at new text offset within before = ap lines (take-inserted at new text offset within before)
+
+pub line_of-inserted_behind : (at : ℕ) (new text : List ℕ) (offset : ℕ) → at ≤ length text → at ≤ offset →
+    line_of (inserted at new text) (offset + length new) ≡ line_of text offset + lines new
+line_of-inserted_behind at new text offset within behind =
+    omega (
+      arith,
+      lines-parts (inserted at new text) (offset + length new),
+      ap lines (drop-inserted at new text offset within behind),
+      lines-inserted at new text,
+      lines-parts text offset,
+    )
+
 pub line_of-removed_before : (from to : ℕ) (text : List ℕ) (offset : ℕ) → from ≤ length text → offset ≤ from →
     line_of (removed from to text) offset ≡ line_of text offset
 line_of-removed_before from to text offset within before = ap lines (take-removed from to text offset within before)
+
+pub line_of-removed_behind : (from to : ℕ) (text : List ℕ) (offset : ℕ) → from ≤ to → to ≤ length text → from ≤ offset
+    → line_of (removed from to text) offset + lines (slice_range text from to) ≡ line_of text (offset + (to - from))
+line_of-removed_behind from to text offset ordered within behind =
+    omega (
+      arith,
+      lines-parts (removed from to text) offset,
+      ap lines (drop-removed from to text offset (omega arith) ordered behind),
+      lines-removed from to text ordered,
+      lines-parts text (offset + (to - from)),
+    )

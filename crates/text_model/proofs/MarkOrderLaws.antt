@@ -1,10 +1,11 @@
 -- The marks of a list of places, one place after another.
-use Rattle.text_model.proofs.Common.{◌≡◌, ℕ, ◌<◌, ◌≤◌, min, max, Bool, true, false, cond, nat_lt, nat_le, ◌==◌, List}
-use Rattle.text_model.proofs.Common.{[], ◌∷◌, length, map, Option, Some, None, refl, sym, ap, subst, ◌∙◌, inl, inr}
-use Rattle.text_model.proofs.Common.{arith, ◌⊎◌, IfSome, All, filter, fold, reduce, find, nat_cmp, eq_by_cmp, cases_lt}
-use Rattle.text_model.proofs.Common.{All-head, All-tail, All-map, All-weaker, All-filter, filter_passes, nat_tests}
-use Rattle.text_model.proofs.Common.{Place, Content, Marks, MarksStand, next_mark, offsets, previous_mark, marks_at}
-use Rattle.text_model.proofs.Common.{places_from, plain_marks}
+use Rattle.text_model.proofs.Common.{◌≡◌, ℕ, ◌+◌, ◌<◌, ◌≤◌, min, max, Bool, true, false, cond, nat_lt, nat_le, ◌==◌}
+use Rattle.text_model.proofs.Common.{List, [], ◌∷◌, length, drop, get_or, map, Option, Some, None, refl, sym, ap, subst}
+use Rattle.text_model.proofs.Common.{◌∙◌, inl, inr, arith, ◌⊎◌, IfSome, if◌then◌else◌, All, filter, fold, reduce, find}
+use Rattle.text_model.proofs.Common.{nat_cmp, eq_by_cmp, cases_lt, drop_more, drop_all, All-head, All-tail, All-map}
+use Rattle.text_model.proofs.Common.{All-weaker, All-filter, filter_passes, nat_tests, Place, Content, Marks}
+use Rattle.text_model.proofs.Common.{MarksStand, next_mark, offsets, previous_mark, marks_at, places_from, plain_marks}
+use Rattle.text_model.proofs.Common.{stands_at, with_next, with_previous}
 use Rattle.text_model.specs.declared.places.MarkNo.{MarkNo}
 use Rattle.text_model.proofs.PlaceLaws.{All-entries, entries-plain_marks}
 use Rattle.std.specs.FinMap as finite
@@ -43,6 +44,97 @@ pub marks_at_from : (at : ℕ) (places : List (Option Place)) → marks_at at (p
 marks_at_from at places =
     ap (λ entries. map (λ entry. record { 0 = entry.0 }) (filter (λ (entry : ℕ × Place). entry.1.offset == at) entries))
     (entries-plain_marks places)
+
+next_one : (at number : ℕ) (next : Option ℕ) (place : Option Place) (places : List (Option Place))
+    → reduced_from min next (offsets_above at number (place ∷ places))
+    ≡ reduced_from min (with_next next at place) (offsets_above at (number + 1) places)
+next_one at number next None places = refl
+next_one at number None (Some place) places =
+    elim (nat_le at place.offset) as (λ b.
+    reduce min (cond b (place.offset ∷ offsets_above at (number + 1) places) (offsets_above at (number + 1) places))
+    ≡ reduced_from min (if b then Some place.offset else None) (offsets_above at (number + 1) places))
+    [ true ↦ refl | false ↦ refl ]
+next_one at number (Some next) (Some place) places =
+    elim (nat_le at place.offset) as (λ b.
+    Some (fold min next (cond b (place.offset ∷ offsets_above at (number + 1) places)
+    (offsets_above at (number + 1) places)))
+    ≡ reduced_from min (if b then Some (min next place.offset)
+    else Some next) (offsets_above at (number + 1) places)) [ true ↦ refl | false ↦ refl ]
+
+previous_one : (at number : ℕ) (previous : Option ℕ) (place : Option Place) (places : List (Option Place))
+    → reduced_from max previous (offsets_below at number (place ∷ places))
+    ≡ reduced_from max (with_previous previous at place) (offsets_below at (number + 1) places)
+previous_one at number previous None places = refl
+previous_one at number None (Some place) places =
+    elim (nat_lt place.offset at) as (λ b.
+    reduce max (cond b (place.offset ∷ offsets_below at (number + 1) places) (offsets_below at (number + 1) places))
+    ≡ reduced_from max (if b then Some place.offset else None) (offsets_below at (number + 1) places))
+    [ true ↦ refl | false ↦ refl ]
+previous_one at number (Some previous) (Some place) places =
+    elim (nat_lt place.offset at) as (λ b.
+    Some (fold max previous (cond b (place.offset ∷ offsets_below at (number + 1) places)
+    (offsets_below at (number + 1) places)))
+    ≡ reduced_from max (if b then Some (max previous place.offset)
+    else Some previous) (offsets_below at (number + 1) places)) [ true ↦ refl | false ↦ refl ]
+
+-- one place on
+pub next_more : (at : ℕ) (next : Option ℕ) (places : List (Option Place)) (i : ℕ) (place : Option Place) →
+    i < length places → place ≡ get_or places i place
+    → reduced_from min next (offsets_above at i (drop i places))
+    ≡ reduced_from min (with_next next at place) (offsets_above at (i + 1) (drop (i + 1) places))
+next_more at next places i place within is =
+    ap (λ rest. reduced_from min next (offsets_above at i rest)) (drop_more places i place within
+    ∙ ap (λ p. p ∷ drop (i + 1) places) (sym is))
+    ∙ next_one at i next place (drop (i + 1) places)
+
+pub previous_more : (at : ℕ) (previous : Option ℕ) (places : List (Option Place)) (i : ℕ) (place : Option Place) →
+    i < length places → place ≡ get_or places i place
+    → reduced_from max previous (offsets_below at i (drop i places))
+    ≡ reduced_from max (with_previous previous at place) (offsets_below at (i + 1) (drop (i + 1) places))
+previous_more at previous places i place within is =
+    ap (λ rest. reduced_from max previous (offsets_below at i rest)) (drop_more places i place within
+    ∙ ap (λ p. p ∷ drop (i + 1) places) (sym is))
+    ∙ previous_one at i previous place (drop (i + 1) places)
+
+reduced_none : (f : ℕ → ℕ → ℕ) (found : Option ℕ) → reduced_from f found [] ≡ found
+reduced_none f None = refl
+reduced_none f (Some offset) = refl
+
+pub next_all : (at : ℕ) (next : Option ℕ) (places : List (Option Place)) (i : ℕ) → length places ≤ i →
+    reduced_from min next (offsets_above at i (drop i places)) ≡ next
+next_all at next places i past =
+    ap (λ rest. reduced_from min next (offsets_above at i rest)) (drop_all i places past) ∙ reduced_none min next
+
+pub previous_all : (at : ℕ) (previous : Option ℕ) (places : List (Option Place)) (i : ℕ) → length places ≤ i →
+    reduced_from max previous (offsets_below at i (drop i places)) ≡ previous
+previous_all at previous places i past = ap (λ rest. reduced_from max previous (offsets_below at i rest))
+    (drop_all i places past) ∙ reduced_none max previous
+
+marks_one : (at number : ℕ) (place : Option Place) (places : List (Option Place)) (stands : Bool) →
+    stands_at place at ≡ stands
+    → marks_from at number (place ∷ places)
+    ≡ cond stands (record { 0 = number } ∷ marks_from at (number + 1) places) (marks_from at (number + 1) places)
+marks_one at number None places true is = absurd (let no : false ≡ true = is in cc)
+marks_one at number None places false is = refl
+marks_one at number (Some place) places stands is =
+    ap (λ b. map (λ entry. record { 0 = entry.0 })
+    (cond b ((number, place) ∷ filter (λ (entry : ℕ × Place). entry.1.offset == at)
+    (places_from (number + 1) places)) (filter (λ (entry : ℕ × Place). entry.1.offset == at)
+    (places_from (number + 1) places)))) is
+    ∙ elim stands as (λ b. map (λ entry. record { 0 = entry.0 })
+    (cond b ((number, place) ∷ filter (λ (entry : ℕ × Place). entry.1.offset == at)
+    (places_from (number + 1) places)) (filter (λ (entry : ℕ × Place). entry.1.offset == at)
+    (places_from (number + 1) places)))
+    ≡ cond b (record { 0 = number } ∷ marks_from at (number + 1) places) (marks_from at (number + 1) places))
+    [ true ↦ refl | false ↦ refl ]
+
+pub marks_more : (at : ℕ) (places : List (Option Place)) (i : ℕ) (place : Option Place) (stands : Bool) →
+    i < length places → place ≡ get_or places i place → stands_at place at ≡ stands
+    → marks_from at i (drop i places) ≡ cond stands (record { 0 = i } ∷ marks_from at (i + 1) (drop (i + 1) places))
+    (marks_from at (i + 1) (drop (i + 1) places))
+marks_more at places i place stands within is tells =
+    ap (marks_from at i) (drop_more places i place within ∙ ap (λ p. p ∷ drop (i + 1) places) (sym is))
+    ∙ marks_one at i place (drop (i + 1) places) stands tells
 
 -- what is found among offsets is one of them
 fold_one : (f : ℕ → ℕ → ℕ) (P : ℕ → Type 0) → ((a b : ℕ) → P a → P b → P (f a b)) → (first : ℕ) (offsets : List ℕ) →

@@ -84,6 +84,12 @@ Fits-append [] others content fits rest = rest
 Fits-append (step ∷ steps) others content fits rest =
     (fits.0, Fits-append steps others (after_step step content) fits.1 rest)
 
+pub MarksStand-after : (steps : List Step) (content : Content) → Fits steps content → MarksStand content →
+    MarksStand (after steps content)
+MarksStand-after [] content fits stand = stand
+MarksStand-after (step ∷ steps) content fits stand =
+    MarksStand-after steps (after_step step content) fits.1 (MarksStand-after_step step content fits.0 stand)
+
 pub length-after_step : (step : Step) (content : Content) → StepFits step content →
     length (after_step step content).cells ≡ length_after step (length content.cells)
 length-after_step (Remove from to) content fits =
