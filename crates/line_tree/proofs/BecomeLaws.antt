@@ -31,10 +31,9 @@ stays m h ts all d = record {
 }
 
 -- ---- the same names in another list
-pub renamed : {m n : Records} {ps : List NodePtr} {h : ℕ} {us : List (Tree h)} (qs : List NodePtr)
-    → Becomes m n ps h us →
+pub renamed : (m n : Records) (ps qs : List NodePtr) (h : ℕ) (us : List (Tree h)) → Becomes m n ps h us →
     ((q : NodePtr) → Among q ps → Among q qs) → ((q : NodePtr) → Among q qs → Among q ps) → Becomes m n qs h us
-renamed qs b to from = record {
+renamed m n ps qs h us b to from = record {
   holds = b.holds;
   distinct = b.distinct;
   within = λ q a out. b.within q a (λ c. out (to q c));
@@ -43,10 +42,10 @@ renamed qs b to from = record {
 }
 
 -- ---- side by side
-pub both : {m l n : Records} {ps qs : List NodePtr} {h : ℕ} {us vs : List (Tree h)} → Becomes m l ps h us →
+pub both : (m l n : Records) (ps qs : List NodePtr) (h : ℕ) (us vs : List (Tree h)) → Becomes m l ps h us →
     Becomes l n qs h vs → ((q : NodePtr) → Among q qs → Among q ps → ⊥)
     → ((q : NodePtr) → Among q qs → IsSome (finite.get m q)) → Becomes m n (ps ++ qs) h (us ++ vs)
-both {m} {l} {n} {ps} {qs} {h} {us} {vs} a b apart named =
+both m l n ps qs h us vs a b apart named =
     let us_named = names-all-held l h us a.holds in
     let us_off : (q : NodePtr) → Among q (names_of h us) → Among q qs →
     ⊥ = λ q c d. unnamed m q (named q d) (a.within q c (λ e. apart q d e)) in
@@ -75,9 +74,9 @@ both {m} {l} {n} {ps} {qs} {h} {us} {vs} a b apart named =
     }
 
 -- in another order
-pub swapped : {m n : Records} {ps : List NodePtr} {h : ℕ} (us vs : List (Tree h)) → Becomes m n ps h (us ++ vs) →
+pub swapped : (m n : Records) (ps : List NodePtr) (h : ℕ) (us vs : List (Tree h)) → Becomes m n ps h (us ++ vs) →
     Becomes m n ps h (vs ++ us)
-swapped {n} {h} us vs b =
+swapped m n ps h us vs b =
     let d = subst Distinct (names-append h us vs) b.distinct in
     let flip : (q : NodePtr) → Among q (names_of h (vs ++ us)) → Among q (names_of h (us ++ vs)) = λ q a.
     elim (in-cases h vs us q a) [ inl c ↦ in-right h us vs q c | inr c ↦ in-left h us vs q c ] in
@@ -95,9 +94,9 @@ swapped {n} {h} us vs b =
     }
 
 -- ---- one after the other
-pub and-then : {m l n : Records} {ps : List NodePtr} {h j : ℕ} {us : List (Tree h)} {vs : List (Tree j)} →
+pub and-then : (m l n : Records) (ps : List NodePtr) (h j : ℕ) (us : List (Tree h)) (vs : List (Tree j)) →
     Becomes m l ps h us → Becomes l n (names_of h us) j vs → Becomes m n ps j vs
-and-then {m} {l} a b = record {
+and-then m l n ps h j us vs a b = record {
   holds = b.holds;
   distinct = b.distinct;
   within = λ q c out. absent (finite.get m q) (λ s.
@@ -109,9 +108,9 @@ and-then {m} {l} a b = record {
 }
 
 -- ---- a record goes
-pub gone : {m l : Records} {ps : List NodePtr} {h : ℕ} {us : List (Tree h)} (p : NodePtr) → Becomes m l ps h us →
+pub gone : (m l : Records) (p : NodePtr) (ps : List NodePtr) (h : ℕ) (us : List (Tree h)) → Becomes m l ps h us →
     IsSome (finite.get m p) → (Among p ps → ⊥) → Becomes m (finite.remove l p) (p ∷ ps) h us
-gone {m} {l} {h} {us} p a named out_ps =
+gone m l p ps h us a named out_ps =
     let p_out : Among p (names_of h us) → ⊥ = λ c. unnamed m p named (a.within p c out_ps) in
     record {
       holds = all-same l (finite.remove l p) h us a.holds (λ q c.
@@ -126,18 +125,18 @@ gone {m} {l} {h} {us} p a named out_ps =
     }
 
 -- ---- a new line
-pub new-becomes : {m n : Records} {x : NodePtr} {l : LineContent} → NewLine m n x l →
+pub new-becomes : (m n : Records) (x : NodePtr) (l : LineContent) → NewLine m n x l →
     Becomes m n [] 0 (tree_at n 0 x ∷ [])
-new-becomes {m} {n} {x} {l} new = record {
-  holds = (new-line new, tt);
+new-becomes m n x l new = record {
+  holds = (new-line m n x l new, tt);
   distinct = ((λ a. a), tt);
   within = λ q a out. elim a [ inl e ↦ ap (finite.get m) e ∙ new.fresh | inr b ↦ absurd b ];
-  other = λ q s out. new-other new q s;
-  old = λ q s out. elim (new-named new q s) [ inl e ↦ absurd (out (inl e)) | inr b ↦ (b, λ c. c) ];
+  other = λ q s out. new-other m n x l new q s;
+  old = λ q s out. elim (new-named m n x l new q s) [ inl e ↦ absurd (out (inl e)) | inr b ↦ (b, λ c. c) ];
 }
 
 -- ---- a new node
-module _ {m n : Records} {a : NodePtr} (h : ℕ) (ts : List (Tree h)) (new : NewRoot m n a (tops h ts))
+module _ (m n : Records) (h : ℕ) (a : NodePtr) (ts : List (Tree h)) (new : NewRoot m n a (tops h ts))
     (all : AllByRecursion (Holds m h) ts) (d : Distinct (names_of h ts)) (few : length (tops h ts) ≤ 12)
     (fits : FitsSum (sum_all m (tops h ts))) where
   ts-named : (q : NodePtr) → Among q (names_of h ts) → IsSome (finite.get m q)
@@ -159,7 +158,7 @@ module _ {m n : Records} {a : NodePtr} (h : ℕ) (ts : List (Tree h)) (new : New
       let all_made = all-same m made h ts all (λ q b. get_other m a (blank None) q (not-new q (ts-named q b))) in
       record {
         holds = (
-          subst (λ z. Holds z (suc h) (a, ts)) (sym new.same) (built h ts can all_made (new-out, d)),
+          subst (λ z. Holds z (suc h) (a, ts)) (sym new.same) (built made h a ts can all_made (new-out, d)),
           tt,
         );
         distinct = subst Distinct (sym (append-nil (a ∷ names_of h ts))) (new-out, d);

@@ -76,8 +76,8 @@ pub begins-up : (m : Records) (d j : ℕ) (r p : NodePtr) (b : ℕ) → Begins m
     IfSome (finite.get m p) (λ x. parent ≡ x.parent) → (up : NodePtr) → parent ≡ Some up
     → (slot : ℕ) → IfSome (finite.get m p) (λ x. slot ≡ x.slot) → BeginsUp m d j r p b up slot
 begins-up m d j r p b s parent says up is slot slot_says =
-    let q = same_Some s.0 up (sym (child-parent s.4 parent says) ∙ is) in
-    let i = sym (child-slot s.4 slot slot_says) in
+    let q = same_Some s.0 up (sym (child-parent m j s.0 s.1 p s.4 parent says) ∙ is) in
+    let i = sym (child-slot m j s.0 s.1 p s.4 slot slot_says) in
     let at_up : BeginsUp m d j r p b up s.1 = subst (λ x. BeginsUp m d j r p b x s.1) q
     (record { base = s.2; begins = s.3; child = s.4; offset = s.5 }) in
     subst (λ x. BeginsUp m d j r p b up x) i at_up

@@ -99,10 +99,10 @@ children-held m n h p cs body other (t ∷ ts) all apart out = (
   children-held m n h p cs body other ts all.1 apart.1 (λ a. out (among-right p (names h t) (names_of h ts) a)),
 )
 
-pub built : {m : Records} {p : NodePtr} (h : ℕ) (ts : List (Tree h)) → CanFill m p (tops h ts) →
+pub built : (m : Records) (h : ℕ) (p : NodePtr) (ts : List (Tree h)) → CanFill m p (tops h ts) →
     AllByRecursion (Holds m h) ts → Distinct (p ∷ names_of h ts) →
     Holds (refilled m p (row (tops h ts))) (suc h) (p, ts)
-built {m} {p} h ts can all d =
+built m h p ts can all d =
     let cs = tops h ts in let l = relinked m p 0 (row cs) in let n = refilled m p (row cs) in
     let at = relinked-row m p cs can.found can.is can.long can.few can.apart in
     let last = record can.found { children = row cs; sum = sums l (row cs) } in

@@ -94,8 +94,8 @@ links-linked m n same p i (c ∷ cs) links = let l = links.0 in
       links-linked m n same p (suc i) cs links.1,
     )
 
-no-parent-linked : {m : Records} (n : Records) → SameLinks m n → (r : NodePtr) → HasNoParent m r → HasNoParent n r
-no-parent-linked {m} n same r root = let v = record-linked (finite.get m r) (finite.get n r) root.found (same r) root.is
+no-parent-linked : (m n : Records) → SameLinks m n → (r : NodePtr) → HasNoParent m r → HasNoParent n r
+no-parent-linked m n same r root = let v = record-linked (finite.get m r) (finite.get n r) root.found (same r) root.is
     in
     record { found = v.0; is = v.1; parent = ap (λ x. x.0) v.2 ∙ root.parent }
 
@@ -159,9 +159,9 @@ pub record ChangesLine (m n : Records) (p : NodePtr) (f : LineContent → LineCo
   pub same : n ≡ update m p (λ r. with_line r (f line))
   pub sum : plus (line_count (f line)) gone ≡ plus (line_count line) more
 
-pub changes-line : {m n : Records} {p : NodePtr} {k : ℕ} {to : LineContent → LineContent} {gone more : Count} →
+pub changes-line : (m n : Records) (p : NodePtr) (k : ℕ) (to : LineContent → LineContent) (gone more : Count) →
     CanChange m 0 p k → ChangesLine m n p to gone more → Changes m n 0 p k to gone more
-changes-line {m} {n} {p} {k} {to} {gone} {more} can one =
+changes-line m n p k to gone more can one =
     let new = to one.line in let f : Record → Record = λ r. with_line r new in let old = can.tree in
     let at : finite.get n p ≡ Some (f old.found) = ap (λ z. finite.get z p) one.same
     ∙ at-update m p f old.found old.is in
@@ -186,7 +186,7 @@ changes-line {m} {n} {p} {k} {to} {gone} {more} can one =
     }
 
 -- ---- above it
-module _ {m : Records} (h k : ℕ) (p : NodePtr) (can : CanChange m (suc h) p k) (f : Found) (finds : Finds m p k f)
+module _ (m : Records) (h : ℕ) (p : NodePtr) (k : ℕ) (can : CanChange m (suc h) p k) (f : Found) (finds : Finds m p k f)
   where
     abbrev before : List (Tree h)
     before = map (tree_at m h) (take f.slot (kids m p))
@@ -207,7 +207,7 @@ module _ {m : Records} (h k : ℕ) (p : NodePtr) (can : CanChange m (suc h) p k)
     apart = subst Distinct (ap (names_of h) split ∙ names-append h before (child ∷ after)) can.distinct.1
 
     pub can-child : CanChange m h f.child f.rest
-    can-child = let d = descends h can.tree finds in record {
+    can-child = let d = descends m h p k f can.tree finds in record {
       tree = d.tree;
       distinct = distinct-left (names h child) (names_of h after)
           (distinct-right (names_of h before) (names_of h (child ∷ after)) apart);
@@ -228,7 +228,7 @@ module _ {m : Records} (h k : ℕ) (p : NodePtr) (can : CanChange m (suc h) p k)
         × (total (lines_in m (suc h) p) ≡ plus a (plus (total (lines_in m h f.child)) d))
     was-parts = (total (lines_of h before), total (lines_of h after), was-sum)
 
-    module _ {l : Records} {to : LineContent → LineContent} {gone more : Count}
+    module _ (l : Records) (to : LineContent → LineContent) (gone more : Count)
         (done : Changes m l h f.child f.rest to gone more) where
       abbrev now : List (Tree h)
       now = before ++ (tree_at l h f.child ∷ after)
@@ -348,16 +348,16 @@ module _ {m : Records} (h k : ℕ) (p : NodePtr) (can : CanChange m (suc h) p k)
           }
 
 -- ---- the whole tree
-pub stands-changed : {m n : Records} {h k : ℕ} {r : NodePtr} {to : LineContent → LineContent} {gone more : Count}
-    → StandsAlone m h r → FitsSum (plus (total (lines_in m h r)) more) →
+pub stands-changed : (m n : Records) (h : ℕ) (r : NodePtr) (k : ℕ) (to : LineContent → LineContent)
+    (gone more : Count) → StandsAlone m h r → FitsSum (plus (total (lines_in m h r)) more) →
     Changes m n h r k to gone more → StandsAlone n h r
-stands-changed {m} {n} {h} {r} {gone} alone fits done = let old = alone.stands in
+stands-changed m n h r k to gone more alone fits done = let old = alone.stands in
     let same = names-linked m n done.links h r in record {
       stands = record {
         tree = done.tree;
         balanced = root-linked m n done.links h r old.balanced;
         distinct = subst Distinct (sym same) old.distinct;
-        root = no-parent-linked n done.links r old.root;
+        root = no-parent-linked m n done.links r old.root;
         fits = fits-left (total (lines_in n h r)) gone (subst FitsSum (sym done.sum) fits);
       };
       whole = λ q s. subst (Among q) (sym same) (alone.whole q (named-linked m n done.links q s));

@@ -17,14 +17,14 @@ use Rattle.line_tree.proofs.TreeLaws.{count-tree, named-tree}
 use Rattle.std.specs.FinMap as finite
 
 -- ---- the way down
-finds-child : {m : Records} {h i : ℕ} {q p : NodePtr} (k b o : ℕ) → IsChild m h q i p →
+finds-child : (m : Records) (h : ℕ) (q : NodePtr) (i : ℕ) (p : NodePtr) (k b o : ℕ) → IsChild m h q i p →
     o ≡ b + lines_before m q i → o ≤ k → k < o + lines_at m p → Finds m q (k - b) (led m i p k o)
-finds-child k b o child is low high =
+finds-child m h q i p k b o child is low high =
     record { child = child.at; place = omega (arith, is, low); rest = omega (arith, low, high); lines = refl }
 
-below : {m : Records} {h i : ℕ} {q p : NodePtr} (k b o : ℕ) → IsChild m h q i p →
+below : (m : Records) (h : ℕ) (q : NodePtr) (i : ℕ) (p : NodePtr) (k b o : ℕ) → IsChild m h q i p →
     o ≡ b + lines_before m q i → k < o + lines_at m p → k < b + lines_at m q
-below {m} {h} {i} {q} {p} k b o child is high = let n = child-within child in omega (arith, n, is, high)
+below m h q i p k b o child is high = let n = child-within m h q i p child in omega (arith, n, is, high)
 
 module _ (m : Records) (P : ℕ → NodePtr → ℕ → Type 0)
     (step : (h : ℕ) (q : NodePtr) (k : ℕ) → P (suc h) q k → (f : Found) → Finds m q k f → P h f.child f.rest) where
@@ -36,9 +36,9 @@ module _ (m : Records) (P : ℕ → NodePtr → ℕ → Type 0)
   down-to (suc d) h r p o k s low high holds =
       let e : suc d + h ≡ d + suc h = omega arith in let is = s.5 in
       step h s.0 (k - s.2)
-      (down-to d (suc h) r s.0 s.2 k s.3 (omega (arith, is, low)) (below k s.2 o s.4 is high)
+      (down-to d (suc h) r s.0 s.2 k s.3 (omega (arith, is, low)) (below m h s.0 s.1 p k s.2 o s.4 is high)
       (subst (λ n. P n r k) e holds))
-      (led m s.1 p k o) (finds-child k s.2 o s.4 is low high)
+      (led m s.1 p k o) (finds-child m h s.0 s.1 p k s.2 o s.4 is low high)
 
   -- what holds of a line of the root, and goes down to the child with the line, holds of each node above the line
   pub down : (h j : ℕ) (r p : NodePtr) (o k : ℕ) → j ≤ h → Sits m (h - j) j r p o → o ≤ k → k < o + lines_at m p →
@@ -88,9 +88,9 @@ module _ (m : Records) (h : ℕ) (r : NodePtr) (k : ℕ) (name : NodePtr) (tree 
   root-can distinct =
       record { tree = tree; distinct = distinct; place = line-within (lines_in m h r) k name at }
 
-  pub starts : {l : Records} {f : LineContent → LineContent} {gone more : Count} → Changes m l 0 name 0 f gone more →
+  pub starts : (l : Records) (f : LineContent → LineContent) (gone more : Count) → Changes m l 0 name 0 f gone more →
       Climbs m l h r k f gone more 0 name
-  starts {l} {f} {gone} {more} changes =
+  starts l f gone more changes =
       let e : h ≡ h - 0 = omega arith in let first : 0 ≡ k - k = omega arith in
       let one = one-line m name line-tree in
       record {
@@ -101,8 +101,8 @@ module _ (m : Records) (h : ℕ) (r : NodePtr) (k : ℕ) (name : NodePtr) (tree 
         changes = subst (λ n. Changes m l 0 name n f gone more) first changes;
       }
 
-module _ {m l : Records} {h k j : ℕ} {r p : NodePtr} {f : LineContent → LineContent} {gone more : Count}
-    (c : Climbs m l h r k f gone more j p) where
+module _ (m l : Records) (h : ℕ) (r : NodePtr) (k : ℕ) (f : LineContent → LineContent) (gone more : Count) (j : ℕ)
+    (p : NodePtr) (c : Climbs m l h r k f gone more j p) where
   pub climbed : j ≡ h → Changes m l h r k f gone more
   climbed e =
       let root = at-root m (h - j) j r p c.before (omega (arith, e)) c.sits in let none = root.1 in
@@ -132,10 +132,10 @@ module _ {m l : Records} {h k j : ℕ} {r p : NodePtr} {f : LineContent → Line
           before = s.2;
           sits = s.3;
           low = omega (arith, is, low);
-          high = below k s.2 c.before s.4 is c.high;
+          high = below m j s.0 s.1 p k s.2 c.before s.4 is c.high;
           found = led m s.1 p k c.before;
           same = refl;
-          finds = finds-child k s.2 c.before s.4 is low c.high;
+          finds = finds-child m j s.0 s.1 p k s.2 c.before s.4 is low c.high;
           changes = c.changes;
         }
 
@@ -145,10 +145,10 @@ module _ {m l : Records} {h k j : ℕ} {r p : NodePtr} {f : LineContent → Line
         subst (Above m l h r k f gone more j p) (same_Some _ q (sym (parent-now up says) ∙ is)) one-up
 
 -- there the change is counted too
-pub next : {m l n : Records} {h k j : ℕ} {r p q : NodePtr} {f : LineContent → LineContent} {gone more : Count}
-    (a : Above m l h r k f gone more j p q) → Changes m n (suc j) q (k - a.before) f gone more →
+pub next : (m l n : Records) (h : ℕ) (r : NodePtr) (k : ℕ) (f : LineContent → LineContent) (gone more : Count) (j : ℕ)
+    (p q : NodePtr) (a : Above m l h r k f gone more j p q) → Changes m n (suc j) q (k - a.before) f gone more →
     Climbs m n h r k f gone more (j + 1) q
-next {m} {n} {h} {k} {j} {r} {q} {f} {gone} {more} a changes = let e : suc j ≡ j + 1 = omega arith in
+next m l n h r k f gone more j p q a changes = let e : suc j ≡ j + 1 = omega arith in
     subst (λ i. Climbs m n h r k f gone more i q) e (record {
       before = a.before;
       sits = a.sits;

@@ -24,7 +24,7 @@ pub record Closing (m n : Records) (p : NodePtr) (slot at : ℕ) : Type 0 where
   pub names : (q : NodePtr) → IsSome (finite.get m q) → IsSome (finite.get n q)
   pub inner : InnerIn n p
 
-module _ {m : Records} {p : NodePtr} (slot : ℕ) (has : HasRow m p) (links : Links m p 0 (kids m p))
+module _ (m : Records) (p : NodePtr) (slot : ℕ) (has : HasRow m p) (links : Links m p 0 (kids m p))
     (within : slot < length (kids m p)) (fill : CanFill m p (remove (kids m p) slot)) where
   abbrev left : List NodePtr
   left = remove (kids m p) slot
@@ -39,16 +39,16 @@ module _ {m : Records} {p : NodePtr} (slot : ℕ) (has : HasRow m p) (links : Li
   close-first = record {
     low = omega arith;
     high = within;
-    rest = sym (kept-remove slot has links within);
+    rest = sym (kept-remove m p slot has links within);
     node = has.found;
     is = has.is;
     long = ap length has.children ∙ length-row (kids m p) has.few;
     behind = λ j above. ap (λ cs. get_or cs j None) has.children ∙ get_or-row (kids m p) j;
     names = λ q named. named;
-    inner = inner-row has;
+    inner = inner-row m p has;
   }
 
-  module _ {n : Records} {at : ℕ} (s : Closing m n p slot at) where
+  module _ (n : Records) (at : ℕ) (s : Closing m n p slot at) where
     pub close-within : at < 12
     close-within = let h = s.high in let few = has.few in omega arith
 

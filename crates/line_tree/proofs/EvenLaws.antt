@@ -23,26 +23,26 @@ pub pair-past : {X : Type 0} (xs ys : List X) (i : ℕ) → length xs + length y
 pair-past xs ys i past = let n = length-append xs ys in slice_get_past (xs ++ ys) i (omega arith)
 
 -- ---- children that stay
-pub kept-remove : {m : Records} {p : NodePtr} (at : ℕ) → HasRow m p → Links m p 0 (kids m p) → at < length (kids m p)
+pub kept-remove : (m : Records) (p : NodePtr) (at : ℕ) → HasRow m p → Links m p 0 (kids m p) → at < length (kids m p)
     → Stay m p at (row (remove (kids m p) at))
-kept-remove {m} {p} at has links less = let ks = kids m p in
+kept-remove m p at has links less = let ks = kids m p in
     let long : length (take at ks) ≡ at = omega (arith, length-take at ks, less) in
-    kept-row has links (take at ks) (drop at ks) (drop (suc at) ks) (remove ks at) (sym (take-append-drop at ks))
+    kept-row m p has links (take at ks) (drop at ks) (drop (suc at) ks) (remove ks at) (sym (take-append-drop at ks))
     refl ∙ ap (λ n. relinked m p n (drop n (row (remove ks at)))) long
 
-pub kept-all : {m : Records} {p : NodePtr} (n : ℕ) → HasRow m p → Links m p 0 (kids m p) → n ≡ length (kids m p) →
+pub kept-all : (m : Records) (p : NodePtr) (n : ℕ) → HasRow m p → Links m p 0 (kids m p) → n ≡ length (kids m p) →
     Stay m p n (row (kids m p))
-kept-all {m} {p} n has links e = let ks = kids m p in
-    kept-row has links ks [] [] ks (sym (append-nil ks)) (sym (append-nil ks))
+kept-all m p n has links e = let ks = kids m p in
+    kept-row m p has links ks [] [] ks (sym (append-nil ks)) (sym (append-nil ks))
     ∙ ap (λ i. relinked m p i (drop i (row ks))) (sym e)
 
 -- where the first ones are those of the left one
-pub kept-part : {m : Records} {a b : NodePtr} → CanEven m a b → (n : ℕ) (cs : List NodePtr) → n ≤ length (kids m a) →
+pub kept-part : (m : Records) (a b : NodePtr) → CanEven m a b → (n : ℕ) (cs : List NodePtr) → n ≤ length (kids m a) →
     take n cs ≡ take n (kids m a) → (os : List (Option NodePtr)) → os ≡ row cs → Stay m a n os
-kept-part {m} {a} can n cs within front os is =
-    subst (Stay m a n) (sym is) (kept-front can.left can.links n cs within front)
+kept-part m a b can n cs within front os is =
+    subst (Stay m a n) (sym is) (kept-front m a can.left can.links n cs within front)
 
-module _ {m : Records} {a b : NodePtr} (can : CanEven m a b) where
+module _ (m : Records) (a b : NodePtr) (can : CanEven m a b) where
   abbrev both : List NodePtr
   both = kids m a ++ kids m b
 

@@ -134,9 +134,9 @@ sum_all-append m (c ∷ cs) ds =
     ap (plus (sum_at m c)) (sum_all-append m cs ds) ∙ sym (plus-associative (sum_at m c) (sum_all m cs) (sum_all m ds))
 
 -- ---- after the links
-pub relinked-has_row : {m : Records} {p : NodePtr} {cs : List NodePtr} → CanFill m p cs →
+pub relinked-has_row : (m : Records) (p : NodePtr) (cs : List NodePtr) → CanFill m p cs →
     HasRow (relinked m p 0 (row cs)) p × (kids (relinked m p 0 (row cs)) p ≡ cs)
-relinked-has_row {m} {p} {cs} can =
+relinked-has_row m p cs can =
     let n = relinked m p 0 (row cs) in
     let is = relinked-row m p cs can.found can.is can.long can.few can.apart in
     let same : kids n p ≡ cs = ap kids_of is ∙ somes-row cs in (

@@ -120,12 +120,12 @@ grows-line m ts k x all line d new =
     }
 
 -- ---- one of several trees grows
-pub grows-wide : {m n : Records} {h r : ℕ} {x : Tree 0} {us : List (Tree h)} (ls : List (Tree h)) (t : Tree h)
-    (rs : List (Tree h)) (k : ℕ) → Grows m n h (t ∷ []) r x us
+pub grows-wide : (m n : Records) (h : ℕ) (ls : List (Tree h)) (t : Tree h) (rs : List (Tree h)) (r k : ℕ) (x : Tree 0)
+    (us : List (Tree h)) → Grows m n h (t ∷ []) r x us
     → AllByRecursion (Holds m h) (ls ++ (t ∷ rs)) → Distinct (names_of h (ls ++ (t ∷ rs))) →
     (Among x.0 (names_of h (ls ++ (t ∷ rs))) → ⊥) → k ≡ length (lines_of h ls) + r → r ≤ length (lines h t)
     → Grows m n h (ls ++ (t ∷ rs)) k x (ls ++ (us ++ rs))
-grows-wide {m} {n} {h} {r} {x} {us} ls t rs k g all d new at fits =
+grows-wide m n h ls t rs r k x us g all d new at fits =
     let ts = ls ++ (t ∷ rs) in let split = names-append h ls (t ∷ rs) in let apart = subst Distinct split d in
     let all_left = all-left (Holds m h) ls (t ∷ rs) all in let all_right = (all-right (Holds m h) ls (t ∷ rs) all).1 in
     let left_named = names-all-held m h ls all_left in let right_named = names-all-held m h rs all_right in
@@ -192,14 +192,13 @@ grows-wide {m} {n} {h} {r} {x} {us} ls t rs k g all d new at fits =
     }
 
 -- ---- the node above them
-pub grows-up : {m l : Records} {h k : ℕ} {ts : List (Tree h)} {x : Tree 0} {us : List (Tree h)} (n : Records)
-    (p : NodePtr) →
+pub grows-up : (m l n : Records) (h : ℕ) (p : NodePtr) (ts : List (Tree h)) (k : ℕ) (x : Tree 0) (us : List (Tree h)) →
     Grows m l h ts k x us → IsSome (finite.get m p) → (Among p (names_of h ts) → ⊥) → p ≢ x.0
     → Holds n (suc h) (p, us) → ((q : NodePtr) → q ≢ p → (Among q (tops h us) → ⊥) → finite.get n q ≡ finite.get l q) →
     ((q : NodePtr) → IsSome (finite.get l q) → IsSome (finite.get n q))
     → ((q : NodePtr) → IsSome (finite.get n q) → IsSome (finite.get l q)) →
     Grows m n (suc h) ((p, ts) ∷ []) k x ((p, us) ∷ [])
-grows-up {m} {h} {k} {ts} {x} {us} n p g named out other_name holds same kept old =
+grows-up m l n h p ts k x us g named out other_name holds same kept old =
     let p_out : Among p (names_of h us) → ⊥ = λ a.
     elim (g.within p a) [ inl b ↦ out b | inr b ↦ elim b [ inl e ↦ other_name e | inr e ↦ unnamed m p named e ] ] in
     record {

@@ -44,9 +44,9 @@ all-get P f [] i x all is = absurd (none-some x is)
 all-get P f (y ∷ xs) zero x all is = subst (λ z. P (f z)) (same_Some y x is) all.0
 all-get P f (y ∷ xs) (suc i) x all is = all-get P f xs i x all.1 is
 
-pub has-kept : {m : Records} {p : NodePtr} (l : Records) → HasRow m p → finite.get l p ≡ finite.get m p →
+pub has-kept : (m l : Records) (p : NodePtr) → HasRow m p → finite.get l p ≡ finite.get m p →
     ((q : NodePtr) → IsSome (finite.get m q) → IsSome (finite.get l q)) → HasRow l p
-has-kept {m} {p} l has same kept = let e : kids l p ≡ kids m p = ap kids_of same in record {
+has-kept m l p has same kept = let e : kids l p ≡ kids m p = ap kids_of same in record {
   found = has.found;
   is = same ∙ has.is;
   children = has.children ∙ ap row (sym e);
@@ -59,7 +59,7 @@ part-fits : (a c b s : Count) → FitsSum (plus (plus a (plus c b)) s) → FitsS
 part-fits a c b s fits = let l = fits.lines in let n = fits.characters in let m = fits.marks in
     record { lines = omega (arith, l); characters = omega (arith, n); marks = omega (arith, m) }
 
-module _ {m : Records} {h k : ℕ} {p x : NodePtr} (can : CanInsert m (suc h) p k x) where
+module _ (m : Records) (h : ℕ) (p : NodePtr) (k : ℕ) (x : NodePtr) (can : CanInsert m (suc h) p k x) where
   abbrev ts : List (Tree h)
   ts = map (tree_at m h) (kids m p)
 
@@ -75,14 +75,16 @@ module _ {m : Records} {h k : ℕ} {p x : NodePtr} (can : CanInsert m (suc h) p 
   line-fits : FitsSum (plus (total (lines_of h ts)) (total (lines zero (tree_at m 0 x))))
   line-fits = subst (λ s. FitsSum (plus (total (lines_of h ts)) s)) (sum-held m 0 (tree_at m 0 x) can.line) can.fits
 
-pub some-kids : {m : Records} {h k : ℕ} {p x : NodePtr} → CanInsert m (suc h) p k x → 0 < length (kids m p)
-some-kids {m} {h} {p} can = let n = length-map (kids m p) (tree_at m h) in let w = can.wide.0 in omega arith
+pub some-kids : (m : Records) (h : ℕ) (p : NodePtr) (k : ℕ) (x : NodePtr) → CanInsert m (suc h) p k x →
+    0 < length (kids m p)
+some-kids m h p k x can = let n = length-map (kids m p) (tree_at m h) in let w = can.wide.0 in omega arith
 
-pub within-kids : {m : Records} {h k : ℕ} {p x : NodePtr} → CanInsert m (suc h) p k x → k ≤ lines_below m p
-within-kids {m} {h} {p} can = let n = below-tree m h p can.tree in let w = can.place in omega arith
+pub within-kids : (m : Records) (h : ℕ) (p : NodePtr) (k : ℕ) (x : NodePtr) → CanInsert m (suc h) p k x →
+    k ≤ lines_below m p
+within-kids m h p k x can = let n = below-tree m h p can.tree in let w = can.place in omega arith
 
 -- ---- at the lowest level
-module _ {m : Records} {p x : NodePtr} {k : ℕ} (can : CanInsert m 1 p k x) where
+module _ (m : Records) (p : NodePtr) (k : ℕ) (x : NodePtr) (can : CanInsert m 1 p k x) where
   abbrev leaves : List (Tree 0)
   leaves = map (tree_at m 0) (kids m p)
 
@@ -103,18 +105,18 @@ module _ {m : Records} {p x : NodePtr} {k : ℕ} (can : CanInsert m 1 p k x) whe
 
   pub low-can_put : CanPut m p k x
   low-can_put = let n = length-map (kids m p) (tree_at m 0) in let place = low-place in
-      can-put k x low-grows (named-node can) can.distinct.0
-      (not-line can) (has-node can)
+      can-put m m 0 p leaves k (tree_at m 0 x) more k x low-grows (named-node m 0 p k x can) can.distinct.0
+      (not-line m 0 p k x can) (has-node m 0 p k x can)
       (subst (Links m p 0) (tops-tree_at m 0 (kids m p)) can.tree.1) (omega arith) (named-tree m 0 x can.line)
-      low-tops (line-fits can)
+      low-tops (line-fits m 0 p k x can)
 
   pub low-sum : plus (sum_at m p) (sum_at m x) ≡ sum_all m (insert (kids m p) k x)
   low-sum = ap (λ s. plus s (sum_at m x)) (sum-kids m 0 p can.tree) ∙ sum_all-insert m (kids m p) k x
 
   pub low-inserts : (n : Records) (o : Option NodePtr) → Puts m n p (insert (kids m p) k x) o → Inserts m n 1 p k x o
   low-inserts n o puts =
-      let g = grows-put n o low-grows (named-node can)
-      can.distinct.0 (not-line can) low-can_put low-tops puts in
+      let g = grows-put m m n 0 p leaves k (tree_at m 0 x) more k x o low-grows (named-node m 0 p k x can)
+      can.distinct.0 (not-line m 0 p k x can) low-can_put low-tops puts in
       let same = parted-is n 0 p more (split_at m n p (insert (kids m p) k x) o puts) o g.holds in
       let long = length-insert leaves k (tree_at m 0 x) low-place in
       record {
@@ -122,11 +124,11 @@ module _ {m : Records} {p x : NodePtr} {k : ℕ} (can : CanInsert m 1 p k x) whe
         wide = subst (λ us. KeepsWide 1 (p, leaves) us o) (sym same)
             (wide-put m n 0 p leaves more (insert (kids m p) k x) o puts (ap length low-tops
             ∙ length-map more (λ (t : Tree 0). t.0)) long (lines-balanced more));
-        link = keeps-put n o low-can_put puts;
+        link = keeps-put m n p k x o low-can_put puts;
       }
 
 -- ---- above it
-module _ {m : Records} {h k : ℕ} {p x : NodePtr} {f : Found} (can : CanInsert m (suc h) p k x)
+module _ (m : Records) (h : ℕ) (p : NodePtr) (k : ℕ) (x : NodePtr) (can : CanInsert m (suc h) p k x) (f : Found)
     (leads : Leads m p k f) where
   abbrev before : List (Tree h)
   before = map (tree_at m h) (take f.slot (kids m p))
@@ -134,7 +136,7 @@ module _ {m : Records} {h k : ℕ} {p x : NodePtr} {f : Found} (can : CanInsert 
   abbrev after : List (Tree h)
   after = map (tree_at m h) (drop (suc f.slot) (kids m p))
 
-  split : ts can ≡ before ++ (tree_at m h f.child ∷ after)
+  split : ts m h p k x can ≡ before ++ (tree_at m h f.child ∷ after)
   split = at-place (tree_at m h) (kids m p) f.slot f.child leads.child
 
   whole : AllByRecursion (Holds m h) (before ++ (tree_at m h f.child ∷ after))
@@ -143,7 +145,7 @@ module _ {m : Records} {h k : ℕ} {p x : NodePtr} {f : Found} (can : CanInsert 
   apart : Distinct (names_of h (before ++ (tree_at m h f.child ∷ after)))
   apart = subst (λ zs. Distinct (names_of h zs)) split can.distinct.1
 
-  in-child : (q : NodePtr) → Among q (names h (tree_at m h f.child)) → Among q (names_of h (ts can))
+  in-child : (q : NodePtr) → Among q (names h (tree_at m h f.child)) → Among q (names_of h (ts m h p k x can))
   in-child q a = subst (λ zs. Among q (names_of h zs)) (sym split)
       (subst (Among q) (sym (names-append h before (tree_at m h f.child ∷ after)))
       (among-right q (names_of h before) (names_of h (tree_at m h f.child ∷ after))
@@ -160,7 +162,7 @@ module _ {m : Records} {h k : ℕ} {p x : NodePtr} {f : Found} (can : CanInsert 
 
   child-fits : FitsSum (plus (total (lines_in m h f.child)) (sum_at m x))
   child-fits =
-      let e : total (lines_of h (ts can))
+      let e : total (lines_of h (ts m h p k x can))
       ≡ plus (total (lines_of h before)) (plus (total (lines_in m h f.child)) (total (lines_of h after))) =
       ap (λ zs. total (lines_of h zs)) split ∙ ap total (flat_map-append (lines h) before (tree_at m h f.child ∷ after))
       ∙ total-append (lines_of h before) (lines_of h (tree_at m h f.child ∷ after))
@@ -181,44 +183,44 @@ module _ {m : Records} {h k : ℕ} {p x : NodePtr} {f : Found} (can : CanInsert 
     fits = child-fits;
   }
 
-  module _ {l : Records} {o : Option NodePtr} (ins : Inserts m l h f.child f.rest x o) where
+  module _ (l : Records) (o : Option NodePtr) (ins : Inserts m l h f.child f.rest x o) where
     abbrev now : List (Tree h)
     now = before ++ (trees l h f.child o ++ after)
 
-    now-grows : Grows m l h (ts can) k (tree_at m 0 x) now
+    now-grows : Grows m l h (ts m h p k x can) k (tree_at m 0 x) now
     now-grows =
         let e = counted m h (take f.slot (kids m p)) (all-left (Holds m h) before (tree_at m h f.child ∷ after) whole)
         in let place = leads.place in
         let at : k ≡ length (lines_of h before) + f.rest = omega arith in
         subst (λ zs. Grows m l h zs k (tree_at m 0 x) now) (sym split)
-        (grows-wide before (tree_at m h f.child) after k ins.grows
+        (grows-wide m l h before (tree_at m h f.child) after f.rest k (tree_at m 0 x) (trees l h f.child o) ins.grows
         whole apart
         (λ a. can.new (inr (subst (λ zs. Among x (names_of h zs)) (sym split) a))) at rest-within)
 
     pub node-same : finite.get l p ≡ finite.get m p
-    node-same = ins.grows.other p (named-node can) (λ a.
-        can.distinct.0 (in-child p (of-one p (names h (tree_at m h f.child)) a))) (not-line can)
+    node-same = ins.grows.other p (named-node m h p k x can) (λ a.
+        can.distinct.0 (in-child p (of-one p (names h (tree_at m h f.child)) a))) (not-line m h p k x can)
 
     kids-same : kids l p ≡ kids m p
     kids-same = ap kids_of node-same
 
     pub has-now : HasRow l p
-    has-now = has-kept l (has-node can) node-same ins.grows.kept
+    has-now = has-kept m l p (has-node m h p k x can) node-same ins.grows.kept
 
     keeps-now : (q : NodePtr) → Among q (kids m p) → KeepsLink m l q
     keeps-now q a =
         let top = subst (Among q) (sym (tops-tree_at m h (kids m p))) a in
-        let among = tops-among h (ts can) q top in
-        let i = among-get q (kids m p) a in let named = (has-node can).each i.0 q i.1 in
+        let among = tops-among h (ts m h p k x can) q top in
+        let i = among-get q (kids m p) a in let named = (has-node m h p k x can).each i.0 q i.1 in
         elim (same_or_other q f.child) [
           | inl e ↦ subst (λ z. KeepsLink m l z) (sym e) ins.link
           | inr n ↦ keeps-same m l q named (ins.grows.other q named (λ b.
               elim (of-one q (names h (tree_at m h f.child)) b) [
                 | inl e ↦ n (e ∙ top-tree_at m h f.child)
-                | inr c ↦ all-get (λ t. (z : NodePtr) → Among z (inner h t) → Among z (tops h (ts can)) →
-                    ⊥) (tree_at m h) (kids m p) f.slot f.child (inner-no-top h (ts can) can.distinct.1)
+                | inr c ↦ all-get (λ t. (z : NodePtr) → Among z (inner h t) → Among z (tops h (ts m h p k x can)) →
+                    ⊥) (tree_at m h) (kids m p) f.slot f.child (inner-no-top h (ts m h p k x can) can.distinct.1)
                     leads.child q c top
-              ]) (λ e. can.new (inr (subst (λ z. Among z (names_of h (ts can))) e among))))
+              ]) (λ e. can.new (inr (subst (λ z. Among z (names_of h (ts m h p k x can))) e among))))
         ]
 
     links-now : Links l p 0 (kids l p)
@@ -242,87 +244,87 @@ module _ {m : Records} {h k : ℕ} {p x : NodePtr} {f : Found} (can : CanInsert 
         (all-right (IsBalanced h) before (tree_at m h f.child ∷ after) old).1)
 
   -- the child got a sibling
-  module _ {l : Records} {s : NodePtr} (ins : Inserts m l h f.child f.rest x (Some s)) where
-    two-tops : insert (kids l p) (f.slot + 1) s ≡ tops h (now ins)
+  module _ (l : Records) (s : NodePtr) (ins : Inserts m l h f.child f.rest x (Some s)) where
+    two-tops : insert (kids l p) (f.slot + 1) s ≡ tops h (now l (Some s) ins)
     two-tops = let e : f.slot + 1 ≡ suc f.slot = omega arith in
-        ap (λ cs. insert cs (f.slot + 1) s) (kids-same ins)
-        ∙ split-insert (kids m p) f.slot (f.slot + 1) f.child s leads.child e ∙ sym (tops-now ins)
+        ap (λ cs. insert cs (f.slot + 1) s) (kids-same l (Some s) ins)
+        ∙ split-insert (kids m p) f.slot (f.slot + 1) f.child s leads.child e ∙ sym (tops-now l (Some s) ins)
 
     pub two-can_put : CanPut l p (f.slot + 1) s
-    two-can_put = let n = ap length (kids-same ins) in
+    two-can_put = let n = ap length (kids-same l (Some s) ins) in
         let w = slice_get_within (kids m p) f.slot f.child leads.child in
-        can-put (f.slot + 1) s
-        (now-grows ins) (named-node can) can.distinct.0 (not-line can)
-        (has-now ins) (links-now ins) (omega arith) (named-tree l h s ins.grows.holds.1.0)
-        two-tops (line-fits can)
+        can-put m l h p (ts m h p k x can) k (tree_at m 0 x) (now l (Some s) ins) (f.slot + 1) s
+        (now-grows l (Some s) ins) (named-node m h p k x can) can.distinct.0 (not-line m h p k x can)
+        (has-now l (Some s) ins) (links-now l (Some s) ins) (omega arith) (named-tree l h s ins.grows.holds.1.0)
+        two-tops (line-fits m h p k x can)
 
     pub two-sum : plus (sum_at l p) (sum_at m x) ≡ sum_all l (insert (kids l p) (f.slot + 1) s)
-    two-sum = let us = now ins in let g = now-grows ins in
-        let node = ap sum_of (node-same ins) ∙ sum-held m (suc h) (tree_at m (suc h) p) can.tree in
+    two-sum = let us = now l (Some s) ins in let g = now-grows l (Some s) ins in
+        let node = ap sum_of (node-same l (Some s) ins) ∙ sum-held m (suc h) (tree_at m (suc h) p) can.tree in
         let line = sum-held m 0 (tree_at m 0 x) can.line in
         (λ i. plus (node i) (line i))
         ∙ sym (ap (sum_all l) two-tops ∙ sum-trees l h us g.holds ∙ ap total g.line
-        ∙ total-with_line (lines_of h (ts can)) k (tree_at m 0 x))
+        ∙ total-with_line (lines_of h (ts m h p k x can)) k (tree_at m 0 x))
 
     pub two-inserts : (n : Records) (o : Option NodePtr) → Puts l n p (insert (kids l p) (f.slot + 1) s) o →
         Inserts m n (suc h) p k x o
     two-inserts n o puts =
-        let us = now ins in
-        let g = grows-put n o (now-grows ins)
-        (named-node can) can.distinct.0 (not-line can) two-can_put two-tops puts in
+        let us = now l (Some s) ins in
+        let g = grows-put m l n h p (ts m h p k x can) k (tree_at m 0 x) us (f.slot + 1) s o (now-grows l (Some s) ins)
+        (named-node m h p k x can) can.distinct.0 (not-line m h p k x can) two-can_put two-tops puts in
         let same = parted-is n h p us (split_at l n p (insert (kids l p) (f.slot + 1) s) o puts) o g.holds in
         let all = ap length two-tops ∙ length-map us (λ (t : Tree h). t.0) in
-        let kids_long = ap length (kids-same ins) in
+        let kids_long = ap length (kids-same l (Some s) ins) in
         let w = slice_get_within (kids m p) f.slot f.child leads.child in
         let ts_long = length-map (kids m p) (tree_at m h) in
         let inserted = length-insert (kids l p) (f.slot + 1) s (omega arith) in
         record {
-          grows = subst (λ zs. Grows m n (suc h) ((p, ts can) ∷ []) k (tree_at m 0 x) zs) (sym same) g;
-          wide = subst (λ zs. KeepsWide (suc h) (p, ts can) zs o) (sym same)
-              (wide-put l n h p (ts can) us (insert (kids l p) (f.slot + 1) s) o puts all (omega arith)
-              (balanced-now ins
+          grows = subst (λ zs. Grows m n (suc h) ((p, ts m h p k x can) ∷ []) k (tree_at m 0 x) zs) (sym same) g;
+          wide = subst (λ zs. KeepsWide (suc h) (p, ts m h p k x can) zs o) (sym same)
+              (wide-put l n h p (ts m h p k x can) us (insert (kids l p) (f.slot + 1) s) o puts all (omega arith)
+              (balanced-now l (Some s) ins
               (ins.wide.split refl (wide-some h (tree_at m h f.child) balanced-child))));
-          link = keeps-after m (node-same ins) (keeps-put n o two-can_put puts);
+          link = keeps-after m l n p (node-same l (Some s) ins) (keeps-put l n p (f.slot + 1) s o two-can_put puts);
         }
 
   -- the child had room
-  module _ {l : Records} (ins : Inserts m l h f.child f.rest x None) where
-    one-tops : kids l p ≡ tops h (now ins)
-    one-tops = kids-same ins ∙ split-same (kids m p) f.slot f.child leads.child ∙ sym (tops-now ins)
+  module _ (l : Records) (ins : Inserts m l h f.child f.rest x None) where
+    one-tops : kids l p ≡ tops h (now l None ins)
+    one-tops = kids-same l None ins ∙ split-same (kids m p) f.slot f.child leads.child ∙ sym (tops-now l None ins)
 
     pub one-fits : FitsSum (sums l (row (kids l p)))
-    one-fits = let us = now ins in let g = now-grows ins in
+    one-fits = let us = now l None ins in let g = now-grows l None ins in
         subst FitsSum (sym (ap (λ cs. sums l (row cs)) one-tops ∙ sums-row l (tops h us) ∙ sum-trees l h us g.holds
-        ∙ ap total g.line ∙ total-with_line (lines_of h (ts can)) k (tree_at m 0 x)))
-        (line-fits can)
+        ∙ ap total g.line ∙ total-with_line (lines_of h (ts m h p k x can)) k (tree_at m 0 x)))
+        (line-fits m h p k x can)
 
     pub one-sum : plus (sum_at l p) (sum_at m x) ≡ sums l (row (kids l p))
-    one-sum = let us = now ins in let g = now-grows ins in
-        let node = ap sum_of (node-same ins) ∙ sum-held m (suc h) (tree_at m (suc h) p) can.tree in
+    one-sum = let us = now l None ins in let g = now-grows l None ins in
+        let node = ap sum_of (node-same l None ins) ∙ sum-held m (suc h) (tree_at m (suc h) p) can.tree in
         let line = sum-held m 0 (tree_at m 0 x) can.line in
         (λ i. plus (node i) (line i))
         ∙ sym (ap (λ cs. sums l (row cs)) one-tops ∙ sums-row l (tops h us) ∙ sum-trees l h us g.holds ∙ ap total g.line
-        ∙ total-with_line (lines_of h (ts can)) k (tree_at m 0 x))
+        ∙ total-with_line (lines_of h (ts m h p k x can)) k (tree_at m 0 x))
 
-    one-links : Links l p 0 (tops h (now ins))
-    one-links = subst (Links l p 0) one-tops (links-now ins)
+    one-links : Links l p 0 (tops h (now l None ins))
+    one-links = subst (Links l p 0) one-tops (links-now l None ins)
 
     pub one-inserts : (n : Records) → n ≡ resummed l p (row (kids l p)) → Inserts m n (suc h) p k x None
     one-inserts n is =
-        let us = now ins in let has = has-now ins in
-        let g = grows-resum n (now-grows ins)
-        (named-node can) can.distinct.0 (not-line can) has one-tops one-links is in
+        let us = now l None ins in let has = has-now l None ins in
+        let g = grows-resum m l n h p (ts m h p k x can) k (tree_at m 0 x) us (now-grows l None ins)
+        (named-node m h p k x can) can.distinct.0 (not-line m h p k x can) has one-tops one-links is in
         let same = parted-is n h p us 0 None g.holds in
-        let long = ap length (sym (kids-same ins) ∙ one-tops) ∙ length-map us (λ (t : Tree h). t.0) in
+        let long = ap length (sym (kids-same l None ins) ∙ one-tops) ∙ length-map us (λ (t : Tree h). t.0) in
         let ts_long = length-map (kids m p) (tree_at m h) in
         let s = sums l (row (kids l p)) in
         record {
-          grows = subst (λ zs. Grows m n (suc h) ((p, ts can) ∷ []) k (tree_at m 0 x) zs) (sym same) g;
-          wide = subst (λ zs. KeepsWide (suc h) (p, ts can) zs None) (sym same)
-              (wide-same h p (ts can) us (omega arith)
-              (balanced-now ins (all-balanced h (trees l h f.child None)
+          grows = subst (λ zs. Grows m n (suc h) ((p, ts m h p k x can) ∷ []) k (tree_at m 0 x) zs) (sym same) g;
+          wide = subst (λ zs. KeepsWide (suc h) (p, ts m h p k x can) zs None) (sym same)
+              (wide-same h p (ts m h p k x can) us (omega arith)
+              (balanced-now l None ins (all-balanced h (trees l h f.child None)
               (ins.wide.wide 6 (omega arith) (wide-balanced h (tree_at m h f.child) balanced-child)))));
-          link = keeps-after m (node-same ins)
+          link = keeps-after m l n p (node-same l None ins)
               (keeps-resum l p s has.found has.is n (ap (λ z. finite.get z p) is
               ∙ at-update l p (λ r. with_sum r s) has.found has.is));
         }

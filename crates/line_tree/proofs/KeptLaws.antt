@@ -35,9 +35,9 @@ set-same [] i y is = absurd (none-some y is)
 set-same (x ∷ xs) zero y is = ap (λ z. z ∷ xs) (sym (same_Some x y is))
 set-same (x ∷ xs) (suc i) y is = ap (λ zs. x ∷ zs) (set-same xs i y is)
 
-link-same : {m : Records} {p c : NodePtr} {i : ℕ} (r : Record) → finite.get m p ≡ Some r →
+link-same : (m : Records) (p : NodePtr) (i : ℕ) (c : NodePtr) (r : Record) → finite.get m p ≡ Some r →
     slice_get r.children i ≡ Some (Some c) → IsLinked m p i c → link_one m p i (Some c) ≡ m
-link-same {m} {p} {c} {i} r is at l =
+link-same m p i c r is at l =
     let same = set-same r.children i (Some c) at in
     let f : Record → Record = λ x. with_child x i (Some c) in let g : Record → Record = λ x. with_parent x (Some p) i in
     let child : f r ≡ r = λ j. record r { children = same j } in
@@ -54,7 +54,7 @@ front-same m p r is i [] os at links = let e : i ≡ i + 0 = omega arith in ap (
 front-same m p r is i (c ∷ cs) os at links =
     let zero_is : i + 0 ≡ i = omega arith in let here = ap (slice_get r.children) (sym zero_is) ∙ at 0 c refl in
     let e : suc i + length cs ≡ i + length (c ∷ cs) = omega arith in
-    ap (λ n. relinked n p (suc i) (map (λ x. Some x) cs ++ os)) (link-same r is here links.0)
+    ap (λ n. relinked n p (suc i) (map (λ x. Some x) cs ++ os)) (link-same m p i c r is here links.0)
     ∙ front-same m p r is (suc i) cs os (λ j d there. let f : suc i + j ≡ i + suc j = omega arith in
     ap (slice_get r.children) f ∙ at (suc j) d there) links.1
     ∙ ap (λ k. relinked m p k os) e
@@ -78,10 +78,10 @@ pub drop-front : (xs : List NodePtr) (os : List (Option NodePtr)) → drop (leng
 drop-front [] os = refl
 drop-front (x ∷ xs) os = drop-front xs os
 
-pub kept-row : {m : Records} {p : NodePtr} → HasRow m p → Links m p 0 (kids m p) →
+pub kept-row : (m : Records) (p : NodePtr) → HasRow m p → Links m p 0 (kids m p) →
     (front behind rest all : List NodePtr) → kids m p ≡ front ++ behind → all ≡ front ++ rest
     → Stay m p (length front) (row all)
-kept-row {m} {p} has links front behind rest all was now =
+kept-row m p has links front behind rest all was now =
     let empty = replicate {A = Option NodePtr} (12 - length all) None in let os = map (λ c. Some c) rest ++ empty in
     let parts : row all ≡ map (λ c. Some c) front ++ os = ap (λ cs. map (λ c. Some c) cs ++ empty) now
     ∙ ap (λ ds. ds ++ empty) (map-append (λ c. Some c) front rest)
@@ -97,11 +97,11 @@ kept-row {m} {p} has links front behind rest all was now =
     ∙ ap (relinked m p (length front)) (sym (ap (drop (length front)) parts ∙ drop-front front os))
 
 -- the first children of a list are those of the node
-pub kept-front : {m : Records} {p : NodePtr} → HasRow m p → Links m p 0 (kids m p) → (n : ℕ) (all : List NodePtr) →
+pub kept-front : (m : Records) (p : NodePtr) → HasRow m p → Links m p 0 (kids m p) → (n : ℕ) (all : List NodePtr) →
     n ≤ length (kids m p) → take n all ≡ take n (kids m p) → Stay m p n (row all)
-kept-front {m} {p} has links n all within same = let ks = kids m p in
+kept-front m p has links n all within same = let ks = kids m p in
     let long : length (take n ks) ≡ n = omega (arith, length-take n ks) in
-    kept-row has links (take n ks) (drop n ks) (drop n all) all (sym (take-append-drop n ks))
+    kept-row m p has links (take n ks) (drop n ks) (drop n all) all (sym (take-append-drop n ks))
     (sym (take-append-drop n all) ∙ ap (λ cs. cs ++ drop n all) same)
     ∙ ap (λ k. relinked m p k (drop k (row all))) long
 
@@ -132,10 +132,10 @@ empty-get [] (suc n) (suc j) less = let e : 0 + suc j ≡ suc (0 + j) = omega ar
 empty-get (c ∷ cs) n j less = let e : length (c ∷ cs) + j ≡ suc (length cs + j) = omega arith in
     ap (slice_get (Some c ∷ (map (λ x. Some x) cs ++ replicate {A = Option NodePtr} n None))) e ∙ empty-get cs n j less
 
-pub kept-whole : {m : Records} {p : NodePtr} → HasRow m p → Links m p 0 (kids m p) → relinked m p 0 (row (kids m p)) ≡ m
-kept-whole {m} {p} has links =
+pub kept-whole : (m : Records) (p : NodePtr) → HasRow m p → Links m p 0 (kids m p) → relinked m p 0 (row (kids m p)) ≡ m
+kept-whole m p has links =
     let ks = kids m p in let none = replicate (12 - length ks) None in
-    kept-row has links ks [] [] ks (sym (append-nil ks)) (sym (append-nil ks))
+    kept-row m p has links ks [] [] ks (sym (append-nil ks)) (sym (append-nil ks))
     ∙ ap (relinked m p (length ks)) (drop-front ks none)
     ∙ empty-same m p has.found has.is (length ks) (12 - length ks) (λ j less.
     ap (λ os. slice_get os (length ks + j)) has.children ∙ empty-get ks (12 - length ks) j less)

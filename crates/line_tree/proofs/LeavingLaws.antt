@@ -42,19 +42,19 @@ leaves-all old k gone within =
       room = keeps-self old;
     }
 
-pub leaves-long : {old now : TreeState} {k gone left : ℕ} → k + gone ≤ length old.lines → Leaves old k gone left now →
+pub leaves-long : (old now : TreeState) (k gone left : ℕ) → k + gone ≤ length old.lines → Leaves old k gone left now →
     length now.lines + gone ≡ length old.lines + left
-leaves-long {old} {k} {gone} within leaves =
+leaves-long old now k gone left within leaves =
     let ls = old.lines in
     let a = ap length leaves.lines in let b = length-append (take k ls ++ leaves.rest) (drop (k + gone) ls) in
     let c = length-append (take k ls) leaves.rest in let d = length-take-le k ls (omega arith) in
     let e = length-drop (k + gone) ls in let f = leaves.long in let few = leaves.few in omega arith
 
-pub leaves-fewer : {old now after : TreeState} {k gone left : ℕ} (start n less : ℕ) → k + gone ≤ length old.lines →
+pub leaves-fewer : (old now after : TreeState) (k gone left start n less : ℕ) → k + gone ≤ length old.lines →
     Leaves old k gone left now → k ≤ start → start + n ≤ k + left → less + n ≡ left →
     after.lines ≡ removed start (start + n) now.lines → KeepsRoom now after →
     Leaves old k gone less after
-leaves-fewer {old} {now} {after} {k} {gone} start n less within leaves low high count is room =
+leaves-fewer old now after k gone left start n less within leaves low high count is room =
     let front = take k old.lines in let long = length-take-le k old.lines (omega arith) in
     let e : start ≡ length front + (start - k) = omega arith in
     let f : start + n ≡ length front + (start - k + n) = omega arith in
@@ -69,13 +69,13 @@ leaves-fewer {old} {now} {after} {k} {gone} start n less within leaves low high 
       lines = is ∙ ap (removed start (start + n)) leaves.lines
           ∙ removed-middle front leaves.rest (drop (k + gone) old.lines) (start - k) (start - k + n) start (start + n) e
           f (omega arith) inside;
-      room = keeps-on leaves.room room;
+      room = keeps-on old now after leaves.room room;
     }
 
 -- ---- the others go too
-pub rest-out : {old now : TreeState} {k gone left : ℕ} → k + gone ≤ length old.lines → Leaves old k gone left now →
+pub rest-out : (old now : TreeState) (k gone left : ℕ) → k + gone ≤ length old.lines → Leaves old k gone left now →
     take k now.lines ++ drop (k + left) now.lines ≡ take k old.lines ++ drop (k + gone) old.lines
-rest-out {old} {k} {gone} {left} within leaves =
+rest-out old now k gone left within leaves =
     let front = take k old.lines in let back = drop (k + gone) old.lines in
     let long = length-take-le k old.lines (omega arith) in let all = leaves.long in
     ap (removed k (k + left)) leaves.lines

@@ -11,9 +11,8 @@ use Rattle.line_tree.proofs.Common.{total, NodePtr, Records, sum_all, sum_at, So
 use Rattle.line_tree.proofs.SumLaws.{total-append}
 use Rattle.std.specs.FinSet as set
 
-pub less-plus : {part : Count} (rest : Count) → IsBare part → less part.lines part.characters part.marks
-    (plus rest part) ≡ rest
-less-plus {part} rest bare =
+pub less-plus : (rest part : Count) → IsBare part → less part.lines part.characters part.marks (plus rest part) ≡ rest
+less-plus rest part bare =
     let lines : (rest.lines + part.lines) - part.lines ≡ rest.lines = omega arith in
     let characters : (rest.characters + part.characters) - part.characters ≡ rest.characters = omega arith in
     let marks : (rest.marks + part.marks) - part.marks ≡ rest.marks = omega arith in

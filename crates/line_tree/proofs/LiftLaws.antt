@@ -15,8 +15,8 @@ use Rattle.line_tree.proofs.StepLaws.{all-balanced}
 use Rattle.line_tree.proofs.TreeLaws.{tops-tree_at, total-lines}
 use Rattle.std.specs.FinMap as finite
 
-pub lift-can : {m : Records} {h : ℕ} {cs : List NodePtr} → CanLift m h cs → CanRaise m h cs
-lift-can {m} {h} {cs} can = record {
+pub lift-can : (m : Records) (h : ℕ) (cs : List NodePtr) → CanLift m h cs → CanRaise m h cs
+lift-can m h cs can = record {
   holds = can.holds;
   distinct = can.distinct;
   fits = subst FitsSum
@@ -24,9 +24,9 @@ lift-can {m} {h} {cs} can = record {
 }
 
 -- so many levels there are at most
-pub lift-levels : {m : Records} {h : ℕ} {cs : List NodePtr} (spares : ℕ) → CanLift m h cs → 2 ≤ length cs →
+pub lift-levels : (m : Records) (h : ℕ) (cs : List NodePtr) (spares : ℕ) → CanLift m h cs → 2 ≤ length cs →
     suc h ≤ levels_at_most (spares + finite.len m)
-lift-levels {m} {h} {cs} spares can two =
+lift-levels m h cs spares can two =
     let ts = trees_at m h cs in let long = length-map cs (tree_at m h) in
     let many = many-lines m h (6 ^ h) (least-lines m h) ts can.holds (can.split two) in
     let both : 2 ≤ length ts = omega arith in
@@ -50,16 +50,16 @@ root-all h (v ∷ vs) wide = let low = least-two h in let some = wide.0.0 in (
   root-all h vs wide.1,
 )
 
-pub lift-more : {m l n : Records} {h top : ℕ} {cs ps qs : List NodePtr} →
+pub lift-more : (m l n : Records) (h : ℕ) (cs : List NodePtr) (top : ℕ) (ps qs : List NodePtr) →
     Lifted m l h cs top ps → 2 ≤ length ps → Raises l n top ps (length ps) qs → 12 * length qs ≤ length ps + 11 →
     Lifted m n h cs (suc top) qs
-lift-more {m} {l} {n} {h} {top} {cs} {ps} {qs} lifted two raises few =
+lift-more m l n h cs top ps qs lifted two raises few =
     let can = lifted.can in let vs = trees_at n (suc top) qs in
     let lines = lines-below top vs ∙ ap (lines_of top) raises.below in
     let balanced = subst (AllByRecursion (IsBalanced top)) (sym raises.below) (can.split two) in
     record {
       can = record {
-        some = some-above qs raises can.some;
+        some = some-above l n top ps (length ps) qs raises can.some;
         holds = raises.becomes.holds;
         distinct = raises.becomes.distinct;
         fits = subst (λ ls. FitsSum (total ls)) (sym lines) can.fits;
@@ -68,7 +68,7 @@ lift-more {m} {l} {n} {h} {top} {cs} {ps} {qs} lifted two raises few =
             (wide-all 6 top vs (raises.wide 6 (omega arith) (omega (arith, few, more))) balanced);
         loose = raises.loose;
       };
-      becomes = and-then lifted.becomes
+      becomes = and-then m l n (names_of h (trees_at m h cs)) top (suc top) (trees_at l top ps) vs lifted.becomes
           raises.becomes;
       lines = lines ∙ lifted.lines;
     }

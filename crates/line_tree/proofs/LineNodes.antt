@@ -38,8 +38,8 @@ stands-at m (suc h) r p k tree at =
     (ap (option_map (λ x. x.0)) t.line ∙ ap (λ x. Some x) l.2) in
     record { line = down.line; found = down.found; is = down.is; held = down.held; at = l.1 ∙ sym t.line ∙ down.at }
 
-pub named-line : {m : Records} {ls : List Named} {k : ℕ} {p : NodePtr} → StandsAt m ls k p → IsSome (finite.get m p)
-named-line s = subst (λ o. IsSome o) (sym s.is) refl
+pub named-line : (m : Records) (ls : List Named) (k : ℕ) (p : NodePtr) → StandsAt m ls k p → IsSome (finite.get m p)
+named-line m ls k p s = subst (λ o. IsSome o) (sym s.is) refl
 
 -- what is lent is there, and is that line
 pub lent-some : {A B : Type 0} (f : A → B) (o : Option A) (y : B) → option_map f o ≡ Some y → IsSome o

@@ -34,9 +34,9 @@ new-table names ls p none is = record {
 pub characters-in : (ls : List Named) → length (whole (contents ls)).columns ≡ (total ls).characters
 characters-in ls = sym (count-characters (contents ls)) ∙ ap (λ (c : Count). c.characters) (count-contents ls)
 
-pub place-holds : {ls : List Named} {offset line column : ℕ} → IsPlaceAt ls offset line column →
+pub place-holds : (ls : List Named) (offset line column : ℕ) → IsPlaceAt ls offset line column →
     Holds (contents ls) offset line column
-place-holds {ls} {line} {column} at =
+place-holds ls offset line column at =
     let front = ap (λ (c : Count). c.characters) (count-first line ls) in
     let same = count-characters (take line (contents ls)) in
     let offset_is = at.offset in
@@ -94,9 +94,9 @@ fails-more : (n : ℕ) (l : Named) (ls : List Named) (k : ℕ) → has_mark n l.
 fails-more n l ls k hasn't free zero more less = hasn't
 fails-more n l ls k hasn't free (suc j) more less = free j (omega arith) (omega (arith, less))
 
-held-behind : {n k : ℕ} {ls : List Named} {p : NodePtr} (l : Named) → has_mark n l.1 ≡ false → HeldAt n ls p k →
+held-behind : (n : ℕ) (l : Named) (ls : List Named) (p : NodePtr) (k : ℕ) → has_mark n l.1 ≡ false → HeldAt n ls p k →
     HeldAt n (l ∷ ls) p (suc k)
-held-behind {n} {k} {ls} l hasn't at = let inside = at.next.within in record {
+held-behind n l ls p k hasn't at = let inside = at.next.within in record {
   line = at.line;
   at = at.at;
   has = at.has;
@@ -114,14 +114,14 @@ held n (l ∷ ls) p is = which (has_mark n l.1) refl is (held n ls p) where
   which : (b : Bool) → has_mark n l.1 ≡ b → cond b (Some l.0) (holder n ls) ≡ Some p →
       (holder n ls ≡ Some p → (k : ℕ) × HeldAt n ls p k) → (k : ℕ) × HeldAt n (l ∷ ls) p k
   which true has is rest = (0, held-first n l ls p has (same_Some l.0 p is))
-  which false hasn't is rest = let r = rest is in (suc r.0, held-behind l hasn't r.1)
+  which false hasn't is rest = let r = rest is in (suc r.0, held-behind n l ls p r.0 hasn't r.1)
 
-pub held-name : {n k : ℕ} {ls : List Named} {p : NodePtr} → HeldAt n ls p k → IsLineAt ls k p
-held-name at = ap (option_map (λ (l : Named). l.0)) at.at
+pub held-name : (n : ℕ) (ls : List Named) (p : NodePtr) (k : ℕ) → HeldAt n ls p k → IsLineAt ls k p
+held-name n ls p k at = ap (option_map (λ (l : Named). l.0)) at.at
 
-pub held-next : {n k : ℕ} {ls : List Named} {p : NodePtr} → HeldAt n ls p k →
+pub held-next : (n : ℕ) (ls : List Named) (p : NodePtr) (k : ℕ) → HeldAt n ls p k →
     next_line (has_mark n) 0 (contents ls) ≡ Some k
-held-next {n} {k} {ls} at = next-is (has_mark n) 0 (contents ls) k at.next
+held-next n ls p k at = next-is (has_mark n) 0 (contents ls) k at.next
 
 -- ---- a splice
 pub fits-counted : (ls : List Named) (new : List LineContent) →
@@ -156,56 +156,56 @@ module _ (old : List Named) (from count : ℕ) (new : List LineContent) (within 
     pub contents_of : contents added ≡ new
     pub is : now ≡ take from old ++ added ++ drop (from + count) old
 
-  pub comes-contents : {now : List Named} → Comes now → contents now ≡ spliced from count new (contents old)
-  comes-contents comes =
+  pub comes-contents : (now : List Named) → Comes now → contents now ≡ spliced from count new (contents old)
+  comes-contents now comes =
       ap contents comes.is ∙ map-append (λ (l : Named). l.1) (take from old ++ comes.added) (drop (from + count) old)
       ∙ ap₂ (λ xs ys. xs ++ ys)
       (map-append (λ (l : Named). l.1) (take from old) comes.added
       ∙ ap₂ (λ xs ys. xs ++ ys) (sym (take-map (λ (l : Named). l.1) from old)) comes.contents_of)
       (sym (drop-map (λ (l : Named). l.1) (from + count) old))
 
-  front-long : {now : List Named} (comes : Comes now) → length (take from old ++ comes.added) ≡ from + length new
-  front-long comes =
+  front-long : (now : List Named) (comes : Comes now) → length (take from old ++ comes.added) ≡ from + length new
+  front-long now comes =
       let a = length-append (take from old) comes.added in let l = long old in
       let b = length-take-le from old (omega arith) in
       let c = ap length comes.contents_of in let d = long comes.added in omega arith
 
-  pub comes-long : {now : List Named} → Comes now → from + length new ≤ length now
-  comes-long {now} comes = let a = front-long comes in let b = ap length comes.is in
+  pub comes-long : (now : List Named) → Comes now → from + length new ≤ length now
+  comes-long now comes = let a = front-long now comes in let b = ap length comes.is in
       let c = length-append (take from old ++ comes.added) (drop (from + count) old) in omega arith
 
   -- but for these lines the others are as before
-  pub comes-others : {now : List Named} → Comes now → lines_without from (from + length new) now
+  pub comes-others : (now : List Named) → Comes now → lines_without from (from + length new) now
       ≡ lines_without from (from + count) old
-  comes-others {now} comes =
+  comes-others now comes =
       let front = take from old ++ comes.added in let back = drop (from + count) old in
       let l = long old in
       let first : take from now ≡ take from old =
       ap (take from) (comes.is ∙ append_assoc (take from old) comes.added back)
       ∙ front_of from (take from old) (comes.added ++ back) (length-take-le from old (omega arith)) in
       let last : drop (from + length new) now ≡ back =
-      ap₂ drop (sym (front-long comes)) comes.is ∙ drop-append_seam front back in
+      ap₂ drop (sym (front-long now comes)) comes.is ∙ drop-append_seam front back in
       ap₂ (λ xs ys. xs ++ ys) first last
     where
       front_of : (n : ℕ) (xs ys : List Named) → length xs ≡ n → take n (xs ++ ys) ≡ xs
       front_of n xs ys is = ap (λ m. take m (xs ++ ys)) (sym is) ∙ take-append_seam xs ys
 
-  pub comes-between : {now : List Named} → Comes now → slice_range (contents now) from (from + length new) ≡ new
-  comes-between {now} comes =
+  pub comes-between : (now : List Named) → Comes now → slice_range (contents now) from (from + length new) ≡ new
+  comes-between now comes =
       let back = drop (from + count) (contents old) in
       let l = long old in
       let e : (from + length new) - from ≡ length new = omega arith in
       let n : length (take from (contents old)) ≡ from = length-take-le from (contents old) (omega arith) in
-      ap (λ xs. slice_range xs from (from + length new)) (comes-contents comes
+      ap (λ xs. slice_range xs from (from + length new)) (comes-contents now comes
       ∙ append_assoc (take from (contents old)) new back)
       ∙ ap (λ xs. take ((from + length new) - from) xs)
       (ap (λ m. drop m (take from (contents old) ++ (new ++ back))) (sym n)
       ∙ drop-append_seam (take from (contents old)) (new ++ back))
       ∙ ap (λ m. take m (new ++ back)) e ∙ take-append_seam new back
 
-  pub comes-below : {now : List Named} (bound : ℕ) → Comes now →
+  pub comes-below : (now : List Named) (bound : ℕ) → Comes now →
       All (λ (line : LineContent). NumbersBelow bound line.marks) new
       → All (λ (line : LineContent). NumbersBelow bound line.marks)
       (slice_range (contents now) from (from + length new))
-  comes-below {now} bound comes all =
-      subst (All (λ (line : LineContent). NumbersBelow bound line.marks)) (sym (comes-between comes)) all
+  comes-below now bound comes all =
+      subst (All (λ (line : LineContent). NumbersBelow bound line.marks)) (sym (comes-between now comes)) all

@@ -37,15 +37,15 @@ pub can-remove : (m : Records) (h : ℕ) (r : NodePtr) (k : ℕ) → Stands m h 
 can-remove m h r k s two place =
     record { tree = s.tree; wide = two-wide m h r s two; distinct = s.distinct; place = place; fits = s.fits }
 
-pub line-removed : {m n : Records} {h k j : ℕ} {r x : NodePtr} → Removes m n h r k j x →
+pub line-removed : (m n : Records) (h : ℕ) (r : NodePtr) (k j : ℕ) (x : NodePtr) → Removes m n h r k j x →
     lines_in n h r ≡ removed k (k + length (lines_in m j x)) (lines_in m h r)
-line-removed {m} {n} {h} {k} {j} {r} {x} removes =
+line-removed m n h r k j x removes =
     sym (append-nil (lines_in n h r)) ∙ removes.shrinks.line
     ∙ ap (removed k (k + length (lines_in m j x))) (append-nil (lines_in m h r))
 
-pub can-lower : {m n : Records} {h k j : ℕ} {r x : NodePtr} → Stands m h r →
+pub can-lower : (m n : Records) (h : ℕ) (r : NodePtr) (k j : ℕ) (x : NodePtr) → Stands m h r →
     2 ≤ length (lines_in m h r) → Removes m n h r k j x → CanLower n h r
-can-lower {m} {n} {h} {k} {j} {r} {x} s two removes =
+can-lower m n h r k j x s two removes =
     let g = removes.shrinks in let link = removes.link in let root = s.root in
     let ordered : k ≤ k + length (lines_in m j x) = omega arith in
     record {
@@ -58,14 +58,14 @@ can-lower {m} {n} {h} {k} {j} {r} {x} s two removes =
         parent = link.parent
             ∙ ap (λ z. z.parent) (same_Some link.before root.found (sym link.was ∙ root.is)) ∙ root.parent;
       };
-      fits = subst (λ ls. FitsSum (total ls)) (sym (line-removed removes))
+      fits = subst (λ ls. FitsSum (total ls)) (sym (line-removed m n h r k j x removes))
           (fits-removed (lines_in m h r) k (k + length (lines_in m j x)) ordered s.fits);
     }
 
 -- ---- the root stays
-pub lowers-same : {m : Records} {h : ℕ} {r : NodePtr} → CanLower m h r → IsBalancedRoot h (tree_at m h r) →
+pub lowers-same : (m : Records) (h : ℕ) (r : NodePtr) → CanLower m h r → IsBalancedRoot h (tree_at m h r) →
     Lowers m m h r h r
-lowers-same can balanced = record {
+lowers-same m h r can balanced = record {
   stands = record { tree = can.tree; balanced = balanced; distinct = can.distinct; root = can.root; fits = can.fits };
   lines = refl;
   within = λ q a. a;
@@ -79,9 +79,9 @@ root-balanced (suc zero) t some b = let low = b.0 in (omega arith, b.1, b.2)
 root-balanced (suc (suc h)) t some b = let low = b.0 in (omega arith, b.1, b.2)
 
 -- ---- its only child is the root
-pub lowers-child : {m : Records} {r : NodePtr} (g : ℕ) (c : NodePtr) → CanLower m (suc (suc g)) r → kids m r ≡ c ∷ [] →
+pub lowers-child : (m : Records) (g : ℕ) (r c : NodePtr) → CanLower m (suc (suc g)) r → kids m r ≡ c ∷ [] →
     Lowers m (finite.remove (update m c (λ x. with_parent x None 0)) r) (suc (suc g)) r (suc g) c
-lowers-child {m} {r} g c can only =
+lowers-child m g r c can only =
     let h = suc g in let t = tree_at m h c in let set : Record → Record = λ x. with_parent x None 0 in
     let mid = update m c set in let last = finite.remove mid r in
     let whole : tree_at m (suc h) r ≡ (r, t ∷ []) = λ i. (r, map (tree_at m h) (only i)) in
@@ -135,21 +135,21 @@ lowers-child {m} {r} g c can only =
     }
 
 -- ---- records that are not in the tree are given back
-pub same-without : {u v : Records} {ps : List NodePtr} (i : ℕ) (s : NodePtr) → Stands u i s → Without u v ps →
+pub same-without : (u v : Records) (i : ℕ) (s : NodePtr) (ps : List NodePtr) → Stands u i s → Without u v ps →
     ((q : NodePtr) → Among q ps → Among q (names i (tree_at u i s)) → ⊥) → tree_at v i s ≡ tree_at u i s
-same-without {u} {v} i s stands w out =
+same-without u v i s ps stands w out =
     let t = tree_at u i s in
     ap (tree_at v i) (sym (top-tree_at u i s))
     ∙ tree-is v i t (holds-same u v i t stands.tree (λ q a. w.other q (λ b. out q b a)))
 
-pub stands-without : {u v : Records} {ps : List NodePtr} (i : ℕ) (s : NodePtr) → Stands u i s → Without u v ps →
+pub stands-without : (u v : Records) (i : ℕ) (s : NodePtr) (ps : List NodePtr) → Stands u i s → Without u v ps →
     ((q : NodePtr) → Among q ps → Among q (names i (tree_at u i s)) → ⊥) →
     Stands v i s × (lines_in v i s ≡ lines_in u i s)
-stands-without {u} {v} {ps} i s stands w out =
+stands-without u v i s ps stands w out =
     let t = tree_at u i s in
     let off : (q : NodePtr) → Among q (names i t) → finite.get v q ≡ finite.get u q = λ q a.
     w.other q (λ b. out q b a) in
-    let same = same-without i s stands w out in
+    let same = same-without u v i s ps stands w out in
     let root = stands.root in (
       record {
         tree = subst (Holds v i) (sym same) (holds-same u v i t stands.tree off);
@@ -177,8 +177,9 @@ first-of [] (suc k) l is = absurd (let e = ap length is in omega arith)
 first-of (n ∷ ls) zero l is = ap (λ zs. slice_get zs 0) is
 first-of (n ∷ ls) (suc k) l is = first-of ls k l is
 
-pub gone-of : {m n : Records} {h k : ℕ} {r x : NodePtr} → Removes m n h r k 0 x → Gone m (lines_in m h r) k x
-gone-of {m} {h} {k} {r} {x} removes =
+pub gone-of : (m n : Records) (h : ℕ) (r : NodePtr) (k : ℕ) (x : NodePtr) → Removes m n h r k 0 x →
+    Gone m (lines_in m h r) k x
+gone-of m n h r k x removes =
     let g = removes.shrinks in let ls = lines_in m h r in
     let l = some_of (line_of (finite.get m x)) g.tree.some in
     let one : lines_in m 0 x ≡ (x, l.0) ∷ [] = ap (λ o. lines zero (x, o)) l.1 in
@@ -196,21 +197,21 @@ gone-of {m} {h} {k} {r} {x} removes =
     }
 
 -- ---- what was taken out stands as it did, and in the tree no more
-pub gone-after : {m n u : Records} {h i k j : ℕ} {r s x : NodePtr} → Removes m n h r k j x →
+pub gone-after : (m n u : Records) (h i : ℕ) (r s : NodePtr) (k j : ℕ) (x : NodePtr) → Removes m n h r k j x →
     Lowers n u h r i s → (q : NodePtr) → Among q (names j (tree_at m j x)) → finite.get u q ≡ finite.get m q
-gone-after {n} {h} {r} removes lowers q a =
+gone-after m n u h i r s k j x removes lowers q a =
     lowers.other q (λ b. removes.shrinks.out q a (to-one q (names h (tree_at n h r)) b)) ∙ removes.shrinks.left q a
 
-pub gone-out : {m n u : Records} {h i k j : ℕ} {r s x : NodePtr} → Removes m n h r k j x →
+pub gone-out : (m n u : Records) (h i : ℕ) (r s : NodePtr) (k j : ℕ) (x : NodePtr) → Removes m n h r k j x →
     Lowers n u h r i s → (q : NodePtr) → Among q (names j (tree_at m j x)) → Among q (names i (tree_at u i s)) → ⊥
-gone-out {n} {h} {r} removes lowers q a b =
+gone-out m n u h i r s k j x removes lowers q a b =
     removes.shrinks.out q a (to-one q (names h (tree_at n h r)) (lowers.within q b))
 
-pub branch-after : {m n u : Records} {h i k j : ℕ} {r s x : NodePtr} → Removes m n h r k j x →
+pub branch-after : (m n u : Records) (h i : ℕ) (r s : NodePtr) (k j : ℕ) (x : NodePtr) → Removes m n h r k j x →
     Lowers n u h r i s → IsTree u j x × (tree_at u j x ≡ tree_at m j x)
-branch-after {m} {n} {u} {h} {i} {k} {j} {r} {s} {x} removes lowers =
+branch-after m n u h i r s k j x removes lowers =
     let t = tree_at m j x in
-    let holds = holds-same m u j t removes.shrinks.tree (gone-after removes lowers) in
+    let holds = holds-same m u j t removes.shrinks.tree (gone-after m n u h i r s k j x removes lowers) in
     let same : tree_at u j x ≡ t = ap (tree_at u j) (sym (top-tree_at m j x)) ∙ tree-is u j t holds in
     (subst (Holds u j) (sym same) holds, same)
 
@@ -220,15 +221,15 @@ only-child (d ∷ []) c at few = ap (λ z. z ∷ []) (same_Some d c at)
 only-child (d ∷ e ∷ cs) c at few = absurd (omega arith)
 
 -- ---- no other record
-pub alone-after : {m n u v : Records} {h i k j : ℕ} {r s x : NodePtr} → StandsAlone m h r →
+pub alone-after : (m n u v : Records) (h i : ℕ) (r s : NodePtr) (k j : ℕ) (x : NodePtr) → StandsAlone m h r →
     Removes m n h r k j x → Cleans m n h r j x → Lowers n u h r i s → Without u v (names j (tree_at m j x)) →
     StandsAlone v i s
-alone-after {m} {n} {u} {v} {h} {i} {k} {j} {r} {s} {x} alone removes clean lowers w =
+alone-after m n u v h i r s k j x alone removes clean lowers w =
     let ps = names j (tree_at m j x) in
-    let apart = gone-out removes lowers in
-    let same = same-without i s lowers.stands w apart in
+    let apart = gone-out m n u h i r s k j x removes lowers in
+    let same = same-without u v i s ps lowers.stands w apart in
     record {
-      stands = (stands-without i s lowers.stands w apart).0;
+      stands = (stands-without u v i s ps lowers.stands w apart).0;
       whole = λ q c. let kept : Among q ps → ⊥ = λ a. unnamed v q c (w.gone q a) in
           subst (λ t. Among q (names i t)) (sym same) (elim (among-or q (names i (tree_at u i s))) [
             | inl a ↦ a
@@ -244,12 +245,12 @@ alone-after {m} {n} {u} {v} {h} {i} {k} {j} {r} {s} {x} alone removes clean lowe
     }
 
 -- ---- the lines that are left
-pub taken-out : {m n u v : Records} {h i k j : ℕ} {r s x : NodePtr} → StandsAlone m h r →
+pub taken-out : (m n u v : Records) (h i : ℕ) (r s : NodePtr) (k j : ℕ) (x : NodePtr) → StandsAlone m h r →
     Removes m n h r k j x → Cleans m n h r j x → Lowers n u h r i s → Without u v (names j (tree_at m j x)) →
     StandsAlone v i s × (lines_in v i s ≡ removed k (k + length (lines_in m j x)) (lines_in m h r))
-taken-out {m} {n} {u} {v} {h} {i} {k} {j} {r} {s} {x} alone removes clean lowers w =
-    let apart = gone-out removes lowers in (
-      alone-after alone removes clean lowers w,
-      (stands-without i s lowers.stands w apart).1 ∙ lowers.lines
-          ∙ line-removed removes,
+taken-out m n u v h i r s k j x alone removes clean lowers w =
+    let apart = gone-out m n u h i r s k j x removes lowers in (
+      alone-after m n u v h i r s k j x alone removes clean lowers w,
+      (stands-without u v i s (names j (tree_at m j x)) lowers.stands w apart).1 ∙ lowers.lines
+          ∙ line-removed m n h r k j x removes,
     )

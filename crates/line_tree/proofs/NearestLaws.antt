@@ -141,10 +141,10 @@ reaches to b n d t is least = let low : t ≤ d = subst (λ z. z ≤ d) (sym lea
       }
     ]
 
-pub passed-back : {to b t : ℕ} (test : LineContent → Bool) (ls xs : List LineContent) → SameFrom ls b xs →
+pub passed-back : (test : LineContent → Bool) (ls xs : List LineContent) (to b t : ℕ) → SameFrom ls b xs →
     Reaches to b (length xs) t → FailFrom test ls (b + length xs) to → previous_line test t xs ≡ None →
     FailFrom test ls b to
-passed-back {b} {t} test ls xs same reach free none j more less = elim (cases_lt j (b + length xs)) [
+passed-back test ls xs to b t same reach free none j more less = elim (cases_lt j (b + length xs)) [
   | inl before ↦
       let e : b + (j - b) ≡ j = omega arith in let far = reach.ends j more less before in
       ap test (ap (line_at ls) (sym e) ∙ same (j - b) (omega arith))
@@ -152,10 +152,10 @@ passed-back {b} {t} test ls xs same reach free none j more less = elim (cases_lt
   | inr behind ↦ free j behind less
 ]
 
-pub found-back : {to b t : ℕ} (test : LineContent → Bool) (ls xs : List LineContent) (n : ℕ) → SameFrom ls b xs →
+pub found-back : (test : LineContent → Bool) (ls xs : List LineContent) (to b t n : ℕ) → SameFrom ls b xs →
     Reaches to b (length xs) t → to ≤ length ls → FailFrom test ls (b + length xs) to → previous_line test t xs ≡ Some n
     → previous_line test to ls ≡ Some (b + n)
-found-back {to} {b} {t} test ls xs n same reach within free is =
+found-back test ls xs to b t n same reach within free is =
     let found = previous-found test t xs reach.inside n is in let below = found.below in let inside = reach.inside in
     previous-is test to ls (b + n) within (record {
       below = elim reach.below [ inl low ↦ omega arith | inr none ↦ absurd (omega arith) ];
@@ -298,25 +298,25 @@ module _ (m : Records) (h n : ℕ) (p : NodePtr) (i b : ℕ) (e : h ≡ suc n) (
         subst (λ z. FailFrom (passes w) (contents (lines_in m h p)) from z) more
         (passed-child (passes w) (contents (lines_in m h p)) (contents (lines_in m n c)) from b same free none)
 
-    pub previous-hit : {to t : ℕ} (w : Wanted) (k : ℕ) → Reaches to b (lines_at m c) t → to ≤ length (lines_in m h p) →
+    pub previous-hit : (w : Wanted) (to t k : ℕ) → Reaches to b (lines_at m c) t → to ≤ length (lines_in m h p) →
         FailFrom (passes w) (contents (lines_in m h p)) (b + lines_at m c) to
         → previous_line (passes w) t (contents (lines_in m n c)) ≡ Some k →
         previous_line (passes w) to (contents (lines_in m h p)) ≡ Some (b + k)
-    previous-hit {to} {t} w k reach within free found =
+    previous-hit w to t k reach within free found =
         let l = long (lines_in m h p) in let s = long (lines_in m n c) in let count = count-tree m n c child-is in
         let all : lines_at m c ≡ length (contents (lines_in m n c)) = omega arith in
-        found-back (passes w) (contents (lines_in m h p)) (contents (lines_in m n c)) k same
+        found-back (passes w) (contents (lines_in m h p)) (contents (lines_in m n c)) to b t k same
         (subst (λ z. Reaches to b z t) all reach) (omega arith)
         (subst (λ z. FailFrom (passes w) (contents (lines_in m h p)) (b + z) to) all free) found
 
-    pub previous-missed : {to t : ℕ} (w : Wanted) → Reaches to b (lines_at m c) t →
+    pub previous-missed : (w : Wanted) (to t : ℕ) → Reaches to b (lines_at m c) t →
         FailFrom (passes w) (contents (lines_in m h p)) (b + lines_at m c) to
         → previous_line (passes w) t (contents (lines_in m n c)) ≡ None →
         FailFrom (passes w) (contents (lines_in m h p)) b to
-    previous-missed {to} {t} w reach free none =
+    previous-missed w to t reach free none =
         let s = long (lines_in m n c) in let count = count-tree m n c child-is in
         let all : lines_at m c ≡ length (contents (lines_in m n c)) = omega arith in
-        passed-back (passes w) (contents (lines_in m h p)) (contents (lines_in m n c)) same
+        passed-back (passes w) (contents (lines_in m h p)) (contents (lines_in m n c)) to b t same
         (subst (λ z. Reaches to b z t) all reach)
         (subst (λ z. FailFrom (passes w) (contents (lines_in m h p)) (b + z) to) all free) none
 

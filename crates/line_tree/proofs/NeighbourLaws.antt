@@ -30,7 +30,7 @@ pub record Siblings (l : Records) (g : ℕ) (p : NodePtr) (cs : List NodePtr) : 
   pub fits : FitsSum (total (lines_of (suc g) (map (tree_at l (suc g)) cs)))
   pub links : Links l p 0 cs
 
-module _ {l : Records} {g : ℕ} {p : NodePtr} {cs : List NodePtr} (stand : Siblings l g p cs) (j : ℕ) (a b : NodePtr)
+module _ (l : Records) (g : ℕ) (p : NodePtr) (cs : List NodePtr) (stand : Siblings l g p cs) (j : ℕ) (a b : NodePtr)
     (at_a : slice_get cs j ≡ Some a) (at_b : slice_get cs (suc j) ≡ Some b) where
   abbrev left : List (Tree (suc g))
   left = map (tree_at l (suc g)) (take j cs)
@@ -133,9 +133,9 @@ module _ {l : Records} {g : ℕ} {p : NodePtr} {cs : List NodePtr} (stand : Sibl
       ]
 
   -- where both keep their places, all children do
-  links-pair : {n : Records} → KeepsLink l n a → KeepsLink l n b →
+  links-pair : (n : Records) → KeepsLink l n a → KeepsLink l n b →
       ((q : NodePtr) → (Among q (names_of (suc g) two) → ⊥) → finite.get n q ≡ finite.get l q) → Links n p 0 cs
-  links-pair {n} keep_a keep_b other =
+  links-pair n keep_a keep_b other =
       links-kept l n p 0 cs stand.links (λ q among. elim (same_or_other q a) [
         | inl e ↦ subst (λ z. KeepsLink l n z) (sym e) keep_a
         | inr q_a ↦ elim (same_or_other q b) [
@@ -147,7 +147,7 @@ module _ {l : Records} {g : ℕ} {p : NodePtr} {cs : List NodePtr} (stand : Sibl
       ])
 
   -- ---- they share
-  module _ {n : Records} (shares : Shares l n a b) where
+  module _ (n : Records) (shares : Shares l n a b) where
     pub share-turns : Turns l n (suc g) two ((a, take shares.half below) ∷ (b, drop shares.half below) ∷ [])
     share-turns = turns-share l g a b xs ys hold-left hold-right pair-two-apart can-even n shares
 
@@ -155,14 +155,14 @@ module _ {l : Records} {g : ℕ} {p : NodePtr} {cs : List NodePtr} (stand : Sibl
     share-links =
         let all = kids l a ++ kids l b in let half = shares.half in let front = take half all in
         let back = drop half all in let first = refilled l a (row front) in
-        let fill_b = fill-back can-even half shares.parts.rest_high in
-        let keep_a = keeps-then (refilled first b (row back))
-        (keeps-refilled (fill-front can-even half shares.parts.high))
+        let fill_b = fill-back l a b can-even half shares.parts.rest_high in
+        let keep_a = keeps-then l first (refilled first b (row back)) a
+        (keeps-refilled l a front (fill-front l a b can-even half shares.parts.high))
         (refilled-other first b back a can-even.two (λ s. can-even.off_left (among-drop a half all s))) in
-        let keep_b = keeps-after l
+        let keep_b = keeps-after l first (refilled first b (row back)) b
         (refilled-other l a front b (λ e. can-even.two (sym e)) (λ s.
-        can-even.off_right (among-take b half all s))) (keeps-refilled fill_b) in
-        links-pair (subst (λ z. KeepsLink l z a) (sym shares.same) keep_a)
+        can-even.off_right (among-take b half all s))) (keeps-refilled first b back fill_b) in
+        links-pair n (subst (λ z. KeepsLink l z a) (sym shares.same) keep_a)
         (subst (λ z. KeepsLink l z b) (sym shares.same) keep_b) share-turns.other
 
     pub share-named : (q : NodePtr) → IsSome (finite.get l q) → IsSome (finite.get n q)
@@ -188,15 +188,15 @@ module _ {l : Records} {g : ℕ} {p : NodePtr} {cs : List NodePtr} (stand : Sibl
         )
 
   -- ---- they become one
-  module _ {n : Records} (merges : Merges l n a b) where
+  module _ (n : Records) (merges : Merges l n a b) where
     pub merge-turns : Turns l n (suc g) two ((a, below) ∷ [])
     merge-turns = turns-merge l g a b xs ys hold-left hold-right pair-two-apart can-even n merges
 
     pub merge-links : Links n p 0 cs
     merge-links =
         let all = kids l a ++ kids l b in
-        let keep_a = keeps-refilled (fill-whole can-even merges.few) in
+        let keep_a = keeps-refilled l a all (fill-whole l a b can-even merges.few) in
         let keep_b = keeps-same l (refilled l a (row all)) b (named-tree l (suc g) b hold-right)
         (refilled-other l a all b (λ e. can-even.two (sym e)) can-even.off_right) in
-        links-pair (subst (λ z. KeepsLink l z a) (sym merges.same) keep_a)
+        links-pair n (subst (λ z. KeepsLink l z a) (sym merges.same) keep_a)
         (subst (λ z. KeepsLink l z b) (sym merges.same) keep_b) merge-turns.other

@@ -31,11 +31,11 @@ pub reversed : (xs : List NodePtr) (x : NodePtr) → reverse (xs ++ x ∷ []) �
 reversed xs x = reverse-append xs (x ∷ [])
 
 -- ---- one more line before the others
-module _ {m l n : Records} {x : NodePtr} {line : LineContent} (ys : List NodePtr)
+module _ (m l n : Records) (ys : List NodePtr) (x : NodePtr) (line : LineContent)
     (before : Becomes m l [] 0 (trees_at l 0 ys)) (new : NewLine l n x line) where
   all : Becomes m n [] 0 (tree_at n 0 x ∷ trees_at l 0 ys)
-  all = swapped (trees_at l 0 ys) (tree_at n 0 x ∷ [])
-      (both before (new-becomes new) (λ q a c. a) (λ q a.
+  all = swapped m n [] 0 (trees_at l 0 ys) (tree_at n 0 x ∷ [])
+      (both m l n [] [] 0 (trees_at l 0 ys) (tree_at n 0 x ∷ []) before (new-becomes l n x line new) (λ q a c. a) (λ q a.
       absurd a))
 
   same : trees_at n 0 (x ∷ ys) ≡ tree_at n 0 x ∷ trees_at l 0 ys
@@ -47,4 +47,4 @@ module _ {m l n : Records} {x : NodePtr} {line : LineContent} (ys : List NodePtr
 
   pub row-lines : contents (lines_of 0 (trees_at n 0 (x ∷ ys))) ≡ line ∷ contents (lines_of 0 (trees_at l 0 ys))
   row-lines = ap (λ zs. contents (lines_of 0 zs)) same
-      ∙ ap (λ ls. contents (ls ++ lines_of 0 (trees_at l 0 ys))) (new-lines new)
+      ∙ ap (λ ls. contents (ls ++ lines_of 0 (trees_at l 0 ys))) (new-lines l n x line new)

@@ -109,9 +109,9 @@ ends-child m d h r p k e parent says up is slot slot_says =
     }
 
 -- a last child ends where its parent does
-pub ends-last : {m : Records} {d h k slot : ℕ} {r p up : NodePtr} → Child m d h r p k up slot →
+pub ends-last : (m : Records) (d h : ℕ) (r p : NodePtr) (k : ℕ) (up : NodePtr) (slot : ℕ) → Child m d h r p k up slot →
     length (kids m up) ≤ slot + 1 → Ends m d (suc h) r up k
-ends-last {m} {h} {slot} {p} {up} c less =
+ends-last m d h r p k up slot c less =
     let u = c.place in let offset = u.offset in let last = c.last in
     let here = count-tree m h p (child-is-tree m h up slot p u.child) in let all = below-tree m h up u.child.tree in
     let step = step_yes (lines_at m) (kids m up) slot p u.child.at in
@@ -128,10 +128,10 @@ ends-root m h j r p k same e = let none : h - j ≡ 0 = omega arith in
     ends-top m h r p k (subst (λ x. Ends m 0 x r p k) same (subst (λ x. Ends m x j r p k) none e))
 
 -- behind another child its neighbour begins
-pub ends-next : {m : Records} {d h k slot : ℕ} {r p up : NodePtr} (n : ℕ) →
+pub ends-next : (m : Records) (d h n : ℕ) (r p : NodePtr) (k : ℕ) (up : NodePtr) (slot : ℕ) →
     Child m d h r p k up slot → n ≡ suc d + h → IsBalancedRoot n (tree_at m n r)
     → (b : Subtree) → b.height ≡ h → slice_get (kids m up) (slot + 1) ≡ Some b.node → IsFirstLine m n r (k + 1) b
-ends-next {m} {d} {h} {k} {slot} {r} {p} {up} n c high balanced b same at =
+ends-next m d h n r p k up slot c high balanced b same at =
     let u = c.place in
     let child : IsChild m h up (slot + 1) b.node = record { tree = u.child.tree; at = at } in
     let s : Sits m (suc d) h r b.node (u.base + lines_before m up (slot + 1)) = (

@@ -32,16 +32,17 @@ passes-one ls k p line are at = record {
   is = at;
 }
 
-all-but-none : {names : List (Option NodePtr)} {ls : List Named} (k : ℕ) → IsTable names ls →
+all-but-none : (names : List (Option NodePtr)) (ls : List Named) (k : ℕ) → IsTable names ls →
     IsTable names (lines_without k k ls)
-all-but-none {ls} k table = record { each = λ n. table.each n ∙ sym (none-out n k ls) }
+all-but-none names ls k table = record { each = λ n. table.each n ∙ sym (none-out n k ls) }
 
 -- the marks of the old line stand in the table
-pub over-below : {names : List (Option NodePtr)} {ls : List Named} (k : ℕ) (p : NodePtr) (line : LineContent) →
+pub over-below : (names : List (Option NodePtr)) (ls : List Named) (k : ℕ) (p : NodePtr) (line : LineContent) →
     AreLines (contents ls) → IsTable names ls → slice_get ls k ≡ Some (p, line) →
     NumbersBelow (length names) line.marks
-over-below {names} {ls} k p line are table at =
-    forgets-within ls k k (k + 1) k p line (passes-one ls k p line are at) (omega arith) (all-but-none k table)
+over-below names ls k p line are table at =
+    forgets-within names ls k k (k + 1) k p line (passes-one ls k p line are at) (omega arith)
+    (all-but-none names ls k table)
 
 module _ (old now : List Named) (k : ℕ) (p : NodePtr) (was line : LineContent) (within : k + 1 ≤ length (contents old))
     (at : slice_get old k ≡ Some (p, was)) (is : now ≡ changed k (λ _. line) old) where
@@ -55,20 +56,19 @@ module _ (old now : List Named) (k : ℕ) (p : NodePtr) (was line : LineContent)
   }
 
   pub over-contents : contents now ≡ spliced k 1 (line ∷ []) (contents old)
-  over-contents = comes-contents old k 1 (line ∷ []) within comes
+  over-contents = comes-contents old k 1 (line ∷ []) within now comes
 
   -- where the old one's marks were forgotten, and then the new one's were noted
-  pub over-table : {names : List (Option NodePtr)} (between after : List (Option NodePtr)) → AreLines (contents old)
-      → AreLines (contents now) →
+  pub over-table : (names between after : List (Option NodePtr)) → AreLines (contents old) → AreLines (contents now) →
       IsTable names old → ((n : ℕ) → noted n between ≡ cond (has_mark n was) None (noted n names)) →
       ((n : ℕ) → noted n after ≡ cond (has_mark n line) (Some p) (noted n between)) → IsTable after now
-  over-table {names} between after are are_now table forgot note =
+  over-table names between after are are_now table forgot note =
       let low : k ≤ k = omega arith in
-      let gone = forgets between old k k (k + 1) k p was (passes-one old k p was are at) low
-      (all-but-none k table) forgot in
-      let same = comes-others old k 1 (line ∷ []) within comes in
+      let gone = forgets names between old k k (k + 1) k p was (passes-one old k p was are at) low
+      (all-but-none names old k table) forgot in
+      let same = comes-others old k 1 (line ∷ []) within now comes in
       let others : IsTable between (lines_without k (k + 1) now) =
       record { each = λ n. gone.each n ∙ sym (ap (holder n) same) } in
       let here = ap (λ ls. slice_get ls k) is ∙ changed-at old k (p, was) (λ _. line) at in
-      let all = notes after now k (k + 1) k p line (passes-one now k p line are_now here) others note in
+      let all = notes between after now k (k + 1) k p line (passes-one now k p line are_now here) others note in
       record { each = λ n. all.each n ∙ none-out n (k + 1) now }

@@ -53,9 +53,9 @@ pair-of h a b xs ys d =
           cross q (inr c) (to-one q (b ∷ names_of h ys) (inr e))));
     }
 
-pub two-distinct : {h : ℕ} {a b : NodePtr} {xs ys : List (Tree h)} → Pair h a b xs ys →
+pub two-distinct : (h : ℕ) (a b : NodePtr) (xs ys : List (Tree h)) → Pair h a b xs ys →
     Distinct (names_of (suc h) ((a, xs) ∷ (b, ys) ∷ []))
-two-distinct {h} {a} {b} {xs} {ys} p =
+two-distinct h a b xs ys p =
     let d = subst Distinct (names-append h xs ys) p.apart in
     let cross = distinct-apart (names_of h xs) (names_of h ys) d in
     subst Distinct (ap (λ zs. (a ∷ names_of h xs) ++ (b ∷ zs)) (sym (append-nil (names_of h ys))))
@@ -95,10 +95,10 @@ module _ (m : Records) (h : ℕ) (a b : NodePtr) (xs ys : List (Tree h)) (left :
       Turns m n (suc h) ((a, xs) ∷ (b, ys) ∷ []) ((a, xs ++ ys) ∷ [])
   turns-merge can n merges =
       let p = pair-of h a b xs ys d in let cs = xs ++ ys in let last = refilled m a (row (tops h cs)) in
-      let fill = subst (CanFill m a) kids-both (fill-whole can merges.few) in
+      let fill = subst (CanFill m a) kids-both (fill-whole m a b can merges.few) in
       subst (λ z. Turns m z (suc h) ((a, xs) ∷ (b, ys) ∷ []) ((a, cs) ∷ []))
       (sym (merges.same ∙ ap (λ ds. refilled m a (row ds)) kids-both)) (record {
-        holds = (built h cs fill held-both (p.off_left, p.apart), tt);
+        holds = (built m h a cs fill held-both (p.off_left, p.apart), tt);
         line = append-nil (lines_of h cs) ∙ sym (two-lines h a b xs ys);
         distinct = subst Distinct (sym (append-nil (a ∷ names_of h cs))) (p.off_left, p.apart);
         within = λ q s. elim (of-one q (a ∷ names_of h cs) s) [ inl e ↦ inl e | inr c ↦ two-below h a b xs ys q c ];
@@ -123,10 +123,10 @@ module _ (m : Records) (h : ℕ) (a b : NodePtr) (xs ys : List (Tree h)) (left :
       ∙ take-map (λ (t : Tree h). t.0) half cs in
       let e2 : drop half (kids m a ++ kids m b) ≡ tops h back = ap (drop half) kids-both
       ∙ drop-map (λ (t : Tree h). t.0) half cs in
-      let can1 : CanFill m a (tops h front) = subst (CanFill m a) e1 (fill-front can half shares.parts.high) in
+      let can1 : CanFill m a (tops h front) = subst (CanFill m a) e1 (fill-front m a b can half shares.parts.high) in
       let can2 : CanFill mid b (tops h back) = subst (λ zs. CanFill (refilled m a (row zs)) b (tops h back)) e1
       (subst (CanFill (refilled m a (row (take half (kids m a ++ kids m b)))) b) e2
-      (fill-back can half shares.parts.rest_high)) in
+      (fill-back m a b can half shares.parts.rest_high)) in
       let held = subst (AllByRecursion (Holds m h)) (sym parts) held-both in
       let split = subst Distinct (names-append h front back) q2.apart in
       let cross = distinct-apart (names_of h front) (names_of h back) split in
@@ -134,14 +134,14 @@ module _ (m : Records) (h : ℕ) (a b : NodePtr) (xs ys : List (Tree h)) (left :
       let a_back : Among a (names_of h back) → ⊥ = λ s. q2.off_left (in-right h front back a s) in
       let b_front : Among b (names_of h front) → ⊥ = λ s. q2.off_right (in-left h front back b s) in
       let b_back : Among b (names_of h back) → ⊥ = λ s. q2.off_right (in-right h front back b s) in
-      let first : Holds mid (suc h) (a, front) = built h front can1 (all-left (Holds m h) front back held) (
+      let first : Holds mid (suc h) (a, front) = built m h a front can1 (all-left (Holds m h) front back held) (
         a_front,
         distinct-left (names_of h front) (names_of h back) split,
       ) in
       let back_mid = all-same m mid h back (all-right (Holds m h) front back held) (λ q s.
       refilled-other m a (tops h front) q (λ e. a_back (subst (λ z. Among z (names_of h back)) e s)) (λ t.
       cross q (tops-among h front q t) s)) in
-      let second : Holds last (suc h) (b, back) = built h back can2 back_mid (
+      let second : Holds last (suc h) (b, back) = built mid h b back can2 back_mid (
         b_back,
         distinct-right (names_of h front) (names_of h back) split,
       ) in
@@ -158,7 +158,7 @@ module _ (m : Records) (h : ℕ) (a b : NodePtr) (xs ys : List (Tree h)) (left :
       ∙ ap (λ zs. refilled mid b (row zs)) e2)) (record {
         holds = (first_last, (second, tt));
         line = two-lines h a b front back ∙ ap (lines_of h) parts ∙ sym (two-lines h a b xs ys);
-        distinct = two-distinct q2;
+        distinct = two-distinct h a b front back q2;
         within = λ q s. elim (two-cases h a b front back q s) [
           | inl e ↦ inl e
           | inr c ↦ elim c [

@@ -111,17 +111,18 @@ pub level : (m : Records) (h j : ℕ) (r p : NodePtr) (o : ℕ) → j < h → Si
 level m h j r p o less s = let e : h - j ≡ suc (h - suc j) = omega arith in subst (λ x. Sits m x j r p o) e s
 
 -- what the record of a child says
-pub child-named : {m : Records} {h i : ℕ} {q c : NodePtr} → IsChild m h q i c → IsSome (finite.get m c)
-child-named {m} {h} {i} {q} {c} child = subst (λ x. IsSome x) (sym (linked m h q i c child).is) refl
+pub child-named : (m : Records) (h : ℕ) (q : NodePtr) (i : ℕ) (c : NodePtr) → IsChild m h q i c →
+    IsSome (finite.get m c)
+child-named m h q i c child = subst (λ x. IsSome x) (sym (linked m h q i c child).is) refl
 
-pub child-parent : {m : Records} {h i : ℕ} {q c : NodePtr} → IsChild m h q i c →
+pub child-parent : (m : Records) (h : ℕ) (q : NodePtr) (i : ℕ) (c : NodePtr) → IsChild m h q i c →
     (up : Option NodePtr) → IfSome (finite.get m c) (λ x. up ≡ x.parent) → up ≡ Some q
-child-parent {m} {h} {i} {q} {c} child up says = let l = linked m h q i c child in
+child-parent m h q i c child up says = let l = linked m h q i c child in
     at_some (finite.get m c) (λ x. up ≡ x.parent) l.found says l.is ∙ l.parent
 
-pub child-slot : {m : Records} {h i : ℕ} {q c : NodePtr} → IsChild m h q i c → (slot : ℕ) →
+pub child-slot : (m : Records) (h : ℕ) (q : NodePtr) (i : ℕ) (c : NodePtr) → IsChild m h q i c → (slot : ℕ) →
     IfSome (finite.get m c) (λ x. slot ≡ x.slot) → slot ≡ i
-child-slot {m} {h} {i} {q} {c} child slot says = let l = linked m h q i c child in
+child-slot m h q i c child slot says = let l = linked m h q i c child in
     at_some (finite.get m c) (λ x. slot ≡ x.slot) l.found says l.is ∙ l.slot
 
 pub record Up (m : Records) (d j : ℕ) (r p : NodePtr) (o : ℕ) (up : NodePtr) (slot : ℕ) : Type 0 where
@@ -134,8 +135,8 @@ pub up_from : (m : Records) (d j : ℕ) (r p : NodePtr) (o : ℕ) → Sits m (su
     IfSome (finite.get m p) (λ x. parent ≡ x.parent) → (up : NodePtr) → parent ≡ Some up
     → (slot : ℕ) → IfSome (finite.get m p) (λ x. slot ≡ x.slot) → Up m d j r p o up slot
 up_from m d j r p o s parent says up is slot slot_says =
-    let q = same_Some s.0 up (sym (child-parent s.4 parent says) ∙ is) in
-    let i = sym (child-slot s.4 slot slot_says) in
+    let q = same_Some s.0 up (sym (child-parent m j s.0 s.1 p s.4 parent says) ∙ is) in
+    let i = sym (child-slot m j s.0 s.1 p s.4 slot slot_says) in
     let at_up : Up m d j r p o up s.1 = subst (λ x. Up m d j r p o x s.1) q
     (record { base = s.2; sits = s.3; child = s.4; offset = s.5 }) in
     subst (λ x. Up m d j r p o up x) i at_up

@@ -27,9 +27,9 @@ count-somes (c ∷ cs) n =
     let s = sum_by-cons (λ (o : Option NodePtr). cond (is_some o) 1 0) (Some c)
     (map (λ c. Some c) cs ++ replicate {A = Option NodePtr} n None) in let r = count-somes cs n in omega arith
 
-pub count-row : {m : Records} {p : NodePtr} (n : ℕ) → HasRow m p →
+pub count-row : (m : Records) (p : NodePtr) (n : ℕ) → HasRow m p →
     IfSome (finite.get m p) (λ r. n ≡ count_by is_some r.children) → n ≡ length (kids m p)
-count-row {m} {p} n has says =
+count-row m p n has says =
     at_some (finite.get m p) (λ r. n ≡ count_by is_some r.children) has.found says has.is
     ∙ ap (count_by is_some) has.children ∙ count-somes (kids m p) (12 - length (kids m p))
 
@@ -39,7 +39,7 @@ split_at m n p all None puts = 0
 split_at m n p all (Some s) puts = puts.half
 
 -- ---- the parts fit
-module _ {m : Records} {p x : NodePtr} {at : ℕ} (can : CanPut m p at x) where
+module _ (m : Records) (p : NodePtr) (at : ℕ) (x : NodePtr) (can : CanPut m p at x) where
   pub long : length can.row.found.children ≡ 12
   long = ap length can.row.children ∙ length-row (kids m p) can.row.few
 
@@ -83,7 +83,7 @@ module _ {m : Records} {p x : NodePtr} {at : ℕ} (can : CanPut m p at x) where
   -- the children before the new one stay
   pub kept-put : Stay m p at (row (insert (kids m p) at x))
   kept-put = let ks = kids m p in let long : length (take at ks) ≡ at = omega (arith, length-take at ks, can.place) in
-      kept-row can.row can.links (take at ks) (drop at ks) (x ∷ drop at ks) (insert ks at x)
+      kept-row m p can.row can.links (take at ks) (drop at ks) (x ∷ drop at ks) (insert ks at x)
       (sym (take-append-drop at ks)) refl ∙ ap (λ n. relinked m p n (drop n (row (insert ks at x)))) long
 
   module _ (s : NodePtr) (fresh : finite.get m s ≡ None) where
@@ -165,7 +165,7 @@ module _ {m : Records} {p x : NodePtr} {at : ℕ} (can : CanPut m p at x) where
         } in
         let links : Links made p 0 (kids made p) = subst (Links made p 0) (sym children)
         (links-same m made p 0 ks can.links (λ q a. same q (named-kid q a))) in
-        kept-front row_now links n (take half (insert ks at x))
+        kept-front made p row_now links n (take half (insert ks at x))
         (subst (λ cs. n ≤ length cs) (sym children) (omega arith))
         (take-short n half (insert ks at x) few ∙ take-append-le n (take at ks) (x ∷ drop at ks) (omega arith)
         ∙ take-short n at ks before ∙ ap (take n) (sym children))

@@ -62,7 +62,7 @@ middle-fits a b c fits = let l = fits.lines in let n = fits.characters in let m 
     record { lines = omega (arith, l); characters = omega (arith, n); marks = omega (arith, m) }
 
 -- ---- the part that comes next
-module _ {m l : Records} {h all : ℕ} {done ps : List NodePtr} (g rest : List NodePtr)
+module _ (m l : Records) (h : ℕ) (done g rest : List NodePtr) (all : ℕ) (ps : List NodePtr)
     (can : CanRaise m h (done ++ (g ++ rest))) (before : Raises m l h done all ps) where
   abbrev first : List (Tree h)
   first = trees_at m h done
@@ -114,7 +114,7 @@ module _ {m l : Records} {h all : ℕ} {done ps : List NodePtr} (g rest : List N
       (subst FitsSum (sum_all-append m done (g ++ rest) ∙ ap (plus (sum_all m done)) (sum_all-append m g rest))
       can.fits))
 
-  module _ {n : Records} {a : NodePtr} (made : NewRoot l n a g) (few : length g ≤ 12) where
+  module _ (n : Records) (a : NodePtr) (made : NewRoot l n a g) (few : length g ≤ 12) where
     root : NewRoot l n a (tops h next)
     root = subst (NewRoot l n a) (sym next-tops) made
 
@@ -129,13 +129,13 @@ module _ {m l : Records} {h all : ℕ} {done ps : List NodePtr} (g rest : List N
     tops-fits = subst (λ cs. FitsSum (sum_all l cs)) (sym next-tops) next-fits
 
     one : Becomes l n (names_of h next) (suc h) ((a, next) ∷ [])
-    one = node-becomes h next root next-held next-apart tops-few tops-fits
+    one = node-becomes l n h a next root next-held next-apart tops-few tops-fits
 
     abbrev made_all : List (Tree (suc h))
     made_all = trees_at l (suc h) ps ++ (a, next) ∷ []
 
     joined : Becomes m n (names_of h first ++ names_of h next) (suc h) made_all
-    joined = both
+    joined = both m l n (names_of h first) (names_of h next) (suc h) (trees_at l (suc h) ps) ((a, next) ∷ [])
         before.becomes one apart next-named
 
     same : trees_at n (suc h) (ps ++ a ∷ []) ≡ made_all
@@ -146,8 +146,7 @@ module _ {m l : Records} {h all : ℕ} {done ps : List NodePtr} (g rest : List N
     children-are : trees_at m h (done ++ g) ≡ first ++ next
     children-are = map-append (tree_at m h) done g
 
-    pub raises-more : ((least : ℕ) → least ≤ 6 → least ≤ all → least ≤ length g) → Raises m n h (done ++ g) all
-        (ps ++ a ∷ [])
+    pub raises-more : ((least : ℕ) → least ≤ 6 → least ≤ all → least ≤ length g) → Raises m n h (done ++ g) all (ps ++ a ∷ [])
     raises-more enough = record {
       becomes = subst (λ us. Becomes m n (names_of h (trees_at m h (done ++ g))) (suc h) us) (sym same)
           (subst (λ zs. Becomes m n zs (suc h) made_all)
@@ -171,7 +170,7 @@ module _ {m l : Records} {h all : ℕ} {done ps : List NodePtr} (g rest : List N
             record { found = old.found; is = stay ∙ old.is; parent = old.parent }
         | inr d ↦ elim d [
           | inl e ↦ subst (λ z. HasNoParent n z) (sym e)
-              (node-loose h next root next-held next-apart tops-few tops-fits)
+              (node-loose l n h a next root next-held next-apart tops-few tops-fits)
           | inr e ↦ absurd e
         ]
       ];

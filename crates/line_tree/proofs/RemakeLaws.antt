@@ -39,13 +39,13 @@ wide-all least h (v ∷ vs) kids balanced = (
   wide-all least h vs kids.1 (all-right (IsBalanced h) v.1 (below_all h vs) balanced),
 )
 
-pub some-above : {m n : Records} {h all : ℕ} {cs : List NodePtr} (ps : List NodePtr) → Raises m n h cs all ps →
+pub some-above : (m n : Records) (h : ℕ) (cs : List NodePtr) (all : ℕ) (ps : List NodePtr) → Raises m n h cs all ps →
     1 ≤ length cs → 1 ≤ length ps
-some-above {m} {h} {cs} [] r some =
+some-above m n h cs all [] r some =
     let e = ap length r.below in let long = length-map cs (tree_at m h) in absurd (omega arith)
-some-above (p ∷ ps) r some = omega arith
+some-above m n h cs all (p ∷ ps) r some = omega arith
 
-module _ {m l : Records} {h : ℕ} (p : NodePtr) (front mid back ys xs : List NodePtr) (tree : IsTree m (suc h) p)
+module _ (m l : Records) (h : ℕ) (p : NodePtr) (front mid back ys xs : List NodePtr) (tree : IsTree m (suc h) p)
     (split : kids m p ≡ front ++ (mid ++ back)) (row : AllByRecursion (Holds m 0) (trees_at m 0 xs))
     (d : Distinct (names (suc h) (tree_at m (suc h) p) ++ names_of 0 (trees_at m 0 xs)))
     (b : Becomes m l (names_of h (trees_at m h mid) ++ names_of 0 (trees_at m 0 xs)) h (trees_at l h ys)) where
@@ -137,9 +137,9 @@ module _ {m l : Records} {h : ℕ} (p : NodePtr) (front mid back ys xs : List No
 
   -- the trees before and behind stay
   among-all : Becomes m l (names_of h fs ++ (part ++ names_of h bs)) h (fs ++ (us ++ bs))
-  among-all = both
+  among-all = both m m l (names_of h fs) (part ++ names_of h bs) h fs (us ++ bs)
       (stays m h fs fs-all (distinct-left (names_of h fs) (names_of h ms ++ names_of h bs) apart))
-      (both b
+      (both m l l part (names_of h bs) h us bs b
       (stays l h bs
       (all-same m l h bs bs-all (λ q a. b.other q (named-bs q a) (apart-bs q a)))
       (distinct-right (names_of h ms) (names_of h bs)
@@ -190,7 +190,7 @@ module _ {m l : Records} {h : ℕ} (p : NodePtr) (front mid back ys xs : List No
   list = front ++ (ys ++ back)
 
   taken : Becomes m left (p ∷ (names_of h fs ++ (part ++ names_of h bs))) h (fs ++ (us ++ bs))
-  taken = gone p among-all named-node (λ a.
+  taken = gone m l p (names_of h fs ++ (part ++ names_of h bs)) h (fs ++ (us ++ bs)) among-all named-node (λ a.
       d.0 (to-all p a))
 
   tops-now : tops h (fs ++ (us ++ bs)) ≡ list
@@ -203,7 +203,7 @@ module _ {m l : Records} {h : ℕ} (p : NodePtr) (front mid back ys xs : List No
 
   becomes-now : Becomes m left (names (suc h) (tree_at m (suc h) p) ++ new) h (trees_at left h list)
   becomes-now = subst (λ zs. Becomes m left (names (suc h) (tree_at m (suc h) p) ++ new) h zs) (sym trees-now)
-      (renamed (p ∷ (old ++ new)) taken
+      (renamed m left (p ∷ (names_of h fs ++ (part ++ names_of h bs))) (p ∷ (old ++ new)) h (fs ++ (us ++ bs)) taken
       (λ q a. elim a [ inl e ↦ inl e | inr c ↦ inr (to-all q c) ])
       (λ q a. elim a [ inl e ↦ inl e | inr c ↦ inr (from-all q c) ]))
 
@@ -231,8 +231,8 @@ module _ {m l : Records} {h : ℕ} (p : NodePtr) (front mid back ys xs : List No
           ∙ total-with_lines (lines_in m (suc h) p) k (lines_of 0 (trees_at m 0 xs)))) fits;
     }
 
-    module _ {n : Records} {ps : List NodePtr} (wide : IsWide 1 (suc h) (tree_at m (suc h) p)) (some : 1 ≤ length ys)
-        (more : length mid ≤ length ys) (balanced : AllByRecursion (IsBalanced h) us)
+    module _ (wide : IsWide 1 (suc h) (tree_at m (suc h) p)) (some : 1 ≤ length ys) (more : length mid ≤ length ys)
+        (balanced : AllByRecursion (IsBalanced h) us) (n : Records) (ps : List NodePtr)
         (raises : Raises left n h list (length list) ps) (few : 12 * length ps ≤ length list + 11) where
       long-list : length (kids m p) ≤ length list
       long-list = let e = ap length split in let a = length-append front (mid ++ back) in
@@ -252,9 +252,10 @@ module _ {m l : Records} {h : ℕ} (p : NodePtr) (front mid back ys xs : List No
 
       pub takes-row : TakesRow m n (suc h) p k xs ps
       takes-row = record {
-        becomes = and-then becomes-now raises.becomes;
+        becomes = and-then m left n (names (suc h) (tree_at m (suc h) p) ++ new) h (suc h) (trees_at left h list)
+            (trees_at n (suc h) ps) becomes-now raises.becomes;
         lines = lines-below h (trees_at n (suc h) ps) ∙ ap (lines_of h) raises.below ∙ lines-now;
-        some = some-above ps raises some-list;
+        some = some-above left n h list (length list) ps raises some-list;
         wide = λ least six w.
             let long = length-map (kids m p) (tree_at m h) in let e = w.0 in let f = long-list in
             wide-all least h (trees_at n (suc h) ps) (raises.wide least six (omega arith)) list-balanced;

@@ -31,45 +31,45 @@ fits-removed ls from to ordered fits =
     (subst FitsSum (sym (total-gone ls from to ordered)) fits)
 
 -- ---- the new children can be given
-pub can-fill : {m l : Records} {h k j : ℕ} {p x : NodePtr} {ts us : List (Tree h)} →
+pub can-fill : (m l : Records) (h : ℕ) (p : NodePtr) (ts : List (Tree h)) (k j : ℕ) (x : NodePtr) (us : List (Tree h)) →
     Shrinks m l h ts k j x us → (Among p (names_of h ts) → ⊥) → HasRow l p → length us ≤ 12 →
     FitsSum (total (lines_of h ts))
     → CanFill l p (tops h us)
-can-fill {m} {l} {h} {k} {j} {p} {x} {ts} {us} g off_tree has few fits = let n = length-map us
-    (λ (t : Tree h). t.0) in record {
-      found = has.found;
-      is = has.is;
-      inner = has.inner;
-      long = ap length has.children ∙ length-row (kids l p) has.few;
-      few = omega arith;
-      each = λ c a. names-all-held l h us g.holds c (tops-among h us c a);
-      apart = λ a. off_tree (g.within p (tops-among h us p a));
-      fits = subst FitsSum (sym (sum-trees l h us g.holds ∙ ap total g.line))
-          (fits-removed (lines_of h ts) k (k + length (lines_in m j x)) (omega arith) fits);
-    }
+can-fill m l h p ts k j x us g off_tree has few fits = let n = length-map us (λ (t : Tree h). t.0) in record {
+  found = has.found;
+  is = has.is;
+  inner = has.inner;
+  long = ap length has.children ∙ length-row (kids l p) has.few;
+  few = omega arith;
+  each = λ c a. names-all-held l h us g.holds c (tops-among h us c a);
+  apart = λ a. off_tree (g.within p (tops-among h us p a));
+  fits = subst FitsSum (sym (sum-trees l h us g.holds ∙ ap total g.line))
+      (fits-removed (lines_of h ts) k (k + length (lines_in m j x)) (omega arith) fits);
+}
 
 -- ---- what is left of the node
-pub finish : {m l : Records} {h k j : ℕ} {p x : NodePtr} {us : List (Tree h)} (n : Records)
+pub finish : (m l n : Records) (h : ℕ) (p : NodePtr) (k j : ℕ) (x : NodePtr) (us : List (Tree h)) →
     (can : CanRemove m (suc h) p k) → Shrinks m l h (map (tree_at m h) (kids m p)) k j x us →
     finite.get l p ≡ finite.get m p
     → CanFill l p (tops h us) → AllByRecursion (IsBalanced h) us → length (kids m p) ≤ length us + 1 →
     n ≡ refilled l p (row (tops h us)) → Removes m n (suc h) p k j x
-finish {m} {l} {h} {k} {j} {p} {x} {us} n can g same fill balanced long is =
-    let ts = map (tree_at m h) (kids m p) in let up = shrinks-up n g can.distinct.0 fill is in
+finish m l n h p k j x us can g same fill balanced long is =
+    let ts = map (tree_at m h) (kids m p) in
+    let up = shrinks-up m l n h p ts k j x us g can.distinct.0 fill is in
     let tree = tree-is n (suc h) (p, us) up.holds.0 in
     let few = fill.few in let e = length-map us (λ (t : Tree h). t.0) in let f = length-map (kids m p) (tree_at m h) in
     record {
       shrinks = subst (λ t. Shrinks m n (suc h) ((p, ts) ∷ []) k j x (t ∷ [])) (sym tree) up;
       wide = λ least w. subst (IsWide least (suc h)) (sym tree) (let low = w.0 in (omega arith, omega arith, balanced));
       link = subst (λ z. KeepsLink m z p) (sym is)
-          (keeps-after m same (keeps-refilled fill));
+          (keeps-after m l (refilled l p (row (tops h us))) p same (keeps-refilled l p (tops h us) fill));
     }
 
 -- a record that is in the tree no more is given back
-pub removes-drop : {m n : Records} {h k j : ℕ} {p x : NodePtr} (b : NodePtr) → Removes m n h p k j x →
+pub removes-drop : (m n : Records) (h : ℕ) (p : NodePtr) (k j : ℕ) (x b : NodePtr) → Removes m n h p k j x →
     (Among b (names h (tree_at n h p)) → ⊥) → Among b (names h (tree_at m h p)) →
     (Among b (names j (tree_at m j x)) → ⊥) → p ≢ b → Removes m (finite.remove n b) h p k j x
-removes-drop {m} {n} {h} {k} {j} {p} {x} b r gone was other p_b =
+removes-drop m n h p k j x b r gone was other p_b =
     let g = r.shrinks in let last = finite.remove n b in let t = tree_at n h p in
     let off : (q : NodePtr) → Among q (names h t) → finite.get last q
     ≡ finite.get n q = λ q a. get_unmoved n b q (λ e. gone (subst (λ z. Among z (names h t)) e a)) in
@@ -91,12 +91,12 @@ removes-drop {m} {n} {h} {k} {j} {p} {x} b r gone was other p_b =
         left = λ q a. get_unmoved n b q (λ e. other (subst (λ z. Among z (names j (tree_at m j x))) e a)) ∙ g.left q a;
       });
       wide = λ least w. subst (IsWide least h) (sym same) (r.wide least w);
-      link = keeps-then last r.link (get_unmoved n b p p_b);
+      link = keeps-then m n last p r.link (get_unmoved n b p p_b);
     }
 
-pub drop-tree : {m n : Records} {h k j : ℕ} {p x : NodePtr} (b : NodePtr) → Removes m n h p k j x →
+pub drop-tree : (m n : Records) (h : ℕ) (p : NodePtr) (k j : ℕ) (x b : NodePtr) → Removes m n h p k j x →
     (Among b (names h (tree_at n h p)) → ⊥) → tree_at (finite.remove n b) h p ≡ tree_at n h p
-drop-tree {n} {h} {p} b r gone = let last = finite.remove n b in let t = tree_at n h p in
+drop-tree m n h p k j x b r gone = let last = finite.remove n b in let t = tree_at n h p in
     ap (tree_at last h) (sym (top-tree_at n h p))
     ∙ tree-is last h t (holds-same n last h t r.shrinks.holds.0 (λ q a.
     get_unmoved n b q (λ e. gone (subst (λ z. Among z (names h t)) e a))))

@@ -34,8 +34,8 @@ abbrev pub without : List NodePtr → Option ℕ → List NodePtr
 without cs None = cs
 without cs (Some s) = remove cs s
 
-module _ {m l : Records} {g k h : ℕ} {p x : NodePtr} {f : Found} (can : CanRemove m (suc (suc g)) p k)
-    (finds : Finds m p k f) (rem : Removes m l (suc g) f.child f.rest h x) where
+module _ (m : Records) (g : ℕ) (p : NodePtr) (k : ℕ) (can : CanRemove m (suc (suc g)) p k) (f : Found)
+    (finds : Finds m p k f) (l : Records) (h : ℕ) (x : NodePtr) (rem : Removes m l (suc g) f.child f.rest h x) where
   abbrev cs : List NodePtr
   cs = kids m p
 
@@ -46,14 +46,14 @@ module _ {m l : Records} {g k h : ℕ} {p x : NodePtr} {f : Found} (can : CanRem
   ts = map (tree_at m (suc g)) (kids m p)
 
   shrinks : Shrinks m l (suc g) ts k h x now
-  shrinks = shrinks-now can finds rem
+  shrinks = shrinks-now m (suc g) p k can f finds l h x rem
 
   siblings : Siblings l g p cs
   siblings = record {
     holds = shrinks.holds;
     distinct = shrinks.distinct;
-    fits = fits-now can finds rem;
-    links = links-now can finds rem;
+    fits = fits-now m (suc g) p k can f finds l h x rem;
+    links = links-now m (suc g) p k can f finds l h x rem;
   }
 
   -- q is the child that o tells
@@ -100,17 +100,17 @@ module _ {m l : Records} {g k h : ℕ} {p x : NodePtr} {f : Found} (can : CanRem
     below = xs ++ ys
 
     placed : now ≡ left ++ (two ++ right)
-    placed = pair-placed siblings j a b at_a at_b
+    placed = pair-placed l g p cs siblings j a b at_a at_b
 
     -- what stands in their place
     turned : (n : Records) (new : List (Tree (suc g))) → Turns l n (suc g) two new →
         Shrinks m n (suc g) ts k h x (left ++ (new ++ right))
-    turned n new turn = shrinks-turns n (left ++ (new ++ right)) shrinks
-        (turns-among siblings j a b at_a at_b n new turn)
+    turned n new turn = shrinks-turns m l n (suc g) ts k h x now (left ++ (new ++ right)) shrinks
+        (turns-among l g p cs siblings j a b at_a at_b n new turn)
 
     turn-same : (n : Records) (new : List (Tree (suc g))) → Turns l n (suc g) two new → finite.get n p ≡ finite.get l p
     turn-same n new turn =
-        (turns-among siblings j a b at_a at_b n new turn).other p (λ s. can.distinct.0 (shrinks.within p s))
+        (turns-among l g p cs siblings j a b at_a at_b n new turn).other p (λ s. can.distinct.0 (shrinks.within p s))
 
     off-two : (n : Records) (new : List (Tree (suc g))) → Turns l n (suc g) two new → Cleans m l (suc g) f.child h x →
         (q : NodePtr) → Among q (names_of (suc g) ts) → (Among q (names_of (suc g) (left ++ (new ++ right))) → ⊥)
@@ -123,7 +123,7 @@ module _ {m l : Records} {g k h : ℕ} {p x : NodePtr} {f : Found} (can : CanRem
           | inr c ↦ elim (in-cases (suc g) two right q c)
               [ inl e ↦ off e | inr e ↦ out (in-right (suc g) left (new ++ right) q (in-right (suc g) new right q e)) ]
         ] in
-        turn.other q off ∙ now-lost can finds rem clean q s not_now n2
+        turn.other q off ∙ now-lost m (suc g) p k can f finds l h x rem clean q s not_now n2
 
     module _ (near : (j ≡ f.slot) ⊎ (suc j ≡ f.slot)) where
       before-slot : (i : ℕ) → i < j → i ≢ f.slot
@@ -141,28 +141,28 @@ module _ {m l : Records} {g k h : ℕ} {p x : NodePtr} {f : Found} (can : CanRem
       sides new balanced =
           all-append (IsBalanced (suc g)) left (new ++ right)
           (all-from (IsBalanced (suc g)) (tree_at l (suc g)) (take j cs) (λ i d at. let r = in-take j cs i d at in
-          balanced-but can finds rem i d r.1 (before-slot i r.0)))
+          balanced-but m (suc g) p k can f finds l h x rem i d r.1 (before-slot i r.0)))
           (all-append (IsBalanced (suc g)) new right balanced
           (all-from (IsBalanced (suc g)) (tree_at l (suc g)) (drop (suc (suc j)) cs) (λ i d at.
-          balanced-but can finds rem (suc (suc j) + i) d (in-drop (suc (suc j)) cs i d at)
+          balanced-but m (suc g) p k can f finds l h x rem (suc (suc j) + i) d (in-drop (suc (suc j)) cs i d at)
           (after-slot i))))
 
       wide-child : (d : NodePtr) (i : ℕ) → slice_get cs i ≡ Some d → i ≡ f.slot → IsWide 5 (suc g) (tree_at l (suc g) d)
       wide-child d i at e = subst (λ z. IsWide 5 (suc g) (tree_at l (suc g) z))
           (same_Some f.child d (sym finds.child ∙ ap (slice_get cs) (sym e) ∙ at))
-          (rem.wide 5 (balanced-child can finds))
+          (rem.wide 5 (balanced-child m (suc g) p k can f finds))
 
       -- together they have eleven at least, and below them all is balanced
       many : (11 ≤ length below) × AllByRecursion (IsBalanced g) below
       many = elim near [
         | inl e ↦
             let wa = wide-child a j at_a e in
-            let wb = balanced-but can finds rem (suc j) b at_b (λ o. next-not j (e ∙ sym o)) in
+            let wb = balanced-but m (suc g) p k can f finds l h x rem (suc j) b at_b (λ o. next-not j (e ∙ sym o)) in
             let n = length-append xs ys in let la = wa.0 in let lb = wb.0 in
             (omega arith, all-append (IsBalanced g) xs ys wa.2 wb.2)
         | inr e ↦
             let wb = wide-child b (suc j) at_b e in
-            let wa = balanced-but can finds rem j a at_a (λ o. next-not j (o ∙ sym e)) in
+            let wa = balanced-but m (suc g) p k can f finds l h x rem j a at_a (λ o. next-not j (o ∙ sym e)) in
             let n = length-append xs ys in let la = wa.0 in let lb = wb.0 in
             (omega arith, all-append (IsBalanced g) xs ys wa.2 wb.2)
       ] where
@@ -170,29 +170,29 @@ module _ {m l : Records} {g k h : ℕ} {p x : NodePtr} {f : Found} (can : CanRem
         next-not j e = omega arith
 
       -- ---- after the sharing
-      pub share : {n : Records} → Shares l n a b → Ready n None
-      share {n} shares =
+      pub share : (n : Records) → Shares l n a b → Ready n None
+      share n shares =
           let new = (a, take shares.half below) ∷ (b, drop shares.half below) ∷ [] in
-          let turn = share-turns siblings j a b at_a at_b shares in
+          let turn = share-turns l g p cs siblings j a b at_a at_b n shares in
           record {
             trees = left ++ (new ++ right);
             shrinks = turned n new turn;
-            tops = tops-among-two siblings j a b at_a at_b new ∙ sym (pair-same cs j a b at_a at_b);
-            balanced = sides new (share-balanced siblings j a b at_a at_b shares many.1);
-            same = turn-same n new turn ∙ node-same can finds rem;
-            named = share-named siblings j a b at_a at_b shares;
+            tops = tops-among-two l g p cs siblings j a b at_a at_b new ∙ sym (pair-same cs j a b at_a at_b);
+            balanced = sides new (share-balanced l g p cs siblings j a b at_a at_b n shares many.1);
+            same = turn-same n new turn ∙ node-same m (suc g) p k can f finds l h x rem;
+            named = share-named l g p cs siblings j a b at_a at_b n shares;
             still_inner = λ q s. subst (λ z. InnerIn z q) (sym shares.same)
                 (inner-refilled (refilled l a (row (take shares.half (kids l a ++ kids l b)))) b
                 (row (drop shares.half (kids l a ++ kids l b))) q
                 (inner-refilled l a (row (take shares.half (kids l a ++ kids l b))) q s));
-            links = share-links siblings j a b at_a at_b shares;
+            links = share-links l g p cs siblings j a b at_a at_b n shares;
             slot = λ s e. absurd (none-some s e);
             gone = λ s q e at. absurd (none-some s e);
             lost = λ clean q s out n2.
                 inl (off-two n new turn clean q s out (λ i.
                 out (in-right (suc g) left (new ++ right) q
-                (in-left (suc g) new right q (share-inside l g a b xs ys (hold-left siblings j a b at_a at_b)
-                (hold-right siblings j a b at_a at_b) (pair-two-apart siblings j a b at_a at_b)
+                (in-left (suc g) new right q (share-inside l g a b xs ys (hold-left l g p cs siblings j a b at_a at_b)
+                (hold-right l g p cs siblings j a b at_a at_b) (pair-two-apart l g p cs siblings j a b at_a at_b)
                 shares.half
                 q i)))) n2);
           }
@@ -200,11 +200,11 @@ module _ {m l : Records} {g k h : ℕ} {p x : NodePtr} {f : Found} (can : CanRem
       -- the node without children is in the tree no more
       pub merged-out : Among b (names_of (suc g) (left ++ (((a, below) ∷ []) ++ right))) → ⊥
       merged-out s =
-          let facts = pair-facts siblings j a b at_a at_b in
+          let facts = pair-facts l g p cs siblings j a b at_a at_b in
           let left-apart = distinct-apart (names_of (suc g) left) (names_of (suc g) (two ++ right))
-          (subst Distinct (names-append (suc g) left (two ++ right)) (pair-apart siblings j a b at_a at_b)) in
+          (subst Distinct (names-append (suc g) left (two ++ right)) (pair-apart l g p cs siblings j a b at_a at_b)) in
           let right-apart = distinct-apart (names_of (suc g) two) (names_of (suc g) right)
-          (pair-right-apart siblings j a b at_a at_b) in
+          (pair-right-apart l g p cs siblings j a b at_a at_b) in
           let b_two = two-right g a b xs ys in
           elim (in-cases (suc g) left (((a, below) ∷ []) ++ right) b s) [
             | inl c ↦ left-apart b c (in-left (suc g) two right b b_two)
@@ -215,30 +215,30 @@ module _ {m l : Records} {g k h : ℕ} {p x : NodePtr} {f : Found} (can : CanRem
             ]
           ]
 
-      pub merge : {n : Records} → Merges l n a b → Ready n (Some (suc j))
-      merge {n} merges =
-          let new = (a, below) ∷ [] in let turn = merge-turns siblings j a b at_a at_b merges in
-          let all = pair-long siblings j a b at_a at_b in let few = merges.few in let low = many.0 in
+      pub merge : (n : Records) → Merges l n a b → Ready n (Some (suc j))
+      merge n merges =
+          let new = (a, below) ∷ [] in let turn = merge-turns l g p cs siblings j a b at_a at_b n merges in
+          let all = pair-long l g p cs siblings j a b at_a at_b in let few = merges.few in let low = many.0 in
           let balanced : AllByRecursion (IsBalanced (suc g)) new = ((omega arith, omega arith, many.1), tt) in
           record {
             trees = left ++ (new ++ right);
             shrinks = turned n new turn;
-            tops = tops-among-two siblings j a b at_a at_b new ∙ sym (pair-remove cs j a b at_a at_b);
+            tops = tops-among-two l g p cs siblings j a b at_a at_b new ∙ sym (pair-remove cs j a b at_a at_b);
             balanced = sides new balanced;
-            same = turn-same n new turn ∙ node-same can finds rem;
+            same = turn-same n new turn ∙ node-same m (suc g) p k can f finds l h x rem;
             named = λ q s. subst (λ z. IsSome (finite.get z q)) (sym merges.same)
                 (named-refilled l a (row (kids l a ++ kids l b)) q s);
             still_inner =
                 λ q s. subst (λ z. InnerIn z q) (sym merges.same) (inner-refilled l a (row (kids l a ++ kids l b)) q s);
-            links = merge-links siblings j a b at_a at_b merges;
+            links = merge-links l g p cs siblings j a b at_a at_b n merges;
             slot = λ s e. let w = slice_get_within cs (suc j) b at_b in let i = same_Some (suc j) s e in omega arith;
             gone = λ s q e at r.
                 merged-out (subst (λ z. Among z (names_of (suc g) (left ++ (new ++ right))))
                 (same_Some q b (sym at ∙ ap (slice_get cs) (sym (same_Some (suc j) s e)) ∙ at_b)) r);
             lost = λ clean q s out n2. elim (among-or q (names_of (suc g) two)) [
-              | inl i ↦ elim (merge-inside l g a b xs ys (hold-left siblings j a b at_a at_b)
-                  (hold-right siblings j a b at_a at_b)
-                  (pair-two-apart siblings j a b at_a at_b) q i) [
+              | inl i ↦ elim (merge-inside l g a b xs ys (hold-left l g p cs siblings j a b at_a at_b)
+                  (hold-right l g p cs siblings j a b at_a at_b)
+                  (pair-two-apart l g p cs siblings j a b at_a at_b) q i) [
                     | inl c ↦ absurd (out (in-right (suc g) left (new ++ right) q (in-left (suc g) new right q c)))
                     | inr e ↦ inr (record { slot = suc j; is = refl; at = at_b ∙ ap (λ z. Some z) (sym e) })
                   ]
@@ -255,55 +255,55 @@ module _ {m l : Records} {g k h : ℕ} {p x : NodePtr} {f : Found} (can : CanRem
     balanced = all-from (IsBalanced (suc g)) (tree_at l (suc g)) cs (λ j d at. elim (cases_eq j f.slot) [
       | inl e ↦
           let c = same_Some f.child d (sym finds.child ∙ ap (slice_get cs) (sym e) ∙ at) in
-          let w = rem.wide 5 (balanced-child can finds) in
+          let w = rem.wide 5 (balanced-child m (suc g) p k can f finds) in
           let n = length-map (kids l f.child) (tree_at l g) in
           subst (λ z. IsBalanced (suc g) (tree_at l (suc g) z)) c (omega arith, w.1, w.2)
-      | inr e ↦ balanced-but can finds rem j d at e
+      | inr e ↦ balanced-but m (suc g) p k can f finds l h x rem j d at e
     ]);
-    same = node-same can finds rem;
+    same = node-same m (suc g) p k can f finds l h x rem;
     named = λ q s. s;
     still_inner = λ q s. s;
-    links = links-now can finds rem;
+    links = links-now m (suc g) p k can f finds l h x rem;
     slot = λ s e. absurd (none-some s e);
     gone = λ s q e at. absurd (none-some s e);
-    lost = λ clean q s out n2. inl (now-lost can finds rem clean q s out n2);
+    lost = λ clean q s out n2. inl (now-lost m (suc g) p k can f finds l h x rem clean q s out n2);
   }))
 
-  shared : {n : Records} (o : Option ℕ) → Mends l n p f.slot o → Ready n o
-  shared {n} None mends =
-      let ks = kids-same can finds rem in
+  shared : (n : Records) (o : Option ℕ) → Mends l n p f.slot o → Ready n o
+  shared n None mends =
+      let ks = kids-same m (suc g) p k can f finds l h x rem in
       let at_a = ap (λ zs. slice_get zs mends.at) (sym ks) ∙ mends.is_left in
       let at_b = ap (λ zs. slice_get zs (suc mends.at)) (sym ks) ∙ mends.is_right in
-      share mends.at mends.left mends.right at_a at_b mends.near mends.evens
-  shared {n} (Some s) mends =
-      let ks = kids-same can finds rem in
+      share mends.at mends.left mends.right at_a at_b mends.near n mends.evens
+  shared n (Some s) mends =
+      let ks = kids-same m (suc g) p k can f finds l h x rem in
       let at_a = ap (λ zs. slice_get zs mends.at) (sym ks) ∙ mends.is_left in
       let at_b = ap (λ zs. slice_get zs (suc mends.at)) (sym ks) ∙ mends.is_right in
       subst (λ z. Ready n (Some z)) (sym mends.gap)
-      (merge mends.at mends.left mends.right at_a at_b mends.near mends.evens)
+      (merge mends.at mends.left mends.right at_a at_b mends.near n mends.evens)
 
-  pub ready : {n : Records} {o : Option ℕ} → Settles l n p f.slot f.child o → Ready n o
-  ready {n} {o} settles = elim settles.ways [ inl kept ↦ stays n o kept.0 kept.1 kept.2 | inr mends ↦ shared o mends ]
+  pub ready : (n : Records) (o : Option ℕ) → Settles l n p f.slot f.child o → Ready n o
+  ready n o settles = elim settles.ways [ inl kept ↦ stays n o kept.0 kept.1 kept.2 | inr mends ↦ shared n o mends ]
 
   pub can-mend : CanMend l p
-  can-mend i a b at_a at_b = let ks = kids-same can finds rem in
-      can-even siblings i a b (ap (λ zs. slice_get zs i) (sym ks) ∙ at_a)
+  can-mend i a b at_a at_b = let ks = kids-same m (suc g) p k can f finds l h x rem in
+      can-even l g p cs siblings i a b (ap (λ zs. slice_get zs i) (sym ks) ∙ at_a)
       (ap (λ zs. slice_get zs (suc i)) (sym ks) ∙ at_b)
 
   pub below-now : HasRow l f.child
   below-now = row-tree l g f.child (child-tree l (suc g) cs f.slot f.child shrinks.holds finds.child)
 
   -- ---- the node itself
-  module _ {n : Records} {o : Option ℕ} (settles : Settles l n p f.slot f.child o) where
+  module _ (n : Records) (o : Option ℕ) (settles : Settles l n p f.slot f.child o) where
     is-ready : Ready n o
-    is-ready = ready settles
+    is-ready = ready n o settles
 
     pub kids-ready : kids n p ≡ cs
     kids-ready = ap kids_of is-ready.same
 
     pub has-ready : HasRow n p
-    has-ready = has-kept n (has-now can finds rem) (is-ready.same
-        ∙ sym (node-same can finds rem)) is-ready.named
+    has-ready = has-kept l n p (has-now m (suc g) p k can f finds l h x rem) (is-ready.same
+        ∙ sym (node-same m (suc g) p k can f finds l h x rem)) is-ready.named
 
     pub links-ready : Links n p 0 (kids n p)
     links-ready = subst (Links n p 0) (sym kids-ready) is-ready.links
@@ -319,7 +319,7 @@ module _ {m l : Records} {g k h : ℕ} {p x : NodePtr} {f : Found} (can : CanRem
         let d = length-map is-ready.trees (λ (t : Tree (suc g)). t.0) in (omega arith, omega arith)
 
     fill-trees : CanFill n p (tops (suc g) is-ready.trees)
-    fill-trees = can-fill is-ready.shrinks can.distinct.0 has-ready
+    fill-trees = can-fill m n (suc g) p ts k h x is-ready.trees is-ready.shrinks can.distinct.0 has-ready
         long-ready.0 can.fits
 
     pub fill-ready : CanFill n p (without (kids n p) o)
@@ -331,7 +331,7 @@ module _ {m l : Records} {g k h : ℕ} {p x : NodePtr} {f : Found} (can : CanRem
 
     pub removes-ready : (u : Records) → u ≡ refilled n p (row (without (kids n p) o)) →
         Removes m u (suc (suc g)) p k h x
-    removes-ready u is = finish u can is-ready.shrinks is-ready.same fill-trees
+    removes-ready u is = finish m n u (suc g) p k h x is-ready.trees can is-ready.shrinks is-ready.same fill-trees
         is-ready.balanced long-ready.1
         (is ∙ ap (λ zs. refilled n p (row (without zs o))) kids-ready
         ∙ ap (λ zs. refilled n p (row zs)) (sym is-ready.tops))
@@ -341,7 +341,7 @@ module _ {m l : Records} {g k h : ℕ} {p x : NodePtr} {f : Found} (can : CanRem
     sum-ready =
         let left = ap (λ zs. sum_all n (without zs o)) kids-ready ∙ ap (sum_all n) (sym is-ready.tops)
         ∙ sum-trees n (suc g) is-ready.trees is-ready.shrinks.holds ∙ ap total is-ready.shrinks.line in
-        let gone = ap sum_of (gone-same can finds rem) ∙ sum-tree m h x shrinks.tree
+        let gone = ap sum_of (gone-same m (suc g) p k can f finds l h x rem) ∙ sum-tree m h x shrinks.tree
         ∙ ap total (sym shrinks.gone) in
         (λ i. plus (left i) (gone i)) ∙ total-gone (lines_of (suc g) ts) k (k + length (lines_in m h x)) (omega arith)
         ∙ sym (ap sum_of is-ready.same ∙ sum-tree m (suc (suc g)) p can.tree)
@@ -349,7 +349,7 @@ module _ {m l : Records} {g k h : ℕ} {p x : NodePtr} {f : Found} (can : CanRem
     -- a child is no line
     pub inner-ready : (s : ℕ) (b : NodePtr) → slice_get (kids n p) s ≡ Some b → InnerIn n b
     inner-ready s b at = is-ready.still_inner b
-        (inner-row (row-tree l g b (child-tree l (suc g) cs s b shrinks.holds
+        (inner-row l b (row-tree l g b (child-tree l (suc g) cs s b shrinks.holds
         (ap (λ zs. slice_get zs s) (sym kids-ready) ∙ at))))
 
     -- the child without children is given back
@@ -371,9 +371,9 @@ module _ {m l : Records} {g k h : ℕ} {p x : NodePtr} {f : Found} (can : CanRem
         ) (subst (λ z. Holds z (suc (suc g)) (p, is-ready.trees))
         (sym (is ∙ ap (λ zs. refilled n p (row (without zs o))) kids-ready
         ∙ ap (λ zs. refilled n p (row zs)) (sym is-ready.tops)))
-        (built (suc g) is-ready.trees fill-trees is-ready.shrinks.holds
+        (built n (suc g) p is-ready.trees fill-trees is-ready.shrinks.holds
         ((λ i. can.distinct.0 (is-ready.shrinks.within p i)), is-ready.shrinks.distinct))) in
-        removes-drop b r
+        removes-drop m u (suc (suc g)) p k h x b r
         (λ i. elim (subst (λ t. Among b (names (suc (suc g)) t)) tree i)
         [ inl q ↦ p_b (sym q) | inr q ↦ is-ready.gone s b e at_cs q ])
         (inr inside) b_x p_b
@@ -384,7 +384,7 @@ module _ {m l : Records} {g k h : ℕ} {p x : NodePtr} {f : Found} (can : CanRem
         (subst (λ z. Holds z (suc (suc g)) (p, is-ready.trees))
         (sym (is ∙ ap (λ zs. refilled n p (row (without zs o))) kids-ready
         ∙ ap (λ zs. refilled n p (row zs)) (sym is-ready.tops)))
-        (built (suc g) is-ready.trees fill-trees is-ready.shrinks.holds
+        (built n (suc g) p is-ready.trees fill-trees is-ready.shrinks.holds
         ((λ i. can.distinct.0 (is-ready.shrinks.within p i)), is-ready.shrinks.distinct)))
 
     lost-ready : Cleans m l (suc g) f.child h x → (u : Records) → u ≡ refilled n p (row (without (kids n p) o)) →
@@ -423,7 +423,7 @@ module _ {m l : Records} {g k h : ℕ} {p x : NodePtr} {f : Found} (can : CanRem
         let off : Among b (names (suc (suc g)) (tree_at u (suc (suc g)) p)) →
         ⊥ = λ i. elim (subst (λ t. Among b (names (suc (suc g)) t)) (tree-ready u is) i)
         [ inl r ↦ p_b (sym r) | inr r ↦ is-ready.gone s b e at_cs r ] in
-        let tree = drop-tree b (removes-ready u is) off in
+        let tree = drop-tree m u (suc (suc g)) p k h x b (removes-ready u is) off in
         elim (same_or_other q b) [
           | inl same ↦ ap (finite.get (finite.remove u b)) same ∙ get_removed u b
           | inr other ↦ get_unmoved u b q other

@@ -80,7 +80,7 @@ line-few zero t e = one t.1 where
 line-few (suc h) t e = absurd (omega arith)
 
 -- ---- at a node above the child with line k
-module _ {m : Records} {h k : ℕ} {p : NodePtr} {f : Found} (can : CanRemove m (suc h) p k) (finds : Finds m p k f)
+module _ (m : Records) (h : ℕ) (p : NodePtr) (k : ℕ) (can : CanRemove m (suc h) p k) (f : Found) (finds : Finds m p k f)
   where
     abbrev before : List (Tree h)
     before = map (tree_at m h) (take f.slot (kids m p))
@@ -174,7 +174,7 @@ module _ {m : Records} {h k : ℕ} {p : NodePtr} {f : Found} (can : CanRemove m 
 
       one-fill-trees : CanFill m p (tops h (before ++ after))
       one-fill-trees = let has = row-tree m h p can.tree in let n = one-few in let few = has.few in
-          can-fill one-shrinks can.distinct.0 has (omega arith) can.fits
+          can-fill m m h p ts k h f.child (before ++ after) one-shrinks can.distinct.0 has (omega arith) can.fits
 
       pub one-fill : CanFill m p (remove (kids m p) f.slot)
       one-fill = subst (CanFill m p) one-tops one-fill-trees
@@ -182,13 +182,13 @@ module _ {m : Records} {h k : ℕ} {p : NodePtr} {f : Found} (can : CanRemove m 
       pub one-removes : (n : Records) → n ≡ refilled m p (row (remove (kids m p) f.slot)) →
           Removes m n (suc h) p k h f.child
       one-removes n is = let e = one-few in
-          finish n can one-shrinks refl one-fill-trees one-balanced (omega arith)
+          finish m m n h p k h f.child (before ++ after) can one-shrinks refl one-fill-trees one-balanced (omega arith)
           (is ∙ ap (λ cs. refilled m p (row cs)) (sym one-tops))
 
       pub one-cleans : (n : Records) → n ≡ refilled m p (row (remove (kids m p) f.slot)) →
           Cleans m n (suc h) p h f.child
       one-cleans n is q a out other =
-          let up = shrinks-up n one-shrinks can.distinct.0 one-fill-trees
+          let up = shrinks-up m m n h p ts k h f.child (before ++ after) one-shrinks can.distinct.0 one-fill-trees
           (is ∙ ap (λ cs. refilled m p (row cs)) (sym one-tops)) in
           let tree : tree_at n (suc h) p ≡ (p, before ++ after) = tree-is n (suc h) (p, before ++ after) up.holds.0 in
           let gone : Among q (p ∷ names_of h (before ++ after)) →
@@ -207,14 +207,14 @@ module _ {m : Records} {h k : ℕ} {p : NodePtr} {f : Found} (can : CanRemove m 
       one-sum = sum_all-remove m (kids m p) f.slot f.child finds.child ∙ sym (sum-kids m h p can.tree)
 
     -- ---- so much goes below it
-    module _ {l : Records} {j : ℕ} {x : NodePtr} (rem : Removes m l h f.child f.rest j x) where
+    module _ (l : Records) (j : ℕ) (x : NodePtr) (rem : Removes m l h f.child f.rest j x) where
       abbrev now : List (Tree h)
       now = map (tree_at l h) (kids m p)
 
       first : Shrinks m l h ts k j x (before ++ (tree_at l h f.child ∷ after))
       first = let less = rest-within in
           subst (λ zs. Shrinks m l h zs k j x (before ++ (tree_at l h f.child ∷ after))) (sym split)
-          (shrinks-wide before (tree_at m h f.child) after k rem.shrinks
+          (shrinks-wide m l h before (tree_at m h f.child) after f.rest k j x (tree_at l h f.child ∷ []) rem.shrinks
           whole apart place-before (omega arith))
 
       pub node-same : finite.get l p ≡ finite.get m p

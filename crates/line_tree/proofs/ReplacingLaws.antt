@@ -20,9 +20,9 @@ use Rattle.line_tree.proofs.ClimbingLaws.{Above, Climbs, down, next}
 use Rattle.line_tree.proofs.SumLaws.{fits-part}
 use Rattle.std.specs.FinSet as set
 
-pub puts-line : {m n : Records} {p : NodePtr} {k : ℕ} {new : LineContent} {gone more : Count} → CanChange m 0 p k →
+pub puts-line : (m n : Records) (p : NodePtr) (k : ℕ) (new : LineContent) (gone more : Count) → CanChange m 0 p k →
     PutsOver m n p new gone more → Changes m n 0 p k (λ _. new) gone more
-puts-line {m} {n} {p} {k} {new} {gone} {more} can puts = changes-line can (record {
+puts-line m n p k new gone more can puts = changes-line m n p k (λ _. new) gone more can (record {
   line = puts.line;
   was = puts.was;
   same = puts.same;
@@ -54,9 +54,9 @@ within-changed (l ∷ ls) (suc k) new h = within-rest (line_count new) (line_cou
     (within-changed ls k new (omega arith))
 
 -- what is counted of a line is counted of the text that it is
-pub within-line : {m n : Records} {p : NodePtr} {new : LineContent} {gone more : Count} →
+pub within-line : (m : Records) (p : NodePtr) (n : Records) (new : LineContent) (gone more : Count) →
     PutsOver m n p new gone more → IsWithin gone (total (lines_in m 0 p))
-within-line {p} {gone} puts =
+within-line m p n new gone more puts =
     subst (λ o. IsWithin gone (total (map (λ l. (p, l)) (option_to_list o)))) (sym puts.was)
     (subst (λ g. IsWithin g (plus (line_count puts.line) no_text)) (sym puts.went)
     (within-first (line_count puts.line) no_text))
@@ -69,78 +69,78 @@ within-part a b c d within = within-rest a b (plus c d) (within-both a c (plus c
 abbrev pub CanReplace : Records → LineContent → ℕ → NodePtr → ℕ → Type 0
 CanReplace m new h p k = CanChange m h p k × FitsSum (plus (total (lines_in m h p)) (line_count new))
 
-module _ {m : Records} {h k : ℕ} {p : NodePtr} {f : Found} (can : CanChange m (suc h) p k) (finds : Finds m p k f)
+module _ (m : Records) (h : ℕ) (p : NodePtr) (k : ℕ) (can : CanChange m (suc h) p k) (f : Found) (finds : Finds m p k f)
     (new : LineContent) (fits : FitsSum (plus (total (lines_in m (suc h) p)) (line_count new))) where
   child-fits : FitsSum (plus (total (lines_in m h f.child)) (line_count new))
-  child-fits = let parts = was-parts h p k can f finds in
+  child-fits = let parts = was-parts m h p k can f finds in
       fits-part parts.0 (total (lines_in m h f.child)) parts.1 (line_count new)
       (subst (λ s. FitsSum (plus s (line_count new))) parts.2 fits)
 
   went-above : (gone : Count) → IsWithin gone (total (lines_in m h f.child)) →
       IsWithin gone (total (lines_in m (suc h) p))
-  went-above gone went = let parts = was-parts h p k can f finds in
+  went-above gone went = let parts = was-parts m h p k can f finds in
       subst (IsWithin gone) (sym parts.2) (within-part gone parts.0 (total (lines_in m h f.child)) parts.1 went)
 
-  module _ {l : Records} {gone more : Count} (done : Changes m l h f.child f.rest (λ _. new) gone more)
+  module _ (l : Records) (gone more : Count) (done : Changes m l h f.child f.rest (λ _. new) gone more)
       (came : more ≡ line_count new) where
     change-sum : plus (sums l (row (kids l p))) gone ≡ plus (sum_at l p) more
     change-sum =
-        ap (λ s. plus s gone) (row-sum h p k can f finds done)
-        ∙ sum-changed h p k can f finds done
-        ∙ sym (ap (λ s. plus s more) (node-sum h p k can f finds done))
+        ap (λ s. plus s gone) (row-sum m h p k can f finds l (λ _. new) gone more done)
+        ∙ sum-changed m h p k can f finds l (λ _. new) gone more done
+        ∙ sym (ap (λ s. plus s more) (node-sum m h p k can f finds l (λ _. new) gone more done))
 
     change-fits : FitsSum (plus (sum_at l p) more)
     change-fits = subst FitsSum
-        (sym (λ i. plus (node-sum h p k can f finds done i) (came i))) fits
+        (sym (λ i. plus (node-sum m h p k can f finds l (λ _. new) gone more done i) (came i))) fits
 
     went-node : IsWithin gone (total (lines_in m h f.child)) → IsWithin gone (sum_at l p)
     went-node went = subst (IsWithin gone)
-        (sym (node-sum h p k can f finds done)) (went-above gone went)
+        (sym (node-sum m h p k can f finds l (λ _. new) gone more done)) (went-above gone went)
 
     within-node : IsWithin more (sums l (row (kids l p)))
     within-node = subst (λ s. IsWithin s (sums l (row (kids l p)))) (sym came)
         (subst (IsWithin (line_count new))
-        (sym (row-sum h p k can f finds done
-        ∙ ap total (lines-changed h p k can f finds done)))
+        (sym (row-sum m h p k can f finds l (λ _. new) gone more done
+        ∙ ap total (lines-changed m h p k can f finds l (λ _. new) gone more done)))
         (within-changed (lines_in m (suc h) p) k new can.place))
 
     replaces-node : (n : Records) → n ≡ resummed l p (row (kids l p)) →
         Changes m n (suc h) p k (λ _. new) gone more
-    replaces-node n is = changes-node h p k can f finds done n (sums l (row (kids l p)))
-        (row-sum h p k can f finds done) is
+    replaces-node n is = changes-node m h p k can f finds l (λ _. new) gone more done n (sums l (row (kids l p)))
+        (row-sum m h p k can f finds l (λ _. new) gone more done) is
 
-child-replace : {m : Records} (new : LineContent) (h k : ℕ) (p : NodePtr) → CanReplace m new (suc h) p k →
+child-replace : (m : Records) (new : LineContent) (h : ℕ) (p : NodePtr) (k : ℕ) → CanReplace m new (suc h) p k →
     (f : Found) → Finds m p k f → CanReplace m new h f.child f.rest
-child-replace {m} new h p k can f finds = (can-child h p k can.0 f finds, child-fits can.0 finds new can.1)
+child-replace m new h p k can f finds = (can-child m h p k can.0 f finds, child-fits m h p k can.0 f finds new can.1)
 
 -- ---- one level up
-module _ {m l : Records} {h k j : ℕ} {r p q : NodePtr} {gone more : Count} (new : LineContent) (less : j < h)
-    (above : Above m l h r k (λ _. new) gone more j p q) (whole : CanReplace m new h r k)
+module _ (m l : Records) (h : ℕ) (r : NodePtr) (k : ℕ) (new : LineContent) (gone more : Count) (j : ℕ) (p q : NodePtr)
+    (less : j < h) (above : Above m l h r k (λ _. new) gone more j p q) (whole : CanReplace m new h r k)
     (came : more ≡ line_count new) where
   can-here : CanReplace m new (suc j) q (k - above.before)
   can-here = let within : suc j ≤ h = omega (arith, less) in
-      down m (CanReplace m new) (child-replace new) h (suc j) r q above.before k within above.sits above.low above.high
+      down m (CanReplace m new) (child-replace m new) h (suc j) r q above.before k within above.sits above.low above.high
       whole
 
   pub row-here : HasRow l q
-  row-here = node-row j q (k - above.before) can-here.0 above.found above.finds above.changes
+  row-here = node-row m j q (k - above.before) can-here.0 above.found above.finds l (λ _. new) gone more above.changes
 
   pub sum-here : plus (sums l (row (kids l q))) gone ≡ plus (sum_at l q) more
-  sum-here = change-sum can-here.0 above.finds new can-here.1
+  sum-here = change-sum m j q (k - above.before) can-here.0 above.found above.finds new can-here.1 l gone more
       above.changes came
 
   pub fits-here : FitsSum (plus (sum_at l q) more)
-  fits-here = change-fits can-here.0 above.finds new can-here.1
+  fits-here = change-fits m j q (k - above.before) can-here.0 above.found above.finds new can-here.1 l gone more
       above.changes came
 
   pub came-here : IsWithin more (sums l (row (kids l q)))
-  came-here = within-node can-here.0 above.finds new can-here.1
+  came-here = within-node m j q (k - above.before) can-here.0 above.found above.finds new can-here.1 l gone more
       above.changes came
 
   pub replaces-here : (n : Records) → n ≡ resummed l q (row (kids l q)) →
       Climbs m n h r k (λ _. new) gone more (j + 1) q
-  replaces-here n is = next above
-      (replaces-node can-here.0 above.finds new can-here.1
+  replaces-here n is = next m l n h r k (λ _. new) gone more j p q above
+      (replaces-node m j q (k - above.before) can-here.0 above.found above.finds new can-here.1 l gone more
       above.changes came n is)
 
   module _ (went : IsWithin gone (total (lines_in m j p))) where
@@ -148,10 +148,10 @@ module _ {m l : Records} {h k j : ℕ} {r p q : NodePtr} {gone more : Count} (ne
     went-child = subst (λ c. IsWithin gone (total (lines_in m j c))) (sym above.same) went
 
     pub went-here : IsWithin gone (sum_at l q)
-    went-here = went-node can-here.0 above.finds new can-here.1
+    went-here = went-node m j q (k - above.before) can-here.0 above.found above.finds new can-here.1 l gone more
         above.changes came went-child
 
     pub went-next : IsWithin gone (total (lines_in m (j + 1) q))
     went-next = let e : suc j ≡ j + 1 = omega arith in
         subst (λ i. IsWithin gone (total (lines_in m i q))) e
-        (went-above can-here.0 above.finds new can-here.1 gone went-child)
+        (went-above m j q (k - above.before) can-here.0 above.found above.finds new can-here.1 gone went-child)

@@ -40,11 +40,11 @@ len-puts m n p all (Some s) puts =
     let c = len-refilled made p (row (take puts.half all)) in let d = len-new m s (blank None) puts.fresh in
     omega arith
 
-pub len-line : {m n : Records} {x : NodePtr} {l : LineContent} → NewLine m n x l → finite.len n ≡ finite.len m + 1
-len-line {m} {x} {l} new = ap finite.len new.same ∙ len-new m x (blank (Some l)) new.fresh
+pub len-line : (m n : Records) (x : NodePtr) (l : LineContent) → NewLine m n x l → finite.len n ≡ finite.len m + 1
+len-line m n x l new = ap finite.len new.same ∙ len-new m x (blank (Some l)) new.fresh
 
-pub len-root : {m n : Records} {r : NodePtr} {cs : List NodePtr} → NewRoot m n r cs → finite.len n ≡ finite.len m + 1
-len-root {m} {r} {cs} new = ap finite.len new.same ∙ len-refilled (finite.insert m r (blank None)) r (row cs)
+pub len-root : (m n : Records) (r : NodePtr) (cs : List NodePtr) → NewRoot m n r cs → finite.len n ≡ finite.len m + 1
+len-root m n r cs new = ap finite.len new.same ∙ len-refilled (finite.insert m r (blank None)) r (row cs)
     ∙ len-new m r (blank None) new.fresh
 
 -- ---- no more records than names
@@ -98,7 +98,7 @@ len-evens m n a b true e = ap finite.len e.same ∙ len-refilled m a (row (kids 
 len-evens m n a b false e = let all = kids m a ++ kids m b in let left = refilled m a (row (take e.half all)) in
     ap finite.len e.same ∙ len-refilled left b (row (drop e.half all)) ∙ len-refilled m a (row (take e.half all))
 
-pub len-settles : {m n : Records} {p c : NodePtr} {slot : ℕ} {o : Option ℕ} → Settles m n p slot c o →
+pub len-settles : (m n : Records) (p : NodePtr) (slot : ℕ) (c : NodePtr) (o : Option ℕ) → Settles m n p slot c o →
     finite.len n ≡ finite.len m
-len-settles {m} {n} {o} settles = elim settles.ways
+len-settles m n p slot c o settles = elim settles.ways
     [ inl kept ↦ ap finite.len kept.0 | inr mends ↦ len-evens m n mends.left mends.right (is_some o) mends.evens ]

@@ -38,7 +38,7 @@ wide-root (suc zero) t b = b
 wide-root (suc (suc h)) t b = let low = b.0 in (omega arith, b.1, b.2)
 
 -- ---- a line by itself
-module _ {m n : Records} {x : NodePtr} {l : LineContent} (new : NewLine m n x l) where
+module _ (m n : Records) (x : NodePtr) (l : LineContent) (new : NewLine m n x l) where
   pub new-line : IsTree n 0 x
   new-line =
       let is = ap (λ z. finite.get z x) new.same ∙ get_inserted m x (blank (Some l)) in
@@ -109,31 +109,31 @@ positive (suc h) t b = omega arith
 pub positive-root : (m : Records) (h : ℕ) (r : NodePtr) → Stands m h r → 0 < h
 positive-root m h r s = positive h (tree_at m h r) s.balanced
 
-module _ {m n l : Records} {x r : NodePtr} {line : LineContent} {h k : ℕ} {o : Option NodePtr}
-    (new : NewLine m n x line) (stands : Stands m h r) (ins : Inserts n l h r k x o)
+module _ (m n l : Records) (x : NodePtr) (line : LineContent) (new : NewLine m n x line) (h : ℕ) (r : NodePtr) (k : ℕ)
+    (stands : Stands m h r) (o : Option NodePtr) (ins : Inserts n l h r k x o)
     (fits : FitsSum (plus (total (lines_in m h r)) (line_count line))) where
   old-tree : tree_at n h r ≡ tree_at m h r
   old-tree = let all = names-held m h (tree_at m h r) stands.tree in
-      tree-same m n h r stands.tree (λ q a. new-other new q (all q a))
+      tree-same m n h r stands.tree (λ q a. new-other m n x line new q (all q a))
 
   lines-now : lines_of h (trees l h r o) ≡ insert (lines_in m h r) k (x, line)
   lines-now = ins.grows.line ∙ (λ i. with_line (lines h (old-tree i) ++ []) k (tree_at n 0 x))
       ∙ ap (λ ls. with_line ls k (tree_at n 0 x)) (append-nil (lines_in m h r))
-      ∙ ap (λ ls. take k (lines_in m h r) ++ (ls ++ drop k (lines_in m h r))) (new-lines new)
+      ∙ ap (λ ls. take k (lines_in m h r) ++ (ls ++ drop k (lines_in m h r))) (new-lines m n x line new)
 
   pub fits-now : FitsSum (total (lines_of h (trees l h r o)))
   fits-now = subst FitsSum (sym (ap total (ins.grows.line
       ∙ (λ i. with_line (lines h (old-tree i) ++ []) k (tree_at n 0 x))
       ∙ ap (λ ls. with_line ls k (tree_at n 0 x)) (append-nil (lines_in m h r)))
       ∙ total-with_line (lines_in m h r) k (tree_at n 0 x)
-      ∙ ap (plus (total (lines_in m h r))) (ap total (new-lines new) ∙ plus-no_text (line_count line))))
+      ∙ ap (plus (total (lines_in m h r))) (ap total (new-lines m n x line new) ∙ plus-no_text (line_count line))))
       fits
 
   whole-now : ((q : NodePtr) → IsSome (finite.get m q) → Among q (names h (tree_at m h r))) → (q : NodePtr) →
       IsSome (finite.get l q) → Among q (names_of h (trees l h r o))
   whole-now whole q s = elim (among-or q (names_of h (trees l h r o))) [
     | inl a ↦ a
-    | inr out ↦ elim (new-named new q (ins.grows.old q s out)) [
+    | inr out ↦ elim (new-named m n x line new q (ins.grows.old q s out)) [
       | inl e ↦ subst (λ z. Among z (names_of h (trees l h r o))) (sym e) ins.grows.added
       | inr b ↦ ins.grows.inside q (to-one q (names h (tree_at n h r))
           (subst (λ t. Among q (names h t)) (sym old-tree) (whole q b)))
@@ -143,7 +143,7 @@ module _ {m n l : Records} {x r : NodePtr} {line : LineContent} {h k : ℕ} {o :
   no-parent : HasNoParent l r
   no-parent =
       let root = stands.root in let named = subst (λ z. IsSome z) (sym root.is) refl in
-      let same = same_Some ins.link.before root.found (sym ins.link.was ∙ new-other new r named ∙ root.is) in
+      let same = same_Some ins.link.before root.found (sym ins.link.was ∙ new-other m n x line new r named ∙ root.is) in
       record {
         found = ins.link.after;
         is = ins.link.is;
@@ -151,21 +151,21 @@ module _ {m n l : Records} {x r : NodePtr} {line : LineContent} {h k : ℕ} {o :
             ∙ root.parent;
       }
 
-pub same-root : {m n l : Records} {x r : NodePtr} {line : LineContent} {h k : ℕ} (new : NewLine m n x line)
-    → Stands m h r → Inserts n l h r k x None → FitsSum (plus (total (lines_in m h r)) (line_count line))
+pub same-root : (m n l : Records) (x : NodePtr) (line : LineContent) (new : NewLine m n x line) (h : ℕ) (r : NodePtr)
+    (k : ℕ) → Stands m h r → Inserts n l h r k x None → FitsSum (plus (total (lines_in m h r)) (line_count line))
     → Stands l h r × (lines_in l h r ≡ insert (lines_in m h r) k (x, line))
-same-root {m} {n} {l} {x} {r} {line} {h} {k} new stands ins fits =
+same-root m n l x line new h r k stands ins fits =
     let one = append-nil (lines_in l h r) in (
       record {
         tree = ins.grows.holds.0;
         balanced = root-wide h (tree_at m h r) (tree_at l h r) (λ least small w.
             (ins.wide.wide least small (subst (λ t. IsWide least h t)
-            (sym (old-tree new stands ins fits)) w)).0) stands.balanced;
+            (sym (old-tree m n l x line new h r k stands None ins fits)) w)).0) stands.balanced;
         distinct = subst Distinct (append-nil (names h (tree_at l h r))) ins.grows.distinct;
-        root = no-parent new stands ins fits;
-        fits = subst (λ ls. FitsSum (total ls)) one (fits-now new stands ins fits);
+        root = no-parent m n l x line new h r k stands None ins fits;
+        fits = subst (λ ls. FitsSum (total ls)) one (fits-now m n l x line new h r k stands None ins fits);
       },
-      sym one ∙ lines-now new stands ins fits,
+      sym one ∙ lines-now m n l x line new h r k stands None ins fits,
     )
 
 pub can-top : (m : Records) (a : NodePtr) (cs : List NodePtr) → finite.get m a ≡ None → length cs ≤ 12 →
@@ -197,11 +197,11 @@ can-root l h r s all fits =
     two-tops l h r s = λ i. top-tree_at l h r i ∷ top-tree_at l h s i ∷ []
 
 -- a root with no parent above nodes that stand by themselves
-above : {l u : Records} {a : NodePtr} (h : ℕ) (us : List (Tree h)) → AllByRecursion (Holds l h) us →
+above : (l u : Records) (h : ℕ) (us : List (Tree h)) (a : NodePtr) → AllByRecursion (Holds l h) us →
     Distinct (names_of h us) → FitsSum (total (lines_of h us)) → length (tops h us) ≤ 12 →
     IsBalancedRoot (suc h) (a, us) → NewRoot l u a (tops h us) →
     (tree_at u (suc h) a ≡ (a, us)) × Stands u (suc h) a
-above {l} {u} {a} h us all apart fits few balanced root =
+above l u h us a all apart fits few balanced root =
     let made = finite.insert l a (blank None) in let cs = tops h us in let named = names-all-held l h us all in
     let not_a : (q : NodePtr) → IsSome (finite.get l q) →
     q ≢ a = λ q c e. unnamed l q c (ap (finite.get l) e ∙ root.fresh) in
@@ -210,7 +210,7 @@ above {l} {u} {a} h us all apart fits few balanced root =
     let all_made = all-same l made h us all (λ q b. get_other l a (blank None) q (not_a q (named q b))) in
     let distinct : Distinct (a ∷ names_of h us) = ((λ b. not_a a (named a b) refl), apart) in
     let holds : Holds u (suc h) (a, us) = subst (λ z. Holds z (suc h) (a, us)) (sym root.same)
-    (built h us can all_made distinct) in
+    (built made h a us can all_made distinct) in
     let tree = tree-is u (suc h) (a, us) holds in let links = relinked made a 0 (row cs) in
     let sum = sums links (row cs) in
     let at = at-update links a (λ y. with_sum y sum) (record (blank None) { children = row cs })
@@ -229,14 +229,15 @@ above {l} {u} {a} h us all apart fits few balanced root =
       },
     )
 
-module _ {m n l u : Records} {x r s a : NodePtr} {line : LineContent} {h k : ℕ} (new : NewLine m n x line)
-    (stands : Stands m h r) (ins : Inserts n l h r k x (Some s))
-    (fits : FitsSum (plus (total (lines_in m h r)) (line_count line))) (root : NewRoot l u a (r ∷ s ∷ [])) where
+module _ (m n l u : Records) (x : NodePtr) (line : LineContent) (new : NewLine m n x line) (h : ℕ) (r : NodePtr) (k : ℕ)
+    (stands : Stands m h r) (s : NodePtr) (ins : Inserts n l h r k x (Some s))
+    (fits : FitsSum (plus (total (lines_in m h r)) (line_count line))) (a : NodePtr)
+    (root : NewRoot l u a (r ∷ s ∷ [])) where
   both-above : (tree_at u (suc h) a ≡ (a, trees l h r (Some s))) × Stands u (suc h) a
-  both-above = above h (trees l h r (Some s)) ins.grows.holds ins.grows.distinct
-      (fits-now new stands ins fits) (omega arith)
+  both-above = above l u h (trees l h r (Some s)) a ins.grows.holds ins.grows.distinct
+      (fits-now m n l x line new h r k stands (Some s) ins fits) (omega arith)
       (two-wide h a (trees l h r (Some s)) (positive-root m h r stands) refl
-      (ins.wide.split refl (subst (λ t. IsWide 1 h t) (sym (old-tree new stands ins fits))
+      (ins.wide.split refl (subst (λ t. IsWide 1 h t) (sym (old-tree m n l x line new h r k stands (Some s) ins fits))
       (wide-root h (tree_at m h r) stands.balanced))))
       (subst (NewRoot l u a) (λ i. sym (top-tree_at l h r) i ∷ sym (top-tree_at l h s) i ∷ []) root)
 
@@ -244,7 +245,7 @@ module _ {m n l u : Records} {x r s a : NodePtr} {line : LineContent} {h k : ℕ
   root-tree = both-above.0
 
   pub new-root : Stands u (suc h) a × (lines_in u (suc h) a ≡ insert (lines_in m h r) k (x, line))
-  new-root = (both-above.1, ap (lines (suc h)) root-tree ∙ lines-now new stands ins fits)
+  new-root = (both-above.1, ap (lines (suc h)) root-tree ∙ lines-now m n l x line new h r k stands (Some s) ins fits)
 
 pub named-two : (m : Records) (left right : NodePtr) → IsSome (finite.get m left) → IsSome (finite.get m right) →
     (c : NodePtr) → Among c (left ∷ right ∷ []) → IsSome (finite.get m c)
@@ -275,13 +276,13 @@ pub lone-fits : FitsSum (line_count (plain_line (10 ∷ [])))
 lone-fits = let none : finite.len (plain_line (10 ∷ [])).marks ≡ 0 = len-empty _ _ in
     record { lines = omega arith; characters = omega arith; marks = omega arith }
 
-pub first-root : {m n u : Records} {x : NodePtr} {line : LineContent} → NewLine m n x line → FitsSum (line_count line) →
+pub first-root : (m n u : Records) (x : NodePtr) (line : LineContent) → NewLine m n x line → FitsSum (line_count line) →
     (a : NodePtr) → NewRoot n u a (x ∷ []) → Stands u 1 a × (lines_in u 1 a ≡ (x, line) ∷ [])
-first-root {m} {n} {u} {x} {line} new fits a root =
+first-root m n u x line new fits a root =
     let t = tree_at n 0 x in
-    let is : lines_of 0 (t ∷ []) ≡ (x, line) ∷ [] = append-nil (lines zero t) ∙ new-lines new in
+    let is : lines_of 0 (t ∷ []) ≡ (x, line) ∷ [] = append-nil (lines zero t) ∙ new-lines m n x line new in
     let now = subst FitsSum (sym (ap total is ∙ plus-no_text (line_count line))) fits in
-    let up = above 0 (t ∷ []) (new-line new, tt) ((λ e. e), tt) now (omega arith)
+    let up = above n u 0 (t ∷ []) a (new-line m n x line new, tt) ((λ e. e), tt) now (omega arith)
     (omega arith, omega arith, (tt, tt)) root in
     (up.1, ap (lines 1) up.0 ∙ is)
 
@@ -294,17 +295,17 @@ one-line x line (t ∷ ts) e = leaf t.1 e (one-line x line ts) where
   leaf None e rest = inr (rest e)
   leaf (Some l) e rest = inl (sym (ap (λ zs. elim zs as (λ _. NodePtr) [ [] ↦ x | z ∷ zs ↦ z.0 ]) e))
 
-pub first-root-alone : {m n u : Records} {x : NodePtr} {line : LineContent} →
+pub first-root-alone : (m n u : Records) (x : NodePtr) (line : LineContent) →
     ((q : NodePtr) → IsSome (finite.get m q) → ⊥) → NewLine m n x line → FitsSum (line_count line) → (a : NodePtr) →
     NewRoot n u a (x ∷ []) → StandsAlone u 1 a
-first-root-alone {m} {n} {u} {x} {line} none new fits a root =
-    let made = finite.insert n a (blank None) in let st = (first-root new fits a root).0 in
+first-root-alone m n u x line none new fits a root =
+    let made = finite.insert n a (blank None) in let st = (first-root m n u x line new fits a root).0 in
     record {
       stands = st;
       whole = λ q c. elim (insert-named n a (blank None) q
           (refilled-named made a (row (x ∷ [])) q (subst (λ z. IsSome (finite.get z q)) root.same c))) [
             | inl e ↦ inl e
-            | inr b ↦ elim (new-named new q b) [
+            | inr b ↦ elim (new-named m n x line new q b) [
               | inl e ↦ inr (subst (λ z. Among z (inner 1 (tree_at u 1 a))) (sym e) below)
               | inr d ↦ absurd (none q d)
             ]
@@ -312,7 +313,7 @@ first-root-alone {m} {n} {u} {x} {line} none new fits a root =
     }
   where
     below : Among x (inner 1 (tree_at u 1 a))
-    below = one-line x line (tree_at u 1 a).1 (first-root new fits a root).1
+    below = one-line x line (tree_at u 1 a).1 (first-root m n u x line new fits a root).1
 
 -- ---- what a tree that stands has
 pub stands-least : (m : Records) (h : ℕ) (r : NodePtr) → Stands m h r → 2 ≤ h →
@@ -328,31 +329,31 @@ pub stands-few : (m : Records) (h : ℕ) (r : NodePtr) → Stands m h r → leng
 stands-few m h r s = let e = total-lines (lines_in m h r) in let f = s.fits.lines in omega arith
 
 -- ---- no other record
-pub same-root-alone : {m n l : Records} {x r : NodePtr} {line : LineContent} {h k : ℕ} (new : NewLine m n x line)
-    → StandsAlone m h r → Inserts n l h r k x None →
+pub same-root-alone : (m n l : Records) (x : NodePtr) (line : LineContent) (new : NewLine m n x line) (h : ℕ)
+    (r : NodePtr) (k : ℕ) → StandsAlone m h r → Inserts n l h r k x None →
     FitsSum (plus (total (lines_in m h r)) (line_count line)) → StandsAlone l h r
-same-root-alone {m} {n} {l} {x} {r} {line} {h} {k} new alone ins fits = record {
-  stands = (same-root new alone.stands ins fits).0;
+same-root-alone m n l x line new h r k alone ins fits = record {
+  stands = (same-root m n l x line new h r k alone.stands ins fits).0;
   whole = λ q s. of-one q (names h (tree_at l h r))
-      (whole-now new alone.stands ins fits alone.whole q s);
+      (whole-now m n l x line new h r k alone.stands None ins fits alone.whole q s);
 }
 
-pub new-root-alone : {m n l u : Records} {x r : NodePtr} {line : LineContent} {h k : ℕ} (new : NewLine m n x line)
-    → StandsAlone m h r → (s : NodePtr) → Inserts n l h r k x (Some s) →
+pub new-root-alone : (m n l u : Records) (x : NodePtr) (line : LineContent) (new : NewLine m n x line) (h : ℕ)
+    (r : NodePtr) (k : ℕ) → StandsAlone m h r → (s : NodePtr) → Inserts n l h r k x (Some s) →
     FitsSum (plus (total (lines_in m h r)) (line_count line))
     → (a : NodePtr) → NewRoot l u a (r ∷ s ∷ []) → StandsAlone u (suc h) a
-new-root-alone {m} {n} {l} {u} {x} {r} {line} {h} {k} new alone s ins fits a root =
+new-root-alone m n l u x line new h r k alone s ins fits a root =
     let us = trees l h r (Some s) in let made = finite.insert l a (blank None) in
-    let st = (new-root new alone.stands ins fits root).0 in
+    let st = (new-root m n l u x line new h r k alone.stands s ins fits a root).0 in
     record {
       stands = st;
       whole = λ q c. elim (insert-named l a (blank None) q
           (refilled-named made a (row (r ∷ s ∷ [])) q (subst (λ z. IsSome (finite.get z q)) root.same c))) [
             | inl e ↦ inl e
-            | inr b ↦ inr (below q (whole-now new alone.stands ins fits alone.whole q b))
+            | inr b ↦ inr (below q (whole-now m n l x line new h r k alone.stands (Some s) ins fits alone.whole q b))
           ];
     }
   where
     below : (q : NodePtr) → Among q (names_of h (trees l h r (Some s))) → Among q (inner (suc h) (tree_at u (suc h) a))
     below q b = subst (λ t. Among q (inner (suc h) t))
-        (sym (root-tree new alone.stands ins fits root)) b
+        (sym (root-tree m n l u x line new h r k alone.stands s ins fits a root)) b

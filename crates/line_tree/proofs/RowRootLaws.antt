@@ -30,7 +30,7 @@ length-with_lines ls k added within =
     let a = length-append (take k ls) (added ++ drop k ls) in let b = length-append added (drop k ls) in
     let c = length-take k ls in let d = length-drop k ls in omega (arith, a, b, c, d, within)
 
-module _ {m l : Records} (h k : ℕ) (r : NodePtr) (xs : List NodePtr) (stands : Stands m h r)
+module _ (m l : Records) (h : ℕ) (r : NodePtr) (k : ℕ) (xs : List NodePtr) (stands : Stands m h r)
     (row : Becomes m l [] 0 (trees_at l 0 xs)) (place : k ≤ length (lines_in m h r)) (some : 1 ≤ length xs)
     (fits : FitsSum (plus (total (lines_in m h r)) (total (lines_of 0 (trees_at l 0 xs))))) where
   named : (q : NodePtr) → Among q (names h (tree_at m h r)) → IsSome (finite.get m q)
@@ -55,7 +55,7 @@ module _ {m l : Records} (h k : ℕ) (r : NodePtr) (xs : List NodePtr) (stands :
     fits = subst (λ t. FitsSum (plus (total (lines h t)) (total (lines_of 0 (trees_at l 0 xs))))) (sym row-same) fits;
   }
 
-  module _ {n : Records} {ys : List NodePtr} (takes : TakesRow l n h r k xs ys) where
+  module _ (n : Records) (ys : List NodePtr) (takes : TakesRow l n h r k xs ys) where
     lines-taken : lines_of h (trees_at n h ys) ≡ with_lines (lines_in m h r) k (lines_of 0 (trees_at l 0 xs))
     lines-taken = takes.lines ∙ ap (λ t. with_lines (lines h t) k (lines_of 0 (trees_at l 0 xs))) row-same
 
@@ -75,7 +75,7 @@ module _ {m l : Records} (h k : ℕ) (r : NodePtr) (xs : List NodePtr) (stands :
       loose = takes.loose;
     }
 
-    module _ {u : Records} {top : ℕ} (a : NodePtr) (lifts : Lifts n u h ys top (a ∷ [])) where
+    module _ (u : Records) (top : ℕ) (a : NodePtr) (lifts : Lifts n u h ys top (a ∷ [])) where
       pub lines-lifted : lines_in u top a ≡ with_lines (lines_in m h r) k (lines_of 0 (trees_at l 0 xs))
       lines-lifted = sym (append-nil (lines_in u top a)) ∙ lifts.lifted.lines ∙ lines-taken
 

@@ -35,7 +35,7 @@ insert-here xs zero y h = refl
 insert-here [] (suc at) y h = absurd (omega arith)
 insert-here (x ∷ xs) (suc at) y h = insert-here xs at y (omega arith)
 
-module _ {m : Records} {p x : NodePtr} {at : ℕ} (can : CanPut m p at x) (few : length (kids m p) < 12) where
+module _ (m : Records) (p : NodePtr) (at : ℕ) (x : NodePtr) (can : CanPut m p at x) (few : length (kids m p) < 12) where
   abbrev all : List NodePtr
   all = insert (kids m p) at x
 
@@ -50,16 +50,16 @@ module _ {m : Records} {p x : NodePtr} {at : ℕ} (can : CanPut m p at x) (few :
     low = omega arith;
     high = omega arith;
     hand = insert-here (kids m p) at x can.place;
-    rest = sym (kept-put can);
+    rest = sym (kept-put m p at x can);
     node = can.row.found;
     is = can.row.is;
-    long = long can;
+    long = long m p at x can;
     behind = λ j above. ap (λ cs. get_or cs j None) can.row.children ∙ get_or-row (kids m p) j;
     names = λ q named. named;
-    inner = inner-row can.row;
+    inner = inner-row m p can.row;
   }
 
-  module _ {n : Records} {slot : ℕ} {c : NodePtr} (s : Shifting m n p at x slot (Some c)) where
+  module _ (n : Records) (slot : ℕ) (c : NodePtr) (s : Shifting m n p at x slot (Some c)) where
     within : slot < length all
     within = slice_get_within all slot c (sym s.hand)
 
@@ -67,7 +67,7 @@ module _ {m : Records} {p x : NodePtr} {at : ℕ} (can : CanPut m p at x) (few :
     shift-within = let i = within in let a = long-all in omega arith
 
     pub shift-named : IsSome (finite.get n c)
-    shift-named = s.names c (named-all can c (get-among all slot c (sym s.hand)))
+    shift-named = s.names c (named-all m p at x can c (get-among all slot c (sym s.hand)))
 
     other : p ≢ c
     other e = can.apart (subst (λ q. Among q all) (sym e) (get-among all slot c (sym s.hand)))
@@ -101,8 +101,8 @@ module _ {m : Records} {p x : NodePtr} {at : ℕ} (can : CanPut m p at x) (few :
           inner = inner-link_one n p slot (Some c) p s.inner;
         }
 
-  pub shift-last : {n : Records} {slot : ℕ} → Shifting m n p at x slot None → n ≡ relinked m p 0 (row all)
-  shift-last {n} {slot} s =
+  pub shift-last : (n : Records) (slot : ℕ) → Shifting m n p at x slot None → n ≡ relinked m p 0 (row all)
+  shift-last n slot s =
       let none = replicate {A = Option NodePtr} (12 - length all) None in let a = long-all in
       let end = past all slot (sym s.hand) in let high = s.high in let long = s.long in
       let e : slot ≡ length all = omega arith in
@@ -116,13 +116,13 @@ module _ {m : Records} {p x : NodePtr} {at : ℕ} (can : CanPut m p at x) (few :
   -- the node's sum, and what it has then
   module _ (n : Records) (is : n ≡ relinked m p 0 (row all)) where
     can-fill : CanFill m p all
-    can-fill = let a = long-all in fill-room can (omega arith)
+    can-fill = let a = long-all in fill-room m p at x can (omega arith)
 
     pub shifted-row : HasRow n p
-    shifted-row = subst (λ z. HasRow z p) (sym is) (relinked-has_row can-fill).0
+    shifted-row = subst (λ z. HasRow z p) (sym is) (relinked-has_row m p all can-fill).0
 
     shifted-kids : kids n p ≡ all
-    shifted-kids = ap (λ z. kids z p) is ∙ (relinked-has_row can-fill).1
+    shifted-kids = ap (λ z. kids z p) is ∙ (relinked-has_row m p all can-fill).1
 
     shifted-sums : sums n (row (kids n p)) ≡ sum_all m all
     shifted-sums = ap (λ cs. sums n (row cs)) shifted-kids ∙ ap (λ z. sums z (row all)) is ∙ relinked-sums m p all
@@ -142,12 +142,12 @@ module _ {m : Records} {p x : NodePtr} {at : ℕ} (can : CanPut m p at x) (few :
     }
 
 -- ---- whether there is room
-pub has-room : {m : Records} {p : NodePtr} → HasRow m p → (o : Option NodePtr) →
+pub has-room : (m : Records) (p : NodePtr) → HasRow m p → (o : Option NodePtr) →
     IfSome (finite.get m p) (λ r. o ≡ get_or r.children 11 None) → is_some o ≡ false → length (kids m p) < 12
-has-room {m} {p} has None says none = let e = past (kids m p) 11 (sym (child_is m p has None 11 says)) in omega arith
-has-room has (Some c) says none = absurd (false≢true (sym none))
+has-room m p has None says none = let e = past (kids m p) 11 (sym (child_is m p has None 11 says)) in omega arith
+has-room m p has (Some c) says none = absurd (false≢true (sym none))
 
-pub has-none : {m : Records} {p : NodePtr} → HasRow m p → (o : Option NodePtr) →
+pub has-none : (m : Records) (p : NodePtr) → HasRow m p → (o : Option NodePtr) →
     IfSome (finite.get m p) (λ r. o ≡ get_or r.children 11 None) → IsSome o → 12 ≤ length (kids m p)
-has-none {m} {p} has o says some = let c = some_of o some in
+has-none m p has o says some = let c = some_of o some in
     let e = slice_get_within (kids m p) 11 c.0 (sym (child_is m p has o 11 says) ∙ c.1) in omega arith

@@ -42,11 +42,11 @@ range-within xs part r is low =
     let d = length-drop r xs in omega arith
 
 -- ---- one of several trees
-pub shrinks-wide : {m n : Records} {h r j : ℕ} {x : NodePtr} {us : List (Tree h)} (ls : List (Tree h)) (t : Tree h)
-    (rs : List (Tree h)) (k : ℕ) → Shrinks m n h (t ∷ []) r j x us
+pub shrinks-wide : (m n : Records) (h : ℕ) (ls : List (Tree h)) (t : Tree h) (rs : List (Tree h)) (r k j : ℕ)
+    (x : NodePtr) (us : List (Tree h)) → Shrinks m n h (t ∷ []) r j x us
     → AllByRecursion (Holds m h) (ls ++ (t ∷ rs)) → Distinct (names_of h (ls ++ (t ∷ rs))) →
     k ≡ length (lines_of h ls) + r → r ≤ length (lines h t) → Shrinks m n h (ls ++ (t ∷ rs)) k j x (ls ++ (us ++ rs))
-shrinks-wide {m} {n} {h} {r} {j} {x} {us} ls t rs k g all d at low =
+shrinks-wide m n h ls t rs r k j x us g all d at low =
     let split = names-append h ls (t ∷ rs) in let apart = subst Distinct split d in
     let all_left = all-left (Holds m h) ls (t ∷ rs) all in let all_right = (all-right (Holds m h) ls (t ∷ rs) all).1 in
     let no_left : (q : NodePtr) → Among q (names_of h ls) → Among q (names_of h (t ∷ [])) →
@@ -114,21 +114,21 @@ pub shrinks-one : (m : Records) (h : ℕ) (ls : List (Tree h)) (x : NodePtr) (rs
     AllByRecursion (Holds m h) (ls ++ (tree_at m h x ∷ rs)) → Distinct (names_of h (ls ++ (tree_at m h x ∷ rs))) →
     k ≡ length (lines_of h ls) → Shrinks m m h (ls ++ (tree_at m h x ∷ rs)) k h x (ls ++ rs)
 shrinks-one m h ls x rs k all d at =
-    shrinks-wide ls (tree_at m h x) rs k
+    shrinks-wide m m h ls (tree_at m h x) rs 0 k h x []
     (shrinks-whole m h x (all-right (Holds m h) ls (tree_at m h x ∷ rs) all).0) all d (omega arith) (omega arith)
 
 -- ---- the node above them
-pub shrinks-up : {m l : Records} {h k j : ℕ} {p x : NodePtr} {ts us : List (Tree h)} (n : Records)
-    → Shrinks m l h ts k j x us → (Among p (names_of h ts) → ⊥) → CanFill l p (tops h us) →
+pub shrinks-up : (m l n : Records) (h : ℕ) (p : NodePtr) (ts : List (Tree h)) (k j : ℕ) (x : NodePtr)
+    (us : List (Tree h)) → Shrinks m l h ts k j x us → (Among p (names_of h ts) → ⊥) → CanFill l p (tops h us) →
     n ≡ refilled l p (row (tops h us))
     → Shrinks m n (suc h) ((p, ts) ∷ []) k j x ((p, us) ∷ [])
-shrinks-up {m} {l} {h} {k} {j} {p} {x} {ts} {us} n g off_tree can is =
+shrinks-up m l n h p ts k j x us g off_tree can is =
     let p_out : Among p (names_of h us) → ⊥ = λ a. off_tree (g.within p a) in
     let x_p : (q : NodePtr) → Among q (names j (tree_at m j x)) →
     q ≢ p = λ q a e. off_tree (subst (λ z. Among z (names_of h ts)) e (g.inside q a)) in
     let count = length (lines_in m j x) in
     subst (λ z. Shrinks m z (suc h) ((p, ts) ∷ []) k j x ((p, us) ∷ [])) (sym is) (record {
-      holds = (built h us can g.holds (p_out, g.distinct), tt);
+      holds = (built l h p us can g.holds (p_out, g.distinct), tt);
       line = append-nil (lines_of h us) ∙ g.line ∙ ap (removed k (k + count)) (sym (append-nil (lines_of h ts)));
       gone = ap (λ ls. slice_range ls k (k + count)) (append-nil (lines_of h ts)) ∙ g.gone;
       tree = g.tree;
@@ -144,10 +144,9 @@ shrinks-up {m} {l} {h} {k} {j} {p} {x} {ts} {us} n g off_tree can is =
     })
 
 -- ---- turns
-pub shrinks-turns : {m l : Records} {h k j : ℕ} {ts : List (Tree h)} {x : NodePtr} {us : List (Tree h)} (n : Records)
-    (vs : List (Tree h)) →
+pub shrinks-turns : (m l n : Records) (h : ℕ) (ts : List (Tree h)) (k j : ℕ) (x : NodePtr) (us vs : List (Tree h)) →
     Shrinks m l h ts k j x us → Turns l n h us vs → Shrinks m n h ts k j x vs
-shrinks-turns n vs g t = record {
+shrinks-turns m l n h ts k j x us vs g t = record {
   holds = t.holds;
   line = t.line ∙ g.line;
   gone = g.gone;

@@ -59,8 +59,8 @@ flat-room t count rows levels flat high is rooms spares names =
     inr record { rooms = omega arith; spares = omega arith; names = names }
 
 -- ---- what is left
-pub keeps-room : {t u : TreeState} (lines rows : ℕ) → KeepsRoom t u → HasRoom t lines rows → HasRoom u lines rows
-keeps-room {u} lines rows keeps has = elim has [
+pub keeps-room : (t u : TreeState) (lines rows : ℕ) → KeepsRoom t u → HasRoom t lines rows → HasRoom u lines rows
+keeps-room t u lines rows keeps has = elim has [
   | inl alone ↦ let more = keeps.lines in let room = alone.1 in inl (keeps.names ∙ alone.0, omega arith)
   | inr r ↦
       let same = sym (ap levels_at_most keeps.nodes) in
@@ -74,10 +74,9 @@ keeps-room {u} lines rows keeps has = elim has [
       }
 ]
 
-pub spends-keeps : {u v : TreeState} (t : TreeState) (lines rows : ℕ) → SpendsRoom t u lines rows → KeepsRoom u v →
+pub spends-keeps : (t u v : TreeState) (lines rows : ℕ) → SpendsRoom t u lines rows → KeepsRoom u v →
     SpendsRoom t v lines rows
-spends-keeps {u} {v} t lines rows spends keeps = λ more others has. keeps-room more others keeps
-    (spends more others has)
+spends-keeps t u v lines rows spends keeps = λ more others has. keeps-room u v more others keeps (spends more others has)
 
 -- few lines one by one
 few-ends : (n part rows : ℕ) → n < 16 → n * part + rows * (16 * part) ≤ (min 1 n + rows) * (16 * part)
@@ -89,8 +88,9 @@ few-ends n part rows few =
       | inr none ↦ let m = mul-le-mul_right {m = n} {n = 0} part (omega arith) in omega arith
     ]
 
-pub spends-alone : {t u : TreeState} {n : ℕ} → PutsRoom t u n → (16 ≤ n → t.row_room ≡ 0) → SpendsRoom t u n (min 1 n)
-spends-alone {t} {u} {n} puts named = λ more rows has. elim has [
+pub spends-alone : (t u : TreeState) (n : ℕ) → PutsRoom t u n → (16 ≤ n → t.row_room ≡ 0) →
+    SpendsRoom t u n (min 1 n)
+spends-alone t u n puts named = λ more rows has. elim has [
   | inl alone ↦ let room = alone.1 in let falls = puts.lines in inl (puts.names ∙ alone.0, omega arith)
   | inr r ↦ elim (cases_lt n 16) [
     | inl few ↦
@@ -143,8 +143,8 @@ keeps-same t u nodes lines spares rooms names =
     let all = room-stays t u nodes lines spares rooms in
     record { nodes = nodes; spares = omega arith; rooms = omega arith; names = names; lines = omega arith }
 
-pub keeps-on : {t u v : TreeState} → KeepsRoom t u → KeepsRoom u v → KeepsRoom t v
-keeps-on a b =
+pub keeps-on : (t u v : TreeState) → KeepsRoom t u → KeepsRoom u v → KeepsRoom t v
+keeps-on t u v a b =
     let s = a.spares in let r = a.rooms in let l = a.lines in
     let p = b.spares in let q = b.rooms in let m = b.lines in
     record {
@@ -160,13 +160,13 @@ pub keeps-out : (t u : TreeState) → u.nodes ≡ t.nodes → t.spares + 1 ≤ u
 keeps-out t u nodes spares rooms names lines =
     record { nodes = nodes; spares = omega arith; rooms = omega arith; names = names; lines = lines }
 
-pub puts-none : {t u : TreeState} → PutsRoom t u 0 → KeepsRoom t u
-puts-none puts =
+pub puts-none : (t u : TreeState) → PutsRoom t u 0 → KeepsRoom t u
+puts-none t u puts =
     let s = puts.spares in let r = puts.rooms in let l = puts.lines in
     record { nodes = puts.nodes; spares = omega arith; rooms = omega arith; names = puts.names; lines = omega arith }
 
-pub puts-kept : {t u : TreeState} → KeepsRoom t u → PutsRoom t u 0
-puts-kept keeps =
+pub puts-kept : (t u : TreeState) → KeepsRoom t u → PutsRoom t u 0
+puts-kept t u keeps =
     let s = keeps.spares in let r = keeps.rooms in let l = keeps.lines in
     record {
       nodes = keeps.nodes;
@@ -176,8 +176,8 @@ puts-kept keeps =
       lines = omega arith;
     }
 
-pub puts-on : {t u v : TreeState} {n d : ℕ} → PutsRoom t u n → PutsRoom u v d → PutsRoom t v (n + d)
-puts-on {t} {u} {v} {n} {d} a b =
+pub puts-on : (t u v : TreeState) (n d : ℕ) → PutsRoom t u n → PutsRoom u v d → PutsRoom t v (n + d)
+puts-on t u v n d a b =
     let part = levels_at_most t.nodes + 2 in let e = add-mul n d part in
     let s = a.spares in let r = a.rooms in let l = a.lines in
     let p = subst (λ k. u.spares ≤ v.spares + d * (levels_at_most k + 2)) a.nodes b.spares in

@@ -27,9 +27,9 @@ none-in old k gone = let none : k + min gone 0 ≡ k = omega arith in record {
       ∙ ap (λ ls. ls ++ drop k old) (append-nil (take k old)) ∙ take-append-drop k old);
 }
 
-pub in-length : {old now : List Named} {k went : ℕ} {cs : List LineContent} → k + went ≤ length old →
+pub in-length : (old now : List Named) (k went : ℕ) (cs : List LineContent) → k + went ≤ length old →
     StandsIn old k went cs now → length now + went ≡ length old + length cs
-in-length {old} {k} {went} within s =
+in-length old now k went cs within s =
     let a = ap length s.is in let b = length-append (take k old ++ s.added) (drop (k + went) old) in
     let c = length-append (take k old) s.added in
     let d = length-take-le k old (omega arith) in let e = length-drop (k + went) old in
@@ -50,11 +50,10 @@ pub went-within : (long k gone : ℕ) (cs : List LineContent) → k + gone ≤ l
 went-within long k gone cs within = omega (arith, within)
 
 -- the next one is put in
-more-in : {old now : List Named} {k went : ℕ} {cs : List LineContent} (after : List Named) (at : ℕ) (p : NodePtr)
-    (c : LineContent) →
+more-in : (old now after : List Named) (k went at : ℕ) (cs : List LineContent) (p : NodePtr) (c : LineContent) →
     k ≤ length old → StandsIn old k went cs now → at ≡ k + length cs → after ≡ insert now at (p, c) →
     StandsIn old k went (cs ++ c ∷ []) after
-more-in {old} {k} {went} {cs} after at p c within s place is =
+more-in old now after k went at cs p c within s place is =
     let front = take k old ++ s.added in let back = drop (k + went) old in
     let e = put-place old k at s.added cs within s.contents_of place in
     let low : length front ≤ length front = omega arith in
@@ -79,10 +78,10 @@ changed-behind : (xs ys : List Named) (c : LineContent) → changed (length xs) 
 changed-behind [] ys c = refl
 changed-behind (x ∷ xs) ys c = ap (λ zs. x ∷ zs) (changed-behind xs ys c)
 
-over-in : {old now : List Named} {k went : ℕ} {cs : List LineContent} (after : List Named) (at : ℕ) (c : LineContent) →
+over-in : (old now after : List Named) (k went at : ℕ) (cs : List LineContent) (c : LineContent) →
     k + went < length old → StandsIn old k went cs now → at ≡ k + length cs → after ≡ changed at (λ _. c) now →
     StandsIn old k (suc went) (cs ++ c ∷ []) after
-over-in {old} {k} {went} {cs} after at c within s place is =
+over-in old now after k went at cs c within s place is =
     let front = take k old ++ s.added in let back = drop (k + went) old in
     let e = put-place old k at s.added cs (omega arith) s.contents_of place in
     let o = first-over old (k + went) c within in let next : suc (k + went) ≡ k + suc went = omega arith in
@@ -97,29 +96,29 @@ over-in {old} {k} {went} {cs} after at c within s place is =
     }
 
 -- the one or the other
-pub next-in : {old now : List Named} {k : ℕ} {cs : List LineContent} (after : List Named) (gone at : ℕ)
-    (c : LineContent) →
+pub next-in : (old now after : List Named) (k gone at : ℕ) (cs : List LineContent) (c : LineContent) →
     k + gone ≤ length old → StandsIn old k (min gone (length cs)) cs now → at ≡ k + length cs →
     (at < k + gone → after ≡ changed at (λ _. c) now) →
     (k + gone ≤ at → (p : NodePtr) × (after ≡ insert now at (p, c)))
     → StandsIn old k (min gone (length (cs ++ c ∷ []))) (cs ++ c ∷ []) after
-next-in {old} {now} {k} {cs} after gone at c within s place over more = let long = length-append cs (c ∷ []) in
+next-in old now after k gone at cs c within s place over more = let long = length-append cs (c ∷ []) in
     elim (cases_lt (length cs) gone) [
       | inr few ↦
           let m = more (omega (arith, few, place)) in
           let e : min gone (length cs) ≡ min gone (length (cs ++ c ∷ [])) = omega (arith, few, long) in
           subst (λ w. StandsIn old k w (cs ++ c ∷ []) after) e
-          (more-in after at m.0 c (omega (arith, within)) s place m.1)
+          (more-in old now after k (min gone (length cs)) at cs m.0 c (omega (arith, within)) s place m.1)
       | inl many ↦
           let e : suc (min gone (length cs)) ≡ min gone (length (cs ++ c ∷ [])) = omega (arith, many, long) in
-          subst (λ w. StandsIn old k w (cs ++ c ∷ []) after) e (over-in after at c (omega (arith, many, within)) s place
+          subst (λ w. StandsIn old k w (cs ++ c ∷ []) after) e
+          (over-in old now after k (min gone (length cs)) at cs c (omega (arith, many, within)) s place
           (over (omega (arith, many, place))))
     ]
 
 -- ---- what is counted of them
-in-total : {old now : List Named} {k went : ℕ} {cs : List LineContent} → StandsIn old k went cs now →
+in-total : (old now : List Named) (k went : ℕ) (cs : List LineContent) → StandsIn old k went cs now →
     (f : Count → ℕ) → ((a b : Count) → f (plus a b) ≡ f a + f b) → f (total now) ≤ f (total old) + f (count_of cs)
-in-total {old} {k} {went} s f adds =
+in-total old now k went cs s f adds =
     let back = drop (k + went) old in
     let a = ap (λ ls. f (total ls)) s.is in let b = ap f (total-append (take k old ++ s.added) back) in
     let c = ap f (total-append (take k old) s.added) in
@@ -140,18 +139,16 @@ content-part [] rest c f adds = let a = adds (line_count c) (count_of rest) in l
 content-part (x ∷ cs) rest c f adds = let r = content-part cs rest c f adds in
     let a = adds (line_count x) (count_of cs) in let b = adds (line_count x) (count_of (cs ++ c ∷ rest)) in omega arith
 
-pub next-fits : {old now : List Named} {k went : ℕ} {cs : List LineContent} (rest : List LineContent) (c : LineContent)
-    →
-    StandsIn old k went cs now → FitsSum (plus (total old) (count_of (cs ++ c ∷ rest))) → FitsSum
-    (plus (total now) (line_count c))
-next-fits {old} {now} {k} {went} {cs} rest c s fits =
+pub next-fits : (old now : List Named) (k went : ℕ) (cs rest : List LineContent) (c : LineContent) →
+    StandsIn old k went cs now → FitsSum (plus (total old) (count_of (cs ++ c ∷ rest))) → FitsSum (plus (total now) (line_count c))
+next-fits old now k went cs rest c s fits =
     let a = fits.lines in let b = fits.characters in let d = fits.marks in
     record {
-      lines = let f : Count → ℕ = λ z. z.lines in let m = in-total s f (λ u v. refl) in
+      lines = let f : Count → ℕ = λ z. z.lines in let m = in-total old now k went cs s f (λ u v. refl) in
           let p = content-part cs rest c f (λ u v. refl) in omega arith;
-      characters = let f : Count → ℕ = λ z. z.characters in let m = in-total s f (λ u v. refl) in
+      characters = let f : Count → ℕ = λ z. z.characters in let m = in-total old now k went cs s f (λ u v. refl) in
           let p = content-part cs rest c f (λ u v. refl) in omega arith;
-      marks = let f : Count → ℕ = λ z. z.marks in let m = in-total s f (λ u v. refl) in
+      marks = let f : Count → ℕ = λ z. z.marks in let m = in-total old now k went cs s f (λ u v. refl) in
           let p = content-part cs rest c f (λ u v. refl) in omega arith;
     }
 
@@ -254,9 +251,9 @@ then-fits old now k gone new added fits contents is =
     let both = parts-fit (total old) new gone fits in
     let l = both.lines in let ch = both.characters in let m = both.marks in
     record {
-      lines = let p = in-total s (λ z. z.lines) (λ u v. refl) in omega arith;
-      characters = let p = in-total s (λ z. z.characters) (λ u v. refl) in omega arith;
-      marks = let p = in-total s (λ z. z.marks) (λ u v. refl) in omega arith;
+      lines = let p = in-total old now k 0 (drop gone new) s (λ z. z.lines) (λ u v. refl) in omega arith;
+      characters = let p = in-total old now k 0 (drop gone new) s (λ z. z.characters) (λ u v. refl) in omega arith;
+      marks = let p = in-total old now k 0 (drop gone new) s (λ z. z.marks) (λ u v. refl) in omega arith;
     }
 
 pub no-fewer : (old now added : List Named) (k : ℕ) → now ≡ take k old ++ added ++ drop k old → length old ≤ length now

@@ -18,27 +18,26 @@ use Rattle.line_tree.proofs.UpdateLaws.{named-refilled, refilled-named}
 use Rattle.std.specs.FinMap as finite
 
 -- ---- with room
-pub grows-room : {m l : Records} {h k : ℕ} {p : NodePtr} {ts : List (Tree h)} {x : Tree 0} {us : List (Tree h)}
-    (n : Records)
+pub grows-room : (m l n : Records) (h : ℕ) (p : NodePtr) (ts : List (Tree h)) (k : ℕ) (x : Tree 0) (us : List (Tree h))
     → Grows m l h ts k x us → IsSome (finite.get m p) → (Among p (names_of h ts) → ⊥) → p ≢ x.0
     → CanFill l p (tops h us) → n ≡ refilled l p (row (tops h us)) → Grows m n (suc h) ((p, ts) ∷ []) k x ((p, us) ∷ [])
-grows-room {m} {l} {h} {k} {p} {ts} {x} {us} n g named out other_name can is =
+grows-room m l n h p ts k x us g named out other_name can is =
     let p_out : Among p (names_of h us) → ⊥ = λ a.
     elim (g.within p a) [ inl b ↦ out b | inr b ↦ elim b [ inl e ↦ other_name e | inr e ↦ unnamed m p named e ] ] in
     subst (λ z. Grows m z (suc h) ((p, ts) ∷ []) k x ((p, us) ∷ [])) (sym is)
-    (grows-up (refilled l p (row (tops h us))) p g named out other_name
-    (built h us can g.holds (p_out, g.distinct)) (refilled-other l p (tops h us))
+    (grows-up m l (refilled l p (row (tops h us))) h p ts k x us g named out other_name
+    (built l h p us can g.holds (p_out, g.distinct)) (refilled-other l p (tops h us))
     (named-refilled l p (row (tops h us))) (refilled-named l p (row (tops h us))))
 
 -- ---- without
-pub grows-split : {m l : Records} {h k : ℕ} {p s : NodePtr} {ts : List (Tree h)} {x : Tree 0} (n : Records)
-    (cs1 ds1 : List (Tree h)) → Grows m l h ts k x (cs1 ++ ds1) → IsSome (finite.get m p) →
+pub grows-split : (m l n : Records) (h : ℕ) (p : NodePtr) (ts : List (Tree h)) (k : ℕ) (x : Tree 0)
+    (cs1 ds1 : List (Tree h)) (s : NodePtr) → Grows m l h ts k x (cs1 ++ ds1) → IsSome (finite.get m p) →
     (Among p (names_of h ts) → ⊥) → p ≢ x.0
     → finite.get l s ≡ None → CanFill (finite.insert l s (blank None)) p (tops h cs1) →
     CanFill (refilled (finite.insert l s (blank None)) p (row (tops h cs1))) s (tops h ds1)
     → n ≡ refilled (refilled (finite.insert l s (blank None)) p (row (tops h cs1))) s (row (tops h ds1)) →
     Grows m n (suc h) ((p, ts) ∷ []) k x ((p, cs1) ∷ (s, ds1) ∷ [])
-grows-split {m} {l} {h} {k} {p} {s} {ts} {x} n cs1 ds1 g named out other_name fresh can_left can_right is =
+grows-split m l n h p ts k x cs1 ds1 s g named out other_name fresh can_left can_right is =
     let made = finite.insert l s (blank None) in let left = refilled made p (row (tops h cs1)) in
     let last = refilled left s (row (tops h ds1)) in
     let us = cs1 ++ ds1 in
@@ -57,14 +56,14 @@ grows-split {m} {l} {h} {k} {p} {s} {ts} {x} n cs1 ds1 g named out other_name fr
     let p_bs : Among p (names_of h ds1) → ⊥ = λ a. p_out (in-right h cs1 ds1 p a) in
     let s_as : Among s (names_of h cs1) → ⊥ = λ a. s_out (in-left h cs1 ds1 s a) in
     let s_bs : Among s (names_of h ds1) → ⊥ = λ a. s_out (in-right h cs1 ds1 s a) in
-    let first : Holds left (suc h) (p, cs1) = built h cs1 can_left as_made (
+    let first : Holds left (suc h) (p, cs1) = built made h p cs1 can_left as_made (
       p_as,
       distinct-left (names_of h cs1) (names_of h ds1) d,
     ) in
     let bs_left = all-same made left h ds1 bs_made (λ q a.
     refilled-other made p (tops h cs1) q (λ e. p_bs (subst (λ z. Among z (names_of h ds1)) e a)) (λ b.
     apart q (tops-among h cs1 q b) a)) in
-    let second : Holds last (suc h) (s, ds1) = built h ds1 can_right bs_left (
+    let second : Holds last (suc h) (s, ds1) = built left h s ds1 can_right bs_left (
       s_bs,
       distinct-right (names_of h cs1) (names_of h ds1) d,
     ) in
@@ -140,35 +139,34 @@ grows-split {m} {l} {h} {k} {p} {s} {ts} {x} n cs1 ds1 g named out other_name fr
     ]
 
 -- ---- by the number of children
-pub grows-put : {m l : Records} {h k at : ℕ} {p y : NodePtr} {ts : List (Tree h)} {x : Tree 0} {us : List (Tree h)}
-    (n : Records) (o : Option NodePtr) → Grows m l h ts k x us → IsSome (finite.get m p) →
+pub grows-put : (m l n : Records) (h : ℕ) (p : NodePtr) (ts : List (Tree h)) (k : ℕ) (x : Tree 0) (us : List (Tree h))
+    (at : ℕ) (y : NodePtr) (o : Option NodePtr) → Grows m l h ts k x us → IsSome (finite.get m p) →
     (Among p (names_of h ts) → ⊥) → p ≢ x.0
     → CanPut l p at y → insert (kids l p) at y ≡ tops h us → (puts : Puts l n p (insert (kids l p) at y) o) →
     Grows m n (suc h) ((p, ts) ∷ []) k x (parted h p us (split_at l n p (insert (kids l p) at y) o puts) o)
-grows-put {m} {l} {h} {k} {at} {p} {y} {ts} {x} {us} n None g named out other_name can same puts =
-    grows-room n g named out other_name (subst (CanFill l p) same (fill-room can puts.few))
+grows-put m l n h p ts k x us at y None g named out other_name can same puts =
+    grows-room m l n h p ts k x us g named out other_name (subst (CanFill l p) same (fill-room l p at y can puts.few))
     (puts.same ∙ ap (λ cs. refilled l p (row cs)) same)
-grows-put {m} {l} {h} {k} {at} {p} {y} {ts} {x} {us} n (Some s) g named out other_name can same puts =
+grows-put m l n h p ts k x us at y (Some s) g named out other_name can same puts =
     let all = insert (kids l p) at y in let made = finite.insert l s (blank None) in let many = puts.many in
     let half = puts.half in let low = puts.low in let high = puts.high in
     let few : length all ≤ half + 12 = omega arith in
     let e1 : take half all ≡ tops h (take half us) = ap (take half) same ∙ take-map (λ (t : Tree h). t.0) half us in
     let e2 : drop half all ≡ tops h (drop half us) = ap (drop half) same ∙ drop-map (λ (t : Tree h). t.0) half us in
-    grows-split n (take half us) (drop half us)
+    grows-split m l n h p ts k x (take half us) (drop half us) s
     (subst (λ zs. Grows m l h ts k x zs) (sym (take-append-drop half us)) g) named out other_name puts.fresh
-    (subst (CanFill made p) e1 (fill-left can s puts.fresh half (omega arith)))
+    (subst (CanFill made p) e1 (fill-left l p at y can s puts.fresh half (omega arith)))
     (subst (λ cs. CanFill (refilled made p (row cs)) s (tops h (drop half us))) e1
-    (subst (CanFill (refilled made p (row (take half all))) s) e2 (fill-right can s puts.fresh half few)))
+    (subst (CanFill (refilled made p (row (take half all))) s) e2 (fill-right l p at y can s puts.fresh half few)))
     (puts.same ∙ ap (λ cs. refilled (refilled made p (row cs)) s (row (drop half all))) e1
     ∙ ap (λ cs. refilled (refilled made p (row (tops h (take half us)))) s (row cs)) e2)
 
 -- ---- the sum alone
-pub grows-resum : {m l : Records} {h k : ℕ} {p : NodePtr} {ts : List (Tree h)} {x : Tree 0} {us : List (Tree h)}
-    (n : Records)
+pub grows-resum : (m l n : Records) (h : ℕ) (p : NodePtr) (ts : List (Tree h)) (k : ℕ) (x : Tree 0) (us : List (Tree h))
     → Grows m l h ts k x us → IsSome (finite.get m p) → (Among p (names_of h ts) → ⊥) → p ≢ x.0
     → HasRow l p → kids l p ≡ tops h us → Links l p 0 (tops h us) → n ≡ resummed l p (row (kids l p)) →
     Grows m n (suc h) ((p, ts) ∷ []) k x ((p, us) ∷ [])
-grows-resum {m} {l} {h} {k} {p} {ts} {x} {us} n g named out other_name has same links is =
+grows-resum m l n h p ts k x us g named out other_name has same links is =
     let cs = tops h us in let s = sums l (row (kids l p)) in let last = resummed l p (row (kids l p)) in
     let p_out : Among p (names_of h us) → ⊥ = λ a.
     elim (g.within p a) [ inl b ↦ out b | inr b ↦ elim b [ inl e ↦ other_name e | inr e ↦ unnamed m p named e ] ] in
@@ -188,7 +186,7 @@ grows-resum {m} {l} {h} {k} {p} {ts} {x} {us} n g named out other_name has same 
       all-same l last h us g.holds off,
     ) in
     subst (λ z. Grows m z (suc h) ((p, ts) ∷ []) k x ((p, us) ∷ [])) (sym is)
-    (grows-up last p g named out other_name holds (λ q a b. frame q a)
+    (grows-up m l last h p ts k x us g named out other_name holds (λ q a b. frame q a)
     (named-update l p (λ r. with_sum r s)) (update-named l p (λ r. with_sum r s)))
 
 -- ---- the tree at each name

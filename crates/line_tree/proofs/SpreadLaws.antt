@@ -5,7 +5,7 @@ use Rattle.line_tree.proofs.Common.{None, Some, AllByRecursion, append-nil, leng
 use Rattle.line_tree.proofs.Common.{Among, Distinct, FitsSum, Halves, refilled, Holds, IsTree, Links, line_of, lines_in}
 use Rattle.line_tree.proofs.Common.{sum_at, sum_of, tree_at, IsBalanced, Tree, names, tops, total, NodePtr, Records}
 use Rattle.line_tree.proofs.Common.{kids, kids_of, row, plus, CanInsert, Grows, Inserts, IsWide, lines_of, names_of}
-use Rattle.line_tree.proofs.Common.{with_line, Turns, CanSpread, IsPair, Moves, Respreads, first_part, Found}
+use Rattle.line_tree.proofs.Common.{trees, with_line, Turns, CanSpread, IsPair, Moves, Respreads, first_part, Found}
 use mathlib.Core.Bool.{false≢true}
 use Rattle.line_tree.proofs.AmongLaws.{among-or}
 use Rattle.line_tree.proofs.BuildLaws.{trees-is}
@@ -47,7 +47,7 @@ module _ (m : Records) (g : ℕ) (p : NodePtr) (k : ℕ) (x : NodePtr) (can : Ca
   pub can-spread : CanSpread m p
   can-spread = record {
     row = row-tree m (suc g) p can.tree;
-    pairs = λ i a b at_a at_b. can-even siblings i a b at_a at_b;
+    pairs = λ i a b at_a at_b. can-even m g p cs siblings i a b at_a at_b;
     each = λ i c at. (
       row-tree m g c (child-tree m (suc g) cs i c can.tree.2 at),
       six c (all-get (IsBalanced (suc g)) (tree_at m (suc g)) cs i c can.wide.2 at),
@@ -74,17 +74,17 @@ module _ (m : Records) (g : ℕ) (p : NodePtr) (k : ℕ) (x : NodePtr) (can : Ca
     us = left ++ (new ++ right)
 
     placed : ts ≡ left ++ (two ++ right)
-    placed = pair-placed siblings moves.at moves.left moves.right moves.is_left moves.is_right
+    placed = pair-placed m g p cs siblings moves.at moves.left moves.right moves.is_left moves.is_right
 
     turn : Turns m n (suc g) ts us
-    turn = turns-among siblings moves.at moves.left moves.right moves.is_left moves.is_right n new
-        (share-turns siblings moves.at moves.left moves.right moves.is_left moves.is_right moves.shares)
+    turn = turns-among m g p cs siblings moves.at moves.left moves.right moves.is_left moves.is_right n new
+        (share-turns m g p cs siblings moves.at moves.left moves.right moves.is_left moves.is_right n moves.shares)
 
     node-same : finite.get n p ≡ finite.get m p
     node-same = turn.other p can.distinct.0
 
     tops-same : tops (suc g) us ≡ cs
-    tops-same = tops-among-two siblings moves.at moves.left moves.right moves.is_left moves.is_right new
+    tops-same = tops-among-two m g p cs siblings moves.at moves.left moves.right moves.is_left moves.is_right new
         ∙ sym (pair-same cs moves.at moves.left moves.right moves.is_left moves.is_right)
 
     tree-now : tree_at n (suc (suc g)) p ≡ (p, us)
@@ -102,7 +102,7 @@ module _ (m : Records) (g : ℕ) (p : NodePtr) (k : ℕ) (x : NodePtr) (can : Ca
         inner = node.inner;
       },
       subst (Links n p 0) (sym tops-same)
-          (share-links siblings moves.at moves.left moves.right moves.is_left moves.is_right moves.shares),
+          (share-links m g p cs siblings moves.at moves.left moves.right moves.is_left moves.is_right n moves.shares),
       turn.holds,
     )
 
@@ -125,9 +125,9 @@ module _ (m : Records) (g : ℕ) (p : NodePtr) (k : ℕ) (x : NodePtr) (can : Ca
             | inl d ↦ in-left (suc g) new right q
                 (share-inside m g moves.left moves.right (map (tree_at m g) (kids m moves.left))
                 (map (tree_at m g) (kids m moves.right))
-                (hold-left siblings moves.at moves.left moves.right moves.is_left moves.is_right)
-                (hold-right siblings moves.at moves.left moves.right moves.is_left moves.is_right)
-                (pair-two-apart siblings moves.at moves.left moves.right moves.is_left moves.is_right)
+                (hold-left m g p cs siblings moves.at moves.left moves.right moves.is_left moves.is_right)
+                (hold-right m g p cs siblings moves.at moves.left moves.right moves.is_left moves.is_right)
+                (pair-two-apart m g p cs siblings moves.at moves.left moves.right moves.is_left moves.is_right)
                 moves.shares.half q d)
             | inr d ↦ in-right (suc g) new right q d
           ])
@@ -140,7 +140,7 @@ module _ (m : Records) (g : ℕ) (p : NodePtr) (k : ℕ) (x : NodePtr) (can : Ca
         let a = rest.0 in let b = rest.1.0 in
         all-append (IsBalanced (suc g)) left (new ++ right) (all-left (IsBalanced (suc g)) left (two ++ right) old)
         (all-append (IsBalanced (suc g)) new right
-        (share-balanced siblings moves.at moves.left moves.right moves.is_left moves.is_right moves.shares
+        (share-balanced m g p cs siblings moves.at moves.left moves.right moves.is_left moves.is_right n moves.shares
         (all-append (IsBalanced g) (map (tree_at m g) (kids m moves.left)) (map (tree_at m g) (kids m moves.right)) a.2
         b.2))
         (all-right (IsBalanced (suc g)) two right rest))
@@ -158,8 +158,8 @@ module _ (m : Records) (g : ℕ) (p : NodePtr) (k : ℕ) (x : NodePtr) (can : Ca
       turns = subst (λ t. Turns m n (suc (suc g)) ((p, ts) ∷ []) (t ∷ [])) (sym tree-now) turns-node;
       inside = λ q a. subst (λ t. Among q (names (suc (suc g)) t)) (sym tree-now)
           (elim a [ inl e ↦ inl e | inr i ↦ inr (inside-now q i) ]);
-      kept = share-named siblings moves.at moves.left moves.right moves.is_left moves.is_right moves.shares;
-      old = named-share siblings moves.at moves.left moves.right moves.is_left moves.is_right moves.shares;
+      kept = share-named m g p cs siblings moves.at moves.left moves.right moves.is_left moves.is_right n moves.shares;
+      old = named-share m g p cs siblings moves.at moves.left moves.right moves.is_left moves.is_right n moves.shares;
       wide = λ least w. subst (IsWide least (suc (suc g))) (sym tree-now) (wide-now least w);
       same = node-same;
     }
@@ -175,9 +175,9 @@ pub room-none : (cs : List NodePtr) (o : Option NodePtr) (room : ℕ) → o ≡ 
 room-none cs None room e small n = absurd (false≢true n)
 room-none cs (Some c) room e small n = let more = slice_get_within cs (12 - room) c (sym e) in omega arith
 
-module _ {m : Records} {p : NodePtr} {slot at : ℕ} (can : CanSpread m p) (child left right : NodePtr)
-    (at_child : slice_get (kids m p) slot ≡ Some child) (full : 12 < length (kids m child) + 1)
-    (pair : IsPair m p slot at) (at_left : slice_get (kids m p) at ≡ Some left)
+module _ (m : Records) (p : NodePtr) (can : CanSpread m p) (slot : ℕ) (child : NodePtr)
+    (at_child : slice_get (kids m p) slot ≡ Some child) (full : 12 < length (kids m child) + 1) (at : ℕ)
+    (pair : IsPair m p slot at) (left right : NodePtr) (at_left : slice_get (kids m p) at ≡ Some left)
     (at_right : slice_get (kids m p) (suc at) ≡ Some right) where
   pub enough : 18 ≤ length (kids m left) + length (kids m right)
   enough = let a = can.each at left at_left in let b = can.each (suc at) right at_right in
@@ -200,8 +200,8 @@ halves-first count false low high =
     record { low = omega arith; high = omega arith; rest_low = omega arith; rest_high = omega arith }
 
 -- nothing is changed
-pub unmoved : {m : Records} {h k : ℕ} {p x : NodePtr} → CanInsert m h p k x → Respreads m m h p
-unmoved {m} {h} {p} can = record {
+pub unmoved : (m : Records) (h : ℕ) (p : NodePtr) (k : ℕ) (x : NodePtr) → CanInsert m h p k x → Respreads m m h p
+unmoved m h p k x can = record {
   turns = turns-none m h (tree_at m h p ∷ []) (can.tree, tt)
       (subst Distinct (sym (append-nil (names h (tree_at m h p)))) can.distinct);
   inside = λ q a. a;
@@ -212,7 +212,8 @@ unmoved {m} {h} {p} can = record {
 }
 
 -- ---- the line can go in yet
-module _ {m n : Records} {h k : ℕ} {p x : NodePtr} (can : CanInsert m h p k x) (r : Respreads m n h p) where
+module _ (m n : Records) (h : ℕ) (p : NodePtr) (k : ℕ) (x : NodePtr) (can : CanInsert m h p k x)
+    (r : Respreads m n h p) where
   line-same : finite.get n x ≡ finite.get m x
   line-same = r.turns.other x (λ a. can.new (of-one x (names h (tree_at m h p)) a))
 
@@ -243,9 +244,9 @@ module _ {m n : Records} {h k : ℕ} {p x : NodePtr} (can : CanInsert m h p k x)
   }
 
   -- and once it is in, it went in
-  grows-yet : {u : Records} {vs : List (Tree h)} → Grows n u h (tree_at n h p ∷ []) k (tree_at n 0 x) vs →
+  grows-yet : (u : Records) (vs : List (Tree h)) → Grows n u h (tree_at n h p ∷ []) k (tree_at n 0 x) vs →
       Grows m u h (tree_at m h p ∷ []) k (tree_at m 0 x) vs
-  grows-yet g =
+  grows-yet u vs g =
       let first = tree_at m h p ∷ [] in let e = r.turns.line in record {
         holds = g.holds;
         line = g.line ∙ (λ i. with_line (e i) k (line-tree i));
@@ -268,19 +269,18 @@ module _ {m n : Records} {h k : ℕ} {p x : NodePtr} (can : CanInsert m h p k x)
         old = λ q s off. r.old q (g.old q s off);
       }
 
-  pub inserts-yet : {u : Records} {o : Option NodePtr} → Inserts n u h p k x o → Inserts m u h p k x o
-  inserts-yet {u} {o} ins = record {
-    grows = grows-yet ins.grows;
+  pub inserts-yet : (u : Records) (o : Option NodePtr) → Inserts n u h p k x o → Inserts m u h p k x o
+  inserts-yet u o ins = record {
+    grows = grows-yet u (trees u h p o) ins.grows;
     wide = record {
       wide = λ least small w. ins.wide.wide least small (r.wide least w);
       split = λ s w. ins.wide.split s (r.wide 1 w);
     };
-    link = keeps-after m r.same ins.link;
+    link = keeps-after m n u p r.same ins.link;
   }
 
-pub len-moves : {m n : Records} {p : NodePtr} {f : Found} {in_order : Bool} → Moves m n p f in_order → finite.len n
-    ≡ finite.len m
-len-moves {m} moves = let a = moves.left in let b = moves.right in let all = kids m a ++ kids m b in
+pub len-moves : (m n : Records) (p : NodePtr) (f : Found) (in_order : Bool) → Moves m n p f in_order → finite.len n ≡ finite.len m
+len-moves m n p f in_order moves = let a = moves.left in let b = moves.right in let all = kids m a ++ kids m b in
     let half = moves.shares.half in
     ap finite.len moves.shares.same
     ∙ len-refilled (refilled m a (row (take half all))) b (row (drop half all))

@@ -43,19 +43,17 @@ pub keeps-same : (m n : Records) (p : NodePtr) → IsSome (finite.get m p) → f
 keeps-same m n p named e = let r = some_of (finite.get m p) named in
     record { before = r.0; was = r.1; after = r.0; is = e ∙ r.1; parent = refl; slot = refl }
 
-pub keeps-after : {l n : Records} {p : NodePtr} (m : Records) → finite.get l p ≡ finite.get m p → KeepsLink l n p
-    → KeepsLink m n p
-keeps-after m e k =
+pub keeps-after : (m l n : Records) (p : NodePtr) → finite.get l p ≡ finite.get m p → KeepsLink l n p → KeepsLink m n p
+keeps-after m l n p e k =
     record { before = k.before; was = sym e ∙ k.was; after = k.after; is = k.is; parent = k.parent; slot = k.slot }
 
-pub keeps-then : {m l : Records} {p : NodePtr} (n : Records) → KeepsLink m l p → finite.get n p ≡ finite.get l p
-    → KeepsLink m n p
-keeps-then n k e =
+pub keeps-then : (m l n : Records) (p : NodePtr) → KeepsLink m l p → finite.get n p ≡ finite.get l p → KeepsLink m n p
+keeps-then m l n p k e =
     record { before = k.before; was = k.was; after = k.after; is = e ∙ k.is; parent = k.parent; slot = k.slot }
 
-pub keeps-refilled : {m : Records} {p : NodePtr} {cs : List NodePtr} → CanFill m p cs →
+pub keeps-refilled : (m : Records) (p : NodePtr) (cs : List NodePtr) → CanFill m p cs →
     KeepsLink m (refilled m p (row cs)) p
-keeps-refilled {m} {p} {cs} can = let l = relinked m p 0 (row cs) in let s = sums l (row cs) in record {
+keeps-refilled m p cs can = let l = relinked m p 0 (row cs) in let s = sums l (row cs) in record {
   before = can.found;
   was = can.is;
   after = record can.found { children = row cs; sum = s };
@@ -65,17 +63,19 @@ keeps-refilled {m} {p} {cs} can = let l = relinked m p 0 (row cs) in let s = sum
   slot = refl;
 }
 
-pub keeps-put : {m : Records} {p y : NodePtr} {at : ℕ} (n : Records) (o : Option NodePtr) → CanPut m p at y →
+pub keeps-put : (m n : Records) (p : NodePtr) (at : ℕ) (y : NodePtr) (o : Option NodePtr) → CanPut m p at y →
     Puts m n p (insert (kids m p) at y) o → KeepsLink m n p
-keeps-put {m} {p} {y} {at} n None can puts = let all = insert (kids m p) at y in
-    subst (λ z. KeepsLink m z p) (sym puts.same) (keeps-refilled (fill-room can puts.few))
-keeps-put {m} {p} {y} {at} n (Some s) can puts =
+keeps-put m n p at y None can puts = let all = insert (kids m p) at y in
+    subst (λ z. KeepsLink m z p) (sym puts.same) (keeps-refilled m p all (fill-room m p at y can puts.few))
+keeps-put m n p at y (Some s) can puts =
     let all = insert (kids m p) at y in let made = finite.insert m s (blank None) in
-    let left = refilled made p (row (take puts.half all)) in let named = named-row can.row in
+    let left = refilled made p (row (take puts.half all)) in let named = named-row m p can.row in
     let p_s : p ≢ s = λ e. unnamed m p named (ap (finite.get m) e ∙ puts.fresh) in
-    subst (λ z. KeepsLink m z p) (sym puts.same) (keeps-then (refilled left s (row (drop puts.half all)))
-    (keeps-after m (get_other m s (blank None) p p_s) (keeps-refilled
-    (fill-left can s puts.fresh puts.half (omega (arith, puts.high)))))
+    subst (λ z. KeepsLink m z p) (sym puts.same)
+    (keeps-then m left (refilled left s (row (drop puts.half all))) p
+    (keeps-after m made left p (get_other m s (blank None) p p_s)
+    (keeps-refilled made p (take puts.half all)
+    (fill-left m p at y can s puts.fresh puts.half (omega (arith, puts.high)))))
     (refilled-other left s (drop puts.half all) p p_s (λ a.
     can.apart (subst (Among p) (take-append-drop puts.half all)
     (among-right p (take puts.half all) (drop puts.half all) a)))))
@@ -157,12 +157,12 @@ total-with_line ls k x =
     new ∙ ap (plus a) (plus-commutative d b) ∙ sym (plus-associative a b d) ∙ ap (λ s. plus s d) (sym old)
 
 -- ---- the new child can be put in
-pub can-put : {m l : Records} {h k : ℕ} {p : NodePtr} {ts : List (Tree h)} {x : Tree 0} {us : List (Tree h)} (at : ℕ)
-    (y : NodePtr) → Grows m l h ts k x us → IsSome (finite.get m p) → (Among p (names_of h ts) → ⊥) → p ≢ x.0
+pub can-put : (m l : Records) (h : ℕ) (p : NodePtr) (ts : List (Tree h)) (k : ℕ) (x : Tree 0) (us : List (Tree h))
+    (at : ℕ) (y : NodePtr) → Grows m l h ts k x us → IsSome (finite.get m p) → (Among p (names_of h ts) → ⊥) → p ≢ x.0
     → HasRow l p → Links l p 0 (kids l p) → at ≤ length (kids l p) → IsSome (finite.get l y) →
     insert (kids l p) at y ≡ tops h us → FitsSum (plus (total (lines_of h ts)) (total (lines zero x))) →
     CanPut l p at y
-can-put {m} {l} {h} {k} {p} {ts} {x} {us} at y g named out other_name has links place y_named same fits = record {
+can-put m l h p ts k x us at y g named out other_name has links place y_named same fits = record {
   row = has;
   links = links;
   place = place;

@@ -21,8 +21,8 @@ pub fits-right : (a b : Count) → FitsSum (plus a b) → FitsSum b
 fits-right a b fits = let l = fits.lines in let c = fits.characters in let m = fits.marks in
     record { lines = omega (arith, l); characters = omega (arith, c); marks = omega (arith, m) }
 
-pub fits-none : {a : Count} → FitsSum a → FitsSum (plus a no_text)
-fits-none {a} fits = subst FitsSum (sym (plus-no_text a)) fits
+pub fits-none : (a : Count) → FitsSum a → FitsSum (plus a no_text)
+fits-none a fits = subst FitsSum (sym (plus-no_text a)) fits
 
 pub fits-part : (a b c d : Count) → FitsSum (plus (plus a (plus b c)) d) → FitsSum (plus b d)
 fits-part a b c d fits = let l = fits.lines in let h = fits.characters in let m = fits.marks in

@@ -19,8 +19,9 @@ pub record IsOnlyIn (n : ℕ) (ls : List Named) (k : ℕ) : Type 0 where
   pub before : holder n (take k ls) ≡ None
   pub behind : holder n (drop (suc k) ls) ≡ None
 
-pub only-in : {n k : ℕ} {ls : List Named} {p : NodePtr} → AreLines (contents ls) → HeldAt n ls p k → IsOnlyIn n ls k
-only-in {n} {k} {ls} {p} are held =
+pub only-in : (n : ℕ) (ls : List Named) (p : NodePtr) (k : ℕ) → AreLines (contents ls) → HeldAt n ls p k →
+    IsOnlyIn n ls k
+only-in n ls p k are held =
     let others = alone n ls k (p, held.line) are.rows held.at held.has in
     record { line = (p, held.line); at = held.at; has = held.has; before = others.0; behind = others.1 }
 
@@ -47,10 +48,9 @@ same-contents n [] none = refl
 same-contents n (l ∷ ls) none = let parts = not-first n l ls none in
     ap₂ (λ x xs. x ∷ xs) (no-mark n l.1 parts.0) (same-contents n ls parts.1)
 
-pub taken-lines : {n k : ℕ} {ls : List Named} (now : List Named) → IsOnlyIn n ls k → now ≡ changed k
-    (without_mark n) ls →
+pub taken-lines : (n : ℕ) (ls now : List Named) (k : ℕ) → IsOnlyIn n ls k → now ≡ changed k (without_mark n) ls →
     contents now ≡ map (without_mark n) (contents ls)
-taken-lines {n} {k} {ls} now only is =
+taken-lines n ls now k only is =
     let front = take k ls in let back = drop (suc k) ls in let w = without_mark n in let l = only.line in
     ap contents (is ∙ changed-is ls k l w only.at)
     ∙ map-append (λ (x : Named). x.1) front ((l.0, w l.1) ∷ back)
@@ -59,27 +59,27 @@ taken-lines {n} {k} {ls} now only is =
     ∙ map-append w (contents front) (contents (l ∷ back))
     ∙ ap₂ (λ xs ys. xs ++ (w l.1 ∷ ys)) (same-contents n front only.before) (same-contents n back only.behind))
 
-pub taken-are : {n k : ℕ} {ls : List Named} (now : List Named) → AreLines (contents ls) → IsOnlyIn n ls k →
+pub taken-are : (n : ℕ) (ls now : List Named) (k : ℕ) → AreLines (contents ls) → IsOnlyIn n ls k →
     now ≡ changed k (without_mark n) ls → AreLines (contents now)
-taken-are {n} {k} {ls} now are only is =
-    subst AreLines (sym (taken-lines now only is)) (lines-are-without n (contents ls) are)
+taken-are n ls now k are only is =
+    subst AreLines (sym (taken-lines n ls now k only is)) (lines-are-without n (contents ls) are)
 
 -- ---- the table
 holder-here : (n : ℕ) (ls : List Named) (k : ℕ) (l : Named) → slice_get ls k ≡ Some l →
     holder n ls ≡ first (holder n (take k ls)) (cond (has_mark n l.1) (Some l.0) (holder n (drop (suc k) ls)))
 holder-here n ls k l at = ap (holder n) (sym (put-in ls k l at)) ∙ holder-append n (take k ls) (l ∷ drop (suc k) ls)
 
-pub noted-there : {n k : ℕ} {names : List (Option NodePtr)} {ls : List Named} → IsOnlyIn n ls k →
+pub noted-there : (n : ℕ) (names : List (Option NodePtr)) (ls : List Named) (k : ℕ) → IsOnlyIn n ls k →
     IsTable names ls → n < length names
-noted-there {n} {k} {names} {ls} only table =
+noted-there n names ls k only table =
     noted-within names n only.line.0
     (table.each n ∙ holder-here n ls k only.line only.at
     ∙ ap₂ (λ o b. first o (cond b (Some only.line.0) (holder n (drop (suc k) ls)))) only.before only.has)
 
-pub taken-table : {n k : ℕ} {names : List (Option NodePtr)} {ls : List Named} (now : List Named) → IsOnlyIn n ls k →
+pub taken-table : (n : ℕ) (names : List (Option NodePtr)) (ls now : List Named) (k : ℕ) → IsOnlyIn n ls k →
     IsTable names ls → now ≡ changed k (without_mark n) ls → IsTable (set names n None) now
-taken-table {n} {k} {names} {ls} now only table is = record {
-  each = λ q. noted-set names n q None (noted-there only table) ∙ which q (eq_by_cmp nat_cmp q n) refl
+taken-table n names ls now k only table is = record {
+  each = λ q. noted-set names n q None (noted-there n names ls k only table) ∙ which q (eq_by_cmp nat_cmp q n) refl
       ∙ sym (after q);
 } where
   after : (q : ℕ) → holder q now ≡ first (holder q (take k ls))

@@ -21,9 +21,8 @@ part-fits : (a c b s : Count) → FitsSum (plus (plus a (plus c b)) s) → FitsS
 part-fits a c b s fits = let l = fits.lines in let n = fits.characters in let m = fits.marks in
     record { lines = omega (arith, l); characters = omega (arith, n); marks = omega (arith, m) }
 
-pub slots-of-row : {m : Records} {p : NodePtr} (l : Records) → HasRow m p → finite.get l p ≡ finite.get m p
-    → HasSlots l p
-slots-of-row {m} {p} l has same = let e : kids l p ≡ kids m p = ap kids_of same in record {
+pub slots-of-row : (m l : Records) (p : NodePtr) → HasRow m p → finite.get l p ≡ finite.get m p → HasSlots l p
+slots-of-row m l p has same = let e : kids l p ≡ kids m p = ap kids_of same in record {
   found = has.found;
   is = same ∙ has.is;
   children = has.children ∙ ap row (sym e);
@@ -37,7 +36,7 @@ front-all m h cs i all =
     subst (AllByRecursion (Holds m h)) (take-map (tree_at m h) i cs) (all-take (Holds m h) i (trees_at m h cs) all)
 
 -- ---- at the lowest level
-module _ {m : Records} {p : NodePtr} {k : ℕ} {xs : List NodePtr} (can : CanTakeRow m 1 p k xs) where
+module _ (m : Records) (p : NodePtr) (k : ℕ) (xs : List NodePtr) (can : CanTakeRow m 1 p k xs) where
   low-split : kids m p ≡ take k (kids m p) ++ ([] ++ drop k (kids m p))
   low-split = sym (take-append-drop k (kids m p))
 
@@ -60,27 +59,27 @@ module _ {m : Records} {p : NodePtr} {k : ℕ} {xs : List NodePtr} (can : CanTak
   low-added = sym (append-nil (lines_of 0 (trees_at m 0 xs)))
 
   pub low-can : CanRaise (finite.remove m p) 0 (take k (kids m p) ++ (xs ++ drop k (kids m p)))
-  low-can = can-raise p (take k (kids m p)) [] (drop k (kids m p)) xs xs can.tree low-split can.row can.distinct
+  low-can = can-raise m m 0 p (take k (kids m p)) [] (drop k (kids m p)) xs xs can.tree low-split can.row can.distinct
       low-stays 0 k low-place (omega arith) low-added can.fits
 
-  pub low-takes : {n : Records} {ps : List NodePtr} → Raises (finite.remove m p) n 0
+  pub low-takes : (n : Records) (ps : List NodePtr) → Raises (finite.remove m p) n 0
       (take k (kids m p) ++ (xs ++ drop k (kids m p)))
       (length (take k (kids m p) ++ (xs ++ drop k (kids m p)))) ps →
       12 * length ps ≤ length (take k (kids m p) ++ (xs ++ drop k (kids m p))) + 11 → TakesRow m n 1 p k xs ps
-  low-takes {n} {ps} raises few = takes-row p (take k (kids m p)) [] (drop k (kids m p)) xs xs can.tree low-split
+  low-takes n ps raises few = takes-row m m 0 p (take k (kids m p)) [] (drop k (kids m p)) xs xs can.tree low-split
       can.row can.distinct low-stays 0 k low-place (omega arith) low-added can.wide can.some (omega arith)
-      (lines-balanced (trees_at m 0 xs)) raises few
+      (lines-balanced (trees_at m 0 xs)) n ps raises few
 
 -- ---- above it
-pub some-kids : {m : Records} {h k : ℕ} {p : NodePtr} {xs : List NodePtr} → CanTakeRow m (suc h) p k xs →
+pub some-kids : (m : Records) (h : ℕ) (p : NodePtr) (k : ℕ) (xs : List NodePtr) → CanTakeRow m (suc h) p k xs →
     0 < length (kids m p)
-some-kids {m} {h} {p} can = let n = length-map (kids m p) (tree_at m h) in let w = can.wide.0 in omega arith
+some-kids m h p k xs can = let n = length-map (kids m p) (tree_at m h) in let w = can.wide.0 in omega arith
 
-pub within-kids : {m : Records} {h k : ℕ} {p : NodePtr} {xs : List NodePtr} → CanTakeRow m (suc h) p k xs →
+pub within-kids : (m : Records) (h : ℕ) (p : NodePtr) (k : ℕ) (xs : List NodePtr) → CanTakeRow m (suc h) p k xs →
     k ≤ lines_below m p
-within-kids {m} {h} {p} can = let n = below-tree m h p can.tree in let w = can.place in omega arith
+within-kids m h p k xs can = let n = below-tree m h p can.tree in let w = can.place in omega arith
 
-module _ {m : Records} {h k : ℕ} {p : NodePtr} {xs : List NodePtr} {f : Found} (can : CanTakeRow m (suc h) p k xs)
+module _ (m : Records) (h : ℕ) (p : NodePtr) (k : ℕ) (xs : List NodePtr) (can : CanTakeRow m (suc h) p k xs) (f : Found)
     (leads : Leads m p k f) where
   abbrev child : Tree h
   child = tree_at m h f.child
@@ -157,10 +156,10 @@ module _ {m : Records} {h k : ℕ} {p : NodePtr} {xs : List NodePtr} {f : Found}
     becomes = subst (λ zs. Becomes m l (zs ++ new) h (trees_at l h ys)) (sym (append-nil (names h child))) b.becomes
 
     pub node-same : finite.get l p ≡ finite.get m p
-    node-same = node-stays p front (f.child ∷ []) back ys xs can.tree split can.row can.distinct becomes
+    node-same = node-stays m l h p front (f.child ∷ []) back ys xs can.tree split can.row can.distinct becomes
 
     pub slots-now : HasSlots l p
-    slots-now = slots-of-row l (row-tree m h p can.tree) node-same
+    slots-now = slots-of-row m l p (row-tree m h p can.tree) node-same
 
     place : k ≡ length (lines_of h (trees_at m h front)) + f.rest
     place = let e = counted m h front (front-all m h (kids m p) f.slot can.tree.2) in let a = leads.place in omega arith
@@ -173,12 +172,12 @@ module _ {m : Records} {h k : ℕ} {p : NodePtr} {xs : List NodePtr} {f : Found}
     added = b.lines ∙ ap (λ ls. with_lines ls f.rest (lines_of 0 (trees_at m 0 xs))) (sym (append-nil (lines h child)))
 
     pub up-can : CanRaise (finite.remove l p) h (front ++ (ys ++ back))
-    up-can = can-raise p front (f.child ∷ []) back ys xs can.tree split can.row can.distinct becomes f.rest k place
+    up-can = can-raise m l h p front (f.child ∷ []) back ys xs can.tree split can.row can.distinct becomes f.rest k place
         low added can.fits
 
-    pub up-takes : {n : Records} {ps : List NodePtr} →
+    pub up-takes : (n : Records) (ps : List NodePtr) →
         Raises (finite.remove l p) n h (front ++ (ys ++ back)) (length (front ++ (ys ++ back))) ps →
         12 * length ps ≤ length (front ++ (ys ++ back)) + 11 → TakesRow m n (suc h) p k xs ps
-    up-takes {n} {ps} raises few = takes-row p front (f.child ∷ []) back ys xs can.tree split can.row can.distinct
+    up-takes n ps raises few = takes-row m l h p front (f.child ∷ []) back ys xs can.tree split can.row can.distinct
         becomes f.rest k place low added can.wide b.some b.some
-        (all-balanced h (trees_at l h ys) (b.wide 6 (omega arith) (wide-balanced h child balanced-child))) raises few
+        (all-balanced h (trees_at l h ys) (b.wide 6 (omega arith) (wide-balanced h child balanced-child))) n ps raises few

@@ -71,29 +71,31 @@ line-less line number = λ i. record {
   add-none a = omega arith
 
 -- ---- at a line
-pub takes-line : {m n : Records} {p : NodePtr} {k number gone : ℕ} → CanChange m 0 p k → TakesOff m n p number gone →
+pub takes-line : (m n : Records) (p : NodePtr) (k number gone : ℕ) → CanChange m 0 p k → TakesOff m n p number gone →
     Changes m n 0 p k (without_mark number) (counting 0 0 gone) no_text
-takes-line {m} {n} {p} {k} {number} {gone} can off = changes-line can (record {
-  line = off.line;
-  was = off.was;
-  same = off.same;
-  sum = ap (λ c. plus (line_count (without_mark number off.line)) (counting 0 0 c)) off.few
-      ∙ line-less off.line number ∙ sym (plus-no_text (line_count off.line));
-})
+takes-line m n p k number gone can off = changes-line m n p k (without_mark number) (counting 0 0 gone) no_text can
+    (record {
+      line = off.line;
+      was = off.was;
+      same = off.same;
+      sum = ap (λ c. plus (line_count (without_mark number off.line)) (counting 0 0 c)) off.few
+          ∙ line-less off.line number ∙ sym (plus-no_text (line_count off.line));
+    })
 
 -- ---- above it
-module _ {m l : Records} {h k : ℕ} {p : NodePtr} {f : Found} (can : CanChange m (suc h) p k) (finds : Finds m p k f)
-    (number gone : ℕ) (taken : Changes m l h f.child f.rest (without_mark number) (counting 0 0 gone) no_text) where
+module _ (m : Records) (h : ℕ) (p : NodePtr) (k : ℕ) (can : CanChange m (suc h) p k) (f : Found) (finds : Finds m p k f)
+    (l : Records) (number gone : ℕ)
+    (taken : Changes m l h f.child f.rest (without_mark number) (counting 0 0 gone) no_text) where
   taken-row : HasRow l p
-  taken-row = node-row h p k can f finds taken
+  taken-row = node-row m h p k can f finds l (without_mark number) (counting 0 0 gone) no_text taken
 
   sum-was : sum_at l p ≡ total (lines_in m (suc h) p)
-  sum-was = node-sum h p k can f finds taken
+  sum-was = node-sum m h p k can f finds l (without_mark number) (counting 0 0 gone) no_text taken
 
   marks-enough : IfSome (finite.get l p) (λ r. HasCounts (counting 0 0 gone) r.sum)
   marks-enough =
       let enough = marks-within _ (total (lines_in m (suc h) p)) gone
-      (sum-changed h p k can f finds taken) in
+      (sum-changed m h p k can f finds l (without_mark number) (counting 0 0 gone) no_text taken) in
       let here : gone ≤ taken-row.found.sum.marks = subst (λ (s : Count). gone ≤ s.marks)
       (sym sum-was ∙ ap sum_of taken-row.is) enough in
       subst (λ o. IfSome o (λ r. HasCounts (counting 0 0 gone) r.sum)) (sym taken-row.is)
@@ -102,28 +104,28 @@ module _ {m l : Records} {h k : ℕ} {p : NodePtr} {f : Found} (can : CanChange 
   takes-node : (n : Records) → n ≡ update l p (λ r. with_sum r (less 0 0 gone r.sum)) →
       Changes m n (suc h) p k (without_mark number) (counting 0 0 gone) no_text
   takes-node n is = let rest = less 0 0 gone (sum_at l p) in
-      changes-node h p k can f finds taken n rest
+      changes-node m h p k can f finds l (without_mark number) (counting 0 0 gone) no_text taken n rest
       (ap (less 0 0 gone) sum-was ∙ less-is _ (total (lines_in m (suc h) p)) gone
-      (sum-changed h p k can f finds taken))
+      (sum-changed m h p k can f finds l (without_mark number) (counting 0 0 gone) no_text taken))
       (is ∙ update-as l p (λ r. with_sum r (less 0 0 gone r.sum)) (λ r. with_sum r rest) taken-row.found taken-row.is
       (ap (λ s. with_sum taken-row.found (less 0 0 gone s)) (sym (ap sum_of taken-row.is))))
 
 -- ---- one level up
-module _ {m l : Records} {h k j : ℕ} {r p q : NodePtr} (number gone : ℕ) (lower : j < h)
+module _ (m l : Records) (h : ℕ) (r : NodePtr) (k : ℕ) (number gone : ℕ) (j : ℕ) (p q : NodePtr) (lower : j < h)
     (above : Above m l h r k (without_mark number) (counting 0 0 gone) no_text j p q) (whole : CanChange m h r k) where
   can-here : CanChange m (suc j) q (k - above.before)
   can-here = let within : suc j ≤ h = omega (arith, lower) in
-      down m (λ n o i. CanChange m n o i) (can-child) h (suc j) r q above.before k within above.sits above.low
+      down m (λ n o i. CanChange m n o i) (can-child m) h (suc j) r q above.before k within above.sits above.low
       above.high whole
 
   pub inner-here : InnerIn l q
-  inner-here = inner-row (taken-row can-here above.finds number gone
+  inner-here = inner-row l q (taken-row m j q (k - above.before) can-here above.found above.finds l number gone
       above.changes)
 
   pub marks-here : IfSome (finite.get l q) (λ x. HasCounts (counting 0 0 gone) x.sum)
-  marks-here = marks-enough can-here above.finds number gone above.changes
+  marks-here = marks-enough m j q (k - above.before) can-here above.found above.finds l number gone above.changes
 
   pub takes-here : (n : Records) → n ≡ update l q (λ x. with_sum x (less 0 0 gone x.sum)) →
       Climbs m n h r k (without_mark number) (counting 0 0 gone) no_text (j + 1) q
-  takes-here n is = next above
-      (takes-node can-here above.finds number gone above.changes n is)
+  takes-here n is = next m l n h r k (without_mark number) (counting 0 0 gone) no_text j p q above
+      (takes-node m j q (k - above.before) can-here above.found above.finds l number gone above.changes n is)

@@ -108,9 +108,9 @@ pub record Descends (m : Records) (h : ℕ) (p : NodePtr) (k : ℕ) (f : Found) 
   pub line : slice_get (lines_in m (suc h) p) k ≡ slice_get (lines_in m h f.child) f.rest
   pub within : f.rest < length (lines_in m h f.child)
 
-pub descends : {m : Records} {p : NodePtr} {k : ℕ} {f : Found} (h : ℕ) → IsTree m (suc h) p → Finds m p k f →
+pub descends : (m : Records) (h : ℕ) (p : NodePtr) (k : ℕ) (f : Found) → IsTree m (suc h) p → Finds m p k f →
     Descends m h p k f
-descends {m} {p} {k} {f} h is found =
+descends m h p k f is found =
     let tree = child-tree m h (kids m p) f.slot f.child is.2 found.child in let n = count-tree m h f.child tree in
     let less = found.rest in
     record {
@@ -130,5 +130,5 @@ at_line m p k = one (line_of (finite.get m p)) k where
   one (Some l) zero h = refl
   one (Some l) (suc k) h = absurd (omega arith)
 
-pub named-row : {m : Records} {p : NodePtr} → HasRow m p → IsSome (finite.get m p)
-named-row has = subst (λ o. IsSome o) (sym has.is) refl
+pub named-row : (m : Records) (p : NodePtr) → HasRow m p → IsSome (finite.get m p)
+named-row m p has = subst (λ o. IsSome o) (sym has.is) refl

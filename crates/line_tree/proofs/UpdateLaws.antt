@@ -47,11 +47,11 @@ InnerIn m p = IsSome (finite.get m p) × IfSome (finite.get m p) (λ r. r.line �
 pub inner-found : (m : Records) (p : NodePtr) (r : Record) → finite.get m p ≡ Some r → r.line ≡ None → InnerIn m p
 inner-found m p r is none = subst (λ o. IsSome o × IfSome o (λ x. x.line ≡ None)) (sym is) (refl, none)
 
-pub inner-row : {m : Records} {p : NodePtr} → HasRow m p → InnerIn m p
-inner-row {m} {p} has = inner-found m p has.found has.is has.inner
+pub inner-row : (m : Records) (p : NodePtr) → HasRow m p → InnerIn m p
+inner-row m p has = inner-found m p has.found has.is has.inner
 
-pub inner-fill : {m : Records} {p : NodePtr} {cs : List NodePtr} → CanFill m p cs → InnerIn m p
-inner-fill {m} {p} can = inner-found m p can.found can.is can.inner
+pub inner-fill : (m : Records) (p : NodePtr) (cs : List NodePtr) → CanFill m p cs → InnerIn m p
+inner-fill m p cs can = inner-found m p can.found can.is can.inner
 
 mapped-inner : (o : Option Record) (f : Record → Record) → ((r : Record) → (f r).line ≡ r.line) →
     IfSome o (λ r. r.line ≡ None) → IfSome (option_map f o) (λ r. r.line ≡ None)

@@ -29,26 +29,25 @@ stays-noted n ls from at to k p line passes ordered has =
     ∙ ap (λ b. cond b (Some p) (holder n (drop (suc k) ls))) has)
 
 -- what is forgotten stands in the table
-pub forgets-within : {names : List (Option NodePtr)} (ls : List Named) (from at to k : ℕ) (p : NodePtr)
+pub forgets-within : (names : List (Option NodePtr)) (ls : List Named) (from at to k : ℕ) (p : NodePtr)
     (line : LineContent) → Passes ls at to k p line → from ≤ at → IsTable names (lines_without from at ls)
     → NumbersBelow (length names) line.marks
-forgets-within {names} ls from at to k p line passes ordered table number place is =
+forgets-within names ls from at to k p line passes ordered table number place is =
     noted-within names number p (table.each number
     ∙ stays-noted number ls from at to k p line passes ordered (ap is_some is))
 
-pub forgets : {old : List (Option NodePtr)} (new : List (Option NodePtr)) (ls : List Named) (from at to k : ℕ)
-    (p : NodePtr) (line : LineContent)
+pub forgets : (old new : List (Option NodePtr)) (ls : List Named) (from at to k : ℕ) (p : NodePtr) (line : LineContent)
     → Passes ls at to k p line → from ≤ at → IsTable old (lines_without from at ls)
     → ((n : ℕ) → noted n new ≡ cond (has_mark n line) None (noted n old)) → IsTable new (lines_without from (k + 1) ls)
-forgets {old} new ls from at to k p line passes ordered table written = record {
+forgets old new ls from at to k p line passes ordered table written = record {
   each = λ n. forget-line n ls passes.are.rows (noted n old) (noted n new) from at k p line ordered passes.marked.above
       passes.marked.bare passes.is (table.each n) (written n)
       ∙ ap (λ i. holder n (lines_without from i ls)) (one_more k);
 }
 
-pub all-forgotten : {names : List (Option NodePtr)} (ls : List Named) (from at to : ℕ) → at ≤ to → AreBare at to ls →
+pub all-forgotten : (names : List (Option NodePtr)) (ls : List Named) (from at to : ℕ) → at ≤ to → AreBare at to ls →
     IsTable names (lines_without from at ls) → IsTable names (lines_without from to ls)
-all-forgotten {names} ls from at to ordered bare table =
+all-forgotten names ls from at to ordered bare table =
     record { each = λ n. forgotten n from at to ls (noted n names) ordered bare (table.each n) }
 
 -- ---- what is noted
@@ -73,18 +72,17 @@ notes-within bound ls from at to k p line passes ordered within all =
     subst (λ (x : LineContent). NumbersBelow bound x.marks) same
     (all (k - from) line (omega (arith, few, above, below, ordered)))
 
-pub notes : {old : List (Option NodePtr)} (new : List (Option NodePtr)) (ls : List Named) (at to k : ℕ) (p : NodePtr)
-    (line : LineContent) →
+pub notes : (old new : List (Option NodePtr)) (ls : List Named) (at to k : ℕ) (p : NodePtr) (line : LineContent) →
     Passes ls at to k p line → IsTable old (lines_without at to ls)
     → ((n : ℕ) → noted n new ≡ cond (has_mark n line) (Some p) (noted n old)) →
     IsTable new (lines_without (k + 1) to ls)
-notes {old} new ls at to k p line passes table written = record {
+notes old new ls at to k p line passes table written = record {
   each = λ n. note-line n ls passes.are.rows (noted n old) (noted n new) to at k p line passes.marked.above
       passes.marked.bare passes.is (table.each n) (written n)
       ∙ ap (λ i. holder n (lines_without i to ls)) (one_more k);
 }
 
-pub all-known : {names : List (Option NodePtr)} (ls : List Named) (at to : ℕ) → at ≤ to → AreBare at to ls →
+pub all-known : (names : List (Option NodePtr)) (ls : List Named) (at to : ℕ) → at ≤ to → AreBare at to ls →
     IsTable names (lines_without at to ls) → IsTable names ls
-all-known {names} ls at to ordered bare table =
+all-known names ls at to ordered bare table =
     record { each = λ n. all-noted n at to ls (noted n names) ordered bare (table.each n) }

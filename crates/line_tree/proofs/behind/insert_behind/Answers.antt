@@ -12,25 +12,28 @@ use Rattle.std.specs.FinMap as finite
 use Rattle.line_tree.proofs.behind.insert_behind.Goals as goal
 
 pub parent-requires : goal.parent-requires
-parent-requires g c =
-    named-behind c.in-Some.name c.requires.node c.requires.insert (c.requires.behind c.in-Some.name c.in-Some.is).0
+parent-requires g c = let m = records c.args.store.now in
+    named-behind m c.args.height c.args.root c.args.k c.args.added.now.line c.in-Some.name c.requires.node c.requires.insert
+    (c.requires.behind c.in-Some.name c.in-Some.is).0
     (c.requires.behind c.in-Some.name c.in-Some.is).1
 
 pub unwrap-node-requires : goal.unwrap-node-requires
-unwrap-node-requires g c =
-    parent-behind c.in-Some.name c.requires.node c.requires.insert (c.requires.behind c.in-Some.name c.in-Some.is).0
+unwrap-node-requires g c = let m = records c.args.store.now in
+    parent-behind m c.args.height c.args.root c.args.k c.args.added.now.line c.in-Some.name c.requires.node c.requires.insert
+    (c.requires.behind c.in-Some.name c.in-Some.is).0
     (c.requires.behind c.in-Some.name c.in-Some.is).1 c.parent.result c.parent.ensures.value
 
 pub slot-slot-requires : goal.slot-slot-requires
-slot-slot-requires g c =
-    named-behind c.in-Some.name c.requires.node c.requires.insert (c.requires.behind c.in-Some.name c.in-Some.is).0
+slot-slot-requires g c = let m = records c.args.store.now in
+    named-behind m c.args.height c.args.root c.args.k c.args.added.now.line c.in-Some.name c.requires.node c.requires.insert
+    (c.requires.behind c.in-Some.name c.in-Some.is).0
     (c.requires.behind c.in-Some.name c.in-Some.is).1
 
 -- the node above the line that is named, and that the new one can stand in its row
 base : (g : Over) (c : After-slot-slot g) → Base (records c.args.store.now) c.args.height c.args.root c.args.k
     c.args.added.now.line c.unwrap-node.result c.slot-slot.result
 base g c = let at = c.requires.behind c.in-Some.name c.in-Some.is in
-    base-of c.in-Some.name
+    base-of (records c.args.store.now) c.args.height c.args.root c.args.k c.args.added.now.line c.in-Some.name
     c.requires.node c.requires.insert at.0 at.1 c.parent.result c.parent.ensures.value c.unwrap-node.result
     c.unwrap-node.ensures c.slot-slot.result c.slot-slot.ensures
 
@@ -38,7 +41,7 @@ can-put : (g : Over) (c : After-slot-slot g) →
     CanPut (records c.args.store.now) c.unwrap-node.result (c.slot-slot.result + 1) c.args.added.now.line
 can-put g c = let m = records c.args.store.now in let b = base g c in let p = c.unwrap-node.result in
     let x = c.args.added.now.line in
-    subst (λ n. CanPut m p n x) b.place (low-can_put b.can)
+    subst (λ n. CanPut m p n x) b.place (low-can_put m p (c.args.k - b.before) x b.can)
 
 pub overflow_add-slot : goal.overflow_add-slot
 overflow_add-slot g c = let m = records c.args.store.now in
@@ -55,7 +58,7 @@ shift-requires g c = let m = records c.args.store.now in
     let b = base g (goal.at.shift-requires g c).After-slot-slot in
     record {
       put = can-put g (goal.at.shift-requires g c).After-slot-slot;
-      few = has-room (row-tree m 0 c.unwrap-node.result b.tree) c.child.result
+      few = has-room m c.unwrap-node.result (row-tree m 0 c.unwrap-node.result b.tree) c.child.result
           c.child.ensures.value (sym c.is_some.ensures ∙ c.if-is_some.false);
     }
 
@@ -63,18 +66,18 @@ pub add-requires : goal.add-requires
 add-requires g c = let m = records c.args.store.now in
     let b = base g (goal.at.add-requires g c).After-slot-slot in
     let can = can-put g (goal.at.add-requires g c).After-slot-slot in
-    let few = has-room (row-tree m 0 c.unwrap-node.result b.tree) c.child.result
+    let few = has-room m c.unwrap-node.result (row-tree m 0 c.unwrap-node.result b.tree) c.child.result
     c.child.ensures.value (sym c.is_some.ensures ∙ c.if-is_some.false) in
     record {
-      row = shifted-row can few
+      row = shifted-row m c.unwrap-node.result (c.slot-slot.result + 1) c.args.added.now.line can few
           (records c.shift.new.store) c.shift.ensures.records;
       sum =
           let p = c.unwrap-node.result in
-          shifted-sum can few
+          shifted-sum m c.unwrap-node.result (c.slot-slot.result + 1) c.args.added.now.line can few
           (records c.shift.new.store) c.shift.ensures.records c.args.added.now.more (ap (plus (sum_at m p))
-          c.requires.more ∙ low-sum b.can
+          c.requires.more ∙ low-sum m p (c.args.k - b.before) c.args.added.now.line b.can
           ∙ ap (λ n. sum_all m (insert (kids m p) n c.args.added.now.line)) b.place);
-      fits = shifted-fits can few
+      fits = shifted-fits m c.unwrap-node.result (c.slot-slot.result + 1) c.args.added.now.line can few
           (records c.shift.new.store) c.shift.ensures.records;
     }
 
@@ -82,11 +85,12 @@ pub loop-level-init : goal.loop-level-init
 loop-level-init g c = let m = records c.args.store.now in
     let b = base g (goal.at.loop-level-init g c).After-slot-slot in
     let can = can-put g (goal.at.loop-level-init g c).After-slot-slot in
-    let few = has-room (row-tree m 0 c.unwrap-node.result b.tree) c.child.result
+    let few = has-room m c.unwrap-node.result (row-tree m 0 c.unwrap-node.result b.tree) c.child.result
     c.child.ensures.value (sym c.is_some.ensures ∙ c.if-is_some.false) in
     let p = c.unwrap-node.result in let n = records c.add.new.store in
     let fills = subst (λ i. Fills m n p (insert (kids m p) i c.args.added.now.line)) (sym b.place)
-    (shifted-fills can few (records c.shift.new.store) c.shift.ensures.records n c.add.ensures.records) in
+    (shifted-fills m c.unwrap-node.result (c.slot-slot.result + 1) c.args.added.now.line can few (records c.shift.new.store)
+    c.shift.ensures.records n c.add.ensures.records) in
     let ls = len-puts m n p (insert (kids m p) (c.args.k - b.before) c.args.added.now.line) None fills in
     let some = c.requires.node in
     record {
@@ -95,7 +99,7 @@ loop-level-init g c = let m = records c.args.store.now in
         sits = b.sits;
         low = b.low;
         high = b.high;
-        inserts = low-inserts b.can n None fills;
+        inserts = low-inserts m p (c.args.k - b.before) c.args.added.now.line b.can n None fills;
       };
       within = omega (arith, some);
       len = omega (arith, ls);
@@ -104,28 +108,31 @@ loop-level-init g c = let m = records c.args.store.now in
     }
 
 pub unwrap-at-requires : goal.unwrap-at-requires
-unwrap-at-requires g c =
-    some-parent c.loop-level-test.true c.loop-level.invariant.climbs c.parent-in-loop-level.result
+unwrap-at-requires g c = let m = records c.args.store.now in let l = records c.loop-level.store in
+    some-parent m l c.args.height c.args.root c.args.k c.args.added.now.line c.loop-level.level c.loop-level.at
+    c.loop-level-test.true c.loop-level.invariant.climbs c.parent-in-loop-level.result
     c.parent-in-loop-level.ensures.value
 
 pub add-requires-in-loop-level : goal.add-requires-in-loop-level
-add-requires-in-loop-level g c = let l = records c.loop-level.store in
-    let a = above-of
+add-requires-in-loop-level g c = let m = records c.args.store.now in let l = records c.loop-level.store in
+    let a = above-of m l c.args.height c.args.root c.args.k c.args.added.now.line c.loop-level.level c.loop-level.at
     c.loop-level-test.true c.requires.insert c.loop-level.invariant.climbs c.parent-in-loop-level.result
     c.parent-in-loop-level.ensures.value c.unwrap-at.result c.unwrap-at.ensures in
     record {
-      row = has-now a.can
-          a.leads a.inserts;
-      sum = ap (plus (sum_at l c.unwrap-at.result)) c.requires.more ∙ one-sum a.can
-          a.leads a.inserts;
-      fits = one-fits a.can
-          a.leads a.inserts;
+      row = has-now m c.loop-level.level c.unwrap-at.result (c.args.k - a.before) c.args.added.now.line a.can a.found
+          a.leads l None a.inserts;
+      sum = ap (plus (sum_at l c.unwrap-at.result)) c.requires.more
+          ∙ one-sum m c.loop-level.level c.unwrap-at.result (c.args.k - a.before) c.args.added.now.line a.can a.found
+          a.leads l a.inserts;
+      fits = one-fits m c.loop-level.level c.unwrap-at.result (c.args.k - a.before) c.args.added.now.line a.can a.found
+          a.leads l a.inserts;
     }
 
 pub loop-level-preserved : goal.loop-level-preserved
 loop-level-preserved g c = let m = records c.args.store.now in
     let l = records c.loop-level.store in let n = records c.add-in-loop-level.new.store in
-    let j = c.loop-level.level in let q = c.unwrap-at.result in let a = above-of
+    let j = c.loop-level.level in let q = c.unwrap-at.result in
+    let a = above-of m l c.args.height c.args.root c.args.k c.args.added.now.line c.loop-level.level c.loop-level.at
     c.loop-level-test.true c.requires.insert c.loop-level.invariant.climbs c.parent-in-loop-level.result
     c.parent-in-loop-level.ensures.value c.unwrap-at.result c.unwrap-at.ensures in
     let e : suc j ≡ j + 1 = omega arith in
@@ -136,7 +143,7 @@ loop-level-preserved g c = let m = records c.args.store.now in
         sits = a.sits;
         low = a.low;
         high = a.high;
-        inserts = one-inserts a.can a.leads a.inserts n
+        inserts = one-inserts m c.loop-level.level c.unwrap-at.result (c.args.k - a.before) c.args.added.now.line a.can a.found a.leads l a.inserts n
             c.add-in-loop-level.ensures.records;
       });
       within = omega (arith, c.loop-level-test.true);
@@ -146,6 +153,7 @@ loop-level-preserved g c = let m = records c.args.store.now in
     }
 
 pub returns-clause-yes : goal.returns-clause-yes
-returns-clause-yes g c is =
+returns-clause-yes g c is = let m = records c.args.store.now in let l = records c.loop-level.store in
     let within = c.loop-level.invariant.within in
-    climbed (omega (arith, within, c.loop-level-test.false)) c.loop-level.invariant.climbs
+    climbed m l c.args.height c.args.root c.args.k c.args.added.now.line c.loop-level.level c.loop-level.at
+    (omega (arith, within, c.loop-level-test.false)) c.loop-level.invariant.climbs

@@ -26,9 +26,9 @@ returns-clause-lines g c = let m = records c.args.store.now in let p = c.args.no
 pub returns-clause-without : goal.returns-clause-without
 returns-clause-without g c = let m = records c.args.store.now in let p = c.args.node in
     subst (λ v. Without m v (names 1 (tree_at m 1 p))) (sym c.let_go.ensures.records)
-    (without-node p c.give_back_lines.ensures.without)
+    (without-node m (records c.give_back_lines.new.store) p c.give_back_lines.ensures.without)
 
 pub returns-clause-rooms : goal.returns-clause-rooms
-returns-clause-rooms g c = node-room c.args.node _ _
+returns-clause-rooms g c = node-room (records c.args.store.now) (records c.give_back_lines.new.store) c.args.node _ _
     c.requires.tree c.give_back_lines.ensures.without c.let_go.ensures.rooms
     ∙ ap (λ n. n + 1) c.give_back_lines.ensures.rooms

@@ -20,14 +20,15 @@ child-requires-clause-index g c = let few = (row-tree (records c.args.store.now)
 pub let_go-requires : goal.let_go-requires
 let_go-requires g c = let m = records c.args.store.now in let p = c.args.node in let i = c.loop-slot.slot in
     let w = c.loop-slot.invariant.without in let tree = c.requires.tree in
-    let at = sym (gives-line p i c.child.result tree w c.child.ensures.value) ∙ c.in-Some.is in
+    let at = sym (gives-line m (records c.loop-slot.store) p i c.child.result tree w c.child.ensures.value)
+    ∙ c.in-Some.is in
     subst (λ o. IsSome o) (sym (w.other c.in-Some.line (line-apart m p i c.in-Some.line tree at)))
     (line-named m p i c.in-Some.line tree at)
 
 pub loop-slot-preserved : goal.loop-slot-preserved
 loop-slot-preserved g c = let m = records c.args.store.now in let p = c.args.node in let i = c.loop-slot.slot in
-    let inv = c.loop-slot.invariant in let tree = c.requires.tree in
-    let child = sym (gives-line p i c.child.result tree inv.without c.child.ensures.value) in
+    let n = records c.loop-slot.store in let inv = c.loop-slot.invariant in let tree = c.requires.tree in
+    let child = sym (gives-line m n p i c.child.result tree inv.without c.child.ensures.value) in
     elim c.match-child.branch [
       | in-Some w ↦
           let x = w.in-Some.line in let at = child ∙ w.in-Some.is in
@@ -35,10 +36,10 @@ loop-slot-preserved g c = let m = records c.args.store.now in let p = c.args.nod
           record {
             without = subst (λ z. Without m z (take (i + 1) (kids m p)))
                 (sym (ap (λ z. records z) w.store-is ∙ w.let_go.ensures.records))
-                (without-line (kids m p) i x at inv.without);
+                (without-line m n (kids m p) i x at inv.without);
             spares = omega arith;
             rooms = ap (λ z. rooms z) w.store-is
-                ∙ line-roomless p i x _ _ tree at inv.without w.let_go.ensures.rooms ∙ inv.rooms;
+                ∙ line-roomless m n p i x _ _ tree at inv.without w.let_go.ensures.rooms ∙ inv.rooms;
             nodes = ap (λ z. nodes z) w.store-is ∙ w.let_go.ensures.nodes ∙ inv.nodes;
           }
       | in_default w ↦

@@ -28,19 +28,20 @@ pub parent-requires : goal.parent-requires
 parent-requires g c = let m = records c.args.store.now in
     let s = c.loop-level.invariant.sits c.requires.named.0 c.requires.named.1 in
     let up = level m c.args.height c.loop-level.level c.args.root c.loop-level.at s.0 c.loop-level-test.true s.1 in
-    child-named up.4
+    child-named m c.loop-level.level up.0 up.1 c.loop-level.at up.4
 
 pub slot-slot-requires : goal.slot-slot-requires
 slot-slot-requires g c = let m = records c.args.store.now in
     let s = c.loop-level.invariant.sits c.requires.named.0 c.requires.named.1 in
     let up = level m c.args.height c.loop-level.level c.args.root c.loop-level.at s.0 c.loop-level-test.true s.1 in
-    child-named up.4
+    child-named m c.loop-level.level up.0 up.1 c.loop-level.at up.4
 
 pub returns-in_default-clause-value : goal.returns-in_default-clause-value
 returns-in_default-clause-value g c k at = let m = records c.args.store.now in
     let s = c.loop-level.invariant.sits k at in
     let up = level m c.args.height c.loop-level.level c.args.root c.loop-level.at s.0 c.loop-level-test.true s.1 in
-    absurd (c.in_default.not-Some _ (child-parent up.4 c.parent.result c.parent.ensures.value))
+    absurd (c.in_default.not-Some _ (child-parent m c.loop-level.level up.0 up.1 c.loop-level.at up.4 c.parent.result
+    c.parent.ensures.value))
 
 here : (g : Over) (c : After-ahead-arg-1 g) (k : ℕ)
     (at : IsLineAt (lines_in (records c.args.store.now) c.args.height c.args.root) k c.args.name)

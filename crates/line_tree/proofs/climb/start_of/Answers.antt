@@ -25,23 +25,21 @@ loop-level-init g c = let m = records c.args.store.now in record {
 pub parent-requires : goal.parent-requires
 parent-requires g c = let m = records c.args.store.now in
     let s = c.loop-level.invariant.begins c.requires.named.0 c.requires.named.1 in
-    let up = begins-level m c.args.height c.loop-level.level c.args.root c.loop-level.at s.0 c.loop-level-test.true s.1
-    in
-    child-named up.4
+    let up = begins-level m c.args.height c.loop-level.level c.args.root c.loop-level.at s.0 c.loop-level-test.true s.1 in
+    child-named m c.loop-level.level up.0 up.1 c.loop-level.at up.4
 
 pub slot-slot-requires : goal.slot-slot-requires
 slot-slot-requires g c = let m = records c.args.store.now in
     let s = c.loop-level.invariant.begins c.requires.named.0 c.requires.named.1 in
-    let up = begins-level m c.args.height c.loop-level.level c.args.root c.loop-level.at s.0 c.loop-level-test.true s.1
-    in
-    child-named up.4
+    let up = begins-level m c.args.height c.loop-level.level c.args.root c.loop-level.at s.0 c.loop-level-test.true s.1 in
+    child-named m c.loop-level.level up.0 up.1 c.loop-level.at up.4
 
 pub returns-in_default : goal.returns-in_default
 returns-in_default g c k at = let m = records c.args.store.now in
     let s = c.loop-level.invariant.begins k at in
-    let up = begins-level m c.args.height c.loop-level.level c.args.root c.loop-level.at s.0 c.loop-level-test.true s.1
-    in
-    absurd (c.in_default.not-Some _ (child-parent up.4 c.parent.result c.parent.ensures.value))
+    let up = begins-level m c.args.height c.loop-level.level c.args.root c.loop-level.at s.0 c.loop-level-test.true s.1 in
+    absurd (c.in_default.not-Some _ (child-parent m c.loop-level.level up.0 up.1 c.loop-level.at up.4 c.parent.result
+    c.parent.ensures.value))
 
 here : (g : Over) (c : After-characters_ahead-arg-1 g) (k : ℕ)
     (at : IsLineAt (lines_in (records c.args.store.now) c.args.height c.args.root) k c.args.name)

@@ -6,7 +6,7 @@ use Rattle.line_tree.proofs.UpdateLaws.{inner-row}
 use Rattle.line_tree.proofs.fill.lessen.Goals as goal
 
 pub lose_counts-requires-clause-name : goal.lose_counts-requires-clause-name
-lose_counts-requires-clause-name g c = inner-row c.requires.row
+lose_counts-requires-clause-name g c = inner-row (records c.args.store.now) c.args.node c.requires.row
 
 pub lose_counts-requires-clause-counts : goal.lose_counts-requires-clause-counts
 lose_counts-requires-clause-counts g c =
@@ -28,4 +28,4 @@ returns-then-is_bare-clause-records g c = let m = records c.args.store.now in le
     has.found has.is
     (ap (with_sum has.found)
     ((λ i. less (c.lines.ensures i) (c.characters.ensures i) (c.marks.ensures i) (now i))
-    ∙ less-plus (sums m (row (kids m p))) bare))
+    ∙ less-plus (sums m (row (kids m p))) c.args.gone.now bare))

@@ -13,6 +13,5 @@ lose_counts-requires g c =
 pub returns-then-is_bare : goal.returns-then-is_bare
 returns-then-is_bare g c =
     let bare = c.is_bare.ensures.yes c.if-is_bare.true in
-    c.lose_counts.ensures ∙
-    (λ i. less (c.lines.ensures i) (c.characters.ensures i) (c.marks.ensures i) (sym c.requires.sum i))
-    ∙ less-plus (sums (records c.args.store.now) c.args.nodes.now) bare
+    c.lose_counts.ensures ∙ (λ i. less (c.lines.ensures i) (c.characters.ensures i) (c.marks.ensures i) (sym c.requires.sum i))
+    ∙ less-plus (sums (records c.args.store.now) c.args.nodes.now) c.args.gone.now bare

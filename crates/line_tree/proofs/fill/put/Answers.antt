@@ -20,49 +20,49 @@ last all half small few = let n = length-drop half all in let h : length (drop h
     ap row (take_all (13 - half) (drop half all) h)
 
 -- the sum with what comes
-summed : {m : Records} {p : NodePtr} (s more all : Count) → HasRow m p → IfSome (finite.get m p) (λ r. s ≡ r.sum) →
+summed : (m : Records) (p : NodePtr) (s more all : Count) → HasRow m p → IfSome (finite.get m p) (λ r. s ≡ r.sum) →
     plus (sum_at m p) more ≡ all → plus s more ≡ all
-summed {m} {p} s more all has says is = ap (λ x. plus x more) (sum_is m p s (named-row has) says) ∙ is
+summed m p s more all has says is = ap (λ x. plus x more) (sum_is m p s (named-row m p has) says) ∙ is
 
 pub shift-requires-clause-few : goal.shift-requires-clause-few
-shift-requires-clause-few g c = has-room c.requires.put.row c.child.result
+shift-requires-clause-few g c = has-room (records c.args.store.now) c.args.node c.requires.put.row c.child.result
     c.child.ensures.value (c.is_none.ensures ∙ ap not c.if-is_none.true)
 
 pub add-requires : goal.add-requires
-add-requires g c =
-    let few = has-room c.requires.put.row c.child.result c.child.ensures.value
+add-requires g c = let m = records c.args.store.now in
+    let few = has-room m c.args.node c.requires.put.row c.child.result c.child.ensures.value
     (c.is_none.ensures ∙ ap not c.if-is_none.true) in
     record {
-      row = shifted-row c.requires.put few (records c.shift.new.store)
+      row = shifted-row m c.args.node c.args.at c.args.extra c.requires.put few (records c.shift.new.store)
           c.shift.ensures.records;
-      sum = shifted-sum c.requires.put few (records c.shift.new.store)
+      sum = shifted-sum m c.args.node c.args.at c.args.extra c.requires.put few (records c.shift.new.store)
           c.shift.ensures.records c.args.more.now c.requires.sum;
-      fits = shifted-fits c.requires.put few (records c.shift.new.store)
+      fits = shifted-fits m c.args.node c.args.at c.args.extra c.requires.put few (records c.shift.new.store)
           c.shift.ensures.records;
     }
 
 pub returns-then-is_none-clause-puts : goal.returns-then-is_none-clause-puts
-returns-then-is_none-clause-puts g c =
-    let few = has-room c.requires.put.row c.child.result c.child.ensures.value (c.is_none.ensures
+returns-then-is_none-clause-puts g c = let m = records c.args.store.now in
+    let few = has-room m c.args.node c.requires.put.row c.child.result c.child.ensures.value (c.is_none.ensures
     ∙ ap not c.if-is_none.true) in
-    shifted-fills c.requires.put few (records c.shift.new.store)
+    shifted-fills m c.args.node c.args.at c.args.extra c.requires.put few (records c.shift.new.store)
     c.shift.ensures.records (records c.add.new.store) c.add.ensures.records
 
 pub sum-sum-requires : goal.sum-sum-requires
-sum-sum-requires g c = named-row c.requires.put.row
+sum-sum-requires g c = named-row (records c.args.store.now) c.args.node c.requires.put.row
 
 pub add-requires-else-is_none : goal.add-requires-else-is_none
 add-requires-else-is_none g c = let m = records c.args.store.now in let p = c.args.node in
     let all = insert (kids m p) c.args.at c.args.extra in
-    let now = summed c.sum-sum.result c.args.more.now (sum_all m all) c.requires.put.row c.sum-sum.ensures.value
+    let now = summed m p c.sum-sum.result c.args.more.now (sum_all m all) c.requires.put.row c.sum-sum.ensures.value
     c.requires.sum in
     (omega arith, fits-both c.sum-sum.result c.args.more.now (subst FitsSum (sym now) c.requires.put.fits))
 
 -- the parts of a node that splits
-named-part : {m : Records} {p x : NodePtr} {at : ℕ} → CanPut m p at x → (cs : List NodePtr) →
+named-part : (m : Records) (p : NodePtr) (at : ℕ) (x : NodePtr) → CanPut m p at x → (cs : List NodePtr) →
     ((c : NodePtr) → Among c cs → Among c (insert (kids m p) at x)) → (os : List (Option NodePtr)) → os ≡ row cs
     → (i : ℕ) (d : NodePtr) → slice_get os i ≡ Some (Some d) → IsSome (finite.get m d)
-named-part {m} {p} {x} {at} can cs inside os is i d there = named-all can d
+named-part m p at x can cs inside os is i d there = named-all m p at x can d
     (inside d (get-among cs i d (row-some cs i d (ap (λ zs. slice_get zs i) (sym is) ∙ there))))
 
 pub sum_of-last-requires : goal.sum_of-last-requires
@@ -72,9 +72,9 @@ sum_of-last-requires g c = let m = records c.args.store.now in let half = c.firs
     let few : length all ≤ 13 = omega (arith, c.requires.put.row.few) in
     let is = c.part-right.ensures ∙ last all half c.first_half-half.ensures.high few in
     record {
-      nodes = named-part c.requires.put (drop half all) (λ d a. among-drop d half all a)
+      nodes = named-part m p c.args.at c.args.extra c.requires.put (drop half all) (λ d a. among-drop d half all a)
           c.part-right.result is;
-      fits = subst (λ os. FitsSum (sums m os)) (sym is) (last-fits c.requires.put half);
+      fits = subst (λ os. FitsSum (sums m os)) (sym is) (last-fits m p c.args.at c.args.extra c.requires.put half);
     }
 
 pub lessen_sum-requires : goal.lessen_sum-requires
@@ -82,17 +82,17 @@ lessen_sum-requires g c = let m = records c.args.store.now in let half = c.first
     let p = c.args.node in let all = insert (kids m p) c.args.at c.args.extra in
     let more = length-insert (kids m p) c.args.at c.args.extra c.requires.put.place in
     let few : length all ≤ 13 = omega (arith, c.requires.put.row.few) in
-    let sum = c.add-else-is_none.ensures ∙ summed c.sum-sum.result c.args.more.now (sum_all m all) c.requires.put.row
+    let sum = c.add-else-is_none.ensures ∙ summed m p c.sum-sum.result c.args.more.now (sum_all m all) c.requires.put.row
     c.sum-sum.ensures.value c.requires.sum in
     let one = ap (sums m) c.part-left.ensures ∙ sums-row m (take half all) in
     let two = c.sum_of-last.ensures ∙ ap (sums m) (c.part-right.ensures
     ∙ last all half c.first_half-half.ensures.high few) ∙ sums-row m (drop half all) in
     record {
-      nodes = named-part c.requires.put (take half all) (λ d a. among-take d half all a)
+      nodes = named-part m p c.args.at c.args.extra c.requires.put (take half all) (λ d a. among-take d half all a)
           c.part-left.result c.part-left.ensures;
-      sum = (λ i. plus (one i) (two i)) ∙ halves-sum c.requires.put half ∙ sym sum;
+      sum = (λ i. plus (one i) (two i)) ∙ halves-sum m p c.args.at c.args.extra c.requires.put half ∙ sym sum;
       fits = subst (λ os. FitsSum (sums m os)) (sym c.part-left.ensures)
-          (first-fits c.requires.put half);
+          (first-fits m p c.args.at c.args.extra c.requires.put half);
     }
 
 pub refill-requires : goal.refill-requires
@@ -103,18 +103,18 @@ refill-requires g c = let m = records c.args.store.now in let half = c.first_hal
         take half all,
         c.part-left.ensures,
         subst (λ n. CanFill n p (take half all)) (sym c.make-sibling.ensures.records)
-            (fill-left c.requires.put c.make-sibling.result c.make-sibling.ensures.fresh half
+            (fill-left m p c.args.at c.args.extra c.requires.put c.make-sibling.result c.make-sibling.ensures.fresh half
             (omega (arith, c.first_half-half.ensures.high))),
       );
       from = omega (arith, c.min.ensures);
       kept = subst (Stay (records c.make-sibling.new.self) p c.min.result) (sym c.part-left.ensures)
           (subst (λ n. Stay n p c.min.result (row (take half all))) (sym c.make-sibling.ensures.records)
-          (kept-left c.requires.put c.make-sibling.result c.make-sibling.ensures.fresh half
+          (kept-left m p c.args.at c.args.extra c.requires.put c.make-sibling.result c.make-sibling.ensures.fresh half
           c.min.result (omega (arith, c.min.ensures)) (omega (arith, c.min.ensures))));
       sum = c.lessen_sum.ensures ∙ ap (sums m) c.part-left.ensures
           ∙ sym (ap (λ n. sums n c.part-left.result) c.make-sibling.ensures.records
           ∙ ap (sums (finite.insert m c.make-sibling.result (blank None))) c.part-left.ensures
-          ∙ left-sums c.requires.put c.make-sibling.result c.make-sibling.ensures.fresh
+          ∙ left-sums m p c.args.at c.args.extra c.requires.put c.make-sibling.result c.make-sibling.ensures.fresh
           half);
     }
 
@@ -131,7 +131,7 @@ refill-requires-else-is_none g c = let m = records c.args.store.now in let half 
         drop half all,
         c.part-right.ensures ∙ last all half c.first_half-half.ensures.high few,
         subst (λ n. CanFill n s (drop half all)) (sym now)
-            (fill-right c.requires.put s c.make-sibling.ensures.fresh half
+            (fill-right m p c.args.at c.args.extra c.requires.put s c.make-sibling.ensures.fresh half
             (omega (arith, few, c.first_half-half.ensures.low))),
       );
       from = omega arith;
@@ -141,13 +141,13 @@ refill-requires-else-is_none g c = let m = records c.args.store.now in let half 
           ∙ sym (ap (λ n. sums n c.part-right.result) now
           ∙ ap (sums (refilled (finite.insert m s (blank None)) p (row (take half all)))) (c.part-right.ensures
           ∙ last all half c.first_half-half.ensures.high few)
-          ∙ right-sums c.requires.put s c.make-sibling.ensures.fresh half);
+          ∙ right-sums m p c.args.at c.args.extra c.requires.put s c.make-sibling.ensures.fresh half);
     }
 
 pub returns-else-is_none-clause-puts : goal.returns-else-is_none-clause-puts
 returns-else-is_none-clause-puts g c = let m = records c.args.store.now in let half = c.first_half-half.result in
     let p = c.args.node in let all = insert (kids m p) c.args.at c.args.extra in let s = c.make-sibling.result in
-    let full = has-none c.requires.put.row c.child.result c.child.ensures.value (c.is_none.ensures
+    let full = has-none m p c.requires.put.row c.child.result c.child.ensures.value (c.is_none.ensures
     ∙ ap not c.if-is_none.false) in
     let more = length-insert (kids m p) c.args.at c.args.extra c.requires.put.place in
     let few : length all ≤ 13 = omega (arith, c.requires.put.row.few) in

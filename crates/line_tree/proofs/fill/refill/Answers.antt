@@ -5,7 +5,7 @@ use Rattle.line_tree.proofs.UpdateLaws.{inner-fill, inner-row}
 use Rattle.line_tree.proofs.fill.refill.Goals as goal
 
 pub relink-requires-clause-node : goal.relink-requires-clause-node
-relink-requires-clause-node g c = inner-fill c.requires.fill.2
+relink-requires-clause-node g c = inner-fill (records c.args.store.now) c.args.node c.requires.fill.0 c.requires.fill.2
 
 pub relink-requires-clause-children : goal.relink-requires-clause-children
 relink-requires-clause-children g c i d is = let cs = c.requires.fill.0 in
@@ -15,7 +15,8 @@ relink-requires-clause-children g c i d is = let cs = c.requires.fill.0 in
 pub set_sum-requires : goal.set_sum-requires
 set_sum-requires g c = let m = records c.args.store.now in let p = c.args.node in let cs = c.requires.fill.0 in
     let now = c.relink.ensures.records ∙ sym c.requires.kept ∙ ap (relinked m p 0) c.requires.fill.1 in
-    inner-row (subst (λ n. HasRow n p) (sym now) (relinked-has_row c.requires.fill.2).0)
+    inner-row (records c.relink.new.store) p
+    (subst (λ n. HasRow n p) (sym now) (relinked-has_row m p cs c.requires.fill.2).0)
 
 pub returns-clause-records : goal.returns-clause-records
 returns-clause-records g c = let m = records c.args.store.now in let p = c.args.node in let os = c.args.children.now in

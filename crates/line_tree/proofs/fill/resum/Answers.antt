@@ -3,7 +3,7 @@ use Rattle.line_tree.proofs.UpdateLaws.{inner-row}
 use Rattle.line_tree.proofs.fill.resum.Goals as goal
 
 pub set_sum-requires : goal.set_sum-requires
-set_sum-requires g c = inner-row c.requires.row
+set_sum-requires g c = inner-row (records c.args.store.now) c.args.node c.requires.row
 
 pub returns-clause-records : goal.returns-clause-records
 returns-clause-records g c = let m = records c.args.store.now in

@@ -8,16 +8,16 @@ use Rattle.line_tree.proofs.fill.sum_below.Goals.{in-Some, in_default}
 use Rattle.line_tree.proofs.fill.sum_below.Goals as goal
 
 -- what the child at a slot adds
-some_step : {m : Records} {p : NodePtr} (has : HasRow m p) (i : ℕ) (d : NodePtr) → i < 12 →
+some_step : (m : Records) (p : NodePtr) (has : HasRow m p) (i : ℕ) (d : NodePtr) → i < 12 →
     slice_get (kids m p) i ≡ Some d
     → sums m (drop i (row (kids m p))) ≡ plus (sum_at m d) (sums m (drop (i + 1) (row (kids m p))))
-some_step {m} {p} has i d less here =
+some_step m p has i d less here =
     sums-step m (kids m p) i has.few less
     ∙ ap (λ x. plus (sum_or_none m x) (sums m (drop (i + 1) (row (kids m p))))) here
 
-none_step : {m : Records} {p : NodePtr} (has : HasRow m p) (i : ℕ) → i < 12 → slice_get (kids m p) i ≡ None →
+none_step : (m : Records) (p : NodePtr) (has : HasRow m p) (i : ℕ) → i < 12 → slice_get (kids m p) i ≡ None →
     sums m (drop i (row (kids m p))) ≡ sums m (drop (i + 1) (row (kids m p)))
-none_step {m} {p} has i less none = sums-step m (kids m p) i has.few less
+none_step m p has i less none = sums-step m (kids m p) i has.few less
     ∙ ap (λ x. plus (sum_or_none m x) (sums m (drop (i + 1) (row (kids m p))))) none
     ∙ no_text-plus (sums m (drop (i + 1) (row (kids m p))))
 
@@ -45,7 +45,7 @@ add_sum_to-requires-clause-fits g c = let m = records c.args.store.now in let p 
     let child = child_is m p c.requires.row c.child.result i c.child.ensures.value in
     let at = here m p i c.child.result c.in-Some.child child c.in-Some.is in
     let named = c.requires.row.each i c.in-Some.child at in
-    let step = some_step c.requires.row i c.in-Some.child c.loop-slot-test.true at in
+    let step = some_step m p c.requires.row i c.in-Some.child c.loop-slot-test.true at in
     let sum = c.loop-slot.sum in let more = sum_at m c.in-Some.child in
     asks (CountsFit sum) m c.in-Some.child named (fits-both sum more (fits-left (plus sum more) rest
     (subst FitsSum (sym (plus-associative sum more rest ∙ ap (plus sum) (sym step) ∙ c.loop-slot.invariant.sum))
@@ -59,16 +59,15 @@ loop-slot-preserved g c = let m = records c.args.store.now in let p = c.args.nod
       | in-Some w ↦
           let at = here m p i c.child.result w.in-Some.child child w.in-Some.is in
           let named = c.requires.row.each i w.in-Some.child at in
-          let step = some_step c.requires.row i w.in-Some.child c.loop-slot-test.true at in
+          let step = some_step m p c.requires.row i w.in-Some.child c.loop-slot-test.true at in
           record {
             sum = ap (λ s. plus s rest)
                 (w.sum-is ∙ added_is m w.in-Some.child c.loop-slot.sum _ named w.add_sum_to.ensures.value)
-                ∙ plus-associative c.loop-slot.sum (sum_at m w.in-Some.child) rest ∙ ap (plus c.loop-slot.sum)
-                (sym step)
+                ∙ plus-associative c.loop-slot.sum (sum_at m w.in-Some.child) rest ∙ ap (plus c.loop-slot.sum) (sym step)
                 ∙ c.loop-slot.invariant.sum;
           }
       | in_default w ↦
-          let step = none_step c.requires.row i c.loop-slot-test.true (sym child
+          let step = none_step m p c.requires.row i c.loop-slot-test.true (sym child
           ∙ none_of c.child.result w.in_default.not-Some) in
           record {
             sum = ap (λ s. plus s rest) w.sum-is ∙ ap (plus c.loop-slot.sum) (sym step)

@@ -5,9 +5,9 @@ use Rattle.line_tree.proofs.SearchLaws.{wide-all}
 use Rattle.line_tree.proofs.find.find_among.Goals.{then-k-lines, else-k-lines}
 use Rattle.line_tree.proofs.find.find_among.Goals as goal
 
-finds : {m : Records} {p : NodePtr} {k : ℕ} {r : Reached ℕ} → Reaches (λ s. s.lines) (λ s. s.lines) m p k r →
+finds : (m : Records) (p : NodePtr) (k : ℕ) (r : Reached ℕ) → Reaches (λ s. s.lines) (λ s. s.lines) m p k r →
     Finds m p k (record { child = r.child; slot = r.slot; lines = r.size; rest = r.rest })
-finds {m} {p} {r} found = let lines = wide-all nothing-adds m (take r.slot (kids m p)) in let place = found.place in
+finds m p k r found = let lines = wide-all nothing-adds m (take r.slot (kids m p)) in let place = found.place in
     record { child = found.child; place = omega arith; rest = found.rest; lines = found.size }
 
 pub search-reached-requires-clause-within : goal.search-reached-requires-clause-within
@@ -28,7 +28,7 @@ returns g c = let m = records c.args.store.now in let p = c.args.node in
       | then-k-lines w ↦
           let t = ap g.C.Ticks.count w.ticks-is in let steps = w.search-reached.ensures.ticks in
           record {
-            found = finds (subst (Reaches (λ s. s.lines) (λ s. s.lines) m p c.args.k)
+            found = finds m p c.args.k c.if-k-lines.reached (subst (Reaches (λ s. s.lines) (λ s. s.lines) m p c.args.k)
                 (sym w.reached-is) w.search-reached.ensures.reaches);
             ticks = omega arith;
           }
@@ -38,7 +38,7 @@ returns g c = let m = records c.args.store.now in let p = c.args.node in
           let found = subst (λ k. Reaches (λ s. s.lines) (λ s. s.lines) m p k w.search_back-reached.result) e
           w.search_back-reached.ensures.reaches in
           record {
-            found = finds (subst (Reaches (λ s. s.lines) (λ s. s.lines) m p c.args.k)
+            found = finds m p c.args.k c.if-k-lines.reached (subst (Reaches (λ s. s.lines) (λ s. s.lines) m p c.args.k)
                 (sym w.reached-is) found);
             ticks = omega arith;
           }

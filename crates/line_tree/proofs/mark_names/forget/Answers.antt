@@ -12,7 +12,7 @@ write-requires c = let ls = c.args.tree.now.lines in let l = c.loop-index in
     } in
     let same : length l.names.items ≡ vec_len l.names = let ok = l.names.ok.0 in omega (arith, ok) in
     subst (λ n. NumbersBelow n c.line.result.now.marks) same
-    (forgets-within ls c.args.from l.at c.args.to c.in-Some.index c.in-Some.name c.line.result.now
+    (forgets-within l.names.items ls c.args.from l.at c.args.to c.in-Some.index c.in-Some.name c.line.result.now
     passes l.invariant.above l.invariant.table)
 
 pub loop-index-preserved : goal.loop-index-preserved
@@ -28,12 +28,12 @@ loop-index-preserved c = let ls = c.args.tree.now.lines in let l = c.loop-index 
     record {
       above = omega (arith, first, above);
       below = omega (arith, below);
-      table = forgets c.write.new.names.items ls c.args.from l.at c.args.to c.in-Some.index c.in-Some.name
+      table = forgets l.names.items c.write.new.names.items ls c.args.from l.at c.args.to c.in-Some.index c.in-Some.name
           c.line.result.now passes l.invariant.above l.invariant.table c.write.ensures.table;
       len = omega (arith, before, after);
     }
 
 pub returns-clause-table : goal.returns-clause-table
 returns-clause-table c = let l = c.loop-index in
-    all-forgotten c.args.tree.now.lines c.args.from l.at c.args.to l.invariant.below c.in_default.ensures
+    all-forgotten l.names.items c.args.tree.now.lines c.args.from l.at c.args.to l.invariant.below c.in_default.ensures
     l.invariant.table

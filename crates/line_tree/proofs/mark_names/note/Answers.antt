@@ -27,11 +27,12 @@ loop-index-preserved c = let ls = c.args.tree.now.lines in let l = c.loop-index 
     record {
       above = omega (arith, first, above);
       below = omega (arith, below);
-      table = notes c.write.new.names.items ls l.at c.args.to c.in-Some.index c.in-Some.name
+      table = notes l.names.items c.write.new.names.items ls l.at c.args.to c.in-Some.index c.in-Some.name
           c.line.result.now passes l.invariant.table c.write.ensures.table;
       len = omega (arith, before, after);
     }
 
 pub returns-clause-table : goal.returns-clause-table
 returns-clause-table c = let l = c.loop-index in
-    all-known c.args.tree.now.lines l.at c.args.to l.invariant.below c.in_default.ensures l.invariant.table
+    all-known l.names.items c.args.tree.now.lines l.at c.args.to l.invariant.below c.in_default.ensures
+    l.invariant.table

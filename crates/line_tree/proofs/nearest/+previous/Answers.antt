@@ -122,7 +122,7 @@ returns-in-Some-previous g t c = let h = c.args.height in
     let a = asked g t (goal.at.returns-in-Some-previous g t c).After-min-rest in
     sym (previous-hit (records c.args.store.now) h (h - 1) c.args.node (c.loop-slot.slot - 1)
     (c.loop-slot.before - c.lines-lines.result) a.above c.requires.tree a.before c.in-Some.child a.here c.args.wanted
-    c.in-Some-previous.found a.reach c.requires.within a.free
+    c.args.to c.min-rest.result c.in-Some-previous.found a.reach c.requires.within a.free
     (sym c.previous.ensures ∙ c.in-Some-previous.is))
 
 pub loop-slot-preserved-then-is_in : goal.loop-slot-preserved-then-is_in
@@ -134,7 +134,7 @@ loop-slot-preserved-then-is_in g t c = let h = c.args.height in
       before = a.before;
       free = previous-missed (records c.args.store.now) h (h - 1) c.args.node (c.loop-slot.slot - 1)
           (c.loop-slot.before - c.lines-lines.result) a.above c.requires.tree a.before c.in-Some.child a.here
-          c.args.wanted a.reach a.free
+          c.args.wanted c.args.to c.min-rest.result a.reach a.free
           (sym c.previous.ensures ∙ none_of c.previous.result c.in_default-previous.not-Some);
     }
 
@@ -158,9 +158,8 @@ loop-slot-preserved-else-rest-gt0 g t c = let m = records c.args.store.now in le
     record {
       few = omega arith;
       before = a.before;
-      free = previous-missed m h n c.args.node (c.loop-slot.slot - 1)
-          (c.loop-slot.before - c.lines-lines.result) a.above
-          c.requires.tree a.before x a.here c.args.wanted a.reach a.free none;
+      free = previous-missed m h n c.args.node (c.loop-slot.slot - 1) (c.loop-slot.before - c.lines-lines.result) a.above
+          c.requires.tree a.before x a.here c.args.wanted c.args.to c.min-rest.result a.reach a.free none;
     }
 
 pub loop-slot-preserved : goal.loop-slot-preserved

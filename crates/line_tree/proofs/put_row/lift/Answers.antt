@@ -22,15 +22,15 @@ pub raise-requires : goal.raise-requires
 raise-requires g c = let list = c.deref-in-loop-below.ensures.value ∙ c.push_all.ensures.list
     ∙ (λ i. c.clear.ensures.items i ++ c.deref.ensures.value i) in let now = c.loop-below.invariant in
     let test = c.loop-below-test.true in let len = c.len.ensures in
-    let levels = subst (λ n. suc c.loop-below.top ≤ levels_at_most n) now.nodes
-    (lift-levels (spares c.loop-below.store) now.lifted.can
+    let levels = subst (λ n. suc c.loop-below.top ≤ levels_at_most n) now.nodes (lift-levels
+    (records c.loop-below.store) c.loop-below.top c.loop-below.row.items (spares c.loop-below.store) now.lifted.can
     (omega arith)) in
     record {
       raise =
           let m = records c.loop-below.store in let top = c.loop-below.top in (
             top,
             subst (CanRaise m top) (sym list)
-                (lift-can c.loop-below.invariant.lifted.can),
+                (lift-can m top c.loop-below.row.items c.loop-below.invariant.lifted.can),
           );
       spares = subst (λ (xs : _). length xs ≤ 12 * spares c.loop-below.store) (sym list) (spares-left
           (levels_at_most (nodes c.args.store.now)) c.args.height c.loop-below.top (length c.loop-below.row.items)
@@ -46,7 +46,9 @@ raise-requires g c = let list = c.deref-in-loop-below.ensures.value ∙ c.push_a
 pub overflow_add-top : goal.overflow_add-top
 overflow_add-top g c =
     let now = c.loop-below.invariant in let test = c.loop-below-test.true in let len = c.len.ensures in
-    let n = spares c.loop-below.store in let levels = lift-levels n now.lifted.can (omega arith) in
+    let n = spares c.loop-below.store in
+    let levels = lift-levels (records c.loop-below.store) c.loop-below.top c.loop-below.row.items n
+    now.lifted.can (omega arith) in
     let low = low-levels (nodes c.loop-below.store) in omega (arith, levels, low)
 
 pub loop-below-preserved : goal.loop-below-preserved
@@ -58,16 +60,16 @@ loop-below-preserved g c =
     ∙ (λ i. c.clear.ensures.items i ++ c.deref.ensures.value i) in
     let two : 2 ≤ length ps = omega arith in
     let levels = subst (λ n. suc top ≤ levels_at_most n) now.nodes
-    (lift-levels (spares c.loop-below.store) now.lifted.can two) in
+    (lift-levels l top ps (spares c.loop-below.store) now.lifted.can two) in
     let raises = subst (λ (xs : _). Raises l n top xs (length xs) qs) list
-    (c.raise.ensures.raises top (subst (CanRaise l top) (sym list) (lift-can now.lifted.can))) in
+    (c.raise.ensures.raises top (subst (CanRaise l top) (sym list) (lift-can l top ps now.lifted.can))) in
     let few = subst (λ (xs : _). 12 * length qs ≤ length xs + 11) list c.raise.ensures.few in
     let rooms_now = c.raise.ensures.rooms in let spares_now = c.raise.ensures.spares in let same = now.spares in
     let next : suc top ≡ top + 1 = omega arith in
     let up = now.up in
     record {
       lifted = subst (λ j. Lifted m n c.args.height c.args.row.now.items j qs) next
-          (lift-more now.lifted two raises few);
+          (lift-more m l n c.args.height c.args.row.now.items top ps qs now.lifted two raises few);
       short = let were = now.short in omega (arith, were, few, two);
       up = omega (arith, up);
       most = λ more. omega (arith, levels);

@@ -38,7 +38,7 @@ step-full all from count made some twelve halves full less = elim (cases_lt (all
 pub loop-from-preserved : goal.loop-from-preserved
 loop-from-preserved g c =
     let xs = c.args.below.now in let from = c.loop-from.from in let count = c.next_part-count.result in
-    let m = records c.args.store.now in let n = records c.above-node.new.store in
+    let m = records c.args.store.now in let l = records c.loop-from.store in let n = records c.above-node.new.store in
     let test = c.loop-from-test.true in let part = c.next_part-count.ensures in let now = c.loop-from.invariant in
     let part_within = part.within in let part_left = part.left in let part_low = part.low in let part_all = part.all in
     let within : from + count ≤ length xs = omega (arith, test, part_within) in
@@ -51,14 +51,14 @@ loop-from-preserved g c =
           let ps = c.loop-from.row.items in let a = c.above-node.result in
           let long = long-part xs from count within in let few = part.few in
           subst (λ zs. Raises m n h (take (from + count) xs) (length xs) zs) (sym c.push_reserved.ensures.items)
-          (subst (λ ds. Raises m n h ds (length xs) (ps ++ a ∷ [])) (two-parts xs from count) (raises-more next rest
-          (subst (CanRaise m h) (sym (three-parts xs from count)) can) (now.raises h can) c.above-node.ensures.root
+          (subst (λ ds. Raises m n h ds (length xs) (ps ++ a ∷ [])) (two-parts xs from count)
+          (raises-more m l h front next rest (length xs) ps
+          (subst (CanRaise m h) (sym (three-parts xs from count)) can) (now.raises h can) n a c.above-node.ensures.root
           (omega arith) (λ least six low.
           subst (λ j. least ≤ j) (sym long) (enough (length xs) from count least test six low
           (λ six_left. part_low (omega arith)) (λ later. now.left later test) (λ last.
           let e = part_all (omega arith) in omega arith)))));
-      more = λ less. let a = step-more (length xs) from count
-          (length c.loop-from.row.items) test part.all now.full less in
+      more = λ less. let a = step-more (length xs) from count (length c.loop-from.row.items) test part.all now.full less in
           omega arith;
       full = λ less. let a = step-full (length xs) from count (length c.loop-from.row.items) test part.full part.halves
           now.full less in omega arith;
@@ -74,16 +74,16 @@ pub above-node-requires-clause-named : goal.above-node-requires-clause-named
 above-node-requires-clause-named g c =
     let xs = c.args.below.now in let from = c.loop-from.from in let count = c.next_part-count.result in
     let m = records c.args.store.now in let h = c.requires.raise.0 in
-    next-there (take count (drop from xs)) (drop count (drop from xs))
-    (subst (CanRaise m h) (sym (three-parts xs from count)) c.requires.raise.1)
+    next-there m (records c.loop-from.store) h (take from xs) (take count (drop from xs)) (drop count (drop from xs))
+    (length xs) c.loop-from.row.items (subst (CanRaise m h) (sym (three-parts xs from count)) c.requires.raise.1)
     (c.loop-from.invariant.raises h c.requires.raise.1)
 
 pub above-node-requires-clause-fits : goal.above-node-requires-clause-fits
 above-node-requires-clause-fits g c =
     let xs = c.args.below.now in let from = c.loop-from.from in let count = c.next_part-count.result in
     let m = records c.args.store.now in let h = c.requires.raise.0 in
-    next-fits (take count (drop from xs)) (drop count (drop from xs))
-    (subst (CanRaise m h) (sym (three-parts xs from count)) c.requires.raise.1)
+    next-fits m (records c.loop-from.store) h (take from xs) (take count (drop from xs)) (drop count (drop from xs))
+    (length xs) c.loop-from.row.items (subst (CanRaise m h) (sym (three-parts xs from count)) c.requires.raise.1)
     (c.loop-from.invariant.raises h c.requires.raise.1)
 
 pub returns-clause-raises : goal.returns-clause-raises

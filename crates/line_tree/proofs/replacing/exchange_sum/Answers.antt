@@ -11,7 +11,7 @@ use Rattle.line_tree.proofs.replacing.exchange_sum.Goals as goal
 
 pub exchange-requires : goal.exchange-requires
 exchange-requires g c = record {
-  name = inner-row c.requires.row;
+  name = inner-row (records c.args.store.now) c.args.node c.requires.row;
   sum =
       let m = records c.args.store.now in let p = c.args.node in let has = c.requires.row in
       let both = c.args.exchange.now in let below = sums m (row (kids m p)) in let old = has.found.sum in

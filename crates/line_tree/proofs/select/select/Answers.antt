@@ -20,7 +20,7 @@ loop-level-preserved g c = let m = records c.args.store.now in let at = c.loop-l
     let n = c.loop-level.level - 1 in
     let e : c.loop-level.level ≡ suc n = omega (arith, c.loop-level-test.true) in
     let tree = subst (λ h. IsTree m h at) e c.loop-level.invariant.tree in
-    let down = descends n tree c.find_at-found.ensures.found in
+    let down = descends m n at c.loop-level.rest c.find_at-found.result tree c.find_at-found.ensures.found in
     let so_far = c.loop-level.invariant.ticks in let one = c.find_at-found.ensures.ticks in
     record {
       tree = down.tree;

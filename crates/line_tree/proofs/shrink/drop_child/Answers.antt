@@ -12,19 +12,19 @@ pub returns-clause-child : goal.returns-clause-child
 returns-clause-child g c = sym c.kid.ensures ∙ c.unwrap-gone.ensures
 
 -- the sum of the children that are left
-left : {m : Records} {p : NodePtr} {cs : List NodePtr} (n : Records) → CanFill m p cs → n ≡ relinked m p 0 (row cs) →
+left : (m n : Records) (p : NodePtr) (cs : List NodePtr) → CanFill m p cs → n ≡ relinked m p 0 (row cs) →
     sums n (row (kids n p)) ≡ sum_all m cs
-left {m} {p} {cs} n fill now = ap (λ z. sums z (row (kids z p))) now
-    ∙ ap (λ ds. sums (relinked m p 0 (row cs)) (row ds)) (relinked-has_row fill).1 ∙ relinked-sums m p cs
+left m n p cs fill now = ap (λ z. sums z (row (kids z p))) now
+    ∙ ap (λ ds. sums (relinked m p 0 (row cs)) (row ds)) (relinked-has_row m p cs fill).1 ∙ relinked-sums m p cs
 
 pub lessen-requires : goal.lessen-requires
 lessen-requires g c = let m = records c.args.store.now in let p = c.args.node in let r = c.requires in
     let now = c.close.ensures.records in let cs = remove (kids m p) c.args.slot in
     record {
-      row = subst (λ n. HasRow n p) (sym now) (relinked-has_row r.fill).0;
-      sum = ap (λ s. plus s c.args.less.now) (left (records c.close.new.store) r.fill now) ∙ r.sum
+      row = subst (λ n. HasRow n p) (sym now) (relinked-has_row m p (remove (kids m p) c.args.slot) r.fill).0;
+      sum = ap (λ s. plus s c.args.less.now) (left m (records c.close.new.store) p cs r.fill now) ∙ r.sum
           ∙ sym (ap (λ n. sum_at n p) now ∙ sum-relinked m p 0 (row cs) p);
-      fits = subst FitsSum (sym (left (records c.close.new.store) r.fill now)) r.fill.fits;
+      fits = subst FitsSum (sym (left m (records c.close.new.store) p cs r.fill now)) r.fill.fits;
     }
 
 pub returns-clause-records : goal.returns-clause-records
@@ -32,4 +32,4 @@ returns-clause-records g c = let m = records c.args.store.now in let p = c.args.
     let cs = remove (kids m p) c.args.slot in
     let now = c.close.ensures.records in
     c.lessen.ensures.records ∙ ap (λ n. resummed n p (row (kids n p))) now
-    ∙ ap (λ ds. resummed (relinked m p 0 (row cs)) p (row ds)) (relinked-has_row r.fill).1
+    ∙ ap (λ ds. resummed (relinked m p 0 (row cs)) p (row ds)) (relinked-has_row m p cs r.fill).1

@@ -5,7 +5,7 @@ use Rattle.line_tree.proofs.shrink.part_pair.Goals as goal
 
 pub pick_pair-requires-clause-count : goal.pick_pair-requires-clause-count
 pick_pair-requires-clause-count g c =
-    count-row c.children-first.result c.requires.left c.children-first.ensures
+    count-row (records c.args.store.now) c.args.left c.children-first.result c.requires.left c.children-first.ensures
 
 pub returns : goal.returns
 returns g c = let m = records c.args.store.now in

@@ -16,11 +16,11 @@ rest all half few = let n = length-drop half all in let h : length (drop half al
 pub refill-requires : goal.refill-requires
 refill-requires g c = let m = records c.args.store.now in let a = c.args.left in let b = c.args.right in
     let all = kids m a ++ kids m b in let half = c.args.half in let can = c.requires.even in
-    let na = count-row c.children-first.result can.left c.children-first.ensures in
+    let na = count-row m a c.children-first.result can.left c.children-first.ensures in
     record {
-      fill = (take half all, c.part_pair-front.ensures, fill-front can half c.requires.half.high);
+      fill = (take half all, c.part_pair-front.ensures, fill-front m a b can half c.requires.half.high);
       from = omega (arith, c.min.ensures, c.requires.half.high);
-      kept = kept-part can c.min.result (take half all) (omega (arith, c.min.ensures))
+      kept = kept-part m a b can c.min.result (take half all) (omega (arith, c.min.ensures))
           (take-short c.min.result half all (omega (arith, c.min.ensures))
           ∙ take-append-le c.min.result (kids m a) (kids m b) (omega (arith, c.min.ensures))) c.part_pair-front.result
           c.part_pair-front.ensures;
@@ -34,12 +34,12 @@ refill-requires-2 g c = let m = records c.args.store.now in let a = c.args.left 
     let few = c.requires.half.rest_high in let back = c.part_pair-back.ensures ∙ rest all half few in
     let now = c.refill.ensures.records ∙ ap (refilled m a) c.part_pair-front.ensures in
     record {
-      fill = (drop half all, back, subst (λ x. CanFill x b (drop half all)) (sym now) (fill-back can half few));
+      fill = (drop half all, back, subst (λ x. CanFill x b (drop half all)) (sym now) (fill-back m a b can half few));
       from = omega arith;
       kept = refl;
       sum = c.sum_halves-sum_front.ensures.last
           ∙ sym (ap (λ n. sums n c.part_pair-back.result) now ∙ ap (sums (refilled m a (row (take half all)))) back
-          ∙ back-sums can half);
+          ∙ back-sums m a b can half);
     }
 
 pub returns-clause-records : goal.returns-clause-records
@@ -52,8 +52,8 @@ returns-clause-records g c = let m = records c.args.store.now in let a = c.args.
     (c.part_pair-back.ensures ∙ rest all half c.requires.half.rest_high)
 
 pub sum_halves-sum_front-requires-clause-front : goal.sum_halves-sum_front-requires-clause-front
-sum_halves-sum_front-requires-clause-front g c = λ more.
-    let na = count-row c.children-first.result c.requires.even.left c.children-first.ensures in
+sum_halves-sum_front-requires-clause-front g c = λ more. let m = records c.args.store.now in
+    let na = count-row m c.args.left c.children-first.result c.requires.even.left c.children-first.ensures in
     elim c.if-first-half.branch [
       | then-first-half w ↦ let less = w.if-first-half.true in absurd (omega arith)
       | else-first-half w ↦ ap (λ s. s.now) w.stay-is ∙ c.part_pair-front.ensures

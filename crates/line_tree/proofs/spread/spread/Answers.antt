@@ -40,12 +40,13 @@ two g c = let m = records c.args.store.now in let cs = kids m c.args.node in
     let can = c.requires.spread in let e : suc at ≡ at + 1 = omega arith in
     let at_left = sym c.kid.ensures ∙ c.unwrap-left.ensures in
     let at_right = ap (slice_get cs) e ∙ sym c.kid-2.ensures ∙ c.unwrap-right.ensures in
-    let na = count-row c.children.result (can.each at left at_left).0 c.children.ensures in
-    let nb = count-row c.children-2.result (can.each (suc at) right at_right).0 c.children-2.ensures in
-    let n = length-append (kids m left) (kids m right) in let least = enough can c.args.found.now.child c.requires.child
-    (c.has_room.ensures.no c.if-has_room.false) c.in-Some.ensures.some left right at_left at_right in
-    let most = not-more can c.args.found.now.child c.requires.child
-    (c.has_room.ensures.no c.if-has_room.false) c.in-Some.ensures.some left right at_left at_right in
+    let na = count-row m left c.children.result (can.each at left at_left).0 c.children.ensures in
+    let nb = count-row m right c.children-2.result (can.each (suc at) right at_right).0 c.children-2.ensures in
+    let n = length-append (kids m left) (kids m right) in
+    let least = enough m c.args.node can c.args.found.now.slot c.args.found.now.child c.requires.child
+    (c.has_room.ensures.no c.if-has_room.false) at c.in-Some.ensures.some left right at_left at_right in
+    let most = not-more m c.args.node can c.args.found.now.slot c.args.found.now.child c.requires.child
+    (c.has_room.ensures.no c.if-has_room.false) at c.in-Some.ensures.some left right at_left at_right in
     record { is_left = at_left; is_right = at_right; all = omega arith; low = omega arith; high = omega arith }
 
 pub overflow_add-count : goal.overflow_add-count

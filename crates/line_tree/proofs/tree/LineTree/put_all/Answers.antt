@@ -21,7 +21,8 @@ put_in-requires-clause-room g c = let room = c.requires.room in
 pub returns-then-not-is_row-clause-room : goal.returns-then-not-is_row-clause-room
 returns-then-not-is_row-clause-room g c =
     let count : c.saturating_sub.result ≡ length c.args.lines.items - c.args.gone = omega arith in
-    spends-alone c.put_in.ensures.room (λ many. c.is_row.ensures.no c.if-not-is_row.true (omega (arith, many, count)))
+    spends-alone c.args.self.now _ (more_lines c.args.gone c.args.lines.items) c.put_in.ensures.room
+    (λ many. c.is_row.ensures.no c.if-not-is_row.true (omega (arith, many, count)))
 
 pub put_rows-requires-clause-room : goal.put_rows-requires-clause-room
 put_rows-requires-clause-room g c = let room = c.requires.room in
@@ -64,6 +65,6 @@ returns-clause-room g c =
     let count : c.saturating_sub.result ≡ n = omega arith in
     let none : length c.put_rows.new.lines.items - c.args.gone
     ≡ 0 = let short = length-take c.args.gone c.args.lines.items in let same = ap length put.left in omega arith in
-    spends-keeps old n (min 1 n)
+    spends-keeps old mid now n (min 1 n)
     (spends-row old mid n (let many = row.0 in omega (arith, many, count)) row.1 put.nodes put.used put.rooms put.names)
-    (puts-none (subst (λ z. PutsRoom mid now z) none c.put_in-2.ensures.room))
+    (puts-none mid now (subst (λ z. PutsRoom mid now z) none c.put_in-2.ensures.room))

@@ -15,13 +15,13 @@ loop-line-init g c = record {
   place = omega arith;
   lines = none-in c.args.self.now.lines c.args.k c.args.gone;
   room = let none : 0 ≡ 0 - c.args.gone = omega arith in subst (PutsRoom c.args.self.now c.args.self.now) none
-      (puts-kept (keeps-self c.args.self.now));
+      (puts-kept c.args.self.now c.args.self.now (keeps-self c.args.self.now));
   named = λ p is. absurd (none-some p is);
 }
 
 pub put_line-behind-requires : goal.put_line-behind-requires
 put_line-behind-requires g c = let l = c.loop-line in let s = l.invariant.lines in
-    let now = in-length
+    let now = in-length c.args.self.now.lines l.self.lines c.args.k (min c.args.gone (length l.yielded)) l.yielded
     (went-within (length c.args.self.now.lines) c.args.k c.args.gone l.yielded c.requires.within) s in
     let at = l.invariant.place in let within = c.requires.within in
     record {
@@ -31,7 +31,8 @@ put_line-behind-requires g c = let l = c.loop-line in let s = l.invariant.lines 
       fits =
           let old = c.args.self.now.lines in
           let whole = l.invariant.whole ∙ ap (λ ls. l.yielded ++ ls) c.in-Some.ensures.steps.0 in
-          next-fits c.next.new.self.rest.items c.in-Some.line l.invariant.lines
+          next-fits old l.self.lines c.args.k (min c.args.gone (length l.yielded)) l.yielded c.next.new.self.rest.items
+          c.in-Some.line l.invariant.lines
           (subst (λ ls. FitsSum (plus (total old) (count_of ls))) whole c.requires.fits);
       room = λ past.
           let whole = ap length (l.invariant.whole ∙ ap (λ ls. l.yielded ++ ls) c.in-Some.ensures.steps.0) in
@@ -57,11 +58,12 @@ loop-line-preserved g c = let l = c.loop-line in
     record {
       whole = whole ∙ sym (append_assoc l.yielded (c.in-Some.line ∷ []) c.next.new.self.rest.items);
       place = omega (arith, more, at);
-      lines = next-in c.put_line-behind.new.self.lines c.args.gone l.at c.in-Some.line c.requires.within
-          l.invariant.lines l.invariant.place c.put_line-behind.ensures.over
+      lines = next-in c.args.self.now.lines l.self.lines c.put_line-behind.new.self.lines c.args.k c.args.gone l.at
+          l.yielded c.in-Some.line c.requires.within l.invariant.lines l.invariant.place c.put_line-behind.ensures.over
           c.put_line-behind.ensures.more;
       room = subst (PutsRoom c.args.self.now c.put_line-behind.new.self) step
-          (puts-on l.invariant.room c.put_line-behind.ensures.room);
+          (puts-on c.args.self.now l.self c.put_line-behind.new.self (length l.yielded - c.args.gone)
+          (min 1 (l.at + 1 - (c.args.k + c.args.gone))) l.invariant.room c.put_line-behind.ensures.room);
       named = λ p is. let e : l.at ≡ l.at + 1 - 1 = omega arith in (
         omega arith,
         subst (λ n. IsLineAt c.put_line-behind.new.self.lines n p) e

@@ -22,7 +22,7 @@ returns-else-k-end-clause-named g c p is =
 pub returns-then-k-end-clause-room : goal.returns-then-k-end-clause-room
 returns-then-k-end-clause-room g c =
     let none : 0 ≡ min 1 (c.args.k + 1 - c.args.end) = omega arith in
-    subst (PutsRoom c.args.self.now _) none (puts-kept c.replace_named.ensures.keeps)
+    subst (PutsRoom c.args.self.now _) none (puts-kept c.args.self.now _ c.replace_named.ensures.keeps)
 
 pub returns-else-k-end-clause-room : goal.returns-else-k-end-clause-room
 returns-else-k-end-clause-room g c =

@@ -92,7 +92,7 @@ put_row-requires-clause-take g c =
     let r = c.self.inside.root in let xs = c.make_row.new.row.items in
     let same = ap (λ v. v.lines) c.self.view_is in
     let some = c.requires.some in let count = c.make_row.ensures.count in
-    can-take h r c.args.k xs c.self.invariant.0.stands c.make_row.ensures.row
+    can-take m l h r c.args.k xs c.self.invariant.0.stands c.make_row.ensures.row
     (subst (λ ls. c.args.k ≤ length ls) (sym same) c.requires.place) (omega (arith, some, count))
     (fits-row (lines_in m h r) c.args.self.now.lines (lines_of 0 (trees_at l 0 xs))
     (drop c.args.rest c.args.lines.now.items) same c.make_row.ensures.lines c.requires.fits)
@@ -103,10 +103,11 @@ lift-self-inside-requires-clause-lift g c =
     let r = c.self.inside.root in let xs = c.make_row.new.row.items in
     let same = ap (λ v. v.lines) c.self.view_is in
     let some = c.requires.some in let count = c.make_row.ensures.count in
-    can-lift h r c.args.k xs c.self.invariant.0.stands c.make_row.ensures.row
+    can-lift m l h r c.args.k xs c.self.invariant.0.stands c.make_row.ensures.row
     (subst (λ ls. c.args.k ≤ length ls) (sym same) c.requires.place) (omega (arith, some, count))
     (fits-row (lines_in m h r) c.args.self.now.lines (lines_of 0 (trees_at l 0 xs))
-    (drop c.args.rest c.args.lines.now.items) same c.make_row.ensures.lines c.requires.fits) c.put_row.ensures.takes
+    (drop c.args.rest c.args.lines.now.items) same c.make_row.ensures.lines c.requires.fits)
+    (records c.put_row.new.store) c.put_row.new.row.items c.put_row.ensures.takes
 
 pub invariant_of-self : goal.invariant_of-self
 invariant_of-self g c =
@@ -121,13 +122,13 @@ invariant_of-self g c =
     let lifts = subst (λ zs. Lifts n u h ys top zs) one c.lift-self-inside.ensures.lifts in
     let fits = fits-row (lines_in m h r) c.args.self.now.lines (lines_of 0 (trees_at l 0 xs))
     (drop c.args.rest c.args.lines.now.items) same c.make_row.ensures.lines c.requires.fits in
-    let is = lines-lifted h r c.args.k xs c.self.invariant.0.stands c.make_row.ensures.row place
-    (omega (arith, some, count)) fits c.put_row.ensures.takes a lifts in
+    let is = lines-lifted m l h r c.args.k xs c.self.invariant.0.stands c.make_row.ensures.row place
+    (omega (arith, some, count)) fits n ys c.put_row.ensures.takes u top a lifts in
     let long = ap length is ∙ length-with_lines (lines_in m h r) c.args.k (lines_of 0 (trees_at l 0 xs)) place in
     let row = length-lines l (trees_at l 0 xs) c.make_row.ensures.row.holds in let tops = length-map xs (tree_at l 0) in
     let had = c.self.invariant.1 in let len = c.len.ensures in let ok = c.args.lines.now.ok.0 in (
-      lifted-alone h r c.args.k xs c.self.invariant.0.stands c.make_row.ensures.row place (omega (arith, some, count))
-          fits c.put_row.ensures.takes a lifts c.self.invariant.0.whole,
+      lifted-alone m l h r c.args.k xs c.self.invariant.0.stands c.make_row.ensures.row place (omega (arith, some, count))
+          fits n ys c.put_row.ensures.takes u top a lifts c.self.invariant.0.whole,
       omega (arith, long, row, tops, had, count, len, ok),
     )
 
@@ -146,8 +147,8 @@ returns-clause-lines g c =
     (drop c.args.rest c.args.lines.now.items) same c.make_row.ensures.lines c.requires.fits in (
       lines_of 0 (trees_at l 0 xs),
       c.make_row.ensures.lines,
-      lines-lifted h r c.args.k xs c.self.invariant.0.stands c.make_row.ensures.row place
-          (omega (arith, some, count)) fits c.put_row.ensures.takes a lifts
+      lines-lifted m l h r c.args.k xs c.self.invariant.0.stands c.make_row.ensures.row place
+          (omega (arith, some, count)) fits n ys c.put_row.ensures.takes u top a lifts
           ∙ ap (λ ls. with_lines ls c.args.k (lines_of 0 (trees_at l 0 xs))) same
           ∙ sym (append_assoc (take c.args.k c.args.self.now.lines) (lines_of 0 (trees_at l 0 xs))
           (drop c.args.k c.args.self.now.lines)),

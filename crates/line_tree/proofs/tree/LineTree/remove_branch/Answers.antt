@@ -15,18 +15,23 @@ remove_in-requires-clause-remove g c = let same = ap (λ v. length v.lines) c.se
 pub lower-left-requires-clause-lower : goal.lower-left-requires-clause-lower
 lower-left-requires-clause-lower g c = let same = ap (λ v. length v.lines) c.self.view_is in
     let some = c.requires.some in let left = c.requires.left in
-    can-lower c.self.invariant.0.stands (omega arith) c.in-Some.ensures.removes
+    can-lower (records c.self.inside.store) (records c.remove_in.new.store) c.self.inside.height c.self.inside.root
+    c.args.k 1 c.in-Some.name c.self.invariant.0.stands (omega arith) c.in-Some.ensures.removes
 
 pub give_back_all-lines-requires : goal.give_back_all-lines-requires
 give_back_all-lines-requires g c = record {
-  tree = (branch-after c.in-Some.ensures.removes c.lower-left.ensures.lowers).0;
+  tree = (branch-after (records c.self.inside.store) (records c.remove_in.new.store) (records c.lower-left.new.store)
+      c.self.inside.height c.lower-left.result.height c.self.inside.root c.lower-left.result.root c.args.k 1
+      c.in-Some.name c.in-Some.ensures.removes c.lower-left.ensures.lowers).0;
 }
 
 out : (g : Over) (c : After-give_back_all-lines g) →
     (c.give_back_all-lines.result ≡ length (lines_in (records c.self.inside.store) 1 c.in-Some.name))
     × Out (records c.self.inside.store) (records c.give_back_all-lines.new.store) c.self.inside.height
     c.lower-left.result.height c.self.inside.root c.lower-left.result.root c.args.k c.give_back_all-lines.result
-out g c = branch-out c.give_back_all-lines.result c.self.invariant.0
+out g c = branch-out (records c.self.inside.store) (records c.remove_in.new.store) (records c.lower-left.new.store)
+    (records c.give_back_all-lines.new.store) c.self.inside.height c.lower-left.result.height c.self.inside.root
+    c.lower-left.result.root c.args.k c.in-Some.name c.give_back_all-lines.result c.self.invariant.0
     c.in-Some.ensures.removes c.in-Some.ensures.clean c.lower-left.ensures.lowers c.give_back_all-lines.ensures.lines
     c.give_back_all-lines.ensures.without
 

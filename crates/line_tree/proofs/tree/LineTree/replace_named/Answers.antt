@@ -19,13 +19,13 @@ replace_up-requires-clause-fits g c =
 
 pub invariant_of-self : goal.invariant_of-self
 invariant_of-self g c =
-    let m = records c.self.inside.store in
+    let m = records c.self.inside.store in let n = records c.replace_up.new.store in
     let h = c.self.inside.height in let r = c.self.inside.root in
     let k = c.requires.named.0 in let was = sym (ap (λ v. v.lines) c.self.view_is) in
     let at = subst (λ ls. IsLineAt ls k c.args.name) was c.requires.named.1 in
     let gone = c.replace_up.ensures.changes.0 in let done = c.replace_up.ensures.changes.1 k at in
     let fits = subst (λ ls. FitsSum (plus (total ls) (line_count c.args.line))) was c.requires.fits in (
-      stands-changed c.self.invariant.0 fits done,
+      stands-changed m n h r k (λ _. c.args.line) gone (line_count c.args.line) c.self.invariant.0 fits done,
       c.self.invariant.1 ∙ sym (ap length done.lines
           ∙ length-changed (lines_in m h r) k (λ _. c.args.line) (line-within (lines_in m h r) k c.args.name at)),
     )

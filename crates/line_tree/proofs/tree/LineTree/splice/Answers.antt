@@ -24,5 +24,5 @@ returns-clause-lines g c = let old = c.args.self.now.lines in let now = c.put_al
 
 pub returns-clause-room : goal.returns-clause-room
 returns-clause-room g c = let new = c.args.lines.items in
-    spends-keeps c.args.self.now (more_lines c.args.gone new) (row_of c.args.gone new) c.put_all.ensures.room
+    spends-keeps c.args.self.now _ _ (more_lines c.args.gone new) (row_of c.args.gone new) c.put_all.ensures.room
     c.take_out.ensures.room

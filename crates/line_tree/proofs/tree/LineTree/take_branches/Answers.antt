@@ -16,13 +16,14 @@ loop-end-init g c = let all : c.args.gone ≡ c.args.k + c.args.gone - c.args.k 
 
 pub remove_branch-taken-requires-clause-within : goal.remove_branch-taken-requires-clause-within
 remove_branch-taken-requires-clause-within g c = let l = c.loop-end in let low = l.invariant.start in
-    let high = l.invariant.end in let within = c.requires.within in let long = leaves-long within l.invariant.leaves in
+    let high = l.invariant.end in let within = c.requires.within in
+    let long = leaves-long c.args.self.now l.self c.args.k c.args.gone (l.end - c.args.k) within l.invariant.leaves in
     omega arith
 
 pub remove_branch-taken-requires-clause-left : goal.remove_branch-taken-requires-clause-left
 remove_branch-taken-requires-clause-left g c = let l = c.loop-end in let low = l.invariant.start in
     let high = l.invariant.end in let within = c.requires.within in let some = c.requires.some in
-    let long = leaves-long within l.invariant.leaves in
+    let long = leaves-long c.args.self.now l.self c.args.k c.args.gone (l.end - c.args.k) within l.invariant.leaves in
     omega arith
 
 pub loop-end-preserved : goal.loop-end-preserved
@@ -31,7 +32,7 @@ loop-end-preserved g c = let l = c.loop-end in let low = l.invariant.start in le
     record {
       start = low;
       end = omega arith;
-      leaves = leaves-fewer c.branch_near-start.result
+      leaves = leaves-fewer c.args.self.now l.self _ c.args.k c.args.gone (l.end - c.args.k) c.branch_near-start.result
           c.remove_branch-taken.result (l.end - c.remove_branch-taken.result - c.args.k) c.requires.within
           l.invariant.leaves low (omega arith) (omega arith) c.remove_branch-taken.ensures.lines
           c.remove_branch-taken.ensures.room;

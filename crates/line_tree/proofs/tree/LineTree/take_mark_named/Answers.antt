@@ -1,5 +1,5 @@
-use Rattle.line_tree.proofs.Common.{◌+◌, length, ap, sym, ◌∙◌, subst, lines_in, records, without_mark, IsLineAt}
-use Rattle.line_tree.proofs.Common.{line_room, changed}
+use Rattle.line_tree.proofs.Common.{◌+◌, length, ap, sym, ◌∙◌, subst, counting, no_text, lines_in, records, total}
+use Rattle.line_tree.proofs.Common.{without_mark, IsLineAt, line_room, changed}
 use Rattle.line_tree.proofs.ChangingLaws.{length-changed, stands-changed}
 use Rattle.line_tree.proofs.LineRoomLaws.{room-stays}
 use Rattle.line_tree.proofs.PlaceLaws.{line-within}
@@ -15,13 +15,13 @@ take_up-requires-clause-named g c = (
 
 pub invariant_of-self : goal.invariant_of-self
 invariant_of-self g c =
-    let m = records c.self.inside.store in
+    let m = records c.self.inside.store in let n = records c.take_up.new.store in
     let h = c.self.inside.height in let r = c.self.inside.root in
     let k = c.requires.0 in let f = without_mark c.args.number.0 in
     let at = subst (λ ls. IsLineAt ls k c.args.name) (sym (ap (λ v. v.lines) c.self.view_is)) c.requires.1 in
     let gone = c.take_up.ensures.takes.0 in let done = c.take_up.ensures.takes.1 k at in (
-      stands-changed c.self.invariant.0
-          (fits-none c.self.invariant.0.stands.fits) done,
+      stands-changed m n h r k f (counting 0 0 gone) no_text c.self.invariant.0
+          (fits-none (total (lines_in m h r)) c.self.invariant.0.stands.fits) done,
       c.self.invariant.1 ∙ sym (ap length done.lines
           ∙ length-changed (lines_in m h r) k f (line-within (lines_in m h r) k c.args.name at)),
     )

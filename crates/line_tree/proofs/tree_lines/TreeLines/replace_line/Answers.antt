@@ -5,7 +5,8 @@ use Rattle.line_tree.proofs.tree_lines.TreeLines.replace_line.Goals as goal
 pub write-requires : goal.write-requires
 write-requires c = let list = c.args.self.now in let k = c.args.index in let p = c.select-name.result in
     let same : length list.names.items ≡ vec_len list.names = let ok = list.names.ok.0 in omega (arith, ok) in
-    subst (λ n. NumbersBelow n c.line.result.now.marks) same (over-below k p c.line.result.now list.are_lines list.table
+    subst (λ n. NumbersBelow n c.line.result.now.marks) same
+    (over-below list.names.items list.tree.lines k p c.line.result.now list.are_lines list.table
     (c.line.ensures k c.select-name.ensures.name))
 
 pub write-requires-2 : goal.write-requires-2
@@ -28,7 +29,7 @@ invariant_of-self c = let list = c.args.self.now in let k = c.args.index in let 
     let are = subst AreLines (sym (over-contents old now k p was line c.requires.within at is)) c.requires.lines in
     record {
       are_lines = are;
-      table = over-table old now k p was line c.requires.within at is c.write.new.names.items
+      table = over-table old now k p was line c.requires.within at is list.names.items c.write.new.names.items
           c.write-2.new.names.items list.are_lines are list.table c.write.ensures.table c.write-2.ensures.table;
     }
 

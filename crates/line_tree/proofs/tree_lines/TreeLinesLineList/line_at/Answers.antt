@@ -11,7 +11,7 @@ line-requires c = (c.locate_line-found.result.line, c.locate_line-found.ensures.
 
 pub returns-clause-place : goal.returns-clause-place
 returns-clause-place c = let found = c.locate_line-found in
-    place-holds found.ensures.place
+    place-holds c.args.self.now.tree.lines c.args.offset found.result.line found.result.column found.ensures.place
 
 pub returns-clause-line : goal.returns-clause-line
 returns-clause-line c = let ls = c.args.self.now.tree.lines in let k = c.locate_line-found.result.line in

@@ -8,4 +8,4 @@ locate-requires c = let all = characters-in c.args.self.now.tree.lines in let wi
 
 pub returns : goal.returns
 returns c =
-    place-holds c.locate.ensures.place
+    place-holds c.args.self.now.tree.lines c.args.offset c.locate.result.0 c.locate.result.1 c.locate.ensures.place

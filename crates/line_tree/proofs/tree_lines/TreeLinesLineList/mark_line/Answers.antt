@@ -13,11 +13,11 @@ rank-requires c = let n = c.args.number.0 in let ls = c.args.self.now.tree.lines
     let is : c.name_of.result ≡ holder n ls = c.name_of.ensures ∙ ap (noted n) c.deref.ensures.value
     ∙ c.args.self.now.table.each n in
     let at = held n ls p (sym is ∙ c.in_ok-name.was) in
-    (at.0, held-name at.1)
+    (at.0, held-name n ls p at.0 at.1)
 
 pub returns : goal.returns
 returns c = let n = c.args.number.0 in let ls = c.args.self.now.tree.lines in let p = c.in_ok-name.name in
     let is : c.name_of.result ≡ holder n ls = c.name_of.ensures ∙ ap (noted n) c.deref.ensures.value
     ∙ c.args.self.now.table.each n in
     let at = held n ls p (sym is ∙ c.in_ok-name.was) in
-    ap (λ k. Some k) (c.rank.ensures.value at.0 (held-name at.1)) ∙ sym (held-next at.1)
+    ap (λ k. Some k) (c.rank.ensures.value at.0 (held-name n ls p at.0 at.1)) ∙ sym (held-next n ls p at.0 at.1)

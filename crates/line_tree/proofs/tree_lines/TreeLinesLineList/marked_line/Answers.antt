@@ -14,7 +14,7 @@ start_of-start-requires c = let n = c.args.number.0 in let ls = c.args.self.now.
     let is : c.name_of.result ≡ holder n ls = c.name_of.ensures ∙ ap (noted n) c.deref.ensures.value
     ∙ c.args.self.now.table.each n in
     let at = held n ls p (sym is ∙ c.in_ok-name.was) in
-    (at.0, held-name at.1)
+    (at.0, held-name n ls p at.0 at.1)
 
 pub line-requires : goal.line-requires
 line-requires c = let n = c.args.number.0 in let ls = c.args.self.now.tree.lines in
@@ -22,17 +22,18 @@ line-requires c = let n = c.args.number.0 in let ls = c.args.self.now.tree.lines
     let is : c.name_of.result ≡ holder n ls = c.name_of.ensures ∙ ap (noted n) c.deref.ensures.value
     ∙ c.args.self.now.table.each n in
     let at = held n ls p (sym is ∙ c.in_ok-name.was) in
-    (at.0, held-name at.1)
+    (at.0, held-name n ls p at.0 at.1)
 
 pub returns-clause-some : goal.returns-clause-some
 returns-clause-some c = let n = c.args.number.0 in let ls = c.args.self.now.tree.lines in
     let p = c.in_ok-name.name in
     let is : c.name_of.result ≡ holder n ls = c.name_of.ensures ∙ ap (noted n) c.deref.ensures.value
     ∙ c.args.self.now.table.each n in
-    let at = held n ls p (sym is ∙ c.in_ok-name.was) in let named = held-name at.1 in
+    let at = held n ls p (sym is ∙ c.in_ok-name.was) in
+    let named = held-name n ls p at.0 at.1 in
     record {
       index = at.0;
-      first = held-next at.1;
+      first = held-next n ls p at.0 at.1;
       starts = c.start_of-start.ensures at.0 named;
       there = listed ls at.0 p c.line.result.now (c.line.ensures at.0 named);
     }

@@ -33,10 +33,10 @@ note-requires c =
     record {
       ordered = omega arith;
       within =
-          let long = comes-long old c.args.from c.args.count c.args.new.items c.requires.within comes in
+          let long = comes-long old c.args.from c.args.count c.args.new.items c.requires.within now comes in
           omega (arith, long, n, ok);
       lines = subst AreLines
-          (sym (comes-contents old c.args.from c.args.count c.args.new.items c.requires.within comes))
+          (sym (comes-contents old c.args.from c.args.count c.args.new.items c.requires.within now comes))
           c.requires.lines;
       below =
           let names = c.args.self.now.names.ok.0 in let same = c.forget.ensures.len in
@@ -46,11 +46,11 @@ note-requires c =
           (slice_range (contents now) c.args.from (c.args.from + c.len-2.result))) bound (subst (λ m. All
           (λ (line : LineContent). NumbersBelow (length c.args.self.now.names.items) line.marks)
           (slice_range (contents now) c.args.from m)) end (comes-below old c.args.from c.args.count c.args.new.items
-          c.requires.within (length c.args.self.now.names.items) comes c.requires.numbers));
+          c.requires.within now (length c.args.self.now.names.items) comes c.requires.numbers));
       table =
           let end : c.args.from + c.len-2.result ≡ c.args.from + length c.args.new.items = omega (arith, n, ok) in
           let same = ap (λ m. lines_without c.args.from m now) end
-          ∙ comes-others old c.args.from c.args.count c.args.new.items c.requires.within comes in
+          ∙ comes-others old c.args.from c.args.count c.args.new.items c.requires.within now comes in
           record { each = λ q. c.forget.ensures.table.each q ∙ sym (ap (holder q) same) };
     }
 
@@ -64,7 +64,7 @@ invariant_of-self c = let old = c.args.self.now.tree.lines in let now = c.splice
     } in
     record {
       are_lines = subst AreLines
-          (sym (comes-contents old c.args.from c.args.count c.args.new.items c.requires.within comes))
+          (sym (comes-contents old c.args.from c.args.count c.args.new.items c.requires.within now comes))
           c.requires.lines;
       table = c.note.ensures.table;
     }
@@ -77,13 +77,14 @@ returns-clause-lines c = let old = c.args.self.now.tree.lines in let now = c.spl
       contents_of = made.1;
       is = made.2;
     } in
-    comes-contents old c.args.from c.args.count c.args.new.items c.requires.within comes
+    comes-contents old c.args.from c.args.count c.args.new.items c.requires.within now comes
 
 pub returns-then-len-eq1-clause-room : goal.returns-then-len-eq1-clause-room
 returns-then-len-eq1-clause-room c more rows has =
-    let n = c.len.ensures in
+    let n = c.len.ensures in let ok = c.args.new.ok.0 in
     let one : length c.args.new.items ≡ 1 = omega arith in
     let none : more_lines c.args.count c.args.new.items + more ≡ more = omega arith in
     let none_in : row_of c.args.count c.args.new.items + rows ≡ rows = omega arith in
-    keeps-room more rows c.replace_line.ensures.room (subst (λ m. HasRoom c.args.self.now.tree m rows) none
+    keeps-room c.args.self.now.tree c.replace_line.new.self.tree more rows c.replace_line.ensures.room
+    (subst (λ m. HasRoom c.args.self.now.tree m rows) none
     (subst (λ r. HasRoom c.args.self.now.tree (more_lines c.args.count c.args.new.items + more) r) none_in has))
