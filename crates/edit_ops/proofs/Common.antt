@@ -49,8 +49,8 @@ pub use Rattle.std.proofs.lemmas.List.Folds.{drop_split, list_any-append}
 pub use Rattle.std.proofs.lemmas.List.Sums.{sum_by-cons, sum_by_push}
 pub use Rattle.std.proofs.lemmas.Option.{IfSome_then, get_or_from_slice_get, none-some, option_and_then_some, same_Some}
 pub use Rattle.std.proofs.lemmas.Slice.{between_is}
-pub use Rattle.std.proofs.lemmas.Str.{IsUtf8-string_bytes, chars-nil, chars_from_encodes, encodes-append, encodes-chars}
-pub use Rattle.std.proofs.lemmas.Str.{len_utf8_bounds, length-encode, length-le-encodes}
+pub use Rattle.std.proofs.lemmas.Str.{IsUtf8-string_bytes, chars-nil, encodes-append, encodes-chars, len_utf8_bounds}
+pub use Rattle.std.proofs.lemmas.Str.{length-encode, length-le-encodes}
 pub use Rattle.std.specs.Char.{len_utf8}
 pub use Rattle.std.specs.Cmp.{nat_cmp_total}
 pub use Rattle.std.specs.List.{All, remove}

@@ -16,14 +16,14 @@ use crate::plans::{Plan, prepare};
 use crate::slotted_texts::SlottedText;
 use crate::texts::{EditRules, EditedText};
 use std::alloc::{AllocError, Global};
-use text_model::{Limits, TagSet, Text, TextStore};
+use text_model::{Limits, TagSet, Text, TextStore, count_characters};
 use undo_stack::EditKind;
 
 /// How many characters a text has.
 pub fn count_of(text: &Text) -> usize
     ensures { result ≡ length text.now }
 {
-    text.as_str().chars().count()
+    count_characters(text.as_str())
 }
 
 /// How many characters texts have, or the greatest number where that is more.

@@ -13,7 +13,7 @@ ghost use Rattle.line_lists.specs.Toggling.{switched, tags_left_of};
 use crate::drafts::{Draft, Found, Stop};
 use crate::lists::LineList;
 use std::alloc::AllocError;
-use text_model::{MarkNo, Place, Step, TagSet, TagSlot};
+use text_model::{MarkNo, Place, Step, TagSet, TagSlot, count_characters};
 
 /// The slots that change where one is put in a set, or taken out.
 fn switched_slots(before: &TagSet, slot: TagSlot, is_on: bool) -> TagSet
@@ -163,7 +163,7 @@ impl<'a, L: LineList> Draft<'a, L> {
             ≡ made (Insert offset (chars text.now) slots.now) (text_in L.lines self.old)) }
         ensures len { IfOk result (λ longer. longer ≡ len + length (chars text.now)) }
     {
-        let count = text.chars().count();
+        let count = count_characters(text);
         // More characters than a number can count have no room in memory.
         let longer = len.checked_add(count).ok_or(AllocError)?;
         let before = self.left_tags(offset)?;

@@ -1,11 +1,9 @@
 -- The names that most proofs of this crate cite, passed on from one place. Declares nothing.
-pub use Rattle.std.proofs.Common.{[], ap₂, subst₂, ℕ, ◌%◌, ◌&&◌, ◌*◌, ◌++◌, ◌+◌, ◌-◌, ◌/◌, ◌<◌, ◌==◌, ◌^◌, ◌||◌, ◌∙◌}
-pub use Rattle.std.proofs.Common.{◌∷◌, ◌≡◌, ◌≢◌, ◌≤◌, ◌⊎◌, Bool, Fits, List, None, Option, Some, T, ap, append-nil}
-pub use Rattle.std.proofs.Common.{append_assoc, arith, cond, count_by, count_ones, drop, drop-drop, false, get_or, inl}
-pub use Rattle.std.proofs.Common.{inr, length, length-append, length-drop, length-take, ltb, ltb-false, ltb-true, map}
-pub use Rattle.std.proofs.Common.{max, min, nat_eq, nat_le, nat_lt, not, refl, replicate, rules, set, subst, suc, sym}
-pub use Rattle.std.proofs.Common.{take, take-add, take-append-drop, true, w8, zero}
-pub use Rattle.segments.specs.Beginnings.{beginnings, begins_character}
+pub use Rattle.std.proofs.Common.{[], ap₂, subst₂, ℕ, ◌&&◌, ◌*◌, ◌++◌, ◌+◌, ◌-◌, ◌/◌, ◌<◌, ◌==◌, ◌^◌, ◌||◌, ◌∙◌, ◌∷◌}
+pub use Rattle.std.proofs.Common.{◌≡◌, ◌≢◌, ◌≤◌, ◌⊎◌, Bool, List, None, Option, Some, T, ap, append-nil, append_assoc}
+pub use Rattle.std.proofs.Common.{arith, cond, drop, drop-drop, false, get_or, inl, inr, length, length-append}
+pub use Rattle.std.proofs.Common.{length-drop, length-take, ltb, ltb-false, ltb-true, map, max, min, nat_eq, nat_le}
+pub use Rattle.std.proofs.Common.{nat_lt, not, refl, rules, set, subst, suc, sym, take, take-append-drop, true, zero}
 pub use Rattle.segments.specs.Columns.{Column, LineContent, after_removal, after_text, characters, earlier, free_behind}
 pub use Rattle.segments.specs.Columns.{joined, joined_marks, later, line_before, line_behind, line_count, marks_where}
 pub use Rattle.segments.specs.Columns.{next_toggle, plain_columns, plain_line, previous_toggle, tags_before}
@@ -28,11 +26,10 @@ pub use Rattle.std.proofs.lemmas.List.Edits.{map_over_more, split_between}
 pub use Rattle.std.proofs.lemmas.List.Elements.{All-append, All-cons, All-drop, All-filter, All-head, All-map, All-nil}
 pub use Rattle.std.proofs.lemmas.List.Elements.{All-push, All-tail, All-take, All-weaker, filter-append, filter_passes}
 pub use Rattle.std.proofs.lemmas.List.Sorted.{IsPartitionPoint-from_clause, IsPartitionedBy-ltb}
-pub use Rattle.std.proofs.lemmas.List.Sums.{count_by-le-length, prefix_len-le-length, suffix_len-le-length}
-pub use Rattle.std.proofs.lemmas.List.Sums.{suffix_len-take_no, suffix_len-take_yes, sum_by-append, sum_by-cons}
+pub use Rattle.std.proofs.lemmas.List.Sums.{prefix_len-le-length, suffix_len-le-length, suffix_len-take_no}
+pub use Rattle.std.proofs.lemmas.List.Sums.{suffix_len-take_yes}
 pub use Rattle.std.proofs.lemmas.Option.{IfSome_then, slice_get-map, slice_get_past, slice_get_read}
 pub use Rattle.std.proofs.lemmas.Result.{on_ok_weaker}
-pub use Rattle.std.proofs.lemmas.Simd.{bitmask_splat, chunk-fits, length-chunk, map-map, ones-mask_l, zip2_splat}
 pub use Rattle.std.proofs.lemmas.Str.{IsAscii-drop, IsCharBoundary-end, IsCharBoundary-from_ascii, IsUtf8-append}
 pub use Rattle.std.proofs.lemmas.Str.{IsUtf8-drop, IsUtf8-nil, IsUtf8-string_bytes, IsUtf8-take, chars-IsAscii}
 pub use Rattle.std.proofs.lemmas.Str.{chars-append, chars-nil, chars_from_encodes, chars_past_char, encode_ascii}

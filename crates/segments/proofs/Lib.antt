@@ -1,4 +1,3 @@
-pub mod BeginningLaws
 pub mod ChangeLaws
 pub mod ColumnLaws
 pub mod Common

@@ -1,4 +1,3 @@
-pub mod Beginnings
 pub mod Columns
 pub mod Entries
 pub mod Forms

@@ -5,10 +5,9 @@ ghost use Rattle.std.specs.List.{prefix_len, suffix_len};
 ghost use Rattle.std.specs.Str.{IsCharBoundary};
 ghost use Rattle.text_model.specs.Splices.{inserted, removed};
 
-use crate::beginnings::{count_beginnings, find_beginning};
 use std::alloc::{AllocError, Global};
 use std::marker::Model;
-use text_model::CharacterTest;
+use text_model::{CharacterTest, count_characters, front_bytes};
 
 /// Some characters, with their number beside them: where each takes one byte, a column is found at once.
 #[derive(Drop)]
@@ -40,13 +39,6 @@ fn has_more_room(text: &String) -> bool
 
 /// So many bytes of room beyond twice a text's length aren't given back.
 const SPARE: usize = 64;
-
-/// How many characters a text has.
-fn count_characters(text: &str) -> usize
-    ensures { result ≡ length (chars text.now) }
-{
-    count_beginnings(text.as_bytes())
-}
 
 /// Takes what stands from a byte on off a text, and hands it out. Of the two parts the shorter one is copied, so that
 /// the longer one keeps no more room than it has use for.
@@ -120,15 +112,6 @@ fn passing_from_last<T: CharacterTest>(text: &str, count: usize) -> usize
         }
     }
     count
-}
-
-/// How many bytes so many characters at the front of a text take.
-fn front_bytes(text: &str, column: usize) -> usize
-    requires { column ≤ length (chars text.now) }
-    ensures boundary { IsCharBoundary text.now result }
-    ensures behind { chars (drop result text.now) ≡ drop column (chars text.now) }
-{
-    find_beginning(text.as_bytes(), column)
 }
 
 /// The byte at which a column begins, in a text of so many characters.

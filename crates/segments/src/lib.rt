@@ -1,7 +1,6 @@
 //! One line of text: its characters, the slots that are toggled before each of them, and the marks in it.
 #![tactic(auto)]
 
-mod beginnings;
 mod characters;
 mod form;
 mod line;

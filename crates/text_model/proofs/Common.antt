@@ -1,10 +1,11 @@
 -- The names that most proofs of this crate cite, passed on from one place. Declares nothing.
 pub use Rattle.std.proofs.Common.{[], ap₂, ℕ, ◌%◌, ◌&&◌, ◌*◌, ◌++◌, ◌+◌, ◌-◌, ◌/◌, ◌<◌, ◌==◌, ◌^◌, ◌||◌, ◌∙◌, ◌∷◌, ◌≡◌}
 pub use Rattle.std.proofs.Common.{◌≢◌, ◌≤◌, Bool, List, None, Option, Some, T, add_assoc, ap, arith, bit_and, bit_or}
-pub use Rattle.std.proofs.Common.{bit_xor, cond, drop, false, get_or, get_or-set_other, get_or-set_same, inl, inr}
-pub use Rattle.std.proofs.Common.{length, length-append, length-drop, length-set, length-take, lt-ltb, map, max, min}
-pub use Rattle.std.proofs.Common.{nat_eq, nat_le, nat_lt, not, refl, replicate, rules, set, slice_index, slice_set}
-pub use Rattle.std.proofs.Common.{subst, suc, sym, take, true, vec_len, w64, zero}
+pub use Rattle.std.proofs.Common.{bit_xor, cond, count_by, count_ones, drop, false, get_or, get_or-set_other}
+pub use Rattle.std.proofs.Common.{get_or-set_same, inl, inr, length, length-append, length-drop, length-set}
+pub use Rattle.std.proofs.Common.{length-take, lt-ltb, ltb, map, max, min, nat_eq, nat_le, nat_lt, not, refl, replicate}
+pub use Rattle.std.proofs.Common.{rules, set, slice_index, slice_set, subst, suc, sym, take, take-add, take-append-drop}
+pub use Rattle.std.proofs.Common.{true, vec_len, w64, w8, zero}
 pub use Rattle.std.proofs.lemmas.Bool.{false≢true, cases_eq, cases_lt}
 pub use Rattle.std.proofs.lemmas.Bool.Decides.{nat_tests}
 pub use Rattle.std.proofs.lemmas.List.{append-nil, append_assoc, drop-append-le, drop-drop, drop-map, drop_all, drop_at}
@@ -23,8 +24,9 @@ pub use Rattle.std.proofs.lemmas.Nat.{and_le_l, one_shl, or_lt, pow_pos, xor_lt}
 pub use Rattle.std.proofs.lemmas.Nat.Bits.{bit_at-lt, bit_at-pow_other, bit_at-pow_same, bit_at-zero, bit_at_and}
 pub use Rattle.std.proofs.lemmas.Nat.Bits.{bit_at_clear_other, bit_at_clear_same, bit_at_set_other, bit_at_set_same}
 pub use Rattle.std.proofs.lemmas.Nat.Bits.{bit_at_xor, shr_and_one}
-pub use Rattle.std.proofs.lemmas.Str.{IsUtf8-encode, IsUtf8-string_bytes, chars-append, chars-encodes, chars-nil}
-pub use Rattle.std.proofs.lemmas.Str.{chars_past_char, encodes-chars}
+pub use Rattle.std.proofs.lemmas.Simd.{bitmask_splat, chunk-fits, length-chunk, map-map, ones-mask_l, zip2_splat}
+pub use Rattle.std.proofs.lemmas.Str.{IsUtf8-encode, IsUtf8-string_bytes, IsUtf8-take, chars-append, chars-encodes}
+pub use Rattle.std.proofs.lemmas.Str.{chars-nil, chars_past_char, encodes-chars}
 pub use Rattle.std.specs.Char.{IsScalar}
 pub use Rattle.std.specs.Cmp.{nat_cmp_total, unsigned_tied}
 pub use Rattle.std.specs.FinMap.{find, is_sorted, nat_cmp-IsAntisymmetric}
@@ -33,6 +35,8 @@ pub use Rattle.std.specs.List.{All, filter, fold, prefix_len, reduce, suffix_len
 pub use Rattle.std.specs.Ordering.{eq_by_cmp, is_lt, nat_cmp}
 pub use Rattle.std.specs.Prelude.{if◌then◌else◌, ◌⊎◌, IfSome, IsUtf8, chars, encode_utf8, encode_utf8_all, option_map}
 pub use Rattle.std.specs.Prelude.{slice_get, slice_range, string_bytes}
+pub use Rattle.std.specs.Str.{IsCharBoundary, all_scalars}
+pub use Rattle.text_model.specs.Beginnings.{beginnings, begins_character}
 pub use Rattle.text_model.specs.Changes.{flag_at, is_alike, next_change, previous_change}
 pub use Rattle.text_model.specs.Content.{Content, Marks, Slots, characters, flags, map_marks, new_content}
 pub use Rattle.text_model.specs.Content.{slots_left_of}

@@ -1,3 +1,4 @@
+pub mod BeginningLaws
 pub mod CellLaws
 pub mod ChangeLaws
 pub mod Common

@@ -2,7 +2,7 @@
 use Rattle.text_model.proofs.Common.{◌≡◌, ℕ, Bool, true, false, ◌&&◌, List, [], ◌∷◌, ◌++◌, refl, sym, ap, subst, ◌∙◌}
 use Rattle.text_model.proofs.Common.{chars, IsUtf8, encode_utf8, IsScalar, All, All-cons, All-nil, append-nil}
 use Rattle.text_model.proofs.Common.{chars-append, chars_past_char, chars-encodes, chars-nil, IsUtf8-encode}
-use Rattle.std.specs.Str.{all_scalars}
+use Rattle.text_model.proofs.Common.{all_scalars}
 
 pub chars-push : (bytes : List ℕ) (c : ℕ) → IsUtf8 bytes → IsScalar c →
     chars (bytes ++ encode_utf8 c) ≡ chars bytes ++ c ∷ []

@@ -1,3 +1,4 @@
+pub mod Beginnings
 pub mod Changes
 pub mod Content
 pub mod Documents

@@ -1,6 +1,7 @@
 //! Text as a list of tagged characters with marks as positions: what a text store keeps, and its plain form.
 #![tactic(auto)]
 
+mod beginnings;
 mod cells;
 mod character_test;
 mod edits;
@@ -12,6 +13,7 @@ mod store;
 mod tag_set;
 mod texts;
 
+pub use beginnings::{count_characters, front_bytes};
 pub use cells::Cell;
 pub use character_test::CharacterTest;
 pub use edits::{Edit, Step, StepList};

@@ -1,7 +1,9 @@
 use std::alloc::Global;
 use std::process::Abort;
 use std::test::Fail;
-use text_model::{Limits, SlotWord, Step, StepList, TagSet, TagSlot, Text};
+use text_model::{
+    Limits, SlotWord, Step, StepList, TagSet, TagSlot, Text, count_characters, front_bytes,
+};
 
 // ---- steps
 
@@ -43,6 +45,18 @@ fn steps_are_given_back(rt: HostRuntime) -> Result<(), Fail> {
     let stand = matches!(steps.as_slice(), [Step::ClearSlot(TagSlot(9))]);
     assert!(rt; stand);
     Ok(())
+}
+
+// ---- characters
+
+// A character of each length, and then more than a block of bytes holds.
+const MIXED: &str = "a\u{e9}\u{20ac}\u{1f600}0123456789012345678901234567890123456789";
+
+#[test]
+fn characters_are_counted(rt: HostRuntime) {
+    let count = count_characters(MIXED);
+    assert!(rt; count == 44);
+    assert!(rt; front_bytes(MIXED, 3) == 6);
 }
 
 // ---- limits

@@ -1,5 +1,5 @@
-use Rattle.segments.proofs.Common.{◌≡◌, ◌≤◌, take, beginnings}
-use Rattle.segments.proofs.beginnings.count_each.Given as goal
+use Rattle.text_model.proofs.Common.{◌≡◌, ◌≤◌, take, beginnings}
+use Rattle.text_model.proofs.beginnings.count_each.Given as goal
 
 abbrev pub invariant-loop-byte : goal.invariant-loop-byte
 invariant-loop-byte l = record {

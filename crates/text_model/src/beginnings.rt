@@ -1,6 +1,7 @@
-ghost use Rattle.std.specs.Prelude.{◌≡◌, ◌+◌, ◌<◌, ◌≤◌, true, length, take, slice_index};
+ghost use Rattle.std.specs.Prelude.{◌≡◌, ◌+◌, ◌<◌, ◌≤◌, true, length, take, drop, slice_index, chars};
 ghost use Rattle.std.specs.Simd.Lanes.{chunk};
-ghost use Rattle.segments.specs.Beginnings.{begins_character, beginnings};
+ghost use Rattle.std.specs.Str.{IsCharBoundary};
+ghost use Rattle.text_model.specs.Beginnings.{begins_character, beginnings};
 
 use std::simd::prelude::*;
 
@@ -35,7 +36,7 @@ fn count_each(bytes: &[u8]) -> usize
 }
 
 /// How many of some bytes begin a character.
-pub fn count_beginnings(bytes: &[u8]) -> usize
+fn count_beginnings(bytes: &[u8]) -> usize
     ensures { result ≡ beginnings bytes.now }
 {
     let mut count = 0;
@@ -89,7 +90,7 @@ fn next_beginning(bytes: &[u8], start: usize, count: usize) -> usize
 }
 
 /// The byte at which a character begins behind so many others, or the end.
-pub fn find_beginning(bytes: &[u8], count: usize) -> usize
+fn find_beginning(bytes: &[u8], count: usize) -> usize
     ensures within { result ≤ length bytes.now }
     ensures begins { result < length bytes.now → begins_character (slice_index bytes.now result) ≡ true }
     ensures count { count ≤ beginnings bytes.now → beginnings (take result bytes.now) ≡ count }
@@ -100,4 +101,20 @@ pub fn find_beginning(bytes: &[u8], count: usize) -> usize
     }
     let (start, left) = skip_blocks(bytes, count);
     next_beginning(bytes, start, left)
+}
+
+/// How many characters a text has.
+pub fn count_characters(text: &str) -> usize
+    ensures { result ≡ length (chars text.now) }
+{
+    count_beginnings(text.as_bytes())
+}
+
+/// How many bytes so many characters at the front of a text take.
+pub fn front_bytes(text: &str, count: usize) -> usize
+    requires { count ≤ length (chars text.now) }
+    ensures boundary { IsCharBoundary text.now result }
+    ensures behind { chars (drop result text.now) ≡ drop count (chars text.now) }
+{
+    find_beginning(text.as_bytes(), count)
 }

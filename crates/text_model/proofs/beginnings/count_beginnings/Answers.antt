@@ -1,6 +1,6 @@
-use Rattle.segments.proofs.Common.{◌+◌, sym, ap, ap₂, ◌∙◌, arith, take_rest, beginnings}
-use Rattle.segments.proofs.BeginningLaws.{fewer_beginnings, more_beginnings, rest_beginnings}
-use Rattle.segments.proofs.beginnings.count_beginnings.Goals as goal
+use Rattle.text_model.proofs.Common.{◌+◌, sym, ap, ap₂, ◌∙◌, arith, take_rest, beginnings}
+use Rattle.text_model.proofs.BeginningLaws.{fewer_beginnings, more_beginnings, rest_beginnings}
+use Rattle.text_model.proofs.beginnings.count_beginnings.Goals as goal
 
 pub overflow_add-count : goal.overflow_add-count
 overflow_add-count c =

@@ -1,10 +1,12 @@
 -- What the bytes at which characters begin say of the characters of a text.
-use Rattle.segments.proofs.Common.{◌≡◌, ℕ, ◌+◌, ◌%◌, ◌^◌, ◌<◌, ◌≤◌, List, [], ◌∷◌, ◌++◌, Bool, true, false, cond}
-use Rattle.segments.proofs.Common.{length, take, drop, get_or, map, replicate, ltb, count_by, count_ones, Fits, w8}
-use Rattle.segments.proofs.Common.{refl, sym, ap, ap₂, ◌∙◌, arith, ◌-◌, ◌/◌, length-take, take-add, take-append-drop}
-use Rattle.segments.proofs.Common.{chars, encode_utf8, encode_utf8_all, IsUtf8, IsCharBoundary, nat_tests, length-map}
-use Rattle.segments.proofs.Common.{count_by-le-length, sum_by-append, sum_by-cons, bitmask_splat, map-map, ones-mask_l}
-use Rattle.segments.proofs.Common.{zip2_splat, chars-append, encodes-chars, IsUtf8-take, begins_character, beginnings}
+use Rattle.text_model.proofs.Common.{◌≡◌, ℕ, ◌+◌, ◌%◌, ◌^◌, ◌<◌, ◌≤◌, List, [], ◌∷◌, ◌++◌, Bool, true, false, cond}
+use Rattle.text_model.proofs.Common.{length, take, drop, get_or, map, replicate, refl, sym, ap, ap₂, ◌∙◌, arith, ◌-◌}
+use Rattle.text_model.proofs.Common.{◌/◌, length-take, chars, encode_utf8, encode_utf8_all, IsUtf8, nat_tests}
+use Rattle.text_model.proofs.Common.{length-map, count_by-le-length, sum_by-append, sum_by-cons, chars-append}
+use Rattle.text_model.proofs.Common.{encodes-chars, ltb, count_by, count_ones, w8, take-add, take-append-drop}
+use Rattle.text_model.proofs.Common.{IsCharBoundary, bitmask_splat, map-map, ones-mask_l, zip2_splat, IsUtf8-take}
+use Rattle.text_model.proofs.Common.{begins_character, beginnings}
+use Rattle.std.proofs.Common.{Fits}
 use lib.Lanes.{Each1, chunk, mask_l, top, zip2}
 use lib.Seq.{drop-append_seam}
 use lib.Utf8.{encode}

@@ -1,5 +1,5 @@
-use Rattle.segments.proofs.Common.{◌≡◌, ◌+◌, ◌≤◌, ◌-◌, length, take, beginnings}
-use Rattle.segments.proofs.beginnings.skip_blocks.Given as goal
+use Rattle.text_model.proofs.Common.{◌≡◌, ◌+◌, ◌≤◌, ◌-◌, length, take, beginnings}
+use Rattle.text_model.proofs.beginnings.skip_blocks.Given as goal
 
 abbrev pub invariant-loop-start : goal.invariant-loop-start
 invariant-loop-start l = record {

@@ -1,5 +1,5 @@
-use Rattle.segments.proofs.Common.{◌≡◌, ◌+◌, ◌≤◌, ◌-◌, length, take, beginnings}
-use Rattle.segments.proofs.beginnings.next_beginning.Given as goal
+use Rattle.text_model.proofs.Common.{◌≡◌, ◌+◌, ◌≤◌, ◌-◌, length, take, beginnings}
+use Rattle.text_model.proofs.beginnings.next_beginning.Given as goal
 
 abbrev pub invariant-loop-at : goal.invariant-loop-at
 invariant-loop-at l = record {

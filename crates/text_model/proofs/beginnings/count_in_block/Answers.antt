@@ -1,7 +1,7 @@
-use Rattle.segments.proofs.Common.{w8, chunk-fits, length-chunk}
+use Rattle.text_model.proofs.Common.{w8, chunk-fits, length-chunk}
 use Rattle.std.specs.Simd.Lanes.{chunk}
-use Rattle.segments.proofs.BeginningLaws.{block_count}
-use Rattle.segments.proofs.beginnings.count_in_block.Goals as goal
+use Rattle.text_model.proofs.BeginningLaws.{block_count}
+use Rattle.text_model.proofs.beginnings.count_in_block.Goals as goal
 
 pub returns : goal.returns
 returns c =

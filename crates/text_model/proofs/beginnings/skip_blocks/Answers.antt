@@ -1,6 +1,6 @@
-use Rattle.segments.proofs.Common.{arith}
-use Rattle.segments.proofs.BeginningLaws.{more_beginnings}
-use Rattle.segments.proofs.beginnings.skip_blocks.Goals as goal
+use Rattle.text_model.proofs.Common.{arith}
+use Rattle.text_model.proofs.BeginningLaws.{more_beginnings}
+use Rattle.text_model.proofs.beginnings.skip_blocks.Goals as goal
 
 pub loop-start-preserved : goal.loop-start-preserved
 loop-start-preserved c =
