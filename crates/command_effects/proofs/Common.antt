@@ -34,8 +34,8 @@ pub use Rattle.std.specs.Cmp.{both_ways, nat_cmp_total}
 pub use Rattle.std.specs.List.{All, cons_option, filter_map, position_from}
 pub use Rattle.std.specs.Option.{option_or}
 pub use Rattle.std.specs.Prelude.{if◌then◌else◌, ◌*◌, Err, IfOk, IfSome, IsNone, OnOk, Result, String, bytes_eq}
-pub use Rattle.std.specs.Prelude.{encode_utf8_all, find, is_some, min, nat_lt, ok_or, option_and_then, option_map}
-pub use Rattle.std.specs.Prelude.{string_bytes}
+pub use Rattle.std.specs.Prelude.{decimal, encode_utf8_all, find, is_some, min, nat_lt, ok_or, option_and_then}
+pub use Rattle.std.specs.Prelude.{option_map, string_bytes}
 pub use Rattle.tag_table.specs.Priority.{deleted}
 pub use Rattle.tag_table.specs.Tags.{IsFull, Tag, Tags, is_named, names_of, sel, slot_of, slots_of}
 pub use Rattle.tcl_words.proofs.ListGrowth.{goes_nowhere, goes_on}

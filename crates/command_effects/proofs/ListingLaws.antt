@@ -2,8 +2,8 @@
 use Rattle.command_effects.proofs.Common.{◌≡◌, ℕ, zero, suc, ◌+◌, ◌-◌, ◌<◌, ◌≤◌, Bool, true, false, List, [], ◌∷◌, ◌++◌}
 use Rattle.command_effects.proofs.Common.{length, refl, sym, ap, subst, ◌∙◌, arith, None, Some, IfSome, slice_get}
 use Rattle.command_effects.proofs.Common.{filter, if◌then◌else◌, none-some, same_Some, chars-nil, Tag, names_of}
-use Rattle.command_effects.proofs.Common.{slots_of, append_assoc, append-nil, map-append, position_text}
-use Rattle.command_effects.proofs.Common.{ranges_from-first, goes_nowhere, goes_on, Goes, Option, chars, take}
+use Rattle.command_effects.proofs.Common.{slots_of, append_assoc, append-nil, map-append, ranges_from-first}
+use Rattle.command_effects.proofs.Common.{goes_nowhere, goes_on, Goes, Option, chars, take, position_text}
 use Rattle.text_index.specs.Ranges.{tag_ranges, ranges_from, and_later}
 use Rattle.text_index.specs.declared.ranges.TagRange.{TagRange}
 use Rattle.command_effects.proofs.WrittenLaws.{take-found, filter-in, filter-out}

@@ -1,9 +1,10 @@
-ghost use Rattle.std.specs.Prelude.{◌+◌, ◌<◌, ◌≤◌, ◌∷◌, [], chars, filter, nat_lt, nat_le, string_bytes, OnOk};
+ghost use Rattle.std.specs.Prelude.{ℕ, List, ◌+◌, ◌<◌, ◌≤◌, ◌∷◌, [], chars, filter, nat_lt, nat_le, string_bytes, OnOk};
 ghost use Rattle.std.specs.Prelude.{if◌then◌else◌};
 ghost use Rattle.std.specs.FinSet as set;
 ghost use Rattle.tag_table.specs.Tags.{names_of};
 ghost use Rattle.mark_table.specs.SharedMarks.{names_of as mark_names_of};
 ghost use Rattle.command_effects.specs.Words.{literal};
+ghost use Rattle.text_model.specs.Lines.{IsLineOf};
 ghost use Rattle.text_model.specs.TagBits.{slot_count};
 ghost use Rattle.text_index.specs.Positions.{position_text};
 ghost use Rattle.text_index.specs.Ranges.{tag_ranges, next_range, previous_range};
@@ -17,31 +18,25 @@ use crate::tagging::own_slot;
 use mark_table::MarkTable;
 use std::alloc::AllocError;
 use tag_table::TagTable;
-use tcl_words::push_element;
-use text_index::{TagRange, View, next_range, previous_range, push_index, range_behind};
-use text_model::{TagSet, TagSlot, Text, TextStore};
+use tcl_words::{push_element, push_space};
+use text_index::{TagRange, View, next_range, previous_range, push_index_on, range_behind};
+use text_model::{LineSpan, TagSet, TagSlot, Text, TextStore};
 
-/// Appends a place as an element of a list; its text is made in `word`, whatever stands there.
-fn push_place<S: TextStore>(
-    list: &mut String,
-    word: &mut String,
-    view: &View<'_, S>,
-    place: usize,
-) -> Result<(), AllocError>
-    requires view { IsView (S.content view.now.store.now) view.now.s view.now.e }
-    requires within { view.now.s + place ≤ view.now.e }
-    ensures { OnOk result (Goes (string_bytes list.old) (string_bytes list.new)
-        (position_text (shown (S.content view.now.store.now) view.now.s view.now.e) place ∷ [])) }
+/// Appends a place as an element of a list, with its line. It is two numbers round a dot, which stand as they are.
+fn push_place(list: &mut String, line: LineSpan, place: usize) -> Result<(), AllocError>
+    requires { line.start ≤ place }
+    ensures { OnOk result ((text : List ℕ) → IsLineOf text place line →
+        Goes (string_bytes list.old) (string_bytes list.new) (position_text text place ∷ [])) }
 {
-    word.clear();
-    push_index(word, view, place)?;
-    push_element(list, word.as_str())
+    let _number = line.number;
+    push_space(list)?;
+    push_index_on(list, line, place)?;
+    Ok(())
 }
 
-/// Appends where a range begins and where it ends; the texts are made in `word`.
+/// Appends where a range begins and where it ends.
 pub fn push_range<S: TextStore>(
     list: &mut String,
-    word: &mut String,
     view: &View<'_, S>,
     range: TagRange,
 ) -> Result<(), AllocError>
@@ -51,8 +46,10 @@ pub fn push_range<S: TextStore>(
     ensures { OnOk result (Goes (string_bytes list.old) (string_bytes list.new)
         (range_words (shown (S.content view.now.store.now) view.now.s view.now.e) (range ∷ []))) }
 {
-    push_place(list, word, view, range.start)?;
-    push_place(list, word, view, range.end)
+    let first = view.line_at(range.start);
+    push_place(list, first, range.start)?;
+    let last = view.line_on(range.start, first, range.end);
+    push_place(list, last, range.end)
 }
 
 /// Appends all ranges of a tag, by its slot.
@@ -67,10 +64,9 @@ pub fn push_ranges<S: TextStore>(
         (range_words (shown (S.content view.now.store.now) view.now.s view.now.e)
         (tag_ranges (shown_flags slot.0 (S.content view.now.store.now) view.now.s view.now.e)))) }
 {
-    let mut word = String::new(*list.allocator());
     let mut next = next_range(view, slot, 0);
     while let Some(range) = next {
-        push_range(list, &mut word, view, range)?;
+        push_range(list, view, range)?;
         next = range_behind(view, slot, range.end);
     }
     Ok(())
@@ -93,8 +89,7 @@ fn push_wanted_range<S: TextStore>(
     if !is_wanted {
         return Ok(());
     }
-    let mut word = String::new(*list.allocator());
-    push_range(list, &mut word, view, range)
+    push_range(list, view, range)
 }
 
 /// Appends where the first range of a tag begins and ends that begins at a place or behind it, if it begins before

@@ -54,10 +54,9 @@ pub use Rattle.std.proofs.lemmas.List.Folds.{find-append, list_any-append}
 pub use Rattle.std.proofs.lemmas.Option.{get_or_from_slice_get, none-some, same_Some, slice_get_within}
 pub use Rattle.std.proofs.lemmas.Result.{IfOk-weaker, on_ok_weaker}
 pub use Rattle.std.proofs.lemmas.Slice.Eq.{bytes_eq-Decides}
-pub use Rattle.std.proofs.lemmas.Str.{IsAscii-append, IsCharBoundary-from_rest, IsUtf8-drop, IsUtf8-string_bytes}
-pub use Rattle.std.proofs.lemmas.Str.{IsUtf8-take, chars-IsAscii, chars-append, chars-nil, chars_from_encodes}
-pub use Rattle.std.proofs.lemmas.Str.{chars_past_char, encodes-append, encodes-chars, len_utf8_bounds, length-encode}
-pub use Rattle.std.proofs.lemmas.Str.{length-le-encodes}
+pub use Rattle.std.proofs.lemmas.Str.{IsCharBoundary-from_rest, IsUtf8-drop, IsUtf8-string_bytes, IsUtf8-take}
+pub use Rattle.std.proofs.lemmas.Str.{chars-IsAscii, chars-append, chars_from_encodes, chars_past_char, encodes-append}
+pub use Rattle.std.proofs.lemmas.Str.{encodes-chars, len_utf8_bounds, length-encode, length-le-encodes}
 pub use Rattle.std.specs.List.{filter, find, flat_map, fold, list_any, prefix_len, range_with_len}
 pub use Rattle.std.specs.Option.{SomeIff, is_some, option_and_then, option_map, option_or}
 pub use Rattle.std.specs.Prelude.{if◌then◌else◌, IfOk, IfSome, IsTrue, MatchOption, OnOk, bytes_eq, codes, nat_le}
@@ -66,8 +65,9 @@ pub use Rattle.std.specs.Str.{IsAscii, IsCharBoundary, IsUtf8}
 pub use Rattle.std.specs.Str.Pattern.{HasTextAt, LacksTextAt}
 pub use Rattle.tag_table.specs.Tags.{Tag, slots_of}
 pub use Rattle.tcl_words.proofs.ListGrowth.{goes_all, goes_mapped, goes_nowhere, goes_on}
+pub use Rattle.tcl_words.proofs.PlainElements.{goes-place, goes-plain}
 pub use Rattle.tcl_words.specs.ListGrowth.{Goes}
-pub use Rattle.tcl_words.specs.ListText.{has_special, is_special, is_white, list_text, needs_quotes, space_behind}
+pub use Rattle.tcl_words.specs.ListText.{list_text, needs_quotes}
 pub use Rattle.text_index.proofs.FlagLaws.{flags-within, length-part, next-alike, next-other, part-flag, part-next}
 pub use Rattle.text_index.proofs.ViewLaws.{before-end, length-shown, line_start-before, lines-of-part, lines-part}
 pub use Rattle.text_index.proofs.ViewLaws.{take-apart}
@@ -78,6 +78,6 @@ pub use Rattle.text_index.specs.Views.{IsView, shown, shown_flags}
 pub use Rattle.text_index.specs.declared.ranges.TagRange.{TagRange}
 pub use Rattle.text_model.specs.Changes.{flag_at, is_alike, next_change}
 pub use Rattle.text_model.specs.Content.{Content, Marks, Slots, characters, flags, slot_sets}
-pub use Rattle.text_model.specs.Lines.{is_newline, line_of, line_start, lines}
+pub use Rattle.text_model.specs.Lines.{line_of, line_start, lines}
 pub use Rattle.ucd_case.proofs.CaseFoldingLemmas.{simple_fold-ascii}
 pub use Rattle.ucd_case.specs.CaseFolding.{simple_fold}

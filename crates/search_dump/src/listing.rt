@@ -1,50 +1,24 @@
-ghost use Rattle.std.specs.Prelude.{◌≡◌, ℕ, ◌≤◌, ◌+◌, ◌++◌, ◌∷◌, List, [], chars, false, string_bytes, OnOk};
+ghost use Rattle.std.specs.Prelude.{◌≡◌, ℕ, ◌≤◌, ◌+◌, ◌∷◌, List, [], chars, false, string_bytes, OnOk};
 ghost use Rattle.text_index.specs.Positions.{position_text};
 ghost use Rattle.tcl_words.specs.ListGrowth.{Goes};
-ghost use Rattle.tcl_words.specs.ListText.{needs_quotes, space_behind};
+ghost use Rattle.tcl_words.specs.ListText.{needs_quotes};
 ghost use Rattle.search_dump.specs.Dump.{element};
 ghost use Rattle.search_dump.specs.Sight.{text_in, ShowsLines};
 ghost use Rattle.search_dump.specs.Spots.{IsSpot};
 
 use std::alloc::{AllocError, Global};
-use tcl_words::push_element;
-use text_index::{View, push_index, push_index_on};
+use tcl_words::{push_element, push_space};
+use text_index::{View, push_index_on};
 use text_model::{LineSpan, TextStore};
-
-/// Appends a place as an element of a list; its text is made in `word`, whatever stands there.
-pub fn push_place<S: TextStore>(
-    list: &mut String,
-    word: &mut String,
-    view: &View<'_, S>,
-    place: usize,
-) -> Result<(), AllocError>
-    requires view { ShowsLines S.content view.now }
-    requires within { view.now.s + place ≤ view.now.e }
-    ensures { OnOk result (Goes (string_bytes list.old) (string_bytes list.new)
-        (position_text (text_in S.content view.now) place ∷ [])) }
-{
-    word.clear();
-    push_index(word, view, place)?;
-    push_element(list, word.as_str())
-}
-
-/// Appends a word as it is, behind a space where something stands there.
-fn push_word(list: &mut String, word: &str) -> Result<(), AllocError>
-    ensures { OnOk result (string_bytes list.new
-        ≡ (string_bytes list.old ++ space_behind (string_bytes list.old)) ++ word.now) }
-{
-    let space = if list.is_empty() { "" } else { " " };
-    list.push_str(space)?;
-    list.push_str(word)?;
-    Ok(())
-}
 
 /// Appends a word that can stand as it is as an element of a list.
 fn push_plain(list: &mut String, word: &str) -> Result<(), AllocError>
     requires { needs_quotes (chars word.now) ≡ false }
     ensures { OnOk result (Goes (string_bytes list.old) (string_bytes list.new) (chars word.now ∷ [])) }
 {
-    push_word(list, word)
+    push_space(list)?;
+    list.push_str(word)?;
+    Ok(())
 }
 
 /// A place of a view, with the line that it stands in.
@@ -63,32 +37,41 @@ impl Spot {
         requires within { view.now.s + place ≤ view.now.e }
         ensures { IsSpot (text_in S.content view.now) (record { place = place; line = result }) }
     {
-        if place < self.line.end {
-            return self.line;
-        }
-        view.line_at(place)
+        view.line_on(self.place, self.line, place)
     }
 }
 
-/// Writes a place, whatever stood there.
-fn write_place(word: &mut String, spot: Spot) -> Result<(), AllocError>
+/// Appends a place as an element of a list. It is two numbers round a dot, which stand as they are.
+fn push_spot(list: &mut String, spot: Spot) -> Result<(), AllocError>
     requires { spot.line.start ≤ spot.place }
-    ensures place { OnOk result ((text : List ℕ) → IsSpot text spot →
-        chars (string_bytes word.new) ≡ position_text text spot.place) }
-    ensures plain { OnOk result (needs_quotes (chars (string_bytes word.new)) ≡ false) }
+    ensures { OnOk result ((text : List ℕ) → IsSpot text spot → Goes (string_bytes list.old) (string_bytes list.new)
+        (position_text text spot.place ∷ [])) }
 {
     let _number = spot.line.number;
-    let _place = spot.place;
-    word.clear();
-    push_index_on(word, spot.line, spot.place)?;
+    push_space(list)?;
+    push_index_on(list, spot.line, spot.place)?;
     Ok(())
 }
 
-/// The text of a list that grows, and a text for its words on their way.
+/// Appends a place as an element of a list.
+pub fn push_place<S: TextStore>(
+    list: &mut String,
+    view: &View<'_, S>,
+    place: usize,
+) -> Result<(), AllocError>
+    requires view { ShowsLines S.content view.now }
+    requires within { view.now.s + place ≤ view.now.e }
+    ensures { OnOk result (Goes (string_bytes list.old) (string_bytes list.new)
+        (position_text (text_in S.content view.now) place ∷ [])) }
+{
+    let line = view.line_at(place);
+    push_spot(list, Spot { place, line })
+}
+
+/// The text of a list that grows.
 #[derive(Drop)]
 pub struct Listing {
     pub list: String,
-    word: String,
 }
 
 impl Listing {
@@ -98,7 +81,6 @@ impl Listing {
     {
         Listing {
             list: String::new(alloc),
-            word: String::new(alloc),
         }
     }
 
@@ -112,7 +94,6 @@ impl Listing {
     {
         push_plain(&mut self.list, key)?;
         push_element(&mut self.list, value)?;
-        write_place(&mut self.word, spot)?;
-        push_plain(&mut self.list, self.word.as_str())
+        push_spot(&mut self.list, spot)
     }
 }

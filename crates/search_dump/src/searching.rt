@@ -148,11 +148,10 @@ fn list_from<S: TextStore>(
         (listed_in S.content view.now pattern.now search stretch)) }
 {
     let _end = view.e;
-    let mut word = String::new(*list.allocator());
     let mut rest = stretch;
     let mut next = first;
     while let Some(place) = next {
-        push_place(list, &mut word, view, place)?;
+        push_place(list, view, place)?;
         rest = search.left_behind(rest, place, pattern.len);
         next = next_match(view, pattern, search, rest, place)?;
     }

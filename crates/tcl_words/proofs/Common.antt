@@ -1,11 +1,11 @@
 -- The names that most proofs of this crate cite, passed on from one place. Declares nothing.
-pub use Rattle.std.proofs.Common.{[], true≢false, ℕ, ⊎_elim, ◌%◌, ◌&&◌, ◌*◌, ◌++◌, ◌+◌, ◌-◌, ◌/◌, ◌<◌, ◌==◌, ◌||◌, ◌∙◌}
-pub use Rattle.std.proofs.Common.{◌∷◌, ◌≡◌, ◌≢◌, ◌≤◌, ◌⊎◌, Bool, Bor, Err, IfNone, IfOk, IfSome, IsCharBoundary, IsUtf8}
-pub use Rattle.std.proofs.Common.{List, None, Ok, Option, Result, Some, String, add-one, add_assoc, ap, append-nil}
-pub use Rattle.std.proofs.Common.{append_assoc, arith, chars, cond, drop, encode_utf8, encode_utf8_all, false, get_or}
-pub use Rattle.std.proofs.Common.{inl, inr, is_some, length, length-append, length-drop, length-take, ltb, map, one-add}
-pub use Rattle.std.proofs.Common.{refl, rules, slice_set, string_bytes, subst, suc, sym, take, take-add}
-pub use Rattle.std.proofs.Common.{take-append-drop, true, vec_len, zero}
+pub use Rattle.std.proofs.Common.{[], ap₂, true≢false, ℕ, ⊎_elim, ◌%◌, ◌&&◌, ◌*◌, ◌++◌, ◌+◌, ◌-◌, ◌/◌, ◌<◌, ◌==◌, ◌||◌}
+pub use Rattle.std.proofs.Common.{◌∙◌, ◌∷◌, ◌≡◌, ◌≢◌, ◌≤◌, ◌⊎◌, Bool, Bor, Err, IfNone, IfOk, IfSome, IsCharBoundary}
+pub use Rattle.std.proofs.Common.{IsUtf8, List, None, Ok, Option, Result, Some, String, add-one, add_assoc, ap}
+pub use Rattle.std.proofs.Common.{append-nil, append_assoc, arith, chars, cond, drop, encode_utf8, encode_utf8_all}
+pub use Rattle.std.proofs.Common.{false, get_or, inl, inr, is_some, length, length-append, length-drop, length-take}
+pub use Rattle.std.proofs.Common.{ltb, map, one-add, refl, rules, slice_set, string_bytes, subst, suc, sym, take}
+pub use Rattle.std.proofs.Common.{take-add, take-append-drop, true, vec_len, zero}
 pub use Rattle.std.proofs.Math.Seq.{drop-append_seam, take-length, take-suc-set}
 pub use Rattle.std.proofs.lemmas.Bool.{cond-false, cond-true, ne_eqb}
 pub use Rattle.std.proofs.lemmas.Bool.Decides.{leb_tells, nat_tests}
@@ -13,17 +13,17 @@ pub use Rattle.std.proofs.lemmas.Iterator.{YieldsList-from_chars}
 pub use Rattle.std.proofs.lemmas.Iterator.Consumers.{YieldsList-end, YieldsList-turn}
 pub use Rattle.std.proofs.lemmas.List.{drop-drop, drop-take, drop_all, drop_more, length-map, length_push, map-append}
 pub use Rattle.std.proofs.lemmas.List.{map-set, take-map, take-take, take_at, take_more, take_rest}
-pub use Rattle.std.proofs.lemmas.Str.{IsCharBoundary-after_ascii, IsCharBoundary-before_ascii, IsCharBoundary-end}
-pub use Rattle.std.proofs.lemmas.Str.{IsCharBoundary-from_take, IsCharBoundary-past_char, IsUtf8-append, IsUtf8-drop}
-pub use Rattle.std.proofs.lemmas.Str.{IsUtf8-encode, IsUtf8-from_ascii, IsUtf8-from_is_utf8, IsUtf8-nil}
-pub use Rattle.std.proofs.lemmas.Str.{IsUtf8-string_bytes, IsUtf8-take, chars-IsAscii, chars-append, chars-nil}
-pub use Rattle.std.proofs.lemmas.Str.{chars_from_encodes, chars_past_char, encode_ascii, encode_same, encodes-append}
-pub use Rattle.std.proofs.lemmas.Str.{encodes-chars, is_utf8-from_IsUtf8, len_utf8_bounds, length-encode}
-pub use Rattle.std.proofs.lemmas.Str.{length-le-encodes}
+pub use Rattle.std.proofs.lemmas.Str.{IsAscii-append, IsCharBoundary-after_ascii, IsCharBoundary-before_ascii}
+pub use Rattle.std.proofs.lemmas.Str.{IsCharBoundary-end, IsCharBoundary-from_take, IsCharBoundary-past_char}
+pub use Rattle.std.proofs.lemmas.Str.{IsUtf8-append, IsUtf8-drop, IsUtf8-encode, IsUtf8-from_ascii, IsUtf8-from_is_utf8}
+pub use Rattle.std.proofs.lemmas.Str.{IsUtf8-nil, IsUtf8-string_bytes, IsUtf8-take, chars-IsAscii, chars-append}
+pub use Rattle.std.proofs.lemmas.Str.{chars-nil, chars_from_encodes, chars_past_char, encode_ascii, encode_same}
+pub use Rattle.std.proofs.lemmas.Str.{encodes-IsAscii, encodes-append, encodes-chars, is_utf8-from_IsUtf8}
+pub use Rattle.std.proofs.lemmas.Str.{len_utf8_bounds, length-encode, length-le-encodes}
 pub use Rattle.std.specs.Bool.{⊤}
 pub use Rattle.std.specs.Char.{IsScalar, digit_value, is_digit, len_utf8}
 pub use Rattle.std.specs.Int.{is_in_range}
-pub use Rattle.std.specs.Prelude.{nat_lt, slice_range}
+pub use Rattle.std.specs.Prelude.{if◌then◌else◌, ◌^◌, IsAscii, decimal, nat_lt, slice_range}
 pub use Rattle.std.specs.Str.{IsValidUpTo, StartsWithNoChar, all_scalars, error_len, is_utf8, valid_up_to}
 pub use Rattle.std.specs.Str.Lossy.{error_len_after_one, error_len_after_two, second_byte_max, second_byte_min}
 pub use Rattle.std.specs.Str.Lossy.{utf8_error_len}

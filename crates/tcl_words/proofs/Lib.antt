@@ -8,6 +8,7 @@ pub mod ListStages
 pub mod ListWriting
 pub mod Pairs
 pub mod Plain
+pub mod PlainElements
 pub mod PlainWords
 pub mod Readings
 pub mod Scans

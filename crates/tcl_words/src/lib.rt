@@ -18,6 +18,6 @@ mod stage;
 mod steps;
 
 pub use fault::ScriptFault;
-pub use list_writing::push_element;
+pub use list_writing::{push_element, push_space};
 pub use lists::{ListFault, split_list};
 pub use splitter::Splitter;

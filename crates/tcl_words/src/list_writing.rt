@@ -137,6 +137,18 @@ fn push_parts(
     Ok(())
 }
 
+/// Appends what parts the next element of a list from those before it, which is nothing where there are none: for an
+/// element that the caller writes behind it as it stands. After want of memory the text is as before.
+pub fn push_space(list: &mut String) -> Result<(), AllocError>
+    ensures ok { OnOk result (string_bytes list.new ≡ string_bytes list.old ++ space_behind (string_bytes list.old)) }
+    ensures err { OnErr result (string_bytes list.new ≡ string_bytes list.old) }
+{
+    if !list.is_empty() {
+        list.push(' ')?;
+    }
+    Ok(())
+}
+
 /// Appends an element to a text, the text of a list among others, behind a space where something stands there: as it
 /// is, in braces, or with backslashes. After want of memory the text is as before.
 pub fn push_element(list: &mut String, element: &str) -> Result<(), AllocError>

@@ -10,7 +10,7 @@ pub use Rattle.index_grammar.specs.Grammar.{without_last}
 pub use Rattle.index_grammar.specs.declared.faults.IndexFault.{IndexFault}
 pub use Rattle.index_grammar.specs.declared.faults.IndexFault.TheVariants.{BadIndex, NoTaggedCharacters}
 pub use Rattle.index_grammar.specs.declared.indices.Base.{Base}
-pub use Rattle.std.proofs.lemmas.Bool.{false≢true, cases_lt, le-leb, leb-true, lt-leb, ltb-false, ltb-true}
+pub use Rattle.std.proofs.lemmas.Bool.{false≢true, cases_Bool, cases_lt, le-leb, leb-true, lt-leb, ltb-false, ltb-true}
 pub use Rattle.std.proofs.lemmas.Bool.Decides.{Decides-eqb, nat_tests}
 pub use Rattle.std.proofs.lemmas.List.{drop-take, get_or-drop, get_or-reverse, get_or-take, get_or_past, length-map}
 pub use Rattle.std.proofs.lemmas.List.{length-reverse, length-take-le, reverse-append, take-append-drop, take-take}
@@ -36,3 +36,4 @@ pub use Rattle.text_model.specs.Changes.{flag_at, is_alike, next_change, previou
 pub use Rattle.text_model.specs.Content.{Content, characters, flags}
 pub use Rattle.text_model.specs.Lines.{IsLineOf, IsLineStart, is_newline, line_of, line_start, lines}
 pub use Rattle.text_model.specs.declared.cells.Cell.{Cell}
+pub use Rattle.text_model.specs.declared.places.LineSpan.{LineSpan}

@@ -7,6 +7,7 @@ pub mod PositionLaws
 pub mod RangeLaws
 pub mod RangeRows
 pub mod RunLaws
+pub mod SameLine
 pub mod StartLaws
 pub mod ViewLaws
 pub mod WalkLaws

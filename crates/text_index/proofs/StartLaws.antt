@@ -2,8 +2,7 @@
 use Rattle.text_index.proofs.Common.{◌≡◌, ℕ, suc, inl, inr, ◌+◌, ◌-◌, ◌<◌, ◌≤◌, true, false, min, List, Some, length}
 use Rattle.text_index.proofs.Common.{refl, ap, sym, ◌∙◌, arith, nat_lt, if◌then◌else◌, cases_lt, nat_tests, in_line}
 use Rattle.text_index.proofs.Common.{line_value, Content, characters, shown, IsView, IsLineOf, lines, line_of}
-use Rattle.text_index.proofs.Common.{line_start, line_start-le, line_start-rises}
-use Rattle.text_model.specs.declared.places.LineSpan.{LineSpan}
+use Rattle.text_index.proofs.Common.{line_start, line_start-le, line_start-rises, LineSpan}
 use Rattle.text_index.proofs.ViewLaws.{before-end, length-shown, line_of-within, line_start-add, line_start-before}
 use Rattle.text_index.proofs.ViewLaws.{lines-of-part, lines-part, start-part}
 

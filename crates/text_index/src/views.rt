@@ -133,6 +133,20 @@ impl<'a, S: TextStore> View<'a, S> {
         }
     }
 
+    /// The line of a place, where that of another place is at hand: the store is asked only where it is another line.
+    pub fn line_on(&self, from: usize, line: LineSpan, place: usize) -> LineSpan
+        requires view { IsView (S.content self.now.store.now) self.now.s self.now.e }
+        requires from { IsLineOf (shown (S.content self.now.store.now) self.now.s self.now.e) from line }
+        requires within { self.now.s + place ≤ self.now.e }
+        ensures line { IsLineOf (shown (S.content self.now.store.now) self.now.s self.now.e) place result }
+        ensures before { result.start ≤ place }
+    {
+        if line.start <= place && place < line.end {
+            return line;
+        }
+        self.line_at(place)
+    }
+
     /// Where the line of a place begins.
     pub fn start_at(&self, place: usize) -> usize
         requires view { IsView (S.content self.now.store.now) self.now.s self.now.e }

@@ -1,13 +1,14 @@
-use Rattle.command_effects.proofs.Common.{◌++◌, ◌∷◌, [], ap, subst, ◌∙◌, chars, string_bytes, OnOk, position_text}
-use Rattle.command_effects.proofs.Common.{shown, Goes, chars-nil}
+use Rattle.command_effects.proofs.Common.{◌++◌, ◌∷◌, [], ◌+◌, ◌-◌, ap, subst, ◌∙◌, arith, string_bytes, Goes, decimal}
+use Rattle.tcl_words.proofs.PlainElements.{goes-place}
+use Rattle.text_index.proofs.PositionLaws.{numbers-place}
 use Rattle.command_effects.proofs.listing.push_place.Goals as goal
 
 pub returns : goal.returns
-returns g c =
-    let text = position_text (shown (g.S.TextStore.content c.args.view.now.store.now) c.args.view.now.s
-    c.args.view.now.e) c.args.place in
-    subst (λ word. OnOk c.push_element.result
-    (Goes (string_bytes c.args.list.now) (string_bytes c.push_element.new.list) (word ∷ [])))
-    (ap chars c.as_str.ensures.value ∙ c.in_ok-push_index.ensures.ok
-    ∙ ap (λ bytes. chars bytes ++ text) c.clear.ensures.bytes ∙ ap (λ front. front ++ text) chars-nil)
-    c.push_element.ensures.list
+returns c = λ text is.
+    let line = c.args.line in
+    let old = string_bytes c.args.list.now in
+    let new = string_bytes c.push_index_on.new.text in
+    let numbers = decimal (1 + line.number) ++ 46 ∷ decimal (c.args.place - line.start) in
+    subst (λ place. Goes old new (place ∷ [])) (numbers-place text c.args.place line is)
+    (goes-place old new (1 + line.number) (c.args.place - line.start) (omega arith) (omega arith)
+    (c.in_ok-push_index_on.ensures.digits ∙ ap (λ bytes. bytes ++ numbers) c.in_ok-push_space.ensures.ok))

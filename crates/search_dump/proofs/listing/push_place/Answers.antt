@@ -1,13 +1,9 @@
-use Rattle.search_dump.proofs.Common.{◌++◌, ◌∷◌, [], ap, subst, ◌∙◌, OnOk, position_text, shown, Goes, chars-nil, chars}
-use Rattle.search_dump.proofs.Common.{string_bytes}
+use Rattle.search_dump.proofs.Common.{on_ok_weaker, text_in}
 use Rattle.search_dump.proofs.listing.push_place.Goals as goal
 
 pub returns : goal.returns
 returns g c =
-    let text = position_text (shown (g.S.TextStore.content c.args.view.now.store.now) c.args.view.now.s
-    c.args.view.now.e) c.args.place in
-    subst (λ word. OnOk c.push_element.result
-    (Goes (string_bytes c.args.list.now) (string_bytes c.push_element.new.list) (word ∷ [])))
-    (ap chars c.as_str.ensures.value ∙ c.in_ok-push_index.ensures.ok
-    ∙ ap (λ bytes. chars bytes ++ text) c.clear.ensures.bytes ∙ ap (λ front. front ++ text) chars-nil)
-    c.push_element.ensures.list
+    let line = c.line_at-line.ensures in
+    on_ok_weaker c.push_spot.result
+    (λ goes. goes (text_in g.S.TextStore.content c.args.view.now) (record { line = line.line; before = line.before }))
+    c.push_spot.ensures
