@@ -1,3 +1,4 @@
+pub mod Blocks
 pub mod Broken
 pub mod Common
 pub mod Completion

@@ -3,10 +3,10 @@ use Rattle.tcl_words.proofs.Common.{◌≡◌, ℕ, ◌+◌, ◌<◌, Some, List
 use Rattle.tcl_words.proofs.Common.{◌≤◌, ◌∷◌, ◌++◌, take, chars, encode_utf8, IsUtf8, IsCharBoundary, drop_more}
 use Rattle.tcl_words.proofs.Common.{IsCharBoundary-after_ascii, escape_step, given_at, pair_gives, is_plain, step_by}
 use Rattle.tcl_words.proofs.Common.{step_of, later, scanned, onto_piece, written, words_next, pieces_from, prefixed}
-use Rattle.tcl_words.proofs.Common.{words_on, Backslash, EscapeStep, TextWord, Quoted, Stage, Text, Escaped, Step, Go}
+use Rattle.tcl_words.proofs.Common.{words_on, Backslash, EscapeStep, TextWord, Quoted, Stage, Text, Escaped, Go}
 use Rattle.tcl_words.proofs.Spelling.{later-later}
 use Rattle.tcl_words.proofs.Scans.{scan_on}
-use Rattle.tcl_words.proofs.Plain.{plain_step, RunOf}
+use Rattle.tcl_words.proofs.Plain.{scan_skips, RunOf}
 use Rattle.tcl_words.proofs.Verdicts.{pieces-cons}
 use Rattle.tcl_words.proofs.Writing.{IsWritten, spelled, prefixed_onto, run_written, ascii_cons}
 use Rattle.tcl_words.specs.declared.escapes.EscapeStep.TheVariants as escapes
@@ -19,15 +19,15 @@ goes_on word c d escapes.Keeps h = refl
 goes_on word c d (escapes.Before e) h = cc
 goes_on word c d escapes.NoCharacter h = cc
 
--- A scan passes an ordinary character,
-pub scan_plain : (bytes : List ℕ) (i : ℕ) (stage : Stage) → i < length bytes →
-    is_plain stage (get_or bytes i 0) ≡ true → scanned bytes stage ≡ later i (scanned (drop i bytes) stage)
-    → scanned bytes stage ≡ later (i + 1) (scanned (drop (i + 1) bytes) stage)
-scan_plain bytes i stage within plain before =
+-- A scan passes ordinary characters,
+pub scan_plain : (bytes slice : List ℕ) (i n : ℕ) (stage : Stage) → slice ≡ drop i bytes → n ≤ length slice →
+    ((k : ℕ) → k < n → is_plain stage (get_or slice k 0) ≡ true)
+    → scanned bytes stage ≡ later i (scanned (drop i bytes) stage)
+    → scanned bytes stage ≡ later (i + n) (scanned (drop (i + n) bytes) stage)
+scan_plain bytes slice i n stage same within plain before =
     before
-    ∙ ap (later i) (scan_on bytes i stage (Go stage) within
-    (sym (ap (λ (s : Step). s.next) (plain_step stage (get_or bytes i 0) plain))))
-    ∙ later-later i 1 (scanned (drop (i + 1) bytes) stage)
+    ∙ ap (later i) (scan_skips bytes slice i n stage same within plain).0
+    ∙ later-later i n (scanned (drop (i + n) bytes) stage)
 
 -- and such an escape.
 pub scan_pair : (bytes : List ℕ) (i d : ℕ) → i + 1 < length bytes → get_or bytes i 0 ≡ 92 →

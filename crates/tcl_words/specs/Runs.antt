@@ -1,5 +1,5 @@
 -- Characters that go onto a word as they are.
-use Rattle.std.specs.Prelude.{ℕ, Bool, true, false, ◌==◌, if◌then◌else◌}
+use Rattle.std.specs.Prelude.{◌≡◌, ℕ, ◌<◌, ◌≤◌, Bool, true, false, ◌==◌, if◌then◌else◌, List, length, slice_index}
 use Rattle.tcl_words.specs.Characters.{is_end, is_blank}
 use Rattle.tcl_words.specs.declared.stage.TextWord.TheVariants.{Bare, Quoted}
 use Rattle.tcl_words.specs.declared.stage.Stage.{Stage}
@@ -35,3 +35,13 @@ abbrev pub begun : Stage → ℕ → Stage
 begun BeforeCommand c = if begins_command c then Text Bare else BeforeCommand
 begun BeforeWord c = if begins_word c then Text Bare else BeforeWord
 begun stage c = stage
+
+-- All bytes from one place to before another are ordinary,
+abbrev pub AllOrdinary : (ℕ → Bool) → List ℕ → ℕ → ℕ → Type 0
+AllOrdinary ordinary bytes from to = (k : ℕ) → from ≤ k → k < to → ordinary (slice_index bytes k) ≡ true
+
+-- and these are as many as there are.
+abbrev pub IsRun : (ℕ → Bool) → List ℕ → ℕ → ℕ → Type 0
+IsRun ordinary bytes from to =
+    (to ≤ length bytes) × AllOrdinary ordinary bytes from to
+    × (to < length bytes → ordinary (slice_index bytes to) ≡ false)

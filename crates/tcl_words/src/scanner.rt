@@ -7,7 +7,7 @@ ghost use Rattle.tcl_words.specs.declared.stage.TextWord.TheVariants.{Quoted};
 use crate::escapes::pair_gives;
 use crate::fault::ScriptFault;
 use crate::plain_words::plain_word;
-use crate::runs::{is_quoted, plain_run};
+use crate::runs::{plain_run, quoted_run};
 use crate::stage::{Next, Stage, TextWord};
 use crate::steps::step_from;
 
@@ -28,11 +28,8 @@ fn quoted_front(bytes: &[u8]) -> usize
 {
     let mut index = 0;
     while index < bytes.len() {
-        if is_quoted(bytes[index]) {
-            index += 1;
-            continue;
-        }
-        if bytes[index] != b'\\' || index + 1 >= bytes.len() {
+        index += quoted_run(&bytes[index..]);
+        if index + 1 >= bytes.len() || bytes[index] != b'\\' {
             return index;
         }
         let Some(_) = pair_gives(char::from(bytes[index + 1])) else {
