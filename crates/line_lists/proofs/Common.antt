@@ -1,9 +1,10 @@
 -- The names that most proofs of this crate cite, passed on from one place. Declares nothing.
-pub use Rattle.std.proofs.Common.{[], ap₂, subst₂, ℕ, ◌&&◌, ◌++◌, ◌+◌, ◌-◌, ◌<◌, ◌==◌, ◌^◌, ◌||◌, ◌∙◌, ◌∷◌, ◌≡◌, ◌≢◌}
-pub use Rattle.std.proofs.Common.{◌≤◌, ◌⊎◌, Bool, Err, Global, IfNone, IfSome, List, None, Ok, Option, Result, Some, T}
+pub use Rattle.std.proofs.Common.{[], ap₂, subst₂, ℕ, ◌%◌, ◌&&◌, ◌++◌, ◌+◌, ◌-◌, ◌<◌, ◌==◌, ◌^◌, ◌||◌, ◌∙◌, ◌∷◌, ◌≡◌}
+pub use Rattle.std.proofs.Common.{◌≢◌, ◌≤◌, ◌⊎◌, Bool, Err, Global, IfSome, List, None, Ok, Option, Result, Some, T}
 pub use Rattle.std.proofs.Common.{Vec, add-one, ap, append_assoc, arith, chars, cond, drop, eqb-true, false, get_or}
 pub use Rattle.std.proofs.Common.{inl, inr, length, length-append, length-drop, length-take, map, max, min, nat_lt, not}
-pub use Rattle.std.proofs.Common.{refl, rules, set, subst, suc, sym, take, take-append-drop, true, vec_len, zero}
+pub use Rattle.std.proofs.Common.{refl, replicate, rules, set, subst, suc, sym, take, take-append-drop, true, vec_len}
+pub use Rattle.std.proofs.Common.{w8, zero}
 pub use Rattle.line_lists.specs.Clearing.{AreFree, free_end, free_length, lines_on}
 pub use Rattle.line_lists.specs.DraftTexts.{IsDraftIn, IsTextIn, lines_in, taken_in, text_in}
 pub use Rattle.line_lists.specs.Drafts.{AreStops, BeginsBehind, BeginsBy, CanFollow, IsBefore, IsDraft, IsFound}
@@ -37,7 +38,7 @@ pub use Rattle.segments.specs.Columns.{next_toggle, plain_columns, plain_line, p
 pub use Rattle.segments.specs.Columns.{toggled_first, toggled_more, toggles, with_toggle, without_columns}
 pub use Rattle.std.proofs.Math.Seq.{drop-append-add, drop-append_seam, take-append-add, take-append_seam, take-nil}
 pub use Rattle.std.proofs.Math.Seq.{take-suc}
-pub use Rattle.std.proofs.lemmas.Bool.{false≢true, cases_lt, or_parts}
+pub use Rattle.std.proofs.lemmas.Bool.{false≢true, cases_lt, eq-eqb, not-false, or_parts}
 pub use Rattle.std.proofs.lemmas.Bool.Decides.{nat_tests}
 pub use Rattle.std.proofs.lemmas.List.{append-nil, at_drop_more, drop-append-le, drop-drop, drop-map, drop-take}
 pub use Rattle.std.proofs.lemmas.List.{drop_all, drop_at, drop_more, get_or-drop, get_or-take, get_or_default}
@@ -48,19 +49,22 @@ pub use Rattle.std.proofs.lemmas.List.Edits.{map_over_more, split_between}
 pub use Rattle.std.proofs.lemmas.List.Elements.{All-append, All-cons, All-drop, All-head, All-nil, All-push, All-tail}
 pub use Rattle.std.proofs.lemmas.List.Elements.{All-take, All-weaker}
 pub use Rattle.std.proofs.lemmas.List.Sums.{fails_before_first, prefix_len-drop_all, prefix_len-drop_no}
-pub use Rattle.std.proofs.lemmas.List.Sums.{prefix_len-drop_yes, suffix_len-take_no, suffix_len-take_yes}
+pub use Rattle.std.proofs.lemmas.List.Sums.{prefix_len-drop_yes, prefix_len-le-length, prefix_len_stops}
+pub use Rattle.std.proofs.lemmas.List.Sums.{suffix_len-take_no, suffix_len-take_yes}
 pub use Rattle.std.proofs.lemmas.Map.Entries.{option_filter}
 pub use Rattle.std.proofs.lemmas.Option.{get_or_from_slice_get, none-some, same_Some, slice_get-get_or, slice_get-map}
 pub use Rattle.std.proofs.lemmas.Option.{slice_get_read, slice_get_within}
 pub use Rattle.std.proofs.lemmas.Result.{IfOk-equal, IfOk-weaker, on_ok_weaker}
+pub use Rattle.std.proofs.lemmas.Simd.{bitmask_splat, leading_from_mask_l, length-chunk, trailing_mask_l}
 pub use Rattle.std.specs.Cmp.{nat_cmp_total, unsigned_tied}
 pub use Rattle.std.specs.FinMap.{find, is_sorted, nat_cmp-IsAntisymmetric}
 pub use Rattle.std.specs.FinMap.Entries.{below_all, same_entries}
 pub use Rattle.std.specs.List.{All, filter, position, position_or_len, prefix_len, suffix_len}
 pub use Rattle.std.specs.Option.{IsSome, SomeIff, ok_or, option_copied}
 pub use Rattle.std.specs.Ordering.{eq_by_cmp, is_lt, nat_cmp}
-pub use Rattle.std.specs.Prelude.{if◌then◌else◌, OnOk, is_some, nat_le, option_map, option_to_list, reverse, slice_get}
-pub use Rattle.std.specs.Prelude.{slice_range, string_bytes, unwrap_or}
+pub use Rattle.std.specs.Prelude.{if◌then◌else◌, OnOk, encode_utf8, encode_utf8_all, is_some, nat_le, option_map}
+pub use Rattle.std.specs.Prelude.{option_to_list, reverse, slice_get, slice_range, string_bytes, unwrap_or}
+pub use Rattle.std.specs.Simd.Lanes.{chunk, mask_l, top, zip2}
 pub use Rattle.text_model.proofs.CellLaws.{contains-set_slot}
 pub use Rattle.text_model.proofs.ChangeLaws.{next_change-above, next_change_is, previous_change-below}
 pub use Rattle.text_model.proofs.ChangeLaws.{previous_change_is}

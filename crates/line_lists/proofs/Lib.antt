@@ -25,6 +25,7 @@ pub mod MarksAtRows
 pub mod MoveLaws
 pub mod NearChanges
 pub mod NearMarks
+pub mod NewlineBytes
 pub mod NewlineRows
 pub mod OpenLaws
 pub mod PassingLaws

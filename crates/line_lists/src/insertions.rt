@@ -7,6 +7,7 @@ ghost use Rattle.line_lists.specs.Lists.{IsLine};
 
 use crate::drafts::{Copied, Draft, Found, Stop};
 use crate::lists::LineList;
+use crate::newlines::find_newline;
 use segments::Line;
 use std::alloc::AllocError;
 
@@ -30,8 +31,11 @@ fn cut_line(text: &str) -> Option<(&str, &str)>
     ensures less { IfSome result (λ parts. length parts.1.now < length text.now) }
     ensures none { IfNone result (lines (chars text.now) ≡ 0) }
 {
-    let end = text.find('\n')? + 1;
-    Some(text.split_at(end))
+    let newline = find_newline(text.as_bytes());
+    if newline == text.len() {
+        return None;
+    }
+    Some(text.split_at(newline + 1))
 }
 
 /// Puts a text in before the character at a column of a line, takes what is behind the text off, and hands it out.

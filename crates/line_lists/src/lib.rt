@@ -10,6 +10,7 @@ mod line_vec;
 mod lists;
 mod marks;
 mod moves;
+mod newlines;
 mod pieces;
 mod queries;
 mod removals;

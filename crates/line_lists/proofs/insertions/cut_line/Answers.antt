@@ -1,22 +1,26 @@
-use Rattle.line_lists.proofs.Common.{◌≡◌, IfNone, chars, subst, sym, lines}
-use Rattle.line_lists.proofs.TextCuts.{first-cut, no-lines}
+use Rattle.line_lists.proofs.Common.{arith}
+use Rattle.line_lists.proofs.TextCuts.{behind, cut, no-lines, within}
 use Rattle.line_lists.proofs.insertions.cut_line.Goals as goal
 
-pub returns-in_err-end-clause-none : goal.returns-in_err-end-clause-none
-returns-in_err-end-clause-none c =
-    subst (λ found. IfNone found (lines (chars c.args.text.now) ≡ 0)) (sym c.from_residual.ensures)
-    (no-lines c.args.text.now c.utf8.text c.in_err-end.ensures.cases)
+pub returns-then-newline-text-clause-none : goal.returns-then-newline-text-clause-none
+returns-then-newline-text-clause-none c =
+    no-lines c.utf8.text c.as_bytes.ensures.value c.find_newline-newline.ensures c.if-newline-text.true
+
+pub overflow_add-newline : goal.overflow_add-newline
+overflow_add-newline c =
+    let inside = within c.utf8.text c.as_bytes.ensures.value c.find_newline-newline.ensures c.if-newline-text.false in
+    omega (arith, inside, c.as_bytes.ensures.len)
+
+pub split_at-requires : goal.split_at-requires
+split_at-requires c =
+    behind c.utf8.text c.as_bytes.ensures.value c.find_newline-newline.ensures c.if-newline-text.false
 
 pub returns-clause-line : goal.returns-clause-line
 returns-clause-line c =
-    let found = c.in_ok-end.ensures.cases in
-    let cut = first-cut c.args.text.now c.split_at.result.0.now c.split_at.result.1.now c.in_ok-end.field-0 found.0
-    c.utf8.text found.3 found.1.1 found.1.0 c.split_at.ensures.front c.split_at.ensures.back in
-    cut.line
+    (cut c.utf8.text c.as_bytes.ensures.value c.find_newline-newline.ensures c.if-newline-text.false
+    c.split_at.ensures.front c.split_at.ensures.back).line
 
 pub returns-clause-parts : goal.returns-clause-parts
 returns-clause-parts c =
-    let found = c.in_ok-end.ensures.cases in
-    let cut = first-cut c.args.text.now c.split_at.result.0.now c.split_at.result.1.now c.in_ok-end.field-0 found.0
-    c.utf8.text found.3 found.1.1 found.1.0 c.split_at.ensures.front c.split_at.ensures.back in
-    cut.parts
+    (cut c.utf8.text c.as_bytes.ensures.value c.find_newline-newline.ensures c.if-newline-text.false
+    c.split_at.ensures.front c.split_at.ensures.back).parts
