@@ -110,6 +110,11 @@ impl Form {
     pub fn trim(&mut self, alloc: Global)
         ensures { content self.new ≡ content self.old }
     {
+        // Most lines are plain, and have nothing to settle.
+        if let Form::Plain(text) = self {
+            text.trim();
+            return;
+        }
         self.settle(alloc);
         match self {
             Form::Plain(text) => text.trim(),
