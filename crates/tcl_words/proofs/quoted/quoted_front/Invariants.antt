@@ -1,5 +1,5 @@
 use Rattle.tcl_words.proofs.Common.{◌≡◌, ◌-◌, ◌≤◌, length, drop, scanned, later, Text, Quoted}
-use Rattle.tcl_words.proofs.scanner.quoted_front.Given as goal
+use Rattle.tcl_words.proofs.quoted.quoted_front.Given as goal
 
 abbrev pub invariant-loop-index : goal.invariant-loop-index
 invariant-loop-index l = record {

@@ -1,6 +1,6 @@
 use Rattle.tcl_words.proofs.Common.{◌∙◌, sym, ap, arith, pair_gives, Text, Quoted}
 use Rattle.tcl_words.proofs.Pairs.{scan_plain, scan_pair}
-use Rattle.tcl_words.proofs.scanner.quoted_front.Goals as goal
+use Rattle.tcl_words.proofs.quoted.quoted_front.Goals as goal
 
 pub loop-index-preserved-then-is_quoted : goal.loop-index-preserved-then-is_quoted
 loop-index-preserved-then-is_quoted c =
