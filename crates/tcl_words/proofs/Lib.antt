@@ -2,6 +2,7 @@ pub mod Broken
 pub mod Common
 pub mod Completion
 pub mod Finding
+pub mod FoundWords
 pub mod ListForms
 pub mod ListGrowth
 pub mod ListStages
@@ -9,6 +10,7 @@ pub mod ListWriting
 pub mod Pairs
 pub mod Plain
 pub mod PlainWords
+pub mod QuotedTexts
 pub mod Readings
 pub mod Scans
 pub mod Spelling
