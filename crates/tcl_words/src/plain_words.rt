@@ -203,18 +203,17 @@ fn escaped_word(bytes: &[u8]) -> Option<PlainWord>
     })
 }
 
-// The word at the front of some bytes, if it stands in them as it is, but for escapes of two in a quoted one.
+// The word at the front of some bytes, if it stands in them as it is but for escapes of two in a quoted one.
 #[inline(always)]
 fn found_word(stage: Stage, bytes: &[u8]) -> Option<PlainWord>
     requires { 0 < length bytes.now }
     ensures { IfSome result (λ word. IsFoundWord stage bytes.now word word.has_escapes) }
 {
-    if bytes[0] == b'"' {
-        if let Stage::BeforeWord = stage {
-            return escaped_word(bytes);
-        }
+    match (stage, bytes[0]) {
+        (Stage::BeforeWord, b'{') => braced_word(bytes),
+        (Stage::BeforeWord, b'"') => escaped_word(bytes),
+        _ => bare_word(stage, bytes),
     }
-    plain_word(stage, bytes)
 }
 
 // The words of the command at the front of a text, if they are few and such.
