@@ -1,18 +1,19 @@
 -- The names that most proofs of this crate cite, passed on from one place. Declares nothing.
 pub use Rattle.std.proofs.Common.{[], ap₂, true≢false, ℕ, ⊎_elim, ◌%◌, ◌&&◌, ◌*◌, ◌++◌, ◌+◌, ◌-◌, ◌/◌, ◌<◌, ◌==◌, ◌||◌}
-pub use Rattle.std.proofs.Common.{◌∙◌, ◌∷◌, ◌≡◌, ◌≢◌, ◌≤◌, ◌⊎◌, Bool, Bor, Err, Fits, IfNone, IfOk, IfSome}
-pub use Rattle.std.proofs.Common.{IsCharBoundary, IsUtf8, List, None, Ok, Option, Result, Some, String, add-one}
-pub use Rattle.std.proofs.Common.{add_assoc, ap, append-nil, append_assoc, arith, chars, cond, drop, encode_utf8}
-pub use Rattle.std.proofs.Common.{encode_utf8_all, false, get_or, inl, inr, is_some, length, length-append, length-drop}
-pub use Rattle.std.proofs.Common.{length-take, ltb, map, not, one-add, refl, rules, slice_set, string_bytes, subst, suc}
-pub use Rattle.std.proofs.Common.{sym, take, take-add, take-append-drop, true, vec_len, w8, zero}
+pub use Rattle.std.proofs.Common.{◌∙◌, ◌∷◌, ◌≡◌, ◌≢◌, ◌≤◌, ◌⊎◌, Bool, Err, Fits, IfNone, IfOk, IfSome, IsCharBoundary}
+pub use Rattle.std.proofs.Common.{IsUtf8, List, None, Ok, Option, Result, Some, String, add-one, add_assoc, ap}
+pub use Rattle.std.proofs.Common.{append-nil, append_assoc, arith, chars, cond, drop, encode_utf8, encode_utf8_all}
+pub use Rattle.std.proofs.Common.{false, get_or, inl, inr, is_some, length, length-append, length-drop, length-take}
+pub use Rattle.std.proofs.Common.{ltb, map, not, one-add, refl, rules, slice_set, string_bytes, subst, suc, sym, take}
+pub use Rattle.std.proofs.Common.{take-add, take-append-drop, true, vec_len, w8, zero}
 pub use Rattle.std.proofs.Math.Seq.{drop-append_seam, take-length, take-suc-set}
 pub use Rattle.std.proofs.lemmas.Bool.{agree_below, agree_below_at, cond-false, cond-true, ne_eqb, not-false, not-true}
 pub use Rattle.std.proofs.lemmas.Bool.Decides.{leb_tells, nat_tests}
 pub use Rattle.std.proofs.lemmas.Iterator.{YieldsList-from_chars}
 pub use Rattle.std.proofs.lemmas.Iterator.Consumers.{YieldsList-end, YieldsList-turn}
-pub use Rattle.std.proofs.lemmas.List.{drop-drop, drop-take, drop_all, drop_more, length-map, length_push, map-append}
-pub use Rattle.std.proofs.lemmas.List.{map-set, take-map, take-take, take_at, take_more, take_rest}
+pub use Rattle.std.proofs.lemmas.List.{drop-drop, drop-take, drop_all, drop_more, length-map, length-set, length_push}
+pub use Rattle.std.proofs.lemmas.List.{map-append, map-set, take-map, take-take, take_at, take_more, take_more_set}
+pub use Rattle.std.proofs.lemmas.List.{take_rest}
 pub use Rattle.std.proofs.lemmas.Simd.{length-chunk, map-map, mask_l-lt, mask_l-mod, none_from_empty_mask}
 pub use Rattle.std.proofs.lemmas.Simd.{run_in_chunk_fails, run_in_chunk_stops, splat_is_map, trailing_mask_l}
 pub use Rattle.std.proofs.lemmas.Simd.{zip2_of_maps, zip2_splat}
@@ -21,11 +22,12 @@ pub use Rattle.std.proofs.lemmas.Str.{IsCharBoundary-end, IsCharBoundary-from_ta
 pub use Rattle.std.proofs.lemmas.Str.{IsUtf8-append, IsUtf8-drop, IsUtf8-encode, IsUtf8-from_ascii, IsUtf8-from_is_utf8}
 pub use Rattle.std.proofs.lemmas.Str.{IsUtf8-nil, IsUtf8-string_bytes, IsUtf8-take, chars-IsAscii, chars-append}
 pub use Rattle.std.proofs.lemmas.Str.{chars-nil, chars_from_encodes, chars_past_char, encode_ascii, encode_same}
-pub use Rattle.std.proofs.lemmas.Str.{encodes-IsAscii, encodes-append, encodes-chars, is_utf8-from_IsUtf8}
+pub use Rattle.std.proofs.lemmas.Str.{encodes-IsAscii, encodes-append, encodes-chars, inside_one, is_utf8-from_IsUtf8}
 pub use Rattle.std.proofs.lemmas.Str.{len_utf8_bounds, length-encode, length-le-encodes}
 pub use Rattle.std.specs.Bool.{⊤}
 pub use Rattle.std.specs.Char.{IsScalar, digit_value, is_digit, len_utf8}
 pub use Rattle.std.specs.Int.{is_in_range, w16}
+pub use Rattle.std.specs.List.{All}
 pub use Rattle.std.specs.Prelude.{if◌then◌else◌, ◌^◌, IsAscii, decimal, nat_lt, slice_range}
 pub use Rattle.std.specs.Str.{IsValidUpTo, StartsWithNoChar, all_scalars, error_len, is_utf8, valid_up_to}
 pub use Rattle.std.specs.Str.Lossy.{error_len_after_one, error_len_after_two, second_byte_max, second_byte_min}
@@ -46,8 +48,9 @@ pub use Rattle.tcl_words.specs.ListText.{begin_element, braced_element, close_el
 pub use Rattle.tcl_words.specs.ListText.{end_element, escaped_element, has_special, is_special, is_white, kept_element}
 pub use Rattle.tcl_words.specs.ListText.{less, list_rule, list_text, needs_quotes, onto_element, read_list}
 pub use Rattle.tcl_words.specs.ListText.{space_behind, white_letter, with_backslashes}
-pub use Rattle.tcl_words.specs.PlainWords.{EndsWord, IsClosed, IsPlainCommand, IsPlainWord, scan_behind, spelled_from}
-pub use Rattle.tcl_words.specs.PlainWords.{words_behind}
+pub use Rattle.tcl_words.specs.PlainWords.{EndsWord, IsClosed, IsFoundWord, IsPlainCommand, IsPlainWord, IsWordText}
+pub use Rattle.tcl_words.specs.PlainWords.{is_quoted_from, is_quoted_text, scan_behind, spelled_by, spelled_from}
+pub use Rattle.tcl_words.specs.PlainWords.{unquoted, unquoted_from, words_behind}
 pub use Rattle.tcl_words.specs.Progression.{IsCommandOf, IsFound, IsNext, IsProgress, last_command, last_found}
 pub use Rattle.tcl_words.specs.Progression.{starting_at, text_end}
 pub use Rattle.tcl_words.specs.Runs.{AllOrdinary, IsRun, begins_command, begins_word, begun, is_bare, is_braced}
@@ -80,6 +83,7 @@ pub use Rattle.tcl_words.specs.declared.list_steps.ListNext.{ListNext}
 pub use Rattle.tcl_words.specs.declared.list_steps.ListNext.TheVariants.{Bad}
 pub use Rattle.tcl_words.specs.declared.list_steps.ListStage.{ListStage}
 pub use Rattle.tcl_words.specs.declared.list_steps.ListStep.{ListStep}
+pub use Rattle.tcl_words.specs.declared.plain_words.PlainWord.{PlainWord}
 pub use Rattle.tcl_words.specs.declared.progress.Progress.{Progress}
 pub use Rattle.tcl_words.specs.declared.scanner.Scan.{Scan}
 pub use Rattle.tcl_words.specs.declared.scanner.Scan.TheVariants.{EndsAt, Reaches, Refused}

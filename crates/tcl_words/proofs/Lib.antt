@@ -3,6 +3,7 @@ pub mod Broken
 pub mod Common
 pub mod Completion
 pub mod Finding
+pub mod FoundWords
 pub mod ListForms
 pub mod ListGrowth
 pub mod ListStages
@@ -11,6 +12,7 @@ pub mod Pairs
 pub mod Plain
 pub mod PlainElements
 pub mod PlainWords
+pub mod QuotedTexts
 pub mod Readings
 pub mod Scans
 pub mod Spelling

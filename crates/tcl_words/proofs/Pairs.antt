@@ -48,8 +48,8 @@ scan_pair bytes i d within slash gives before =
 
 -- Such an escape gives its character to the word.
 
-gives_piece : (word : TextWord) (c d : ℕ) (step : EscapeStep) (after : Stage → List (List ℕ)) → given_at c step ≡ Some d
-    → written (step_by word c step).output c (words_next (step_by word c step).next after)
+pub gives_piece : (word : TextWord) (c d : ℕ) (step : EscapeStep) (after : Stage → List (List ℕ)) →
+    given_at c step ≡ Some d → written (step_by word c step).output c (words_next (step_by word c step).next after)
     ≡ onto_piece d (after (Text word))
 gives_piece word c d (escapes.Goes stage) after h = cc
 gives_piece word c d (escapes.Gives e) after h =

@@ -122,7 +122,7 @@ no_blank c h = grind (arith, nat_tests)
 no_gap : (c : ℕ) → 128 ≤ c → is_gap c ≡ false
 no_gap c h = grind (arith, nat_tests)
 
-no_digit : (c radix : ℕ) → 128 ≤ c → radix ≤ 16 → is_digit c radix ≡ false
+pub no_digit : (c radix : ℕ) → 128 ≤ c → radix ≤ 16 → is_digit c radix ≡ false
 no_digit c radix h k = grind (arith, nat_tests)
 
 high_text : (word : TextWord) (c : ℕ) → 128 ≤ c → (text_step word c).next ≡ Go (stages.Text word)

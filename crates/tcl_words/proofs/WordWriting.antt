@@ -1,7 +1,7 @@
 -- Words that are written over others.
 use Rattle.tcl_words.proofs.Common.{◌≡◌, ℕ, ◌+◌, ◌<◌, List, [], ◌∷◌, ◌++◌, map, length, take, slice_set, String}
-use Rattle.tcl_words.proofs.Common.{string_bytes, Bor, ap, sym, ◌∙◌, add-one, length-map, map-set, take-map}
-use Rattle.tcl_words.proofs.Common.{take-suc-set, take-length}
+use Rattle.tcl_words.proofs.Common.{string_bytes, ap, sym, ◌∙◌, add-one, length-map, map-set, take-map, take-suc-set}
+use Rattle.tcl_words.proofs.Common.{take-length}
 
 pub written_over : {Z : Type 0} (words : List (String Z)) (place : ℕ) (word : String Z) (text : List ℕ) →
     place < length words → string_bytes word ≡ text
@@ -15,11 +15,11 @@ written_over words place word text within is =
     ∙ ap (λ b. take place all ++ b ∷ []) is
 
 -- those behind the last are cut off
-pub written_all : {Z : Type 0} (words cut : List (String Z)) (texts : List (Bor (List ℕ))) (place : ℕ) →
+pub written_all : {Z T : Type 0} (words cut : List (String Z)) (texts : List T) (spells : T → List ℕ) (place : ℕ) →
     place ≡ length texts → cut ≡ take (length texts) words
-    → take place (map (λ w. string_bytes w) words) ≡ map (λ text. text.now) (take place texts)
-    → map (λ w. string_bytes w) cut ≡ map (λ text. text.now) texts
-written_all words cut texts place end is written =
+    → take place (map (λ w. string_bytes w) words) ≡ map spells (take place texts)
+    → map (λ w. string_bytes w) cut ≡ map spells texts
+written_all words cut texts spells place end is written =
     ap (map (λ w. string_bytes w)) is ∙ sym (take-map (λ w. string_bytes w) (length texts) words)
     ∙ ap (λ n. take n (map (λ w. string_bytes w) words)) (sym end) ∙ written
-    ∙ ap (λ n. map (λ text. text.now) (take n texts)) end ∙ ap (map (λ text. text.now)) (take-length texts)
+    ∙ ap (λ n. map spells (take n texts)) end ∙ ap (map spells) (take-length texts)

@@ -11,6 +11,7 @@ mod lists;
 mod pieces;
 mod plain_words;
 mod progress;
+mod quoted;
 mod runs;
 mod scanner;
 mod splitter;

@@ -4,9 +4,9 @@ ghost use Rattle.tcl_words.specs.Scanning.{pieces_from, word_with, words_after, 
 ghost use Rattle.tcl_words.specs.declared.stage.Stage.TheVariants.{BeforeCommand, Text};
 ghost use Rattle.tcl_words.specs.declared.stage.TextWord.TheVariants.{Quoted};
 
-use crate::escapes::pair_gives;
 use crate::plain_words::plain_word;
-use crate::runs::{plain_run, quoted_run};
+use crate::quoted::push_quoted;
+use crate::runs::plain_run;
 use crate::stage::{Next, Output, Stage, TextWord};
 use crate::steps::{last_from, step_from};
 use std::alloc::{AllocError, Global};
@@ -55,17 +55,6 @@ impl Writer {
         Ok(())
     }
 
-    /// Adds a character to the word under way.
-    fn push(&mut self, c: char) -> Result<(), AllocError>
-        ensures words { map (λ word. string_bytes word) self.new.words.items
-            ≡ map (λ word. string_bytes word) self.old.words.items }
-        ensures word { OnOk result (string_bytes self.new.word ≡ string_bytes self.old.word ++ encode_utf8 c) }
-    {
-        self.make_room()?;
-        self.word.push(c)?;
-        Ok(())
-    }
-
     /// Adds the front of a text that leaves a quoted word as it is: ordinary characters, and escapes of two. Answers
     /// what follows.
     fn keep_quoted<'a>(&mut self, text: &'a str) -> Result<&'a str, AllocError>
@@ -76,25 +65,8 @@ impl Writer {
         ensures shorter { IfOk result (λ rest. length rest.now ≤ length text.now) }
         ensures utf8 { IfOk result (λ rest. IsUtf8 rest.now) }
     {
-        let mut rest = text;
-        while !rest.is_empty() {
-            let bytes = rest.as_bytes();
-            let run = quoted_run(bytes);
-            if run > 0 {
-                self.keep(&rest[..run])?;
-                rest = &rest[run..];
-                continue;
-            }
-            if bytes[0] != b'\\' || bytes.len() < 2 || bytes[1] > 127 {
-                return Ok(rest);
-            }
-            let Some(given) = pair_gives(char::from(bytes[1])) else {
-                return Ok(rest);
-            };
-            self.push(given)?;
-            rest = &rest[2..];
-        }
-        Ok(rest)
+        self.make_room()?;
+        push_quoted(&mut self.word, text)
     }
 
     /// The same from a stage, where that is within a quoted word.

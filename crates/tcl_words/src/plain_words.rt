@@ -3,12 +3,15 @@
 ghost use Rattle.std.specs.Prelude.{◌≡◌, ◌<◌, ◌≤◌, ◌+◌, ◌++◌, ◌∷◌, [], length, slice_index, map, filter, take};
 ghost use Rattle.std.specs.Prelude.{nat_lt, vec_len, vec_capacity};
 ghost use Rattle.std.specs.Prelude.{string_bytes, string_capacity, IfOk, OnOk, IfSome, None, true, false};
-ghost use Rattle.tcl_words.specs.PlainWords.{IsPlainWord, IsClosed, IsPlainCommand, EndsWord};
+ghost use Rattle.std.specs.List.{All};
+ghost use Rattle.tcl_words.specs.PlainWords.{IsPlainWord, IsFoundWord, IsClosed, IsPlainCommand, EndsWord};
+ghost use Rattle.tcl_words.specs.PlainWords.{IsWordText, spelled_by};
 ghost use Rattle.tcl_words.specs.Characters.{is_blank, is_end};
 ghost use Rattle.tcl_words.specs.Runs.{is_bare, begun};
 ghost use Rattle.tcl_words.specs.declared.stage.Stage.TheVariants.{BeforeWord, Text};
 ghost use Rattle.tcl_words.specs.declared.stage.TextWord.TheVariants.{Bare};
 
+use crate::quoted::{push_quoted, quoted_front};
 use crate::runs::{bare_run, braced_run, quoted_run};
 use crate::stage::Stage;
 use crate::steps::{is_blank, is_end};
@@ -24,16 +27,25 @@ pub struct PlainWord {
     pub len: usize,
     /// Whether the command ends with it.
     pub is_last: bool,
+    /// Whether it is a quoted one with escapes of two.
+    pub has_escapes: bool,
+}
+
+// The text of a word, and whether it is that of a quoted one with escapes.
+#[derive(Clone, Copy)]
+struct WordText<'a> {
+    text: &'a str,
+    has_escapes: bool,
 }
 
 // A command of more words is none of these: so none is made before the end of its command is found.
-const MOST: usize = 8;
+const MOST: usize = 16;
 
 // Room for so many bytes isn't kept for another word,
 const LONG: usize = 4_096;
 
 // nor is room for more words.
-const MANY: usize = 2 * MOST;
+const MANY: usize = MOST;
 
 // The words at the front of a command.
 #[derive(Clone, Copy)]
@@ -41,6 +53,36 @@ struct FoundWords {
     count: usize,
     // How many bytes the command has.
     len: usize,
+}
+
+impl<'a> WordText<'a> {
+    // Adds what it spells, which has no more bytes than it.
+    fn add_to(&self, word: &mut String) -> Result<(), AllocError>
+        requires { IsWordText self.now.has_escapes self.now.text.now }
+        ensures { OnOk result (string_bytes word.new
+            ≡ string_bytes word.old ++ spelled_by self.now.has_escapes self.now.text.now) }
+    {
+        if self.has_escapes {
+            word.reserve(self.text.len())?;
+            push_quoted(word, self.text)?;
+        } else {
+            word.push_str(self.text)?;
+        }
+        Ok(())
+    }
+
+    // What it spells.
+    fn spelled(&self, alloc: Global) -> Result<String, AllocError>
+        requires { IsWordText self.now.has_escapes self.now.text.now }
+        ensures { IfOk result (λ word. string_bytes word ≡ spelled_by self.now.has_escapes self.now.text.now) }
+    {
+        if !self.has_escapes {
+            return String::from_str(alloc, self.text);
+        }
+        let mut word = String::with_capacity(alloc, self.text.len())?;
+        push_quoted(&mut word, self.text)?;
+        Ok(word)
+    }
 }
 
 // Whether the byte begins a bare word if it is an ordinary one of such a word.
@@ -87,6 +129,7 @@ fn bare_word(stage: Stage, bytes: &[u8]) -> Option<PlainWord>
         to: run,
         len: run + 1,
         is_last,
+        has_escapes: false,
     })
 }
 
@@ -105,6 +148,7 @@ fn closed_word(bytes: &[u8], run: usize, close: u8) -> Option<PlainWord>
         to: run + 1,
         len: run + 3,
         is_last,
+        has_escapes: false,
     })
 }
 
@@ -143,10 +187,41 @@ pub fn plain_word(stage: Stage, bytes: &[u8]) -> Option<PlainWord>
     }
 }
 
+// A quoted word with escapes of two alone, or with none, behind another word.
+fn escaped_word(bytes: &[u8]) -> Option<PlainWord>
+    requires some { 0 < length bytes.now }
+    requires quote { slice_index bytes.now 0 ≡ 34 }
+    ensures { IfSome result (λ word. IsFoundWord BeforeWord bytes.now word word.has_escapes) }
+{
+    let rest = &bytes[1..];
+    let run = quoted_run(rest);
+    let more = quoted_front(&rest[run..]);
+    let word = closed_word(bytes, run + more, b'"')?;
+    Some(PlainWord {
+        has_escapes: more > 0,
+        ..word
+    })
+}
+
+// The word at the front of some bytes, if it stands in them as it is but for escapes of two in a quoted one.
+#[inline(always)]
+fn found_word(stage: Stage, bytes: &[u8]) -> Option<PlainWord>
+    requires { 0 < length bytes.now }
+    ensures { IfSome result (λ word. IsFoundWord stage bytes.now word word.has_escapes) }
+{
+    match (stage, bytes[0]) {
+        (Stage::BeforeWord, b'{') => braced_word(bytes),
+        (Stage::BeforeWord, b'"') => escaped_word(bytes),
+        _ => bare_word(stage, bytes),
+    }
+}
+
 // The words of the command at the front of a text, if they are few and such.
-fn found_words<'a>(text: &'a str, words: &mut [&'a str; MOST]) -> Option<FoundWords>
+fn found_words<'a>(text: &'a str, words: &mut [WordText<'a>; MOST]) -> Option<FoundWords>
     ensures { IfSome result (λ found. (found.count ≤ length words.new)
-        × IsPlainCommand text.now (map (λ word. word.now) (take found.count words.new)) found.len) }
+        × All (λ word. IsWordText word.has_escapes word.text.now) (take found.count words.new)
+        × IsPlainCommand text.now (map (λ word. spelled_by word.has_escapes word.text.now)
+        (take found.count words.new)) found.len) }
 {
     let bytes = text.as_bytes();
     let mut stage = Stage::BeforeCommand;
@@ -156,8 +231,11 @@ fn found_words<'a>(text: &'a str, words: &mut [&'a str; MOST]) -> Option<FoundWo
         if rest.is_empty() {
             return None;
         }
-        let word = plain_word(stage, rest)?;
-        words[count] = unsafe { str::from_utf8_unchecked(&rest[word.from..word.to]) };
+        let word = found_word(stage, rest)?;
+        words[count] = WordText {
+            text: unsafe { str::from_utf8_unchecked(&rest[word.from..word.to]) },
+            has_escapes: word.has_escapes,
+        };
         index += word.len;
         if word.is_last {
             return Some(FoundWords {
@@ -175,26 +253,30 @@ fn write_word(
     alloc: Global,
     words: &mut Vec<String>,
     place: usize,
-    text: &str,
+    text: &WordText,
 ) -> Result<(), AllocError>
-    requires { place ≤ vec_len words.old }
+    requires place { place ≤ vec_len words.old }
+    requires text { IsWordText text.now.has_escapes text.now.text.now }
     ensures len { OnOk result (place < vec_len words.new) }
     ensures words { OnOk result (take (place + 1) (map (λ word. string_bytes word) words.new.items)
-        ≡ take place (map (λ word. string_bytes word) words.old.items) ++ text.now ∷ []) }
+        ≡ take place (map (λ word. string_bytes word) words.old.items)
+        ++ spelled_by text.now.has_escapes text.now.text.now ∷ []) }
 {
     if place < words.len() {
         let word = &mut words[place];
         word.clear();
-        word.push_str(text)?;
+        text.add_to(word)?;
     } else {
-        words.push(String::from_str(alloc, text)?)?;
+        words.push(text.spelled(alloc)?)?;
     }
     Ok(())
 }
 
 // Writes words over those that stand there, whose memory is used again.
-fn write_words(alloc: Global, words: &mut Vec<String>, texts: &[&str]) -> Result<(), AllocError>
-    ensures { OnOk result (map (λ word. string_bytes word) words.new.items ≡ map (λ text. text.now) texts.now) }
+fn write_words(alloc: Global, words: &mut Vec<String>, texts: &[WordText]) -> Result<(), AllocError>
+    requires { All (λ text. IsWordText text.has_escapes text.text.now) texts.now }
+    ensures { OnOk result (map (λ word. string_bytes word) words.new.items
+        ≡ map (λ text. spelled_by text.has_escapes text.text.now) texts.now) }
 {
     words.reserve(texts.len().saturating_sub(words.len()))?;
     for (place, text) in texts.iter().enumerate() {
@@ -235,7 +317,11 @@ pub fn plain_command(
     ensures { IfOk result (λ found. IfSome found (λ len.
         IsPlainCommand text.now (map (λ word. string_bytes word) words.new.items) len)) }
 {
-    let mut texts = [""; MOST];
+    let nothing = WordText {
+        text: "",
+        has_escapes: false,
+    };
+    let mut texts = [nothing; MOST];
     let Some(found) = found_words(text, &mut texts) else {
         return Ok(None);
     };

@@ -1,13 +1,11 @@
-ghost use Rattle.std.specs.Prelude.{◌≡◌, ◌+◌, ◌≤◌, length, drop};
-ghost use Rattle.tcl_words.specs.Scanning.{scanned, later};
+ghost use Rattle.std.specs.Prelude.{◌≡◌, ◌+◌, ◌≤◌, length};
+ghost use Rattle.tcl_words.specs.Scanning.{scanned};
 ghost use Rattle.tcl_words.specs.Steps.{depth_of};
-ghost use Rattle.tcl_words.specs.declared.stage.Stage.TheVariants.{Text};
-ghost use Rattle.tcl_words.specs.declared.stage.TextWord.TheVariants.{Quoted};
 
-use crate::escapes::pair_gives;
 use crate::fault::ScriptFault;
 use crate::plain_words::plain_word;
-use crate::runs::{plain_run, quoted_run};
+use crate::quoted::quoted_front;
+use crate::runs::plain_run;
 use crate::stage::{Next, Stage, TextWord};
 use crate::steps::step_from;
 
@@ -19,25 +17,6 @@ pub enum Scan {
     Refused(ScriptFault),
     /// Neither.
     Reaches(Stage),
-}
-
-// How many bytes at the front leave a quoted word as it is: ordinary ones, and escapes of two.
-fn quoted_front(bytes: &[u8]) -> usize
-    ensures within { result ≤ length bytes.now }
-    ensures scans { scanned bytes.now (Text Quoted) ≡ later result (scanned (drop result bytes.now) (Text Quoted)) }
-{
-    let mut index = 0;
-    while index < bytes.len() {
-        index += quoted_run(&bytes[index..]);
-        if index + 1 >= bytes.len() || bytes[index] != b'\\' {
-            return index;
-        }
-        let Some(_) = pair_gives(char::from(bytes[index + 1])) else {
-            return index;
-        };
-        index += 2;
-    }
-    index
 }
 
 /// Goes over the bytes once, from a stage.
