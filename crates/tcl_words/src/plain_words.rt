@@ -278,7 +278,7 @@ fn write_words(alloc: Global, words: &mut Vec<String>, texts: &[WordText]) -> Re
     ensures { OnOk result (map (λ word. string_bytes word) words.new.items
         ≡ map (λ text. spelled_by text.has_escapes text.text.now) texts.now) }
 {
-    words.reserve(texts.len().saturating_sub(words.len()))?;
+    words.reserve_exact(texts.len().saturating_sub(words.len()))?;
     for (place, text) in texts.iter().enumerate() {
         write_word(alloc, words, place, text)?;
     }
