@@ -9,7 +9,7 @@ ghost use Rattle.std.specs.Coded.{coded_list};
 ghost use Rattle.std.specs.Prelude.{◌≡◌, [], ◌∷◌, ◌++◌, IfSome, List, length};
 
 use crate::names::{Link, NodePtr};
-use crate::nodes::Node;
+use crate::nodes::{Held, Node};
 use crate::parts::Parts;
 use std::alloc::Global;
 use std::marker::Model;
@@ -79,6 +79,18 @@ impl Heap {
     {
         let ptr = name.at;
         Parts { ptr, alloc }
+    }
+
+    /// Frees the room of a node, if it is an inner one; what is left of it is a spare.
+    pub fn drop_room(&mut self, name: NodePtr)
+        requires { IsPlace self.old.places name }
+        ensures places { self.new.places ≡ self.old.places }
+        ensures befores { befores_of self.new.values ≡ befores_of self.old.values }
+    {
+        let node = self.node_mut(name);
+        if let Held::Inner(..) = node.held {
+            node.held = Held::Spare(0);
+        }
     }
 
     /// Links a node, if there is one, to the one after it.

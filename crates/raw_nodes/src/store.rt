@@ -551,6 +551,21 @@ fn last_left(
     }
 }
 
+/// Frees the rooms of all nodes, from the last on, before any line is: as large a block as a room makes the C library
+/// put together all smaller ones that were freed before.
+fn drop_rooms(heap: &mut Heap, last: Option<NodePtr>)
+    requires listed { befores_of heap.old.values ++ last ∷ [] ≡ None ∷ map Some heap.old.places }
+    requires apart { ∥ AreApart (ats heap.old.places) ∥₁ }
+    ensures places { heap.new.places ≡ heap.old.places }
+    ensures befores { befores_of heap.new.values ≡ befores_of heap.old.values }
+{
+    let mut next = last;
+    while let Some(name) = next {
+        next = heap.node(name).before.name();
+        heap.drop_room(name);
+    }
+}
+
 impl<C: Ticks> Drop for NodeStore<C> {
     fn drop(self) {
         let NodeStore {
@@ -565,6 +580,7 @@ impl<C: Ticks> Drop for NodeStore<C> {
             counter: _,
         } = self;
         drop(rooms);
+        drop_rooms(&mut heap, last);
         while let Some(name) = last {
             let node = heap.release(name, alloc).into_box();
             last = node.before.name();
