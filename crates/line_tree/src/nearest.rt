@@ -58,6 +58,9 @@ pub fn next<C: Ticks>(
             let lines = store.lines(child, ticks);
             let rest = from.saturating_sub(before);
             if rest < lines && wanted.is_in(store, child, ticks) {
+                if height == 1 {
+                    return Some(before);
+                }
                 if let Some(found) = next(store, child, height - 1, wanted, rest, ticks) {
                     return Some(before + found);
                 }
@@ -97,6 +100,9 @@ pub fn previous<C: Ticks>(
             before -= lines;
             let rest = to.saturating_sub(before).min(lines);
             if rest > 0 && wanted.is_in(store, child, ticks) {
+                if height == 1 {
+                    return Some(before);
+                }
                 if let Some(found) = previous(store, child, height - 1, wanted, rest, ticks) {
                     return Some(before + found);
                 }

@@ -12,6 +12,7 @@ pub use Rattle.mark_table.specs.SharedMarks.{Mark, names_of, numbers_of}
 pub use Rattle.mark_table.specs.declared.order.Shown.{Shown}
 pub use Rattle.search_dump.specs.Ahead.{AreAhead, AreAt, AreBefore, AreKept, AreKnownTo, AreTurned, IsKnown, IsNearest}
 pub use Rattle.search_dump.specs.Ahead.{IsTurned, change_behind, slot_of_row, turned_at}
+pub use Rattle.search_dump.specs.Copies.{AreLeft, left_of}
 pub use Rattle.search_dump.specs.Counts.{counted, difference, distance}
 pub use Rattle.search_dump.specs.Dump.{Marked, Seen, Tagged, begins_at, dump_elements, element, elements_at}
 pub use Rattle.search_dump.specs.Dump.{elements_at_end, ends_at, flag_before, if_listed, is_cut, mark_elements}
@@ -22,8 +23,8 @@ pub use Rattle.search_dump.specs.MarksAhead.{passed, place_in, shared_place_in, 
 pub use Rattle.search_dump.specs.Matches.{apart, bound, candidates, compared, found_places, limit, matches, matches_at}
 pub use Rattle.search_dump.specs.Matches.{places, shares, wanted_of}
 pub use Rattle.search_dump.specs.Searched.{listed_in, listed_whole, searched}
-pub use Rattle.search_dump.specs.Sight.{AreChangesAhead, AreTagsAt, AreTagsBefore, IsChangeKnown, IsFirstMark, marks_in}
-pub use Rattle.search_dump.specs.Sight.{seen_in, text_in}
+pub use Rattle.search_dump.specs.Sight.{AreChangesAhead, AreTagsAt, AreTagsBefore, IsChangeKnown, IsFirstMark}
+pub use Rattle.search_dump.specs.Sight.{IsNextTurn, IsQuietBesides, marks_in, seen_in, text_in}
 pub use Rattle.search_dump.specs.Spots.{IsSpot}
 pub use Rattle.search_dump.specs.Stops.{FailsBetween, IsNextStop, IsStop, has_mark_at, has_tag_at, stop_at_mark}
 pub use Rattle.search_dump.specs.Stops.{stops_at_marks, stops_at_tags, tags_at}
@@ -31,11 +32,14 @@ pub use Rattle.search_dump.specs.Stretches.{HasMatch, HasRoom, IsBehind, IsPerio
 pub use Rattle.search_dump.specs.Stretches.{first_low, first_stretch, front, left_behind, left_round, left_to_list}
 pub use Rattle.search_dump.specs.Stretches.{listed_from, listed_round, matches_in, nearest, next_of, ordered}
 pub use Rattle.search_dump.specs.Stretches.{second_high, second_low, second_stretch}
+pub use Rattle.search_dump.specs.Turns.{AreBehind, AreQuiet, IsApart, IsTurnBehind, rows_at}
 pub use Rattle.search_dump.specs.declared.dumping.Listed.{Listed}
 pub use Rattle.search_dump.specs.declared.matching.Stretch.{Stretch}
 pub use Rattle.search_dump.specs.declared.searching.SearchSwitches.{SearchSwitches}
 pub use Rattle.search_dump.specs.declared.searching.Wanted.{Wanted}
 pub use Rattle.search_dump.specs.declared.searching.Wanted.TheVariants.{All, Apart, First}
+pub use Rattle.search_dump.specs.declared.turns.Rows.{Rows}
+pub use Rattle.search_dump.specs.declared.turns.Turn.{Turn}
 pub use Rattle.std.proofs.Math.Bool.{and-false, and-true, or-false, or-true}
 pub use Rattle.std.proofs.lemmas.Bool.{false≢true, true≢false, and_from, and_left, and_parts, and_right, cases_Bool}
 pub use Rattle.std.proofs.lemmas.Bool.{cases_eq, cases_lt, cases_order, cond-false, cond-true, eq-eqb}
@@ -44,19 +48,21 @@ pub use Rattle.std.proofs.lemmas.Bool.{not-false, not-true, or_left, or_parts, o
 pub use Rattle.std.proofs.lemmas.Grind.{flat_map-append, get_or_default_zero}
 pub use Rattle.std.proofs.lemmas.Iterator.{YieldsList-from_chars}
 pub use Rattle.std.proofs.lemmas.Iterator.Consumers.{YieldsList-end, YieldsList-turn, count_from_yields_List}
-pub use Rattle.std.proofs.lemmas.List.{drop-drop, drop-map, drop-take, drop_at, drop_more, flat_map_more, get_or-map}
-pub use Rattle.std.proofs.lemmas.List.{get_or-reverse, get_or-set_other, get_or-set_same, get_or_default, get_or_past}
-pub use Rattle.std.proofs.lemmas.List.{length-append, length-drop, length-map, length-reverse, length-set, length-take}
-pub use Rattle.std.proofs.lemmas.List.{length_push, map-append, map_more, reverse-append, take-append-drop}
-pub use Rattle.std.proofs.lemmas.List.{take-append-le, take-map, take-take, take_all, take_at, take_min, take_more}
+pub use Rattle.std.proofs.lemmas.List.{append_cancel_right, drop-drop, drop-map, drop-take, drop_all, drop_at}
+pub use Rattle.std.proofs.lemmas.List.{drop_more, flat_map_more, get_or-map, get_or-reverse, get_or-set_other}
+pub use Rattle.std.proofs.lemmas.List.{get_or-set_same, get_or_default, get_or_past, length-append, length-drop}
+pub use Rattle.std.proofs.lemmas.List.{length-map, length-reverse, length-set, length-take, length_push, map-append}
+pub use Rattle.std.proofs.lemmas.List.{map_more, reverse-append, take-append-drop, take-append-le, take-map, take-take}
+pub use Rattle.std.proofs.lemmas.List.{take_all, take_at, take_min, take_more}
 pub use Rattle.std.proofs.lemmas.List.Elements.{All-filter, All-head, All-tail, All-weaker, filter-append}
 pub use Rattle.std.proofs.lemmas.List.Folds.{find-append, list_any-append}
 pub use Rattle.std.proofs.lemmas.Option.{get_or_from_slice_get, none-some, same_Some, slice_get_within}
 pub use Rattle.std.proofs.lemmas.Result.{IfOk-weaker, on_ok_weaker}
 pub use Rattle.std.proofs.lemmas.Slice.Eq.{bytes_eq-Decides}
-pub use Rattle.std.proofs.lemmas.Str.{IsCharBoundary-from_rest, IsUtf8-drop, IsUtf8-string_bytes, IsUtf8-take}
-pub use Rattle.std.proofs.lemmas.Str.{chars-IsAscii, chars-append, chars_from_encodes, chars_past_char, encodes-append}
-pub use Rattle.std.proofs.lemmas.Str.{encodes-chars, len_utf8_bounds, length-encode, length-le-encodes}
+pub use Rattle.std.proofs.lemmas.Str.{IsCharBoundary-from_rest, IsCharBoundary-start, IsUtf8-drop, IsUtf8-string_bytes}
+pub use Rattle.std.proofs.lemmas.Str.{IsUtf8-take, chars-IsAscii, chars-append, chars-nil, chars_from_encodes}
+pub use Rattle.std.proofs.lemmas.Str.{chars_past_char, encodes-append, encodes-chars, len_utf8_bounds, length-encode}
+pub use Rattle.std.proofs.lemmas.Str.{length-le-encodes}
 pub use Rattle.std.specs.List.{filter, find, flat_map, fold, list_any, prefix_len, range_with_len}
 pub use Rattle.std.specs.Option.{SomeIff, is_some, option_and_then, option_map, option_or}
 pub use Rattle.std.specs.Prelude.{if◌then◌else◌, IfOk, IfSome, IsTrue, MatchOption, OnOk, bytes_eq, codes, nat_le}

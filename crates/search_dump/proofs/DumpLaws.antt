@@ -1,12 +1,11 @@
 -- What is listed of the tags at a place.
 use Rattle.search_dump.proofs.Common.{◌≡◌, ℕ, zero, suc, ◌+◌, ◌-◌, ◌<◌, ◌≤◌, ◌&&◌, ◌||◌, ◌==◌, Bool, true, false, cond}
-use Rattle.search_dump.proofs.Common.{List, [], ◌∷◌, ◌++◌, length, map, take, get_or, refl, sym, ap, subst, ◌∙◌, arith}
-use Rattle.search_dump.proofs.Common.{not, slice_index_or, filter, flat_map, list_any, prefix_len, eq-eqb, lt-ltb}
-use Rattle.search_dump.proofs.Common.{ne_eqb, true≢false, flat_map_more, get_or-map, take_more, Tag, slots_of, Goes}
-use Rattle.search_dump.proofs.Common.{goes_nowhere, goes_on, flag_at, Slots, is_set, ranges_behind, tag_ranges}
-use Rattle.search_dump.proofs.Common.{TagRange, slot_of_row, element, flag_before, if_listed, only_in, own_slot}
+use Rattle.search_dump.proofs.Common.{List, [], ◌∷◌, ◌++◌, length, map, take, get_or, refl, sym, ap, ap₂, subst, ◌∙◌}
+use Rattle.search_dump.proofs.Common.{arith, not, slice_index_or, filter, flat_map, list_any, prefix_len, eq-eqb}
+use Rattle.search_dump.proofs.Common.{lt-ltb, ne_eqb, flat_map_more, get_or-map, take_more, Tag, slots_of, Goes}
+use Rattle.search_dump.proofs.Common.{goes_on, flag_at, Slots, is_set, ranges_behind, tag_ranges, TagRange, slot_of_row}
+use Rattle.search_dump.proofs.Common.{element, flag_before, if_listed, only_in, own_slot}
 use Rattle.tag_table.specs.Tags.{names_of}
-use Rattle.std.specs.Cmp.{nat_cmp_total}
 use Rattle.std.specs.FinSet as set
 
 -- one element more of a list that is made of several for each
@@ -43,26 +42,40 @@ tag-row on off widget key text place tags at d is slot within is_only is_slot =
     && not (set.contains off (own_slot widget (get_or tags at d).slot))) (element key text place name))
     (get_or-map (λ (tag : Tag). tag.name) tags at d [] within)
 
--- no tag stands in a set and not in one that has all of it
-not-both : (b d : Bool) → (b && d) ≡ b → (b && not d) ≡ false
-not-both true true is = refl
-not-both true false is = absurd (true≢false (sym is))
-not-both false d is = refl
+-- a tag that is on in both sets or in none isn't listed
+same-only : (b : Bool) → (b && not b) ≡ false
+same-only true = refl
+same-only false = refl
 
-none-only : (on off : Slots) (widget : ℕ) (key text : List ℕ) (place : ℕ) (tags : List Tag) →
-    set.intersection on off ≡ on → flat_map (only_in on off widget key text place) tags ≡ []
-none-only on off widget key text place [] within = refl
-none-only on off widget key text place (tag ∷ tags) within =
-    let slot = own_slot widget tag.slot in
-    ap (λ b. if_listed b (element key text place tag.name) ++ flat_map (only_in on off widget key text place) tags)
-    (not-both (set.contains on slot) (set.contains off slot)
-    (sym (set.contains-intersection nat_cmp_total on off slot) ∙ ap (λ s. set.contains s slot) within))
-    ∙ none-only on off widget key text place tags within
+pub alike-none : (on off : Slots) (widget : ℕ) (key text : List ℕ) (place : ℕ) (tags : List Tag) (at : ℕ) →
+    at < length tags
+    → set.contains on (slot_of_row widget (slots_of tags) at) ≡ set.contains off (slot_of_row widget (slots_of tags) at)
+    → only_in on off widget key text place (get_or tags at no_tag) ≡ []
+alike-none on off widget key text place tags at within same =
+    let tag = get_or tags at no_tag in
+    let there = slot-there widget tags at within in
+    ap (λ b. if_listed (b && not (set.contains off (own_slot widget tag.slot))) (element key text place tag.name))
+    (sym (ap (set.contains on) there) ∙ same ∙ ap (set.contains off) there)
+    ∙ ap (λ b. if_listed b (element key text place tag.name)) (same-only (set.contains off (own_slot widget tag.slot)))
 
-pub goes-within : (on off : Slots) (widget : ℕ) (key text : List ℕ) (place : ℕ) (tags : List Tag) (old : List ℕ) →
-    set.intersection on off ≡ on → Goes old old (flat_map (only_in on off widget key text place) tags)
-goes-within on off widget key text place tags old within =
-    subst (Goes old old) (sym (none-only on off widget key text place tags within)) (goes_nowhere old)
+-- elements of which nothing comes, before some place and from it on
+pub flat-front : {A : Type 0} (f : A → List (List ℕ)) (d : A) (xs : List A) (n : ℕ) →
+    ((at : ℕ) → at < length xs → at < n → f (get_or xs at d) ≡ []) → flat_map f (take n xs) ≡ []
+flat-front f d xs zero none = refl
+flat-front f d [] (suc n) none = refl
+flat-front f d (x ∷ xs) (suc n) none =
+    ap₂ (λ a b. a ++ b) (none 0 (omega arith) (omega arith))
+    (flat-front f d xs n (λ at within below. none (suc at) (omega arith) (omega arith)))
+
+pub flat-rest : {A : Type 0} (f : A → List (List ℕ)) (d : A) (xs : List A) (n : ℕ) →
+    ((at : ℕ) → at < length xs → n ≤ at → f (get_or xs at d) ≡ []) → flat_map f (take n xs) ≡ flat_map f xs
+flat-rest f d [] zero none = refl
+flat-rest f d [] (suc n) none = refl
+flat-rest f d (x ∷ xs) zero none =
+    sym (ap₂ (λ a b. a ++ b) (none 0 (omega arith) (omega arith))
+    (sym (flat-rest f d xs zero (λ at within above. none (suc at) (omega arith) (omega arith)))))
+flat-rest f d (x ∷ xs) (suc n) none =
+    ap (λ ys. f x ++ ys) (flat-rest f d xs n (λ at within above. none (suc at) (omega arith) (omega arith)))
 
 flat-cond : {B : Type 0} (b : Bool) (x : B) (xs : List B) (g : B → List (List ℕ)) →
     flat_map g (cond b (x ∷ xs) xs) ≡ if_listed b (g x) ++ flat_map g xs

@@ -1,6 +1,7 @@
 pub mod ApartLaws
 pub mod ChangeLaws
 pub mod Common
+pub mod CopiedLaws
 pub mod CountRows
 pub mod DumpLaws
 pub mod DumpRows
@@ -26,3 +27,4 @@ pub mod TagStops
 pub mod TextLaws
 pub mod TurnLaws
 pub mod WindowLaws
+mod NextTurns

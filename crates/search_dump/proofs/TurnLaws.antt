@@ -1,6 +1,6 @@
 -- Tags that are turned where they change.
-use Rattle.search_dump.proofs.Common.{◌≡◌, ◌≢◌, ℕ, inl, inr, ◌+◌, ◌<◌, ◌≤◌, ◌⊎◌, ◌==◌, Bool, cond, List, length, refl}
-use Rattle.search_dump.proofs.Common.{sym, ap, ◌∙◌, arith, not, if◌then◌else◌, cases_eq, eq-eqb, ne_eqb, Tag, slots_of}
+use Rattle.search_dump.proofs.Common.{◌≡◌, ◌≢◌, ℕ, inl, inr, ◌<◌, ◌≤◌, ◌⊎◌, ◌==◌, Bool, cond, List, length, refl, sym}
+use Rattle.search_dump.proofs.Common.{ap, ◌∙◌, arith, not, if◌then◌else◌, cases_eq, eq-eqb, ne_eqb, Tag, slots_of}
 use Rattle.search_dump.proofs.Common.{flag_at, next_change, Content, Slots, shown_flags, AreAt, AreBefore, AreKept}
 use Rattle.search_dump.proofs.Common.{AreKnownTo, AreTurned, IsTurned, change_behind, slot_of_row, turned_at}
 use Rattle.search_dump.proofs.Common.{flag_before}
@@ -64,15 +64,23 @@ module _ (change : ℕ → ℕ) (place slot kept : ℕ) (tags old new : Slots) (
       ]
 
   -- one row more
-  pub turn-more : (widget : ℕ) (slots : List ℕ) (rows : ℕ) → slot ≡ slot_of_row widget slots rows →
-      ((q : ℕ) → IsEither change place tags old q) → AreTurned change widget slots rows place tags old →
-      AreTurned change widget slots (rows + 1) place tags new
-  turn-more widget slots rows is either before at below =
-      elim (cases_eq at rows) [
+  pub turn-more : (widget : ℕ) (slots : List ℕ) (row : ℕ) → slot ≡ slot_of_row widget slots row →
+      ((q : ℕ) → IsEither change place tags old q) → (at : ℕ) →
+      (at ≢ row → set.contains old (slot_of_row widget slots at)
+      ≡ turned_at change place tags (slot_of_row widget slots at))
+      → set.contains new (slot_of_row widget slots at) ≡ turned_at change place tags (slot_of_row widget slots at)
+  turn-more widget slots row is either at before =
+      elim (cases_eq at row) [
         | inl last ↦ ap (set.contains new) (ap (slot_of_row widget slots) last ∙ sym is) ∙ turn-row (either slot)
             ∙ ap (turned_at change place tags) (is ∙ ap (slot_of_row widget slots) (sym last))
-        | inr other ↦ turn-kept (slot_of_row widget slots at) (before at (omega arith))
+        | inr other ↦ turn-kept (slot_of_row widget slots at) (before other)
       ]
+
+-- a slot that doesn't change at a place stays
+pub turned-none : (change : ℕ → ℕ) (place slot : ℕ) (tags : Slots) → change slot ≢ place →
+    set.contains tags slot ≡ turned_at change place tags slot
+turned-none change place slot tags other =
+    sym (ap (λ b. if b then not (set.contains tags slot) else set.contains tags slot) (ne_eqb (change slot) place other))
 
 -- the tags before a place, turned, are those at it
 turned-flag : (flags : List Bool) (place stop change : ℕ) (before : Bool) → place < stop → stop < length flags →

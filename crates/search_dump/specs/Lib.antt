@@ -1,4 +1,5 @@
 pub mod Ahead
+pub mod Copies
 pub mod Counts
 pub mod Dump
 pub mod MarksAhead
@@ -8,3 +9,4 @@ pub mod Sight
 pub mod Spots
 pub mod Stops
 pub mod Stretches
+pub mod Turns

@@ -11,7 +11,10 @@ use Rattle.text_index.specs.declared.views.View.{View}
 use Rattle.search_dump.specs.Ahead.{AreAhead, AreAt, AreBefore, AreKnownTo, IsKnown}
 use Rattle.search_dump.specs.Dump.{Seen, seen_by}
 use Rattle.search_dump.specs.MarksAhead.{shown_of, usable_by, IsMarkFrom}
+use Rattle.search_dump.specs.Turns.{AreQuiet, IsTurnBehind}
 use Rattle.search_dump.specs.declared.dumped_marks.Marked.{Marked}
+use Rattle.search_dump.specs.declared.turns.Rows.{Rows}
+use Rattle.search_dump.specs.declared.turns.Turn.{Turn}
 
 -- it shows whole lines
 abbrev pub ShowsLines : {S P : Type 0} {g : Ghosts S P} → (S → Content) → View S P g → Type 0
@@ -61,3 +64,14 @@ abbrev pub AreChangesKnown : {S P : Type 0} {g : Ghosts S P} → (S → Content)
     Type 0
 AreChangesKnown content view names place stop next =
     AreKnownTo (content view.store.now) view.s view.e names.tags.now.tags names.widget.0 place stop next
+
+-- the next turn behind a place, before another one
+abbrev pub IsNextTurn : {S P : Type 0} {g : Ghosts S P} → (S → Content) → View S P g → Names → ℕ → ℕ → List ℕ → Turn →
+    Type 0
+IsNextTurn content view names place to next turn =
+    IsTurnBehind (content view.store.now) view.s view.e names.tags.now.tags names.widget.0 place to next turn
+
+-- no tag of the table besides those of some rows begins or ends at a place
+abbrev pub IsQuietBesides : {S P : Type 0} {g : Ghosts S P} → (S → Content) → View S P g → Names → Rows → ℕ → Type 0
+IsQuietBesides content view names rows place =
+    AreQuiet (content view.store.now) view.s view.e names.tags.now.tags names.widget.0 rows place

@@ -1,10 +1,10 @@
-ghost use Rattle.std.specs.Prelude.{◌≡◌, ◌≤◌, ◌<◌, ◌+◌, ◌++◌, ◌&&◌, ◌==◌, [], chars, length, not, slice_index_or};
+ghost use Rattle.std.specs.Prelude.{◌≡◌, ◌≢◌, ℕ, ◌≤◌, ◌<◌, ◌+◌, ◌++◌, ◌&&◌, ◌==◌, [], chars, length, not};
 ghost use Rattle.std.specs.Prelude.{string_bytes, encode_utf8_all, codes, slice_range, IfOk, IfSome, IsTrue, OnOk};
-ghost use Rattle.std.specs.Prelude.{false, true};
+ghost use Rattle.std.specs.Prelude.{false, slice_index_or};
 ghost use Rattle.std.specs.FinSet as set;
 ghost use Rattle.std.specs.List.{flat_map};
 ghost use Rattle.mark_table.specs.SharedMarks as marks;
-ghost use Rattle.tag_table.specs.Tags.{names_of};
+ghost use Rattle.tag_table.specs.Tags.{names_of, slots_of};
 ghost use Rattle.text_model.specs.TagBits.{slot_count};
 ghost use Rattle.tcl_words.specs.ListText.{list_text, needs_quotes};
 ghost use Rattle.text_model.specs.declared.limits.TheConstants.Limits.{MOST_WIDGETS};
@@ -19,11 +19,16 @@ ghost use Rattle.search_dump.specs.Dump.{seen_by, tagoff_elements};
 ghost use Rattle.tcl_words.specs.ListGrowth.{Goes};
 ghost use Rattle.search_dump.specs.Sight.{seen_in, marks_in, text_in, IsFirstMark, ShowsLines};
 ghost use Rattle.search_dump.specs.Sight.{AreChangesAhead, AreChangesKnown, AreTagsAt, AreTagsBefore};
+ghost use Rattle.search_dump.specs.Sight.{IsNextTurn, IsQuietBesides};
 ghost use Rattle.search_dump.specs.Spots.{IsSpot};
+ghost use Rattle.search_dump.specs.Turns.{AreAlike, AreBehind};
+ghost use Rattle.search_dump.specs.Copies.{AreLeft};
 
+use crate::copied::Copied;
 use crate::dumped_marks::{Marked, mark_from};
 use crate::listing::{Listing, Spot};
 use crate::tag_changes::{TagChanges, own_slot, tags_before, tags_left_of};
+use crate::turns::{Rows, Turn};
 use std::alloc::{AllocError, Global};
 use text_index::{Names, View};
 use text_model::{LineSpan, TagSet, TagSlot, TextStore};
@@ -89,11 +94,12 @@ fn is_only_in(on: &TagSet, off: &TagSet, slot: TagSlot) -> bool
     on.has(slot) && !off.has(slot)
 }
 
-/// Whether each slot of a set stands in another.
-fn is_within(on: &TagSet, off: &TagSet) -> bool
-    ensures { result ≡ true → set.intersection on.now off.now ≡ on.now }
-{
-    on.common(off).words() == on.words()
+/// Two sets of tags, and rows of the table: the tags of the others are on in both sets or in none.
+#[derive(Drop)]
+struct Sides<'a> {
+    on: &'a TagSet,
+    off: &'a TagSet,
+    rows: Rows,
 }
 
 /// Appends the tags at a place that stand in one set and not in another, from the lowest.
@@ -102,22 +108,28 @@ fn push_tags<S: TextStore>(
     sight: &Sight<'_, S>,
     key: &str,
     spot: Spot,
-    on: &TagSet,
-    off: &TagSet,
+    sides: &Sides<'_>,
 ) -> Result<(), AllocError>
     requires spot { IsSpot (text_in S.content sight.now.view.now) spot }
     requires plain { needs_quotes (chars key.now) ≡ false }
     requires widget { sight.now.names.now.widget.0 < MOST_WIDGETS }
+    requires rows { sides.now.rows.end ≤ length sight.now.names.now.tags.now.tags }
+    requires alike { AreAlike sight.now.names.now.widget.0 (slots_of sight.now.names.now.tags.now.tags)
+        (length sight.now.names.now.tags.now.tags) sides.now.rows sides.now.on.now sides.now.off.now }
     ensures { OnOk result (Goes (string_bytes out.old.list) (string_bytes out.new.list) (flat_map
-        (only_in on.now off.now sight.now.names.now.widget.0 (chars key.now) (text_in S.content sight.now.view.now)
-        spot.place) sight.now.names.now.tags.now.tags)) }
+        (only_in sides.now.on.now sides.now.off.now sight.now.names.now.widget.0 (chars key.now)
+        (text_in S.content sight.now.view.now) spot.place) sight.now.names.now.tags.now.tags)) }
 {
-    if is_within(on, off) {
-        return Ok(());
-    }
-    for at in 0..sight.names.tags.len() {
+    for at in sides.rows.first..sides.rows.end {
         let slot = own_slot(sight.names, at);
-        push_tag(out, sight, key, spot, at, is_only_in(on, off, slot))?;
+        push_tag(
+            out,
+            sight,
+            key,
+            spot,
+            at,
+            is_only_in(sides.on, sides.off, slot),
+        )?;
     }
     Ok(())
 }
@@ -181,23 +193,30 @@ fn push_listed_tags<S: TextStore>(
     sight: &Sight<'_, S>,
     listed: Listed,
     spot: Spot,
-    before: &TagSet,
-    behind: &TagSet,
+    sides: &Sides<'_>,
 ) -> Result<(), AllocError>
     requires spot { IsSpot (text_in S.content sight.now.view.now) spot }
     requires widget { sight.now.names.now.widget.0 < MOST_WIDGETS }
+    requires rows { sides.now.rows.end ≤ length sight.now.names.now.tags.now.tags }
+    requires quiet { IsTrue listed.tags → IsQuietBesides S.content sight.now.view.now sight.now.names.now
+        sides.now.rows spot.place }
     requires before { IsTrue listed.tags → AreTagsBefore S.content sight.now.view.now sight.now.names.now spot.place
-        before.now }
+        sides.now.on.now }
     requires behind { IsTrue listed.tags → AreTagsAt S.content sight.now.view.now sight.now.names.now spot.place
-        behind.now }
+        sides.now.off.now }
     ensures { OnOk result (Goes (string_bytes out.old.list) (string_bytes out.new.list)
         (tags_at listed (seen_in S.content sight.now.view.now sight.now.names.now) spot.place)) }
 {
     if !listed.tags {
         return Ok(());
     }
-    push_tags(out, sight, "tagoff", spot, before, behind)?;
-    push_tags(out, sight, "tagon", spot, behind, before)?;
+    push_tags(out, sight, "tagoff", spot, sides)?;
+    let back = Sides {
+        on: sides.off,
+        off: sides.on,
+        rows: sides.rows,
+    };
+    push_tags(out, sight, "tagon", spot, &back)?;
     Ok(())
 }
 
@@ -229,28 +248,32 @@ fn push_listed_marks<S: TextStore>(
     push_marks_at(out, sight, listed.marks, spot, first)
 }
 
-/// Appends the text from one place to another, if text is listed.
+/// Appends the text from one place to another, if text is listed, out of what is copied.
 fn push_listed_text<S: TextStore>(
     out: &mut Listing,
     view: &View<'_, S>,
     listed: Listed,
     spot: Spot,
     to: usize,
+    copied: &mut Copied,
 ) -> Result<(), AllocError>
     requires view { ShowsLines S.content view.now }
     requires spot { IsSpot (text_in S.content view.now) spot }
     requires ordered { spot.place ≤ to }
     requires within { view.now.s + to ≤ view.now.e }
-    ensures { OnOk result (Goes (string_bytes out.old.list) (string_bytes out.new.list)
+    requires left { AreLeft (text_in S.content view.now) copied.old }
+    ensures goes { OnOk result (Goes (string_bytes out.old.list) (string_bytes out.new.list)
         (if_listed listed.text (element (codes "text")
         (text_in S.content view.now) spot.place (slice_range (text_in S.content view.now) spot.place to)))) }
+    ensures left { IfOk result (λ _. AreLeft (text_in S.content view.now) copied.new) }
 {
     let _end = view.e;
     if !listed.text {
         return Ok(());
     }
-    let text = view.store.copy_text(view.s + spot.place, view.s + to)?;
-    out.push("text", text.as_str(), spot)
+    copied.hold(view, spot, to)?;
+    copied.list(out, spot, to)?;
+    Ok(())
 }
 
 /// What is known at first of the next changes of the tags behind a place, where a dump lists places from there on and
@@ -271,34 +294,61 @@ fn listed_changes<S: TextStore>(
     TagChanges::new(alloc, sight.names.tags.len(), from)
 }
 
-/// The next place behind one at which a tag begins or ends, or another place, if that stands before it or a dump
-/// doesn't stop at tags.
-fn stop_at_tag<S: TextStore>(
+/// The first turn of a dump: where it begins, with all rows of the table, or where it ends, if it doesn't stop at tags.
+fn first_turn<S: TextStore>(sight: &Sight<'_, S>, listed: Listed, from: usize, to: usize) -> Turn
+    ensures from { IsTrue (stops_at_tags listed) → result.place ≡ from }
+    ensures to { stops_at_tags listed ≡ false → result.place ≡ to }
+    ensures all { IsTrue (stops_at_tags listed) → result.rows ≡ record {
+      first = 0;
+      end = length sight.now.names.now.tags.now.tags;
+    } }
+    ensures rows { result.rows.end ≤ length sight.now.names.now.tags.now.tags }
+{
+    let count = sight.names.tags.len();
+    if !listed.stops_at_tags() {
+        return Turn::bare(to);
+    }
+    Turn {
+        place: from,
+        rows: Rows {
+            first: 0,
+            end: count,
+        },
+    }
+}
+
+/// The next turn behind a place, or another place, if that stands before it: the turn that is known, if it stands
+/// behind the place.
+fn next_turn<S: TextStore>(
     changes: &mut TagChanges,
     sight: &Sight<'_, S>,
-    listed: Listed,
+    turn: Turn,
     place: usize,
     to: usize,
-) -> usize
+) -> Turn
     requires view { ShowsLines S.content sight.now.view.now }
     requires widget { sight.now.names.now.widget.0 < MOST_WIDGETS }
     requires some { place < to }
     requires within { sight.now.view.now.s + to ≤ sight.now.view.now.e }
-    requires ahead { IsTrue (stops_at_tags listed) → AreChangesAhead S.content sight.now.view.now sight.now.names.now
+    requires from { place ≤ turn.place }
+    requires upto { turn.place ≤ to }
+    requires rows { turn.rows.end ≤ length sight.now.names.now.tags.now.tags }
+    requires ahead { turn.place ≡ place → AreChangesAhead S.content sight.now.view.now sight.now.names.now
         place changes.old.next.items }
-    ensures ahead { IsTrue (stops_at_tags listed) → AreChangesAhead S.content sight.now.view.now sight.now.names.now
-        place changes.new.next.items }
-    ensures known { IsTrue (stops_at_tags listed) → AreChangesKnown S.content sight.now.view.now sight.now.names.now
-        place result changes.new.next.items }
-    ensures above { place < result }
-    ensures below { result ≤ to }
-    ensures stop { IsTrue (stops_at_tags listed) →
-        IsNextStop (has_tag_at (seen_in S.content sight.now.view.now sight.now.names.now)) place to result }
+    requires apart { turn.place ≡ place → AreBehind turn.rows changes.old.next.items
+        (length sight.now.names.now.tags.now.tags) place }
+    ensures found { turn.place ≡ place → IsNextTurn S.content sight.now.view.now sight.now.names.now place to
+        changes.new.next.items result }
+    ensures kept { turn.place ≢ place → result ≡ turn }
+    ensures same { turn.place ≢ place → changes.new.next.items ≡ changes.old.next.items }
+    ensures above { place < result.place }
+    ensures below { result.place ≤ to }
+    ensures rows { result.rows.end ≤ length sight.now.names.now.tags.now.tags }
 {
-    if !listed.stops_at_tags() {
-        return to;
+    if turn.place != place {
+        return turn;
     }
-    changes.pass(sight.view, sight.names, place);
+    changes.pass(sight.view, sight.names, turn.rows, place);
     changes.nearest(to)
 }
 
@@ -330,34 +380,31 @@ fn stop_at_line<S: TextStore>(view: &View<'_, S>, listed: Listed, spot: Spot, to
     to.min(spot.line.end)
 }
 
-/// The next stop of a dump behind a place, or another place, if that stands before it.
+/// The next stop of a dump behind a place, if tags begin or end next at another one, or where the dump ends there.
 fn next_stop<S: TextStore>(
-    changes: &mut TagChanges,
     sight: &Sight<'_, S>,
     listed: Listed,
     mark: Option<Marked>,
     spot: Spot,
+    tag: usize,
     to: usize,
 ) -> usize
     requires view { ShowsLines S.content sight.now.view.now }
     requires spot { IsSpot (text_in S.content sight.now.view.now) spot }
-    requires widget { sight.now.names.now.widget.0 < MOST_WIDGETS }
-    requires some { spot.place < to }
+    requires some { spot.place < tag }
+    requires upto { tag ≤ to }
     requires within { sight.now.view.now.s + to ≤ sight.now.view.now.e }
-    requires ahead { IsTrue (stops_at_tags listed) → AreChangesAhead S.content sight.now.view.now sight.now.names.now
-        spot.place changes.old.next.items }
+    requires tag { IsTrue (stops_at_tags listed) →
+        IsNextStop (has_tag_at (seen_in S.content sight.now.view.now sight.now.names.now)) spot.place to tag }
     requires mark { IsTrue (stops_at_marks listed) →
         IsFirstMark S.content sight.now.view.now sight.now.names.now (sight.now.view.now.s + spot.place + 1) mark }
     requires behind { IfSome mark (λ next. spot.place < next.place) }
-    ensures ahead { IsTrue (stops_at_tags listed) → AreChangesAhead S.content sight.now.view.now sight.now.names.now
-        result changes.new.next.items }
     ensures mark { IsTrue (stops_at_marks listed) →
         IsFirstMark S.content sight.now.view.now sight.now.names.now (sight.now.view.now.s + result) mark }
     ensures stop { IsStop listed (seen_in S.content sight.now.view.now sight.now.names.now) spot.place to result }
-    ensures known { IsTrue listed.tags → AreChangesKnown S.content sight.now.view.now sight.now.names.now
-        spot.place result changes.new.next.items }
+    ensures before { result ≤ tag }
 {
-    let tag = stop_at_tag(changes, sight, listed, spot.place, to);
+    let _to = to;
     stop_at_line(sight.view, listed, spot, stop_at_mark(mark, tag))
 }
 
@@ -401,20 +448,23 @@ fn listed_behind<S: TextStore>(sight: &Sight<'_, S>, listed: Listed, place: usiz
     tags_left_of(sight.view, place)
 }
 
-/// The tags of the character at a stop, if tags are listed, by those of the character before it.
+/// The tags of the character at a stop, if tags are listed, by those of the character before it: none begin or end
+/// there besides those of some rows.
 fn turned_tags<S: TextStore>(
     changes: &TagChanges,
     sight: &Sight<'_, S>,
     listed: Listed,
-    place: usize,
+    rows: Rows,
     stop: usize,
     before: &TagSet,
 ) -> TagSet
     requires view { ShowsLines S.content sight.now.view.now }
     requires widget { sight.now.names.now.widget.0 < MOST_WIDGETS }
-    requires above { place < stop }
-    requires known { IsTrue listed.tags → AreChangesKnown S.content sight.now.view.now sight.now.names.now
-        place stop changes.now.next.items }
+    requires rows { rows.end ≤ length sight.now.names.now.tags.now.tags }
+    requires known { IsTrue listed.tags → (place : ℕ) × (place < stop) × AreChangesKnown S.content sight.now.view.now
+        sight.now.names.now place stop changes.now.next.items }
+    requires apart { IsTrue listed.tags → AreBehind rows changes.now.next.items
+        (length sight.now.names.now.tags.now.tags) stop }
     requires before { IsTrue listed.tags → AreTagsBefore S.content sight.now.view.now sight.now.names.now stop
         before.now }
     ensures { IsTrue listed.tags → sight.now.view.now.s + stop < sight.now.view.now.e →
@@ -423,14 +473,16 @@ fn turned_tags<S: TextStore>(
     if !listed.tags {
         return TagSet::empty();
     }
-    changes.turned(sight.names, stop, before)
+    changes.turned(sight.names, rows, stop, before)
 }
 
-/// What a dump knows at a place: the first mark that isn't passed, the tags of the character before, and its line.
+/// What a dump knows at a place: the first mark that isn't passed, the tags of the character before, the rows of those
+/// that may begin or end there, and its line.
 #[derive(Clone, Copy)]
 struct Reached {
     mark: Option<Marked>,
     before: TagSet,
+    rows: Rows,
     line: LineSpan,
 }
 
@@ -455,25 +507,43 @@ fn push_elements<S: TextStore>(
         IsFirstMark S.content sight.now.view.now sight.now.names.now (sight.now.view.now.s + to) reached.mark) }
     ensures before { IfOk result (λ reached. IsTrue listed.tags →
         AreTagsBefore S.content sight.now.view.now sight.now.names.now to reached.before) }
+    ensures rows { IfOk result (λ reached. reached.rows.end ≤ length sight.now.names.now.tags.now.tags) }
+    ensures quiet { IfOk result (λ reached. IsTrue listed.tags →
+        IsQuietBesides S.content sight.now.view.now sight.now.names.now reached.rows to) }
 {
     let mut changes = listed_changes(*out.list.allocator(), sight, listed, from, to)?;
     let mut mark = listed_mark(sight, listed, from);
     let mut before = listed_before(sight, listed, from);
     let mut behind = listed_behind(sight, listed, from);
     let mut line = sight.view.line_at(from);
+    let mut turn = first_turn(sight, listed, from, to);
+    let mut rows = turn.rows_at(from);
+    let mut copied = Copied::new(*out.list.allocator(), from, to);
     let mut place = from;
     while place < to {
         let spot = Spot { place, line };
-        push_listed_tags(out, sight, listed, spot, &before, &behind)?;
+        let sides = Sides {
+            on: &before,
+            off: &behind,
+            rows,
+        };
+        push_listed_tags(out, sight, listed, spot, &sides)?;
         mark = push_listed_marks(out, sight, listed, spot, mark)?;
-        let next = next_stop(&mut changes, sight, listed, mark, spot, to);
-        push_listed_text(out, sight.view, listed, spot, next)?;
+        turn = next_turn(&mut changes, sight, turn, place, to);
+        let next = next_stop(sight, listed, mark, spot, turn.place, to);
+        push_listed_text(out, sight.view, listed, spot, next, &mut copied)?;
+        rows = turn.rows_at(next);
         before = behind;
-        behind = turned_tags(&changes, sight, listed, place, next, &before);
+        behind = turned_tags(&changes, sight, listed, rows, next, &before);
         line = spot.line_on(sight.view, next);
         place = next;
     }
-    Ok(Reached { mark, before, line })
+    Ok(Reached {
+        mark,
+        before,
+        rows,
+        line,
+    })
 }
 
 /// Appends what is listed at the end of the view, by what is known there.
@@ -492,6 +562,9 @@ fn push_end<S: TextStore>(
         IsFirstMark S.content sight.now.view.now sight.now.names.now (sight.now.view.now.s + end) reached.now.mark }
     requires before { IsTrue listed.tags → AreTagsBefore S.content sight.now.view.now sight.now.names.now
         end reached.now.before }
+    requires rows { reached.now.rows.end ≤ length sight.now.names.now.tags.now.tags }
+    requires quiet { IsTrue listed.tags → IsQuietBesides S.content sight.now.view.now sight.now.names.now
+        reached.now.rows end }
     ensures { OnOk result (Goes (string_bytes out.old.list) (string_bytes out.new.list)
         (if_listed listed.tags (tagoff_elements (seen_in S.content sight.now.view.now sight.now.names.now) end)
         ++ if_listed listed.marks (mark_elements (seen_in S.content sight.now.view.now sight.now.names.now) end))) }
@@ -500,7 +573,12 @@ fn push_end<S: TextStore>(
         place: end,
         line: reached.line,
     };
-    push_listed_tags(out, sight, listed, spot, &reached.before, &TagSet::empty())?;
+    let sides = Sides {
+        on: &reached.before,
+        off: &TagSet::empty(),
+        rows: reached.rows,
+    };
+    push_listed_tags(out, sight, listed, spot, &sides)?;
     push_listed_marks(out, sight, listed, spot, reached.mark)?;
     Ok(())
 }

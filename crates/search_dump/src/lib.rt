@@ -6,6 +6,7 @@
 //! or a line begins.
 #![tactic(auto)]
 
+mod copied;
 mod counting;
 mod dumped_marks;
 mod dumping;
@@ -14,6 +15,7 @@ mod matching;
 mod patterns;
 mod searching;
 mod tag_changes;
+mod turns;
 
 pub use counting::{Counted, count};
 pub use dumping::{Listed, dump};

@@ -9,7 +9,9 @@ ghost use Rattle.text_model.specs.declared.limits.TheConstants.Limits.{MOST_WIDG
 ghost use Rattle.search_dump.specs.Ahead.{slot_of_row, AreKept, AreTurned, IsNearest, IsTurned};
 ghost use Rattle.search_dump.specs.Dump.{flag_before, own_slot};
 ghost use Rattle.search_dump.specs.Sight.{AreChangesAhead, IsChangeKnown, ShowsLines};
+ghost use Rattle.search_dump.specs.Turns.{AreBehind};
 
+use crate::turns::{Rows, Turn};
 use std::alloc::{AllocError, Global};
 use text_index::{Names, View};
 use text_model::{TagSet, TagSlot, TextStore};
@@ -117,30 +119,42 @@ impl TagChanges {
         self.next[at] = change_behind(view, own_slot(names, at), place);
     }
 
-    /// Knows where each tag changes next behind a place of the view, before its end.
-    pub fn pass<S: TextStore>(&mut self, view: &View<'_, S>, names: &Names<'_>, place: usize)
+    /// Knows where each tag changes next behind a place of the view, before its end, where that is known already of all
+    /// rows of the table but some.
+    pub fn pass<S: TextStore>(
+        &mut self,
+        view: &View<'_, S>,
+        names: &Names<'_>,
+        rows: Rows,
+        place: usize,
+    )
         requires view { ShowsLines S.content view.now }
         requires widget { names.now.widget.0 < MOST_WIDGETS }
         requires within { view.now.s + place < view.now.e }
+        requires rows { rows.end ≤ length names.now.tags.now.tags }
         requires ahead { AreChangesAhead S.content view.now names.now place self.old.next.items }
+        requires apart { AreBehind rows self.old.next.items (length names.now.tags.now.tags) place }
         ensures known { (at : ℕ) → at < length names.now.tags.now.tags →
             IsChangeKnown S.content view.now names.now place self.new.next.items at }
         ensures ahead { AreChangesAhead S.content view.now names.now place self.new.next.items }
     {
-        for at in 0..names.tags.len() {
+        for at in rows.first..rows.end {
             self.look(view, names, at, place);
         }
     }
 
-    /// The first of the next places, or another place, if that is before all of them.
-    pub fn nearest(&self, place: usize) -> usize
-        ensures { IsNearest self.now.next.items (length self.now.next.items) place result }
+    /// The first of the next places with the rows among which all that stand there are, or another place, if that is
+    /// before all of them.
+    pub fn nearest(&self, place: usize) -> Turn
+        ensures nearest { IsNearest self.now.next.items (length self.now.next.items) place result.place }
+        ensures apart { AreBehind result.rows self.now.next.items (length self.now.next.items) result.place }
+        ensures rows { result.rows.end ≤ length self.now.next.items }
     {
-        let mut nearest = place;
+        let mut turn = Turn::bare(place);
         for at in 0..self.next.len() {
-            nearest = nearest.min(self.next[at]);
+            turn = turn.with_row(at, self.next[at]);
         }
-        nearest
+        turn
     }
 
     /// Turns the slot of the tag at a place of the table in a set, if the tag changes at a place of the view, by how it
@@ -160,17 +174,19 @@ impl TagChanges {
         }
     }
 
-    /// The tags of a set, those turned that change at a place.
-    pub fn turned(&self, names: &Names<'_>, place: usize, tags: &TagSet) -> TagSet
+    /// The tags of a set, those turned that change at a place, which all stand among some rows.
+    pub fn turned(&self, names: &Names<'_>, rows: Rows, place: usize, tags: &TagSet) -> TagSet
         requires widget { names.now.widget.0 < MOST_WIDGETS }
-        requires rows { length self.now.next.items ≡ length names.now.tags.now.tags }
+        requires kept { length self.now.next.items ≡ length names.now.tags.now.tags }
+        requires rows { rows.end ≤ length names.now.tags.now.tags }
+        requires apart { AreBehind rows self.now.next.items (length names.now.tags.now.tags) place }
         ensures { (change : ℕ → ℕ) → AreKept change names.now.widget.0 (slots_of names.now.tags.now.tags)
             (length names.now.tags.now.tags) self.now.next.items
             → AreTurned change names.now.widget.0 (slots_of names.now.tags.now.tags)
             (length names.now.tags.now.tags) place tags.now result }
     {
         let mut turned = *tags;
-        for at in 0..names.tags.len() {
+        for at in rows.first..rows.end {
             self.turn(names, at, place, tags, &mut turned);
         }
         turned

@@ -9,11 +9,9 @@ pub use Rattle.std.proofs.Common.{take-add, take-append-drop, true, vec_len, w8,
 pub use Rattle.std.proofs.Math.Seq.{drop-append_seam, take-length, take-suc-set}
 pub use Rattle.std.proofs.lemmas.Bool.{agree_below, agree_below_at, cond-false, cond-true, ne_eqb, not-false, not-true}
 pub use Rattle.std.proofs.lemmas.Bool.Decides.{leb_tells, nat_tests}
-pub use Rattle.std.proofs.lemmas.Iterator.{YieldsList-from_chars}
-pub use Rattle.std.proofs.lemmas.Iterator.Consumers.{YieldsList-end, YieldsList-turn}
-pub use Rattle.std.proofs.lemmas.List.{drop-drop, drop-take, drop_all, drop_more, length-map, length-set, length_push}
-pub use Rattle.std.proofs.lemmas.List.{map-append, map-set, take-map, take-take, take_at, take_more, take_more_set}
-pub use Rattle.std.proofs.lemmas.List.{take_rest}
+pub use Rattle.std.proofs.lemmas.List.{drop-drop, drop-take, drop_all, drop_more, get_or-drop, get_or_default}
+pub use Rattle.std.proofs.lemmas.List.{length-map, length-set, length_push, map-append, map-set, take-map, take-take}
+pub use Rattle.std.proofs.lemmas.List.{take_at, take_more, take_more_set, take_rest}
 pub use Rattle.std.proofs.lemmas.Simd.{length-chunk, map-map, mask_l-lt, mask_l-mod, none_from_empty_mask}
 pub use Rattle.std.proofs.lemmas.Simd.{run_in_chunk_fails, run_in_chunk_stops, splat_is_map, trailing_mask_l}
 pub use Rattle.std.proofs.lemmas.Simd.{zip2_of_maps, zip2_splat}

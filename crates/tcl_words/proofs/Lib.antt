@@ -2,6 +2,7 @@ pub mod Blocks
 pub mod Broken
 pub mod Common
 pub mod Completion
+pub mod ElementBytes
 pub mod Finding
 pub mod FoundWords
 pub mod ListForms

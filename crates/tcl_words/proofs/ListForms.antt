@@ -36,7 +36,7 @@ special_ends cs n h before = sym (ap has_special (drop_all n cs h)) ∙ before
 
 -- braces
 
-abbrev balance_step : ℕ → ℕ → (ℕ → Bool) → Bool
+abbrev pub balance_step : ℕ → ℕ → (ℕ → Bool) → Bool
 balance_step c depth after =
     cond (c == 92) false (cond (c == 123) (after (suc depth)) (cond (c == 125) (less depth after) (after depth)))
 
@@ -48,7 +48,8 @@ less_one : (depth : ℕ) (after : ℕ → Bool) → depth ≢ 0 → after (depth
 less_one zero after some = absurd (some refl)
 less_one (suc depth) after some = let e : suc depth - 1 ≡ depth = omega arith in ap after e
 
-pass_all : (x y z : Bool) (p q r s : Bool) → x ≡ false → y ≡ false → z ≡ false → cond x p (cond y q (cond z r s)) ≡ s
+pub pass_all : (x y z : Bool) (p q r s : Bool) → x ≡ false → y ≡ false → z ≡ false →
+    cond x p (cond y q (cond z r s)) ≡ s
 pass_all true y z p q r s h i j = absurd (true≢false h)
 pass_all false true z p q r s h i j = absurd (true≢false i)
 pass_all false false true p q r s h i j = absurd (true≢false j)
@@ -229,19 +230,14 @@ form_escaped true true braced escaped bare h k = absurd (true≢false k)
 form_escaped true false braced escaped bare h k = refl
 form_escaped false balanced braced escaped bare h k = absurd (true≢false (sym h))
 
-plain_parts : (front body : List ℕ) → ((front ++ []) ++ body) ++ [] ≡ front ++ body
-plain_parts front body = append-nil ((front ++ []) ++ body) ∙ ap (λ l. l ++ body) (append-nil front)
-
 braced_parts : (front body : List ℕ) → ((front ++ 123 ∷ []) ++ body) ++ 125 ∷ [] ≡ front ++ 123 ∷ (body ++ 125 ∷ [])
 braced_parts front body =
     ap (λ l. l ++ 125 ∷ []) (append_assoc front (123 ∷ []) body) ∙ append_assoc front (123 ∷ body) (125 ∷ [])
 
 pub push_bare : (old new element cs : List ℕ) → encode_utf8_all cs ≡ element → needs_quotes cs ≡ false →
-    new ≡ (((old ++ space_behind old) ++ []) ++ element) ++ []
-    → new ≡ pushed old cs
+    new ≡ (old ++ space_behind old) ++ element → new ≡ pushed old cs
 push_bare old new element cs u h e =
-    e ∙ plain_parts (old ++ space_behind old) element
-    ∙ ap (λ l. (old ++ space_behind old) ++ l)
+    e ∙ ap (λ l. (old ++ space_behind old) ++ l)
     (sym u ∙ ap encode_utf8_all (form_bare (needs_quotes cs) (balances cs 0) (123 ∷ (cs ++ 125 ∷ []))
     (with_backslashes cs) cs h))
 
@@ -257,10 +253,8 @@ push_braced old new element cs u h k e =
     cs h k))
 
 pub push_escaped : (old new text cs : List ℕ) → text ≡ encode_utf8_all (with_backslashes cs) → needs_quotes cs ≡ true →
-    balances cs 0 ≡ false
-    → new ≡ (((old ++ space_behind old) ++ []) ++ text) ++ [] → new ≡ pushed old cs
+    balances cs 0 ≡ false → new ≡ (old ++ space_behind old) ++ text → new ≡ pushed old cs
 push_escaped old new text cs u h k e =
-    e ∙ plain_parts (old ++ space_behind old) text
-    ∙ ap (λ l. (old ++ space_behind old) ++ l)
+    e ∙ ap (λ l. (old ++ space_behind old) ++ l)
     (u ∙ ap encode_utf8_all (form_escaped (needs_quotes cs) (balances cs 0) (123 ∷ (cs ++ 125 ∷ []))
     (with_backslashes cs) cs h k))

@@ -73,9 +73,7 @@ ascii-place line character small fits =
 pub goes-plain : (old new element cs : List ℕ) → encode_utf8_all cs ≡ element → needs_quotes cs ≡ false →
     new ≡ (old ++ space_behind old) ++ element → Goes old new (cs ∷ [])
 goes-plain old new element cs is plain makes =
-    goes_on old new cs (push_bare old new element cs is plain (makes
-    ∙ ap (λ l. l ++ element) (sym (append-nil (old ++ space_behind old)))
-    ∙ sym (append-nil (((old ++ space_behind old) ++ []) ++ element))))
+    goes_on old new cs (push_bare old new element cs is plain makes)
 
 -- a place behind a space
 pub goes-place : (old new : List ℕ) (line character : ℕ) → line < 10 ^ 64 → character < 10 ^ 64 →

@@ -9,6 +9,7 @@ ghost use Rattle.tcl_words.specs.ListText.{with_backslashes, space_behind};
 
 use crate::list_steps::is_white;
 use crate::pieces::first_char;
+use crate::runs::braced_run;
 use std::alloc::{AllocError, Global};
 
 // Whether the character means something in a list, white space aside.
@@ -38,8 +39,9 @@ fn begins_with_hash(element: &str) -> bool
 fn has_special(element: &str) -> bool
     ensures { result ≡ has_special (chars element.now) }
 {
-    for c in element.chars() {
-        if needs_backslash(c) {
+    let bytes = element.as_bytes();
+    for &byte in bytes {
+        if needs_backslash(char::from(byte)) {
             return true;
         }
     }
@@ -59,20 +61,27 @@ fn needs_quotes(element: &str) -> bool
     }
 }
 
-// Whether the element can stand in braces.
+// Whether the element can stand in braces. What stands between braces and backslashes is passed over by blocks.
 fn balances(element: &str) -> bool
     ensures { result ≡ balances (chars element.now) 0 }
 {
+    let bytes = element.as_bytes();
     let mut depth = 0usize;
-    for c in element.chars() {
-        if c == '\\' {
+    let mut index = 0;
+    while index < bytes.len() {
+        index += braced_run(&bytes[index..]);
+        if index == bytes.len() {
+            return depth == 0;
+        }
+        let byte = bytes[index];
+        index += 1;
+        if byte == b'\\' {
             return false;
-        } else if c == '{' {
+        } else if byte == b'{' {
             depth += 1;
-        } else if c == '}' {
-            if depth == 0 {
-                return false;
-            }
+        } else if depth == 0 {
+            return false;
+        } else {
             depth -= 1;
         }
     }
@@ -111,29 +120,37 @@ fn with_backslashes(alloc: Global, element: &str) -> Result<String, AllocError>
     Ok(text)
 }
 
-// Appends a space, where something stands before it, and the three parts, or none of it all.
-fn push_parts(
-    list: &mut String,
-    opening: &str,
-    element: &str,
-    closing: &str,
-) -> Result<(), AllocError>
+// Appends a space, where something stands before it, and the element as it is, or none of it all.
+fn push_bare(list: &mut String, element: &str) -> Result<(), AllocError>
     ensures ok { OnOk result (string_bytes list.new
-        ≡ (((string_bytes list.old ++ space_behind (string_bytes list.old)) ++ opening.now) ++ element.now)
-        ++ closing.now) }
+        ≡ (string_bytes list.old ++ space_behind (string_bytes list.old)) ++ element.now) }
     ensures err { OnErr result (string_bytes list.new ≡ string_bytes list.old) }
 {
-    let space = if list.is_empty() { "" } else { " " };
-    let room = space
-        .len()
-        .saturating_add(opening.len())
-        .saturating_add(element.len())
-        .saturating_add(closing.len());
-    list.reserve(room)?;
-    list.push_str(space).unwrap();
-    list.push_str(opening).unwrap();
+    if list.is_empty() {
+        return list.push_str(element);
+    }
+    list.reserve(element.len().saturating_add(1))?;
+    list.push(' ').unwrap();
     list.push_str(element).unwrap();
-    list.push_str(closing).unwrap();
+    Ok(())
+}
+
+// Appends a space, where something stands before it, and the element in braces, or none of it all.
+fn push_braced(list: &mut String, element: &str) -> Result<(), AllocError>
+    ensures ok { OnOk result (string_bytes list.new
+        ≡ (((string_bytes list.old ++ space_behind (string_bytes list.old)) ++ 123 ∷ []) ++ element.now)
+        ++ 125 ∷ []) }
+    ensures err { OnErr result (string_bytes list.new ≡ string_bytes list.old) }
+{
+    let is_first = list.is_empty();
+    let added = if is_first { 2 } else { 3 };
+    list.reserve(element.len().saturating_add(added))?;
+    if !is_first {
+        list.push(' ').unwrap();
+    }
+    list.push('{').unwrap();
+    list.push_str(element).unwrap();
+    list.push('}').unwrap();
     Ok(())
 }
 
@@ -157,12 +174,12 @@ pub fn push_element(list: &mut String, element: &str) -> Result<(), AllocError>
     ensures err { OnErr result (string_bytes list.new ≡ string_bytes list.old) }
 {
     if !needs_quotes(element) {
-        push_parts(list, "", element, "")?;
+        push_bare(list, element)?;
     } else if balances(element) {
-        push_parts(list, "{", element, "}")?;
+        push_braced(list, element)?;
     } else {
         let text = with_backslashes(*list.allocator(), element)?;
-        push_parts(list, "", text.as_str(), "")?;
+        push_bare(list, text.as_str())?;
     }
     Ok(())
 }

@@ -23,7 +23,7 @@ fn push_numbers(text: &mut String, line: u128, character: usize) -> Result<(), A
     let character = character_digits.format(character);
     text.reserve(line.len() + 1 + character.len())?;
     text.push_str(line).unwrap();
-    text.push_str(".").unwrap();
+    text.push('.').unwrap();
     text.push_str(character).unwrap();
     Ok(())
 }

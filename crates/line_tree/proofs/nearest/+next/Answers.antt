@@ -1,11 +1,11 @@
-use Rattle.line_tree.proofs.Common.{◌≡◌, ◌+◌, ◌-◌, suc, sym, ap, ◌∙◌, subst, arith, None, contents, kids, lines_at}
+use Rattle.line_tree.proofs.Common.{◌≡◌, ◌+◌, ◌-◌, suc, sym, ap, ◌∙◌, subst, arith, None, Some, contents, kids, lines_at}
 use Rattle.line_tree.proofs.Common.{lines_in, records, next_line, FailFrom, passes, shows}
 use Rattle.line_tree.proofs.NearestLaws.{child-is, child-within, found-within, line-next, long, next-end, next-hit}
 use Rattle.line_tree.proofs.NearestLaws.{next-missed, none-next, past-next}
 use Rattle.line_tree.proofs.RowLaws.{child_is, lines_is, none_of, said, step_no, step_yes}
 use Rattle.line_tree.proofs.TreeLaws.{count-tree, named-tree, row-above, sum-tree}
 use Rattle.line_tree.proofs.nearest.+next.Goals.{else-rest-lines, in-Some, in_default}
-use Rattle.line_tree.proofs.nearest.+next.Goals.{then-rest-lines+then-is_in+in_default-next}
+use Rattle.line_tree.proofs.nearest.+next.Goals.{then-rest-lines+then-is_in+else-height-eq1+in_default-next}
 use Rattle.line_tree.proofs.nearest.+next.Goals.{else-rest-lines-via-else-rest-lines}
 use Rattle.line_tree.proofs.nearest.+next.Goals.{else-rest-lines-via-then-rest-lines+else-is_in}
 use Rattle.line_tree.proofs.nearest.+next.Goals.{then-from-lines-via-then-from-lines}
@@ -104,6 +104,24 @@ overflow_add-before g t c = let m = records c.args.store.now in let h = c.args.h
     let s = lines_is m c.in-Some.child c.lines-lines.result (row.each c.loop-slot.slot c.in-Some.child here)
     c.lines-lines.ensures.value in omega arith
 
+pub returns-then-height-eq1 : goal.returns-then-height-eq1
+returns-then-height-eq1 g t c = let m = records c.args.store.now in let h = c.args.height in let p = c.args.node in
+    let n = h - 1 in let not = c.if-height-eq0.false in
+    let i = c.loop-slot.slot in let b = c.loop-slot.before in let w = c.args.wanted in let q = c.in-Some.child in
+    let e : h ≡ suc n = omega arith in
+    let low : n ≡ 0 = omega (arith, c.if-height-eq1.true) in
+    let row = row-above m h n p e c.requires.tree in
+    let here = sym (child_is m p row c.child.result i c.child.ensures.value) ∙ c.in-Some.is in
+    let tree = child-is m h n p i b e c.requires.tree c.loop-slot.invariant.before q here in
+    let s = lines_is m q c.lines-lines.result (row.each i q here) c.lines-lines.ensures.value in
+    let count = count-tree m n q tree in let rest = c.saturating_sub-rest.ensures in let test = c.if-rest-lines.true in
+    let shown = said (shows w) m q c.is_in-then-rest-lines.result (row.each i q here) c.is_in-then-rest-lines.ensures in
+    let found = line-next m n q w (c.args.from - b) low (omega arith)
+    (sym (shown ∙ ap (shows w) (sum-tree m n q tree)) ∙ c.if-is_in.true) in
+    let first : b ≡ b + 0 = omega arith in
+    ap (λ k. Some k) first ∙ sym (next-hit m h n p i b e c.requires.tree c.loop-slot.invariant.before q here w
+    c.args.from 0 c.loop-slot.invariant.free found)
+
 pub returns-in-Some-next : goal.returns-in-Some-next
 returns-in-Some-next g t c = let m = records c.args.store.now in let h = c.args.height in let p = c.args.node in
     let n = h - 1 in let not = c.if-height-eq0.false in
@@ -135,7 +153,7 @@ loop-slot-preserved g t c = let m = records c.args.store.now in let h = c.args.h
           (child-is m h n p i b e c.requires.tree before v.in-Some.child here) in
           let rest = v.saturating_sub-rest.ensures in
           let none : next_line (passes w) (from - b) (contents xs) ≡ None = elim v.if-rest-lines.branch [
-            | then-rest-lines+then-is_in+in_default-next u ↦
+            | then-rest-lines+then-is_in+else-height-eq1+in_default-next u ↦
                 ap (λ r. next_line (passes w) r (contents xs)) (sym rest) ∙ sym u.next.ensures
                 ∙ none_of u.next.result u.in_default-next.not-Some
             | else-rest-lines u ↦ elim u.else-rest-lines.branch [

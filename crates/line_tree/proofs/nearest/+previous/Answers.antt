@@ -117,6 +117,20 @@ pub is_in-requires-then-rest-gt0-clause-named : goal.is_in-requires-then-rest-gt
 is_in-requires-then-rest-gt0-clause-named g t c = named-tree (records c.args.store.now) (c.args.height - 1)
     c.in-Some.child (asked g t (goal.at.is_in-requires-then-rest-gt0-clause-named g t c).After-min-rest).tree
 
+pub returns-then-height-eq1 : goal.returns-then-height-eq1
+returns-then-height-eq1 g t c = let m = records c.args.store.now in let h = c.args.height in let n = h - 1 in
+    let x = c.in-Some.child in let w = c.args.wanted in let b = c.loop-slot.before - c.lines-lines.result in
+    let a = asked g t (goal.at.returns-then-height-eq1 g t c).After-min-rest in
+    let count = count-tree m n x a.tree in let within = a.reach.inside in
+    let low : n ≡ 0 = omega (arith, c.if-height-eq1.true) in
+    let shown = said (shows w) m x c.is_in-then-rest-gt0.result (named-tree m n x a.tree)
+    c.is_in-then-rest-gt0.ensures in
+    let found = line-previous m n x w c.min-rest.result low (omega (arith, c.if-rest-gt0.true)) (omega arith)
+    (sym (shown ∙ ap (shows w) (sum-tree m n x a.tree)) ∙ c.if-is_in.true) in
+    let first : b ≡ b + 0 = omega arith in
+    ap (λ k. Some k) first ∙ sym (previous-hit m h n c.args.node (c.loop-slot.slot - 1) b a.above c.requires.tree
+    a.before x a.here w c.args.to c.min-rest.result 0 a.reach c.requires.within a.free found)
+
 pub returns-in-Some-previous : goal.returns-in-Some-previous
 returns-in-Some-previous g t c = let h = c.args.height in
     let a = asked g t (goal.at.returns-in-Some-previous g t c).After-min-rest in

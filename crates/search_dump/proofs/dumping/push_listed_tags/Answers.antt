@@ -13,8 +13,8 @@ returns g c =
     let marks = c.args.sight.now.names.now.marks.now.marks in
     let widget = c.args.sight.now.names.now.widget.0 in
     let place = c.args.spot.place in
-    let before = c.args.before.now in
-    let behind = c.args.behind.now in
+    let before = c.args.sides.now.on.now in
+    let behind = c.args.sides.now.off.now in
     let seen = seen_by content view.s view.e tags marks widget in
     let is = not-false c.args.listed.tags c.if-not-listed.false in
     subst (λ b. Goes (string_bytes c.args.out.now.list) (string_bytes c.push_tags-2.new.out.list)
@@ -38,3 +38,13 @@ push_tags-requires-clause-plain g c = tagoff-plain
 
 pub push_tags-requires-2-clause-plain : goal.push_tags-requires-2-clause-plain
 push_tags-requires-2-clause-plain g c = tagon-plain
+
+pub push_tags-requires-clause-alike : goal.push_tags-requires-clause-alike
+push_tags-requires-clause-alike g c at within outside =
+    let is = not-false c.args.listed.tags c.if-not-listed.false in
+    c.requires.before is at within ∙ c.requires.quiet is at within outside ∙ sym (c.requires.behind is at within)
+
+pub push_tags-requires-2-clause-alike : goal.push_tags-requires-2-clause-alike
+push_tags-requires-2-clause-alike g c at within outside =
+    let is = not-false c.args.listed.tags c.if-not-listed.false in
+    c.requires.behind is at within ∙ sym (c.requires.before is at within ∙ c.requires.quiet is at within outside)

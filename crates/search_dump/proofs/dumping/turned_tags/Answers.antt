@@ -1,4 +1,4 @@
-use Rattle.search_dump.proofs.Common.{arith}
+use Rattle.search_dump.proofs.Common.{arith, not-false}
 use Rattle.search_dump.proofs.ChangeLaws.{length-flags}
 use Rattle.search_dump.proofs.TurnLaws.{turned-are}
 use Rattle.search_dump.proofs.dumping.turned_tags.Goals as goal
@@ -8,7 +8,14 @@ returns g c is within =
     let view = c.args.sight.now.view.now in
     let names = c.args.sight.now.names.now in
     let content = g.S.TextStore.content view.store.now in
-    turned-are content view.s view.e names.tags.now.tags names.widget.0 c.args.place c.args.stop
-    c.args.changes.now.next.items c.args.before.now c.turned.result c.requires.above
+    let known = c.requires.known is in
+    turned-are content view.s view.e names.tags.now.tags names.widget.0 known.0 c.args.stop
+    c.args.changes.now.next.items c.args.before.now c.turned.result known.1
     (λ slot. omega (arith, within, length-flags content view.s view.e c.requires.view slot))
-    (c.requires.known is) (c.requires.before is) c.turned.ensures
+    known.2 (c.requires.before is) c.turned.ensures
+
+pub turned-requires-clause-kept : goal.turned-requires-clause-kept
+turned-requires-clause-kept g c = (c.requires.known (not-false c.args.listed.tags c.if-not-listed.false)).2.rows
+
+pub turned-requires-clause-apart : goal.turned-requires-clause-apart
+turned-requires-clause-apart g c = c.requires.apart (not-false c.args.listed.tags c.if-not-listed.false)

@@ -1,63 +1,69 @@
-use Rattle.tcl_words.proofs.Common.{length, chars, arith, YieldsList-from_chars, YieldsList-turn, YieldsList-end}
-use Rattle.tcl_words.proofs.Common.{length_push}
-use Rattle.tcl_words.proofs.ListForms.{balance_backslash, balance_opens, balance_low, balance_closes, balance_passes}
-use Rattle.tcl_words.proofs.ListForms.{balance_ends}
+use Rattle.tcl_words.proofs.Common.{◌+◌, ◌∙◌, ap, refl, arith, get_or, balances}
+use Rattle.tcl_words.proofs.ListForms.{balance_backslash, balance_opens, balance_low, balance_closes, balance_ends}
+use Rattle.tcl_words.proofs.ElementBytes.{balances_of, run_balances, behind_run}
 use Rattle.tcl_words.proofs.list_writing.balances.Goals as goal
 
-pub returns-then-c-eq92 : goal.returns-then-c-eq92
-returns-then-c-eq92 c =
-    let t = YieldsList-turn (YieldsList-from_chars c.args.element.now c.utf8.element cc) c.loop-c.yielded _
-    c.loop-c.yielded_by _ _ c.in-Some.c c.in-Some.is c.next.ensures.steps in
-    balance_backslash (chars c.args.element.now) (length c.loop-c.yielded) c.in-Some.c c.loop-c.depth t
-    c.loop-c.invariant.balanced c.if-c-eq92.true
+pub returns-then-index-bytes : goal.returns-then-index-bytes
+returns-then-index-bytes c =
+    balance_ends c.as_bytes-bytes.result.now (c.loop-index.index + c.braced_run-index.result) c.loop-index.depth
+    (omega arith) (run_balances c.as_bytes-bytes.result.now c.loop-index.index c.braced_run-index.result
+    c.loop-index.depth c.braced_run-index.ensures.within c.braced_run-index.ensures.plain
+    c.loop-index.invariant.balanced)
+    ∙ ap (λ l. balances l 0) c.as_bytes-bytes.ensures.value ∙ balances_of c.args.element.now 0 c.utf8.element
 
-pub loop-c-preserved-then-c-eq123 : goal.loop-c-preserved-then-c-eq123
-loop-c-preserved-then-c-eq123 c =
-    let t = YieldsList-turn (YieldsList-from_chars c.args.element.now c.utf8.element cc) c.loop-c.yielded _
-    c.loop-c.yielded_by _ _ c.in-Some.c c.in-Some.is c.next.ensures.steps in
-    let long = length_push c.loop-c.yielded c.in-Some.c in
-    let low = c.loop-c.invariant.low in
+pub returns-then-byte-eq92 : goal.returns-then-byte-eq92
+returns-then-byte-eq92 c =
+    let bytes = c.as_bytes-bytes.result.now in
+    let stop = c.loop-index.index + c.braced_run-index.result in
+    let at = behind_run bytes c.loop-index.index c.braced_run-index.result c.loop-index.depth
+    c.braced_run-index.ensures.within c.braced_run-index.ensures.plain c.loop-index.invariant.balanced
+    c.loop-index.invariant.within c.if-index-bytes.false c.braced_run-index.ensures.longest in
+    balance_backslash bytes stop (get_or bytes stop 0) c.loop-index.depth at.here at.balanced c.if-byte-eq92.true
+    ∙ ap (λ l. balances l 0) c.as_bytes-bytes.ensures.value ∙ balances_of c.args.element.now 0 c.utf8.element
+
+pub loop-index-preserved-then-byte-eq123 : goal.loop-index-preserved-then-byte-eq123
+loop-index-preserved-then-byte-eq123 c =
+    let bytes = c.as_bytes-bytes.result.now in
+    let stop = c.loop-index.index + c.braced_run-index.result in
+    let at = behind_run bytes c.loop-index.index c.braced_run-index.result c.loop-index.depth
+    c.braced_run-index.ensures.within c.braced_run-index.ensures.plain c.loop-index.invariant.balanced
+    c.loop-index.invariant.within c.if-index-bytes.false c.braced_run-index.ensures.longest in
+    let low = c.loop-index.invariant.low in
     record {
-      balanced = balance_opens (chars c.args.element.now) (length c.loop-c.yielded) c.in-Some.c c.loop-c.depth t
-          c.loop-c.invariant.balanced c.if-c-eq123.true long;
+      within = omega arith;
+      balanced = balance_opens bytes stop (get_or bytes stop 0) c.loop-index.depth at.here at.balanced
+          c.if-byte-eq123.true refl;
       low = omega arith;
     }
 
 pub returns-then-depth-eq0 : goal.returns-then-depth-eq0
 returns-then-depth-eq0 c =
-    let t = YieldsList-turn (YieldsList-from_chars c.args.element.now c.utf8.element cc) c.loop-c.yielded _
-    c.loop-c.yielded_by _ _ c.in-Some.c c.in-Some.is c.next.ensures.steps in
-    balance_low (chars c.args.element.now) (length c.loop-c.yielded) c.in-Some.c c.loop-c.depth t
-    c.loop-c.invariant.balanced c.if-c-eq125.true c.if-depth-eq0.true
+    let bytes = c.as_bytes-bytes.result.now in
+    let stop = c.loop-index.index + c.braced_run-index.result in
+    let at = behind_run bytes c.loop-index.index c.braced_run-index.result c.loop-index.depth
+    c.braced_run-index.ensures.within c.braced_run-index.ensures.plain c.loop-index.invariant.balanced
+    c.loop-index.invariant.within c.if-index-bytes.false c.braced_run-index.ensures.longest in
+    balance_low bytes stop (get_or bytes stop 0) c.loop-index.depth at.here at.balanced
+    (at.closes c.if-byte-eq92.false c.if-byte-eq123.false) c.if-depth-eq0.true
+    ∙ ap (λ l. balances l 0) c.as_bytes-bytes.ensures.value ∙ balances_of c.args.element.now 0 c.utf8.element
 
-pub loop-c-preserved-then-c-eq125 : goal.loop-c-preserved-then-c-eq125
-loop-c-preserved-then-c-eq125 c =
-    let t = YieldsList-turn (YieldsList-from_chars c.args.element.now c.utf8.element cc) c.loop-c.yielded _
-    c.loop-c.yielded_by _ _ c.in-Some.c c.in-Some.is c.next.ensures.steps in
-    let long = length_push c.loop-c.yielded c.in-Some.c in
-    let low = c.loop-c.invariant.low in
+pub loop-index-preserved : goal.loop-index-preserved
+loop-index-preserved c =
+    let bytes = c.as_bytes-bytes.result.now in
+    let stop = c.loop-index.index + c.braced_run-index.result in
+    let at = behind_run bytes c.loop-index.index c.braced_run-index.result c.loop-index.depth
+    c.braced_run-index.ensures.within c.braced_run-index.ensures.plain c.loop-index.invariant.balanced
+    c.loop-index.invariant.within c.if-index-bytes.false c.braced_run-index.ensures.longest in
+    let low = c.loop-index.invariant.low in
     record {
-      balanced = balance_closes (chars c.args.element.now) (length c.loop-c.yielded) c.in-Some.c c.loop-c.depth t
-          c.loop-c.invariant.balanced c.if-c-eq125.true c.if-depth-eq0.false long;
-      low = omega arith;
-    }
-
-pub loop-c-preserved : goal.loop-c-preserved
-loop-c-preserved c =
-    let t = YieldsList-turn (YieldsList-from_chars c.args.element.now c.utf8.element cc) c.loop-c.yielded _
-    c.loop-c.yielded_by _ _ c.in-Some.c c.in-Some.is c.next.ensures.steps in
-    let long = length_push c.loop-c.yielded c.in-Some.c in
-    let low = c.loop-c.invariant.low in
-    record {
-      balanced = balance_passes (chars c.args.element.now) (length c.loop-c.yielded) c.in-Some.c c.loop-c.depth t
-          c.loop-c.invariant.balanced c.if-c-eq92.false c.if-c-eq123.false c.if-c-eq125.false long;
+      within = omega arith;
+      balanced = balance_closes bytes stop (get_or bytes stop 0) c.loop-index.depth at.here at.balanced
+          (at.closes c.if-byte-eq92.false c.if-byte-eq123.false) c.if-depth-eq0.false refl;
       low = omega arith;
     }
 
 pub returns : goal.returns
 returns c =
-    let t = YieldsList-end (YieldsList-from_chars c.args.element.now c.utf8.element cc) c.loop-c.yielded _
-    c.loop-c.yielded_by _ _ c.in-None.is c.next.ensures.steps in
-    let long = t.1 in
-    balance_ends (chars c.args.element.now) (length c.loop-c.yielded) c.loop-c.depth (omega arith)
-    c.loop-c.invariant.balanced
+    balance_ends c.as_bytes-bytes.result.now c.loop-index.index c.loop-index.depth c.loop-index-test.false
+    c.loop-index.invariant.balanced
+    ∙ ap (λ l. balances l 0) c.as_bytes-bytes.ensures.value ∙ balances_of c.args.element.now 0 c.utf8.element

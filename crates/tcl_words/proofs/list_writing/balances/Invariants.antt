@@ -1,8 +1,12 @@
-use Rattle.tcl_words.proofs.Common.{◌≡◌, ◌≤◌, length, drop, chars, balances}
+use Rattle.tcl_words.proofs.Common.{◌≡◌, ◌-◌, ◌≤◌, length, drop, balances}
 use Rattle.tcl_words.proofs.list_writing.balances.Given as goal
 
-abbrev pub invariant-loop-c : goal.invariant-loop-c
-invariant-loop-c l = record {
-  balanced : balances (drop (length l.yielded) (chars l.element)) l.depth ≡ balances (chars l.element) 0;
-  low : l.depth ≤ length l.yielded;
+abbrev pub invariant-loop-index : goal.invariant-loop-index
+invariant-loop-index l = record {
+  within : l.index ≤ length l.bytes;
+  balanced : balances (drop l.index l.bytes) l.depth ≡ balances l.bytes 0;
+  low : l.depth ≤ l.index;
 }
+
+abbrev pub decreases-loop-index : goal.decreases-loop-index
+decreases-loop-index l = length l.bytes - l.index

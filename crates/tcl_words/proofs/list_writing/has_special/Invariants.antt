@@ -1,5 +1,5 @@
-use Rattle.tcl_words.proofs.Common.{◌≡◌, length, drop, chars, has_special}
+use Rattle.tcl_words.proofs.Common.{◌≡◌, drop, has_special}
 use Rattle.tcl_words.proofs.list_writing.has_special.Given as goal
 
-abbrev pub invariant-loop-c : goal.invariant-loop-c
-invariant-loop-c l = has_special (drop (length l.yielded) (chars l.element)) ≡ has_special (chars l.element)
+abbrev pub invariant-loop-byte : goal.invariant-loop-byte
+invariant-loop-byte l = has_special (drop l.byte-index l.bytes) ≡ has_special l.bytes

@@ -1,5 +1,6 @@
-use Rattle.tcl_words.proofs.Common.{◌++◌, ◌∙◌, ap, length, chars, string_bytes, encode_utf8, arith}
-use Rattle.tcl_words.proofs.Common.{YieldsList-from_chars, YieldsList-turn, YieldsList-end, length_push}
+use Rattle.tcl_words.proofs.Common.{◌++◌, ◌∙◌, ap, length, chars, string_bytes, encode_utf8, arith, length_push}
+use Rattle.std.proofs.lemmas.Iterator.{YieldsList-from_chars}
+use Rattle.std.proofs.lemmas.Iterator.Consumers.{YieldsList-turn, YieldsList-end}
 use Rattle.tcl_words.proofs.ListForms.{back_special, back_other, back_ends}
 use Rattle.tcl_words.proofs.list_writing.with_backslashes.Goals as goal
 
