@@ -4,8 +4,9 @@
        client words           carries out the commands on standard input: of each how many words, their lengths, the bytes
        client uses            makes calls that a caller may get wrong
        client refusals        refuses growths by tools/refuse_calls.c to the calls that are written in C
-       client time COUNT      what a command takes by its words, and by a script of such commands, in nanoseconds of
-                              processor  */
+       client edits words COUNT, client edits script COUNT
+                              so many lines put in, and each taken out again, by the words of the commands or by a script
+       client time COUNT      what such a command takes by its words and by a script, in nanoseconds of processor  */
 
 #define _POSIX_C_SOURCE 200809L
 
@@ -462,8 +463,8 @@ static double seconds(void)
 
 #define TEXT "a line of a text that is put in here"
 
-/* The nanoseconds of a command that puts a line in and of one that takes it out, by their words or by a script. */
-static double time_one(long count, int by_words)
+/* Puts so many lines in and takes each out again, by the words of the commands or by a script.  Gives the seconds of it. */
+static double edit_lines(long count, int by_words)
 {
     static const char script[] = ".t insert 1.0 {" TEXT "}\n.t delete 1.0 2.0\n";
     static const size_t insert[] = {2, 6, 3, sizeof TEXT - 1}, erase[] = {2, 6, 3, 3};
@@ -486,20 +487,21 @@ static double time_one(long count, int by_words)
     }
     double taken = seconds() - start;
     tktext_drop(&world);
-    return 1e9 * taken / (2.0 * (double)count);
+    return taken;
 }
 
-/* The lesser of three takes of each, in turn. */
+/* The nanoseconds of one command: the lesser of three takes by the words and by a script, in turn. */
 static int time_both(long count)
 {
-    double words = 1e18, script = 1e18;
+    double words = 1e9, script = 1e9;
     for (int take = 0; take < 3; take++) {
-        double now = time_one(count, 1);
+        double now = edit_lines(count, 1);
         words = now < words ? now : words;
-        now = time_one(count, 0);
+        now = edit_lines(count, 0);
         script = now < script ? now : script;
     }
-    printf("%.0f %.0f\n", words, script);
+    double commands = 2.0 * (double)count;
+    printf("%.0f %.0f\n", 1e9 * words / commands, 1e9 * script / commands);
     return 0;
 }
 
@@ -513,6 +515,10 @@ int main(int count, char **words)
         return try_uses();
     if (count == 2 && strcmp(words[1], "refusals") == 0)
         return try_refusals();
+    if (count == 4 && strcmp(words[1], "edits") == 0) {
+        edit_lines(strtol(words[3], NULL, 10), strcmp(words[2], "words") == 0);
+        return 0;
+    }
     if (count == 3 && strcmp(words[1], "time") == 0)
         return time_both(strtol(words[2], NULL, 10));
     return 2;

@@ -16,7 +16,7 @@ has just proved (tools/build_library.py).  Without a C compiler one line says so
 - Tcl (tcl/): a script with procedures, loops and variables, and random scripts; the cases of tools/tcl_cases.py.
 - Python and Tcl with growths of memory refused (tools/refuse_calls.c): want of memory is an error of the language, and the
   command answers as ever when it is given again.
-- The time of a command by its words and by a script.
+- The instructions of a command by its words and by a script, where valgrind is installed: the words cost less.
 - The examples of three languages answer alike, and the lines of README and docs/use.md run.
 
 Ends in a line `N passed, M failed`; the exit status is 1 if anything failed.
@@ -43,6 +43,7 @@ import scripts
 import tcl_cases
 import worked
 from harness import LONG_TIMEOUT_SECONDS, Tally
+from versus import count_instructions
 
 TOP = os.path.dirname(os.path.dirname(os.path.abspath(__file__)))
 OUT = os.path.join(TOP, "out")
@@ -58,7 +59,8 @@ SMALL_EXTENSION = os.path.join(OUT, "small_tktext.so")
 FLAGS = ["-Wall", "-Wextra", "-O2", "-fPIC", "-I" + os.path.join(TOP, "include")]
 PIECES = (1, 7, 4096)
 LEAK_COMMANDS = 10_000
-TIMED_COMMANDS = 100_000
+# How many lines are put in and taken out for the time of a command, and for its instructions.
+TIMED_LINES, COUNTED_LINES = 100_000, 2_000
 ENOUGH_FAILURES = 10
 # How many growths of a command are refused, at most.
 MOST_GROWTHS = 60
@@ -164,24 +166,30 @@ def check_leaks(tally):
     print(f"valgrind: {len(commands)} commands by words, and a script of {len(fed)} bytes")
 
 
-def times():
-    """The nanoseconds of processor that a command takes by its words, and by a script."""
-    output, _, _ = run([CLIENT, "time", str(TIMED_COMMANDS)])
-    return map(int, output.split())
+def instructions(way):
+    """What a command takes that puts a line in or takes it out, by its words or by a script."""
+    none, all_lines = (count_instructions([CLIENT, "edits", way, str(count)], os.devnull) for count in (0, COUNTED_LINES))
+    return (all_lines - none) // (2 * COUNTED_LINES)
 
 
-def check_time(tally):
-    words, script = times()
-    print(f"a command of a line put in or taken out: {words} ns by its words, {script} ns by a script")
-    tally.check(words < script, f"a command takes {words} ns by its words and {script} by a script")
+def check_instructions(tally):
+    """A command costs less by its words than by a script."""
+    if shutil.which("valgrind") is None:
+        print("valgrind isn't installed: the instructions of a command aren't counted")
+        return
+    words, script = instructions("words"), instructions("script")
+    said = f"{words} instructions by its words, {script} by a script"
+    print(f"a command of a line put in or taken out: {said}")
+    tally.check(words < script, f"a command takes {said}")
 
 
 def write_times(file):
     """What `make bench` does."""
     compile_client()
-    words, script = times()
+    output, _, _ = run([CLIENT, "time", str(TIMED_LINES)])
+    words, script = map(int, output.split())
     text = f"""The library: nanoseconds of processor for a command that puts a line of 36 characters in at the front of a text or takes
-it out, with the call that gives what was said; the least of three takes of {2 * TIMED_COMMANDS} commands each.
+it out, with the call that gives what was said; the least of three takes of {2 * TIMED_LINES} commands each.
 
 by its words (tktext_call)               {words:6}
 by a script (tktext_feed, tktext_next)   {script:6}
@@ -688,7 +696,7 @@ def main():
     for seed in range(100):
         check_c_script(f"seed {seed}", scripts.script(seed), PIECES, tally)
     check_leaks(tally)
-    check_time(tally)
+    check_instructions(tally)
     check_python(options.seeds, tally)
     if has_tcl:
         check_tcl(options.seeds, tally)
