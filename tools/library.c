@@ -463,26 +463,35 @@ static double seconds(void)
 
 #define TEXT "a line of a text that is put in here"
 
+/* Ends the program where a call didn't do what it was to do. */
+static void must(int32_t code)
+{
+    if (code != TKTEXT_ANSWER)
+        exit(3);
+}
+
 /* Puts so many lines in and takes each out again, by the words of the commands or by a script.  Gives the seconds of it. */
 static double edit_lines(long count, int by_words)
 {
     static const char script[] = ".t insert 1.0 {" TEXT "}\n.t delete 1.0 2.0\n";
     static const size_t insert[] = {2, 6, 3, sizeof TEXT - 1}, erase[] = {2, 6, 3, 3};
     tktext world = TKTEXT_EMPTY;
-    if (tktext_new_greatest(&world) != TKTEXT_ANSWER || call(&world, "text.t", 4, 2) != TKTEXT_ANSWER)
-        exit(3);
+    must(tktext_new_greatest(&world));
+    must(call(&world, "text.t", 4, 2));
     double start = seconds();
     for (long number = 0; number < count; number++) {
         uint8_t room[16];
         if (by_words) {
-            tktext_call(&world, (const uint8_t *)".tinsert1.0" TEXT, 11 + sizeof TEXT - 1, insert, 4);
+            must(tktext_call(&world, (const uint8_t *)".tinsert1.0" TEXT, 11 + sizeof TEXT - 1, insert, 4));
             tktext_said(&world, room, sizeof room);
-            tktext_call(&world, (const uint8_t *)".tdelete1.02.0", 14, erase, 4);
+            must(tktext_call(&world, (const uint8_t *)".tdelete1.02.0", 14, erase, 4));
             tktext_said(&world, room, sizeof room);
         } else {
-            tktext_feed(&world, (const uint8_t *)script, sizeof script - 1);
-            while (tktext_next(&world) != TKTEXT_END)
+            must(tktext_feed(&world, (const uint8_t *)script, sizeof script - 1));
+            for (int32_t code; (code = tktext_next(&world)) != TKTEXT_END;) {
+                must(code);
                 tktext_said(&world, room, sizeof room);
+            }
         }
     }
     double taken = seconds() - start;

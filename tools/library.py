@@ -177,6 +177,9 @@ def check_instructions(tally):
     if shutil.which("valgrind") is None:
         print("valgrind isn't installed: the instructions of a command aren't counted")
         return
+    for way in ("words", "script"):
+        _, status, _ = run([CLIENT, "edits", way, "2"])
+        tally.check(status == 0, f"C, lines put in and taken out by the {way}: status {status}")
     words, script = instructions("words"), instructions("script")
     said = f"{words} instructions by its words, {script} by a script"
     print(f"a command of a line put in or taken out: {said}")
