@@ -1,4 +1,4 @@
-use Rattle.text_index.proofs.Common.{◌-◌, sym, arith}
+use Rattle.text_index.proofs.Common.{sym, arith}
 use Rattle.text_index.proofs.StartLaws.{begins-after, begins-at, none-shown, number-is}
 use Rattle.text_index.proofs.views.View.line_start.Goals as goal
 
