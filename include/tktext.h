@@ -11,8 +11,9 @@
      call overlap neither one another nor the handle.
    - malloc, realloc and free are those of one allocator.  No call is made in a signal handler.
 
-   What a caller gets, which is proved: any bytes, lengths and numbers are allowed.  No call ends the process.  After any
-   code but TKTEXT_ANSWER the world is as it was, want of memory among them.  A call keeps no pointer to what it was given.
+   What a caller gets, which is proved: any bytes, lengths and numbers are allowed.  No call ends the process, unless
+   the stack is too small.  After any code but TKTEXT_ANSWER the world is as it was, also when out of memory.  A call
+   keeps no pointer to what it was given.
    Not proved are five calls of a few lines of C: tktext_call_words, tktext_said_line, tktext_code_text, tktext_hint and
    tktext_version.
 
@@ -91,73 +92,100 @@ size_t tktext_said_line(tktext *handle, char **line, size_t *room);
 /* Copies a word of the command that was given last, counted from 0, as tktext_said does; no text where there is none. */
 size_t tktext_word(tktext *handle, size_t word, uint8_t *room, size_t size);
 
-/* Carries out a command as tktext_call does, and keeps what it changed of the text that its widget shows: changes, each of
-   the text that those before it leave, from an offset so many characters taken out, and others put in.  Made one after
-   the other on the old characters they give the new ones, and none changes nothing.  Behind these it keeps changes of tags
-   (tktext_told_tags), and which marks were moved by an order (tktext_told_marks).  All is there before anything changes, so
-   TKTEXT_NO_MEMORY leaves all as it was.  After any other code than TKTEXT_ANSWER nothing is told. */
+/* Carries out a command as tktext_call does, and keeps a report of what it changed of the text that its widget shows;
+   tktext_take_report moves it out.  The report is complete before anything changes, so after TKTEXT_NO_MEMORY all is as
+   it was.  After any other code than TKTEXT_ANSWER there is nothing to report. */
 int32_t tktext_call_told(tktext *handle, const uint8_t *bytes, size_t size, const size_t *lengths, size_t count);
 
-/* How many changes the last call that tells told of: 0 too of an empty handle. */
-size_t tktext_told(tktext *handle);
+/* A report: what one command changed, in memory of its own.  It begins as TKTEXT_EMPTY_REPORT, and is dropped once by
+   tktext_report_drop; what holds of a handle holds of it too.  It has three lists:
+   - Changes of the text: at an offset, `removed` characters were deleted and others were inserted in their place.  Each
+     is a change of the text that those before it leave.  Applied in order to the old characters they give the new ones.
+     None is a no-op.  Which changes lead from the old text to the new one isn't specified.
+   - Changes of tags: a tag was added to a range of characters of which none had it, or removed from one of which each
+     had it.  Applied in order after the changes of the text, whose new characters have no tag yet, they give the new
+     characters with their tags.
+   - Marks: the names of those that `mark set` or `mark unset` moved, so that each is at another offset of the text now, is
+     new, or is gone.  An edit of the text names none, though it moves marks with the text, and undo, redo and replace
+     move `insert`: after these, ask for the marks. */
+typedef struct tktext_report {
+    bool full;
+    struct tktext_kept kept;
+} tktext_report;
 
-/* The offset of one of them, counted from 0, in characters from the start of the text, whatever part of it the widget
-   shows; 0 of one that there isn't. */
-size_t tktext_told_at(tktext *handle, size_t change);
+#define TKTEXT_EMPTY_REPORT { false, { NULL } }
 
-/* How many characters were taken out there; 0 of one that there isn't. */
-size_t tktext_told_removed(tktext *handle, size_t change);
+/* Makes an empty report.  TKTEXT_ANSWER, TKTEXT_NO_MEMORY, or TKTEXT_WRONG_HANDLE if the report is full already. */
+int32_t tktext_report_new(tktext_report *report);
 
-/* Copies the text that was put in there, as tktext_said does; no text of one that there isn't. */
-size_t tktext_told_inserted(tktext *handle, size_t change, uint8_t *room, size_t size);
+/* Moves the report of the last call that keeps one (tktext_call_told, tktext_next_told) out of the world into a report,
+   whose old lists are dropped; the world then has nothing to report.  It allocates nothing.  TKTEXT_ANSWER; or
+   TKTEXT_WRONG_HANDLE, with nothing changed, if the world or the report is empty.  Nothing that the world does later
+   changes the report. */
+int32_t tktext_take_report(tktext *handle, tktext_report *report);
 
-/* The ends of a change, of each of which the four calls below tell where it stands. */
+/* Drops the report, if there is one, and leaves it TKTEXT_EMPTY_REPORT. */
+void tktext_report_drop(tktext_report *report);
+
+/* The calls below read a report, and change nothing.  Of an empty one each number is 0, and each text is empty. */
+
+/* Returns the number of changes of the text. */
+size_t tktext_told(tktext_report *report);
+
+/* Returns the offset of one of them, counted from 0, in characters from the start of the text, whatever part of it the
+   widget shows; 0 if there is no such change. */
+size_t tktext_told_at(tktext_report *report, size_t change);
+
+/* Returns the number of characters that were deleted there; 0 if there is no such change. */
+size_t tktext_told_removed(tktext_report *report, size_t change);
+
+/* Copies the text that was inserted there, as tktext_said does; no text if there is no such change. */
+size_t tktext_told_inserted(tktext_report *report, size_t change, uint8_t *room, size_t size);
+
+/* The ends of a change, of each of which the four calls below return the position. */
 enum {
-    TKTEXT_START = 0,   /* where the change begins */
-    TKTEXT_OLD_END = 1, /* where what was taken out ended, in the text before the change */
-    TKTEXT_NEW_END = 2  /* where what was put in ends, in the text after the change; so any greater number too */
+    TKTEXT_START = 0,   /* the start of the change */
+    TKTEXT_OLD_END = 1, /* the end of what was deleted, in the text before the change */
+    TKTEXT_NEW_END = 2  /* the end of what was inserted, in the text after the change; so is any greater number */
 };
 
-/* The line of an end of a change, from 1; 0 of a change that there isn't. */
-size_t tktext_told_line(tktext *handle, size_t change, size_t end);
+/* Returns the line of an end of a change, from 1; 0 if there is no such change. */
+size_t tktext_told_line(tktext_report *report, size_t change, size_t end);
 
-/* How many characters stand in that line before it, as Tk counts; 0 of a change that there isn't. */
-size_t tktext_told_column(tktext *handle, size_t change, size_t end);
+/* Returns the number of characters in that line before the end, as Tk counts; 0 if there is no such change. */
+size_t tktext_told_column(tktext_report *report, size_t change, size_t end);
 
 /* The same in bytes of UTF-8, as parsers count. */
-size_t tktext_told_bytes(tktext *handle, size_t change, size_t end);
+size_t tktext_told_bytes(tktext_report *report, size_t change, size_t end);
 
 /* The same in units of UTF-16, as language servers count. */
-size_t tktext_told_units(tktext *handle, size_t change, size_t end);
+size_t tktext_told_units(tktext_report *report, size_t change, size_t end);
 
-/* How many changes of tags the last call that tells told of: made one after the other behind the changes of the text, of
-   whose new characters none has a tag yet, they give the new characters with their tags.  None is idle: a tag is put on
-   characters of which none has it, and taken off such of which each has it. */
-size_t tktext_told_tags(tktext *handle);
+/* Returns the number of changes of tags. */
+size_t tktext_told_tags(tktext_report *report);
 
-/* Copies the name of the tag of one of them, counted from 0, as tktext_said does; no text of one that there isn't. */
-size_t tktext_told_tag(tktext *handle, size_t change, uint8_t *room, size_t size);
+/* Copies the name of the tag of one of them, counted from 0, as tktext_said does; no text if there is no such one. */
+size_t tktext_told_tag(tktext_report *report, size_t change, uint8_t *room, size_t size);
 
-/* Copies the name of the widget whose `sel` that tag is in the same way; no text of any other tag, which all peers
+/* Copies the name of the widget whose `sel` that tag is in the same way; no text for any other tag, which all peers
    share. */
-size_t tktext_told_tag_widget(tktext *handle, size_t change, uint8_t *room, size_t size);
+size_t tktext_told_tag_widget(tktext_report *report, size_t change, uint8_t *room, size_t size);
 
-/* The offset at which it begins, in characters from the start of the text; 0 of one that there isn't. */
-size_t tktext_told_tag_from(tktext *handle, size_t change);
+/* Returns the offset at which it starts, in characters from the start of the text; 0 if there is no such change. */
+size_t tktext_told_tag_from(tktext_report *report, size_t change);
 
-/* The offset at which it ends. */
-size_t tktext_told_tag_to(tktext *handle, size_t change);
+/* Returns the offset at which it ends. */
+size_t tktext_told_tag_to(tktext_report *report, size_t change);
 
-/* 1 where the tag is put on there, 0 where it is taken off, and of a change that there isn't. */
-int32_t tktext_told_tag_on(tktext *handle, size_t change);
+/* Returns 1 if the tag was added, and 0 if it was removed or there is no such change. */
+int32_t tktext_told_tag_on(tktext_report *report, size_t change);
 
-/* How many marks the last call that tells moved by an order (`mark set`, `mark unset`), so that each stands elsewhere
-   now, is new, or is gone: 0 of a command that edits the text, with which marks go along untold. */
-size_t tktext_told_marks(tktext *handle);
+/* Returns the number of marks. */
+size_t tktext_told_marks(tktext_report *report);
 
-/* Copies the name of one of these marks, counted from 0, as tktext_said does; no text of one that there isn't.  `insert`
-   and `current` are those of the command's own widget. */
-size_t tktext_told_mark(tktext *handle, size_t mark, uint8_t *room, size_t size);
+/* Copies the name of one of these marks, counted from 0, as tktext_said does; no text if there is no such mark.
+   `insert` and `current` are those of the command's own widget. */
+size_t tktext_told_mark(tktext_report *report, size_t mark, uint8_t *room, size_t size);
 
 /* Whether `edit undo` would find something to undo in the text that a widget shows, by the widget's name in UTF-8, as Tk's
    `edit canundo` tells: 1 or 0, and -1 where no widget has the name.  Nothing changes, what was said last neither. */
@@ -178,7 +206,7 @@ void tktext_finish(tktext *handle);
    last of which no further command comes; TKTEXT_END or TKTEXT_WRONG_HANDLE. */
 int32_t tktext_next(tktext *handle);
 
-/* Carries out the next command as tktext_next does, and keeps what it changed as tktext_call_told does. */
+/* Carries out the next command as tktext_next does, and keeps a report as tktext_call_told does. */
 int32_t tktext_next_told(tktext *handle);
 
 /* The exit status that the program has after so much of the script: 2 after a script fault, 1 after a command that was

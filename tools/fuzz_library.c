@@ -510,6 +510,7 @@ static struct limits {
 } limits;
 
 static tktext by_words, by_script;
+static tktext_report report;
 static int is_finished;
 
 static void make(tktext *world)
@@ -522,6 +523,7 @@ static void make_both(void)
 {
     make(&by_words);
     make(&by_script);
+    check(tktext_report_new(&report) == TKTEXT_ANSWER, "no report is made");
     is_finished = 0;
 }
 
@@ -534,6 +536,7 @@ static void check_empty(tktext *world)
     check(tktext_feed(world, room, 4) == TKTEXT_WRONG_HANDLE, "a piece for no world");
     check(tktext_next(world) == TKTEXT_WRONG_HANDLE && tktext_status(world) == 255, "a turn of no world");
     check(tktext_said(world, room, 4) == 0 && memcmp(room, "abcd", 4) == 0, "what no world says");
+    check(tktext_take_report(world, &report) == TKTEXT_WRONG_HANDLE && tktext_told(&report) == 0, "a report of no world");
     tktext_finish(world);
     tktext_drop(world);
 }
@@ -543,62 +546,65 @@ static void drop_both(void)
     note("drop\n");
     tktext_drop(&by_words);
     tktext_drop(&by_script);
+    tktext_report_drop(&report);
     check(blocks == 0, "blocks are left behind");
     check_empty(&by_words);
 }
 
 /* Whether two ends of a change are one place. */
-static int is_one_place(tktext *world, size_t change, size_t one, size_t other)
+static int is_one_place(size_t change, size_t one, size_t other)
 {
-    return tktext_told_line(world, change, one) == tktext_told_line(world, change, other)
-        && tktext_told_column(world, change, one) == tktext_told_column(world, change, other)
-        && tktext_told_bytes(world, change, one) == tktext_told_bytes(world, change, other)
-        && tktext_told_units(world, change, one) == tktext_told_units(world, change, other);
+    return tktext_told_line(&report, change, one) == tktext_told_line(&report, change, other)
+        && tktext_told_column(&report, change, one) == tktext_told_column(&report, change, other)
+        && tktext_told_bytes(&report, change, one) == tktext_told_bytes(&report, change, other)
+        && tktext_told_units(&report, change, one) == tktext_told_units(&report, change, other);
 }
 
 /* The ends of a change: in lines that there are, where each character has one byte to four, and one unit or two; and a
    change that takes nothing out, or puts nothing in, has two ends in one place. */
-static void check_ends(tktext *world, size_t change, int takes_out, int puts_in)
+static void check_ends(size_t change, int takes_out, int puts_in)
 {
     for (size_t end = TKTEXT_START; end <= TKTEXT_NEW_END; end++) {
-        size_t column = tktext_told_column(world, change, end), bytes = tktext_told_bytes(world, change, end);
-        size_t units = tktext_told_units(world, change, end);
-        check(tktext_told_line(world, change, end) > 0, "an end in no line");
+        size_t column = tktext_told_column(&report, change, end), bytes = tktext_told_bytes(&report, change, end);
+        size_t units = tktext_told_units(&report, change, end);
+        check(tktext_told_line(&report, change, end) > 0, "an end in no line");
         check(column <= bytes && bytes <= 4 * column && column <= units && units <= 2 * column, "a column of no text");
     }
-    check(takes_out || is_one_place(world, change, TKTEXT_START, TKTEXT_OLD_END), "what isn't taken out has an end");
-    check(puts_in || is_one_place(world, change, TKTEXT_START, TKTEXT_NEW_END), "what isn't put in has an end");
+    check(takes_out || is_one_place(change, TKTEXT_START, TKTEXT_OLD_END), "what isn't taken out has an end");
+    check(puts_in || is_one_place(change, TKTEXT_START, TKTEXT_NEW_END), "what isn't put in has an end");
 }
 
 /* The changes of tags: each of some characters and with a name, and a widget's name of `sel` alone. */
-static void check_tags(tktext *world)
+static void check_tags(void)
 {
     uint8_t tag[4], widget[4];
-    size_t count = tktext_told_tags(world);
+    size_t count = tktext_told_tags(&report);
     for (size_t at = 0; at < count; at++) {
-        size_t length = tktext_told_tag(world, at, tag, 4), owner = tktext_told_tag_widget(world, at, widget, 4);
-        check(tktext_told_tag_from(world, at) < tktext_told_tag_to(world, at), "an idle change of a tag is told");
+        size_t length = tktext_told_tag(&report, at, tag, 4), owner = tktext_told_tag_widget(&report, at, widget, 4);
+        check(tktext_told_tag_from(&report, at) < tktext_told_tag_to(&report, at), "an idle change of a tag is told");
         check((owner > 0) == (length == 3 && memcmp(tag, "sel", 3) == 0), "a tag of a widget's own");
     }
-    check(tktext_told_tag(world, count, tag, 4) == 0 && tktext_told_tag_to(world, count) == 0, "a tag too many");
-    check(tktext_told_tag_on(world, count) == 0 && tktext_told_tag_widget(world, count, tag, 4) == 0, "a tag too many");
+    check(tktext_told_tag(&report, count, tag, 4) == 0 && tktext_told_tag_to(&report, count) == 0, "a tag too many");
+    check(tktext_told_tag_on(&report, count) == 0 && tktext_told_tag_widget(&report, count, tag, 4) == 0, "a tag too many");
 }
 
-/* What a call that tells told: none of a refused command, and no idle change; marks of no edit of the text. */
+/* What a call that reports left in its world, moved out: nothing of a refused command, and no change that is a no-op; no
+   marks of an edit of the text. */
 static void check_told(tktext *world, int32_t code)
 {
     uint8_t room[4];
-    size_t count = tktext_told(world), tags = tktext_told_tags(world), marks = tktext_told_marks(world);
+    check(tktext_take_report(world, &report) == TKTEXT_ANSWER, "a report isn't moved");
+    size_t count = tktext_told(&report), tags = tktext_told_tags(&report), marks = tktext_told_marks(&report);
     check(code == TKTEXT_ANSWER || count + tags + marks == 0, "a refused command tells of a change");
-    check_tags(world);
+    check_tags();
     check(count == 0 || marks == 0, "an edit tells of marks");
     for (size_t at = 0; at < count; at++) {
-        int takes_out = tktext_told_removed(world, at) > 0, puts_in = tktext_told_inserted(world, at, room, 4) > 0;
+        int takes_out = tktext_told_removed(&report, at) > 0, puts_in = tktext_told_inserted(&report, at, room, 4) > 0;
         check(takes_out || puts_in, "an idle change is told");
-        check_ends(world, at, takes_out, puts_in);
+        check_ends(at, takes_out, puts_in);
     }
-    check(tktext_told_at(world, count) == 0 && tktext_told_inserted(world, count, room, 4) == 0, "a change too many");
-    check(tktext_told_line(world, count, in(4)) == 0 && tktext_told_mark(world, marks, room, 4) == 0, "a place too many");
+    check(tktext_told_at(&report, count) == 0 && tktext_told_inserted(&report, count, room, 4) == 0, "a change too many");
+    check(tktext_told_line(&report, count, in(4)) == 0 && tktext_told_mark(&report, marks, room, 4) == 0, "a place too many");
 }
 
 static int32_t call(tktext *world, const struct command *command)

@@ -225,117 +225,162 @@ static void check_undo(void)
     tktext_drop(&world);
 }
 
-/* Whether one change was told, and it is this one. */
-static bool told_is(tktext *world, size_t at, size_t removed, const char *inserted)
+/* The report of the last command that was called by call_told or next_told. */
+static tktext_report report = TKTEXT_EMPTY_REPORT;
+
+/* Whether it has one change, and it is this one. */
+static bool told_is(size_t at, size_t removed, const char *inserted)
 {
     uint8_t room[8];
-    size_t length = tktext_told_inserted(world, 0, room, sizeof room);
-    return tktext_told(world) == 1 && tktext_told_at(world, 0) == at && tktext_told_removed(world, 0) == removed
+    size_t length = tktext_told_inserted(&report, 0, room, sizeof room);
+    return tktext_told(&report) == 1 && tktext_told_at(&report, 0) == at && tktext_told_removed(&report, 0) == removed
         && length == strlen(inserted) && memcmp(room, inserted, length) == 0;
 }
 
+/* Carries out a command, and moves its report out of the world. */
 static int32_t call_told(tktext *world, const char *words, const size_t *lengths, size_t count)
 {
-    return tktext_call_told(world, (const uint8_t *)words, strlen(words), lengths, count);
+    int32_t code = tktext_call_told(world, (const uint8_t *)words, strlen(words), lengths, count);
+    tktext_take_report(world, &report);
+    return code;
+}
+
+/* The next command of the script, in the same way. */
+static int32_t next_told(tktext *world)
+{
+    int32_t code = tktext_next_told(world);
+    tktext_take_report(world, &report);
+    return code;
 }
 
 #define LENGTHS(...) (const size_t[]){__VA_ARGS__}, sizeof((const size_t[]){__VA_ARGS__}) / sizeof(size_t)
 
 /* What a command changed, by whichever widget and whether it came by its words or by a script. */
 /* Whether one of the ends of the first change is there: its line, and what stands in that before it. */
-static bool end_is(tktext *world, size_t end, size_t line, size_t column, size_t bytes, size_t units)
+static bool end_is(size_t end, size_t line, size_t column, size_t bytes, size_t units)
 {
-    return tktext_told_line(world, 0, end) == line && tktext_told_column(world, 0, end) == column
-        && tktext_told_bytes(world, 0, end) == bytes && tktext_told_units(world, 0, end) == units;
+    return tktext_told_line(&report, 0, end) == line && tktext_told_column(&report, 0, end) == column
+        && tktext_told_bytes(&report, 0, end) == bytes && tktext_told_units(&report, 0, end) == units;
 }
 /* Whether one mark was told, and it has this name. */
-static bool mark_is(tktext *world, const char *name)
+static bool mark_is(const char *name)
 {
     uint8_t room[8];
-    size_t length = tktext_told_mark(world, 0, room, sizeof room);
-    return tktext_told_marks(world) == 1 && length == strlen(name) && memcmp(room, name, length) == 0;
+    size_t length = tktext_told_mark(&report, 0, room, sizeof room);
+    return tktext_told_marks(&report) == 1 && length == strlen(name) && memcmp(room, name, length) == 0;
 }
 static void check_ends(void)
 {
     uint8_t room[4];
     tktext world = TKTEXT_EMPTY;
-    check(end_is(&world, TKTEXT_START, 0, 0, 0, 0) && tktext_told_marks(&world) == 0, "the ends that no world told");
+    check(end_is(TKTEXT_START, 0, 0, 0, 0) && tktext_told_marks(&report) == 0, "the ends that no world told");
     tktext_new_greatest(&world);
+    tktext_report_new(&report);
     tktext_call_words(&world, WORDS("text", ".t"));
     check(call_told(&world, ".tinsert1.0a\xc3\xa9\xf0\x9f\x98\x80\nb", LENGTHS(2, 6, 3, 9)) == TKTEXT_ANSWER
-          && end_is(&world, TKTEXT_START, 1, 0, 0, 0) && end_is(&world, TKTEXT_OLD_END, 1, 0, 0, 0)
-          && end_is(&world, TKTEXT_NEW_END, 2, 1, 1, 1), "the ends of an insertion");
+          && end_is(TKTEXT_START, 1, 0, 0, 0) && end_is(TKTEXT_OLD_END, 1, 0, 0, 0)
+          && end_is(TKTEXT_NEW_END, 2, 1, 1, 1), "the ends of an insertion");
     check(call_told(&world, ".tdelete1.12.0", LENGTHS(2, 6, 3, 3)) == TKTEXT_ANSWER
-          && end_is(&world, TKTEXT_START, 1, 1, 1, 1) && end_is(&world, TKTEXT_OLD_END, 2, 0, 0, 0)
-          && end_is(&world, TKTEXT_NEW_END, 1, 1, 1, 1), "the ends of a deletion");
+          && end_is(TKTEXT_START, 1, 1, 1, 1) && end_is(TKTEXT_OLD_END, 2, 0, 0, 0)
+          && end_is(TKTEXT_NEW_END, 1, 1, 1, 1), "the ends of a deletion");
     check(call_told(&world, ".tinsert1.1\xc3\xa9\xf0\x9f\x98\x80", LENGTHS(2, 6, 3, 6)) == TKTEXT_ANSWER
-          && end_is(&world, TKTEXT_NEW_END, 1, 3, 7, 4) && end_is(&world, SIZE_MAX, 1, 3, 7, 4), "bytes and units");
-    check(tktext_told_line(&world, 1, TKTEXT_START) == 0, "no end of no change");
-    check(call_told(&world, ".tmarksetm1.1", LENGTHS(2, 4, 3, 1, 3)) == TKTEXT_ANSWER && tktext_told(&world) == 0
-          && mark_is(&world, "m"), "a mark that is set");
-    check(call_told(&world, ".tmarksetm1.1", LENGTHS(2, 4, 3, 1, 3)) == TKTEXT_ANSWER && tktext_told_marks(&world) == 0, "a mark that stays");
-    check(call_told(&world, ".tmarkunsetnmm", LENGTHS(2, 4, 5, 1, 1, 1)) == TKTEXT_ANSWER && mark_is(&world, "m"), "a mark that goes");
-    check(call_told(&world, ".tinsert1.0x", LENGTHS(2, 6, 3, 1)) == TKTEXT_ANSWER && tktext_told_marks(&world) == 0, "marks go along untold");
-    check(tktext_told_mark(&world, 0, room, sizeof room) == 0, "no such mark");
+          && end_is(TKTEXT_NEW_END, 1, 3, 7, 4) && end_is(SIZE_MAX, 1, 3, 7, 4), "bytes and units");
+    check(tktext_told_line(&report, 1, TKTEXT_START) == 0, "no end of no change");
+    check(call_told(&world, ".tmarksetm1.1", LENGTHS(2, 4, 3, 1, 3)) == TKTEXT_ANSWER && tktext_told(&report) == 0
+          && mark_is("m"), "a mark that is set");
+    check(call_told(&world, ".tmarksetm1.1", LENGTHS(2, 4, 3, 1, 3)) == TKTEXT_ANSWER && tktext_told_marks(&report) == 0, "a mark that stays");
+    check(call_told(&world, ".tmarkunsetnmm", LENGTHS(2, 4, 5, 1, 1, 1)) == TKTEXT_ANSWER && mark_is("m"), "a mark that goes");
+    check(call_told(&world, ".tinsert1.0x", LENGTHS(2, 6, 3, 1)) == TKTEXT_ANSWER && tktext_told_marks(&report) == 0, "marks go along untold");
+    check(tktext_told_mark(&report, 0, room, sizeof room) == 0, "no such mark");
+    tktext_report_drop(&report);
     tktext_drop(&world);
 }
 /* Whether one of the changes of tags is this one: a tag, of a `sel` its widget's name, and what becomes of it where. */
-static bool tag_is(tktext *world, size_t change, const char *tag, const char *widget, size_t from, size_t to, int on)
+static bool tag_is(size_t change, const char *tag, const char *widget, size_t from, size_t to, int on)
 {
     uint8_t room[8];
-    size_t length = tktext_told_tag(world, change, room, sizeof room);
+    size_t length = tktext_told_tag(&report, change, room, sizeof room);
     bool named = length == strlen(tag) && memcmp(room, tag, length) == 0;
-    length = tktext_told_tag_widget(world, change, room, sizeof room);
+    length = tktext_told_tag_widget(&report, change, room, sizeof room);
     return named && length == strlen(widget) && memcmp(room, widget, length) == 0
-        && tktext_told_tag_from(world, change) == from && tktext_told_tag_to(world, change) == to
-        && tktext_told_tag_on(world, change) == on;
+        && tktext_told_tag_from(&report, change) == from && tktext_told_tag_to(&report, change) == to
+        && tktext_told_tag_on(&report, change) == on;
 }
 
 static void check_tags(void)
 {
     tktext world = TKTEXT_EMPTY;
-    check(tktext_told_tags(&world) == 0 && tag_is(&world, 0, "", "", 0, 0, 0), "the tags that no world told");
+    check(tktext_told_tags(&report) == 0 && tag_is(0, "", "", 0, 0, 0), "the tags that no world told");
     tktext_new_greatest(&world);
+    tktext_report_new(&report);
     tktext_call_words(&world, WORDS("text", ".t", "-undo", "1"));
-    check(call_told(&world, ".tinsert1.0abcb sel", LENGTHS(2, 6, 3, 3, 5)) == TKTEXT_ANSWER && tktext_told(&world) == 1
-          && tktext_told_tags(&world) == 2 && tag_is(&world, 0, "b", "", 0, 3, 1)
-          && tag_is(&world, 1, "sel", ".t", 0, 3, 1), "the tags of a list");
-    check(call_told(&world, ".tdelete1.1end", LENGTHS(2, 6, 3, 3)) == TKTEXT_ANSWER && tktext_told(&world) == 1
-          && tktext_told_tags(&world) == 0, "tags that go with their characters");
-    check(call_told(&world, ".ttagaddb1.0end", LENGTHS(2, 3, 3, 1, 3, 3)) == TKTEXT_ANSWER && tktext_told(&world) == 0
-          && tktext_told_tags(&world) == 1 && tag_is(&world, 0, "b", "", 1, 2, 1), "a tag where it isn't yet");
-    check(call_told(&world, ".teditundo", LENGTHS(2, 4, 4)) == TKTEXT_ANSWER && tktext_told_tags(&world) == 1
-          && tag_is(&world, 0, "b", "", 1, 3, 1), "what comes back between two that have it");
-    check(call_told(&world, ".tdelete1.2end", LENGTHS(2, 6, 3, 3)) == TKTEXT_ANSWER && tktext_told_tags(&world) == 1
-          && tag_is(&world, 0, "b", "", 2, 3, 0), "the last character loses it where it stands then");
+    check(call_told(&world, ".tinsert1.0abcb sel", LENGTHS(2, 6, 3, 3, 5)) == TKTEXT_ANSWER && tktext_told(&report) == 1
+          && tktext_told_tags(&report) == 2 && tag_is(0, "b", "", 0, 3, 1)
+          && tag_is(1, "sel", ".t", 0, 3, 1), "the tags of a list");
+    check(call_told(&world, ".tdelete1.1end", LENGTHS(2, 6, 3, 3)) == TKTEXT_ANSWER && tktext_told(&report) == 1
+          && tktext_told_tags(&report) == 0, "tags that go with their characters");
+    check(call_told(&world, ".ttagaddb1.0end", LENGTHS(2, 3, 3, 1, 3, 3)) == TKTEXT_ANSWER && tktext_told(&report) == 0
+          && tktext_told_tags(&report) == 1 && tag_is(0, "b", "", 1, 2, 1), "a tag where it isn't yet");
+    check(call_told(&world, ".teditundo", LENGTHS(2, 4, 4)) == TKTEXT_ANSWER && tktext_told_tags(&report) == 1
+          && tag_is(0, "b", "", 1, 3, 1), "what comes back between two that have it");
+    check(call_told(&world, ".tdelete1.2end", LENGTHS(2, 6, 3, 3)) == TKTEXT_ANSWER && tktext_told_tags(&report) == 1
+          && tag_is(0, "b", "", 2, 3, 0), "the last character loses it where it stands then");
     check(call_told(&world, ".ttagdeletebbc", LENGTHS(2, 3, 6, 1, 1, 1)) == TKTEXT_ANSWER
-          && tktext_told_tags(&world) == 1 && tag_is(&world, 0, "b", "", 0, 2, 0), "a tag that goes");
-    check(call_told(&world, ".ttagaddb", LENGTHS(2, 3, 3, 1)) == TKTEXT_FAULT && tktext_told_tags(&world) == 0, "a refused one");
-    check(tag_is(&world, 0, "", "", 0, 0, 0), "no such change of a tag");
+          && tktext_told_tags(&report) == 1 && tag_is(0, "b", "", 0, 2, 0), "a tag that goes");
+    check(call_told(&world, ".ttagaddb", LENGTHS(2, 3, 3, 1)) == TKTEXT_FAULT && tktext_told_tags(&report) == 0, "a refused one");
+    check(tag_is(0, "", "", 0, 0, 0), "no such change of a tag");
+    tktext_report_drop(&report);
     tktext_drop(&world);
+}
+
+/* A report is in memory of its own: it stays whatever its world does, and outlives it. */
+static void check_reports(void)
+{
+    tktext world = TKTEXT_EMPTY;
+    tktext_report other = TKTEXT_EMPTY_REPORT;
+    check(tktext_take_report(&world, &report) == TKTEXT_WRONG_HANDLE, "neither a world nor a report");
+    check(tktext_report_new(&report) == TKTEXT_ANSWER && tktext_report_new(&report) == TKTEXT_WRONG_HANDLE, "a report is made once");
+    check(tktext_take_report(&world, &report) == TKTEXT_WRONG_HANDLE && report.full, "a report, but no world");
+    tktext_new_greatest(&world);
+    tktext_call_words(&world, WORDS("text", ".t"));
+    tktext_call_told(&world, (const uint8_t *)".tinsert1.0a", 12, LENGTHS(2, 6, 3, 1));
+    check(tktext_take_report(&world, &other) == TKTEXT_WRONG_HANDLE, "a world, but no report");
+    tktext_call_words(&world, WORDS(".t", "insert", "1.0", "b"));
+    check(tktext_take_report(&world, &report) == TKTEXT_ANSWER && told_is(0, 0, "a"), "a plain call leaves the report");
+    check(tktext_report_new(&other) == TKTEXT_ANSWER && tktext_take_report(&world, &other) == TKTEXT_ANSWER
+          && tktext_told(&other) == 0, "the world has nothing left to report");
+    check(call_told(&world, ".tdelete1.0", LENGTHS(2, 6, 3)) == TKTEXT_ANSWER && told_is(0, 1, ""), "another replaces it");
+    tktext_drop(&world);
+    check(told_is(0, 1, ""), "it outlives its world");
+    tktext_report_drop(&other);
+    tktext_report_drop(&report);
+    tktext_report_drop(&report);
+    check(!report.full && tktext_told(&report) == 0, "a report that was dropped twice is empty");
 }
 
 static void check_told(void)
 {
     uint8_t room[4] = "abcd";
     tktext world = TKTEXT_EMPTY;
-    check(call_told(&world, "text.t", LENGTHS(4, 2)) == TKTEXT_WRONG_HANDLE && tktext_told(&world) == 0, "told by no world");
-    check(tktext_told_inserted(&world, 0, room, 4) == 0 && tktext_word(&world, 0, room, 4) == 0, "what no world told");
+    check(call_told(&world, "text.t", LENGTHS(4, 2)) == TKTEXT_WRONG_HANDLE && tktext_told(&report) == 0, "told by no world");
+    check(tktext_told_inserted(&report, 0, room, 4) == 0 && tktext_word(&world, 0, room, 4) == 0, "what no world told");
     tktext_new_greatest(&world);
-    check(call_told(&world, "text.t-undo1", LENGTHS(4, 2, 5, 1)) == TKTEXT_ANSWER && tktext_told(&world) == 0, "a widget tells nothing");
-    check(call_told(&world, ".tinsert1.0\xc3\xa9\\b", LENGTHS(2, 6, 3, 4)) == TKTEXT_ANSWER && told_is(&world, 0, 0, "\xc3\xa9\\b"), "an insertion");
-    check(tktext_told_inserted(&world, 0, room, 1) == 4 && memcmp(room, "\xc3" "bcd", 4) == 0, "a change in too little room");
-    check(tktext_told_at(&world, 1) == 0 && tktext_told_removed(&world, SIZE_MAX) == 0 && tktext_told_inserted(&world, 1, room, 4) == 0, "no such change");
+    tktext_report_new(&report);
+    check(call_told(&world, "text.t-undo1", LENGTHS(4, 2, 5, 1)) == TKTEXT_ANSWER && tktext_told(&report) == 0, "a widget tells nothing");
+    check(call_told(&world, ".tinsert1.0\xc3\xa9\\b", LENGTHS(2, 6, 3, 4)) == TKTEXT_ANSWER && told_is(0, 0, "\xc3\xa9\\b"), "an insertion");
+    check(tktext_told_inserted(&report, 0, room, 1) == 4 && memcmp(room, "\xc3" "bcd", 4) == 0, "a change in too little room");
+    check(tktext_told_at(&report, 1) == 0 && tktext_told_removed(&report, SIZE_MAX) == 0 && tktext_told_inserted(&report, 1, room, 4) == 0, "no such change");
     tktext_call_words(&world, WORDS(".t", "peer", "create", ".p"));
-    check(told_is(&world, 0, 0, "\xc3\xa9\\b"), "a plain call leaves what was told");
-    check(call_told(&world, ".pdelete1.1end", LENGTHS(2, 6, 3, 3)) == TKTEXT_ANSWER && told_is(&world, 1, 2, ""), "a deletion by a peer");
+    check(tktext_take_report(&world, &report) == TKTEXT_ANSWER && tktext_told(&report) == 0, "what was moved out isn't left");
+    check(call_told(&world, ".pdelete1.1end", LENGTHS(2, 6, 3, 3)) == TKTEXT_ANSWER && told_is(1, 2, ""), "a deletion by a peer");
     check(tktext_word(&world, 0, room, 4) == 2 && memcmp(room, ".p", 2) == 0 && tktext_word(&world, 4, room, 4) == 0, "whose words they were");
-    check(call_told(&world, ".tdelete5.0", LENGTHS(2, 6, 3)) == TKTEXT_ANSWER && tktext_told(&world) == 0, "nothing that is deleted");
+    check(call_told(&world, ".tdelete5.0", LENGTHS(2, 6, 3)) == TKTEXT_ANSWER && tktext_told(&report) == 0, "nothing that is deleted");
     tktext_feed(&world, (const uint8_t *)".t edit undo\n.t insert x y\n", 27);
-    check(tktext_next_told(&world) == TKTEXT_ANSWER && told_is(&world, 1, 0, "\\b"), "an undo by a script");
-    check(tktext_next_told(&world) == TKTEXT_FAULT && tktext_told(&world) == 0, "a refused command tells nothing");
-    check(call_told(&world, ".tinsert1.0a", LENGTHS(2, 6, 3, 1)) == TKTEXT_ANSWER && told_is(&world, 0, 0, "a"), "a further one");
-    check(call_told(&world, ".t\xff", LENGTHS(2, 1)) == TKTEXT_NOT_TEXT && tktext_told(&world) == 0, "no words tell nothing");
+    check(next_told(&world) == TKTEXT_ANSWER && told_is(1, 0, "\\b"), "an undo by a script");
+    check(next_told(&world) == TKTEXT_FAULT && tktext_told(&report) == 0, "a refused command tells nothing");
+    check(call_told(&world, ".tinsert1.0a", LENGTHS(2, 6, 3, 1)) == TKTEXT_ANSWER && told_is(0, 0, "a"), "a further one");
+    check(call_told(&world, ".t\xff", LENGTHS(2, 1)) == TKTEXT_NOT_TEXT && tktext_told(&report) == 0, "no words tell nothing");
+    tktext_report_drop(&report);
     tktext_drop(&world);
 }
 
@@ -444,6 +489,7 @@ static int try_uses(void)
     check_words(&world);
     check_script(&world);
     check_undo();
+    check_reports();
     check_told();
     check_tags();
     check_ends();

@@ -1,5 +1,6 @@
 mod CallLaws
 pub mod Common
+mod KeptReportSteps
 mod KeptSteps
 mod ReadLaws
 mod RoomLaws

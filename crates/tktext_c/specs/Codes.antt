@@ -4,6 +4,8 @@ use Rattle.tktext_c.specs.declared.ends.Given.{Given}
 use Rattle.tktext_c.specs.declared.ends.Given.TheVariants as given
 use Rattle.tktext_c.specs.declared.ends.MakeEnd.{MakeEnd}
 use Rattle.tktext_c.specs.declared.ends.MakeEnd.TheVariants as make
+use Rattle.tktext_c.specs.declared.ends.MoveEnd.{MoveEnd}
+use Rattle.tktext_c.specs.declared.ends.MoveEnd.TheVariants as move
 use Rattle.tktext_c.specs.declared.ends.CallEnd.{CallEnd}
 use Rattle.tktext_c.specs.declared.ends.CallEnd.TheVariants as call
 use Rattle.tktext_c.specs.declared.ends.FeedEnd.{FeedEnd}
@@ -21,6 +23,10 @@ make_code make.Made = pos 0
 make_code make.Memory = pos 2
 make_code make.WrongLimits = pos 7
 make_code make.WrongHandle = pos 8
+
+abbrev pub move_code : MoveEnd → ℤ
+move_code move.Moved = pos 0
+move_code move.WrongHandle = pos 8
 
 abbrev pub call_code : CallEnd → ℤ
 call_code (call.Given given) = given_code given

@@ -1,10 +1,14 @@
--- What a handle says of its session.
+-- What a handle has: a session's state, or a report.
 use Rattle.std.specs.Prelude.{ℕ, ℤ, pos, List, [], Option, Some, None, option_map}
 use Rattle.tktext_c.specs.declared.handle.Handle.{Handle}
-use Rattle.tktext_c.specs.State.{State, state_of}
+use Rattle.tktext_c.specs.declared.report_handle.ReportHandle.{ReportHandle}
+use Rattle.tktext_c.specs.State.{State, Telling, state_of, telling_of}
 
 abbrev pub state : Handle → Option State
 state handle = option_map state_of handle.kept.session
+
+abbrev pub reported : ReportHandle → Option Telling
+reported handle = option_map telling_of handle.kept.report
 
 -- what was said last
 abbrev pub said_of : Option State → List ℕ

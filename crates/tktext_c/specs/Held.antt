@@ -11,6 +11,6 @@ use Rattle.std_heap.specs.contracts.GlobalAllocator.TheImpl.{ghosts}
 abbrev pub frees : Ty → Ptr → Fml
 frees = ghosts.dealloc_token (record { memory = record { seal = tt } })
 
-abbrev pub held_session : (R : RattleType) → Ptr → Option R.Denot → Fml
-held_session R p (Some x) = box_owns frees R p x
-held_session R p None = ftrue
+abbrev pub held_value : (R : RattleType) → Ptr → Option R.Denot → Fml
+held_value R p (Some x) = box_owns frees R p x
+held_value R p None = ftrue

@@ -8,6 +8,7 @@ use Rattle.documents.specs.declared.tag_lists.TagChange.{TagChange}
 use Rattle.peers.specs.World.{World}
 use Rattle.printing.specs.Lines.{piece}
 use Rattle.script_cli.specs.Run.{last_piece, no_documents}
+use Rattle.tktext_c.specs.declared.report.Report.{Report}
 use Rattle.tktext_c.specs.declared.session.Said.{Said}
 use Rattle.tktext_c.specs.declared.session.Said.TheVariants.{Nothing, Reply, Fault}
 use Rattle.tktext_c.specs.declared.session.Session.{Session}
@@ -20,6 +21,9 @@ pub record Telling : Type 0 where
 
 abbrev pub nothing_told : Telling
 nothing_told = record { changes = []; tags = []; marks = [] }
+
+abbrev pub telling_of : Report → Telling
+telling_of report = record { changes = report.edit.changes; tags = report.edit.tags; marks = report.marks }
 
 -- the world, what is still to be read of the script that is fed, the words of the command that was given last, the
 -- bytes that were said then, what the last command that tells told, and the script's status
@@ -47,7 +51,7 @@ state_of session = record {
   script = session.splitter;
   words = texts_of session.words.items;
   said = said_text (texts_of session.words.items) session.said;
-  told = record { changes = session.told.changes; tags = session.told.tags; marks = session.marks };
+  told = telling_of session.report;
   status = session.status;
 }
 

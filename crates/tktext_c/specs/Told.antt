@@ -1,5 +1,5 @@
 -- What a command that tells makes of a session, and what C reads of it.
-use Rattle.std.specs.Prelude.{◌≡◌, ℕ, Bool, true, false, List, [], Option, Some, None, is_ok, slice_get}
+use Rattle.std.specs.Prelude.{◌≡◌, ℕ, Bool, true, false, List, [], Option, Some, None, IsSome, is_ok, slice_get}
 use Rattle.std.specs.Prelude.{encode_utf8_all, option_map, ◌==◌, if◌then◌else◌}
 use Rattle.tcl_words.specs.Unread.{TakesCommand}
 use Rattle.edit_ops.specs.declared.changes.TextChange.{TextChange}
@@ -14,6 +14,10 @@ use Rattle.tktext_c.specs.declared.ends.Given.{Given}
 use Rattle.tktext_c.specs.declared.ends.Given.TheVariants as given
 use Rattle.tktext_c.specs.declared.ends.CallEnd.{CallEnd}
 use Rattle.tktext_c.specs.declared.ends.CallEnd.TheVariants as call
+use Rattle.tktext_c.specs.declared.ends.MakeEnd.{MakeEnd}
+use Rattle.tktext_c.specs.declared.ends.MakeEnd.TheVariants as make
+use Rattle.tktext_c.specs.declared.ends.MoveEnd.{MoveEnd}
+use Rattle.tktext_c.specs.declared.ends.MoveEnd.TheVariants as move
 use Rattle.tktext_c.specs.declared.ends.TurnEnd.{TurnEnd}
 use Rattle.tktext_c.specs.declared.ends.TurnEnd.TheVariants as turn
 use Rattle.tktext_c.specs.Calls.{Called, Gives, Turns, stepped}
@@ -76,10 +80,24 @@ abbrev pub words_of : Option State → List (List ℕ)
 words_of None = []
 words_of (Some state) = state.words
 
--- what was told last
-abbrev pub told_of : Option State → Telling
+-- what a report has; nothing where there is none
+abbrev pub told_of : Option Telling → Telling
 told_of None = nothing_told
-told_of (Some state) = state.told
+told_of (Some telling) = telling
+
+-- From was to is an empty report is made.
+abbrev pub MakesReport : Option Telling → Option Telling → MakeEnd → Type 0
+MakesReport was is make.Made = (was ≡ None) × (is ≡ Some nothing_told)
+MakesReport was is make.Memory = (was ≡ None) × (is ≡ was)
+MakesReport was is make.WrongLimits = ⊥
+MakesReport was is make.WrongHandle = (is ≡ was) × IsSome was
+
+-- From old to new a session's report is moved out, and becomes the report that was another; where there is no session
+-- or no report, nothing changes.
+abbrev pub MovesReport : Option State → Option Telling → Option State → Option Telling → MoveEnd → Type 0
+MovesReport (Some old) (Some was) new is ended =
+    (new ≡ Some (untold old)) × (is ≡ Some old.told) × (ended ≡ move.Moved)
+MovesReport old was new is ended = (new ≡ old) × (is ≡ was) × (ended ≡ move.WrongHandle)
 
 -- where one of the changes is, and how many characters it took out; 0 where there is none
 abbrev pub place_of : Option TextChange → ℕ × ℕ

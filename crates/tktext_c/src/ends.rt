@@ -1,6 +1,7 @@
 //! How the calls from C end, and the codes of that.
 ghost use Rattle.std.specs.Prelude.{◌≡◌};
-ghost use Rattle.tktext_c.specs.Codes.{flag_code, given_code, make_code, call_code, feed_code, turn_code, told_code};
+ghost use Rattle.tktext_c.specs.Codes.{flag_code, given_code, make_code, move_code, call_code, feed_code, turn_code};
+ghost use Rattle.tktext_c.specs.Codes.{told_code};
 
 /// What a command was given.
 #[derive(Clone, Copy)]
@@ -44,6 +45,25 @@ impl MakeEnd {
             MakeEnd::Memory => 2,
             MakeEnd::WrongLimits => 7,
             MakeEnd::WrongHandle => 8,
+        }
+    }
+}
+
+/// How the moving of a report ends.
+#[derive(Clone, Copy)]
+pub(crate) enum MoveEnd {
+    Moved,
+    /// There is no world, or no report to move to.
+    WrongHandle,
+}
+
+impl MoveEnd {
+    pub(crate) fn code(self) -> i32
+        ensures { result ≡ move_code self }
+    {
+        match self {
+            MoveEnd::Moved => 0,
+            MoveEnd::WrongHandle => 8,
         }
     }
 }

@@ -1,11 +1,14 @@
 //! The calls from C, before their codes.
 ghost use Rattle.std.specs.Prelude.{◌≡◌, true, false};
 ghost use Rattle.tktext_c.specs.Calls.{Makes, Calls, Feeds, Takes, Tells, can_by};
-ghost use Rattle.tktext_c.specs.Handles.{state};
+ghost use Rattle.tktext_c.specs.Handles.{reported, state};
 ghost use Rattle.tktext_c.specs.Told.{told_of, place_told, span_told, spot_told, CallsTold, TakesTold};
+ghost use Rattle.tktext_c.specs.Told.{MakesReport, MovesReport};
 
-use crate::ends::{CallEnd, FeedEnd, MakeEnd, TurnEnd, Way};
+use crate::ends::{CallEnd, FeedEnd, MakeEnd, MoveEnd, TurnEnd, Way};
 use crate::handle::Handle;
+use crate::report::Report;
+use crate::report_handle::ReportHandle;
 use crate::session::Session;
 use peers::Spot;
 use std::alloc::Global;
@@ -90,24 +93,60 @@ pub(crate) fn can(alloc: Global, handle: &mut Handle, way: Way, name: &[u8]) -> 
     told
 }
 
-/// The offset of a change that was told, and how many characters it took out; 0 where there is none.
-pub(crate) fn change_place(alloc: Global, handle: &mut Handle, index: usize) -> (usize, usize)
-    ensures place { result ≡ place_told (told_of (state handle.old)).changes index }
-    ensures unchanged { state handle.new ≡ state handle.old }
+/// Makes an empty report.
+pub(crate) fn make_report(alloc: Global, handle: &mut ReportHandle) -> MakeEnd
+    ensures { MakesReport (reported handle.old) (reported handle.new) result }
+{
+    if handle.full {
+        return MakeEnd::WrongHandle;
+    }
+    match Box::new(alloc, Report::nothing(alloc)) {
+        Ok(report) => {
+            handle.put(report);
+            MakeEnd::Made
+        }
+        Err(_) => MakeEnd::Memory,
+    }
+}
+
+/// Moves what a session reports into a report.
+pub(crate) fn move_report(alloc: Global, handle: &mut Handle, into: &mut ReportHandle) -> MoveEnd
+    ensures { MovesReport (state handle.old) (reported into.old) (state handle.new) (reported into.new) result }
+{
+    if !handle.full || !into.full {
+        return MoveEnd::WrongHandle;
+    }
+    let mut session = handle.take(alloc);
+    let mut report = into.take(alloc);
+    *report = session.take_report(alloc);
+    handle.put(session);
+    into.put(report);
+    MoveEnd::Moved
+}
+
+/// The offset of a change, and how many characters it deleted; 0 if there is no such change.
+pub(crate) fn change_place(alloc: Global, handle: &mut ReportHandle, index: usize) -> (usize, usize)
+    ensures place { result ≡ place_told (told_of (reported handle.old)).changes index }
+    ensures unchanged { reported handle.new ≡ reported handle.old }
 {
     if !handle.full {
         return (0, 0);
     }
-    let session = handle.take(alloc);
-    let place = session.change_place(index);
-    handle.put(session);
+    let report = handle.take(alloc);
+    let place = report.change_place(index);
+    handle.put(report);
     place
 }
 
-/// One of the ends of a change that was told, by its number; zeros where there is none.
-pub(crate) fn change_spot(alloc: Global, handle: &mut Handle, index: usize, end: usize) -> Spot
-    ensures spot { result ≡ spot_told (told_of (state handle.old)).changes index end }
-    ensures unchanged { state handle.new ≡ state handle.old }
+/// One of the ends of a change, by its number; zeros if there is no such change.
+pub(crate) fn change_spot(
+    alloc: Global,
+    handle: &mut ReportHandle,
+    index: usize,
+    end: usize,
+) -> Spot
+    ensures spot { result ≡ spot_told (told_of (reported handle.old)).changes index end }
+    ensures unchanged { reported handle.new ≡ reported handle.old }
 {
     if !handle.full {
         return Spot {
@@ -117,22 +156,26 @@ pub(crate) fn change_spot(alloc: Global, handle: &mut Handle, index: usize, end:
             units: 0,
         };
     }
-    let session = handle.take(alloc);
-    let spot = session.change_spot(index, end);
-    handle.put(session);
+    let report = handle.take(alloc);
+    let spot = report.change_spot(index, end);
+    handle.put(report);
     spot
 }
 
-/// Where a change of a tag begins and ends, and whether the tag is put on there; zeros where there is none.
-pub(crate) fn tag_span(alloc: Global, handle: &mut Handle, index: usize) -> (usize, usize, bool)
-    ensures span { result ≡ span_told (told_of (state handle.old)).tags index }
-    ensures unchanged { state handle.new ≡ state handle.old }
+/// Where a tag change starts and ends, and whether it adds the tag; zeros if there is no such change.
+pub(crate) fn tag_span(
+    alloc: Global,
+    handle: &mut ReportHandle,
+    index: usize,
+) -> (usize, usize, bool)
+    ensures span { result ≡ span_told (told_of (reported handle.old)).tags index }
+    ensures unchanged { reported handle.new ≡ reported handle.old }
 {
     if !handle.full {
         return (0, 0, false);
     }
-    let session = handle.take(alloc);
-    let span = session.tag_span(index);
-    handle.put(session);
+    let report = handle.take(alloc);
+    let span = report.tag_span(index);
+    handle.put(report);
     span
 }

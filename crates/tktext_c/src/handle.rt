@@ -3,7 +3,7 @@ ghost use Rattle.std.specs.Prelude.{◌≡◌, true, false, Option, Some, None, 
 ghost use Rattle.std.specs.Coded.{coded_option};
 ghost use Rattle.tktext_c.specs.declared.session.Session.{Session as TheSession};
 ghost use Rattle.tktext_c.specs.contracts.session.Session.{the_row as session_row};
-ghost use Rattle.tktext_c.specs.Held.{held_session};
+ghost use Rattle.tktext_c.specs.Held.{held_value};
 
 use super::loose::Loose;
 use super::session::Session;
@@ -19,7 +19,7 @@ pub struct Kept {
 }
 
 impl Model for Kept {
-    ghost also_owns = { λ k. held_session session_row k.at k.session };
+    ghost also_owns = { λ k. held_value session_row k.at k.session };
 }
 
 impl Kept {

@@ -5,23 +5,27 @@ ghost use Rattle.std.specs.Prelude.{◌≡◌, Bool, Option, None, min, length, 
 ghost use Rattle.text_model.specs.LimitTable.{most_chars, most_tags, most_marks, most_widgets};
 ghost use Rattle.peers.specs.History.{can_redo_by, can_undo_by};
 ghost use Rattle.tktext_c.specs.Calls.{Makes, Calls, Feeds, Takes, Tells, finished};
-ghost use Rattle.tktext_c.specs.Codes.{make_code, call_code, feed_code, flag_code, turn_code, told_code};
-ghost use Rattle.tktext_c.specs.Handles.{state, status_of, said_of};
+ghost use Rattle.tktext_c.specs.Codes.{make_code, move_code, call_code, feed_code, flag_code, turn_code, told_code};
+ghost use Rattle.tktext_c.specs.Handles.{reported, state, status_of, said_of};
 ghost use Rattle.tktext_c.specs.Room.{over};
 ghost use Rattle.tktext_c.specs.Told.{told_of, mark_told, place_told, spot_told, text_told, word_given, words_of};
-ghost use Rattle.tktext_c.specs.Told.{span_told, tag_told, widget_told, CallsTold, TakesTold};
+ghost use Rattle.tktext_c.specs.Told.{span_told, tag_told, widget_told, CallsTold, MakesReport, MovesReport};
+ghost use Rattle.tktext_c.specs.Told.{TakesTold};
 
 mod ends;
 mod exports;
 mod handle;
 mod loose;
+mod report;
+mod report_handle;
 mod room;
 mod session;
 mod turns;
 mod words;
 
-use ends::{CallEnd, FeedEnd, MakeEnd, TurnEnd, Way, code_of_flag, code_of_told};
+use ends::{CallEnd, FeedEnd, MakeEnd, MoveEnd, TurnEnd, Way, code_of_flag, code_of_told};
 use handle::Handle;
+use report_handle::ReportHandle;
 use std::alloc::Global;
 use text_model::Limits;
 
@@ -127,236 +131,278 @@ pub extern "C" fn tktext_word(
     length
 }
 
-/// How many changes the last call that tells told of.
+/// Makes an empty report.
 #[unsafe(no_mangle)]
-pub extern "C" fn tktext_told(alloc: Global, handle: &mut Handle) -> usize
-    ensures count { result ≡ length (told_of (state handle.old)).changes }
-    ensures unchanged { state handle.new ≡ state handle.old }
+pub extern "C" fn tktext_report_new(alloc: Global, report: &mut ReportHandle) -> i32
+    ensures { (ended : MakeEnd) × (result ≡ make_code ended)
+        × MakesReport (reported report.old) (reported report.new) ended }
 {
-    if !handle.full {
+    exports::make_report(alloc, report).code()
+}
+
+/// Moves what the last call that reports changed out of a world into a report, and leaves the world none.
+#[unsafe(no_mangle)]
+pub extern "C" fn tktext_take_report(
+    alloc: Global,
+    handle: &mut Handle,
+    report: &mut ReportHandle,
+) -> i32
+    ensures { (ended : MoveEnd) × (result ≡ move_code ended)
+        × MovesReport (state handle.old) (reported report.old) (state handle.new) (reported report.new) ended }
+{
+    exports::move_report(alloc, handle, report).code()
+}
+
+/// Drops the report, if there is one, and leaves it empty.
+#[unsafe(no_mangle)]
+pub extern "C" fn tktext_report_drop(alloc: Global, report: &mut ReportHandle)
+    ensures { reported report.new ≡ None }
+{
+    if report.full {
+        drop(report.take(alloc));
+    }
+}
+
+/// Returns the number of a report's changes of the text.
+#[unsafe(no_mangle)]
+pub extern "C" fn tktext_told(alloc: Global, report: &mut ReportHandle) -> usize
+    ensures count { result ≡ length (told_of (reported report.old)).changes }
+    ensures unchanged { reported report.new ≡ reported report.old }
+{
+    if !report.full {
         return 0;
     }
-    let session = handle.take(alloc);
-    let count = session.count_told();
-    handle.put(session);
+    let held = report.take(alloc);
+    let count = held.count_told();
+    report.put(held);
     count
 }
 
-/// The offset of one of these changes, in characters; 0 where there is none.
+/// Returns the offset of one of these changes, in characters; 0 if there is no such change.
 #[unsafe(no_mangle)]
-pub extern "C" fn tktext_told_at(alloc: Global, handle: &mut Handle, index: usize) -> usize
-    ensures place { result ≡ (place_told (told_of (state handle.old)).changes index).0 }
-    ensures unchanged { state handle.new ≡ state handle.old }
+pub extern "C" fn tktext_told_at(alloc: Global, report: &mut ReportHandle, index: usize) -> usize
+    ensures place { result ≡ (place_told (told_of (reported report.old)).changes index).0 }
+    ensures unchanged { reported report.new ≡ reported report.old }
 {
-    exports::change_place(alloc, handle, index).0
+    exports::change_place(alloc, report, index).0
 }
 
-/// How many characters it took out; 0 where there is none.
+/// Returns the number of characters that it deleted; 0 if there is no such change.
 #[unsafe(no_mangle)]
-pub extern "C" fn tktext_told_removed(alloc: Global, handle: &mut Handle, index: usize) -> usize
-    ensures count { result ≡ (place_told (told_of (state handle.old)).changes index).1 }
-    ensures unchanged { state handle.new ≡ state handle.old }
+pub extern "C" fn tktext_told_removed(
+    alloc: Global,
+    report: &mut ReportHandle,
+    index: usize,
+) -> usize
+    ensures count { result ≡ (place_told (told_of (reported report.old)).changes index).1 }
+    ensures unchanged { reported report.new ≡ reported report.old }
 {
-    exports::change_place(alloc, handle, index).1
+    exports::change_place(alloc, report, index).1
 }
 
-/// Copies the text that it put in to the front of the room, as far as it goes, and gives the length of all.
+/// Copies the prefix of its inserted text that fits into the buffer, and returns the text's length.
 #[unsafe(no_mangle)]
 pub extern "C" fn tktext_told_inserted(
     alloc: Global,
-    handle: &mut Handle,
+    report: &mut ReportHandle,
     index: usize,
     room: &mut [u8],
 ) -> usize
-    ensures length { result ≡ min (length (text_told (told_of (state handle.old)).changes index)) usize.MAX }
-    ensures copied { room.new ≡ over (text_told (told_of (state handle.old)).changes index) room.old }
-    ensures unchanged { state handle.new ≡ state handle.old }
+    ensures length { result ≡ min (length (text_told (told_of (reported report.old)).changes index)) usize.MAX }
+    ensures copied { room.new ≡ over (text_told (told_of (reported report.old)).changes index) room.old }
+    ensures unchanged { reported report.new ≡ reported report.old }
 {
-    if !handle.full {
+    if !report.full {
         return 0;
     }
-    let session = handle.take(alloc);
-    let length = session.copy_inserted(index, room);
-    handle.put(session);
+    let held = report.take(alloc);
+    let length = held.copy_inserted(index, room);
+    report.put(held);
     length
 }
 
-/// The line of one of the ends of a change, from 1: of where it begins (0), of where what it took out ended in the
-/// text before it (1), or of where what it put in ends in the text after it (2); 0 where there is no change.
+/// Returns the line, from 1, of one of the ends of a change: of its start (0), of the end of what it deleted in the text
+/// before it (1), or of the end of what it inserted in the text after it (2); 0 if there is no such change.
 #[unsafe(no_mangle)]
 pub extern "C" fn tktext_told_line(
     alloc: Global,
-    handle: &mut Handle,
+    report: &mut ReportHandle,
     index: usize,
     end: usize,
 ) -> usize
-    ensures line { result ≡ (spot_told (told_of (state handle.old)).changes index end).line }
-    ensures unchanged { state handle.new ≡ state handle.old }
+    ensures line { result ≡ (spot_told (told_of (reported report.old)).changes index end).line }
+    ensures unchanged { reported report.new ≡ reported report.old }
 {
-    exports::change_spot(alloc, handle, index, end).line
+    exports::change_spot(alloc, report, index, end).line
 }
 
-/// How many characters stand in that line before that end.
+/// Returns the number of characters in that line before that end.
 #[unsafe(no_mangle)]
 pub extern "C" fn tktext_told_column(
     alloc: Global,
-    handle: &mut Handle,
+    report: &mut ReportHandle,
     index: usize,
     end: usize,
 ) -> usize
-    ensures column { result ≡ (spot_told (told_of (state handle.old)).changes index end).column }
-    ensures unchanged { state handle.new ≡ state handle.old }
+    ensures column { result ≡ (spot_told (told_of (reported report.old)).changes index end).column }
+    ensures unchanged { reported report.new ≡ reported report.old }
 {
-    exports::change_spot(alloc, handle, index, end).column
+    exports::change_spot(alloc, report, index, end).column
 }
 
-/// How many bytes of UTF-8 stand in that line before that end.
+/// Returns the number of bytes of UTF-8 in that line before that end.
 #[unsafe(no_mangle)]
 pub extern "C" fn tktext_told_bytes(
     alloc: Global,
-    handle: &mut Handle,
+    report: &mut ReportHandle,
     index: usize,
     end: usize,
 ) -> usize
-    ensures bytes { result ≡ (spot_told (told_of (state handle.old)).changes index end).bytes }
-    ensures unchanged { state handle.new ≡ state handle.old }
+    ensures bytes { result ≡ (spot_told (told_of (reported report.old)).changes index end).bytes }
+    ensures unchanged { reported report.new ≡ reported report.old }
 {
-    exports::change_spot(alloc, handle, index, end).bytes
+    exports::change_spot(alloc, report, index, end).bytes
 }
 
-/// How many units of UTF-16 stand in that line before that end.
+/// Returns the number of units of UTF-16 in that line before that end.
 #[unsafe(no_mangle)]
 pub extern "C" fn tktext_told_units(
     alloc: Global,
-    handle: &mut Handle,
+    report: &mut ReportHandle,
     index: usize,
     end: usize,
 ) -> usize
-    ensures units { result ≡ (spot_told (told_of (state handle.old)).changes index end).units }
-    ensures unchanged { state handle.new ≡ state handle.old }
+    ensures units { result ≡ (spot_told (told_of (reported report.old)).changes index end).units }
+    ensures unchanged { reported report.new ≡ reported report.old }
 {
-    exports::change_spot(alloc, handle, index, end).units
+    exports::change_spot(alloc, report, index, end).units
 }
 
-/// How many changes of tags the last command that tells told of: they are made one after the other, behind the changes
-/// of the text.
+/// Returns the number of a report's changes of tags, which are applied in order, after the changes of the text.
 #[unsafe(no_mangle)]
-pub extern "C" fn tktext_told_tags(alloc: Global, handle: &mut Handle) -> usize
-    ensures count { result ≡ length (told_of (state handle.old)).tags }
-    ensures unchanged { state handle.new ≡ state handle.old }
+pub extern "C" fn tktext_told_tags(alloc: Global, report: &mut ReportHandle) -> usize
+    ensures count { result ≡ length (told_of (reported report.old)).tags }
+    ensures unchanged { reported report.new ≡ reported report.old }
 {
-    if !handle.full {
+    if !report.full {
         return 0;
     }
-    let session = handle.take(alloc);
-    let count = session.count_tags();
-    handle.put(session);
+    let held = report.take(alloc);
+    let count = held.count_tags();
+    report.put(held);
     count
 }
 
-/// Copies the name of the tag of one of these changes to the front of the room, as far as it goes, and gives the length
-/// of all.
+/// Copies the prefix of the name of such a change's tag that fits into the buffer, and returns the name's length.
 #[unsafe(no_mangle)]
 pub extern "C" fn tktext_told_tag(
     alloc: Global,
-    handle: &mut Handle,
+    report: &mut ReportHandle,
     index: usize,
     room: &mut [u8],
 ) -> usize
-    ensures length { result ≡ min (length (tag_told (told_of (state handle.old)).tags index)) usize.MAX }
-    ensures copied { room.new ≡ over (tag_told (told_of (state handle.old)).tags index) room.old }
-    ensures unchanged { state handle.new ≡ state handle.old }
+    ensures length { result ≡ min (length (tag_told (told_of (reported report.old)).tags index)) usize.MAX }
+    ensures copied { room.new ≡ over (tag_told (told_of (reported report.old)).tags index) room.old }
+    ensures unchanged { reported report.new ≡ reported report.old }
 {
-    if !handle.full {
+    if !report.full {
         return 0;
     }
-    let session = handle.take(alloc);
-    let length = session.copy_tag(index, room);
-    handle.put(session);
+    let held = report.take(alloc);
+    let length = held.copy_tag(index, room);
+    report.put(held);
     length
 }
 
-/// Copies the name of the widget whose `sel` the tag is in the same way; nothing of any other tag.
+/// Copies the name of the widget whose `sel` the tag is in the same way; nothing for any other tag.
 #[unsafe(no_mangle)]
 pub extern "C" fn tktext_told_tag_widget(
     alloc: Global,
-    handle: &mut Handle,
+    report: &mut ReportHandle,
     index: usize,
     room: &mut [u8],
 ) -> usize
-    ensures length { result ≡ min (length (widget_told (told_of (state handle.old)).tags index)) usize.MAX }
-    ensures copied { room.new ≡ over (widget_told (told_of (state handle.old)).tags index) room.old }
-    ensures unchanged { state handle.new ≡ state handle.old }
+    ensures length { result ≡ min (length (widget_told (told_of (reported report.old)).tags index)) usize.MAX }
+    ensures copied { room.new ≡ over (widget_told (told_of (reported report.old)).tags index) room.old }
+    ensures unchanged { reported report.new ≡ reported report.old }
 {
-    if !handle.full {
+    if !report.full {
         return 0;
     }
-    let session = handle.take(alloc);
-    let length = session.copy_tag_widget(index, room);
-    handle.put(session);
+    let held = report.take(alloc);
+    let length = held.copy_tag_widget(index, room);
+    report.put(held);
     length
 }
 
-/// The offset, in characters, at which a change of a tag begins; 0 where there is none.
+/// Returns the offset, in characters, at which a change of a tag starts; 0 if there is no such change.
 #[unsafe(no_mangle)]
-pub extern "C" fn tktext_told_tag_from(alloc: Global, handle: &mut Handle, index: usize) -> usize
-    ensures from { result ≡ (span_told (told_of (state handle.old)).tags index).0 }
-    ensures unchanged { state handle.new ≡ state handle.old }
+pub extern "C" fn tktext_told_tag_from(
+    alloc: Global,
+    report: &mut ReportHandle,
+    index: usize,
+) -> usize
+    ensures from { result ≡ (span_told (told_of (reported report.old)).tags index).0 }
+    ensures unchanged { reported report.new ≡ reported report.old }
 {
-    exports::tag_span(alloc, handle, index).0
+    exports::tag_span(alloc, report, index).0
 }
 
-/// The offset, in characters, at which it ends; 0 where there is none.
+/// Returns the offset, in characters, at which it ends; 0 if there is no such change.
 #[unsafe(no_mangle)]
-pub extern "C" fn tktext_told_tag_to(alloc: Global, handle: &mut Handle, index: usize) -> usize
-    ensures to { result ≡ (span_told (told_of (state handle.old)).tags index).1 }
-    ensures unchanged { state handle.new ≡ state handle.old }
+pub extern "C" fn tktext_told_tag_to(
+    alloc: Global,
+    report: &mut ReportHandle,
+    index: usize,
+) -> usize
+    ensures to { result ≡ (span_told (told_of (reported report.old)).tags index).1 }
+    ensures unchanged { reported report.new ≡ reported report.old }
 {
-    exports::tag_span(alloc, handle, index).1
+    exports::tag_span(alloc, report, index).1
 }
 
-/// 1 where the tag is put on there, and 0 where it is taken off, or where there is no such change.
+/// Returns 1 if it adds the tag, and 0 if it removes the tag or there is no such change.
 #[unsafe(no_mangle)]
-pub extern "C" fn tktext_told_tag_on(alloc: Global, handle: &mut Handle, index: usize) -> i32
-    ensures on { result ≡ flag_code (span_told (told_of (state handle.old)).tags index).2 }
-    ensures unchanged { state handle.new ≡ state handle.old }
+pub extern "C" fn tktext_told_tag_on(alloc: Global, report: &mut ReportHandle, index: usize) -> i32
+    ensures on { result ≡ flag_code (span_told (told_of (reported report.old)).tags index).2 }
+    ensures unchanged { reported report.new ≡ reported report.old }
 {
-    code_of_flag(exports::tag_span(alloc, handle, index).2)
+    code_of_flag(exports::tag_span(alloc, report, index).2)
 }
 
-/// How many marks the last command that tells moved by an order, as `mark set` and `mark unset` do.
+/// Returns the number of marks of a report: those that `mark set` or `mark unset` moved.
 #[unsafe(no_mangle)]
-pub extern "C" fn tktext_told_marks(alloc: Global, handle: &mut Handle) -> usize
-    ensures count { result ≡ length (told_of (state handle.old)).marks }
-    ensures unchanged { state handle.new ≡ state handle.old }
+pub extern "C" fn tktext_told_marks(alloc: Global, report: &mut ReportHandle) -> usize
+    ensures count { result ≡ length (told_of (reported report.old)).marks }
+    ensures unchanged { reported report.new ≡ reported report.old }
 {
-    if !handle.full {
+    if !report.full {
         return 0;
     }
-    let session = handle.take(alloc);
-    let count = session.count_marks();
-    handle.put(session);
+    let held = report.take(alloc);
+    let count = held.count_marks();
+    report.put(held);
     count
 }
 
-/// Copies the name of one of these marks to the front of the room, as far as it goes, and gives the length of all.
+/// Copies the prefix of the name of one of these marks that fits into the buffer, and returns the name's length.
 #[unsafe(no_mangle)]
 pub extern "C" fn tktext_told_mark(
     alloc: Global,
-    handle: &mut Handle,
+    report: &mut ReportHandle,
     index: usize,
     room: &mut [u8],
 ) -> usize
-    ensures length { result ≡ min (length (mark_told (told_of (state handle.old)).marks index)) usize.MAX }
-    ensures copied { room.new ≡ over (mark_told (told_of (state handle.old)).marks index) room.old }
-    ensures unchanged { state handle.new ≡ state handle.old }
+    ensures length { result ≡ min (length (mark_told (told_of (reported report.old)).marks index)) usize.MAX }
+    ensures copied { room.new ≡ over (mark_told (told_of (reported report.old)).marks index) room.old }
+    ensures unchanged { reported report.new ≡ reported report.old }
 {
-    if !handle.full {
+    if !report.full {
         return 0;
     }
-    let session = handle.take(alloc);
-    let length = session.copy_mark(index, room);
-    handle.put(session);
+    let held = report.take(alloc);
+    let length = held.copy_mark(index, room);
+    report.put(held);
     length
 }
 

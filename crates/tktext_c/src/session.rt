@@ -1,8 +1,9 @@
 //! What C's handle stands for: a world, what was said last, and a script that is fed.
 ghost use Rattle.std.specs.Prelude.{◌≡◌};
 
+use crate::report::Report;
 use line_tree::TreeStore;
-use peers::{Answer, EditTold, Fault, MovedMarks, World};
+use peers::{Answer, Fault, World};
 use tcl_words::{ScriptFault, Splitter};
 
 /// What was said last.
@@ -17,7 +18,7 @@ pub(crate) enum Said {
 }
 
 /// A world, the words of the command that was given last and what was said then, words whose room the next command may
-/// use, what the last command that tells told, and a script that is fed.
+/// use, what the last command that reports changed, and a script that is fed.
 #[derive(Drop)]
 pub struct Session {
     pub(crate) world: World<TreeStore>,
@@ -26,8 +27,7 @@ pub struct Session {
     pub(crate) words: Vec<String>,
     pub(crate) spare: Vec<String>,
     pub(crate) said: Said,
-    pub(crate) told: EditTold,
-    pub(crate) marks: MovedMarks,
+    pub(crate) report: Report,
     pub(crate) status: u8,
     ghost agrees: { is_finished ≡ splitter.finished },
 }

@@ -1,20 +1,19 @@
 //! What each call from C makes of a session.
 ghost use Rattle.std.specs.Prelude.{◌≡◌, ◌≢◌, ◌<◌, true, false, if◌then◌else◌, [], Some, min, length, vec_len};
-ghost use Rattle.std.specs.Prelude.{chars, encode_utf8_all};
+ghost use Rattle.std.specs.Prelude.{encode_utf8_all};
 ghost use Rattle.tcl_words.specs.Unread.{texts_of};
 ghost use Rattle.printing.specs.Lines.{piece};
 ghost use Rattle.tktext_c.specs.Calls.{Called, Fed, Gives, Tells, Turns, can_by, finished, given_of, status_after};
-ghost use Rattle.tktext_c.specs.Told.{CalledTold, GivesTold, TurnsTold, place_told, text_told, untold, word_given};
-ghost use Rattle.tktext_c.specs.Told.{mark_told, span_told, spot_of, spot_told, tag_name, tag_told, tag_widget};
-ghost use Rattle.tktext_c.specs.Told.{widget_told};
+ghost use Rattle.tktext_c.specs.Told.{CalledTold, GivesTold, TurnsTold, untold, word_given};
 ghost use Rattle.tktext_c.specs.Room.{over};
-ghost use Rattle.tktext_c.specs.State.{said_text, start, state_of};
+ghost use Rattle.tktext_c.specs.State.{said_text, start, state_of, telling_of};
 
 use crate::ends::{CallEnd, FeedEnd, Given, TurnEnd, Way};
+use crate::report::Report;
 use crate::room::{copy_line, copy_whole};
 use crate::session::{Said, Session};
 use crate::words::{WordsFault, read_words};
-use peers::{Answer, EditTold, Fault, MovedMarks, Spot, TagChange, TextChange, World};
+use peers::{Answer, Fault, World};
 use printing::Line;
 use std::alloc::Global;
 use std::mem;
@@ -38,8 +37,7 @@ impl Session {
             words: Vec::new(alloc),
             spare: Vec::new(alloc),
             said: Said::Nothing,
-            told: EditTold::nothing(alloc),
-            marks: MovedMarks::new(alloc),
+            report: Report::nothing(alloc),
             status: 0,
         }
     }
@@ -74,8 +72,7 @@ impl Session {
         ensures { state_of self.new ≡ (if tells then untold (state_of self.old) else state_of self.old) }
     {
         if tells {
-            self.told = EditTold::nothing(alloc);
-            self.marks = MovedMarks::new(alloc);
+            self.report = Report::nothing(alloc);
         }
     }
 
@@ -100,12 +97,22 @@ impl Session {
     {
         match self.world.call_told(&words) {
             Ok(told) => {
-                self.told = told.edit;
-                self.marks = told.marks;
+                self.report = Report {
+                    edit: told.edit,
+                    marks: told.marks,
+                };
                 self.say(words, Ok(told.answer))
             }
             Err(fault) => self.say(words, Err(fault)),
         }
+    }
+
+    /// Moves the report out, and leaves none. It allocates nothing.
+    pub(crate) fn take_report(&mut self, alloc: Global) -> Report
+        ensures report { telling_of result ≡ (state_of self.old).told }
+        ensures left { state_of self.new ≡ untold (state_of self.old) }
+    {
+        mem::replace(&mut self.report, Report::nothing(alloc))
     }
 
     /// Says what the command of some words was given.
@@ -133,108 +140,6 @@ impl Session {
         match self.words.as_slice().get(index) {
             None => 0,
             Some(word) => copy_whole(word.as_str(), room),
-        }
-    }
-
-    /// How many changes the last command that tells told of.
-    pub(crate) fn count_told(&self) -> usize
-        ensures { result ≡ length (state_of self.now).told.changes }
-    {
-        self.told.changes.as_slice().len()
-    }
-
-    /// The offset of a change that was told, and how many characters it took out; 0 where there is none.
-    pub(crate) fn change_place(&self, index: usize) -> (usize, usize)
-        ensures { result ≡ place_told (state_of self.now).told.changes index }
-    {
-        match self.told.changes.as_slice().get(index) {
-            None => (0, 0),
-            Some(change) => (change.at, change.removed),
-        }
-    }
-
-    /// Copies the text that a change put in to the front of the room, as far as it goes, and gives the length of all.
-    pub(crate) fn copy_inserted(&self, index: usize, room: &mut [u8]) -> usize
-        ensures length { result ≡ min (length (text_told (state_of self.now).told.changes index)) usize.MAX }
-        ensures copied { room.new ≡ over (text_told (state_of self.now).told.changes index) room.old }
-    {
-        match self.told.changes.as_slice().get(index) {
-            None => 0,
-            Some(change) => copy_whole(change.inserted.as_str(), room),
-        }
-    }
-
-    /// One of the ends of a change that was told: where it begins (0), where what it took out ended in the text before
-    /// it (1), or where what it put in ends in the text after it (2 and above); zeros where there is no change.
-    pub(crate) fn change_spot(&self, index: usize, end: usize) -> Spot
-        ensures { result ≡ spot_told (state_of self.now).told.changes index end }
-    {
-        match self.told.changes.as_slice().get(index) {
-            None => Spot {
-                line: 0,
-                column: 0,
-                bytes: 0,
-                units: 0,
-            },
-            Some(change) => spot_of(change, end),
-        }
-    }
-
-    /// How many changes of tags the last command that tells told of.
-    pub(crate) fn count_tags(&self) -> usize
-        ensures { result ≡ length (state_of self.now).told.tags }
-    {
-        self.told.tags.as_slice().len()
-    }
-
-    /// Copies the name of the tag of one of them to the front of the room, as far as it goes, and gives the length of
-    /// all.
-    pub(crate) fn copy_tag(&self, index: usize, room: &mut [u8]) -> usize
-        ensures length { result ≡ min (length (tag_told (state_of self.now).told.tags index)) usize.MAX }
-        ensures copied { room.new ≡ over (tag_told (state_of self.now).told.tags index) room.old }
-    {
-        match self.told.tags.as_slice().get(index) {
-            None => 0,
-            Some(change) => copy_whole(tag_name(change), room),
-        }
-    }
-
-    /// Copies the name of the widget whose `sel` the tag is in the same way; nothing of any other tag.
-    pub(crate) fn copy_tag_widget(&self, index: usize, room: &mut [u8]) -> usize
-        ensures length { result ≡ min (length (widget_told (state_of self.now).told.tags index)) usize.MAX }
-        ensures copied { room.new ≡ over (widget_told (state_of self.now).told.tags index) room.old }
-    {
-        match self.told.tags.as_slice().get(index) {
-            None => 0,
-            Some(change) => copy_whole(tag_widget(change), room),
-        }
-    }
-
-    /// Where a change of a tag begins and ends, and whether the tag is put on there; zeros where there is none.
-    pub(crate) fn tag_span(&self, index: usize) -> (usize, usize, bool)
-        ensures { result ≡ span_told (state_of self.now).told.tags index }
-    {
-        match self.told.tags.as_slice().get(index) {
-            None => (0, 0, false),
-            Some(change) => (change.from, change.to, change.on),
-        }
-    }
-
-    /// How many marks the last command that tells moved.
-    pub(crate) fn count_marks(&self) -> usize
-        ensures { result ≡ length (state_of self.now).told.marks }
-    {
-        self.marks.as_slice().len()
-    }
-
-    /// Copies the name of one of them to the front of the room, as far as it goes, and gives the length of all.
-    pub(crate) fn copy_mark(&self, index: usize, room: &mut [u8]) -> usize
-        ensures length { result ≡ min (length (mark_told (state_of self.now).told.marks index)) usize.MAX }
-        ensures copied { room.new ≡ over (mark_told (state_of self.now).told.marks index) room.old }
-    {
-        match self.marks.as_slice().get(index) {
-            None => 0,
-            Some(name) => copy_whole(name.as_str(), room),
         }
     }
 
@@ -351,39 +256,6 @@ impl Session {
             Said::Reply(reply) => copy_line(&Line::of_reply(&self.words, reply), room),
             Said::Fault(fault) => copy_line(&Line::of_script_fault(*fault), room),
         }
-    }
-}
-
-/// One of the ends of a change, by its number.
-fn spot_of(change: &TextChange, end: usize) -> Spot
-    ensures { result ≡ spot_of change.now end }
-{
-    match end {
-        0 => change.start,
-        1 => change.old_end,
-        _ => change.new_end,
-    }
-}
-
-/// The name of the tag of a change.
-fn tag_name(change: &TagChange) -> &str
-    ensures { chars result.now ≡ tag_name change.now }
-{
-    if change.key.selects {
-        "sel"
-    } else {
-        change.key.name.as_str()
-    }
-}
-
-/// The name of the widget whose `sel` the tag of a change is; nothing of any other tag.
-fn tag_widget(change: &TagChange) -> &str
-    ensures { chars result.now ≡ tag_widget change.now }
-{
-    if change.key.selects {
-        change.key.name.as_str()
-    } else {
-        ""
     }
 }
 

@@ -1,7 +1,7 @@
 use Rattle.tktext_c.proofs.Common.{mark_told}
 use Rattle.tktext_c.proofs.ReadLaws.{mark-found, no-mark}
 use Rattle.tktext_c.proofs.RoomLaws.{copied-as, copied-nothing}
-use Rattle.tktext_c.proofs.session.Session.copy_mark.Goals as goal
+use Rattle.tktext_c.proofs.report.Report.copy_mark.Goals as goal
 
 pub returns-in-Some : goal.returns-in-Some
 returns-in-Some c =

@@ -1,7 +1,7 @@
 use Rattle.tktext_c.proofs.Common.{Bool, ap, sym, if◌then◌else◌}
 use Rattle.std.specs.Str.{chars}
 use Rattle.documents.specs.Documents.{sel}
-use Rattle.tktext_c.proofs.turns.tag_name.Goals as goal
+use Rattle.tktext_c.proofs.report.tag_name.Goals as goal
 
 pub returns-then-change : goal.returns-then-change
 unfolding chars

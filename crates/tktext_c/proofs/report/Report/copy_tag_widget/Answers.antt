@@ -2,12 +2,12 @@ use Rattle.tktext_c.proofs.Common.{sym, ap, ◌∙◌, encodes-chars, encode_utf
 use Rattle.tktext_c.proofs.Common.{widget_told}
 use Rattle.tktext_c.proofs.ReadLaws.{read-found, read-none}
 use Rattle.tktext_c.proofs.RoomLaws.{copied-as, copied-nothing}
-use Rattle.tktext_c.proofs.session.Session.copy_tag_widget.Goals as goal
+use Rattle.tktext_c.proofs.report.Report.copy_tag_widget.Goals as goal
 
 pub returns-in-Some : goal.returns-in-Some
 returns-in-Some c =
     let found = c.in-Some.ensures.lookup in
-    let told = c.args.self.now.told.tags in
+    let told = c.args.self.now.edit.tags in
     let name = c.tag_widget.result.now in
     let same = sym (encodes-chars name c.tag_widget.utf8) ∙ ap encode_utf8_all c.tag_widget.ensures
     ∙ read-found c.as_slice.result.now told c.args.index c.in-Some.change.now
@@ -18,7 +18,7 @@ returns-in-Some c =
 
 pub returns-in-None : goal.returns-in-None
 returns-in-None c =
-    let told = c.args.self.now.told.tags in
+    let told = c.args.self.now.edit.tags in
     let none = sym (read-none c.as_slice.result.now told c.args.index (λ change. bytes_of (option_map tag_widget change))
     c.as_slice.ensures c.in-None.ensures.lookup.3) in
     let all = copied-nothing (widget_told told c.args.index) c.args.room.now none in

@@ -1,6 +1,6 @@
 use Rattle.tktext_c.proofs.Common.{Bool, [], ap, sym, if◌then◌else◌}
 use Rattle.std.specs.Str.{chars}
-use Rattle.tktext_c.proofs.turns.tag_widget.Goals as goal
+use Rattle.tktext_c.proofs.report.tag_widget.Goals as goal
 
 pub returns-else-change : goal.returns-else-change
 unfolding chars
