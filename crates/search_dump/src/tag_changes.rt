@@ -1,7 +1,7 @@
 //! The tags at a place of a view, those left of it, and where each changes next, for a dump.
 ghost use Rattle.std.specs.Prelude.{◌≡◌, ◌≢◌, ℕ, ◌≤◌, ◌<◌, ◌+◌, length, replicate, slice_index_or, IfOk};
 ghost use Rattle.std.specs.FinSet as set;
-ghost use Rattle.text_model.specs.Changes.{flag_at, next_change};
+ghost use Rattle.text_model.specs.Changes.{flag_at};
 ghost use Rattle.tag_table.specs.Tags.{slots_of};
 ghost use Rattle.text_index.specs.Views.{shown_flags};
 ghost use Rattle.text_model.specs.Steps.{set_slot};
