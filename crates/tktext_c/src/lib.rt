@@ -173,7 +173,7 @@ pub extern "C" fn tktext_told(alloc: Global, report: &mut ReportHandle) -> usize
         return 0;
     }
     let held = report.take(alloc);
-    let count = held.count_told();
+    let count = held.count_changes();
     report.put(held);
     count
 }

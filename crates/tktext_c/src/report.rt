@@ -28,7 +28,7 @@ impl Report {
     }
 
     /// How many changes of the text there are.
-    pub(crate) fn count_told(&self) -> usize
+    pub(crate) fn count_changes(&self) -> usize
         ensures { result ≡ length (telling_of self.now).changes }
     {
         self.edit.changes.as_slice().len()
