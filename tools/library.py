@@ -560,7 +560,7 @@ def check_tcl(seeds, tally):
         count = check_tcl_scripts(seeds, folder, tally)
         print(f"Tcl: a program, and {count} random scripts")
         check_tcl_refusals(folder, tally)
-    tcl_cases.check(EXTENSION, SMALL_EXTENSION, tally)
+    tcl_cases.check(EXTENSION, SMALL_EXTENSION, REFUSED_EXTENSION, tally)
 
 
 # ---------------------------------------------------------------------------------------------------
