@@ -46,8 +46,8 @@
 /* What Tcl's converter of texts wants behind a text's last byte. */
 #define SLACK 16
 
-/* The most bytes of a value, of the words of a command together, and of their lengths; less, to try what is refused.
-   */
+/* The maximum number of bytes of a value, of the words of a command together, and of their lengths; a test sets a
+   smaller one. */
 #ifndef TKTEXT_MOST_BYTES
 #define TKTEXT_MOST_BYTES (INT_MAX - SLACK)
 #endif
@@ -61,17 +61,18 @@ typedef struct World {
     Widget *widgets;
     /* How many hold the world: the package's five commands, each widget, and a delivery of reports. */
     int holders;
+    /* How many widgets and reports have been made so far. */
     uint64_t widgets_made, reports_made;
-    /* The report for the next command that wants one, or NULL. */
+    /* An empty report for the next command that needs one, or NULL. */
     Report *ready;
-    /* The reports that wait for delivery. */
+    /* The queue of reports, and the pointer that the next one is written to. */
     Report *first, **end;
     int is_delivering;
 } World;
 
 /* A text, which its peers share. */
 typedef struct Document {
-    /* Its widgets and its reports. */
+    /* How many hold the document: its widgets, and its reports in the queue. */
     int holders;
     int followers;
     /* Whether a word of its commands had a wide character: one above U+FFFF, which Tcl 8.6 counts as two. */
@@ -87,7 +88,7 @@ enum { CHANGES, TAGS, MARKS, WAYS };
 typedef struct Follower {
     /* The words that are called, or NULL. */
     Tcl_Obj *prefix;
-    /* How many reports had been made when it was set: it gets those after them. */
+    /* The number of the last report before it was set: it gets those after that. */
     uint64_t since;
 } Follower;
 
@@ -98,7 +99,7 @@ struct Widget {
     World *world;
     Widget *next;
     Document *document;
-    /* How many widgets had been made with it. */
+    /* Which of the world's widgets it is, from 1 in the order of making. */
     uint64_t number;
     Tcl_Obj *name;
     Tcl_Command command;
@@ -106,14 +107,14 @@ struct Widget {
     Follower followers[WAYS];
 };
 
-/* What one command changed, from before the command until all its followers have got it. */
+/* What one command changed.  It is allocated before the command, and dropped after all its followers were called. */
 struct Report {
     tktext_report changes;
     Report *next;
     Document *document;
-    /* How many reports had been made with it, and the number of the widget whose command it was. */
+    /* Which of the world's reports it is, and the number of the widget whose command it was. */
     uint64_t number, widget;
-    /* Whether it has a text that Tcl can't hold. */
+    /* Whether one of its texts was found to be one that Tcl can't hold. */
     int is_too_long;
 };
 
@@ -371,16 +372,22 @@ static size_t join(char *place, size_t *lengths, const Command *command)
     return size;
 }
 
-/* Whether a text in UTF-8 has a wide character, which takes four bytes there. */
-static int has_wide(const uint8_t *text, size_t length)
+/* Notes whether the words of a command have a wide character, which has four bytes in UTF-8.  Words that fill their
+   buffer are in Tcl's own form, and so have none. */
+static void note_wide(Document *document, const uint8_t *words, size_t size, size_t capacity)
 {
-    for (size_t at = 0; at < length; at++)
-        if (text[at] >= 0xf0)
-            return 1;
-    return 0;
+    if (size < capacity)
+        for (size_t at = 0; at < size && !document->has_wide; at++)
+            document->has_wide = words[at] >= 0xf0;
 }
 
-/* Makes the report for the next command, unless there is one; 0 if out of memory. */
+/* Whether a document's commands are reported: to followers, or to know where its wide characters are. */
+static int is_reported(const Document *document)
+{
+    return document->has_wide || document->followers > 0;
+}
+
+/* Makes the report for the next command, unless there is one; returns 0 if out of memory. */
 static int make_ready(World *world)
 {
     if (world->ready != NULL)
@@ -430,7 +437,7 @@ static int32_t call_reported(Widget *widget, const uint8_t *bytes, size_t size, 
 /* What `call` returns besides the library's codes, with nothing changed. */
 #define TOO_LONG (-1)
 
-/* Carries out a command of a widget, or with NULL one that changes no text. */
+/* Carries out a command of a widget; or, with NULL, one that changes no text. */
 static int32_t call(World *world, Widget *widget, const Command *command)
 {
     uint8_t fixed[FIXED_BYTES], *bytes = fixed;
@@ -445,11 +452,9 @@ static int32_t call(World *world, Widget *widget, const Command *command)
     int32_t code = TKTEXT_NO_MEMORY;
     if (lengths != NULL && bytes != NULL) {
         size_t size = join((char *)bytes, lengths, command);
-        Document *document = widget == NULL ? NULL : widget->document;
-        /* Words that have their whole room are in Tcl's own form, and so without wide characters. */
-        if (document != NULL && !document->has_wide && size < room)
-            document->has_wide = has_wide(bytes, size);
-        if (document != NULL && (document->has_wide || document->followers > 0))
+        if (widget != NULL)
+            note_wide(widget->document, bytes, size, room);
+        if (widget != NULL && is_reported(widget->document))
             code = call_reported(widget, bytes, size, lengths, count);
         else
             code = tktext_call(&world->handle, bytes, size, lengths, count);
@@ -476,9 +481,8 @@ static int give(Tcl_Interp *interp, World *world, Widget *widget, const Command 
 /* ---- Wide characters
 
    The core counts a character above U+FFFF as one, and Tcl 8.6 as two.  A document that has had one keeps the offsets
-   of those that it has, and each report moves them, so an offset in Tcl is found by a binary search.  As for Tcl's own
-   values, which are made of the same reports, the memory for that is Tcl's, and Tcl ends the process if it runs out.
-   */
+   of those that it has.  They are moved by each change when its report is delivered, so they are those of the text that
+   the change is of.  Their memory is Tcl's, as that of the lists is: Tcl ends the process if it runs out. */
 
 /* How many wide characters are before an offset. */
 static size_t wide_before(const Document *document, size_t offset)
@@ -522,7 +526,7 @@ static void write_wide(unsigned *offsets, size_t offset, const uint8_t *text, si
     }
 }
 
-/* Makes room for a number of offsets. */
+/* Grows the buffer to hold a number of offsets. */
 static void reserve_wide(Document *document, size_t count)
 {
     if (count <= document->wide_capacity)
@@ -532,7 +536,7 @@ static void reserve_wide(Document *document, size_t count)
     document->wide = (unsigned *)ckrealloc((char *)document->wide, size);
 }
 
-/* Deletes a number of characters at an offset, and inserts a text there. */
+/* Moves the wide characters: at an offset, a number of characters were deleted, and a text was inserted. */
 static void replace_wide(Document *document, size_t offset, size_t removed, const uint8_t *text, size_t length)
 {
     size_t inserted, wide = count_wide(text, length, &inserted);
@@ -716,7 +720,7 @@ static Tcl_Obj *tags_for(Tcl_Obj *tags, Widget *widget)
 
 /* ---- Delivery of reports */
 
-/* Whether a widget has a follower that gets a report. */
+/* Whether a widget has a follower of a kind that gets a report. */
 static int is_due(Widget *widget, int way, const Report *report)
 {
     const Follower *follower = &widget->followers[way];
@@ -732,7 +736,7 @@ static int is_followed(World *world, int way, const Report *report)
     return widget != NULL;
 }
 
-/* Makes the lists of a report that somebody gets, and says whether all could be made. */
+/* Makes the lists of a report, those that nobody gets as empty ones, and returns whether all could be made. */
 static int make_lists(World *world, Report *report, Tcl_Obj *lists[])
 {
     size_t tags = is_followed(world, TAGS, report) ? tktext_told_tags(&report->changes) : 0;
@@ -808,6 +812,7 @@ static void call_followers(Tcl_Interp *interp, World *world, const Report *repor
     }
 }
 
+/* Delivers one report. */
 static void deliver(Tcl_Interp *interp, World *world, Report *report)
 {
     Tcl_Obj *lists[WAYS];
@@ -820,6 +825,7 @@ static void deliver(Tcl_Interp *interp, World *world, Report *report)
             Tcl_DecrRefCount(lists[way]);
 }
 
+/* Takes the first report out of the queue; NULL if that is empty. */
 static Report *first_report(World *world)
 {
     Report *report = world->first;
@@ -872,7 +878,7 @@ static void unlink_widget(Widget *widget)
     *place = widget->next;
 }
 
-/* What is done for a widget whose command goes.  One that stands goes too, unless memory is refused for it. */
+/* Called when a widget's command is deleted.  A widget that exists is destroyed, unless out of memory. */
 static void forget(void *data)
 {
     Widget *widget = data;
