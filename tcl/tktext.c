@@ -1,28 +1,41 @@
-/* A Tcl extension over libtktext.a: `package require tktext`, and then
+/* The Tcl extension over libtktext.a.  `package require tktext` adds these commands, which need no display:
 
-       tktext::text .t ?option value ..?
+       tktext::text W ?option value ..?   makes a widget, and a command W that takes the words of Tk's text widget
+       tktext::destroy ?W ..?             destroys widgets, and deletes their commands, also renamed ones
+       tktext::onchange W ?prefix?        follows the changes of the text that W shows
+       tktext::ontags W ?prefix?          follows the changes of its tags
+       tktext::onmarks W ?prefix?         follows the marks that `mark set` and `mark unset` move there
 
-   makes a widget without a display, and a command `.t` that takes the words of Tk's own widget.  `.t peer create .u`
-   makes a command `.u` too; `tktext::destroy ?W ..?` takes widgets away, with their commands, whatever these are called
-   by then, and a command that is renamed to the empty name takes its own widget with it.  `tktext::onchange W prefix` has
-   a command called behind each change of the text that W shows, by whichever peer, with a list of the changes: each is
-   a list of an offset in characters, how many characters were taken out there, what was put in, and three ends: where the
-   change begins, where what was taken out ended in the text before it, and where what was put in ends in the text after
-   it; an end is a list of a line, and of how many characters, bytes of UTF-8 and units of UTF-16 stand in that before it.
-   `tktext::ontags W prefix` has a command called behind each command that puts tags on characters or takes them off, with
-   a list of these changes, to be made behind those of the text, of whose new characters none has a tag yet: each is a list
-   of a tag, `sel` only where it is W's own, of the offsets where it begins and ends, and of 1 where the tag is put on
-   there, or 0.
-   `tktext::onmarks W prefix` has a command called behind each command that moves marks by an order, as `mark set` does,
-   with a list of their names, `insert` and `current` only where they are W's own.  All widgets of an
-   interpreter stand in one world, which goes with it.  A refused command is an error of its text, behind which stands what that
-   leaves unsaid, as the form of a command; its error code is `TKTEXT FAULT` and the text alone.  The code is `TKTEXT
-   MEMORY` where memory was refused, and `TKTEXT SIZE` where words or an answer have more bytes than a value of Tcl can
-   hold; then the text of the error says whether the command was carried out. */
+   `W peer create V` makes a command V too.  Deleting the command of a widget destroys the widget.
+
+   A prefix is called after each command that changes something of that kind, by whichever peer, with a list:
+   - of changes of the text, each a list {offset removed inserted start oldEnd newEnd}: at the offset, `removed`
+     characters were deleted, and the text `inserted` was put in their place.  Applied in order to the old text they
+     give the new one.  The ends are lists {line column bytes units}: a line, from 1, and the length of what is before
+     the end in that line, in characters (as in an index), bytes of UTF-8 and units of UTF-16.
+   - of changes of tags, each a list {tag from to on}: the tag was added (1) to the characters between two offsets, or
+     removed from them (0).  Applied in order after the changes of the text, whose new characters have no tag yet, they
+     give the new tags.  `sel` is W's own.
+   - of names of marks, `insert` and `current` only where they are W's own.
+   Offsets are from the start of the text, in characters as Tcl counts them: one above U+FFFF counts as two in Tcl 8.6.
+   An empty prefix ends this; without a prefix the command returns the one that is set.
+
+   Reports are delivered in the order of the commands, each to all its followers before the next: to `onchange`,
+   `ontags` and `onmarks` of one widget, then to those of the next.  What a follower changes is reported after that.  A
+   follower gets the reports of the commands after it was set, until it is replaced or ended, or its widget is
+   destroyed.  An error in it is a background error.
+
+   All widgets of an interpreter are in one world, which is freed with it.  A command that is refused is an error with
+   its text, and with what that leaves unsaid, as the form of the command; the error code is `TKTEXT FAULT` and the
+   text alone.  The code is `TKTEXT MEMORY` if an allocation of the library fails, and `TKTEXT SIZE` if the words or
+   the answer have more bytes than a value of Tcl can hold; then the text of the error says whether the command was
+   carried out.  If the lists of a report can't be made, none of its followers is called, and a background error says
+   why. */
 
 #include "tktext.h"
 
 #include <limits.h>
+#include <stdint.h>
 #include <stdlib.h>
 #include <string.h>
 #include <tcl.h>
@@ -33,46 +46,111 @@
 /* What Tcl's converter of texts wants behind a text's last byte. */
 #define SLACK 16
 
-/* The most bytes of a value, of the words of a command together, and of their lengths; less, to try what is refused. */
+/* The maximum number of bytes of a value, of the words of a command together, and of their lengths; a test sets a
+   smaller one. */
 #ifndef TKTEXT_MOST_BYTES
 #define TKTEXT_MOST_BYTES (INT_MAX - SLACK)
 #endif
 
 typedef struct Widget Widget;
+typedef struct Report Report;
 
-/* One world, its widgets that have a command, how many hold it: the package's five commands and each widget; and of how
-   many widgets the text is followed. */
+/* One world, and its widgets that have a command, newest first. */
 typedef struct World {
     tktext handle;
     Widget *widgets;
+    /* How many hold the world: the package's five commands, each widget, and a delivery of reports. */
     int holders;
-    int followed;
+    /* How many widgets and reports have been made so far. */
+    uint64_t widgets_made, reports_made;
+    /* An empty report for the next command that needs one, or NULL. */
+    Report *ready;
+    /* The queue of reports, and the pointer that the next one is written to. */
+    Report *first, **end;
+    int is_delivering;
 } World;
 
-/* What a widget is followed by: who hears of the changes of its text, who of those of tags, and who of the marks that are
-   moved there. */
+/* A text, which its peers share. */
+typedef struct Document {
+    /* How many hold the document: its widgets, and its reports in the queue. */
+    int holders;
+    int followers;
+    /* Whether a word of its commands had a wide character: one above U+FFFF, which Tcl 8.6 counts as two. */
+    int has_wide;
+    /* The offsets of its wide characters, in characters of the core, in the text as it was last reported. */
+    unsigned *wide;
+    size_t wide_count, wide_capacity;
+} Document;
+
+/* What a follower follows. */
 enum { CHANGES, TAGS, MARKS, WAYS };
 
-/* Whether a widget stands in the world; or it was destroyed, and its command is yet to be deleted, or is just then. */
-enum { STANDS, IS_DESTROYED, IS_DELETED };
+typedef struct Follower {
+    /* The words that are called, or NULL. */
+    Tcl_Obj *prefix;
+    /* The number of the last report before it was set: it gets those after that. */
+    uint64_t since;
+} Follower;
+
+/* Whether a widget exists; or it was destroyed, and its command is yet to be deleted, or is just then. */
+enum { EXISTS, IS_DESTROYED, IS_DELETED };
 
 struct Widget {
     World *world;
     Widget *next;
+    Document *document;
+    /* Which of the world's widgets it is, from 1 in the order of making. */
+    uint64_t number;
     Tcl_Obj *name;
     Tcl_Command command;
     int state;
-    /* The words that are called with what changed, or NULL. */
-    Tcl_Obj *followers[WAYS];
+    Follower followers[WAYS];
 };
+
+/* What one command changed.  It is allocated before the command, and dropped after all its followers were called. */
+struct Report {
+    tktext_report changes;
+    Report *next;
+    Document *document;
+    /* Which of the world's reports it is, and the number of the widget whose command it was. */
+    uint64_t number, widget;
+    /* Whether one of its texts was found to be one that Tcl can't hold. */
+    int is_too_long;
+};
+
+/* The words of a command: the first, and others, before which is the command's own word in Tcl. */
+typedef struct Command {
+    Tcl_Obj *first;
+    int count;
+    Tcl_Obj *const *others;
+} Command;
+
+static void let_go_document(Document *document)
+{
+    if (--document->holders > 0)
+        return;
+    if (document->wide != NULL)
+        ckfree((char *)document->wide);
+    free(document);
+}
+
+static void drop_report(Report *report)
+{
+    tktext_report_drop(&report->changes);
+    if (report->document != NULL)
+        let_go_document(report->document);
+    free(report);
+}
 
 static void let_go(void *data)
 {
     World *world = data;
-    if (--world->holders == 0) {
-        tktext_drop(&world->handle);
-        free(world);
-    }
+    if (--world->holders > 0)
+        return;
+    if (world->ready != NULL)
+        drop_report(world->ready);
+    tktext_drop(&world->handle);
+    free(world);
 }
 
 /* ---- Errors and lengths */
@@ -99,6 +177,13 @@ static int fail_for_answer(Tcl_Interp *interp, int32_t code)
     if (code == TKTEXT_FAULT)
         return fail(interp, "SIZE", "the command was refused, and its error has more bytes than Tcl can hold");
     return fail(interp, "SIZE", "the command was carried out, but its answer has more bytes than Tcl can hold");
+}
+
+static int fail_for_report(Tcl_Interp *interp, const Report *report)
+{
+    if (report->is_too_long)
+        return fail(interp, "SIZE", "a text of a report has more bytes than Tcl can hold");
+    return fail_for_memory(interp);
 }
 
 /* Whether Tcl can hold so many bytes, and some more: the one place where lengths are compared. */
@@ -198,28 +283,28 @@ static void set_fault_code(Tcl_Interp *interp, Tcl_Obj *fault)
     Tcl_SetObjErrorCode(interp, Tcl_NewListObj(3, parts));
 }
 
-/* What a fault leaves unsaid of the command of a first word and others.  Where memory is refused it is nothing. */
-static const char *hint_of(const char *fault, Tcl_Obj *first, int count, Tcl_Obj *const words[])
+/* What a fault leaves unsaid of a command; NULL also if out of memory. */
+static const char *hint_of(const char *fault, const Command *command)
 {
-    const char **texts = malloc(((size_t)count + 1) * sizeof *texts);
+    size_t count = (size_t)command->count + 1;
+    const char **texts = malloc(count * sizeof *texts);
     if (texts == NULL)
         return NULL;
-    texts[0] = Tcl_GetString(first);
-    for (int number = 0; number < count; number++)
-        texts[number + 1] = Tcl_GetString(words[number]);
-    const char *hint = tktext_hint((size_t)count + 1, texts, fault);
+    texts[0] = Tcl_GetString(command->first);
+    for (int number = 0; number < command->count; number++)
+        texts[number + 1] = Tcl_GetString(command->others[number]);
+    const char *hint = tktext_hint(count, texts, fault);
     free(texts);
     return hint;
 }
 
-/* Makes an error of the fault that is the interpreter's result, with what it leaves unsaid.  The command's words in Tcl
-   begin with that before `words`. */
-static int fail_for_fault(Tcl_Interp *interp, Tcl_Obj *first, int count, Tcl_Obj *const words[])
+/* Makes an error of the fault that is the interpreter's result, with what it leaves unsaid. */
+static int fail_for_fault(Tcl_Interp *interp, const Command *command)
 {
     Tcl_Obj *fault = Tcl_GetObjResult(interp);
-    const char *text = Tcl_GetString(fault), *name = Tcl_GetString(words[-1]);
+    const char *text = Tcl_GetString(fault), *name = Tcl_GetString(command->others[-1]);
     int is_short = strlen(text) < FIXED_BYTES && strlen(name) < FIXED_BYTES;
-    const char *hint = is_short ? hint_of(text, first, count, words) : NULL;
+    const char *hint = is_short ? hint_of(text, command) : NULL;
     set_fault_code(interp, fault);
     if (hint != NULL && strcmp(text, "wrong # args") == 0)
         Tcl_SetObjResult(interp, Tcl_ObjPrintf("%s: should be \"%s %s\"", text, name, hint));
@@ -262,11 +347,11 @@ static size_t write_word(char *place, Tcl_Encoding utf8, Tcl_Obj *word)
 }
 
 /* How many bytes all words of a command may take together, and whether so many fit. */
-static int room_of_all(size_t *room, Tcl_Obj *first, int count, Tcl_Obj *const words[])
+static int room_of_all(size_t *room, const Command *command)
 {
-    *room = room_of(first);
-    for (int number = 0; number < count; number++) {
-        size_t more = room_of(words[number]);
+    *room = room_of(command->first);
+    for (int number = 0; number < command->count; number++) {
+        size_t more = room_of(command->others[number]);
         if (!fits(*room, more))
             return 0;
         *room += more;
@@ -274,29 +359,91 @@ static int room_of_all(size_t *room, Tcl_Obj *first, int count, Tcl_Obj *const w
     return fits(*room, 0);
 }
 
-/* Puts the words one behind the other, with their lengths, and gives the length of all. */
-static size_t join(char *place, size_t *lengths, Tcl_Obj *first, int count, Tcl_Obj *const words[])
+/* Writes the words one after the other, with their lengths, and returns the length of all. */
+static size_t join(char *place, size_t *lengths, const Command *command)
 {
     Tcl_Encoding utf8 = Tcl_GetEncoding(NULL, "utf-8");
-    size_t size = lengths[0] = write_word(place, utf8, first);
-    for (int number = 0; number < count; number++) {
-        lengths[number + 1] = write_word(place + size, utf8, words[number]);
+    size_t size = lengths[0] = write_word(place, utf8, command->first);
+    for (int number = 0; number < command->count; number++) {
+        lengths[number + 1] = write_word(place + size, utf8, command->others[number]);
         size += lengths[number + 1];
     }
     Tcl_FreeEncoding(utf8);
     return size;
 }
 
-/* What `call` gives beside the library's codes, with nothing changed. */
+/* Notes whether the words of a command have a wide character, which has four bytes in UTF-8.  Words that fill their
+   buffer are in Tcl's own form, and so have none. */
+static void note_wide(Document *document, const uint8_t *words, size_t size, size_t capacity)
+{
+    if (size < capacity)
+        for (size_t at = 0; at < size && !document->has_wide; at++)
+            document->has_wide = words[at] >= 0xf0;
+}
+
+/* Whether a document's commands are reported: to followers, or to know where its wide characters are. */
+static int is_reported(const Document *document)
+{
+    return document->has_wide || document->followers > 0;
+}
+
+/* Makes the report for the next command, unless there is one; returns 0 if out of memory. */
+static int make_ready(World *world)
+{
+    if (world->ready != NULL)
+        return 1;
+    Report *report = malloc(sizeof *report);
+    if (report == NULL)
+        return 0;
+    *report = (Report){TKTEXT_EMPTY_REPORT, NULL, NULL, 0, 0, 0};
+    if (tktext_report_new(&report->changes) != TKTEXT_ANSWER) {
+        free(report);
+        return 0;
+    }
+    world->ready = report;
+    return 1;
+}
+
+/* Moves what a widget's command changed out of the world, into the queue of reports. */
+static void queue_report(Widget *widget)
+{
+    World *world = widget->world;
+    Report *report = world->ready;
+    tktext_report *changes = &report->changes;
+    tktext_take_report(&world->handle, changes);
+    if (tktext_told(changes) + tktext_told_tags(changes) + tktext_told_marks(changes) == 0)
+        return;
+    world->ready = NULL;
+    report->document = widget->document;
+    report->document->holders++;
+    report->number = ++world->reports_made;
+    report->widget = widget->number;
+    *world->end = report;
+    world->end = &report->next;
+}
+
+/* Carries out a widget's command, and queues a report of it.  The report is allocated before anything changes. */
+static int32_t call_reported(Widget *widget, const uint8_t *bytes, size_t size, const size_t *lengths, size_t count)
+{
+    World *world = widget->world;
+    if (!make_ready(world))
+        return TKTEXT_NO_MEMORY;
+    int32_t code = tktext_call_told(&world->handle, bytes, size, lengths, count);
+    if (code == TKTEXT_ANSWER)
+        queue_report(widget);
+    return code;
+}
+
+/* What `call` returns besides the library's codes, with nothing changed. */
 #define TOO_LONG (-1)
 
-/* Carries out the command of a first word and others. */
-static int32_t call(World *world, Tcl_Obj *first, int count, Tcl_Obj *const words[])
+/* Carries out a command of a widget; or, with NULL, one that changes no text. */
+static int32_t call(World *world, Widget *widget, const Command *command)
 {
-    char fixed[FIXED_BYTES], *bytes = fixed;
+    uint8_t fixed[FIXED_BYTES], *bytes = fixed;
     size_t fixed_lengths[MOST_FIXED], *lengths = fixed_lengths;
-    size_t room, lengths_size = ((size_t)count + 1) * sizeof *lengths;
-    if (!fits(lengths_size, 0) || !room_of_all(&room, first, count, words))
+    size_t room, count = (size_t)command->count + 1, lengths_size = count * sizeof *lengths;
+    if (!fits(lengths_size, 0) || !room_of_all(&room, command))
         return TOO_LONG;
     if (lengths_size > sizeof fixed_lengths)
         lengths = malloc(lengths_size);
@@ -304,48 +451,150 @@ static int32_t call(World *world, Tcl_Obj *first, int count, Tcl_Obj *const word
         bytes = malloc(room + SLACK);
     int32_t code = TKTEXT_NO_MEMORY;
     if (lengths != NULL && bytes != NULL) {
-        size_t size = join(bytes, lengths, first, count, words);
-        int32_t (*carry_out)(tktext *, const uint8_t *, size_t, const size_t *, size_t) =
-            world->followed > 0 ? tktext_call_told : tktext_call;
-        code = carry_out(&world->handle, (uint8_t *)bytes, size, lengths, (size_t)count + 1);
+        size_t size = join((char *)bytes, lengths, command);
+        if (widget != NULL)
+            note_wide(widget->document, bytes, size, room);
+        if (widget != NULL && is_reported(widget->document))
+            code = call_reported(widget, bytes, size, lengths, count);
+        else
+            code = tktext_call(&world->handle, bytes, size, lengths, count);
     }
     free_unless(lengths, fixed_lengths);
     free_unless(bytes, fixed);
     return code;
 }
 
-/* The same, with the answer or an error as the interpreter's result; tells whether the command was carried out.  Before
-   `words` stands the command's own word in Tcl. */
-static int give(Tcl_Interp *interp, World *world, Tcl_Obj *first, int count, Tcl_Obj *const words[], int *is_done)
+/* The same, with the answer or an error as the interpreter's result; says whether the command was carried out. */
+static int give(Tcl_Interp *interp, World *world, Widget *widget, const Command *command, int *is_done)
 {
-    int32_t code = call(world, first, count, words);
+    int32_t code = call(world, widget, command);
     *is_done = code == TKTEXT_ANSWER;
     if (code == TKTEXT_ANSWER)
         return said(interp, world, code);
     if (code == TKTEXT_FAULT)
-        return said(interp, world, code) == TCL_OK ? fail_for_fault(interp, first, count, words) : TCL_ERROR;
+        return said(interp, world, code) == TCL_OK ? fail_for_fault(interp, command) : TCL_ERROR;
     if (code == TKTEXT_NO_MEMORY)
         return fail_for_memory(interp);
     return code == TOO_LONG ? fail_for_words(interp) : fail(interp, "WORDS", "a word isn't UTF-8");
 }
 
+/* ---- Wide characters
+
+   The core counts a character above U+FFFF as one, and Tcl 8.6 as two.  A document that has had one keeps the offsets
+   of those that it has.  They are moved by each change when its report is delivered, so they are those of the text that
+   the change is of.  Their memory is Tcl's, as that of the lists is: Tcl ends the process if it runs out. */
+
+/* How many wide characters are before an offset. */
+static size_t wide_before(const Document *document, size_t offset)
+{
+    size_t low = 0, high = document->wide_count;
+    while (low < high) {
+        size_t middle = low + (high - low) / 2;
+        if (document->wide[middle] < offset)
+            low = middle + 1;
+        else
+            high = middle;
+    }
+    return low;
+}
+
+/* An offset in characters as Tcl counts them. */
+static size_t in_tcl(const Document *document, size_t offset)
+{
+    return offset + wide_before(document, offset);
+}
+
+/* Returns the number of wide characters of a text in UTF-8, and sets that of all its characters. */
+static size_t count_wide(const uint8_t *text, size_t length, size_t *chars)
+{
+    size_t wide = 0;
+    *chars = 0;
+    for (size_t at = 0; at < length; at++) {
+        *chars += (text[at] & 0xc0) != 0x80;
+        wide += text[at] >= 0xf0;
+    }
+    return wide;
+}
+
+/* Writes the offsets of the wide characters of a text that begins at an offset. */
+static void write_wide(unsigned *offsets, size_t offset, const uint8_t *text, size_t length)
+{
+    for (size_t at = 0; at < length; at++) {
+        if (text[at] >= 0xf0)
+            *offsets++ = (unsigned)offset;
+        offset += (text[at] & 0xc0) != 0x80;
+    }
+}
+
+/* Grows the buffer to hold a number of offsets. */
+static void reserve_wide(Document *document, size_t count)
+{
+    if (count <= document->wide_capacity)
+        return;
+    document->wide_capacity = count + count / 2;
+    unsigned size = (unsigned)(document->wide_capacity * sizeof *document->wide);
+    document->wide = (unsigned *)ckrealloc((char *)document->wide, size);
+}
+
+/* Moves the wide characters: at an offset, a number of characters were deleted, and a text was inserted. */
+static void replace_wide(Document *document, size_t offset, size_t removed, const uint8_t *text, size_t length)
+{
+    size_t inserted, wide = count_wide(text, length, &inserted);
+    size_t from = wide_before(document, offset), to = wide_before(document, offset + removed);
+    size_t rest = document->wide_count - to, count = from + wide + rest;
+    if (count == 0) {
+        document->wide_count = 0;
+        return;
+    }
+    reserve_wide(document, count);
+    unsigned *after = document->wide + from + wide;
+    memmove(after, document->wide + to, rest * sizeof *after);
+    for (size_t index = 0; index < rest; index++)
+        after[index] += (unsigned)(inserted - removed);
+    write_wide(document->wide + from, offset, text, length);
+    document->wide_count = count;
+}
+
+/* Moves the wide characters of a report's document by one of its changes. */
+static void move_wide(Report *report, size_t change)
+{
+    tktext_report *changes = &report->changes;
+    uint8_t fixed[FIXED_BYTES], *text = fixed;
+    size_t length = tktext_told_inserted(changes, change, fixed, sizeof fixed);
+    if (length > sizeof fixed) {
+        text = (uint8_t *)ckalloc((unsigned)length);
+        tktext_told_inserted(changes, change, text, length);
+    }
+    size_t offset = tktext_told_at(changes, change), removed = tktext_told_removed(changes, change);
+    replace_wide(report->document, offset, removed, text, length);
+    if (text != fixed)
+        ckfree((char *)text);
+}
+
 /* ---- What changed */
 
-/* A text that was told, by a call that copies it to some room and gives its length; NULL where there is no memory for it,
-   or Tcl can't hold it. */
-static Tcl_Obj *text_told(World *world, size_t (*copy)(tktext *, size_t, uint8_t *, size_t), size_t index)
+/* A text of a report in UTF-8, as a value; NULL if out of memory, or if Tcl can't hold it. */
+static Tcl_Obj *value_for(Report *report, const uint8_t *text, size_t length)
 {
-    uint8_t fixed[FIXED_BYTES], *text = fixed;
-    size_t length = copy(&world->handle, index, fixed, sizeof fixed);
-    if (length > sizeof fixed) {
-        text = fits(length, 0) ? malloc(length) : NULL;
-        if (text == NULL)
-            return NULL;
-        copy(&world->handle, index, text, length);
-    }
     size_t growth = growth_of(text, length);
-    Tcl_Obj *value = fits(length, growth) ? value_of(text, length, growth) : NULL;
-    free_unless(text, fixed);
+    report->is_too_long |= !fits(length, growth);
+    return report->is_too_long ? NULL : value_of(text, length, growth);
+}
+
+/* The same by a call that copies the text to a buffer and returns its length. */
+static Tcl_Obj *reported_text(Report *report, size_t (*copy)(tktext_report *, size_t, uint8_t *, size_t), size_t index)
+{
+    uint8_t fixed[FIXED_BYTES];
+    size_t length = copy(&report->changes, index, fixed, sizeof fixed);
+    if (length <= sizeof fixed)
+        return value_for(report, fixed, length);
+    report->is_too_long |= !fits(length, 0);
+    uint8_t *text = report->is_too_long ? NULL : malloc(length);
+    if (text == NULL)
+        return NULL;
+    copy(&report->changes, index, text, length);
+    Tcl_Obj *value = value_for(report, text, length);
+    free(text);
     return value;
 }
 
@@ -354,66 +603,88 @@ static Tcl_Obj *number_of(size_t number)
     return Tcl_NewWideIntObj((Tcl_WideInt)number);
 }
 
-/* An end of a change: a line, and how many characters, bytes and units of UTF-16 stand in that before it. */
-static Tcl_Obj *spot_of(World *world, size_t change, size_t end)
+/* An end of a change: {line column bytes units}. */
+static Tcl_Obj *end_of(Report *report, size_t change, size_t end)
 {
-    Tcl_Obj *numbers[] = {number_of(tktext_told_line(&world->handle, change, end)),
-                          number_of(tktext_told_column(&world->handle, change, end)),
-                          number_of(tktext_told_bytes(&world->handle, change, end)),
-                          number_of(tktext_told_units(&world->handle, change, end))};
+    tktext_report *changes = &report->changes;
+    Tcl_Obj *numbers[] = {number_of(tktext_told_line(changes, change, end)),
+                          number_of(tktext_told_column(changes, change, end)),
+                          number_of(tktext_told_bytes(changes, change, end)),
+                          number_of(tktext_told_units(changes, change, end))};
     return Tcl_NewListObj(4, numbers);
 }
 
-/* A change that was told, as a list; NULL where there is no memory for it. */
-static Tcl_Obj *change_of(World *world, size_t change)
+/* A change, as a list; NULL if that can't be made. */
+static Tcl_Obj *change_of(Report *report, size_t change)
 {
-    Tcl_Obj *text = text_told(world, tktext_told_inserted, change);
+    Tcl_Obj *text = reported_text(report, tktext_told_inserted, change);
     if (text == NULL)
         return NULL;
-    Tcl_Obj *parts[] = {number_of(tktext_told_at(&world->handle, change)),
-                        number_of(tktext_told_removed(&world->handle, change)), text,
-                        spot_of(world, change, TKTEXT_START), spot_of(world, change, TKTEXT_OLD_END),
-                        spot_of(world, change, TKTEXT_NEW_END)};
+    size_t at = tktext_told_at(&report->changes, change), removed = tktext_told_removed(&report->changes, change);
+    size_t from = in_tcl(report->document, at), to = in_tcl(report->document, at + removed);
+    Tcl_Obj *parts[] = {number_of(from), number_of(to - from), text, end_of(report, change, TKTEXT_START),
+                        end_of(report, change, TKTEXT_OLD_END), end_of(report, change, TKTEXT_NEW_END)};
     return Tcl_NewListObj(6, parts);
 }
 
-/* A change of a tag that was told, as a list, with the name of the widget whose `sel` it is in front, or an empty one; NULL
-   where there is no memory for it. */
-static Tcl_Obj *tag_change_of(World *world, size_t change)
+/* A change of a tag, as a list after the name of the widget whose `sel` it is, or an empty one; NULL if that can't be
+   made. */
+static Tcl_Obj *tag_change_of(Report *report, size_t change)
 {
-    Tcl_Obj *tag = text_told(world, tktext_told_tag, change);
+    tktext_report *changes = &report->changes;
+    Tcl_Obj *tag = reported_text(report, tktext_told_tag, change);
     if (tag == NULL)
         return NULL;
-    Tcl_Obj *widget = text_told(world, tktext_told_tag_widget, change);
+    Tcl_Obj *widget = reported_text(report, tktext_told_tag_widget, change);
     if (widget == NULL) {
         Tcl_DecrRefCount(tag);
         return NULL;
     }
-    Tcl_Obj *parts[] = {widget, tag, number_of(tktext_told_tag_from(&world->handle, change)),
-                        number_of(tktext_told_tag_to(&world->handle, change)),
-                        Tcl_NewIntObj(tktext_told_tag_on(&world->handle, change))};
+    Tcl_Obj *parts[] = {widget, tag, number_of(in_tcl(report->document, tktext_told_tag_from(changes, change))),
+                        number_of(in_tcl(report->document, tktext_told_tag_to(changes, change))),
+                        Tcl_NewIntObj(tktext_told_tag_on(changes, change))};
     return Tcl_NewListObj(5, parts);
 }
 
-/* The name of a mark that was told; NULL where there is no memory for it. */
-static Tcl_Obj *mark_of(World *world, size_t mark)
+/* The name of a mark; NULL if that can't be made. */
+static Tcl_Obj *mark_of(Report *report, size_t mark)
 {
-    return text_told(world, tktext_told_mark, mark);
+    return reported_text(report, tktext_told_mark, mark);
 }
 
-/* So many things that were told, as a list; NULL where there is no memory for them. */
-static Tcl_Obj *all_told(World *world, size_t count, Tcl_Obj *(*one)(World *, size_t))
+/* A list with one more element.  Without an element there is no list either. */
+static Tcl_Obj *appended(Tcl_Obj *list, Tcl_Obj *element)
 {
-    Tcl_Obj *all = Tcl_NewListObj(0, NULL);
-    for (size_t index = 0; index < count; index++) {
-        Tcl_Obj *told = one(world, index);
-        if (told == NULL) {
-            Tcl_DecrRefCount(all);
-            return NULL;
-        }
-        Tcl_ListObjAppendElement(NULL, all, told);
+    if (element == NULL) {
+        Tcl_DecrRefCount(list);
+        return NULL;
     }
-    return all;
+    Tcl_ListObjAppendElement(NULL, list, element);
+    return list;
+}
+
+/* The changes of a report, as a list, which is empty if nobody follows them; NULL if that can't be made.  Each is of
+   the text that those before it leave, and so are the offsets of the wide characters, which are moved in any case. */
+static Tcl_Obj *list_changes(Report *report, int is_followed)
+{
+    Tcl_Obj *list = Tcl_NewListObj(0, NULL);
+    size_t count = tktext_told(&report->changes);
+    for (size_t change = 0; change < count; change++) {
+        if (is_followed && list != NULL)
+            list = appended(list, change_of(report, change));
+        if (report->document->has_wide)
+            move_wide(report, change);
+    }
+    return list;
+}
+
+/* A number of changes of tags, or of marks, of a report, as a list; NULL if that can't be made. */
+static Tcl_Obj *list_others(Report *report, size_t count, Tcl_Obj *(*one)(Report *, size_t))
+{
+    Tcl_Obj *list = Tcl_NewListObj(0, NULL);
+    for (size_t index = 0; index < count && list != NULL; index++)
+        list = appended(list, one(report, index));
+    return list;
 }
 
 static int is_word(Tcl_Obj *word, const char *text)
@@ -433,7 +704,7 @@ static Tcl_Obj *shared_of(Tcl_Obj *marks)
     return shared;
 }
 
-/* Of changes of tags those that concern a widget, without the name in front of each. */
+/* Of changes of tags those that concern a widget, without the name that is first in each. */
 static Tcl_Obj *tags_for(Tcl_Obj *tags, Widget *widget)
 {
     int count, size;
@@ -447,120 +718,156 @@ static Tcl_Obj *tags_for(Tcl_Obj *tags, Widget *widget)
     return own;
 }
 
-/* The names of the peers of a widget, as a list in the interpreter's result. */
-static int peers_of(Tcl_Interp *interp, Widget *widget)
+/* ---- Delivery of reports */
+
+/* Whether a widget has a follower of a kind that gets a report. */
+static int is_due(Widget *widget, int way, const Report *report)
 {
-    int is_done;
-    Tcl_Obj *words[] = {widget->name, Tcl_NewStringObj("peer", -1), Tcl_NewStringObj("names", -1)};
-    Tcl_IncrRefCount(words[1]);
-    Tcl_IncrRefCount(words[2]);
-    int result = give(interp, widget->world, widget->name, 2, words + 1, &is_done);
-    Tcl_DecrRefCount(words[1]);
-    Tcl_DecrRefCount(words[2]);
-    return result;
+    const Follower *follower = &widget->followers[way];
+    return widget->document == report->document && widget->state == EXISTS && follower->prefix != NULL
+        && follower->since < report->number;
 }
 
-static int is_listed(Tcl_Obj *names, Tcl_Obj *name)
+static int is_followed(World *world, int way, const Report *report)
 {
-    int count;
-    Tcl_Obj **all;
-    if (Tcl_ListObjGetElements(NULL, names, &count, &all) != TCL_OK)
-        return 0;
-    for (int number = 0; number < count; number++)
-        if (strcmp(Tcl_GetString(all[number]), Tcl_GetString(name)) == 0)
-            return 1;
-    return 0;
+    Widget *widget = world->widgets;
+    while (widget != NULL && !is_due(widget, way, report))
+        widget = widget->next;
+    return widget != NULL;
 }
 
-/* Adds the words to be called of a widget, with a list behind them, unless it is empty or nobody hears of it. */
-static void add_call(Tcl_Obj *calls, Tcl_Obj *follower, Tcl_Obj *told)
+/* Makes the lists of a report, those that nobody gets as empty ones, and returns whether all could be made. */
+static int make_lists(World *world, Report *report, Tcl_Obj *lists[])
 {
-    int count;
-    Tcl_ListObjLength(NULL, told, &count);
-    if (follower == NULL || count == 0)
-        return;
-    Tcl_Obj *words = Tcl_DuplicateObj(follower);
-    Tcl_ListObjAppendElement(NULL, words, told);
-    Tcl_ListObjAppendElement(NULL, calls, words);
-}
-
-/* The words to be called of the widgets on the text of one, as a list, each with what it hears of behind them: all
-   changes of the text, those of tags that concern it, and the marks that are moved, of which the own ones concern the
-   widget alone whose command it was.  `told` has these three lists. */
-static Tcl_Obj *calls_of(Widget *changed, Tcl_Obj *peers, Tcl_Obj *const told[])
-{
-    Tcl_Obj *calls = Tcl_NewListObj(0, NULL), *shared = shared_of(told[MARKS]);
-    Tcl_IncrRefCount(shared);
-    for (Widget *widget = changed->world->widgets; widget != NULL; widget = widget->next) {
-        if (widget != changed && !is_listed(peers, widget->name))
-            continue;
-        Tcl_Obj *tags = tags_for(told[TAGS], widget);
-        Tcl_IncrRefCount(tags);
-        add_call(calls, widget->followers[CHANGES], told[CHANGES]);
-        add_call(calls, widget->followers[TAGS], tags);
-        add_call(calls, widget->followers[MARKS], widget == changed ? told[MARKS] : shared);
-        Tcl_DecrRefCount(tags);
-    }
-    Tcl_DecrRefCount(shared);
-    return calls;
-}
-
-/* The same, of what the last command told; NULL where there is no memory for that. */
-static Tcl_Obj *calls_behind(Tcl_Interp *interp, Widget *changed)
-{
-    World *world = changed->world;
-    Tcl_Obj *told[] = {all_told(world, tktext_told(&world->handle), change_of),
-                       all_told(world, tktext_told_tags(&world->handle), tag_change_of),
-                       all_told(world, tktext_told_marks(&world->handle), mark_of)};
-    Tcl_Obj *calls = NULL;
+    size_t tags = is_followed(world, TAGS, report) ? tktext_told_tags(&report->changes) : 0;
+    size_t marks = is_followed(world, MARKS, report) ? tktext_told_marks(&report->changes) : 0;
     int is_whole = 1;
+    lists[CHANGES] = list_changes(report, is_followed(world, CHANGES, report));
+    lists[TAGS] = list_others(report, tags, tag_change_of);
+    lists[MARKS] = list_others(report, marks, mark_of);
     for (int way = 0; way < WAYS; way++)
-        if (told[way] != NULL)
-            Tcl_IncrRefCount(told[way]);
+        if (lists[way] != NULL)
+            Tcl_IncrRefCount(lists[way]);
         else
             is_whole = 0;
-    if (is_whole && peers_of(interp, changed) == TCL_OK)
-        calls = calls_of(changed, Tcl_GetObjResult(interp), told);
-    for (int way = 0; way < WAYS; way++)
-        if (told[way] != NULL)
-            Tcl_DecrRefCount(told[way]);
-    return calls;
+    return is_whole;
 }
 
-/* Calls what follows the text of a widget behind a command of it; the interpreter's result stays.  What is called may do
-   anything, and what goes wrong in it is a background error. */
-static void tell(Tcl_Interp *interp, Widget *widget)
+/* What a widget gets of the lists of a report. */
+static Tcl_Obj *list_for(Widget *widget, int way, const Report *report, Tcl_Obj *const lists[])
+{
+    if (way == TAGS)
+        return tags_for(lists[TAGS], widget);
+    return way == MARKS && widget->number != report->widget ? shared_of(lists[MARKS]) : lists[way];
+}
+
+/* Calls a prefix with a list, unless that is empty. */
+static void call_prefix(Tcl_Interp *interp, Tcl_Obj *prefix, Tcl_Obj *list)
 {
     int count;
-    Tcl_Obj **all;
-    Tcl_InterpState state = Tcl_SaveInterpState(interp, TCL_OK);
-    Tcl_Obj *calls = calls_behind(interp, widget);
-    if (calls == NULL) {
-        Tcl_BackgroundException(interp, fail_for_memory(interp));
-    } else {
-        Tcl_IncrRefCount(calls);
-        Tcl_ListObjGetElements(NULL, calls, &count, &all);
-        for (int number = 0; number < count; number++) {
-            int result = Tcl_EvalObjEx(interp, all[number], TCL_EVAL_GLOBAL | TCL_EVAL_DIRECT);
-            if (result != TCL_OK)
-                Tcl_BackgroundException(interp, result);
-        }
-        Tcl_DecrRefCount(calls);
+    Tcl_ListObjLength(NULL, list, &count);
+    if (count == 0)
+        return;
+    Tcl_Obj *words = Tcl_DuplicateObj(prefix);
+    Tcl_IncrRefCount(words);
+    Tcl_ListObjAppendElement(NULL, words, list);
+    int result = Tcl_EvalObjEx(interp, words, TCL_EVAL_GLOBAL | TCL_EVAL_DIRECT);
+    if (result != TCL_OK && !Tcl_InterpDeleted(interp))
+        Tcl_BackgroundException(interp, result);
+    Tcl_DecrRefCount(words);
+}
+
+/* A follower's turn: the number of its widget, and what it follows. */
+typedef struct Turn {
+    uint64_t widget;
+    int way;
+} Turn;
+
+/* Finds the widget of the next turn: of the widgets in their order the first after the last turn.  It is found anew
+   each time, as a follower may do anything with the widgets. */
+static Widget *next_turn(World *world, const Report *report, Turn *turn)
+{
+    for (Widget *widget = world->widgets; widget != NULL; widget = widget->next) {
+        if (widget->number > turn->widget)
+            continue;
+        for (int way = widget->number == turn->widget ? turn->way + 1 : 0; way < WAYS; way++)
+            if (is_due(widget, way, report)) {
+                *turn = (Turn){widget->number, way};
+                return widget;
+            }
     }
-    Tcl_RestoreInterpState(interp, state);
+    return NULL;
+}
+
+/* Calls all followers of a report. */
+static void call_followers(Tcl_Interp *interp, World *world, const Report *report, Tcl_Obj *const lists[])
+{
+    Turn turn = {UINT64_MAX, 0};
+    Widget *widget;
+    while (!Tcl_InterpDeleted(interp) && (widget = next_turn(world, report, &turn)) != NULL) {
+        Tcl_Obj *list = list_for(widget, turn.way, report, lists);
+        Tcl_IncrRefCount(list);
+        call_prefix(interp, widget->followers[turn.way].prefix, list);
+        Tcl_DecrRefCount(list);
+    }
+}
+
+/* Delivers one report. */
+static void deliver(Tcl_Interp *interp, World *world, Report *report)
+{
+    Tcl_Obj *lists[WAYS];
+    if (make_lists(world, report, lists))
+        call_followers(interp, world, report, lists);
+    else
+        Tcl_BackgroundException(interp, fail_for_report(interp, report));
+    for (int way = 0; way < WAYS; way++)
+        if (lists[way] != NULL)
+            Tcl_DecrRefCount(lists[way]);
+}
+
+/* Takes the first report out of the queue; NULL if that is empty. */
+static Report *first_report(World *world)
+{
+    Report *report = world->first;
+    if (report != NULL && (world->first = report->next) == NULL)
+        world->end = &world->first;
+    return report;
+}
+
+/* Delivers the reports in the queue, those of the followers' commands too; the interpreter's result stays.  In a
+   command of a follower it does nothing: the outermost command delivers them. */
+static int deliver_all(Tcl_Interp *interp, World *world, int result)
+{
+    Report *report;
+    if (world->is_delivering || world->first == NULL)
+        return result;
+    world->is_delivering = 1;
+    world->holders++;
+    Tcl_Preserve(interp);
+    Tcl_InterpState state = Tcl_SaveInterpState(interp, result);
+    while ((report = first_report(world)) != NULL) {
+        if (!Tcl_InterpDeleted(interp))
+            deliver(interp, world, report);
+        drop_report(report);
+    }
+    result = Tcl_RestoreInterpState(interp, state);
+    Tcl_Release(interp);
+    world->is_delivering = 0;
+    let_go(world);
+    return result;
 }
 
 /* ---- Widgets */
 
-static void set_follower(Widget *widget, int way, Tcl_Obj *follower)
+static void set_follower(Widget *widget, int way, Tcl_Obj *prefix)
 {
-    Tcl_Obj *old = widget->followers[way];
-    widget->world->followed += (follower != NULL) - (old != NULL);
-    if (follower != NULL)
-        Tcl_IncrRefCount(follower);
+    Tcl_Obj *old = widget->followers[way].prefix;
+    widget->document->followers += (prefix != NULL) - (old != NULL);
+    if (prefix != NULL)
+        Tcl_IncrRefCount(prefix);
     if (old != NULL)
         Tcl_DecrRefCount(old);
-    widget->followers[way] = follower;
+    widget->followers[way] = (Follower){prefix, widget->world->reports_made};
 }
 
 static void unlink_widget(Widget *widget)
@@ -571,45 +878,42 @@ static void unlink_widget(Widget *widget)
     *place = widget->next;
 }
 
-/* What is done for a widget whose command goes.  One that stands goes too, unless memory is refused for it. */
+/* Called when a widget's command is deleted.  A widget that exists is destroyed, unless out of memory. */
 static void forget(void *data)
 {
     Widget *widget = data;
-    if (widget->state == STANDS) {
+    if (widget->state == EXISTS) {
         Tcl_Obj *destroy = Tcl_NewStringObj("destroy", -1);
         Tcl_IncrRefCount(destroy);
-        call(widget->world, destroy, 1, &widget->name);
+        call(widget->world, NULL, &(Command){destroy, 1, &widget->name});
         Tcl_DecrRefCount(destroy);
     }
     unlink_widget(widget);
     for (int way = 0; way < WAYS; way++)
         set_follower(widget, way, NULL);
     Tcl_DecrRefCount(widget->name);
+    let_go_document(widget->document);
     let_go(widget->world);
     free(widget);
 }
 
-static int make_widget(Tcl_Interp *interp, World *world, Tcl_Obj *first, int count, Tcl_Obj *const words[],
-                       Tcl_Obj *name);
+static int make_widget(Tcl_Interp *interp, World *world, Document *document, const Command *command, Tcl_Obj *name);
 
 /* A command of a widget.  One whose widget was destroyed may have a later one's name, and does nothing any more. */
 static int run_widget(void *data, Tcl_Interp *interp, int count, Tcl_Obj *const words[])
 {
     Widget *widget = data;
+    World *world = widget->world;
+    Command command = {widget->name, count - 1, words + 1};
     int is_done;
-    if (widget->state != STANDS) {
+    if (widget->state != EXISTS) {
         Tcl_SetObjResult(interp, Tcl_ObjPrintf("invalid command name \"%s\"", Tcl_GetString(widget->name)));
         set_fault_code(interp, Tcl_GetObjResult(interp));
         return TCL_ERROR;
     }
     if (count > 3 && is_word(words[1], "peer") && is_word(words[2], "create"))
-        return make_widget(interp, widget->world, widget->name, count - 1, words + 1, words[3]);
-    int result = give(interp, widget->world, widget->name, count - 1, words + 1, &is_done);
-    tktext *handle = &widget->world->handle;
-    if (is_done && widget->world->followed > 0
-        && tktext_told(handle) + tktext_told_tags(handle) + tktext_told_marks(handle) > 0)
-        tell(interp, widget);
-    return result;
+        return make_widget(interp, world, widget->document, &command, words[3]);
+    return deliver_all(interp, world, give(interp, world, widget, &command, &is_done));
 }
 
 /* Deletes the command that a new one would stand in the place of; what its traces do is done then. */
@@ -626,34 +930,34 @@ static int add_command(Tcl_Interp *interp, Widget *widget, int result)
 {
     const char *name = Tcl_GetString(widget->name);
     clear_name(interp, name);
-    if (widget->state == STANDS) {
+    if (widget->state == EXISTS) {
         widget->command = Tcl_CreateObjCommand(interp, name, run_widget, widget, forget);
         if (widget->command == NULL)
             result = fail(interp, "NAME", "there can't be a command of this name");
     }
     if (widget->command == NULL)
         forget(widget);
-    else if (widget->state != STANDS)
+    else if (widget->state != EXISTS)
         Tcl_DeleteCommandFromToken(interp, widget->command);
     return result;
 }
 
-/* Carries out a command that makes a widget of a name, and makes the widget's own command. */
-static int make_widget(Tcl_Interp *interp, World *world, Tcl_Obj *first, int count, Tcl_Obj *const words[],
-                       Tcl_Obj *name)
+/* Carries out a command that makes a widget of a name on a document, and makes the widget's own command. */
+static int make_widget(Tcl_Interp *interp, World *world, Document *document, const Command *command, Tcl_Obj *name)
 {
     int is_done;
     Widget *widget = malloc(sizeof *widget);
     if (widget == NULL)
         return fail_for_memory(interp);
-    int result = give(interp, world, first, count, words, &is_done);
+    int result = give(interp, world, NULL, command, &is_done);
     if (!is_done) {
         free(widget);
         return result;
     }
-    *widget = (Widget){world, world->widgets, name, NULL, STANDS, {NULL, NULL}};
+    *widget = (Widget){world, world->widgets, document, ++world->widgets_made, name, NULL, EXISTS, {{NULL, 0}}};
     world->widgets = widget;
     world->holders++;
+    document->holders++;
     Tcl_IncrRefCount(name);
     return add_command(interp, widget, result);
 }
@@ -661,10 +965,16 @@ static int make_widget(Tcl_Interp *interp, World *world, Tcl_Obj *first, int cou
 /* tktext::text W ?option value ..? */
 static int make(void *data, Tcl_Interp *interp, int count, Tcl_Obj *const words[])
 {
+    Document *document = malloc(sizeof *document);
+    if (document == NULL)
+        return fail_for_memory(interp);
+    *document = (Document){1, 0, 0, NULL, 0, 0};
     Tcl_Obj *first = Tcl_NewStringObj("text", -1);
     Tcl_IncrRefCount(first);
-    int result = make_widget(interp, data, first, count - 1, words + 1, count > 1 ? words[1] : NULL);
+    Command command = {first, count - 1, words + 1};
+    int result = make_widget(interp, data, document, &command, count > 1 ? words[1] : NULL);
     Tcl_DecrRefCount(first);
+    let_go_document(document);
     return result;
 }
 
@@ -672,7 +982,7 @@ static int make(void *data, Tcl_Interp *interp, int count, Tcl_Obj *const words[
 static void note_destroyed(World *world, Tcl_Obj *name)
 {
     for (Widget *widget = world->widgets; widget != NULL; widget = widget->next)
-        if (widget->state == STANDS && is_word(widget->name, Tcl_GetString(name)))
+        if (widget->state == EXISTS && is_word(widget->name, Tcl_GetString(name)))
             widget->state = IS_DESTROYED;
 }
 
@@ -713,7 +1023,7 @@ static int destroy(void *data, Tcl_Interp *interp, int count, Tcl_Obj *const wor
     int is_done;
     Tcl_Obj *first = Tcl_NewStringObj("destroy", -1);
     Tcl_IncrRefCount(first);
-    int result = give(interp, world, first, count - 1, words + 1, &is_done);
+    int result = give(interp, world, NULL, &(Command){first, count - 1, words + 1}, &is_done);
     Tcl_DecrRefCount(first);
     if (!is_done)
         return result;
@@ -728,7 +1038,7 @@ static int destroy(void *data, Tcl_Interp *interp, int count, Tcl_Obj *const wor
 static Widget *find_widget(World *world, Tcl_Obj *name)
 {
     Widget *widget = world->widgets;
-    while (widget != NULL && !(widget->state == STANDS && is_word(widget->name, Tcl_GetString(name))))
+    while (widget != NULL && !(widget->state == EXISTS && is_word(widget->name, Tcl_GetString(name))))
         widget = widget->next;
     return widget;
 }
@@ -747,8 +1057,8 @@ static int follow(World *world, Tcl_Interp *interp, int way, int count, Tcl_Obj 
         return TCL_ERROR;
     }
     if (count == 2) {
-        if (widget->followers[way] != NULL)
-            Tcl_SetObjResult(interp, widget->followers[way]);
+        if (widget->followers[way].prefix != NULL)
+            Tcl_SetObjResult(interp, widget->followers[way].prefix);
         return TCL_OK;
     }
     if (Tcl_ListObjLength(interp, words[2], &length) != TCL_OK)
@@ -779,7 +1089,8 @@ int DLLEXPORT Tktext_Init(Tcl_Interp *interp)
     World *world = malloc(sizeof *world);
     if (world == NULL)
         return fail_for_memory(interp);
-    *world = (World){TKTEXT_EMPTY, NULL, 5, 0};
+    *world = (World){TKTEXT_EMPTY, NULL, 5, 0, 0, NULL, NULL, NULL, 0};
+    world->end = &world->first;
     if (tktext_new_greatest(&world->handle) != TKTEXT_ANSWER) {
         free(world);
         return fail_for_memory(interp);

@@ -560,7 +560,7 @@ def check_tcl(seeds, tally):
         count = check_tcl_scripts(seeds, folder, tally)
         print(f"Tcl: a program, and {count} random scripts")
         check_tcl_refusals(folder, tally)
-    tcl_cases.check(EXTENSION, SMALL_EXTENSION, tally)
+    tcl_cases.check(EXTENSION, SMALL_EXTENSION, REFUSED_EXTENSION, tally)
 
 
 # ---------------------------------------------------------------------------------------------------
@@ -637,7 +637,7 @@ def check_shown(has_tcl, folder, tally):
         tally.check(given == (b"hello, wide world\n", 0, b""), f"README's lines in Python: {given!r}")
     if has_tcl:
         given = run(["tclsh8.6"], used_lines("tcl").encode(), env=dict(os.environ, TCLLIBPATH=source("tcl")))
-        tally.check(given == (b"5.0\n", 0, b""), f"the lines in Tcl of docs/use.md: {given!r}")
+        tally.check(given == (b"5.0\n1\n", 0, b""), f"the lines in Tcl of docs/use.md: {given!r}")
 
 
 def add_counts(output, status, tally):

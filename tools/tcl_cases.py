@@ -1,13 +1,14 @@
 #!/usr/bin/env python3
-"""Cases of the Tcl extension (tcl/tktext.c): commands that are renamed, hidden or traced, and lengths.
+"""Cases of the Tcl extension (tcl/tktext.c): commands that are renamed, hidden or traced, reports, and lengths.
 
-    python3 tools/tcl_cases.py --extension out/tktext.so [--small out/small_tktext.so]
+    python3 tools/tcl_cases.py --extension out/tktext.so [--small out/small_tktext.so] [--refused out/refused_tktext.so]
 
 Each case is a script for a process of its own, under valgrind where it is installed, and what it prints; a crash or a
 wrong access is a failed case, and its script is shown.  Answers that Tcl can't hold take 20 GB to try, so the extension
-that `--small` names is built with a small number in the place of the most bytes of a value (TKTEXT_MOST_BYTES, here
-10,000): it is compared at the same one place.  Ends in a line `N passed, M failed`; the exit status is 1 if anything
-failed.
+that `--small` names is built with a small number instead of the maximum number of bytes of a value (TKTEXT_MOST_BYTES,
+here 10,000): it is compared at the same one place.  The extension that `--refused` names is built with
+tools/refuse_calls.c, which refuses growths of memory.  Ends in a line `N passed, M failed`; the exit status is 1 if
+anything failed.
 """
 
 import argparse
@@ -158,6 +159,457 @@ error: invalid command name ".t" (NONE)
 error: list element in braces followed by "c" instead of space (TCL VALUE LIST JUNK)
 error: wrong # args: should be "tktext::onchange window ?prefix?" (TCL WRONGARGS)
 """
+
+# A copy of a text and of its tags, by the offsets in what is reported, and whether it equals the text of `.t`.
+COPY = r"""
+set copy "\n"
+set tagged {{}}
+proc follow {changes} {
+    foreach change $changes {
+        lassign $change at removed inserted
+        set rest [expr {$at + $removed}]
+        set ::copy [string range $::copy 0 [expr {$at - 1}]]$inserted[string range $::copy $rest end]
+        set new [lrepeat [string length $inserted] {}]
+        set ::tagged [concat [lrange $::tagged 0 [expr {$at - 1}]] $new [lrange $::tagged $rest end]]
+    }
+}
+proc follow_tags {changes} {
+    foreach change $changes {
+        lassign $change tag from to on
+        for {set at $from} {$at < $to} {incr at} {
+            set tags [lsearch -all -inline -not -exact [lindex $::tagged $at] $tag]
+            lset ::tagged $at [lsort [expr {$on ? [concat $tags $tag] : $tags}]]
+        }
+    }
+}
+# The tags of each character of the text, as `follow_tags` keeps them.
+proc tags_of {text} {
+    set tagged [lrepeat [string length $text] {}]
+    foreach tag [.t tag names] {
+        foreach {from to} [.t tag ranges $tag] {
+            set end [string length [.t get 1.0 $to]]
+            for {set at [string length [.t get 1.0 $from]]} {$at < $end} {incr at} {
+                lset tagged $at [lsort [concat [lindex $tagged $at] $tag]]
+            }
+        }
+    }
+    return $tagged
+}
+proc compare {} {
+    set text [.t get 1.0 end]
+    if {$::copy ne $text} { return [list copy $::copy text $text] }
+    set tagged [tags_of $text]
+    return [expr {$::tagged eq $tagged ? "same" : [list tags $::tagged text $tagged]}]
+}
+"""
+
+# Two followers of a text, in both orders, the one of which edits: a log that keeps three lines.
+TRIMMED = COPY + r"""
+proc trim {changes} {
+    if {[lindex [split [.t index end] .] 0] > 4} { .t delete 1.0 2.0 }
+}
+tktext::text .t
+.t peer create .p
+foreach {trimming following} {.t .p .p .t} {
+    foreach widget {.t .p} {
+        tktext::onchange $widget {}
+        tktext::ontags $widget {}
+    }
+    .t delete 1.0 end
+    set copy [.t get 1.0 end]
+    set tagged [tags_of $copy]
+    tktext::onchange $trimming trim
+    tktext::onchange $following follow
+    tktext::ontags $following follow_tags
+    foreach word {one two three four five six} { .p insert end $word\n $word }
+    puts "$trimming edits, $following follows: [compare]"
+}
+"""
+TRIMMED_PRINTS = """.t edits, .p follows: same
+.p edits, .t follows: same
+"""
+
+# The order of reports, where followers edit, and set and end followers: a report goes to all its followers before the
+# next, and only to those that were set before its command and are still set.
+QUEUED = r"""
+proc log {who list} {
+    puts [list $who {*}[lmap it $list {lrange $it 0 3}]]
+    return "not the command's"
+}
+proc edit {list} {
+    log t $list
+    if {[incr ::count] == 1} {
+        .t delete 1.0 1.2
+        puts "within: [list [.t get 1.0 end]]"
+        .p tag add late 1.0
+        .p mark set m 1.1
+    }
+}
+tktext::text .t -undo 1
+.t peer create .p
+tktext::onchange .t edit
+tktext::ontags .t {log tags}
+tktext::onchange .p {log p}
+tktext::ontags .p {log p-tags}
+tktext::onmarks .p {log p-marks}
+puts "result: [.t insert 1.0 abcdef early]"
+# One that is set in a follower gets reports of later commands alone; one that is replaced or ended gets none any more.
+proc replace {list} {
+    log old $list
+    .t insert end 1
+    tktext::onchange .t {log new}
+    tktext::onchange .p {}
+    .t insert end 2
+    tktext::onchange .u {log u}
+}
+foreach way {onchange ontags onmarks} {
+    foreach widget {.t .p} { tktext::$way $widget {} }
+}
+.t peer create .u
+tktext::onchange .t replace
+tktext::onchange .p {log p}
+.t insert end 0
+.t insert end 3
+# A widget that is destroyed, made again and followed gets nothing of what was before.
+proc destroy {list} {
+    log u $list
+    tktext::onchange .u {}
+    .t insert end 4
+    tktext::destroy .t
+    .p peer create .t
+    tktext::onchange .t {log again}
+    .p insert end 5
+}
+tktext::onchange .t {log t}
+tktext::onchange .u destroy
+.p insert end x
+tktext::destroy .u
+.p insert end 6
+# So does one whose command is still to be deleted.
+foreach widget {.d .e} { .p peer create $widget }
+tktext::onchange .d {log destroyed}
+trace add command .e delete {apply {args {.p insert end 7}}}
+tktext::destroy .d .e
+# Those of another text wait too, and a command that is refused, or that an event brings, changes no order.
+tktext::text .o
+tktext::onchange .o {log other}
+tktext::onchange .t {apply {list {
+    catch {.o insert nowhere x}
+    .o insert end x
+    after 0 {.p insert end z; set ::done 1}
+    vwait ::done
+    log t $list
+    tktext::onchange .t {log t}
+}}}
+.p insert end y
+"""
+QUEUED_PRINTS = """p {0 0 abcdef {1 0 0 0}}
+p-tags {early 0 6 1}
+t {0 0 abcdef {1 0 0 0}}
+within: {cdef
+}
+tags {early 0 6 1}
+p {0 2 {} {1 0 0 0}}
+t {0 2 {} {1 0 0 0}}
+p-tags {late 0 1 1}
+tags {late 0 1 1}
+p-marks m
+result: 
+p {4 0 0 {1 4 4 4}}
+old {4 0 0 {1 4 4 4}}
+new {6 0 2 {1 6 6 6}}
+u {7 0 3 {1 7 7 7}}
+new {7 0 3 {1 7 7 7}}
+u {8 0 x {1 8 8 8}}
+again {10 0 5 {1 10 10 10}}
+again {11 0 6 {1 11 11 11}}
+again {12 0 7 {1 12 12 12}}
+t {13 0 y {1 13 13 13}}
+other {0 0 x {1 0 0 0}}
+"""
+
+# Followers that destroy, rename and delete what calls them, down to the interpreter.  What can be delivered still is:
+# the numbers are how often the other followers of `.t` and of `.p` were called.
+DESTRUCTIVE = r"""
+set bodies {
+    {tktext::destroy .t} {rename .t {}} {tktext::destroy .p} {rename .p {}} {tktext::destroy .t .p} {rename .t .v}
+    {tktext::onchange .t {}} {tktext::onchange .p {}} {namespace delete ::tktext}
+    {tktext::destroy .t; tktext::text .t} {.p insert 1.0 y; tktext::destroy .p .t} {.p insert 1.0 y; kill} kill
+    {proc .t args {}} {interp hide {} .t} {interp bgerror {} {apply {args kill}}; error bad} {error bad; .p index}
+}
+foreach name {.t .p} {
+    foreach body $bodies {
+        interp create child
+        load [lindex $argv 0] Tktext child
+        child alias kill interp delete child
+        child eval {
+            interp bgerror {} list
+            tktext::text .t -undo 1
+            .t peer create .p
+            tktext::text .u
+            proc count {widget list} { incr ::called$widget }
+            foreach way {onchange ontags onmarks} {
+                foreach widget {.t .p} { tktext::$way $widget [list count $widget] }
+            }
+            set called.t [set called.p 0]
+        }
+        # Each does it once, so that there is an end.
+        child eval [list tktext::onchange $name "apply {list {if {\[incr ::count\] == 1} {$body}}}"]
+        set said [catch {child eval {.t insert end "a b" k "c" m; .t mark set q 1.0; .p insert end z; .t edit undo}}]
+        set kept [catch {child eval {update; .u insert end x; list [.u get 1.0 1.end] ${called.t} ${called.p}}} text]
+        puts "$name, $body: $said [expr {$kept ? {gone} : $text}]"
+        catch {interp delete child}
+    }
+}
+"""
+DESTRUCTIVE_PRINTS = """.t, tktext::destroy .t: 1 x 0 2
+.t, rename .t {}: 1 x 0 2
+.t, tktext::destroy .p: 1 x 2 2
+.t, rename .p {}: 1 x 2 2
+.t, tktext::destroy .t .p: 1 x 0 2
+.t, rename .t .v: 1 x 1 2
+.t, tktext::onchange .t {}: 0 x 2 5
+.t, tktext::onchange .p {}: 0 x 2 3
+.t, namespace delete ::tktext: 0 x 2 5
+.t, tktext::destroy .t; tktext::text .t: 0 x 0 3
+.t, .p insert 1.0 y; tktext::destroy .p .t: 1 x 0 2
+.t, .p insert 1.0 y; kill: 1 gone
+.t, kill: 1 gone
+.t, proc .t args {}: 0 x 0 3
+.t, interp hide {} .t: 1 x 1 2
+.t, interp bgerror {} {apply {args kill}}; error bad: 0 gone
+.t, error bad; .p index: 0 x 2 5
+.p, tktext::destroy .t: 1 x 0 1
+.p, rename .t {}: 1 x 0 1
+.p, tktext::destroy .p: 1 x 3 0
+.p, rename .p {}: 1 x 3 0
+.p, tktext::destroy .t .p: 1 x 0 0
+.p, rename .t .v: 1 x 2 1
+.p, tktext::onchange .t {}: 0 x 2 2
+.p, tktext::onchange .p {}: 0 x 5 2
+.p, namespace delete ::tktext: 0 x 5 2
+.p, tktext::destroy .t; tktext::text .t: 0 x 0 1
+.p, .p insert 1.0 y; tktext::destroy .p .t: 1 x 0 0
+.p, .p insert 1.0 y; kill: 1 gone
+.p, kill: 1 gone
+.p, proc .t args {}: 0 x 0 1
+.p, interp hide {} .t: 1 x 2 1
+.p, interp bgerror {} {apply {args kill}}; error bad: 0 gone
+.p, error bad; .p index: 0 x 5 2
+"""
+
+# Characters above U+FFFF, which Tcl 8.6 counts as two, through each kind of command that moves them.
+WIDE = COPY + r"""
+set smile \ud83d\ude00
+tktext::text .t -undo 1
+proc see {list} { puts [lmap it $list {lrange $it 0 5}] }
+proc try {args} {
+    uplevel #0 $args
+    set same [compare]
+    if {$same ne "same"} { puts "$args: $same" }
+}
+# What is inserted before there is a follower counts too, and what is then outside of the lines that the follower shows.
+.t insert 1.0 a${smile}b\n${smile}c
+set copy [.t get 1.0 end]
+set tagged [tags_of $copy]
+.t peer create .p -startline 2
+tktext::onchange .p follow
+tktext::ontags .p follow_tags
+.t peer create .q
+tktext::onchange .q see
+tktext::ontags .q see
+try .t edit separator
+try .p insert 1.1 $smile x y y
+try .p delete 1.0
+try .t edit undo
+try .t edit redo
+try .t edit undo
+try .t edit undo
+try .t edit redo
+try .t replace 1.0 1.2 $smile${smile}z \u00e9
+try .t tag add w 1.1 1.3 2.0 2.1
+try .t tag remove w 1.0 1.2
+try .t delete 1.0 1.1 1.2 1.3 2.0 2.1
+try .t edit undo
+try .t insert 1.0 x {} $smile\n w
+try .t delete 1.0 end
+try .t edit undo
+tktext::onchange .q {}
+try .t insert 1.0 [string repeat a$smile 2000]
+try .t insert 1.1000 -
+tktext::onchange .q see
+try .t delete 1.10 1.3990
+puts [string length $copy]
+# Another text of the world has its own.
+tktext::text .o
+tktext::onchange .o see
+.o insert end ab
+.o insert 1.1 $smile
+.o insert end c
+"""
+WIDE_PRINTS = """{7 0 y {2 1 4 2} {2 1 4 2} {2 2 5 3}} {7 0 \U0001f600 {2 1 4 2} {2 1 4 2} {2 2 8 4}}
+{x 7 9 1} {y 9 10 1}
+{5 2 {} {2 0 0 0} {2 1 4 2} {2 0 0 0}}
+{5 0 \U0001f600 {2 0 0 0} {2 0 0 0} {2 1 4 2}}
+{5 2 {} {2 0 0 0} {2 1 4 2} {2 0 0 0}}
+{5 0 \U0001f600 {2 0 0 0} {2 0 0 0} {2 1 4 2}}
+{7 3 {} {2 1 4 2} {2 3 9 5} {2 1 4 2}}
+{7 0 y {2 1 4 2} {2 1 4 2} {2 2 5 3}} {7 0 \U0001f600 {2 1 4 2} {2 1 4 2} {2 2 8 4}}
+{0 3 {} {1 0 0 0} {1 2 5 3} {1 0 0 0}} {0 0 \U0001f600\U0001f600z {1 0 0 0} {1 0 0 0} {1 3 9 5}}
+{é 0 5 1}
+{w 7 9 1} {w 2 5 1}
+{w 2 4 0}
+{7 2 {} {2 0 0 0} {2 1 4 2} {2 0 0 0}} {4 1 {} {1 2 8 4} {1 3 9 5} {1 2 8 4}} {0 2 {} {1 0 0 0} {1 1 4 2} {1 0 0 0}}
+{4 0 \U0001f600 {2 0 0 0} {2 0 0 0} {2 1 4 2}} {2 0 z {1 1 4 2} {1 1 4 2} {1 2 5 3}} \
+{0 0 \U0001f600 {1 0 0 0} {1 0 0 0} {1 1 4 2}}
+{0 0 {\U0001f600
+} {1 0 0 0} {1 0 0 0} {2 0 0 0}} {0 0 x {1 0 0 0} {1 0 0 0} {1 1 1 1}}
+{w 1 4 1}
+{0 17 {} {1 0 0 0} {3 4 10 6} {1 0 0 0}}
+{0 0 {x\U0001f600
+\U0001f600\U0001f600zb
+\U0001f600\U0001f600yc} {1 0 0 0} {1 0 0 0} {3 4 10 6}}
+{15 5969 {} {1 10 25 15} {1 3990 9972 5984} {1 10 25 15}}
+50
+{0 0 ab {1 0 0 0} {1 0 0 0} {1 2 2 2}}
+{1 0 \U0001f600 {1 1 1 1} {1 1 1 1} {1 2 5 3}}
+{4 0 c {1 3 6 4} {1 3 6 4} {1 4 7 5}}
+"""
+
+# Random commands on a text with characters of all lengths, by it and two peers that show a part of it, with a copy of
+# the text and its tags.  A third peer's follower edits too: it keeps the text short.
+RANDOM = COPY + r"""
+proc random {count} { expr {int(rand() * $count)} }
+proc pick {list} { lindex $list [random [llength $list]] }
+proc spot {} { return [expr {[random 5] + 1}].[random 7] }
+proc words {} {
+    set text ""
+    for {set count [expr {[random 4] + 1}]} {$count > 0} {incr count -1} {
+        append text [pick [list a bc \n \u00e9 \u2014 \ud83d\ude00 \ud834\udd1e\ud83d\ude00 \ud55c]]
+    }
+    return $text
+}
+proc tags {} { pick {{} x y {x y} {}} }
+proc command {widget} {
+    switch [random 12] {
+        0 - 1 - 2 { return [list $widget insert [spot] [words] [tags]] }
+        3 { return [list $widget insert [spot] [words] [tags] [words] [tags]] }
+        4 { return [list $widget delete [spot] [spot]] }
+        5 { return [list $widget delete [spot] [spot] [spot] [spot] [spot]] }
+        6 { return [list $widget replace [spot] [spot] [words] [tags]] }
+        7 { return [list $widget tag [pick {add remove}] [pick {x y}] [spot] [spot] [spot] [spot]] }
+        8 { return [list $widget edit [pick {undo redo undo redo separator reset}]] }
+        9 { return [list $widget configure -startline [pick {{} 2}] -endline [pick {{} 4}]] }
+        10 { return [list $widget edit undo] }
+        11 { return [list $widget edit redo] }
+    }
+}
+proc shorten {changes} {
+    if {[.t count -chars 1.0 end] > 60} { .t delete 1.5 1.9 2.0 "end - 20 chars" }
+}
+proc play {seed} {
+    expr {srand($seed)}
+    set ::copy "\n"
+    set ::tagged {{}}
+    tktext::text .t -undo 1
+    foreach peer {.a .b .c} { .t peer create $peer }
+    # Of the two that follow one was made before the one that edits, and one after it.
+    set following [pick {.a .c}]
+    if {[random 2]} {
+        # What is there before anything follows.
+        .t insert 1.0 [words][words]
+        set ::copy [.t get 1.0 end]
+        set ::tagged [tags_of $::copy]
+    }
+    tktext::onchange $following follow
+    tktext::ontags $following follow_tags
+    tktext::onchange .b shorten
+    for {set number 0} {$number < $::commands} {incr number} {
+        set command [command [pick {.t .a .c}]]
+        if {[lindex $command 0] eq ".t" && [lindex $command 1] eq "configure"} continue
+        catch $command
+        set same [compare]
+        if {$same ne "same"} {
+            puts "seed $seed, $command: $same"
+            break
+        }
+        incr ::compared
+    }
+    tktext::destroy .t .a .b .c
+}
+set compared 0
+for {set seed 1} {$seed <= $seeds} {incr seed} { play $seed }
+puts [expr {$compared > $seeds * $commands / 2}]
+"""
+# The number of seeds, of those under valgrind, which is slow, and of the commands of each.
+RANDOM_SEEDS, RANDOM_WATCHED_SEEDS, RANDOM_COMMANDS = 300, 10, 40
+RANDOM_PRINTS = "1\n"
+
+# Each growth of each command refused in turn, those of a follower that edits too: nothing has changed, and once the
+# command is given again the copy follows.  Where the list of a long text can't be made, a background error says so.
+REFUSED = COPY + r"""
+interp bgerror {} {apply {{said options} {
+    if {[dict get $options -errorcode] ne {TKTEXT MEMORY}} { puts "background: $said" }
+    incr ::missed
+    begin
+}}}
+proc begin {} {
+    set ::copy [.t get 1.0 end]
+    set ::tagged [tags_of $::copy]
+}
+# Runs a script with no growth refused.
+proc quietly {script} {
+    set kept $::env(TKTEXT_REFUSE)
+    set ::env(TKTEXT_REFUSE) ""
+    set said [uplevel 1 $script]
+    set ::env(TKTEXT_REFUSE) $kept
+    return $said
+}
+proc state {} { quietly { list [.t get 1.0 end] [tags_of [.t get 1.0 end]] [.t mark names] } }
+# Carries out a command, and again if a growth was refused to it.
+proc give {args} {
+    set old [state]
+    # With this the report that was ready is used, so the command allocates another.
+    quietly { .t mark set used 1.0; .t mark unset used }
+    if {![catch {uplevel #0 $args} said options]} return
+    set ::env(TKTEXT_REFUSE) ""
+    incr ::refused
+    if {[dict get $options -errorcode] ne {TKTEXT MEMORY}} { puts "$args: $said" }
+    if {[state] ne $old} { puts "$args: something has changed" }
+    uplevel #0 $args
+}
+proc shorten {changes} {
+    if {[quietly { .t count -chars 1.0 end }] > 20} { give .t delete 1.0 "end - 10 chars" }
+}
+set smile \ud83d\ude00
+set commands [list \
+    [list .t insert 1.0 a${smile}b x\n y] {.t insert end c {x z}} {.t tag add x 1.1 1.2} {.p replace 1.0 1.2 d} \
+    {.t edit undo} {.t edit redo} {.t mark set m 1.1} {.t delete 1.0 1.1 1.1 1.2} [list .t insert 1.0 $smile] \
+    [list .p insert 1.0 [string repeat $smile 260]] {.t edit undo} {.t get 1.0 end}]
+set missed [set refused [set serial 0]]
+set env(TKTEXT_REFUSE) ""
+for {set growth 1} {$growth < 200} {incr growth} {
+    set before [expr {$refused + $missed}]
+    tktext::text .t -undo 1
+    .t peer create .p
+    begin
+    tktext::onchange .t follow
+    tktext::ontags .t follow_tags
+    tktext::onchange .p shorten
+    foreach command $commands {
+        set env(TKTEXT_REFUSE) [incr serial]:$growth
+        give {*}$command
+        set env(TKTEXT_REFUSE) ""
+        update
+        set same [compare]
+        if {$same ne "same"} { puts "$command, growth $growth: $same" }
+    }
+    tktext::destroy .t .p
+    if {$refused + $missed == $before} break
+}
+puts "[expr {$refused > 100}] [expr {$missed > 0}] [expr {$growth < 200}]"
+"""
+REFUSED_PRINTS = "1 1 1\n"
 
 # The command of a destroyed widget doesn't come to act on a later one.
 HIDDEN = r"""
@@ -377,7 +829,18 @@ refill [string repeat \0 2400]
 tried {string length [.t get 1.0 1.4800]}
 .t insert 1.0 [string repeat \0 300]
 tried {.t get 1.0 1.5100}
-# Texts of both directions, around the room that stands ready.
+# A report of more bytes than Tcl can hold: its followers aren't called, and the offsets after it are right.
+interp bgerror {} {apply {{said options} {puts "background: $said ([dict get $options -errorcode])"}}}
+tktext::text .u -undo 1
+.u insert 1.0 $half
+foreach count {1 2} { .u insert 1.0 [string repeat \ud83d\ude00 800] }
+.u edit separator
+.u delete 1.0 end
+tktext::onchange .u {apply {changes {foreach change $changes {puts [lrange $change 0 2]}}}}
+tried {.u edit undo}
+update
+.u insert end -
+# Texts of both directions, around the buffer of the extension.
 foreach length {980 990 996 997 998 999 1000 1001 1002 1003 1010 1020 1022 1023 1024 1025 1500} {
     foreach char {a \0 \u00e9 \ud83d\ude00} {
         set text [string repeat $char [expr {$length / (2 * [string length $char])}]]
@@ -408,6 +871,9 @@ REFUSED
 DONE
 4800
 DONE
+
+background: a text of a report has more bytes than Tcl can hold (TKTEXT SIZE)
+8200 0 -
 """.replace("WORDS", "error: the words of the command have more bytes than Tcl can hold (TKTEXT SIZE)").replace(
     "DONE", "error: the command was carried out, but its answer has more bytes than Tcl can hold (TKTEXT SIZE)"
 ).replace("REFUSED", "error: the command was refused, and its error has more bytes than Tcl can hold (TKTEXT SIZE)")
@@ -424,11 +890,22 @@ SHARED_WORD_PRINTS = """error: the words of the command have more bytes than Tcl
 """
 
 
-def cases(extension, small):
+def random_script(seeds):
+    """Random commands of a number of seeds."""
+    return f"set seeds {seeds}\nset commands {RANDOM_COMMANDS}\n{RANDOM}"
+
+
+def cases(extension, small, refused):
     """The name of each case, what runs it, its extension, its script, and what this prints."""
     watched = VALGRIND if shutil.which("valgrind") else []
     yield "a wrapped widget", [*watched, TCLSH], extension, WRAPPED, WRAPPED_PRINTS
     yield "a text that is followed", [*watched, TCLSH], extension, FOLLOWED, FOLLOWED_PRINTS
+    yield "a follower that edits", [*watched, TCLSH], extension, TRIMMED, TRIMMED_PRINTS
+    yield "the order of reports", [*watched, TCLSH], extension, QUEUED, QUEUED_PRINTS
+    yield "followers that destroy", [*watched, TCLSH], extension, DESTRUCTIVE, DESTRUCTIVE_PRINTS
+    yield "wide characters", [*watched, TCLSH], extension, WIDE, WIDE_PRINTS
+    yield "random commands", [TCLSH], extension, random_script(RANDOM_SEEDS), RANDOM_PRINTS
+    yield "some random commands", [*watched, TCLSH], extension, random_script(RANDOM_WATCHED_SEEDS), RANDOM_PRINTS
     yield "hidden commands", [*watched, TCLSH], extension, HIDDEN, HIDDEN_PRINTS
     yield "traces", [*watched, TCLSH], extension, TRACED, TRACED_PRINTS
     yield "interpreters that end", [*watched, TCLSH], extension, ENDED, ENDED_PRINTS
@@ -436,6 +913,8 @@ def cases(extension, small):
     yield "a shared word", [TCLSH], extension, SHARED_WORD, SHARED_WORD_PRINTS
     if small is not None:
         yield "lengths", [*watched, TCLSH], small, LONG, LONG_PRINTS
+    if refused is not None:
+        yield "growths refused beside followers", [*watched, TCLSH], refused, REFUSED, REFUSED_PRINTS
 
 
 def check_case(name, runner, extension, script, wanted, folder, tally):
@@ -456,10 +935,10 @@ def check_case(name, runner, extension, script, wanted, folder, tally):
     tally.failed(f"Tcl, {name}: status {done.returncode}\n{said}{errors}wanted\n{wanted}the script:\n{HEAD}{script}")
 
 
-def check(extension, small, tally):
+def check(extension, small, refused, tally):
     """Each case."""
     with tempfile.TemporaryDirectory() as folder:
-        for name, runner, of_case, script, wanted in cases(extension, small):
+        for name, runner, of_case, script, wanted in cases(extension, small, refused):
             check_case(name, runner, of_case, script, wanted, folder, tally)
 
 
@@ -467,9 +946,10 @@ def main():
     parser = argparse.ArgumentParser(description="commands and lengths of the Tcl extension")
     parser.add_argument("--extension", required=True)
     parser.add_argument("--small")
+    parser.add_argument("--refused")
     options = parser.parse_args()
     tally = Tally()
-    check(options.extension, options.small, tally)
+    check(options.extension, options.small, options.refused, tally)
     return tally.close()
 
 
