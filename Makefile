@@ -19,7 +19,7 @@
 # make fuzz-library  random calls of the library under sanitizers, for SECONDS=600, from the seed FIRST=0 on
 # make tk      the program against real Tk, where that is installed: the rows of docs/differences.md, the grammar of an
 #              index crossed, and random scripts
-# make gate    the gate alone, and its processor time over that of `rt selftest`; with nothing beside it
+# make gate    the gate alone, from nothing, and its processor time over that of a fixed check; with nothing else running
 # make bench   the program's time per command as the text grows, and its memory as the script does, into docs/bench.txt;
 #              what is done to one long line, into docs/bench_lines.txt; lines in the tree, into docs/bench_tree.txt; and
 #              a command through the library, into docs/bench_library.txt

@@ -6,7 +6,7 @@
 The commands stand in `command_table/specs/Table.antt`; `docs/model.md` and the tools' model say the same of each, and
 the random scripts begin a form with each.  The limits stand in `text_model/specs/LimitTable.antt`.  The crates stand in
 `crates.txt`; the pages on architecture and on what is proved speak of each, and the page of each (`crates/NAME/README.md`)
-of its files of definitions.  A line of code, of a definition or of a page has at most 120 characters, and no name is
+of its files of definitions.  The figures of docs/theorems.md on speed are those of docs/bench.txt.  A line of code, of a definition or of a page has at most 120 characters, and no name is
 brought in for a contract, a definition or a proof that isn't used there, nor passed on for proofs of which none does.
 Ends in a line `N passed, M failed`; the exit status is 1 if anything failed.
 """
@@ -36,6 +36,13 @@ PASSED_ON = re.compile(r"^pub use \S+\.\{(.*)\}$", re.MULTILINE)
 COMMENT = re.compile(r"^\s*(--|//).*$", re.MULTILINE)
 NAME = re.compile(r"[^\W\d][^\s(){}\[\];,.:]*")
 OPERATOR = re.compile(r"◌|^\W")
+# A row of docs/bench.txt, and the scripts of edits and of readings whose times a page gives.
+TIMED = re.compile(r"^(\S.*?) +(\d+) +\d+ +(\d+\.\d+) +(\d+\.\d+)", re.MULTILINE)
+EDITS = (
+    "append a word at the end", "insert in the middle", "delete in the middle", "replace in the middle",
+    "insert, undo and redo", "many groups, all undone",
+)
+READS = ("index by position", "index by line number", "get one character")
 # What stands for two or more words at the end of a command's form in docs/model.md.
 COUNTS = {"any number": (0, None), **{f"{count} and more": (count, None) for count in range(1, 4)}}
 
@@ -276,6 +283,56 @@ def check_passed_on(tally):
         tally.check(not idle, f"crates/{crate}/proofs/Common.antt passes on {', '.join(idle)}, which no file brings in")
 
 
+# ---- figures of a page that were measured
+
+
+class Timed(NamedTuple):
+    """A row of docs/bench.txt: a script, its size, and how long it took, whole and a command."""
+
+    script: str
+    size: int
+    seconds: float
+    microseconds: float
+
+
+def timed_rows(text):
+    return [Timed(found[1], int(found[2]), float(found[3]), float(found[4])) for found in TIMED.finditer(text)]
+
+
+def span_of(rows, scripts):
+    """The least and the greatest microseconds that a command of these scripts takes."""
+    times = [row.microseconds for row in rows if row.script in scripts]
+    return f"{min(times):.1f} to {max(times):.1f}"
+
+
+def seconds_of(rows, script, size):
+    return next(row.seconds for row in rows if (row.script, row.size) == (script, size))
+
+
+def measured_figures(text):
+    """What docs/theorems.md says of speed, by what docs/bench.txt has."""
+    rows = timed_rows(text)
+    appended = re.search(r"^20000 commands `.t insert end x`: ([\d.]+) s", text, re.MULTILINE)[1]
+    resident = {f"{int(size) / 1000:.1f}" for size in re.findall(r"in short commands: greatest resident size (\d+) kB", text)}
+    return [
+        f"An edit takes {span_of(rows, EDITS)} microseconds a command",
+        f"an index and a character that is read {span_of(rows, READS)}, at each",
+        f"20,000 commands `.t insert end x` take {appended} seconds",
+        f"a refused command {span_of(rows, ['a refused command'])} microseconds",
+        f"for a rare word take {seconds_of(rows, '10 searches of a rare word', 50000):.2f} seconds",
+        f"with a match on each of them {seconds_of(rows, '-all of a common word', 50000):.2f};",
+        f"a dump of 10,000 lines takes {seconds_of(rows, 'dump all of many lines', 10000):.3f}.",
+        f"again, {span_of(rows, ['4,000 marks: insert before'])} microseconds with 4,000.",
+        f"those up to 16 MB ({' to '.join(sorted(resident))} MB, whatever the length)",
+    ]
+
+
+def check_figures(tally):
+    page = " ".join(text_of("docs", "theorems.md").split())
+    for figure in measured_figures(text_of("docs", "bench.txt")):
+        tally.check(figure in page, f"docs/theorems.md doesn't say, as docs/bench.txt does: {figure}")
+
+
 def main():
     tally = Tally()
     check_commands(tally)
@@ -285,6 +342,7 @@ def main():
     check_lines(tally)
     check_names(tally)
     check_passed_on(tally)
+    check_figures(tally)
     return tally.close()
 
 

@@ -3,20 +3,26 @@
 
     python3 tools/gate.py [--ratio]
 
-Each line of `rt ci` is shown with the time (minutes and seconds from the start) before it. Behind them comes a
-table: for each crate the seconds of processor (user) that its check, its tests and its must-fail edits took, the
-dearest crate first. With `--ratio`, `rt selftest` runs before, and the last line of the table is the measure of the
-gate: the processor time of `rt ci` over that of `rt selftest` on this machine, which is to be run with nothing
-beside it. The last line of all is that of `rt ci`, and so is the exit status. For which commit it was printed is
-kept in out/gate.txt, which a release shows (tools/dist.py).
+Each line of `rt ci` is shown with the time (minutes and seconds from the start) before it. After them comes a table:
+for each crate the seconds of processor (user) that its check, its tests and its must-fail edits took, the most
+expensive crate first, then how many runs of the prover that were, and how many functions they proved. `rt ci` takes as
+many crates at once as there are cores, but no more than one for each 4 GB of memory that is free, unless RT_JOBS is set.
+
+With `--ratio`, `rt ci --anew` runs, with nothing else on the machine, and the last line of the table is the measure of
+the gate: its processor time over that of a yardstick, a fixed check that runs every few minutes meanwhile, on average.
+The yardstick is the check of one small crate, so it swings with the machine as the gate does.
+
+The last line of all is that of `rt ci`, and so is the exit status. For which commit it was printed is kept in
+out/gate.txt, which a release shows (tools/dist.py).
 
 `rt ci` tells what became of the edits at its end, all at once, so the times are read off the prover's processes while
 they run. What they took between the last reading and their end is missing, some tenths of a second each; the
 line `in all` is the whole, as the system counted it.
 """
 
+import argparse
 import os
-import resource
+import re
 import subprocess
 import sys
 import threading
@@ -24,11 +30,19 @@ import time
 from collections import defaultdict
 from typing import NamedTuple
 
+import build
+import over
+
 TOP = os.path.dirname(os.path.dirname(os.path.abspath(__file__)))
 NOTE = os.path.join(TOP, "out", "gate.txt")
 PAUSE_SECONDS = 0.2
 TICKS_PER_SECOND = os.sysconf("SC_CLK_TCK")
 KINDS = ("check", "tests", "edits")
+# What a crate's check may need of memory, in kB.
+CHECK_KILOBYTES = 4_000_000
+# The crate whose check is the yardstick, which stands on none other, and how often it runs.
+YARDSTICK, YARDSTICK_PAUSE_SECONDS = "devices", 240
+PROVED = re.compile(r"^(?:fn|struct) .*: proved$")
 
 
 class Process(NamedTuple):
@@ -140,15 +154,68 @@ def last_line_of(of_commit):
     return line if about == of_commit else ""
 
 
-def user_seconds_of_children():
-    return resource.getrusage(resource.RUSAGE_CHILDREN).ru_utime
+def available_kilobytes():
+    """The memory that is free for programs, or none known."""
+    with open("/proc/meminfo", encoding="ascii") as file:
+        return int(re.search(r"^MemAvailable: *(\d+) kB", file.read(), re.MULTILINE)[1])
 
 
-def run_gate():
-    """Runs `rt ci`. Gives its last line, its exit status, the times by crate and kind, and all its user seconds."""
-    before, start, last_line = user_seconds_of_children(), time.monotonic(), ""
+def jobs():
+    """How many crates `rt ci` is to take at once."""
+    return max(1, min(build.CORES, available_kilobytes() // CHECK_KILOBYTES))
+
+
+def user_seconds(process):
+    """Waits for a process; its exit status, and the seconds of processor (user) that it and its children took."""
+    _, status, usage = os.wait4(process.pid, 0)
+    process.returncode = os.waitstatus_to_exitcode(status)
+    return process.returncode, usage.ru_utime
+
+
+class Yardstick:
+    """What a fixed check takes, run now and then until it is ended."""
+
+    def __init__(self):
+        self.seconds = []
+        self.ended = threading.Event()
+        self.thread = threading.Thread(target=self.run_on)
+
+    def run_on(self):
+        while not self.ended.is_set():
+            self.run()
+            self.ended.wait(YARDSTICK_PAUSE_SECONDS)
+
+    def run(self):
+        options = argparse.Namespace(crate=YARDSTICK, sources=[], libraries=TOP, jobs=1)
+        words = over.words_of(options, build.read_crates(os.path.join(TOP, "crates.txt")))
+        folder, silent = over.root_of(YARDSTICK)[0], subprocess.DEVNULL
+        check = subprocess.Popen([over.RATTLE, "check", *words], cwd=folder, stdout=silent, stderr=silent)
+        status, seconds = user_seconds(check)
+        if status == 0:
+            self.seconds.append(seconds)
+
+    def mean(self):
+        return sum(self.seconds) / len(self.seconds) if self.seconds else None
+
+
+class Gate(NamedTuple):
+    """What `rt ci` came to: its last line, its exit status, the times by crate and kind, all its user seconds, how many
+    runs of the prover it made, and how many functions and types these proved."""
+
+    last_line: str
+    status: int
+    table: dict
+    seconds: float
+    runs: int
+    proved: int
+
+
+def run_gate(words):
+    """Runs `rt ci`."""
+    start, last_line, proved = time.monotonic(), "", 0
+    environment = {"RT_JOBS": str(jobs()), **os.environ}
     gate = subprocess.Popen(
-        ["rt", "ci"], stdout=subprocess.PIPE, stderr=subprocess.STDOUT, text=True, errors="replace"
+        words, stdout=subprocess.PIPE, stderr=subprocess.STDOUT, text=True, errors="replace", env=environment
     )
     meter = Meter(gate.pid)
     meter.thread.start()
@@ -156,39 +223,46 @@ def run_gate():
         minutes, seconds = divmod(int(time.monotonic() - start), 60)
         print(f"{minutes:3}:{seconds:02} {line}", end="", flush=True)
         last_line = line.strip() or last_line
-    status = gate.wait()
+        proved += bool(PROVED.match(line))
+    status, seconds = user_seconds(gate)
     meter.ended.set()
     meter.thread.join()
-    return last_line, status, meter.seconds(), user_seconds_of_children() - before
+    return Gate(last_line, status, meter.seconds(), seconds, len(meter.seen), proved)
 
 
-def print_table(table, whole):
-    """Prints the times by crate and kind, the dearest crate first, and the whole."""
+def print_table(gate):
+    """Prints the times by crate and kind, the most expensive crate first, and the whole."""
+    table = gate.table
     row = "{:<16}" + "{:>9}" * 4
     print(row.format("crate", *KINDS, "all"))
     for crate, times in sorted(table.items(), key=lambda item: -sum(item[1].values())):
         print(row.format(crate, *(f"{times[kind]:.0f}" for kind in KINDS), f"{sum(times.values()):.0f}"))
     sums = [sum(times[kind] for times in table.values()) for kind in KINDS]
     print(row.format("of the prover", *(f"{it:.0f}" for it in sums), f"{sum(sums):.0f}"))
-    print(row.format("in all", "", "", "", f"{whole:.0f}"))
+    print(row.format("in all", "", "", "", f"{gate.seconds:.0f}"))
+    print(f"{gate.runs} runs of the prover, {gate.proved} functions and types proved")
 
 
 def main():
-    measures = sys.argv[1:] == ["--ratio"]
-    if sys.argv[1:] and not measures:
-        print(__doc__)
-        return 2
+    parser = argparse.ArgumentParser(description="runs the gate, and says where its processor time goes")
+    parser.add_argument("--ratio", action="store_true")
+    measures = parser.parse_args().ratio
+    of_commit, yardstick = commit(), Yardstick()
     if measures:
-        subprocess.run(["rt", "selftest"], check=True)
-    unit, of_commit = user_seconds_of_children(), commit()
-    last_line, status, table, whole = run_gate()
+        yardstick.thread.start()
+    gate = run_gate(["rt", "ci", "--anew"] if measures else ["rt", "ci"])
+    yardstick.ended.set()
     print("seconds of processor (user):")
-    print_table(table, whole)
+    print_table(gate)
     if measures:
-        print(f"over {unit:.0f} s of rt selftest: {whole / unit:.0f}")
-    keep_last_line(of_commit, last_line)
-    print(last_line)
-    return status
+        yardstick.thread.join()
+        unit = yardstick.mean()
+        count = len(yardstick.seconds)
+        print(f"over {unit:.1f} s of the yardstick, the mean of {count} runs: {gate.seconds / unit:.0f}" if unit
+              else "the yardstick's check failed, so there is no measure")
+    keep_last_line(of_commit, gate.last_line)
+    print(gate.last_line)
+    return gate.status
 
 
 if __name__ == "__main__":

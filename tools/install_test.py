@@ -9,7 +9,7 @@ each library; the program answers; the library shows the names of include/tktext
 found.  Then nothing is left after `make uninstall`.  The same files go below a DESTDIR, and into the tarball and the
 Debian package of a release, whose checksums hold; its wheel goes into an environment of Python of its own, where
 README's lines and the example in Python run by the library in it, and so does this repository by `pip install .`,
-without a network.  A part that wants a package that isn't there says so, and is skipped.  Ends in a line `N passed, M
+without a network.  The program of `make try` is built anew and tried.  A part that wants a package that isn't there says so, and is skipped.  Ends in a line `N passed, M
 failed`; the exit status is 1 if anything failed.
 """
 
@@ -32,6 +32,8 @@ from harness import Tally
 
 TOP = install.TOP
 TIMEOUT_SECONDS = 60
+# The address space that the program of `make try` is given, and the libraries that it may need.
+TRIED_KILOBYTES, C_LIBRARIES = 100_000, {b"libc.so.6", b"libm.so.6"}
 PROGRAM_SCRIPT, PROGRAM_PRINTS = b"text .t\n.t insert 1.0 abc\n.t index end-1c\n", b".t\n\n1.3\n"
 
 
@@ -145,6 +147,22 @@ def check_pages(prefix, folder, tally):
 def check_program(prefix, folder, tally):
     given = run([f"{prefix}/bin/tktext"], folder, PROGRAM_SCRIPT)
     tally.check(given == (PROGRAM_PRINTS, 0), f"the program: {given!r}")
+
+
+def check_tried(folder, tally):
+    """What `make try` builds is a program like the proved one: it needs the C library alone, and no sanitizer's memory."""
+    if shutil.which("rt") is None:
+        print("skipped: `make try` wants the Rattle kit (`rt`)")
+        return
+    program = os.path.join(folder, "tried")
+    subprocess.run([sys.executable, os.path.join(TOP, "tools", "try.py"), "--build", program], check=True)
+    given = run(["sh", "-c", f"ulimit -v {TRIED_KILOBYTES} && exec {program}"], folder, PROGRAM_SCRIPT)
+    tally.check(given == (PROGRAM_PRINTS, 0), f"the program of `make try`, in little memory: {given!r}")
+    needed, _ = run(["readelf", "-d", program], folder)
+    libraries = [line.split(b"[")[1][:-1] for line in needed.splitlines() if b"(NEEDED)" in line]
+    tally.check(set(libraries) <= C_LIBRARIES, f"what the program of `make try` needs: {libraries}")
+    with open(program, "rb") as file:
+        tally.check(b"ASAN_OPTIONS" not in file.read(), "the program of `make try` has clang's sanitizer in it")
 
 
 def listed(words, folder, top):
@@ -266,6 +284,7 @@ def main():
     examples.build_alone(out)
     manpages.main([os.path.join(TOP, "out", "man")])
     with tempfile.TemporaryDirectory() as folder:
+        check_tried(folder, tally)
         check_all(["--try"] if is_tried else [], is_tried, folder, tally)
     return tally.close()
 

@@ -1,16 +1,29 @@
-"""Which functions of a crate take the time of its check: python3 tools/profile.py crates/NAME [LINES]
+"""Shows which functions of a crate take the time of its check.
 
-Reads the times at which the check wrote the files of out/incremental, one for each module, so it holds after a check from nothing
-with one job alone: rm -rf out/incremental; rt check --jobs 1. Prints seconds of wall time by function and lemma file, the dearest
-first: all of it, then the steps of the code, the goals, the answers (with the invariants), and what is left.
+    python3 tools/profile.py NAME [--lines 40] [--libraries FOLDER]
+
+Checks the crate from nothing by one process, over the libraries that are built here or in FOLDER (tools/over.py), and
+sees when the check writes the file of each module.  Prints the prover's own seconds of processor, so other work on the
+machine changes little, by function and lemma file, the most expensive first: all of it, then the steps of the code, the
+goals, the answers (with the invariants), and the rest.  Modules that are written together share their time evenly.
 """
 
+import argparse
 import collections
+import os
 import pathlib
 import re
+import subprocess
 import sys
+import tempfile
+import time
+
+import build
+import over
 
 KINDS = {"Lts": "steps", "Tie": "steps", "Proof": "goals", "Answers": "answers", "Invariants": "answers", "Goals": "answers"}
+# How often the files are looked for.
+PAUSE_SECONDS = 0.05
 PARTS = re.compile(
     r"^(Lts|Tie|Proof|Answers|Invariants|Goals|Given|Kinds|Carried|Reads|Symbol|Statement|Named|Layout|Met|View|Code|TheL\w+)(-.*)?$"
 )
@@ -26,29 +39,63 @@ def function_and_kind(module):
     return ".".join(path) or "(crate)", "rest"
 
 
-def profile(folder):
-    """Seconds by function and kind, from the gaps between the times of the modules' files."""
-    files = sorted((file.stat().st_mtime_ns, file.name) for file in folder.glob("**/*.oantt"))
-    seconds = collections.defaultdict(collections.Counter)
-    for (before, _), (time, name) in zip(files, files[1:]):
-        function, kind = function_and_kind(name.removesuffix(".oantt").removesuffix(".decls"))
-        seconds[function][kind] += (time - before) / 1e9
+def processor_seconds(process):
+    """The seconds of processor that a process took so far, or None where it has ended."""
+    try:
+        fields = pathlib.Path(f"/proc/{process.pid}/stat").read_text().rpartition(")")[2].split()
+    except OSError:
+        return None
+    return (int(fields[11]) + int(fields[12])) / os.sysconf("SC_CLK_TCK") if fields[0] != "Z" else None
+
+
+def new_modules(folder, seen):
+    """The modules whose files weren't seen before."""
+    found = {path.name for path in folder.glob("**/*.oantt")} - seen
+    seen |= found
+    return found
+
+
+def profile(check, folder):
+    """Seconds of processor by function and kind, of a check that writes its modules below a folder."""
+    seconds, seen, last = collections.defaultdict(collections.Counter), set(), None
+    while check.poll() is None and (now := processor_seconds(check)) is not None:
+        found = new_modules(folder, seen)
+        if found and last is None:
+            last = now  # what came before is the loading of libraries
+        elif found:
+            for name in found:
+                function, kind = function_and_kind(name.removesuffix(".oantt").removesuffix(".decls"))
+                seconds[function][kind] += (now - last) / len(found)
+            last = now
+        time.sleep(PAUSE_SECONDS)
     return seconds
 
 
+def check_words(crate, libraries, folder):
+    options = argparse.Namespace(crate=crate, sources=[], libraries=libraries, jobs=1)
+    words = over.words_of(options, build.read_crates(os.path.join(build.TOP, "crates.txt")))
+    return [over.RATTLE, "check", *words, "--incremental", folder]
+
+
 def main():
-    folder = pathlib.Path(sys.argv[1]) / "out" / "incremental"
-    lines = int(sys.argv[2]) if len(sys.argv) > 2 else 40
-    seconds = profile(folder)
+    parser = argparse.ArgumentParser(description="shows which functions of a crate take the time of its check")
+    parser.add_argument("crate")
+    parser.add_argument("--lines", type=int, default=40)
+    parser.add_argument("--libraries", default=build.TOP)
+    options = parser.parse_args()
+    with tempfile.TemporaryDirectory() as folder:
+        words, silent = check_words(options.crate, options.libraries, folder), subprocess.DEVNULL
+        check = subprocess.Popen(words, cwd=over.root_of(options.crate)[0], stdout=silent, stderr=silent)
+        seconds = profile(check, pathlib.Path(folder))
     if not seconds:
-        sys.exit(f"{folder}: no check left its files here")
+        sys.exit(f"the check of {options.crate} wrote no module: tools/over.py {options.crate} says why")
     kinds = ["steps", "goals", "answers", "rest"]
     print("".join(f"{word:>9}" for word in ["seconds", *kinds]))
-    ordered = sorted(seconds.items(), key=lambda item: -item[1].total())
-    for function, spent in ordered[:lines]:
-        print("".join(f"{number:9.1f}" for number in [spent.total(), *(spent[kind] for kind in kinds)]), "", function)
+    ordered = sorted(seconds.items(), key=lambda item: -sum(item[1].values()))
+    for function, spent in ordered[: options.lines]:
+        print("".join(f"{number:9.1f}" for number in [sum(spent.values()), *(spent[kind] for kind in kinds)]), "", function)
     total = sum((spent for _, spent in ordered), collections.Counter())
-    print("".join(f"{number:9.1f}" for number in [total.total(), *(total[kind] for kind in kinds)]), " all")
+    print("".join(f"{number:9.1f}" for number in [sum(total.values()), *(total[kind] for kind in kinds)]), " all")
 
 
 if __name__ == "__main__":

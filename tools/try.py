@@ -1,17 +1,16 @@
 #!/usr/bin/env python3
 """Builds the program before anything is proved, and runs a script by it: what `make try` calls.
 
-    python3 tools/try.py --build
+    python3 tools/try.py --build [PROGRAM]
     python3 tools/try.py EXAMPLE [SCRIPT]
 
-The first keeps what the kit's `rt try` compiles of the program, with its checks at run time and clang's sanitizer, as
-out/try/tktext.  The second runs it: the script is the file SCRIPT, or else what standard input brings, or else EXAMPLE.
-The answers come on standard output; the exit status is the program's, as docs/tktext.1.md gives it, and 4 where a check
-found a fault.
+The first compiles the program as tools/unproved.py does, without a proof, without checks at run time and without a
+sanitizer, as PROGRAM, or else out/try/tktext.  The second runs it: the script is the file SCRIPT, or else what standard input brings, or
+else EXAMPLE.  The answers come on standard output; the exit status is the program's, as docs/tktext.1.md gives it, and
+4 if a signal ended the program.
 """
 
 import os
-import shutil
 import stat
 import subprocess
 import sys
@@ -23,17 +22,17 @@ TOP = os.path.dirname(os.path.dirname(os.path.abspath(__file__)))
 CRATE = os.path.join(TOP, "crates", "tktext")
 PROGRAM = os.path.join(TOP, "out", "try", "tktext")
 BUILDS = "make try: builds the program without a proof, in a minute or two; it is kept for the next script"
-NOTE = "make try: unproved, and slow by its checks; `make run` is the proved program, and proves it first"
-FAULT, FAULT_STATUS = "make try: a check failed: `rt try` in crates/tktext says which", 4
+NOTE = "make try: this program is NOT PROVED; `make run` proves and runs the program"
+FAULT, FAULT_STATUS = "make try: a signal ended the program: `rt try` in crates/tktext says which check failed", 4
 
 
-def build():
-    """Makes the program."""
+def build(program=PROGRAM):
+    """Builds the program."""
     print(BUILDS, file=sys.stderr, flush=True)
-    os.makedirs(os.path.dirname(PROGRAM), exist_ok=True)
+    os.makedirs(os.path.dirname(program), exist_ok=True)
+    kit = unproved.kit_folder()
     with tempfile.TemporaryDirectory() as folder:
-        kept = unproved.keep_try(unproved.kit_folder(), folder, CRATE)
-        shutil.copy(unproved.kept_files(kept, "ld.lld", "made")[0], PROGRAM)
+        unproved.build(kit, unproved.keep_try(kit, folder, CRATE), program)
     return 0
 
 
@@ -54,8 +53,8 @@ def script_bytes(example, path):
 
 
 def main(arguments):
-    if arguments == ["--build"]:
-        return build()
+    if arguments[:1] == ["--build"]:
+        return build(*arguments[1:2])
     example, path = (arguments + [""])[:2]
     try:
         script = script_bytes(example, path)

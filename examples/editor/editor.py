@@ -1,5 +1,6 @@
 """The editor: what each key does, as commands to the core, and what the screen shows then."""
 
+import contextlib
 import os
 import re
 import sys
@@ -7,12 +8,14 @@ import time
 
 # The package's TclError is Tk's own where that is installed; its libraries would take 3 MB here, and draw nothing.
 sys.modules.setdefault("_tkinter", None)
-from files import File, drop  # noqa: E402
+from files import File  # noqa: E402
+from lock import Held  # noqa: E402
+from replacing import Round  # noqa: E402
 from terminal import Terminal  # noqa: E402
 from tktext import Text  # noqa: E402
-from view import Pane, columns_of, row_of  # noqa: E402
+from view import Pane, columns_of, parts_of, row_of  # noqa: E402
 
-HELP = "^S save ^Q leave ^F find ^N next ^R replace ^G line ^Z undo ^Y redo ^W pane"
+HELP = "^S save ^O as ^Q quit ^F find ^N next ^R replace ^G line ^Z undo ^Y redo ^W pane"
 # Where moves go to, and those by lines and by pages.
 PLACES = {
     "left": "insert - 1c", "right": "insert + 1c", "ctrl-left": "insert - 1c wordstart", "ctrl-right": "insert wordend",
@@ -23,6 +26,19 @@ STEPS = {"up": (-1, 0), "down": (1, 0), "pageup": (0, -1), "pagedown": (0, 1)}
 TYPED = ("text", "enter", "tab", "backspace", "delete")
 
 
+class GivenUp(OSError):
+    """The user ended a question by Esc."""
+
+
+@contextlib.contextmanager
+def saving():
+    """Reports of what fails that nothing is saved."""
+    try:
+        yield
+    except (OSError, Held) as error:
+        raise OSError(f"NOT saved: {error}") from error
+
+
 class Editor:
     """A file in two panes, which are two peers of one text; one of them alone is shown at first."""
 
@@ -31,10 +47,18 @@ class Editor:
         peers = self.widget, self.widget.peer_create(".b")
         self.panes = [Pane(peer, is_python=self.file.name.endswith(".py")) for peer in peers]
         self.pane, self.is_split, self.is_marking, self.is_kept, self.is_left = self.panes[0], False, False, True, False
-        self.message, self.pattern, self.clipboard = "", "", ""
+        self.message, self.failures, self.are_failures_shown = "", [], False
+        self.pattern, self.clipboard = "", ""
 
     def run(self):
-        """Edits until the user leaves; where it has to end before that, a copy is kept of edits that aren't saved."""
+        """Edits until the user leaves; the lock goes with the editor, whatever ends it."""
+        try:
+            self.edit()
+        finally:
+            self.file.unlock()
+
+    def edit(self):
+        """Opens the file and does what keys say; if it has to end early, a copy is kept of edits that aren't saved."""
         try:
             with self.terminal:
                 self.open()
@@ -43,14 +67,18 @@ class Editor:
                     self.do(*self.terminal.key(self.keep))
         finally:
             self.keep(is_last=True)
-            if os.path.exists(self.file.copy):
-                print(f"unsaved edits are in {self.file.copy}", file=sys.stderr)
+            if not self.file.is_read_only and (copy := self.file.copy()):
+                self.fail(f"unsaved edits are in {copy}")
+            for failure in self.failures:
+                print(failure, file=sys.stderr)
 
     def do(self, key, characters):
         """Does what a key says.  What is undone at once is parted by `autoseparators` of the core, and at each word."""
         if not key:
             return
         name, self.message = key.replace("shift-", ""), ""
+        if self.are_failures_shown:
+            self.failures = []
         is_move = name in PLACES or name in STEPS
         try:
             if key not in TYPED or characters.strip() and self.widget.get("insert - 1c").isspace():
@@ -64,7 +92,8 @@ class Editor:
             if key not in TYPED:
                 self.widget.edit_separator()
         except Exception as error:
-            self.message = str(error) or "out of memory"
+            self.message = ""
+            self.fail(str(error) or "out of memory")
         self.is_kept = self.is_kept and is_move
 
     # What the screen shows
@@ -73,33 +102,52 @@ class Editor:
         """Shows all as it is, unless a key waits already."""
         if self.terminal.waiting:
             return
-        (width, height), rows, cursor = os.get_terminal_size(), [], (0, 0)
-        panes = self.panes if self.is_split and height > 6 else [self.pane]
+        width, height = (max(1, size) for size in os.get_terminal_size())
+        rows, cursor = [], (0, 0)
+        last_rows, column = self.last_rows(width, max(1, height // 3), is_asking)
+        height -= len(last_rows)
+        panes = self.panes if self.is_split and height > 5 else [self.pane]
         for number, pane in enumerate(panes, 1):
-            pane.height, pane.width = max(1, (height - 1) * number // len(panes) - len(rows) - 1), width
-            lines, (row, column) = pane.rows(self.pattern)
-            cursor = (len(rows) + row, column) if pane is self.pane else cursor
+            pane.height, pane.width = max(1, height * number // len(panes) - len(rows) - 1), width
+            lines, (row, pane_column) = pane.rows(self.pattern)
+            cursor = (len(rows) + row, pane_column) if pane is self.pane else cursor
             rows += [*lines, self.state(pane)]
-        end = columns_of(self.message)[-1]
-        left = max(0, end + 1 - width) if is_asking else 0
-        rows = [*rows[: height - 1], row_of([(self.message, None)], left, width)]
-        self.terminal.show(rows, (height - 1, end - left) if is_asking else cursor)
+        rows = [*rows[:height], *last_rows]
+        self.terminal.show(rows, (len(rows) - 1, column) if is_asking else cursor)
+        self.are_failures_shown = not is_asking
+
+    def last_rows(self, width, limit, is_asking):
+        """The rows of what failed and of the message, or of a question, and the column of its end."""
+        if is_asking:  # the cursor is after the question, whose end is shown
+            parts = parts_of(self.message, width - 1)[-limit:]
+        else:
+            parts = parts_of("; ".join(filter(None, [*self.failures, self.message])), width)[:limit]
+        return [row_of([(part, None)], 0, width) for part in parts], columns_of(parts[-1])[-1]
 
     def state(self, pane):
         """The row below a pane."""
         (line, column), lines = pane.place(), pane.place("end - 1c")[0]
-        modified = "  modified" * (self.widget.cget("undo") and self.widget.edit_modified())
-        told = f" {self.file.name}  line {line} of {lines}, column {column + 1}{modified}"
-        told += "  CHANGED ON DISK" * self.file.is_changed()
-        told = told if len(told) <= pane.width else f"{line}:{column + 1}{'*' * bool(modified)}"
-        return row_of([(told.ljust(pane.width), "active" if pane is self.pane else "other")], 0, pane.width)
+        is_modified = self.widget.cget("undo") and self.widget.edit_modified()
+        file = self.file
+        marks = {"read-only": file.is_read_only, "modified": is_modified, "CHANGED ON DISK": file.is_changed()}
+        text = f" {file.name}  line {line} of {lines}, column {column + 1}"
+        text += "".join(f"  {mark}" for mark, is_set in marks.items() if is_set)
+        if len(text) > pane.width:
+            text = f"{line}:{column + 1}{'*' if is_modified else ''}"
+        return row_of([(text.ljust(pane.width), "active" if pane is self.pane else "other")], 0, pane.width)
 
-    def tell(self, what, steps):
-        """Goes through the steps of a long piece of work, and tells now and then how far it is."""
-        told_at = time.monotonic()
+    def fail(self, failure):
+        """Reports what failed, which stays in the last rows until a key comes after it was shown."""
+        if failure not in self.failures:
+            self.failures.append(failure)
+        self.are_failures_shown = False
+
+    def report(self, what, steps):
+        """Goes through the steps of a long piece of work, and shows now and then how far it is."""
+        shown_at = time.monotonic()
         for done in steps:
-            if time.monotonic() > told_at + 0.1:
-                told_at, self.message = time.monotonic(), f"{what}: {done:.0%}"
+            if time.monotonic() > shown_at + 0.1:
+                shown_at, self.message = time.monotonic(), f"{what}: {done:.0%}"
                 self.draw()
 
     def ask(self, label, letters=""):
@@ -109,9 +157,10 @@ class Editor:
             self.message = label + typed
             self.draw(is_asking=True)
             key, characters = self.terminal.key(self.keep)
-            typed = typed[:-1] if key == "backspace" else typed * (not letters) + characters.partition("\n")[0]
             if key == "escape":
-                raise OSError("given up")
+                raise GivenUp("given up")
+            before = "" if letters else typed
+            typed = typed[:-1] if key == "backspace" else before + characters.partition("\n")[0]
         self.message = ""
         return typed
 
@@ -119,31 +168,88 @@ class Editor:
 
     def open(self):
         """Loads the file, or the copy that an editor which was killed has left."""
-        is_copy = os.path.exists(self.file.copy) and self.ask("[r]ecover or [d]rop unsaved edits?", "rd") == "r"
-        self.tell("loading", self.file.load(self.widget, is_copy))
+        self.lock()
+        if self.is_left:
+            return
+        copy = None if self.file.is_read_only else self.file.copy()
+        if copy and self.ask("[r]ecover or [d]rop unsaved edits?", "rd") == "d":
+            copy = None
+        self.report("loading", self.file.load(self.widget, copy))
         self.widget.configure(undo=True)
-        self.widget.edit_modified(is_copy)
-        if not is_copy:
-            drop(self.file.copy)
+        self.widget.edit_modified(bool(copy))
+        if not copy:
+            self.file.drop_copies()
         self.select("1.0")
         self.message = HELP if self.file.stamp else "a new file"
 
+    def lock(self, takes_over=False):
+        """Locks the file; if another editor has the lock, the user leaves, reads only, or takes over a stale lock."""
+        try:
+            self.file.lock(takes_over)
+            self.file.is_read_only = False
+        except Held as held:
+            self.file.is_read_only = True
+            choices, letters = "[r]ead only or [q]uit?", "rq"
+            if held.may_be_stale:
+                choices, letters = "[r]ead only, [q]uit or [t]ake over?", "rqt"
+            answer = self.ask(f"{held}: {choices} ", letters)
+            self.is_left = answer == "q"
+            if answer == "t":
+                self.lock(takes_over=True)
+        except OSError as error:
+            self.fail(f"no lock is held: {error}")
+
+    def check_writable(self):
+        if self.file.is_read_only:
+            raise PermissionError("read-only, as another editor has the file: ^O saves it under another name")
+
     def save(self):
         """Saves, or raises why it doesn't."""
-        try:
+        with saving():
+            self.check_writable()
             if self.file.is_changed():
                 self.ask("[o]verwrite? On the disk is something else", "o")
-            self.tell("saving", self.file.save(self.widget))
-        except OSError as error:
-            raise OSError(f"NOT saved: {error}") from error
+            self.report("saving", self.file.save(self.widget))
         self.widget.edit_modified(False)
         self.message = f"saved {self.file.name}"
+
+    def save_as(self):
+        """Saves under another name, and edits that file from there on."""
+        with saving():
+            other = File(os.path.expanduser(self.ask("save as: ") or self.file.path))
+        if other.path == self.file.path and not self.file.is_read_only:
+            self.save()
+            return
+        was = self.file
+        try:
+            with saving():
+                other.lock()
+                self.save_to(other)
+        finally:
+            (was if self.file is other else other).unlock()
+
+    def save_to(self, other):
+        """Saves to another file, which is locked; asks before it replaces one, and edits it from there on."""
+        if copy := other.copy():
+            raise OSError(f"unsaved edits of {other.name} are in {copy}")
+        if other.stamp:
+            self.ask(f"[o]verwrite {other.name}?", "o")
+        if other.is_changed():
+            raise OSError(f"another program has just written {other.name}")
+        other.line_end = self.file.line_end
+        self.report("saving", other.save(self.widget))
+        self.file.drop_copies()
+        self.file = other
+        for pane in self.panes:
+            pane.show_as(is_python=other.name.endswith(".py"))
+        self.widget.edit_modified(False)
+        self.message = f"saved {other.name}"
 
     def leave(self):
         if self.widget.edit_modified() and self.ask("[s]ave or [d]rop the edits? Esc stays", "sd") == "s":
             self.save()
         self.widget.edit_modified(False)
-        drop(self.file.copy)
+        self.file.drop_copies()
         self.is_left = True
 
     def keep(self, is_last=False):
@@ -151,17 +257,18 @@ class Editor:
         if self.is_kept or not self.widget.edit_modified():
             return
         try:
-            for _ in self.file.write(self.widget, self.file.copy):
+            for _ in self.file.keep(self.widget):
                 if not is_last and self.terminal.wait(0):
                     return
         except OSError as error:
-            self.message = f"no copy is kept: {error}"
+            self.fail(f"no copy is kept: {error}")
         self.is_kept = True
 
     # The text, and what is selected
 
     def put(self, characters, *ends):
         """Puts characters in the place of what is selected, or else of a range, or at the cursor."""
+        self.check_writable()
         ends = self.widget.tag_ranges("sel") or ends
         place = self.widget.index(ends[0] if ends else "insert")
         if ends:
@@ -185,9 +292,32 @@ class Editor:
         self.widget.tag_remove("sel", "1.0", "end")
         self.widget.tag_add("sel", self.pane.anchor, "insert", "insert", self.pane.anchor)  # one of these is empty
 
+    def break_line(self):
+        """Begins a line with the spaces that the last one begins with."""
+        self.put("\n" + re.match("[ \t]*", self.widget.get("insert linestart", "insert"))[0])
+
+    def indent(self):
+        self.put(" " * (4 - self.pane.column() % 4) if self.pane.is_python else "\t")
+
     def copy(self):
         if ends := self.widget.tag_ranges("sel"):
             self.clipboard = self.widget.get(*ends)
+
+    def cut(self):
+        self.copy()
+        self.put("")
+
+    def paste(self):
+        if self.clipboard:
+            self.put(self.clipboard)
+
+    def clear(self):
+        """Selects nothing, and shows nothing as found."""
+        self.select("insert")
+        self.pattern = ""
+
+    def go_to_line(self):
+        self.select(f"{self.ask('line: ')}.0")
 
     def find(self, start="insert + 1c", pattern=""):
         """Selects the next place of a pattern, or of the last one, round the end; capitals count where it has some."""
@@ -199,21 +329,35 @@ class Editor:
         return place
 
     def replace(self):
-        """Replaces a pattern, one by one from the cursor on and round the end, or all; tells how far it is."""
-        pattern, answer = self.ask("replace: ") or self.pattern, ""
-        by = self.ask(f"replace {pattern} by: ")
-        while answer != "a" and self.find("insert", pattern):
+        """Replaces a pattern, one by one or all that are left, in one round from the cursor; counts them."""
+        self.check_writable()
+        pattern = self.ask("replace: ") or self.pattern
+        if pattern:
+            turn = Round(self.widget, pattern, self.ask(f"replace {pattern} by: "))
+            self.pattern = pattern
+            try:
+                self.report("replacing", self.replace_in(turn))
+            except GivenUp:
+                pass  # what was replaced stays
+            finally:
+                turn.close()
+            self.message = f"{turn.count} replaced"
+
+    def replace_in(self, turn):
+        """Asks at each match of a round; yields the fraction done once all are to be replaced."""
+        while place := turn.next():
+            self.select(place, turn.end_of(place))
             answer = self.ask("[y]es, [n]o, [a]ll, Esc ends", "yna")
+            if answer == "a":
+                yield from turn.replace_rest()
+                self.select("insert")
+                return
             if answer == "y":
-                self.put(by)
+                self.put(turn.by)
+                turn.count += 1
             else:
                 self.select("sel.last")
-        places = self.widget.search_all(pattern, "1.0", "end", nocase=pattern.islower()) if answer == "a" else ()
-        # From the last one on, so that the places before it stay.
-        for number, place in enumerate(reversed(places)):
-            self.widget.replace(place, f"{place} + {len(pattern)} chars", by)
-            yield number / len(places)
-        self.message = f"{len(places)} replaced" if places else self.message
+            turn.go_on(self.widget.index("insert"))
 
     def change_pane(self):
         """Goes to the other pane; one that wasn't shown begins where this one stands."""
@@ -225,20 +369,22 @@ class Editor:
             self.widget.mark_set(self.pane.top, was.top)
 
 
+    def hide_pane(self):
+        self.is_split = False
+
+    def show_help(self):
+        self.message = HELP
+
+
 KEYS = {
-    "f1": lambda editor: setattr(editor, "message", HELP), "ctrl-s": Editor.save, "ctrl-q": Editor.leave,
-    "enter": lambda editor: editor.put("\n" + re.match("[ \t]*", editor.widget.get("insert linestart", "insert"))[0]),
-    "tab": lambda editor: editor.put(" " * (4 - editor.pane.column() % 4) if editor.pane.is_python else "\t"),
+    "f1": Editor.show_help, "ctrl-s": Editor.save, "ctrl-o": Editor.save_as, "ctrl-q": Editor.leave,
+    "enter": Editor.break_line, "tab": Editor.indent,
     "backspace": lambda editor: editor.put("", "insert - 1c", "insert"),
     "delete": lambda editor: editor.put("", "insert", "insert + 1c"),
     "ctrl-z": lambda editor: editor.widget.edit_undo(), "ctrl-y": lambda editor: editor.widget.edit_redo(),
-    "ctrl-c": Editor.copy, "ctrl-x": lambda editor: editor.copy() or editor.put(""),
-    "ctrl-v": lambda editor: editor.clipboard and editor.put(editor.clipboard), "ctrl-w": Editor.change_pane,
+    "ctrl-c": Editor.copy, "ctrl-x": Editor.cut, "ctrl-v": Editor.paste,
     "ctrl-a": lambda editor: editor.select("1.0", "end - 1c"),
-    "ctrl-space": lambda editor: editor.select("insert", is_marking=True),
-    "escape": lambda editor: (editor.select("insert"), setattr(editor, "pattern", "")),
+    "ctrl-space": lambda editor: editor.select("insert", is_marking=True), "escape": Editor.clear,
     "ctrl-f": lambda editor: editor.find("insert", editor.ask("find: ")), "ctrl-n": Editor.find,
-    "ctrl-r": lambda editor: editor.tell("replacing", editor.replace()),
-    "ctrl-g": lambda editor: editor.select(f"{editor.ask('line: ')}.0"),
-    "ctrl-t": lambda editor: setattr(editor, "is_split", False),
+    "ctrl-r": Editor.replace, "ctrl-g": Editor.go_to_line, "ctrl-w": Editor.change_pane, "ctrl-t": Editor.hide_pane,
 }

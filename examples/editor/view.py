@@ -55,6 +55,17 @@ def row_of(parts, left, width):
     return "".join(row)
 
 
+def parts_of(text, width):
+    """A text in parts that fit into a row each, split after spaces where that is possible."""
+    columns, parts, start = columns_of(text), [], 0
+    while columns[-1] - columns[start] > width:
+        fits = max(start + 1, bisect.bisect_right(columns, columns[start] + width) - 1)
+        end = text.rfind(" ", start, fits) + 1 or fits
+        parts.append(text[start:end])
+        start = end
+    return [*parts, text[start:]]
+
+
 class Pane:
     """A peer of the text in a part of the screen.  Its first line is a mark, which moves with what others edit."""
 
@@ -65,6 +76,12 @@ class Pane:
         widget.on_change(self.follow)
         widget.mark_set(self.top, "1.0")
         widget.mark_gravity(self.top, "left")
+
+    def show_as(self, is_python):
+        """Shows the text in colours or without, as it has another name now."""
+        self.is_python, self.seen = is_python, None
+        for tag in colours.STYLES:
+            self.widget.tag_remove(tag, "1.0", "end")
 
     def place(self, index="insert"):
         """The line and the character of an index."""

@@ -5,7 +5,7 @@ use Rattle.search_dump.proofs.Common.{◌∙◌, arith, not, slice_index_or, lis
 use Rattle.search_dump.proofs.Common.{cases_lt, cond-false, cond-true, false≢true, lt-ltb, true≢false, drop-drop}
 use Rattle.search_dump.proofs.Common.{drop_more, get_or-set_other, get_or-set_same, length-set, flag_at, is_alike}
 use Rattle.search_dump.proofs.Common.{next_change, Content, Tag, slots_of, tag_ranges, shown_flags, TagRange}
-use Rattle.search_dump.proofs.Common.{next-alike, next-other, AreAhead, IsKnown, IsNearest, change_behind, slot_of_row}
+use Rattle.search_dump.proofs.Common.{next-alike, next-other, AreAhead, IsKnown, IsNearest, change_after, slot_of_row}
 use Rattle.search_dump.proofs.Common.{flag_before, IsView, flags, length-part, flags-within}
 use Rattle.search_dump.proofs.DumpLaws.{begins-is, ends-is}
 
@@ -132,7 +132,7 @@ ahead-on content start end tags widget place later next ahead from =
 -- one row is looked up
 module _ {content : Content} {start end : ℕ} {tags : List Tag} {widget place change : ℕ} {old new : List ℕ} (at : ℕ)
     (ahead : AreAhead content start end tags widget place old) (within : at < length tags) (is : new ≡ set old at change)
-    (known : change ≡ change_behind content start end place (slot_of_row widget (slots_of tags) at)) where
+    (known : change ≡ change_after content start end place (slot_of_row widget (slots_of tags) at)) where
   pub put-known : IsKnown content start end tags widget place new at
   put-known =
       ap (λ xs. slice_index_or xs at 0) is ∙ get_or-set_same old at change 0 (omega (arith, within, ahead.rows)) ∙ known

@@ -11,7 +11,7 @@ pub use Rattle.mark_table.specs.Order.{shared_mark, shared_marks, shown_mark}
 pub use Rattle.mark_table.specs.SharedMarks.{Mark, names_of, numbers_of}
 pub use Rattle.mark_table.specs.declared.order.Shown.{Shown}
 pub use Rattle.search_dump.specs.Ahead.{AreAhead, AreAt, AreBefore, AreKept, AreKnownTo, AreTurned, IsKnown, IsNearest}
-pub use Rattle.search_dump.specs.Ahead.{IsTurned, change_behind, slot_of_row, turned_at}
+pub use Rattle.search_dump.specs.Ahead.{IsTurned, change_after, slot_of_row, turned_at}
 pub use Rattle.search_dump.specs.Copies.{AreLeft, left_of}
 pub use Rattle.search_dump.specs.Counts.{counted, difference, distance}
 pub use Rattle.search_dump.specs.Dump.{Marked, Seen, Tagged, begins_at, dump_elements, element, elements_at}
@@ -27,7 +27,7 @@ pub use Rattle.search_dump.specs.Sight.{AreChangesAhead, AreTagsAt, AreTagsBefor
 pub use Rattle.search_dump.specs.Sight.{IsNextTurn, IsQuietBesides, marks_in, seen_in, text_in}
 pub use Rattle.search_dump.specs.Spots.{IsSpot}
 pub use Rattle.search_dump.specs.Stops.{FailsBetween, IsNextStop, IsStop, has_mark_at, has_tag_at, stop_at_mark}
-pub use Rattle.search_dump.specs.Stops.{stops_at_marks, stops_at_tags, tags_at}
+pub use Rattle.search_dump.specs.Stops.{stops_at_marks, stops_at_tags, tag_stops}
 pub use Rattle.search_dump.specs.Stretches.{HasMatch, HasRoom, IsBehind, IsPeriod, behind_front, beside, first_high}
 pub use Rattle.search_dump.specs.Stretches.{first_low, first_stretch, front, left_behind, left_round, left_to_list}
 pub use Rattle.search_dump.specs.Stretches.{listed_from, listed_round, matches_in, nearest, next_of, ordered}
@@ -74,7 +74,7 @@ pub use Rattle.tcl_words.proofs.ListGrowth.{goes_all, goes_mapped, goes_nowhere,
 pub use Rattle.tcl_words.proofs.PlainElements.{goes-place, goes-plain}
 pub use Rattle.tcl_words.specs.ListGrowth.{Goes}
 pub use Rattle.tcl_words.specs.ListText.{list_text, needs_quotes}
-pub use Rattle.text_index.proofs.FlagLaws.{flags-within, length-part, next-alike, next-other, part-flag, part-next}
+pub use Rattle.text_index.proofs.FlagLaws.{flags-within, length-part, next-alike, next-other, part-flag}
 pub use Rattle.text_index.proofs.ViewLaws.{before-end, length-shown, line_start-before, lines-of-part, lines-part}
 pub use Rattle.text_index.proofs.ViewLaws.{take-apart}
 pub use Rattle.text_index.specs.Positions.{position_text}

@@ -10,7 +10,7 @@ use Rattle.search_dump.proofs.Common.{begins_at, element, elements_at, ends_at, 
 use Rattle.search_dump.proofs.Common.{mark_elements, mark_seen, own_slot, piece, seen_by, stands_at, tag_seen}
 use Rattle.search_dump.proofs.Common.{tagoff_elements, tagon_elements, text_elements, Has, IsMarkFrom, shown_of}
 use Rattle.search_dump.proofs.Common.{usable_by, places, FailsBetween, IsNextStop, IsStop, has_mark_at, has_tag_at}
-use Rattle.search_dump.proofs.Common.{stop_at_mark, stops_at_marks, stops_at_tags, tags_at, Listed, append_assoc}
+use Rattle.search_dump.proofs.Common.{stop_at_mark, stops_at_marks, stops_at_tags, tag_stops, Listed, append_assoc}
 use Rattle.search_dump.proofs.Common.{append-nil}
 use Rattle.search_dump.proofs.ChangeLaws.{length-flags}
 use Rattle.search_dump.proofs.DumpLaws.{begins-is}
@@ -303,7 +303,7 @@ pub dump-on : (listed : Listed) (seen : Seen) (from to place next : ℕ) (old no
     from ≤ place → IsStop listed seen place to next
     → (listed.text ≡ true → (place == from || is_cut seen place) ≡ true)
     → Goes old now (flat_map (elements_at listed seen from to) (places from place)) →
-    Goes now tagged (tags_at listed seen place) →
+    Goes now tagged (tag_stops listed seen place) →
     Goes tagged marked (if_listed listed.marks (mark_elements seen place))
     →
     Goes marked new (if_listed listed.text
@@ -361,7 +361,7 @@ tagons-end content start end tags marks widget place view is =
 
 pub end-goes : (listed : Listed) (content : Content) (start end : ℕ) (tags : List Tag) (marks : List Mark)
     (widget place : ℕ) (old between new : List ℕ) → IsView content start end → place ≡ length (shown content start end)
-    → Goes old between (tags_at listed (seen_by content start end tags marks widget) place) →
+    → Goes old between (tag_stops listed (seen_by content start end tags marks widget) place) →
     Goes between new (if_listed listed.marks (mark_elements (seen_by content start end tags marks widget) place))
     → Goes old new (if_listed listed.tags (tagoff_elements (seen_by content start end tags marks widget) place)
     ++ if_listed listed.marks (mark_elements (seen_by content start end tags marks widget) place))

@@ -2,7 +2,7 @@
 use Rattle.search_dump.proofs.Common.{◌≡◌, ◌≢◌, ℕ, inl, inr, ◌<◌, ◌≤◌, ◌⊎◌, ◌==◌, Bool, cond, List, length, refl, sym}
 use Rattle.search_dump.proofs.Common.{ap, ◌∙◌, arith, not, if◌then◌else◌, cases_eq, eq-eqb, ne_eqb, Tag, slots_of}
 use Rattle.search_dump.proofs.Common.{flag_at, next_change, Content, Slots, shown_flags, AreAt, AreBefore, AreKept}
-use Rattle.search_dump.proofs.Common.{AreKnownTo, AreTurned, IsTurned, change_behind, slot_of_row, turned_at}
+use Rattle.search_dump.proofs.Common.{AreKnownTo, AreTurned, IsTurned, change_after, slot_of_row, turned_at}
 use Rattle.search_dump.proofs.Common.{flag_before}
 use Rattle.text_model.proofs.CellLaws.{contains-set_slot}
 use Rattle.search_dump.proofs.ChangeLaws.{flag-other, flag-same, flag-upto}
@@ -107,7 +107,7 @@ pub turned-are : (content : Content) (start end : ℕ) (tags : List Tag) (widget
     AreAt content start end tags widget stop behind
 turned-are content start end tags widget place stop next before behind above within known are turned at below =
     let slot = slot_of_row widget (slots_of tags) at in
-    let change = change_behind content start end place in
+    let change = change_after content start end place in
     turned change (λ row inside. (known.each row inside).0) at below
     ∙ turned-flag (shown_flags slot content start end) place stop (change slot)
     (set.contains before slot) above (within slot) refl

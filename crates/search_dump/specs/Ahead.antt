@@ -13,13 +13,13 @@ abbrev pub slot_of_row : ℕ → List ℕ → ℕ → ℕ
 slot_of_row widget slots at = own_slot widget (slice_index_or slots at 0)
 
 -- where a slot changes next behind a place
-abbrev pub change_behind : Content → ℕ → ℕ → ℕ → ℕ → ℕ
-change_behind content start end place slot = next_change (shown_flags slot content start end) place
+abbrev pub change_after : Content → ℕ → ℕ → ℕ → ℕ → ℕ
+change_after content start end place slot = next_change (shown_flags slot content start end) place
 
 -- the next change that is kept for a row of the table is that of its slot behind a place
 abbrev pub IsKnown : Content → ℕ → ℕ → List Tag → ℕ → ℕ → List ℕ → ℕ → Type 0
 IsKnown content start end tags widget place next at =
-    slice_index_or next at 0 ≡ change_behind content start end place (slot_of_row widget (slots_of tags) at)
+    slice_index_or next at 0 ≡ change_after content start end place (slot_of_row widget (slots_of tags) at)
 
 -- what is kept of each row stands at the place or before it, or is the next change behind it
 pub record AreAhead (content : Content) (start end : ℕ) (tags : List Tag) (widget place : ℕ) (next : List ℕ) : Type 0

@@ -34,8 +34,8 @@ stop_at_mark to None = to
 stop_at_mark to (Some mark) = min to mark.place
 
 -- what is listed of the tags at a place
-abbrev pub tags_at : Listed → Seen → ℕ → List (List ℕ)
-tags_at listed seen place =
+abbrev pub tag_stops : Listed → Seen → ℕ → List (List ℕ)
+tag_stops listed seen place =
     if_listed listed.tags (tagoff_elements seen place) ++ if_listed listed.tags (tagon_elements seen place)
 
 -- the next stop of a dump behind a place

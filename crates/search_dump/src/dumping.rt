@@ -10,7 +10,8 @@ ghost use Rattle.tcl_words.specs.ListText.{list_text, needs_quotes};
 ghost use Rattle.text_model.specs.declared.limits.TheConstants.Limits.{MOST_WIDGETS};
 ghost use Rattle.text_index.specs.Values.{column_of};
 ghost use Rattle.text_index.specs.Views.{IsView};
-ghost use Rattle.search_dump.specs.Stops.{has_tag_at, stop_at_mark, stops_at_marks, stops_at_tags, tags_at, IsNextStop};
+ghost use Rattle.search_dump.specs.Stops.{has_tag_at, stop_at_mark, stops_at_marks, stops_at_tags, tag_stops};
+ghost use Rattle.search_dump.specs.Stops.{IsNextStop};
 ghost use Rattle.search_dump.specs.Stops.{IsStop};
 ghost use Rattle.search_dump.specs.Matches.{places};
 ghost use Rattle.search_dump.specs.MarksAhead.{mark_element, shown_of, Has};
@@ -27,7 +28,7 @@ ghost use Rattle.search_dump.specs.Copies.{AreLeft};
 use crate::copied::Copied;
 use crate::dumped_marks::{Marked, mark_from};
 use crate::listing::{Listing, Spot};
-use crate::tag_changes::{TagChanges, own_slot, tags_before, tags_left_of};
+use crate::tag_changes::{TagChanges, own_slot, tags_at, tags_left_of};
 use crate::turns::{Rows, Turn};
 use std::alloc::{AllocError, Global};
 use text_index::{Names, View};
@@ -205,7 +206,7 @@ fn push_listed_tags<S: TextStore>(
     requires behind { IsTrue listed.tags → AreTagsAt S.content sight.now.view.now sight.now.names.now spot.place
         sides.now.off.now }
     ensures { OnOk result (Goes (string_bytes out.old.list) (string_bytes out.new.list)
-        (tags_at listed (seen_in S.content sight.now.view.now sight.now.names.now) spot.place)) }
+        (tag_stops listed (seen_in S.content sight.now.view.now sight.now.names.now) spot.place)) }
 {
     if !listed.tags {
         return Ok(());
@@ -432,7 +433,7 @@ fn listed_before<S: TextStore>(sight: &Sight<'_, S>, listed: Listed, place: usiz
     if !listed.tags {
         return TagSet::empty();
     }
-    tags_before(sight.view, place)
+    tags_left_of(sight.view, place)
 }
 
 /// The tags of the character at a place, if tags are listed.
@@ -445,7 +446,7 @@ fn listed_behind<S: TextStore>(sight: &Sight<'_, S>, listed: Listed, place: usiz
     if !listed.tags {
         return TagSet::empty();
     }
-    tags_left_of(sight.view, place)
+    tags_at(sight.view, place)
 }
 
 /// The tags of the character at a stop, if tags are listed, by those of the character before it: none begin or end

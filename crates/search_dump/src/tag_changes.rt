@@ -1,6 +1,7 @@
+//! The tags at a place of a view, those left of it, and where each changes next, for a dump.
 ghost use Rattle.std.specs.Prelude.{◌≡◌, ◌≢◌, ℕ, ◌≤◌, ◌<◌, ◌+◌, length, replicate, slice_index_or, IfOk};
 ghost use Rattle.std.specs.FinSet as set;
-ghost use Rattle.text_model.specs.Changes.{flag_at, next_change};
+ghost use Rattle.text_model.specs.Changes.{flag_at};
 ghost use Rattle.tag_table.specs.Tags.{slots_of};
 ghost use Rattle.text_index.specs.Views.{shown_flags};
 ghost use Rattle.text_model.specs.Steps.{set_slot};
@@ -13,7 +14,7 @@ ghost use Rattle.search_dump.specs.Turns.{AreBehind};
 
 use crate::turns::{Rows, Turn};
 use std::alloc::{AllocError, Global};
-use text_index::{Names, View};
+use text_index::{Names, View, change_after};
 use text_model::{TagSet, TagSlot, TextStore};
 
 /// The slot in which the store knows the tag at a place of the table: for `sel`, that of the widget's own.
@@ -30,7 +31,7 @@ pub fn own_slot(names: &Names<'_>, at: usize) -> TagSlot
 }
 
 /// The tags of the character before a place of the view; none before the first.
-pub fn tags_before<S: TextStore>(view: &View<'_, S>, place: usize) -> TagSet
+pub fn tags_left_of<S: TextStore>(view: &View<'_, S>, place: usize) -> TagSet
     requires view { ShowsLines S.content view.now }
     requires within { view.now.s + place ≤ view.now.e }
     ensures { (slot : ℕ) →
@@ -45,7 +46,7 @@ pub fn tags_before<S: TextStore>(view: &View<'_, S>, place: usize) -> TagSet
 }
 
 /// The tags of the character at a place of the view; none at the end.
-pub fn tags_left_of<S: TextStore>(view: &View<'_, S>, place: usize) -> TagSet
+pub fn tags_at<S: TextStore>(view: &View<'_, S>, place: usize) -> TagSet
     requires view { ShowsLines S.content view.now }
     requires within { view.now.s + place ≤ view.now.e }
     ensures { (slot : ℕ) →
@@ -69,19 +70,6 @@ fn set_slot(slots: &mut TagSet, slot: TagSlot, is_on: bool)
     } else {
         slots.without(slot)
     };
-}
-
-/// Where the next place behind one is at which a tag begins or ends, or the end of the view.
-fn change_behind<S: TextStore>(view: &View<'_, S>, slot: TagSlot, place: usize) -> usize
-    requires view { ShowsLines S.content view.now }
-    requires slot { slot.0 < slot_count }
-    requires within { view.now.s + place < view.now.e }
-    ensures value { result ≡ next_change (shown_flags slot.0
-        (S.content view.now.store.now) view.now.s view.now.e) place }
-    ensures above { place < result }
-    ensures bound { view.now.s + result ≤ view.now.e }
-{
-    view.store.next_change(view.s + place, slot).min(view.e) - view.s
 }
 
 /// For each tag, by its place in the table, the next place of a view at which it begins or ends, so that the store is
@@ -116,7 +104,7 @@ impl TagChanges {
         if place < self.next[at] {
             return;
         }
-        self.next[at] = change_behind(view, own_slot(names, at), place);
+        self.next[at] = change_after(view, own_slot(names, at), place);
     }
 
     /// Knows where each tag changes next behind a place of the view, before its end, where that is known already of all

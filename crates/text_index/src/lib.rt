@@ -16,7 +16,7 @@ pub use index_grammar::{
 pub use locating::locate;
 pub use moves::{back, forward, lines_by, word_end, word_start};
 pub use positions::{push_index, push_index_on};
-pub use ranges::{TagRange, next_range, previous_range, range_behind};
+pub use ranges::{TagRange, change_after, next_range, previous_range, range_behind};
 pub use values::resolve;
 pub use views::View;
 pub use words::is_word;

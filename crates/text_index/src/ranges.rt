@@ -1,3 +1,4 @@
+//! The ranges of a tag in a view (text(n), "tag ranges", "tag nextrange"), by the next change of its slot.
 ghost use Rattle.std.specs.Prelude.{◌≡◌, ◌<◌, ◌≤◌, ◌+◌, ◌-◌, ℕ, true, false, IfSome};
 ghost use Rattle.text_model.specs.Changes.{flag_at, next_change, previous_change};
 ghost use Rattle.text_model.specs.TagBits.{slot_count};
@@ -26,8 +27,8 @@ fn is_tagged<S: TextStore>(view: &View<'_, S>, slot: TagSlot, place: usize) -> b
     view.store.has_tag(view.s + place, slot)
 }
 
-/// Where the run of characters ends that are like the one at a place in a tag.
-fn change_behind<S: TextStore>(view: &View<'_, S>, slot: TagSlot, place: usize) -> usize
+/// Returns the next place after one at which the tag of a slot begins or ends, or the end of the view.
+pub fn change_after<S: TextStore>(view: &View<'_, S>, slot: TagSlot, place: usize) -> usize
     requires view { IsView (S.content view.now.store.now) view.now.s view.now.e }
     requires slot { slot.0 < slot_count }
     requires within { view.now.s + place < view.now.e }
@@ -71,7 +72,7 @@ fn behind_range<S: TextStore>(view: &View<'_, S>, slot: TagSlot, place: usize) -
     if place == 0 || !is_tagged(view, slot, place - 1) {
         return place;
     }
-    change_behind(view, slot, place - 1)
+    change_after(view, slot, place - 1)
 }
 
 /// The first place from a place on at which a range begins, where the character at the place hasn't the tag or the view
@@ -91,7 +92,7 @@ fn start_behind<S: TextStore>(view: &View<'_, S>, slot: TagSlot, place: usize) -
     if place == view.len() {
         return place;
     }
-    change_behind(view, slot, place)
+    change_after(view, slot, place)
 }
 
 /// The first place from a place on at which a range begins; the end of the view where there is none.
@@ -153,7 +154,7 @@ fn range_at<S: TextStore>(view: &View<'_, S>, slot: TagSlot, start: usize) -> Op
     if start == view.len() {
         return None;
     }
-    let end = change_behind(view, slot, start);
+    let end = change_after(view, slot, start);
     Some(TagRange { start, end })
 }
 
@@ -226,7 +227,7 @@ pub fn previous_range<S: TextStore>(
     if behind < place {
         return Some(TagRange { start, end: behind });
     }
-    let end = change_behind(view, slot, start);
+    let end = change_after(view, slot, start);
     Some(TagRange { start, end })
 }
 

@@ -1,17 +1,14 @@
 -- The machine values of a `KeptReport`. Assumes `Logic`.
-use Rattle.tktext_c.proofs.Common.{◌≡◌, ℕ, Option, Some, None, List, [], ◌∷◌, ◌++◌, refl, sym, subst, true≢false}
+use Rattle.tktext_c.proofs.Common.{◌≡◌, Option, List, [], ◌∷◌, ◌++◌, refl, subst}
 use Rattle.tktext_c.proofs.KeptSteps.{word}
 use Rattle.tktext_c.specs.declared.report.Report.{Report}
 use seplogic.Ra.Ura.{Ura}
-use mir.Raw.{raw as bare}
-use mir.Val.{Val, vstruct, vcons, vnil, of_list}
-use base.Logic.{never, fst∗}
-use types.Logic.{Logic, sem}
+use mir.Val.{Val, vstruct, of_list}
+use types.Logic.{Logic}
 use types.Kit.{Item, Goal, Seq, Step, step, ‵, ◌$◌, drop, fsplit, fjoin, fpick, fpack, feq_i, feq_l}
-use denote.RattleType.{RattleType, Valss}
+use denote.RattleType.{Valss}
 use denote.Builtin.{RawPtr}
-use denote.Memory.{lone}
-use denote.RawPtr.{Ptr, block_ptr, null_ptr, ptr_val, in_a_block}
+use denote.RawPtr.{Ptr, ptr_val}
 use denote.Steps.{nothing}
 use denote.Struct.Struct.{within}
 use denote.Struct.Owning.{shape}

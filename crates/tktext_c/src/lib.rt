@@ -221,8 +221,8 @@ pub extern "C" fn tktext_told_inserted(
     length
 }
 
-/// Returns the line, from 1, of one of the ends of a change: of its start (0), of the end of what it deleted in the text
-/// before it (1), or of the end of what it inserted in the text after it (2); 0 if there is no such change.
+/// Returns the line, from 1, of an end of a change: of its start (0), of the end of what it deleted, in the text before
+/// it (1), or of the end of what it inserted, in the text after it (2); 0 if there is no such change.
 #[unsafe(no_mangle)]
 pub extern "C" fn tktext_told_line(
     alloc: Global,

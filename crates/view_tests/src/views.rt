@@ -1,13 +1,13 @@
 ghost use Rattle.std.specs.Prelude.{◌≡◌};
 
-use crate::scenes::{Scene, two_lines};
+use crate::scenes::{Scene, store_with, two_lines};
 use index_grammar::Direction;
 use search_dump::{Counted, Listed, SearchSwitches, Wanted, count, dump, search};
 use std::alloc::Global;
 use std::process::Abort;
 use std::test::Fail;
-use text_index::{Names, View, parse, push_index, resolve};
-use text_model::{TagSlot, TextStore};
+use text_index::{Names, View, change_after, parse, push_index, resolve};
+use text_model::{PlainStore, TagSet, TagSlot, TextStore};
 
 // An index, and the place that it stands for as an index is printed.
 struct Indexed {
@@ -107,5 +107,15 @@ fn a_text_is_dumped(rt: HostRuntime) -> Result<(), Fail> {
     };
     let list = dump(rt.alloc(), &view, &names_of(&scene), listed, 4, 9)?;
     assert!(rt; list.as_str() == "text {two\n} 1.4 text t 2.0", "{list}");
+    Ok(())
+}
+
+#[test]
+fn a_tag_changes_after_its_last_character(rt: HostRuntime) -> Result<(), Fail> {
+    let slot = TagSlot(70);
+    let store: PlainStore = store_with(rt.alloc(), "one", TagSet::empty().with(slot))?;
+    let view = View::new(&store, 0, store.len());
+    assert!(rt; view.shows_lines() && view.s == 0 && view.e == 4);
+    assert!(rt; change_after(&view, slot, 0) == 3);
     Ok(())
 }

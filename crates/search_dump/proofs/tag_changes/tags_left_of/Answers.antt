@@ -1,23 +1,16 @@
-use Rattle.search_dump.proofs.Common.{◌≡◌, ◌+◌, ◌<◌, arith, shown, length-shown, length}
-use Rattle.search_dump.proofs.TagLaws.{none-behind, slots-shown}
+use Rattle.search_dump.proofs.Common.{◌<◌, arith, shown_flags}
+use Rattle.search_dump.proofs.TagLaws.{none-before, some-before}
 use Rattle.search_dump.proofs.tag_changes.tags_left_of.Goals as goal
 
-pub returns-then-place-len : goal.returns-then-place-len
-returns-then-place-len g c =
+pub returns-then-place-eq0 : goal.returns-then-place-eq0
+returns-then-place-eq0 g c slot =
     let view = c.args.view.now in
-    let content = g.S.TextStore.content view.store.now in
-    let is : c.args.place ≡ length (shown content view.s view.e) = omega (arith, c.if-place-len.true, c.len.ensures) in
-    none-behind content view.s view.e c.args.place c.requires.view is c.empty.result c.empty.ensures
+    none-before (shown_flags slot (g.S.TextStore.content view.store.now) view.s view.e) c.args.place
+    (omega (arith, c.if-place-eq0.true)) c.empty.result c.empty.ensures slot
 
 pub returns : goal.returns
 returns g c =
     let view = c.args.view.now in
-    let content = g.S.TextStore.content view.store.now in
-    let inside : view.s + c.args.place < view.e = omega (
-      arith,
-      c.requires.within,
-      c.if-place-len.false,
-      c.len.ensures,
-      length-shown content view.s view.e c.requires.view,
-    ) in
-    slots-shown content view.s view.e c.args.place c.tags_at.result inside c.tags_at.ensures
+    let some : 0 < c.args.place = omega (arith, c.if-place-eq0.false) in
+    some-before (g.S.TextStore.content view.store.now) view.s view.e c.args.place c.tags_at.result some
+    c.requires.within c.tags_at.ensures

@@ -7,18 +7,18 @@ returns-clause-passed g c = λ k from below.
     let view = c.args.view.now in
     let shown = shown_flags c.args.slot.0 (g.S.TextStore.content view.store.now) view.s view.e in
     let set : flag_at shown (c.args.place - 1) ≡ true = cc in
-    range-passed shown c.args.place c.change_behind.result k (omega arith) set c.change_behind.ensures.value from below
+    range-passed shown c.args.place c.change_after.result k (omega arith) set c.change_after.ensures.value from below
 
 pub returns-clause-here : goal.returns-clause-here
 returns-clause-here g c = λ there.
     let view = c.args.view.now in
     let shown = shown_flags c.args.slot.0 (g.S.TextStore.content view.store.now) view.s view.e in
     let set : flag_at shown (c.args.place - 1) ≡ true = cc in
-    range-ends shown (c.args.place - 1) c.change_behind.result set c.change_behind.ensures.value there
+    range-ends shown (c.args.place - 1) c.change_after.result set c.change_after.ensures.value there
 
 pub returns-clause-past : goal.returns-clause-past
 returns-clause-past g c = λ _.
     let view = c.args.view.now in
     let shown = shown_flags c.args.slot.0 (g.S.TextStore.content view.store.now) view.s view.e in
     let set : flag_at shown (c.args.place - 1) ≡ true = cc in
-    ap (flag_at shown) c.change_behind.ensures.value ∙ unset-there shown (c.args.place - 1) set
+    ap (flag_at shown) c.change_after.ensures.value ∙ unset-there shown (c.args.place - 1) set

@@ -21,9 +21,9 @@ returns-clause-value g c =
     let long : length shown ≡ view.e - view.s = length-part (flags c.args.slot.0 content.cells) view.s view.e
     (flags-within content c.args.slot.0 view.s view.e c.requires.view) c.requires.view.ordered in
     previous-there shown c.args.place c.behind_tagged-behind.result c.change_before-start.result
-    c.change_behind-end.result (omega arith) c.behind_tagged-behind.ensures.below
+    c.change_after-end.result (omega arith) c.behind_tagged-behind.ensures.below
     (omega (arith, long)) (c.behind_tagged-behind.ensures.here (omega arith)) c.behind_tagged-behind.ensures.passed
-    c.change_before-start.ensures.value c.change_behind-end.ensures.value
+    c.change_before-start.ensures.value c.change_after-end.ensures.value
 
 pub returns-then-behind-place-clause-value : goal.returns-then-behind-place-clause-value
 returns-then-behind-place-clause-value g c =

@@ -25,5 +25,5 @@ returns-clause-value g c = λ place above passed.
     (flags-within content c.args.slot.0 view.s view.e c.requires.view) c.requires.view.ordered in
     let len : c.len.result ≡ view.e - view.s = c.len.ensures ∙ length-shown content view.s view.e c.requires.view in
     let inside : view.s + c.args.start < view.e = omega (arith, len, c.requires.within) in
-    next-there shown place c.args.start c.change_behind-end.result above (omega (arith, long, inside)) passed
-    (c.requires.here inside) c.change_behind-end.ensures.value
+    next-there shown place c.args.start c.change_after-end.result above (omega (arith, long, inside)) passed
+    (c.requires.here inside) c.change_after-end.ensures.value

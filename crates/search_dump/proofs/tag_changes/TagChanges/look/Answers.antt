@@ -1,4 +1,4 @@
-use Rattle.search_dump.proofs.Common.{ap, refl, ◌∙◌, change_behind}
+use Rattle.search_dump.proofs.Common.{ap, refl, ◌∙◌, change_after}
 use Rattle.search_dump.proofs.ChangeLaws.{put-ahead, put-keeps, put-known}
 use Rattle.search_dump.proofs.tag_changes.TagChanges.look.Goals as goal
 
@@ -6,8 +6,8 @@ pub returns : goal.returns
 returns g c =
     let view = c.args.view.now in
     let content = g.S.TextStore.content view.store.now in
-    let known = c.change_behind.ensures.value
-    ∙ ap (change_behind content view.s view.e c.args.place) c.own_slot.ensures.value in
+    let known = c.change_after.ensures.value
+    ∙ ap (change_after content view.s view.e c.args.place) c.own_slot.ensures.value in
     record {
       known = put-known c.args.at c.requires.ahead c.requires.row refl known;
       keeps = put-keeps c.args.at c.requires.ahead c.requires.row refl known;
