@@ -790,12 +790,12 @@ del text
 print(*(reference() for reference in gone))
 gc.enable()
 
-# A world goes with what is queued and what `changes` would return, however much that is.
+# A world goes with what is queued and what `changes` would return, however much that is, and with a small stack.
 def leave(changes): raise KeyboardInterrupt
-for is_closed in (True, False):
+def drop(is_closed):
     text = Text()
     text.changes()
-    for number in range(100_000): text.mark_set("m", f"1.{number % 2}") if number else text.insert("1.0", "ab")
+    for number in range(20_000): text.mark_set("m", f"1.{number % 2}") if number else text.insert("1.0", "ab")
     text.on_change(leave)
     text.on_change(lambda changes: print(text))
     for _ in range(2):
@@ -808,6 +808,11 @@ for is_closed in (True, False):
     del text
     gc.collect()
     print(*(reference() for reference in gone))
+threading.stack_size(2**18)
+for is_closed in (True, False):
+    thread = threading.Thread(target=drop, args=(is_closed,))
+    thread.start()
+    thread.join()
 """
 TAKEN_AWAY_SAYS = r"""destroyed None ['one']
 .. TclError: invalid command name ".t" []
@@ -1069,12 +1074,21 @@ def check_free_threads(tally):
     tally.check(done.returncode != 0 and says_why, f"the extension without a lock: {done.stderr[-900:]}")
 
 
+def check_returns(tally):
+    """No source uses `Py_RETURN_NONE` or its like, which the headers of 3.12 compile to no reference: older Pythons, for
+    which the extension is too, count those and would crash."""
+    for path in build_python.sources():
+        with open(path, encoding="utf-8") as file:
+            tally.check("Py_RETURN_" not in file.read(), f"{path} returns None, True or False without a reference")
+
+
 def check(module, rounds, tally):
     """Each case, of the package in a folder."""
     for name, script, wanted in cases(rounds):
         check_case(module, name, script, wanted, tally)
     check_types(module, tally)
     check_free_threads(tally)
+    check_returns(tally)
 
 
 if __name__ == "__main__":

@@ -206,7 +206,7 @@ static PyObject *core_use(PyObject *module, PyObject *arguments)
     keep(&state->error_of_fault, error);
     keep(&state->content_of_report, content);
     keep(&state->method_type, method);
-    Py_RETURN_NONE;
+    return none();
 }
 
 static PyObject *core_split(PyObject *Py_UNUSED(module), PyObject *text)
@@ -243,7 +243,7 @@ static PyObject *core_hint(PyObject *Py_UNUSED(module), PyObject *arguments)
     if (PyErr_Occurred())
         return NULL;
     if (hint == NULL)
-        Py_RETURN_NONE;
+        return none();
     return PyUnicode_FromString(hint);
 }
 

@@ -22,6 +22,13 @@ PyAPI_FUNC(const char *) PyUnicode_AsUTF8AndSize(PyObject *text, Py_ssize_t *len
 #define METH_FASTCALL 0x0080
 #endif
 
+/* Returns None with a reference, which Pythons before 3.12 count; Py_RETURN_NONE of later headers adds none. */
+static inline PyObject *none(void)
+{
+    Py_INCREF(Py_None);
+    return Py_None;
+}
+
 /* The number of words, and of bytes of words or of a line, for which there is space on the stack. */
 enum { FEW_WORDS = 16, FEW_BYTES = 512 };
 

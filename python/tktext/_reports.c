@@ -187,7 +187,7 @@ static PyObject *report_read(Report *link, PyObject *Py_UNUSED(nothing))
     if (state == NULL)
         return NULL;
     if (link->peers == NULL)
-        Py_RETURN_NONE;
+        return none();
     if (link->content == NULL) {
         PyObject *content = make_content(link, state), *old = link->content;
         if (content == NULL)

@@ -269,7 +269,7 @@ PyObject *tuple_of_list(const char *start, size_t length)
 PyObject *answer_as(int form, const char *text, size_t length)
 {
     if (form == AS_NOTHING)
-        Py_RETURN_NONE;
+        return none();
     if (form == AS_TUPLE)
         return tuple_of_list(text, length);
     if (form == AS_TRIPLES)

@@ -200,7 +200,7 @@ static PyObject *world_make(
         Py_XINCREF(world->module);
         world->state = PyType_GetModuleState(type);
     }
-    Py_RETURN_NONE;
+    return none();
 }
 
 static int world_traverse(World *world, visitproc visit, void *arg)
@@ -272,13 +272,13 @@ static PyObject *world_feed(World *world, PyObject *piece)
     int32_t code = tktext_feed(&world->handle, (const uint8_t *)start, length);
     if (code != TKTEXT_ANSWER)
         return raise_code(code);
-    Py_RETURN_NONE;
+    return none();
 }
 
 static PyObject *world_finish(World *world, PyObject *Py_UNUSED(nothing))
 {
     tktext_finish(&world->handle);
-    Py_RETURN_NONE;
+    return none();
 }
 
 /* Returns the code and the line of the script's next command, or None if none is at hand. */
@@ -286,7 +286,7 @@ static PyObject *world_next(World *world, PyObject *Py_UNUSED(nothing))
 {
     int32_t code = next_reported(world);
     if (code == TKTEXT_END)
-        Py_RETURN_NONE;
+        return none();
     if (code > TKTEXT_SCRIPT_FAULT)
         return raise_code(code);
     PyObject *line = code < 0 ? NULL : line_of(world);
@@ -307,13 +307,13 @@ static PyObject *world_drop(World *world, PyObject *Py_UNUSED(nothing))
     tktext_drop(&world->handle);
     Py_CLEAR(world->line);
     drop_queue(world);
-    Py_RETURN_NONE;
+    return none();
 }
 
 static PyObject *world_watch(World *world, PyObject *is_watched)
 {
     world->is_watched = PyObject_IsTrue(is_watched) == 1;
-    Py_RETURN_NONE;
+    return none();
 }
 
 static PyObject *world_followers(World *world, PyObject *Py_UNUSED(nothing))
@@ -334,14 +334,14 @@ static PyObject *world_queue(World *world, PyObject *event)
 {
     if (queue_event(world, event) < 0)
         return NULL;
-    Py_RETURN_NONE;
+    return none();
 }
 
 static PyObject *world_deliver(World *world, PyObject *Py_UNUSED(nothing))
 {
     if (deliver(world) < 0)
         return NULL;
-    Py_RETURN_NONE;
+    return none();
 }
 
 static PyMethodDef world_methods[] = {
@@ -399,7 +399,7 @@ static PyObject *widget_join(
     Py_XDECREF(old_world);
     Py_XDECREF(old_name);
     Py_XDECREF(unread);
-    Py_RETURN_NONE;
+    return none();
 }
 
 /* The words of a widget's command: its name, and the values up to the first None. */
@@ -512,11 +512,11 @@ static PyObject *widget_pass(Widget *widget, PyObject *links)
     if (first == NULL || last == NULL)
         return NULL;
     if (first != (PyObject *)widget->unread)
-        Py_RETURN_FALSE;
+        return PyBool_FromLong(0);
     Py_INCREF(last);
     widget->unread = (Report *)last;
     Py_DECREF(first);
-    Py_RETURN_TRUE;
+    return PyBool_FromLong(1);
 }
 
 static int widget_traverse(Widget *widget, visitproc visit, void *arg)
