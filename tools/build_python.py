@@ -3,9 +3,9 @@
 
     python3 tools/build_python.py [--try]
 
-Puts the package tktext into out/python, over out/libtktext.a, or into out/try/python with `--try`, over the library of
-`make try-lib`.  The extension goes by the stable ABI of Python 3.9, so it serves each later one too.  `pip install .`
-does the same by setup.py, for users.
+Puts the package tktext into out/python, with out/libtktext.a, or into out/try/python with `--try`, with the library of
+`make try-lib`.  The extension is built by the stable ABI of Python 3.9, so it serves each later one too.  `pip install .`
+does the same by tools/python_backend.py, for users.
 """
 
 import argparse
@@ -18,12 +18,13 @@ import sysconfig
 TOP = os.path.dirname(os.path.dirname(os.path.abspath(__file__)))
 SOURCE = os.path.join(TOP, "python", "tktext")
 EXTENSION = "_core.abi3.so"
-WANTED = "a C compiler and Python's headers (Debian: apt-get install gcc python3-dev)"
+WANTED = "a C compiler, headers (Debian: apt-get install gcc python3-dev), and a Python that isn't free-threaded"
 
 
 def can_build():
     """Whether an extension can be compiled for this Python."""
-    return shutil.which("cc") is not None and os.path.exists(os.path.join(sysconfig.get_path("include"), "Python.h"))
+    has_header = os.path.exists(os.path.join(sysconfig.get_path("include"), "Python.h"))
+    return shutil.which("cc") is not None and has_header and not sysconfig.get_config_var("Py_GIL_DISABLED")
 
 
 def files():
@@ -31,12 +32,21 @@ def files():
     return sorted(name for name in os.listdir(SOURCE) if name.endswith((".py", ".pyi")) or name == "py.typed")
 
 
+def sources():
+    """The extension's files in C."""
+    return [os.path.join(SOURCE, name) for name in sorted(os.listdir(SOURCE)) if name.endswith(".c")]
+
+
+def includes():
+    """The compiler's flags for the headers."""
+    return [f"-I{os.path.join(TOP, 'include')}", f"-I{sysconfig.get_path('include')}"]
+
+
 def compile_extension(made, archive, *flags):
-    """Compiles the extension over an archive of the library."""
-    includes = [f"-I{os.path.join(TOP, 'include')}", f"-I{sysconfig.get_path('include')}"]
-    words = ["cc", "-Wall", "-Wextra", "-O2", "-fPIC", "-shared", *includes, *flags]
-    # Of the library's names none is seen from outside.
-    words += [os.path.join(SOURCE, "_core.c"), archive, "-Wl,--exclude-libs,ALL", "-o", made]
+    """Compiles the extension with an archive of the library."""
+    words = ["cc", "-Wall", "-Wextra", "-O2", "-fPIC", "-fvisibility=hidden", "-shared", *includes(), *flags]
+    # The extension exports only its initialization, and no name of the library.
+    words += [*sources(), archive, "-Wl,--exclude-libs,ALL", "-o", made]
     subprocess.run(words, check=True)
 
 

@@ -14,8 +14,8 @@ has just proved (tools/build_library.py).  Without a C compiler one line says so
   the cases of tools/python_cases.py, threads among them; `python3 -m tktext`; tkinter's answers
   beside ours, and tests that others wrote for its Text.
 - Tcl (tcl/): a script with procedures, loops and variables, and random scripts; the cases of tools/tcl_cases.py.
-- Python and Tcl with growths of memory refused (tools/refuse_calls.c): want of memory is an error of the language, and the
-  command answers as ever when it is given again.
+- Python and Tcl with growths of memory refused (tools/refuse_calls.c): out of memory is an error of the language, and the
+  command answers as ever when it is given again; in Python, those who follow a text miss no change.
 - The instructions of a command by its words and by a script, where valgrind is installed: the words cost less.
 - The examples of three languages answer alike, and the lines of README and docs/use.md run.
 
@@ -358,6 +358,62 @@ def check_python_refusals(tktext, tally):
     return refusals
 
 
+class FollowedText:
+    """A text of a world, and the copies that `on_change` and `changes` make of it."""
+
+    def __init__(self, text):
+        self.text, self.followed = text, "\n"
+        self.polled = "\n"
+        text.changes()
+        text.on_change(self.take)
+
+    def take(self, changes):
+        for change in changes:
+            self.followed = change.made_in(self.followed)
+
+    def is_same(self):
+        for change in self.text.changes():
+            self.polled = change.made_in(self.polled)
+        return self.followed == self.polled == self.text.get("1.0", "end")
+
+
+def check_followed_refusals(tktext, tally):
+    """Each growth of each command refused in turn in a world that is followed: no change is lost, and none comes twice,
+    though MemoryError may come after the command.  Returns the number of commands refused, and of those carried out."""
+    serials, refused, carried_out = refused_numbers(), 0, 0
+    for name, script in worked.repeated_scripts():
+        commands, _ = model.reads_script(script)
+        for growth in range(1, MOST_GROWTHS):
+            world, before = tktext.World(), refused
+            world.call("text", ".followed", "-startline", "", "-endline", "")
+            followed = FollowedText(tktext.Text.named(world, ".followed"))
+            peers = {words[1] for words in commands if words[0] == "text"}
+            for peer in peers:
+                world.call(".followed", "peer", "create", peer)
+            for words in commands:
+                old = followed.text.get("1.0", "end")
+                if words[0] != "text" and is_refused_once(tktext, world, words, f"followed {next(serials)}:{growth}"):
+                    refused += 1
+                    carried_out += followed.text.get("1.0", "end") != old
+                tally.check(followed.is_same(), f"Python, {name!r}, growth {growth} of {words} refused: a copy differs")
+            world.close()
+            if refused == before:
+                break
+    return refused, carried_out
+
+
+def is_refused_once(tktext, world, words, which):
+    """Gives a command with a growth refused, and returns whether that was a MemoryError."""
+    os.environ["TKTEXT_REFUSE"] = which
+    try:
+        answer_of(tktext, world, words)
+        return False
+    except MemoryError:
+        return True
+    finally:
+        os.environ["TKTEXT_REFUSE"] = ""
+
+
 def try_python(seeds, refuses):
     """What `python3 tools/library.py --python` does, in a process of its own, with a package that PYTHONPATH names."""
     import tktext
@@ -367,6 +423,10 @@ def try_python(seeds, refuses):
         refusals = check_python_refusals(tktext, tally)
         tally.check(refusals > 0, "Python, no growth was refused")
         print(f"Python: {refusals} commands refused for memory, and given again")
+        refusals, carried_out = check_followed_refusals(tktext, tally)
+        said = f"{refusals} commands refused for memory in a world that is followed, {carried_out} of them carried out"
+        tally.check(refusals > carried_out > 0, f"Python, {said}")
+        print(f"Python: {said}")
         return tally.close()
     for row in worked.ROWS + worked.LONG_ROWS:
         check_python_row(tktext, row, tally)

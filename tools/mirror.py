@@ -61,15 +61,19 @@ class Followed:
                 tagged = moved_by(change, tagged)
             self.tagged[key] = tagged
 
-    def take_tags(self, package, changes):
-        """Puts tags on and takes them off as it was told, and gives what was idle."""
-        idle = []
-        for tag, at, end, is_on, widget in changes:
-            tagged = self.tagged.get((tag, widget), set())
-            if not at < end <= len(self.mirror.string) or any((place in tagged) == is_on for place in range(at, end)):
-                idle.append((tag, at, end, is_on, widget))
-            self.tagged[tag, widget] = package.TagChange(tag, at, end, is_on).made_in(tagged)
-        return idle
+    def take_tags(self):
+        """Adds and removes tags as the reports say, of each widget's `sel` too; returns the changes, and the no-ops."""
+        links, changes, idle = self.whole._unread(), [], []
+        for content in filter(None, (link.read() for link in links[:-1])):
+            changes += content.tags if str(self.whole) in content.shown else []
+        self.whole._pass(links)
+        for change, widget in changes:
+            tagged = self.tagged.get((change.tag, widget), set())
+            places = range(change.at, change.end)
+            if not places or change.end > len(self.mirror.string) or any((at in tagged) == change.on for at in places):
+                idle.append((change, widget))
+            self.tagged[change.tag, widget] = change.made_in(tagged)
+        return changes, idle
 
     def wrong_tags(self, package, text):
         """The tags that aren't where they were told to be: those of all peers, the copy's, and each widget's `sel`."""
@@ -108,19 +112,12 @@ class Watch:
         self.followed = []
         self.changes = self.moves = self.tags = 0
         self.faults = []
-        # What each command told of tags, all widgets' `sel` among them, by the command's widget.
-        self.told_tags = []
-        tagged = world._tagged
-        world._tagged = lambda: self.note_tags(tagged())
-
-    def note_tags(self, changes):
-        if changes:
-            self.told_tags.append((self.world._word(), changes))
-        return changes
 
     def begin(self, name):
-        """Follows the text of a widget that was made, if there is room for a peer."""
+        """Follows the text of the widget of a name, if there is one, nothing follows it, and one more may be made."""
         peer = f".mirror{len(self.followed)}"
+        if any(name in (str(followed.whole), *followed.whole.peer_names()) for followed in self.followed):
+            return
         try:
             self.world.call(name, "peer", "create", peer, "-startline", "", "-endline", "", "-state", "normal")
         except self.package.TclError:
@@ -134,6 +131,7 @@ class Watch:
         whole.on_change(mirror.follow)
         whole.on_tags(mirror.follow_tags)
         whole.on_marks(followed.moved_on)
+        whole._unread()
         self.followed.append(followed)
 
     def check_changes(self, followed, changes):
@@ -150,18 +148,11 @@ class Watch:
             text = new
         self.changes += len(changes)
 
-    def take_tags(self):
-        told, self.told_tags = self.told_tags, []
-        for name, changes in told:
-            self.tags += len(changes)
-            for followed in self.followed:
-                if name in map(str, followed.whole.peer_names()):
-                    idle = followed.take_tags(self.package, changes)
-                    self.faults.extend(f"{change} is no change of a tag" for change in idle)
-
     def compare(self):
-        self.take_tags()
         for followed in self.followed:
+            tags, idle = followed.take_tags()
+            self.tags += len(tags)
+            self.faults.extend(f"{change} is no change of a tag" for change in idle)
             now, mirror = followed.whole.get("1.0", "end"), followed.mirror
             wrong = followed.wrong_tags(self.package, now)
             if wrong:
@@ -182,7 +173,7 @@ def run(script, package, mirror_class):
     world.feed(script)
     world.finish()
     for code, line in world._turns():
-        if code == 0 and world._word() == "text":
+        if code == 0 and line.startswith(b"."):
             watch.begin(line.decode().rstrip("\n"))
         watch.compare()
         if watch.faults:

@@ -13,6 +13,7 @@ import shutil
 import subprocess
 import sys
 
+import build_python
 from harness import LONG_TIMEOUT_SECONDS, run_checks
 
 TOP = os.path.dirname(os.path.dirname(os.path.abspath(__file__)))
@@ -369,7 +370,7 @@ for seed in range(0 if interpreter is None else 3000):
         faults += 1
         print(repr(given), repr(text.get("1.0", "end-1c")), repr(wanted))
     if faults == 5: break
-print("done" if interpreter else "done without tkinter")
+print("done" if interpreter else "skipped: it wants tkinter, whose values it compares")
 """
 
 
@@ -577,6 +578,421 @@ None []
 ('TclError: bad text index "nowhere"', None) [1]
 """
 
+# ---------------------------------------------------------------------------------------------------
+# Reports: each change reaches those who follow a text once and in order, whatever runs in between.
+
+# Copies of a text by `on_change` and by `changes`, and of the tag `a` by `on_tags`; `compare` returns those that differ.
+FOLLOWING = r"""
+class Copies:
+    def __init__(self, text):
+        self.text, self.followed, self.polled, self.tagged = text, text.get("1.0", "end"), text.get("1.0", "end"), set()
+        text.changes()
+        self.ends = [text.on_tags(self.take_tags), text.on_change(self.take)]
+    def take(self, changes):
+        for change in changes:
+            self.followed = change.made_in(self.followed)
+            end, growth = change.at + change.removed, len(change.inserted) - change.removed
+            if self.tagged:
+                self.tagged = {at if at < end else at + growth for at in self.tagged if not change.at <= at < end}
+    def take_tags(self, changes):
+        for change in changes:
+            if change.tag == "a": self.tagged = change.made_in(self.tagged)
+    def compare(self):
+        for change in self.text.changes():
+            self.polled = change.made_in(self.polled)
+        now, starts = self.text.get("1.0", "end"), [0]
+        for line in now.split("\n"):
+            starts.append(starts[-1] + len(line) + 1)
+        ends = (index.split(".") for index in self.text.tag_ranges("a"))
+        places = [starts[int(line) - 1] + int(char) for line, char in ends]
+        tagged = {at for start, end in zip(places[::2], places[1::2]) for at in range(start, end)}
+        found = {"on_change": self.followed == now, "changes": self.polled == now, "on_tags": self.tagged == tagged}
+        return [name for name, is_same in found.items() if not is_same]
+"""
+
+# The handler of a signal inserts text while text is inserted.
+BY_SIGNAL = FOLLOWING + r"""
+import signal
+text = Text()
+copies = Copies(text)
+signal.signal(signal.SIGALRM, lambda *_: text.insert("1.0", "z"))
+signal.setitimer(signal.ITIMER_REAL, 0.0003, 0.0003)
+for _ in range(20_000):
+    text.insert("end", "ab")
+while text.get("1.0") != "z": pass
+signal.setitimer(signal.ITIMER_REAL, 0)
+print(copies.compare())
+"""
+
+# A finalizer that the garbage collector runs inserts text.
+BY_COLLECTOR = FOLLOWING + r"""
+import gc
+class Inserting:
+    def __init__(self): self.itself = self
+    def __del__(self): text.insert("1.0", "z", "a")
+text = Text()
+copies = Copies(text)
+for number in range(1000):
+    gc.set_threshold(3)
+    Inserting()
+    text.insert("end", "ab", "x", "cd", "a", "ef")
+    gc.set_threshold(0)
+    if copies.compare(): print(number, copies.compare())
+print(text.get("1.0"))
+"""
+
+# Two threads edit one text, and a third one reads it.
+BY_THREADS = FOLLOWING + r"""
+sys.setswitchinterval(1e-5)
+text = Text(undo=True)
+peer = text.peer_create(".p")
+copies = Copies(text)
+def work(widget, letter):
+    for number in range(1500):
+        widget.insert("1.0", letter, "" if number % 3 else "a")
+        if number % 5 == 0: widget.tag_remove("a", "1.0")
+        if number % 7 == 0: widget.delete("1.1")
+def read():
+    while any(thread.is_alive() for thread in threads):
+        text.get("1.0", "1.5")
+threads = [threading.Thread(target=work, args=arguments) for arguments in ((text, "x"), (peer, "y"))]
+reader = threading.Thread(target=read)
+for thread in threads: thread.start()
+reader.start()
+for thread in (*threads, reader): thread.join()
+print(copies.compare())
+
+# What a thread's own command changed is there when it calls `changes`, and each change is returned to one thread.
+text, returned, late = Text(), [], []
+text.changes()
+text.on_change(lambda changes: None)
+def ask(letter):
+    own = []
+    for number in range(1500):
+        text.insert("1.0", f"{letter}{number} ")
+        own += [change.inserted for change in text.changes()]
+    returned.extend(own)
+threads = [threading.Thread(target=ask, args=(letter,)) for letter in "xy"]
+for thread in threads: thread.start()
+for thread in threads: thread.join()
+print(len(returned), len(set(returned)), text.changes())
+"""
+BY_THREADS_SAY = """[]
+3000 3000 []"""
+
+# A follower edits, and another one copies; whichever is called first, both get the changes in their order.
+BY_FOLLOWERS = FOLLOWING + r"""
+for is_first in (True, False):
+    text = Text()
+    peer = text.peer_create(".p")
+    def trim(changes):
+        if int(text.index("end").split(".")[0]) > 4: text.delete("1.0", "2.0")
+    if is_first: peer.on_change(trim)
+    copies = Copies(text)
+    if not is_first: peer.on_change(trim)
+    for word in "one two three four five six".split(): text.insert("end", word + "\n", "a")
+    print(copies.compare(), repr(text.get("1.0", "end")))
+
+# A follower of tags by one peer is called after a follower of the text by another one.
+text, heard = Text(), []
+peer = text.peer_create(".p")
+text.on_tags(lambda changes: heard.append("tags"))
+peer.on_change(lambda changes: heard.append("text"))
+text.insert("1.0", "x", "a")
+print(heard)
+
+# Whoever begins to follow after a command hears nothing of it, and whoever has ended nothing more.
+text, heard = Text(), []
+def begin(changes):
+    if changes[0].inserted == "one":
+        text.insert("end", "two")
+        ends[0]()
+        text.on_change(lambda changes: heard.append(("late", changes[0].inserted)))
+text.on_change(begin)
+ends = [text.on_change(lambda changes: heard.append(("ended", changes[0].inserted)))]
+text.insert("1.0", "one")
+text.insert("1.0", "three")
+print(heard)
+
+# The widgets that hear of a change are those that showed the text when it was made.
+text, heard = Text(name=".t"), []
+peer = text.peer_create(".p")
+def swap(changes):
+    if changes[0].inserted == "one":
+        text.insert("1.0", "two")
+        text.world.call("destroy", ".p")
+        text.world.call("text", ".p")
+text.on_change(swap)
+peer.on_change(lambda changes: heard.append(changes[0].inserted))
+text.insert("1.0", "one")
+text.insert("1.0", "three")
+print(heard)
+
+# Each follower is called with a list of its own, and what it raises is printed.
+import io
+text, heard = Text(), []
+text.on_change(lambda changes: changes.clear())
+text.on_change(lambda changes: heard.append(len(changes)))
+text.on_change(lambda changes: 1 / 0)
+text.on_change(lambda changes: heard.append("after"))
+errors, sys.stderr = sys.stderr, io.StringIO()
+text.insert("1.0", "x")
+printed, sys.stderr = sys.stderr.getvalue().splitlines(), errors
+print(heard, printed[0], printed[-1])
+"""
+BY_FOLLOWERS_SAY = r"""[] 'five\nsix\n\n'
+[] 'five\nsix\n\n'
+['text', 'tags']
+[('late', 'three')]
+['one', 'two']
+[1, 'after'] Exception in Tkinter callback ZeroDivisionError: division by zero"""
+
+# A follower takes away the widget, its world, itself or another follower.
+TAKEN_AWAY = r"""
+import gc, weakref
+def case(what, take):
+    heard, text = [], Text(name=".t")
+    text.on_change(lambda changes: heard.append(changes[0].inserted))
+    def taking(changes):
+        if changes[0].inserted == "one":
+            text.insert("end", "two")
+            take(text, ends)
+    ends = [text.on_change(taking)]
+    ends += [text.on_change(lambda changes: heard.append(changes[0].inserted.upper()))]
+    print(what, tried(text.insert, "1.0", "one"), heard)
+    heard.clear()
+    print("..", tried(text.insert, "1.0", "three"), heard)
+def remake(text, ends):
+    text.world.close()
+    text.world.__init__()
+    text.world.call("text", ".t")
+case("destroyed", lambda text, ends: text.destroy())
+case("destroyed by its name", lambda text, ends: text.world.call("destroy", ".t"))
+case("closed", lambda text, ends: text.world.close())
+case("closed and made again", remake)
+case("ended itself", lambda text, ends: ends[0]())
+case("ended another", lambda text, ends: ends[1]())
+
+# The last reference to the world goes within a follower.
+held = [Text()]
+gone = weakref.ref(held[0].world)
+held[0].on_change(lambda changes: (held.clear(), gc.collect()))
+held[0].insert("1.0", "one")
+gc.collect()
+print(gone())
+
+# A text that nothing follows goes with its last reference, and so does one that was followed, after a collection.
+gc.disable()
+text = Text()
+text.insert("1.0", "one")
+gone = weakref.ref(text), weakref.ref(text.world)
+del text
+print(*(reference() for reference in gone))
+gc.enable()
+
+# A world goes with what is queued and what `changes` would return, however much that is, and with a small stack.
+def leave(changes): raise KeyboardInterrupt
+def drop(is_closed):
+    text = Text()
+    text.changes()
+    for number in range(20_000): text.mark_set("m", f"1.{number % 2}") if number else text.insert("1.0", "ab")
+    text.on_change(leave)
+    text.on_change(lambda changes: print(text))
+    for _ in range(2):
+        try: text.insert("1.0", "c")
+        except KeyboardInterrupt: pass
+    gone = weakref.ref(text), weakref.ref(text.world)
+    if is_closed:
+        text.world.close()
+        print([change.inserted for change in text.changes()])
+    del text
+    gc.collect()
+    print(*(reference() for reference in gone))
+threading.stack_size(2**18)
+for is_closed in (True, False):
+    thread = threading.Thread(target=drop, args=(is_closed,))
+    thread.start()
+    thread.join()
+"""
+TAKEN_AWAY_SAYS = r"""destroyed None ['one']
+.. TclError: invalid command name ".t" []
+destroyed by its name None ['one', 'ONE', 'two', 'TWO']
+.. TclError: invalid command name ".t" []
+closed None ['one']
+.. ValueError: the world was closed []
+closed and made again None ['one']
+.. None []
+ended itself None ['one', 'ONE', 'two', 'TWO']
+.. None ['three', 'THREE']
+ended another None ['one', 'two']
+.. None ['three']
+None
+None None
+.!text
+['ab', 'c', 'c']
+None None
+.!text
+None None"""
+
+# KeyboardInterrupt leaves a follower, which isn't called again with the same; the rest comes with the next command.
+LEFT_BY_INTERRUPT = FOLLOWING + r"""
+text, heard = Text(), []
+def first(changes):
+    heard.append(changes[0].inserted)
+    if changes[0].inserted == "one":
+        text.insert("end", "two")
+        raise KeyboardInterrupt
+text.on_change(first)
+copies = Copies(text)
+try:
+    text.insert("1.0", "one")
+except KeyboardInterrupt:
+    print(heard, repr(copies.followed))
+text.mark_set("m", "1.0")
+print(heard, copies.compare())
+
+# It comes from the handler of a signal, at any time: a follower that runs no code of Python's lacks no change.
+import signal
+def handler(*_): raise KeyboardInterrupt
+text, interrupts, heard = Text(), 0, []
+text.changes()
+text.on_change(heard.extend)
+signal.signal(signal.SIGALRM, handler)
+while interrupts < ROUNDS:
+    try:
+        signal.setitimer(signal.ITIMER_REAL, 0.0002 + 1e-6 * interrupts)
+        for _ in range(1000):
+            text.insert("end", "x")
+            text.world.call(".!text", "insert", "end", "y")
+        signal.setitimer(signal.ITIMER_REAL, 0)
+    except KeyboardInterrupt:
+        interrupts += 1
+signal.setitimer(signal.ITIMER_REAL, 0)
+text.insert("end", "z")
+print(heard == text.changes(), "".join(change.inserted for change in heard) == text.get("1.0", "end-1c"))
+"""
+LEFT_BY_INTERRUPT_SAYS = r"""['one'] '\n'
+['one', 'two'] []
+True True"""
+
+# The line of a command is its own, also if followers and events carry out others.
+LINES = r"""
+text = Text(name=".t")
+text.on_change(lambda changes: (text.world.call(".t", "get", "1.0", "end"), text.world.give([b".t", b"index", b"end"])))
+text.bind("<<Modified>>", lambda event: text.edit_modified(False))
+world = text.world
+world.feed(b".t insert 1.0 ab; .t index end-1c; .t foo; .t insert 1.0 x\n")
+print([line == world.said() and line for line in world.lines()])
+for words in (b".t insert 1.0 q", b".t index 1.end", b".t foo", b".t delete 1.0"):
+    print((world.give(words.split()), world.said()))
+world.call(".t", "insert", "1.0", "z")
+world.feed(b"text [x]\n")
+print(list(world.lines()), list(world.lines()), world.status())
+"""
+LINES_SAY = r"""[b'\n', b'1.2\n', b'error: bad option "foo"\n', b'\n']
+(0, b'\n')
+(0, b'1.4\n')
+(1, b'error: bad option "foo"\n')
+(0, b'\n')
+[b"error: substitution isn't supported\n"] [] 2"""
+
+# Each of Python's own allocations is refused in a world that is followed: no change is lost, though MemoryError may come
+# after the command.  If a follower can't be called, that is an error of its own, and printed.
+REFUSED = FOLLOWING + r"""
+try:
+    from _testcapi import remove_mem_hooks, set_nomemory
+except ImportError:
+    print("skipped: it wants Python's own module _testcapi")
+    sys.exit()
+import io
+class Safe(Copies):
+    def take(self, changes):
+        remove_mem_hooks()
+        super().take(changes)
+    def take_tags(self, changes):
+        remove_mem_hooks()
+        super().take_tags(changes)
+def is_refused(number, call):
+    set_nomemory(number, number + 1)
+    try:
+        call()
+    # CPython 3.11 and 3.12 have a SystemError where a frame is refused.
+    except (MemoryError, SystemError):
+        return True
+    finally:
+        remove_mem_hooks()
+    return False
+text = Text()
+peer = text.peer_create(".p")
+world, errors, refused, carried_out = text.world, sys.stderr, 0, 0
+calls = (lambda: text.insert("1.1", "abc", "a", "d", "b"), lambda: peer.insert("1.1", "x" * 2000, "a"),
+         lambda: text.delete("1.0"), lambda: world.call(".p", "insert", "1.0", "zz"), lambda: next(world.lines(), None),
+         lambda: world.give([b".p", b"insert", b"1.0", b"zz"]), lambda: peer.tag_remove("a", "1.0", "end"))
+for call in calls:
+    for number in range(60):
+        text.delete("1.0", "end")
+        text.insert("1.0", "one two")
+        world.feed(b".!text insert 1.0 fed\n")
+        copies, before, sys.stderr = Safe(text), text.get("1.0", "end"), io.StringIO()
+        was_refused = is_refused(number, call)
+        printed, sys.stderr = sys.stderr.getvalue(), errors
+        refused += was_refused
+        carried_out += was_refused and text.get("1.0", "end") != before
+        text.index("1.0")
+        if copies.compare() and not printed: print(number, copies.compare())
+        for end in copies.ends: end()
+print(refused > 100, carried_out > 0)
+"""
+
+# ---------------------------------------------------------------------------------------------------
+# Interpreters in one process
+
+# Interpreters that imported the package end, of those that share a lock and of those that have their own, if there are
+# such, and the others go on.  Two of the latter run at once.
+INTERPRETERS = r"""
+try:
+    try: import _interpreters as interpreters
+    except ImportError: import _xxsubinterpreters as interpreters
+except ImportError:
+    print("skipped: this Python has no module of interpreters")
+    sys.exit()
+WITHIN = f"import sys; sys.path[:] = {sys.path!r}" + r'''
+from tktext import *
+text, heard = Text(), []
+text.on_change(lambda changes: heard.append(len(changes)))
+for number in range(200): text.insert("1.0", ["x", number], "a")
+try: text.index("foo")
+except TclError as error: fault = error.fault
+assert (text.get("1.0", "1.5"), len(heard), fault) == ("x 199", 200, 'bad text index "foo"')
+'''
+def legacy():
+    if sys.version_info >= (3, 13): return interpreters.create("legacy")
+    return interpreters.create(isolated=False) if sys.version_info >= (3, 10) else interpreters.create()
+def run(interpreter):
+    try: fault = interpreters.run_string(interpreter, WITHIN)
+    except Exception as error: fault = error
+    if fault is not None: print(fault)
+def work():
+    text = Text()
+    for value in (["a", "b c"], 5, True, 1.5, b"q"): text.insert("1.0", value)
+    return text.get("1.0", "1.end"), tried(text.index, "foo"), isinstance(text, Text)
+before = work()
+for create in (legacy, interpreters.create):
+    for _ in range(3):
+        interpreter = create()
+        run(interpreter)
+        if work() != before: print("other answers next to it")
+        interpreters.destroy(interpreter)
+        if work() != before: print("other answers after it")
+pair = [interpreters.create() for _ in range(2)]
+threads = [threading.Thread(target=run, args=(interpreter,)) for interpreter in pair]
+for thread in threads: thread.start()
+for thread in threads: thread.join()
+for interpreter in pair: interpreters.destroy(interpreter)
+print(before)
+"""
+INTERPRETERS_SAY = """('q1.515a {b c}', 'TclError: bad text index "foo"', True)"""
+
 
 def cases(rounds):
     """The name of each case, its script, and what it prints."""
@@ -602,6 +1018,15 @@ def cases(rounds):
     yield "calls by position", DIRECT, DIRECT_SAYS
     yield "a text that is followed", FOLLOWED, FOLLOWED_SAYS.rstrip()
     yield "tags that are followed", TAGGED, TAGGED_SAYS.rstrip()
+    yield "changes by the handler of a signal", BY_SIGNAL, "[]"
+    yield "changes by a finalizer", BY_COLLECTOR, "z"
+    yield "changes by threads", BY_THREADS, BY_THREADS_SAY
+    yield "changes by followers", BY_FOLLOWERS, BY_FOLLOWERS_SAY
+    yield "what a follower takes away", TAKEN_AWAY, TAKEN_AWAY_SAYS
+    yield "a follower that is interrupted", of(LEFT_BY_INTERRUPT), LEFT_BY_INTERRUPT_SAYS
+    yield "lines of a world that is followed", LINES, LINES_SAY
+    yield "memory that is refused to Python", REFUSED, "True True"
+    yield "several interpreters", INTERPRETERS, INTERPRETERS_SAY
     yield "the examples of the docstrings", EXAMPLES, "[]\n[]\n[]\n[]\n[]\n0"
     yield "random values", TKINTER, "done"
 
@@ -617,8 +1042,8 @@ def check_case(module, name, script, wanted, tally):
         tally.failed(f"Python, {name}: no end; the script:\n{HEAD}{script}")
         return
     said = done.stdout.decode("utf-8", "replace").rstrip("\n")
-    if name == "random values" and said == "done without tkinter":
-        print("skipped: random values aren't compared with tkinter's, which isn't installed")
+    if said.startswith("skipped: "):
+        print(f"skipped: Python, {name}: {said.partition(' ')[2]}")
         return
     if (said, done.returncode, done.stderr) == (wanted, 0, b""):
         tally.passed()
@@ -638,11 +1063,32 @@ def check_types(module, tally):
     tally.check(done.returncode == 0, f"mypy: {done.stdout}{done.stderr}")
 
 
+def check_free_threads(tally):
+    """The extension isn't compiled for a Python without the global interpreter lock, and says why."""
+    if not build_python.can_build():
+        print(f"skipped: the extension isn't compiled without a lock, which wants {build_python.WANTED}")
+        return
+    words = ["cc", "-fsyntax-only", "-DPy_GIL_DISABLED", *build_python.includes(), *build_python.sources()]
+    done = subprocess.run(words, capture_output=True, text=True, timeout=LONG_TIMEOUT_SECONDS)
+    says_why = "tktext needs a Python with the global interpreter lock" in done.stderr
+    tally.check(done.returncode != 0 and says_why, f"the extension without a lock: {done.stderr[-900:]}")
+
+
+def check_returns(tally):
+    """No source uses `Py_RETURN_NONE` or its like, which the headers of 3.12 compile to no reference: older Pythons, for
+    which the extension is too, count those and would crash."""
+    for path in build_python.sources():
+        with open(path, encoding="utf-8") as file:
+            tally.check("Py_RETURN_" not in file.read(), f"{path} returns None, True or False without a reference")
+
+
 def check(module, rounds, tally):
     """Each case, of the package in a folder."""
     for name, script, wanted in cases(rounds):
         check_case(module, name, script, wanted, tally)
     check_types(module, tally)
+    check_free_threads(tally)
+    check_returns(tally)
 
 
 if __name__ == "__main__":

@@ -1,7 +1,7 @@
 """The core of Tk's text widget without a display.
 
-`Text` has the methods of tkinter's `Text`, by the same names and with the same arguments, so that code written for
-tkinter's widget runs on it; docs/use.md of its repository has a table of what each does.
+`Text` has the methods of tkinter's `Text` that docs/use.md of its repository lists, by the same names and with the same
+arguments, so code that calls these runs on it.
 
     from tktext import END, Text
 
@@ -9,11 +9,11 @@ tkinter's widget runs on it; docs/use.md of its repository has a table of what e
     text.insert(END, "hello, wide world")
     text.edit_undo()
 
-A command that is refused raises `TclError`, which is tkinter's where that is installed, want of memory `MemoryError`;
-both leave everything as it was.  What the core itself said is the error's `fault`.
+A command that is refused raises `TclError`, which is tkinter's where that is installed, and changes nothing.  What the
+core itself said is the error's `fault`.  Out of memory is `MemoryError`; `World.call` says what was carried out then.
 
 A `World` has texts with the widgets on them; each `Text` makes one of its own unless it is given one.  Threads may
-share a world and its widgets: one call is carried out at a time, with Python's own lock held.
+share a world and its widgets: one command is carried out at a time, with the global interpreter lock held.
 
 `python3 -m tktext` runs scripts of the widget's commands, and has a prompt for them.
 """
@@ -30,12 +30,13 @@ except ImportError as error:
         "`make try-lib` for an unproved one; `make python` builds it below out/python"
     ) from error
 from ._errors import TclError, error_of_fault
-from ._events import Change, Event, Spot, TagChange
+from ._events import Event
+from ._reports import Change, Spot, TagChange, make_content
 from ._values import list_text, word
 
-_core.use(word, error_of_fault, MethodType)
+_core.use(word, error_of_fault, make_content, MethodType)
 
-from ._text import Text  # noqa: E402  (behind what `_core` uses)
+from ._text import Text  # noqa: E402  (after what `_core` uses)
 from ._world import World  # noqa: E402
 
 __version__ = "1.0"

@@ -30,61 +30,6 @@ class Event:
         return f"<{self.type} of {self.widget}>"
 
 
-class Spot(NamedTuple):
-    """Where a place of a text is: its line, from 1, and how much of that stands before it.
-
-    That is `column` characters, as Tk counts them, `bytes` of UTF-8, as parsers do, or `units` of UTF-16, as language
-    servers do.
-
-    >>> str(Spot(2, 1, 4, 2))
-    '2.1'
-    """
-
-    line: int
-    column: int
-    bytes: int
-    units: int
-
-    def __str__(self) -> str:
-        return f"{self.line}.{self.column}"
-
-
-class Change(NamedTuple):
-    """A change of a text: from the character `at`, counted from 0, so many were `removed`, and others `inserted`.
-
-    It began at the spot `start`; what it took out ended at `old_end`, in the text before it, and what it put in ends at
-    `new_end`, in the text after it.
-    """
-
-    at: int
-    removed: int
-    inserted: str
-    start: Spot
-    old_end: Spot
-    new_end: Spot
-
-    def made_in(self, text: str) -> str:
-        """A text after the change of it."""
-        return text[: self.at] + self.inserted + text[self.at + self.removed :]
-
-
-class TagChange(NamedTuple):
-    """A change of a tag: it was put on the characters from `at` to `end`, counted from 0, or taken off them (`on`).
-
-    None of them had it before, or each; `sel` is that of the widget that is told.
-    """
-
-    tag: str
-    at: int
-    end: int
-    on: bool
-
-    def made_in(self, tagged: set[int]) -> set[int]:
-        """Which characters have the tag after the change, of those that had it before."""
-        span = range(self.at, self.end)
-        return tagged.union(span) if self.on else tagged.difference(span)
-
-
 class _Bound(NamedTuple):
     name: str
     handler: Handler
@@ -124,11 +69,15 @@ class Bindings:
                 break
 
 
-def called(handler: Callable[[Any], Any], value: object) -> Any:
-    """What a handler gives for a value.  What it raises is printed, as by tkinter."""
+def called(handler: Handler, event: Event) -> Any:
+    """Returns what a handler returns for an event.  What it raises is printed, as by tkinter."""
     try:
-        return handler(value)
-    except Exception:
-        print("Exception in Tkinter callback", file=sys.stderr)
-        traceback.print_exc()
+        return handler(event)
+    except Exception as error:
+        print_error(error)
         return None
+
+
+def print_error(error: Exception) -> None:
+    print("Exception in Tkinter callback", file=sys.stderr)
+    traceback.print_exception(type(error), error, error.__traceback__)

@@ -8,11 +8,12 @@ from typing import Any, Callable, Mapping, Protocol, TypeVar, cast
 
 from . import _core, _options
 from ._errors import TclError, refusal
-from ._events import MODIFIED, SELECTION, Bindings, Change, Event, Handler, TagChange, called
+from ._events import MODIFIED, SELECTION, Bindings, Event, Handler
+from ._reports import Change, Follower, Part, TagChange, changes_for, marks_for, part_of, tags_for
 from ._values import list_text, number_or_text, word
 from ._world import World
 
-# How an answer is given by `_run`.
+# How an answer is returned by `_ask`.
 _AS_TEXT, _AS_TUPLE, _AS_NOTHING = 0, 1, 3
 _HAS_MORE = 0x04  # The flag of a function's code that takes any number of values.
 _SEL = "sel"
@@ -100,8 +101,8 @@ class Text(_core.Widget):
     makes them.
 
     An index is a text, as `"1.0"` (lines count from 1, characters from 0), `"end"`, a mark's name, `"sel.first"`,
-    `"insert + 2 chars"` or `"1.0 lineend"`; a wrong one is a `TclError`.  A refused command leaves everything as it
-    was, and so does want of memory, which is a MemoryError.
+    `"insert + 2 chars"` or `"1.0 lineend"`; a wrong one is a `TclError`.  A refused command changes nothing.  After a
+    MemoryError see `World.call`.
 
     >>> with Text(undo=True) as text:
     ...     text.insert(END, "hello, wide world")
@@ -139,11 +140,6 @@ class Text(_core.Widget):
         self._tags: dict[str, dict[str, str]] = {} if shared is None else shared
         self._own_tags: dict[str, dict[str, str]] = {}
         self._bindings = Bindings()
-        self._followers: list[Callable[[list[Change]], Any]] = []
-        self._tag_followers: list[Callable[[list[TagChange]], Any]] = []
-        self._mark_followers: list[Callable[[list[str]], Any]] = []
-        # None as long as nobody asks for what changed.
-        self._changed: list[Change] | None = None
         self._virtual: dict[str, dict[str, None]] = {}
         self._tag_bindings: dict[str, Bindings] = {}
         self._known: tuple[str, tuple[str, ...]] = ("0", ())
@@ -744,7 +740,7 @@ class Text(_core.Widget):
         _tkinter.TclError: invalid command name ".!text"
         """
         self.world._watch_text(self, False)
-        self.world._follow_text(self, False)
+        self.world._change_followers((), [it for it in self.world._followers() if it.text is self])
         self.world._texts.pop(self._name, None)
         self.world.call("destroy", self._name)
 
@@ -786,8 +782,8 @@ class Text(_core.Widget):
         >>> text.event_generate("<<Paste>>")
         <<<Paste>> of .!text>
         """
-        self.world._events.append(partial(self._bindings.send, Event(self, sequence)))
-        self.world._send()
+        self.world._queue(partial(self._bindings.send, Event(self, sequence)))
+        self.world._deliver()
 
     def event_add(self, virtual: str, *sequences: str) -> None:
         """Keeps sequences for a virtual event; no keys and no clicks come here.
@@ -830,7 +826,7 @@ class Text(_core.Widget):
     def _state(self) -> tuple[str, tuple[str, ...]] | None:
         """Whether the text was edited, and what is selected; None where the widget is gone."""
         try:
-            return self._run(_AS_TEXT, "edit", "modified"), self._run(_AS_TUPLE, "tag", "ranges", _SEL)
+            return self._ask(_AS_TEXT, "edit", "modified"), self._ask(_AS_TUPLE, "tag", "ranges", _SEL)
         except (TclError, ValueError):
             return None
 
@@ -845,10 +841,13 @@ class Text(_core.Widget):
     # ---- what changed
 
     def on_change(self, function: Callable[[list[Change]], Any]) -> Callable[[], None]:
-        """Has a function called behind each command that changes the text, by whichever peer, with its changes.
+        """Calls a function after each command that changes the text, by whichever peer, with a list of `Change`s.
 
-        They are `Change`s in order, each of the text that those before it leave, the last newline included; made one
-        after the other on the old text they give the new one.  It gives a function that ends this.
+        Each is a change of the text that those before it leave, the last newline included; applied in order to the old
+        text they give the new one.  Each command is reported once, in order, to those who follow at that time, whatever
+        threads, signal handlers and finalizers do.  A report may come after further commands: those that a follower or
+        another thread gave in the meantime are reported later.  What the function raises is printed.  Returns a
+        function that ends this.
 
         >>> text = Text()
         >>> end = text.on_change(print)
@@ -857,15 +856,15 @@ class Text(_core.Widget):
                 old_end=Spot(line=1, column=0, bytes=0, units=0), new_end=Spot(line=1, column=3, bytes=3, units=3))]
         >>> end()
         """
-        return self._follow(self._followers, function)
+        return self._follow(changes_for, function)
 
     def on_tags(self, function: Callable[[list[TagChange]], Any]) -> Callable[[], None]:
-        """Has a function called behind each command that puts tags on characters or takes them off, with these changes.
+        """Calls a function after each command that adds or removes tags of characters, with a list of `TagChange`s.
 
-        They are `TagChange`s in order, behind what `on_change` tells of the same command: characters that were put in
-        have no tags at first, and those that went are gone with theirs.  Made one after the other on what is left of the
-        old tags they give the new ones.  Their offsets are of the whole text, whatever part of it the widget shows, and
-        `sel` is the widget's own.  It gives a function that ends this.
+        They come after what `on_change` reports of the same command: inserted characters have no tags at first, and
+        deleted ones are gone with theirs.  Applied in order to what is left of the old tags they give the new ones.
+        Offsets are of the whole text, whatever part of it the widget shows, and `sel` is the widget's own.  Returns a
+        function that ends this.
 
         >>> text = Text()
         >>> end = text.on_tags(print)
@@ -876,14 +875,14 @@ class Text(_core.Widget):
         (None, None, None)
         >>> end()
         """
-        return self._follow(self._tag_followers, function)
+        return self._follow(tags_for, function)
 
     def on_marks(self, function: Callable[[list[str]], Any]) -> Callable[[], None]:
-        """Has a function called behind each command that moves marks by an order, with the names of these.
+        """Calls a function after each `mark_set` and `mark_unset` that moves marks, with a list of their names.
 
-        Such orders are `mark_set` and `mark_unset`, and a mark was moved that stands elsewhere then, is new, or is gone.
-        Marks that go along with the text aren't named.  `insert` and `current` are the widget's own; of any other mark
-        each peer is told.  It gives a function that ends this.
+        A mark is named if it is at another offset of the text then, is new, or is gone.  Marks that an edit moves with
+        the text aren't named, nor is `insert` where undo, redo and `replace` move it.  `insert` and `current` are the
+        widget's own; of any other mark each peer hears.  Returns a function that ends this.
 
         >>> text = Text()
         >>> end = text.on_marks(print)
@@ -892,22 +891,17 @@ class Text(_core.Widget):
         (None, None)
         >>> end()
         """
-        return self._follow(self._mark_followers, function)
+        return self._follow(marks_for, function)
 
-    def _follow(self, followers: list[Callable[[Any], Any]], function: Callable[[Any], Any]) -> Callable[[], None]:
-        followers.append(function)
-        self.world._follow_text(self, True)
-        return partial(self._end_following, followers, function)
-
-    def _end_following(self, followers: list[Callable[[Any], Any]], function: Callable[[Any], Any]) -> None:
-        if function in followers:
-            followers.remove(function)
-        is_followed = bool(self._followers or self._tag_followers or self._mark_followers)
-        is_followed = is_followed or self._changed is not None
-        self.world._follow_text(self, is_followed)
+    def _follow(self, part: Part, function: Callable[[Any], Any]) -> Callable[[], None]:
+        follower = Follower(self, part, function)
+        self.world._change_followers([follower])
+        return partial(self.world._change_followers, (), [follower])
 
     def changes(self) -> list[Change]:
-        """The changes of the text since this was asked last, as `on_change` tells them; the first time there are none.
+        """Returns the changes of the text since the last call, as `on_change` reports them; none the first time.
+
+        Those of the caller's own commands are among them once these have returned.
 
         >>> text = Text()
         >>> text.changes()
@@ -917,20 +911,16 @@ class Text(_core.Widget):
         >>> [(change.at, change.removed, change.inserted, str(change.new_end)) for change in text.changes()]
         [(0, 0, 'one', '1.3'), (0, 1, '', '1.0')]
         """
-        changed = self._changed or []
-        self._changed = []
-        self.world._follow_text(self, True)
-        return changed
-
-    def _take_changes(self, changes: list[Change], tags: list[TagChange], marks: list[str]) -> None:
-        if self._changed is not None:
-            self._changed.extend(changes)
-        for function in list(self._followers) if changes else ():
-            called(function, list(changes))
-        for function in list(self._tag_followers) if tags else ():
-            called(function, list(tags))
-        for function in list(self._mark_followers) if marks else ():
-            called(function, list(marks))
+        # Not before, as it refers to the widget: one that nothing follows goes with its last reference.
+        reader = self.__dict__.setdefault("_reader", Follower(self, changes_for, None))
+        self.world._change_followers([reader])
+        while True:
+            links = self._unread()
+            # The last one is empty: the next report fills it.
+            changes = [change for link in links[:-1] for change in part_of(link, changes_for, self._name)]
+            # Another thread, or a handler, may have asked in the meantime.
+            if self._pass(links):
+                return changes
 
     # ---- what a widget answers that isn't shown
 
