@@ -39,11 +39,14 @@ CHECK_KILOBYTES = 4_000_000
 # A check of a crate takes some minutes, also beside others.
 TIMEOUT_SECONDS = 3600
 REFUSED = re.compile(r"^# refused: (\S+)(?: at (\S+))?$", re.MULTILINE)
-# The file of a proof that takes a theorem as it is stated.
+# The file of a proof that takes a theorem as it is stated.  The prover prints the goal of a hole, and this one is short.
 HOLE = """use Rattle.{crate}.proofs.{place}.Statement.{{statement}}
 
+hole : ⊥
+hole = ?
+
 pub {name}_spec : {{M : Type 1}} → statement M
-{name}_spec = ?
+{name}_spec = absurd hole
 """
 # What the prover says of a function, and in it the goals that its `search` left.
 VERDICT = re.compile(r"^fn (\w+)::(\S+): (.*)$", re.MULTILINE)
