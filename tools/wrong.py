@@ -240,7 +240,8 @@ def gone_goals(said):
     """The goals, each with its function, whose errors all say no more than that a name is gone."""
     errors = defaultdict(list)
     for place, goal, text in ERROR.findall(said):
-        errors[place.replace("/", "::"), goal].append(text)
+        function = re.sub(r"(^|/)\+", r"\1", place).replace("/", "::")
+        errors[function, goal].append(text)
     return {key for key, texts in errors.items() if all(map(GONE.search, texts))}
 
 
@@ -250,7 +251,7 @@ def refused_goals(crate, functions, said):
     for of_crate, function, verdict in VERDICT.findall(said):
         if of_crate == crate and function in functions:
             *path, name = function.split("::")
-            # The proof of a function that calls itself is at its name behind a `+`.
+            # The proof of a function that calls itself is at its name with a `+` before it.
             own = re.escape(".".join(["Rattle", crate, "proofs", *path, ""])) + r"\+?" + re.escape(name)
             goals = re.findall(rf"`{own}\.(?:Answers|Invariants|Proof)\.([^`]+)`", verdict)
             goals += [goal for left in LEFT.findall(verdict) for goal in re.findall(r"`([^`]+)`", left)]

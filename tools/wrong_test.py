@@ -55,12 +55,14 @@ VERDICTS = {
     "not proved; it stands on `{taken}.Answers.returns`, which antt refuses": [],
     "not proved; it stands on `{write}.Answers.returns`, which antt refuses": ["returns"],
     "not proved; it stands on `{write}.Answers.gone`, `{write}.Answers.both`, which antt refuses": ["both"],
+    "not proved; it stands on `{itself}.Invariants.loop`, `{itself}.Answers.gone`, which antt refuses": ["loop"],
     "no proof: `search` did not prove `first`, `second`": ["first", "second"],
     "no proof: `search` did not prove `first`; it calls `{taken}`, which is not proved": ["first"],
 }
 # Errors in its proof: at the goal `gone` no more than that a name is gone, at `both` also another.
 ANSWERS = "./proofs/watched/sink/WatchedByteSink/write/Answers.antt"
 ERRORS = f"""\
+{ANSWERS.replace("/write/", "/+write/")}:3:9: error: `gone`: `goal.Case` has no field `count`
 {ANSWERS}:3:9: error: `gone`: `goal.Case` has no field `count`
 {ANSWERS}:5:9: error: `both`: `goal.Case` has no field `count`
 {ANSWERS}:6:9: error: `both`: the two types differ
@@ -71,7 +73,8 @@ fn devices::watched::sink::taken: no proof: `search` did not prove `returns`
 def check_verdicts(tally):
     """A function counts as refused at goals of its own alone."""
     for verdict, goals in VERDICTS.items():
-        text = verdict.format(taken=f"{PROOFS}.taken", write=f"{PROOFS}.WatchedByteSink.write")
+        write = f"{PROOFS}.WatchedByteSink.write"
+        text = verdict.format(taken=f"{PROOFS}.taken", write=write, itself=write.replace(".write", ".+write"))
         found = wrong.refused_goals(CRATE, {WRITE}, f"{ERRORS}fn devices::{WRITE}: {text}\n")
         tally.check(found == {WRITE: goals}, f"{text}: refused at {found}, and not at {goals}")
 
