@@ -56,7 +56,7 @@ NAMED = {
     "script_cli": ["read_fault_is_end", "repeats_script", "runs_half_command", "writes_nothing"],
 }
 # The crates whose wrong bodies without a name are in `must-fail/` too.
-TRIED_BY_CI = {"documents", "edit_ops", "line_lists", "line_tree", "peers", "tktext_c"}
+TRIED_BY_CI = {"documents", "line_lists", "line_tree", "peers", "tktext_c"}
 # What stands for two or more words at the end of a command's form in docs/model.md.
 COUNTS = {"any number": (0, None), **{f"{count} and more": (count, None) for count in range(1, 4)}}
 

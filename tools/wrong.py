@@ -182,27 +182,23 @@ def reached(calls, functions):
     return found
 
 
-def is_plain(function):
-    """Whether a function is written as such: it is no closure, and nothing that the compiler makes."""
-    return re.fullmatch(r"\w+(::\w+)*", function) and "::fn::" not in function
-
-
-def is_proved_whole(copy, function):
-    """Whether the proof of a function is one text, or is that of a function that calls itself."""
-    *path, name = function.split("::")
-    folder = os.path.join(copy, "proofs", *path)
-    return os.path.exists(os.path.join(folder, name, "Proof.antt")) or os.path.exists(os.path.join(folder, f"+{name}"))
+def below(calls, functions):
+    """What some functions lead to and has a theorem of its own: no closure, nothing that the compiler makes, no cycle."""
+    plain = re.compile(r"(?!.*::fn::)\w+(::\w+)*")
+    found = reached(calls, functions) - functions
+    return {name for name in found if plain.fullmatch(name) and name not in reached(calls, [name])}
 
 
 def write_holes(crate, copy, functions):
     """Has the theorems of functions taken as they are stated, where their proof consists of answers."""
     for function in functions:
-        if is_plain(function) and not is_proved_whole(copy, function):
-            *path, name = function.split("::")
-            folder = os.path.join(copy, "proofs", *path, name)
+        *path, name = function.split("::")
+        folder = os.path.join(copy, "proofs", *path, name)
+        proof = os.path.join(folder, "Proof.antt")
+        if not os.path.exists(proof):
             shutil.rmtree(folder, ignore_errors=True)
             os.makedirs(folder)
-            with open(os.path.join(folder, "Proof.antt"), "w", encoding="utf-8") as file:
+            with open(proof, "w", encoding="utf-8") as file:
                 file.write(HOLE.format(crate=crate, place=".".join([*path, name]), name=name))
 
 
@@ -225,7 +221,7 @@ def check(crate, edits, functions, libraries):
     )
     only = [word for function in sorted(functions) for word in ("--only", function)]
     with tempfile.TemporaryDirectory(prefix="wrong-") as copy:
-        write_copy(crate, copy, edits, reached(calls_of(crate, libraries), functions) - functions)
+        write_copy(crate, copy, edits, below(calls_of(crate, libraries), functions))
         try:
             done = subprocess.run(
                 [over.RATTLE, "check", *words, "--allow-holes", *only], cwd=copy, stdin=subprocess.DEVNULL, text=True,
