@@ -132,6 +132,8 @@ $(ASKED): tools/weigh.c
 test: $(SHIM) $(WEIGH)
 	rm -rf crates/tktext/out crates/rows/out crates/node_memory/out crates/tree_bench/out crates/script_bench/out
 	python3 tools/total.py 'python3 tools/gate.py' \
+	  'python3 tools/wrong.py' \
+	  'python3 tools/wrong_test.py' \
 	  'python3 tools/facts.py' \
 	  'python3 tools/selftest.py' \
 	  'python3 tools/fuzz.py --program $(PROGRAM) --seeds 300' \

@@ -6,8 +6,10 @@
 The commands stand in `command_table/specs/Table.antt`; `docs/model.md` and the tools' model say the same of each, and
 the random scripts begin a form with each.  The limits stand in `text_model/specs/LimitTable.antt`.  The crates stand in
 `crates.txt`; the pages on architecture and on what is proved speak of each, and the page of each (`crates/NAME/README.md`)
-of its files of definitions.  The figures of docs/theorems.md on speed are those of docs/bench.txt.  A line of code, of a definition or of a page has at most 120 characters, and no name is
-brought in for a contract, a definition or a proof that isn't used there, nor passed on for proofs of which none does.
+of its files of definitions.  The wrong bodies of `must-fail/` are those that have a name; `wrong/` has the others.  The
+figures of docs/theorems.md on speed are those of docs/bench.txt.  A line of code, of a definition or of a page has at
+most 120 characters, and no name is brought in for a contract, a definition or a proof that isn't used there, nor passed
+on for proofs of which none does.
 Ends in a line `N passed, M failed`; the exit status is 1 if anything failed.
 """
 
@@ -36,6 +38,26 @@ PASSED_ON = re.compile(r"^pub use \S+\.\{(.*)\}$", re.MULTILINE)
 COMMENT = re.compile(r"^\s*(--|//).*$", re.MULTILINE)
 NAME = re.compile(r"[^\W\d][^\s(){}\[\];,.:]*")
 OPERATOR = re.compile(r"◌|^\W")
+# The wrong bodies that have a name, by the crate in whose `must-fail/` each is, for `rt ci`.
+NAMED = {
+    "text_model": ["right_mark_stays"],
+    "tcl_words": ["braces_unbalanced", "none_for_fault", "runs_before_end"],
+    "segments": ["right_mark_stays"],
+    "line_tree": ["one_line_tree", "stale_parent_link", "sums_kept_once", "walks_lines"],
+    "undo_stack": ["keeps_undone", "redo_closes_group"],
+    "edit_ops": [
+        "anchor_past_insert", "empty_last_line", "half_an_undo", "ranges_one_by_one", "takes_left_tags",
+        "undo_restores_tags",
+    ],
+    "index_grammar": ["shortest_mark"],
+    "text_index": ["end_from_last_line"],
+    "search_dump": ["foreign_cut", "foreign_cut_at_sel", "wrapped_overlap"],
+    "documents": ["peer_edit_unrecorded", "peer_left_behind", "tags_left_behind"],
+    "peers": ["late_bad_list", "shared_tag_names"],
+    "script_cli": ["read_fault_is_end", "repeats_script", "runs_half_command", "writes_nothing"],
+}
+# The crates whose wrong bodies without a name are in `must-fail/` too.
+TRIED_BY_CI = {"documents", "line_lists", "line_tree", "peers", "tktext_c"}
 # A row of docs/bench.txt, and the scripts of edits and of readings whose times a page gives.
 TIMED = re.compile(r"^(\S.*?) +(\d+) +\d+ +(\d+\.\d+) +(\d+\.\d+)", re.MULTILINE)
 EDITS = (
@@ -227,6 +249,23 @@ def check_crate_pages(tally):
             tally.check(os.path.exists(os.path.join(TOP, "crates", crate, path)), f"there is no crates/{crate}/{path}")
 
 
+def check_wrong_bodies(tally):
+    """The edits of `must-fail/` are the wrong bodies that have a name; the others are in `wrong/` of a crate."""
+    crates = build.read_crates(os.path.join(TOP, "crates.txt"))
+    for folder in glob.glob(os.path.join(TOP, "crates", "*")):
+        crate, place = os.path.basename(folder), os.path.relpath(folder, TOP)
+        named = {f"{name}.edit" for name in NAMED.get(crate, [])}
+        names = {os.path.basename(path) for path in glob.glob(os.path.join(folder, "must-fail", "*"))}
+        strange, missing = ", ".join(sorted(names - named)), ", ".join(sorted(named - names))
+        is_right = not strange or crate in TRIED_BY_CI
+        tally.check(is_right, f"{place}/must-fail has {strange}: move what has no name to {place}/wrong")
+        tally.check(not missing, f"{place}/must-fail has no {missing}")
+        others = [os.path.basename(path) for path in glob.glob(os.path.join(folder, "wrong", "*"))]
+        tally.check(crate in crates or not others, f"{place} has wrong/, and isn't in crates.txt")
+        for name in others:
+            tally.check(name.endswith(".edit"), f"{place}/wrong/{name} isn't an edit")
+
+
 def check_lines(tally):
     """No line is longer than it may be."""
     patterns = {
@@ -339,6 +378,7 @@ def main():
     check_limits(tally)
     check_crates(tally)
     check_crate_pages(tally)
+    check_wrong_bodies(tally)
     check_lines(tally)
     check_names(tally)
     check_passed_on(tally)

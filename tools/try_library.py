@@ -84,7 +84,7 @@ def copy_as_program(folder):
     crates = os.path.join(build.TOP, "crates.txt")
     copied = {CRATE} | build.crates_below(build.read_crates(crates), CRATE)
     for name in copied:
-        left_out = shutil.ignore_patterns("out", "must-fail")
+        left_out = shutil.ignore_patterns("out", "must-fail", "wrong")
         shutil.copytree(build_library.folder_of(name), os.path.join(folder, "crates", name), ignore=left_out)
     with open(os.path.join(folder, "crates.txt"), "w", encoding="utf-8") as file:
         lines = [line for line in text_of(crates).splitlines(True) if re.match(r"\w*", line)[0] in copied]
