@@ -773,6 +773,21 @@ case("closed and made again", remake)
 case("ended itself", lambda text, ends: ends[0]())
 case("ended another", lambda text, ends: ends[1]())
 
+# A world that is made again is followed as any other.
+text = Text(name=".t")
+print(text.changes(), text.insert("1.0", "one"))
+text.world.close()
+print([change.inserted for change in text.changes()])
+text.world.__init__()
+text.world.call("text", ".t")
+print(text.changes(), text.insert("1.0", "two"), [change.inserted for change in text.changes()])
+
+# A function is called though it is false.
+class Empty(list):
+    def __call__(self, changes): print(changes[0].inserted)
+text.on_change(Empty())
+text.insert("1.0", "three")
+
 # The last reference to the world goes within a follower.
 held = [Text()]
 gone = weakref.ref(held[0].world)
@@ -826,6 +841,10 @@ ended itself None ['one', 'ONE', 'two', 'TWO']
 .. None ['three', 'THREE']
 ended another None ['one', 'two']
 .. None ['three']
+[] None
+['one']
+[] None ['two']
+three
 None
 None None
 .!text

@@ -370,8 +370,8 @@ static int call_function(PyObject *follower, PyObject *function, PyObject *part)
     return answer == NULL ? -1 : 0;
 }
 
-/* Calls the next follower of a report with what concerns it, if there is something.  Where that can't be made, the
-   follower is still the next one; once its function is called, it isn't called again. */
+/* Calls the next follower of a report with what concerns it, if there is something.  If that can't be made, the follower
+   is still the next one; once its function is called, it isn't called again. */
 static int deliver_to_next(Report *link)
 {
     PyObject *follower = PyTuple_GetItem(link->followers, link->heard);
@@ -474,6 +474,12 @@ int replace_followers(World *world, PyObject *old, PyObject *new)
     return 1;
 }
 
+/* Returns the link after one; that is the last one, if the queue of the one was dropped. */
+static Report *next_link(World *world, Report *link)
+{
+    return link == world->last ? NULL : link->next == NULL ? world->last : link->next;
+}
+
 /* Returns the links that a reader hasn't read, the empty one at the end included. */
 PyObject *links_from(World *world, Report **unread)
 {
@@ -486,7 +492,7 @@ PyObject *links_from(World *world, Report **unread)
         Py_INCREF(world->last);
         *unread = world->last;
     }
-    for (Report *link = *unread; links != NULL && link != NULL; link = link->next)
+    for (Report *link = *unread; links != NULL && link != NULL; link = next_link(world, link))
         if (PyList_Append(links, (PyObject *)link) < 0)
             Py_CLEAR(links);
     return links;

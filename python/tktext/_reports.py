@@ -129,7 +129,7 @@ class Follower:
 
     def part(self, report: _core.Report) -> list[Any]:
         """Returns what the function is called with; it isn't called with an empty list."""
-        return part_of(report, _PARTS[self.rank], self.text._name) if self.function else []
+        return [] if self.function is None else part_of(report, _PARTS[self.rank], self.text._name)
 
     def fail(self, error: Exception) -> None:
         """Prints what the function raised."""

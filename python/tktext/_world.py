@@ -80,7 +80,7 @@ class World(_core.World):
 
         A word of bytes is UTF-8, and any other is its `str`.  A refused command is a TclError, and changes nothing.  A
         MemoryError changes nothing either, unless memory ran out for the answer, or while the command was reported to
-        those who follow: then it was carried out, and what wasn't delivered is delivered after the next command.
+        those who follow: then it was carried out, and what wasn't delivered comes after the next command.
 
         >>> world = World()
         >>> world.call("text", ".t")
