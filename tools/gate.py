@@ -161,7 +161,7 @@ def available_kilobytes():
 
 
 def jobs():
-    """How many crates `rt ci` is to take at once."""
+    """How many crates are checked at once, by the cores and by the memory that is free."""
     return max(1, min(build.CORES, available_kilobytes() // CHECK_KILOBYTES))
 
 

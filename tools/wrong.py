@@ -29,13 +29,12 @@ from concurrent.futures import ThreadPoolExecutor
 from typing import NamedTuple
 
 import build
+import gate
 import over
 from harness import Tally
 
 PARTS = ("src", "specs", "proofs")
 FOLDER = "wrong"
-# The memory that a check may take.
-CHECK_KILOBYTES = 4_000_000
 # A check of a crate takes some minutes, also beside others.
 TIMEOUT_SECONDS = 3600
 REFUSED = re.compile(r"^# refused: (\S+)(?: at (\S+))?$", re.MULTILINE)
@@ -306,17 +305,11 @@ def try_edits(crate, edits, options):
     return faults
 
 
-def jobs():
-    """How many crates are checked at once, by the cores and by the memory that is free."""
-    free = int(re.search(r"^MemAvailable: *(\d+) kB", text_of("/proc/meminfo"), re.MULTILINE)[1])
-    return max(1, min(build.CORES, free // CHECK_KILOBYTES))
-
-
 def main():
     parser = argparse.ArgumentParser(description="tries the wrong bodies of crates")
     parser.add_argument("crates", nargs="*")
     parser.add_argument("--libraries", default=build.TOP)
-    parser.add_argument("--jobs", type=int, default=jobs())
+    parser.add_argument("--jobs", type=int, default=gate.jobs())
     parser.add_argument("--show", action="store_true")
     options = parser.parse_args()
     crates = options.crates or build.read_crates(os.path.join(build.TOP, "crates.txt"))
