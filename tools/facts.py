@@ -56,8 +56,6 @@ NAMED = {
     "peers": ["late_bad_list", "shared_tag_names"],
     "script_cli": ["read_fault_is_end", "repeats_script", "runs_half_command", "writes_nothing"],
 }
-# The crates whose wrong bodies without a name are in `must-fail/` too.
-TRIED_BY_CI = {"documents", "line_lists", "line_tree", "peers", "tktext_c"}
 # A row of docs/bench.txt, and the scripts of edits and of readings whose times a page gives.
 TIMED = re.compile(r"^(\S.*?) +(\d+) +\d+ +(\d+\.\d+) +(\d+\.\d+)", re.MULTILINE)
 EDITS = (
@@ -257,8 +255,7 @@ def check_wrong_bodies(tally):
         named = {f"{name}.edit" for name in NAMED.get(crate, [])}
         names = {os.path.basename(path) for path in glob.glob(os.path.join(folder, "must-fail", "*"))}
         strange, missing = ", ".join(sorted(names - named)), ", ".join(sorted(named - names))
-        is_right = not strange or crate in TRIED_BY_CI
-        tally.check(is_right, f"{place}/must-fail has {strange}: move what has no name to {place}/wrong")
+        tally.check(not strange, f"{place}/must-fail has {strange}: move what has no name to {place}/wrong")
         tally.check(not missing, f"{place}/must-fail has no {missing}")
         others = [os.path.basename(path) for path in glob.glob(os.path.join(folder, "wrong", "*"))]
         tally.check(crate in crates or not others, f"{place} has wrong/, and isn't in crates.txt")

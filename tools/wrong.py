@@ -160,8 +160,18 @@ def batches_of(crate, edits):
 # ---- checks
 
 
+def is_static(crate):
+    """Whether a crate is a library for C, which `rt ci` leaves no library of for other crates."""
+    return re.search(rf"^{crate} staticlib:", text_of(build.TOP, "crates.txt"), re.MULTILINE) is not None
+
+
 def calls_of(crate, libraries):
-    """The functions of a crate, by their paths, each with those of the crate that it names, as its library has them."""
+    """The functions of a crate, by their paths, each with those of the crate that it names, as its library has them.
+
+    None of a library for C: what its functions call in the crate is proved with them.
+    """
+    if is_static(crate):
+        return {}
     library = os.path.join(over.find_rlib(crate, libraries), f"{crate}.rlib")
     named = re.compile(rf'"{crate}::([^"]+)"')
     bodies = {
@@ -236,8 +246,21 @@ def gone_goals(said):
     errors = defaultdict(list)
     for place, goal, text in ERROR.findall(said):
         function = re.sub(r"(^|/)\+", r"\1", place).replace("/", "::")
+        if "::" in goal:  # that of a function of a cycle, which begins with its path
+            function, _, goal = goal.partition("-")
         errors[function, goal].append(text)
     return {key for key, texts in errors.items() if all(map(GONE.search, texts))}
+
+
+def own_goals(crate, function, verdict):
+    """The goals of a function itself that a verdict names, by its own proof or by that of the cycle that it is in."""
+    *path, name = function.split("::")
+    proofs = re.escape(f"Rattle.{crate}.proofs.")
+    # The proof of a function that calls itself is at its name with a `+` before it.
+    own = re.escape(".".join([*path, ""])) + r"\+?" + re.escape(name)
+    goals = re.findall(rf"`{proofs}{own}\.(?:Answers|Invariants|Proof)\.([^`:]+)`", verdict)
+    cycle = rf"`{proofs}(?:\w+\.)*\+\w+\.(?:Answers|Invariants)\.{re.escape(function)}-([^`]+)`"
+    return goals + re.findall(cycle, verdict)
 
 
 def refused_goals(crate, functions, said):
@@ -245,10 +268,7 @@ def refused_goals(crate, functions, said):
     gone, found = gone_goals(said), {}
     for of_crate, function, verdict in VERDICT.findall(said):
         if of_crate == crate and function in functions:
-            *path, name = function.split("::")
-            # The proof of a function that calls itself is at its name with a `+` before it.
-            own = re.escape(".".join(["Rattle", crate, "proofs", *path, ""])) + r"\+?" + re.escape(name)
-            goals = re.findall(rf"`{own}\.(?:Answers|Invariants|Proof)\.([^`]+)`", verdict)
+            goals = own_goals(crate, function, verdict)
             goals += [goal for left in LEFT.findall(verdict) for goal in re.findall(r"`([^`]+)`", left)]
             found[function] = [goal for goal in goals if (function, goal) not in gone]
     return found
@@ -314,7 +334,8 @@ def main():
     options = parser.parse_args()
     crates = options.crates or build.read_crates(os.path.join(build.TOP, "crates.txt"))
     edits = {crate: found for crate in crates if (found := read_edits(crate))}
-    unbuilt = [crate for crate in edits if not os.path.isdir(over.find_rlib(crate, options.libraries))]
+    libraries = [crate for crate in edits if not is_static(crate)]
+    unbuilt = [crate for crate in libraries if not os.path.isdir(over.find_rlib(crate, options.libraries))]
     if unbuilt:
         sys.exit(f"wrong.py: no library of {', '.join(unbuilt)} is built: run `rt ci`, or give --libraries")
     # The crates with the most edits take longest, and begin first.
