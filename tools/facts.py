@@ -349,7 +349,8 @@ def measured_figures(text):
     """What docs/theorems.md says of speed, by what docs/bench.txt has."""
     rows = timed_rows(text)
     appended = re.search(r"^20000 commands `.t insert end x`: ([\d.]+) s", text, re.MULTILINE)[1]
-    resident = {f"{int(size) / 1000:.1f}" for size in re.findall(r"in short commands: greatest resident size (\d+) kB", text)}
+    sizes = re.findall(r"in short commands: greatest resident size (\d+) kB", text)
+    resident = {f"{int(size) / 1000:.1f}" for size in sizes}
     return [
         f"An edit takes {span_of(rows, EDITS)} microseconds a command",
         f"an index and a character that is read {span_of(rows, READS)}, at each",

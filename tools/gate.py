@@ -5,8 +5,8 @@
 
 Each line of `rt ci` is shown with the time (minutes and seconds from the start) before it. After them comes a table:
 for each crate the seconds of processor (user) that its check, its tests and its must-fail edits took, the most
-expensive crate first, then how many runs of the prover that were, and how many functions they proved. `rt ci` takes as
-many crates at once as there are cores, but no more than one for each 4 GB of memory that is free, unless RT_JOBS is set.
+expensive crate first, then the number of runs of the prover, and the number of functions they proved. `rt ci` takes as
+many crates at once as there are cores, but at most one for each 4 GB of free memory, unless RT_JOBS is set.
 
 With `--ratio`, `rt ci --anew` runs, with nothing else on the machine, and the last line of the table is the measure of
 the gate: its processor time over that of a yardstick, a fixed check that runs every few minutes meanwhile, on average.

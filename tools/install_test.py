@@ -9,8 +9,8 @@ each library; the program answers; the library shows the names of include/tktext
 found.  Then nothing is left after `make uninstall`.  The same files go below a DESTDIR, and into the tarball and the
 Debian package of a release, whose checksums hold; its wheel goes into an environment of Python of its own, where
 README's lines and the example in Python run by the library in it, and so does this repository by `pip install .`,
-without a network.  The program of `make try` is built anew and tried.  A part that wants a package that isn't there says so, and is skipped.  Ends in a line `N passed, M
-failed`; the exit status is 1 if anything failed.
+without a network.  The program of `make try` is built anew and tried.  A part that wants a package that isn't there says
+so, and is skipped.  Ends in a line `N passed, M failed`; the exit status is 1 if anything failed.
 """
 
 import os
@@ -150,7 +150,7 @@ def check_program(prefix, folder, tally):
 
 
 def check_tried(folder, tally):
-    """What `make try` builds is a program like the proved one: it needs the C library alone, and no sanitizer's memory."""
+    """What `make try` builds is like the proved program: it needs the C library alone, and no sanitizer's memory."""
     if shutil.which("rt") is None:
         print("skipped: `make try` wants the Rattle kit (`rt`)")
         return

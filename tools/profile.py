@@ -93,7 +93,8 @@ def main():
     print("".join(f"{word:>9}" for word in ["seconds", *kinds]))
     ordered = sorted(seconds.items(), key=lambda item: -sum(item[1].values()))
     for function, spent in ordered[: options.lines]:
-        print("".join(f"{number:9.1f}" for number in [sum(spent.values()), *(spent[kind] for kind in kinds)]), "", function)
+        numbers = [sum(spent.values()), *(spent[kind] for kind in kinds)]
+        print("".join(f"{number:9.1f}" for number in numbers), "", function)
     total = sum((spent for _, spent in ordered), collections.Counter())
     print("".join(f"{number:9.1f}" for number in [sum(total.values()), *(total[kind] for kind in kinds)]), " all")
 

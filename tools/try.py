@@ -5,9 +5,9 @@
     python3 tools/try.py EXAMPLE [SCRIPT]
 
 The first compiles the program as tools/unproved.py does, without a proof, without checks at run time and without a
-sanitizer, as PROGRAM, or else out/try/tktext.  The second runs it: the script is the file SCRIPT, or else what standard input brings, or
-else EXAMPLE.  The answers come on standard output; the exit status is the program's, as docs/tktext.1.md gives it, and
-4 if a signal ended the program.
+sanitizer, as PROGRAM, or else out/try/tktext.  The second runs it: the script is the file SCRIPT, or else what standard
+input brings, or else EXAMPLE.  The answers come on standard output; the exit status is the program's, as
+docs/tktext.1.md gives it, and 4 if a signal ended the program.
 """
 
 import os

@@ -38,7 +38,7 @@ FOLDER = "wrong"
 # A check of a crate takes some minutes, also beside others.
 TIMEOUT_SECONDS = 3600
 REFUSED = re.compile(r"^# refused: (\S+)(?: at (\S+))?$", re.MULTILINE)
-# The file of a proof that takes a theorem as it is stated.  The prover prints the goal of a hole, and this one is short.
+# The file of a proof that takes a theorem as it is stated.  The prover prints the goal of a hole; this one is short.
 HOLE = """use Rattle.{crate}.proofs.{place}.Statement.{{statement}}
 
 hole : ⊥
@@ -192,7 +192,7 @@ def reached(calls, functions):
 
 
 def below(calls, functions):
-    """What some functions lead to and has a theorem of its own: no closure, nothing that the compiler makes, no cycle."""
+    """What some functions lead to and has a theorem of its own: no closure, nothing of the compiler's, no cycle."""
     plain = re.compile(r"(?!.*::fn::)\w+(::\w+)*")
     found = reached(calls, functions) - functions
     return {name for name in found if plain.fullmatch(name) and name not in reached(calls, [name])}

@@ -227,8 +227,8 @@ static int make_report(Report *link)
     return -1;
 }
 
-/* Allocates what the next command needs for its report, if anyone follows.  Making a link may run code of Python's, such
-   as a finalizer, which may use up another one; after the last one no code of Python's runs. */
+/* Allocates what the next command needs for its report, if anyone follows.  Making a link may run code of Python's,
+   such as a finalizer, which may use up another one; after the last one no code of Python's runs. */
 static int prepare(World *world)
 {
     while (world->followers != NULL && world->spare == NULL) {
@@ -370,8 +370,8 @@ static int call_function(PyObject *follower, PyObject *function, PyObject *part)
     return answer == NULL ? -1 : 0;
 }
 
-/* Calls the next follower of a report with what concerns it, if there is something.  If that can't be made, the follower
-   is still the next one; once its function is called, it isn't called again. */
+/* Calls the next follower of a report with what concerns it, if there is something.  If that can't be made, the
+   follower is still the next one; once its function is called, it isn't called again. */
 static int deliver_to_next(Report *link)
 {
     PyObject *follower = PyTuple_GetItem(link->followers, link->heard);

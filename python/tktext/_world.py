@@ -136,7 +136,7 @@ class World(_core.World):
         self._finish()
 
     def lines(self) -> Iterator[bytes]:
-        """Carries out the commands of the script that are at hand, and yields each one's line, as the program prints it.
+        """Carries out the commands of the script that are at hand, and yields the line that the program prints for each.
 
         Each is carried out when its line is asked for.  A command is at hand once it is whole however the script goes
         on; the lines end where none is, and go on with a further call of `lines` after `feed` or `finish`.  A fault of
