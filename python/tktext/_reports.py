@@ -34,7 +34,7 @@ class Spot(NamedTuple):
 
 
 class Change(NamedTuple):
-    """A change of a text: at the offset `at`, `removed` characters were deleted, and `inserted` was put in their place.
+    """A change of a text: at the offset `at`, `removed` characters were replaced by the text `inserted`.
 
     It starts at the spot `start`; the deleted characters ended at `old_end`, in the text before the change, and the
     inserted ones end at `new_end`, in the text after it.
