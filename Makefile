@@ -39,7 +39,6 @@ ROWS = crates/rows/out/rows
 LINE_BENCH = crates/line_bench/out/line_bench
 TREE_BENCH = crates/tree_bench/out/tree_bench
 NODE_MEMORY = crates/node_memory/out/node_memory
-SCRIPT_BENCH = crates/script_bench/out/script_bench
 LIBRARY = out/libtktext.a
 # What is built before anything is proved.
 TRIED = out/try/tktext
@@ -130,7 +129,7 @@ $(ASKED): tools/weigh.c
 
 # `rt ci` puts back an out/ that was there before it, so old programs are taken away first.
 test: $(SHIM) $(WEIGH)
-	rm -rf crates/tktext/out crates/rows/out crates/node_memory/out crates/tree_bench/out crates/script_bench/out
+	rm -rf crates/tktext/out crates/rows/out crates/node_memory/out crates/tree_bench/out
 	python3 tools/total.py 'python3 tools/gate.py' \
 	  'python3 tools/wrong.py' \
 	  'python3 tools/wrong_test.py' \
@@ -145,7 +144,7 @@ test: $(SHIM) $(WEIGH)
 	  'python3 tools/memory.py --program $(NODE_MEMORY) --shim $(WEIGH)' \
 	  'python3 tools/held.py --program $(PROGRAM) --shim $(WEIGH)' \
 	  'python3 tools/tree_refusals.py --program $(TREE_BENCH) --shim $(SHIM)' \
-	  'python3 tools/gains.py --bench $(SCRIPT_BENCH) --program $(PROGRAM) --shim $(WEIGH) --file docs/gains.txt' \
+	  'python3 tools/gains.py --program $(PROGRAM) --shim $(WEIGH) --file docs/gains.txt' \
 	  'python3 tools/own_counter.py' \
 	  'python3 tools/manual.py --program $(PROGRAM)' \
 	  'python3 tools/tk.py --program $(PROGRAM)' \
@@ -181,12 +180,8 @@ bench-python: python
 versus: $(PROGRAM)
 	python3 tools/versus.py --program $(PROGRAM) --out docs/performance.md --kept out/tk_counts.json
 
-$(SCRIPT_BENCH): $(SOURCES)
-	@python3 tools/build.py --crate script_bench
-	@touch $@
-
-gains: $(SCRIPT_BENCH) $(PROGRAM) $(WEIGH)
-	python3 tools/gains.py --bench $(SCRIPT_BENCH) --program $(PROGRAM) --shim $(WEIGH) --file docs/gains.txt \
+gains: $(PROGRAM) $(WEIGH)
+	python3 tools/gains.py --program $(PROGRAM) --shim $(WEIGH) --file docs/gains.txt \
 	  $(if $(UPDATE),--update)
 
 orders: $(PROGRAM)

@@ -27,6 +27,8 @@ COST_ROW = re.compile(r"^\| `(\w+)` \| ([\d,]+) \|", re.MULTILINE)
 # What a crate is reckoned to take that isn't in the table; one that was ready within so many seconds was kept before.
 SOME_COST, KEPT_SECONDS = 60, 5
 CORES = len(os.sched_getaffinity(0))
+# The memory that the check of a crate may need, in kB.
+CHECK_KILOBYTES = 4_000_000
 # With up to so many cores `rt` chooses its processes by itself, and looks at the memory that is free.
 CHOSEN_CORES, MOST_JOBS = 4, 8
 # How often a terminal is told that the proof goes on, in seconds.
@@ -52,6 +54,17 @@ def crates_below(crates, name):
     for need in crates[name]:
         found |= crates_below(crates, need)
     return found
+
+
+def available_kilobytes():
+    """The memory that is free for programs."""
+    with open("/proc/meminfo", encoding="ascii") as file:
+        return int(re.search(r"^MemAvailable: *(\d+) kB", file.read(), re.MULTILINE)[1])
+
+
+def jobs():
+    """How many crates to check at once, by the cores and by the memory that is free."""
+    return max(1, min(CORES, available_kilobytes() // CHECK_KILOBYTES))
 
 
 def plan(crates, program):

@@ -1,14 +1,14 @@
 #!/usr/bin/env python3
 """Holds what the program takes against what it took when docs/gains.txt was written: what `make gains` calls.
 
-    python3 tools/gains.py --bench PATH --program PATH --shim PATH --file docs/gains.txt [--update] [--only WORD]
+    python3 tools/gains.py --program PATH --shim PATH --file docs/gains.txt [--update] [--only WORD]
 
-PATH are the proved programs `script_bench` and `tktext` and the allocator of `tools/weigh.c`. The rows are the workloads
-of the bench at small sizes and some of `tools/workloads.py`, in millions of instructions (callgrind), and the megabytes
-that the load of 100,000 lines holds at its end and at its peak. A row that is more than a twentieth above the file's
-fails, with the functions that grew most; one that is more than a twentieth below says that the file's can be lowered.
-`--update` writes the file. Where valgrind isn't installed nothing is counted, and that is said. The last line counts the
-checks.
+PATH are the proved program `tktext` and the allocator of `tools/weigh.c`. The rows are the program's runs of the jobs
+of `bench/jobs.py` at small sizes and of some workloads of `tools/workloads.py`, in millions of instructions
+(callgrind), and the megabytes that the load of 100,000 lines holds at its end and at its peak. A row that is more than
+a twentieth above the file's fails, with the functions that grew most; one that is more than a twentieth below says that
+the file's can be lowered. `--update` writes the file. Without valgrind nothing is counted, and a line says so. The last
+line counts the checks.
 """
 
 import argparse
@@ -19,15 +19,20 @@ import subprocess
 import sys
 import tempfile
 from concurrent.futures import ThreadPoolExecutor
+from functools import partial
 from typing import NamedTuple
 
 import workloads
 from versus import ANNOTATED, count_instructions
 
+TOP = os.path.dirname(os.path.dirname(os.path.abspath(__file__)))
+sys.path.insert(0, os.path.join(TOP, "bench"))
+import jobs  # noqa: E402
+
 MOST_GROWTH = 1.05
-# The sizes of docs/PERF.md's table of instructions, with the bench's seed.
-BENCH_SIZES = {"console": 20_000, "typing": 20_000, "coloring": 2_000, "views": 6_000, "file": 20_000, "long_line": 3_000}
-BENCH_SEED = 1
+# The sizes of docs/PERF.md's table of instructions, with the seed of `bench/run`.
+JOB_SIZES = {"console": 20_000, "typing": 20_000, "coloring": 2_000, "views": 6_000, "file": 20_000, "long_line": 3_000}
+JOB_SEED = 1
 WORKLOADS = ("marks-2000", "dump-500", "search-5000", "undo-500", "scattered-2000", "along-4000")
 LOAD = "load-100000"
 # How many functions a row keeps in the file, and how many are shown of those that grew.
@@ -68,19 +73,24 @@ def counted(command, given, folder):
     return Measured(amount, functions_of(profile))
 
 
-def script_of(name, folder):
-    """A file with the script of a workload."""
+def file_of(script, name, folder):
+    """A file with a script."""
     path = os.path.join(folder, name)
-    with open(path, "w", encoding="utf-8", newline="\n") as file:
-        file.write("\n".join(workloads.named(name).commands()) + "\n")
+    with open(path, "wb") as file:
+        file.write(script)
     return path
+
+
+def workload(name):
+    """The script of a workload."""
+    return ("\n".join(workloads.named(name).commands()) + "\n").encode()
 
 
 def weighed(options, folder):
     """What the load holds when the program reads its end, and at most."""
     report = os.path.join(folder, "weight")
     environment = dict(os.environ, LD_PRELOAD=os.path.abspath(options.shim), WEIGHT_REPORT=report)
-    with open(script_of(LOAD, folder), "rb") as script:
+    with open(file_of(workload(LOAD), LOAD, folder), "rb") as script:
         subprocess.run([options.program], stdin=script, stdout=subprocess.DEVNULL, env=environment, check=True)
     with open(report, encoding="ascii") as file:
         _, _, most, held = (int(word) / MILLION for word in file.read().split())
@@ -89,14 +99,15 @@ def weighed(options, folder):
 
 def measure(options, folder):
     """Each row by its name."""
-    jobs = {
-        f"{name} {size}": ([options.bench, name, str(size), str(BENCH_SEED)], os.devnull)
-        for name, size in BENCH_SIZES.items()
-    }
-    jobs |= {name: ([options.program], script_of(name, folder)) for name in WORKLOADS}
-    jobs = {name: job for name, job in jobs.items() if options.only in name}
+    scripts = {f"{job} {size}": partial(jobs.script, job, size, JOB_SEED) for job, size in JOB_SIZES.items()}
+    scripts |= {name: partial(workload, name) for name in WORKLOADS}
+
+    def count(name):
+        return counted([options.program], file_of(scripts[name](), name, folder), folder)
+
+    names = [name for name in scripts if options.only in name]
     with ThreadPoolExecutor(len(os.sched_getaffinity(0))) as cores:
-        rows = dict(zip(jobs, cores.map(lambda job: counted(*job, folder), jobs.values())))
+        rows = dict(zip(names, cores.map(count, names)))
     return rows | (weighed(options, folder) if options.only in LOAD else {})
 
 
@@ -149,7 +160,7 @@ def commit_now():
 
 def main():
     parser = argparse.ArgumentParser(description="holds what the program takes against what it took")
-    for name in ("bench", "program", "shim", "file"):
+    for name in ("program", "shim", "file"):
         parser.add_argument(f"--{name}", required=True)
     parser.add_argument("--update", action="store_true")
     parser.add_argument("--only", default="")

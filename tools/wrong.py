@@ -29,12 +29,13 @@ from concurrent.futures import ThreadPoolExecutor
 from typing import NamedTuple
 
 import build
-import gate
 import over
 from harness import Tally
 
 PARTS = ("src", "specs", "proofs")
 FOLDER = "wrong"
+# What the name of the folder begins with in which a crate's edits are made; tools/gate.py knows these checks by it.
+COPY = "wrong-"
 # A check of a crate takes some minutes, also beside others.
 TIMEOUT_SECONDS = 3600
 REFUSED = re.compile(r"^# refused: (\S+)(?: at (\S+))?$", re.MULTILINE)
@@ -229,7 +230,7 @@ def check(crate, edits, functions, libraries):
         build.read_crates(os.path.join(build.TOP, "crates.txt")),
     )
     only = [word for function in sorted(functions) for word in ("--only", function)]
-    with tempfile.TemporaryDirectory(prefix="wrong-") as copy:
+    with tempfile.TemporaryDirectory(prefix=COPY) as copy:
         write_copy(crate, copy, edits, below(calls_of(crate, libraries), functions))
         try:
             done = subprocess.run(
@@ -329,7 +330,7 @@ def main():
     parser = argparse.ArgumentParser(description="tries the wrong bodies of crates")
     parser.add_argument("crates", nargs="*")
     parser.add_argument("--libraries", default=build.TOP)
-    parser.add_argument("--jobs", type=int, default=gate.jobs())
+    parser.add_argument("--jobs", type=int, default=build.jobs())
     parser.add_argument("--show", action="store_true")
     options = parser.parse_args()
     crates = options.crates or build.read_crates(os.path.join(build.TOP, "crates.txt"))
