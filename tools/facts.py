@@ -42,7 +42,6 @@ OPERATOR = re.compile(r"◌|^\W")
 NAMED = {
     "text_model": ["right_mark_stays"],
     "tcl_words": ["braces_unbalanced", "none_for_fault", "runs_before_end"],
-    "segments": ["right_mark_stays"],
     "line_tree": ["one_line_tree", "stale_parent_link", "sums_kept_once", "walks_lines"],
     "undo_stack": ["keeps_undone", "redo_closes_group"],
     "edit_ops": [
