@@ -113,8 +113,19 @@ impl<C: Ticks> LineTree<C> {
         self.store.reserve(count)
     }
 
-    /// Reserves for `count` lines to be put in, that come in so many rows. Fails for want of memory.
-    pub fn reserve_for(&mut self, count: usize, rows: usize) -> Result<(), AllocError>
+    /// Reserves for the insertion of `count` lines, by as many splices as the caller likes. Fails where an allocation
+    /// fails.
+    pub fn reserve_for(&mut self, count: usize) -> Result<(), AllocError>
+        ensures lines { self.new.lines ≡ self.old.lines }
+        ensures height { self.new.height ≡ self.old.height }
+        ensures room { OnOk result (HasRoom self.new count count) }
+    {
+        self.reserve_for_rows(count, count)
+    }
+
+    /// Reserves for the insertion of `count` lines that come in at most `rows` splices, which may need less memory than
+    /// `reserve_for` allocates. Fails where an allocation fails.
+    pub fn reserve_for_rows(&mut self, count: usize, rows: usize) -> Result<(), AllocError>
         ensures lines { self.new.lines ≡ self.old.lines }
         ensures height { self.new.height ≡ self.old.height }
         ensures room { OnOk result (HasRoom self.new count rows) }

@@ -163,7 +163,7 @@ impl LineList for TreeLines {
     }
 
     fn reserve(&mut self, count: usize, rows: usize, numbers: usize) -> Result<(), AllocError> {
-        self.tree.reserve_for(count, rows)?;
+        self.tree.reserve_for_rows(count, rows)?;
         grow(&mut self.names, numbers)
     }
 

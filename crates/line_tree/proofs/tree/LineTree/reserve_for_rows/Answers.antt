@@ -3,7 +3,7 @@ use Rattle.line_tree.proofs.Common.{mul-le-mul_left, levels_at_most}
 use Rattle.line_tree.proofs.LevelLaws.{more-lines}
 use Rattle.line_tree.proofs.LineRoomLaws.{on_ok_two}
 use Rattle.line_tree.proofs.SpendingLaws.{flat-room}
-use Rattle.line_tree.proofs.tree.LineTree.reserve_for.Goals as goal
+use Rattle.line_tree.proofs.tree.LineTree.reserve_for_rows.Goals as goal
 
 pub overflow_mul-steep : goal.overflow_mul-steep
 overflow_mul-steep g c =
