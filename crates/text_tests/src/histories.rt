@@ -1,3 +1,5 @@
+//! Histories of edits by their calls: groups, the limit, what counts as modified.
+
 use std::alloc::Global;
 use std::process::Abort;
 use std::test::Fail;

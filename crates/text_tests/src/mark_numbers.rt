@@ -1,3 +1,5 @@
+//! The numbers of marks over many commands.
+
 use mark_table::MarkTable;
 use std::alloc::Global;
 use std::process::Abort;
