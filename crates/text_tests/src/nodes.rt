@@ -5,6 +5,8 @@ ghost use Rattle.std.specs.Prelude.{◌≤◌};
 
 use raw_nodes::{NodeStore, Steps};
 use segments::Line;
+use std::alloc::{AllocError, Global};
+use std::process::Abort;
 use std::test::Fail;
 use text_model::{TagSet, TagSlot};
 use toggle_sums::{Exchange, Sums};
@@ -20,15 +22,14 @@ fn turn(store: &mut NodeStore<Steps>)
     store.give_back(second);
 }
 
-#[test]
-fn two_names(rt: HostRuntime) -> Result<(), Fail> {
-    let mut store: NodeStore<Steps> = NodeStore::new(rt.alloc());
-    store.reserve(2)?;
+fn two_names(rt: &impl Abort, store: &mut NodeStore<Steps>)
+    requires spares { 2 ≤ spares store.old }
+    requires rooms { 2 ≤ rooms store.old }
+{
     let first = store.make(None);
     let second = store.make(None);
     assert!(rt; !store.same(first, second));
     assert!(rt; store.same(second, second));
-    Ok(())
 }
 
 #[test]
@@ -43,67 +44,61 @@ fn after_a_refusal(rt: HostRuntime) -> Result<(), Fail> {
     Ok(())
 }
 
-#[test]
-fn links(rt: HostRuntime) -> Result<(), Fail> {
-    let mut store: NodeStore<Steps> = NodeStore::new(rt.alloc());
+fn links(rt: &impl Abort, store: &mut NodeStore<Steps>)
+    requires spares { 2 ≤ spares store.old }
+    requires rooms { 2 ≤ rooms store.old }
+{
     let mut steps = Steps::new();
-    store.reserve(2)?;
     let below = store.make(None);
     let top = store.make(None);
     assert!(rt; store.parent(below, &mut steps).is_none());
     store.set_child(top, 3, Some(below));
     store.set_parent(below, Some(top), 3);
-    assert_eq!(rt; store.slot(below), 3);
+    assert!(rt; store.slot(below) == 3);
     assert!(rt; store.parent(below, &mut steps).is_some());
-    assert_eq!(rt; store.children(top), 1);
+    assert!(rt; store.children(top) == 1);
     assert!(rt; store.child(top, 3, &mut steps).is_some());
     assert!(rt; store.child(top, 2, &mut steps).is_none());
-    Ok(())
 }
 
-#[test]
-fn lines(rt: HostRuntime) -> Result<(), Fail> {
-    let mut store: NodeStore<Steps> = NodeStore::new(rt.alloc());
-    store.reserve_lines(1)?;
-    let name = store.make(Some(Line::new(rt.alloc(), "a line\n")?));
+fn lines(rt: &impl Abort, store: &mut NodeStore<Steps>, line: Line)
+    requires { 1 ≤ spares store.old }
+{
+    let name = store.make(Some(line));
     assert!(rt; store.line(name).is_some());
     let mut steps = Steps::new();
     assert!(rt; store.lines(name, &mut steps) == 1 && store.size(name, &mut steps) == (1, 7));
     let given = store.give_back(name);
     assert!(rt; given.is_some_and(|line| line.len() == 7));
-    Ok(())
 }
 
-#[test]
-fn marks_and_toggles(rt: HostRuntime) -> Result<(), Fail> {
-    let mut store: NodeStore<Steps> = NodeStore::new(rt.alloc());
-    store.reserve_lines(1)?;
-    let name = store.make(Some(Line::new(rt.alloc(), "a line\n")?));
+fn marks_and_toggles(rt: &impl Abort, store: &mut NodeStore<Steps>, line: Line)
+    requires { 1 ≤ spares store.old }
+{
+    let name = store.make(Some(line));
     let mut steps = Steps::new();
     assert!(rt; store.marks(name, &mut steps) == 0);
     assert!(rt; !store.has_toggle(name, TagSlot(3), &mut steps));
     let mut slots = TagSet::empty().with(TagSlot(3));
     store.turn_odd_slots(name, &mut slots, &mut steps);
     assert!(rt; slots.has(TagSlot(3)) && store.is_bare(name, &mut steps));
-    Ok(())
 }
 
-#[test]
-fn counts_below(rt: HostRuntime) -> Result<(), Fail> {
-    let mut store: NodeStore<Steps> = NodeStore::new(rt.alloc());
-    store.reserve(1)?;
+fn counts_below(rt: &impl Abort, store: &mut NodeStore<Steps>)
+    requires spares { 1 ≤ spares store.old }
+    requires rooms { 1 ≤ rooms store.old }
+{
     let top = store.make(None);
     store.set_sum(top, &Sums::counting(2, 9, 1));
     store.add_sum(top, &Sums::counting(1, 4, 0));
     store.lose_counts(top, 2, 9, 1);
     assert!(rt; store.size(top, &mut Steps::new()) == (1, 4));
-    Ok(())
 }
 
-#[test]
-fn sums_exchanged(rt: HostRuntime) -> Result<(), Fail> {
-    let mut store: NodeStore<Steps> = NodeStore::new(rt.alloc());
-    store.reserve(1)?;
+fn sums_exchanged(rt: &impl Abort, store: &mut NodeStore<Steps>)
+    requires spares { 1 ≤ spares store.old }
+    requires rooms { 1 ≤ rooms store.old }
+{
     let top = store.make(None);
     store.set_sum(top, &Sums::counting(2, 9, 1));
     let mut exchange = Exchange::none();
@@ -113,27 +108,68 @@ fn sums_exchanged(rt: HostRuntime) -> Result<(), Fail> {
     exchange.compare();
     store.exchange(top, &exchange);
     assert!(rt; store.size(top, &mut Steps::new()) == (3, 11));
-    Ok(())
 }
 
-#[test]
-fn sums_added(rt: HostRuntime) -> Result<(), Fail> {
-    let mut store: NodeStore<Steps> = NodeStore::new(rt.alloc());
-    store.reserve(1)?;
+fn sums_added(rt: &impl Abort, store: &mut NodeStore<Steps>)
+    requires spares { 1 ≤ spares store.old }
+    requires rooms { 1 ≤ rooms store.old }
+{
     let top = store.make(None);
     store.set_sum(top, &Sums::counting(2, 9, 1));
     let mut sum = Sums::counting(1, 1, 1);
     store.add_sum_to(top, &mut sum, &mut Steps::new());
     assert!(rt; sum.lines() == 3 && sum.characters() == 10 && sum.marks() == 2);
+}
+
+fn a_line_to_change(rt: &impl Abort, store: &mut NodeStore<Steps>, line: Line)
+    requires { 1 ≤ spares store.old }
+{
+    let name = store.make(Some(line));
+    assert!(rt; store.line_mut(name).is_some_and(|line| line.len() == 7));
+}
+
+fn a_line(alloc: Global) -> Result<Line, AllocError> {
+    Line::new(alloc, "a line\n")
+}
+
+fn check_lines(
+    rt: &impl Abort,
+    alloc: Global,
+    store: &mut NodeStore<Steps>,
+) -> Result<(), AllocError> {
+    store.reserve_lines(1)?;
+    lines(rt, store, a_line(alloc)?);
+    store.reserve_lines(1)?;
+    marks_and_toggles(rt, store, a_line(alloc)?);
+    store.reserve_lines(1)?;
+    a_line_to_change(rt, store, a_line(alloc)?);
+    Ok(())
+}
+
+fn check_sums(rt: &impl Abort, store: &mut NodeStore<Steps>) -> Result<(), AllocError> {
+    store.reserve(1)?;
+    counts_below(rt, store);
+    store.reserve(1)?;
+    sums_exchanged(rt, store);
+    store.reserve(1)?;
+    sums_added(rt, store);
+    Ok(())
+}
+
+fn check_names(rt: &impl Abort, store: &mut NodeStore<Steps>) -> Result<(), AllocError> {
+    store.reserve(2)?;
+    two_names(rt, store);
+    store.reserve(2)?;
+    links(rt, store);
     Ok(())
 }
 
 #[test]
-fn a_line_to_change(rt: HostRuntime) -> Result<(), Fail> {
+fn nodes_are_used(rt: HostRuntime) -> Result<(), Fail> {
     let mut store: NodeStore<Steps> = NodeStore::new(rt.alloc());
-    store.reserve_lines(1)?;
-    let name = store.make(Some(Line::new(rt.alloc(), "a line\n")?));
-    assert!(rt; store.line_mut(name).is_some_and(|line| line.len() == 7));
+    check_names(&rt, &mut store)?;
+    check_lines(&rt, rt.alloc(), &mut store)?;
+    check_sums(&rt, &mut store)?;
     Ok(())
 }
 

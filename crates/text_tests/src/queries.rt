@@ -107,13 +107,22 @@ fn line_end<S: TextStore>(store: &S, offset: usize) -> Option<Answer> {
     Some((store.line_at(offset).end, 0))
 }
 
+fn bit(index: usize) -> usize {
+    match index {
+        0 => 1,
+        1 => 2,
+        2 => 4,
+        _ => 8,
+    }
+}
+
 /// The bits of those of `SLOTS` that are in a set, if it has no others.
 pub fn bits_of(tags: &TagSet) -> usize {
     let mut bits = 0usize;
     let mut rest = *tags;
     for (index, slot) in SLOTS.iter().enumerate() {
         if tags.has(*slot) {
-            bits = bits.wrapping_add([1, 2, 4, 8][index]);
+            bits = bits.wrapping_add(bit(index));
             rest = rest.without(*slot);
         }
     }

@@ -113,7 +113,7 @@ fn check_all<S: TextStore>(rt: &impl Abort, pair: &Pair<S>) {
 fn check_some<S: TextStore>(rt: &impl Abort, pair: &Pair<S>, numbers: &mut Numbers) {
     let end = pair.plain.len().saturating_add(2);
     for _ in 0..12 {
-        check_at(rt, pair, numbers.below(end));
+        check_at(rt, pair, numbers.below(end.max(1)));
     }
 }
 

@@ -1,6 +1,6 @@
 //! `tree_bench WORK COUNT LENGTH [COLUMN]` does one thing with a tree of COUNT lines of LENGTH characters, or without a
 //! tree, and prints how many lines there are then, and a count of the work's own. `tools/bench_tree.py`,
-//! `tools/bench_lines.py` and `tools/memory.py` measure it, and `tools/tree_refusals.py` runs it where memory is refused.
+//! `tools/bench_lines.py` and `tools/memory.py` measure it; `tools/tree_refusals.py` runs it with memory refused.
 #![tactic(auto)]
 
 mod counted;
@@ -17,7 +17,7 @@ use counted::{Counted, new_tree, whole};
 use counter::Counter;
 use lines::{make_lines, sum_of, text_of};
 use long_line::{LineWork, work_on_line};
-use mixed::{mix, mixed_of};
+use mixed::{come_and_go, mix, mixed_of};
 use nodes::fill_nodes;
 use refused::{Refusals, ask_twice};
 use segments::Line;
@@ -41,9 +41,10 @@ enum Work {
     Insert,
     /// They are put in in one call, and then each is found by its number ten times. It prints the steps of that.
     Walk,
-    /// So many random splices of up to 40 lines. It prints how often the tree isn't as a plain list says.
+    /// So many random splices of up to 40 lines, and then lines that come and go one by one. It prints how often the
+    /// tree isn't as a plain list says.
     Mixed,
-    /// The same, and then a hundred lines that were reserved for. It prints how often a new tree was refused, and how
+    /// Such splices, and then a hundred lines that were reserved for. It prints how often a new tree was refused, and how
     /// often that reservation, and the differences.
     Refused,
     /// They are inserted into a store of nodes, which is then dropped. It prints their number, and 0.
@@ -112,7 +113,9 @@ fn lines_alone(alloc: Global, count: usize, text: &str) -> Result<Outcome, Alloc
 
 fn mixed_splices(alloc: Global, count: usize, length: usize) -> Result<Outcome, AllocError> {
     let mut mixed = mixed_of(alloc, new_tree(alloc)?)?;
-    mix(alloc, &mut mixed, count, length, &mut Counter::new())?;
+    let ticks = &mut Counter::new();
+    mix(alloc, &mut mixed, count, length, ticks)?;
+    come_and_go(alloc, &mut mixed, ticks)?;
     Ok(Outcome::Done {
         lines: mixed.counted.count,
         done: mixed.differences,

@@ -131,6 +131,22 @@ fn insert_and_remove(
     Ok(is_in && remove(counted, k, ticks) == Some(3))
 }
 
+/// Two hundred lines come and go again, each alone at a random place, with a look at that line after each.
+pub fn come_and_go(
+    alloc: Global,
+    mixed: &mut Mixed,
+    ticks: &mut Counter,
+) -> Result<(), AllocError> {
+    for _ in 0..200 {
+        let k = mixed.numbers.below(mixed.plain.len());
+        let is_done = insert_and_remove(alloc, &mut mixed.counted, k, ticks)?;
+        let wrong = count_differences(mixed, k, ticks).wrapping_add(!is_done as usize);
+        mixed.differences = mixed.differences.wrapping_add(wrong);
+    }
+    mixed.differences = mixed.differences.wrapping_add(walk_faults(mixed, ticks));
+    Ok(())
+}
+
 /// Whether all lines together are what they are to be.
 fn has_all(mixed: &Mixed, ticks: &mut Counter) -> bool {
     let Mixed { counted, plain, .. } = mixed;
@@ -194,8 +210,8 @@ pub fn mixed_of(alloc: Global, counted: Counted) -> Result<Mixed, AllocError> {
     })
 }
 
-/// So many random splices of lines of at most so many characters, a line that comes and goes after each, and then a
-/// look at a line; and a look at all nodes after every thousand and after the last.
+/// So many random splices of lines of at most so many characters, with a look at a line after each, and at all nodes
+/// after every thousand and after the last.
 pub fn mix(
     alloc: Global,
     mixed: &mut Mixed,
@@ -206,10 +222,7 @@ pub fn mix(
     for step in 1..=count {
         let is_made = splice_both(alloc, mixed, reach_of(step), length, ticks)?;
         let k = mixed.numbers.below(mixed.plain.len());
-        let is_as_before = insert_and_remove(alloc, &mut mixed.counted, k, ticks)?;
-        let wrong = count_differences(mixed, k, ticks)
-            .wrapping_add(!is_made as usize)
-            .wrapping_add(!is_as_before as usize);
+        let wrong = count_differences(mixed, k, ticks).wrapping_add(!is_made as usize);
         mixed.differences = mixed.differences.wrapping_add(wrong);
         if step % 1000 == 0 || step == count {
             mixed.differences = mixed.differences.wrapping_add(walk_faults(mixed, ticks));
