@@ -44,7 +44,7 @@ enum Work {
     /// So many random splices of up to 40 lines, and then lines that come and go one by one. It prints how often the
     /// tree isn't as a plain list says.
     Mixed,
-    /// Such splices, and then a hundred lines that were reserved for. It prints how often a new tree was refused, and how
+    /// Such splices, and then a hundred lines that were reserved for. It prints how often a new tree was refused, how
     /// often that reservation, and the differences.
     Refused,
     /// They are inserted into a store of nodes, which is then dropped. It prints their number, and 0.
