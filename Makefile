@@ -36,9 +36,7 @@
 .DEFAULT_GOAL = try
 PROGRAM = crates/tktext/out/tktext
 ROWS = crates/rows/out/rows
-LINE_BENCH = crates/line_bench/out/line_bench
 TREE_BENCH = crates/tree_bench/out/tree_bench
-NODE_MEMORY = crates/node_memory/out/node_memory
 LIBRARY = out/libtktext.a
 # What is built before anything is proved.
 TRIED = out/try/tktext
@@ -129,7 +127,7 @@ $(ASKED): tools/weigh.c
 
 # `rt ci` puts back an out/ that was there before it, so old programs are taken away first.
 test: $(SHIM) $(WEIGH)
-	rm -rf crates/tktext/out crates/rows/out crates/node_memory/out crates/tree_bench/out
+	rm -rf crates/tktext/out crates/rows/out crates/tree_bench/out
 	python3 tools/total.py 'python3 tools/gate.py' \
 	  'python3 tools/wrong.py' \
 	  'python3 tools/wrong_test.py' \
@@ -141,7 +139,7 @@ test: $(SHIM) $(WEIGH)
 	  'python3 tools/stores.py --rows $(ROWS)' \
 	  'python3 tools/idle.py --program $(PROGRAM)' \
 	  'python3 tools/devices.py --program $(PROGRAM)' \
-	  'python3 tools/memory.py --program $(NODE_MEMORY) --shim $(WEIGH)' \
+	  'python3 tools/memory.py --program $(TREE_BENCH) --shim $(WEIGH)' \
 	  'python3 tools/held.py --program $(PROGRAM) --shim $(WEIGH)' \
 	  'python3 tools/tree_refusals.py --program $(TREE_BENCH) --shim $(SHIM)' \
 	  'python3 tools/gains.py --program $(PROGRAM) --shim $(WEIGH) --file docs/gains.txt' \
@@ -160,17 +158,13 @@ fuzz: $(PROGRAM)
 fuzz-library: $(LIBRARY)
 	python3 tools/fuzz_library.py --seconds $(SECONDS) --first $(FIRST)
 
-$(LINE_BENCH): $(SOURCES)
-	cd crates/line_bench && rt run -- part 3 5 10 > /dev/null
-	@touch $@
-
 $(TREE_BENCH): $(SOURCES)
 	cd crates/tree_bench && rt run -- mixed 100 20 > /dev/null
 	@touch $@
 
-bench: $(PROGRAM) $(LINE_BENCH) $(TREE_BENCH) $(WEIGH) $(ASKED) $(LIBRARY)
+bench: $(PROGRAM) $(TREE_BENCH) $(WEIGH) $(ASKED) $(LIBRARY)
 	python3 tools/bench.py --program $(PROGRAM) --asked $(ASKED) --out docs/bench.txt
-	python3 tools/bench_lines.py --program $(LINE_BENCH) --out docs/bench_lines.txt
+	python3 tools/bench_lines.py --program $(TREE_BENCH) --out docs/bench_lines.txt
 	python3 tools/bench_tree.py --program $(TREE_BENCH) --shim $(WEIGH) --out docs/bench_tree.txt
 	python3 tools/library.py --bench docs/bench_library.txt
 

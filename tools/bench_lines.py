@@ -3,7 +3,7 @@
 
     python3 tools/bench_lines.py --program PATH --out FILE [--length 1000000] [--repeat 3]
 
-PATH is the program `line_bench`. Prints a table and writes it to FILE. Each time is the least of several runs, less
+PATH is the program `tree_bench`. Prints a table and writes it to FILE. Each time is the least of several runs, less
 that of a run that does nothing. The exit status is 1 if a cut and a join, or an insertion and a removal, take more
 than four copies of the text, or if a character at the line's end takes twice as long as one at its beginning.
 """
@@ -22,7 +22,8 @@ LOOKS = 100_000_000
 def run_once(program, work, column, count, length):
     """The seconds that one run takes, which has to give the line back as long as it was."""
     begin = time.perf_counter()
-    process = subprocess.run([program, work, str(column), str(count), str(length)], capture_output=True, check=True)
+    words = [program, f"line-{work}", str(count), str(length), str(column)]
+    process = subprocess.run(words, capture_output=True, check=True)
     seconds = time.perf_counter() - begin
     if process.stdout.split()[0] != str(length).encode():
         sys.exit(f"{work} at {column} left a line of another length: this isn't timed")
@@ -52,7 +53,7 @@ def main():
         f"{'a copy of its text':<42}{copy:>12.0f}{1:>10.2f}",
     ]
     is_met = True
-    for name, work in (("a cut and a join", "part"), ("an insertion and a removal", "insert")):
+    for name, work in (("a cut and a join", "cut"), ("an insertion and a removal", "insert")):
         for column in (1, options.length // 2, last):
             took = nanoseconds(options, work, column, EDITS)
             is_met = is_met and took <= MOST_COPIES * copy

@@ -3,7 +3,7 @@
 
     python3 tools/memory.py --program PATH --shim PATH
 
-PATH is the program `node_memory` and the allocator of `tools/weigh.c`. A line of 40 ASCII characters without tags and
+PATH is the program `tree_bench` and the allocator of `tools/weigh.c`. A line of 40 ASCII characters without tags and
 marks has to take at most 200 bytes in all, the allocator's own among them, over 100,000 lines; and a store that is
 dropped with all of them in use leaves as many blocks as one without any. The last line counts the checks.
 """
@@ -15,6 +15,7 @@ import sys
 import tempfile
 
 LINES = 100_000
+LENGTH = 40
 MOST_BYTES = 200
 
 
@@ -22,9 +23,9 @@ def weigh(program, shim, count, folder):
     """The bytes and the blocks that are not freed after so many lines, and the most bytes at once."""
     report = os.path.join(folder, "weight.txt")
     process = subprocess.run(
-        [program, str(count)], env=dict(os.environ, LD_PRELOAD=os.path.abspath(shim), WEIGHT_REPORT=report), capture_output=True, check=True
+        [program, "nodes", str(count), str(LENGTH)], env=dict(os.environ, LD_PRELOAD=os.path.abspath(shim), WEIGHT_REPORT=report), capture_output=True, check=True
     )
-    if process.stdout != f"{count} lines\n".encode():
+    if process.stdout != f"{count} 0\n".encode():
         sys.exit(f"{count} lines: {process.stdout!r}")
     with open(report, encoding="ascii") as file:
         return [int(word) for word in file.read().split()]

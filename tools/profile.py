@@ -1,11 +1,12 @@
 """Shows which functions of a crate take the time of its check.
 
-    python3 tools/profile.py NAME [--lines 40] [--libraries FOLDER]
+    python3 tools/profile.py NAME [--lines 40] [--libraries FOLDER] [--test]
 
 Checks the crate from nothing by one process, over the libraries that are built here or in FOLDER (tools/over.py), and
-sees when the check writes the file of each module.  Prints the prover's own seconds of processor, so other work on the
-machine changes little, by function and lemma file, the most expensive first: all of it, then the steps of the code, the
-goals, the answers (with the invariants), and the rest.  Modules that are written together share their time evenly.
+sees when the check writes the file of each module; with `--test`, its tests too.  Prints the prover's own seconds of
+processor, so other work on the machine changes little, by function and lemma file, the most expensive first: all of
+it, then the steps of the code, the goals, the answers (with the invariants), and the rest.  Modules that are written
+together share their time evenly.
 """
 
 import argparse
@@ -71,10 +72,10 @@ def profile(check, folder):
     return seconds
 
 
-def check_words(crate, libraries, folder):
+def check_words(crate, libraries, folder, has_tests):
     options = argparse.Namespace(crate=crate, sources=[], libraries=libraries, jobs=1)
     words = over.words_of(options, build.read_crates(os.path.join(build.TOP, "crates.txt")))
-    return [over.RATTLE, "check", *words, "--incremental", folder]
+    return [over.RATTLE, "check", *words, "--incremental", folder, *(["--test"] if has_tests else [])]
 
 
 def main():
@@ -82,9 +83,10 @@ def main():
     parser.add_argument("crate")
     parser.add_argument("--lines", type=int, default=40)
     parser.add_argument("--libraries", default=build.TOP)
+    parser.add_argument("--test", action="store_true")
     options = parser.parse_args()
     with tempfile.TemporaryDirectory() as folder:
-        words, silent = check_words(options.crate, options.libraries, folder), subprocess.DEVNULL
+        words, silent = check_words(options.crate, options.libraries, folder, options.test), subprocess.DEVNULL
         check = subprocess.Popen(words, cwd=over.root_of(options.crate)[0], stdout=silent, stderr=silent)
         seconds = profile(check, pathlib.Path(folder))
     if not seconds:

@@ -1,13 +1,16 @@
-ghost use Rattle.std.specs.Prelude.{◌≡◌, length, OnOk};
+//! Cursors over a text that is edited, and where the lines of a place begin.
+
+ghost use Rattle.std.specs.Prelude.{◌≡◌, OnOk};
 ghost use Rattle.text_cursor.specs.Cursors.{IsCursor};
 
+use crate::edits::{PlainStep, count, store_of};
 use line_lists::{LineStore, LineVec};
 use line_tree::TreeStore;
 use std::alloc::{AllocError, Global};
 use std::process::Abort;
 use std::test::Fail;
 use text_cursor::{Cursor, line_at, line_behind};
-use text_model::{Edit, PlainStore, Step, StepList, TagSet, TagSlot, Text, TextStore};
+use text_model::{PlainStore, TagSet, TagSlot, Text, TextStore};
 
 // The slot that is set.
 const SLOT: TagSlot = TagSlot(7);
@@ -74,13 +77,6 @@ static LOOKED: [Looked; 6] = [
     },
 ];
 
-// How many characters a text has.
-fn count_of(text: &Text) -> usize
-    ensures { result ≡ length text.now }
-{
-    text.as_str().chars().count()
-}
-
 fn make(rt: &impl Abort, alloc: Global, cursor: &mut Cursor, step: &Move) -> Result<(), AllocError>
     requires { IsCursor cursor.old }
     ensures is { OnOk result (IsCursor cursor.new) }
@@ -97,9 +93,9 @@ fn make(rt: &impl Abort, alloc: Global, cursor: &mut Cursor, step: &Move) -> Res
         }
         Move::Put(text) => {
             let text = Text::new(String::from_str(alloc, text)?);
-            let count = count_of(&text);
-            assert!(rt; count <= usize::MAX - cursor.len);
-            cursor.put(&text, count, TagSet::empty().with(SLOT))
+            let length = count(&text);
+            assert!(rt; length <= usize::MAX - cursor.len);
+            cursor.put(&text, length, TagSet::empty().with(SLOT))
         }
     }
 }
@@ -139,41 +135,34 @@ fn check_looked<S: TextStore>(
     Ok(())
 }
 
-// `ab` and `cd`.
-fn two_lines<S: TextStore>(alloc: Global) -> Result<S, AllocError> {
-    let mut store = S::new(alloc)?;
-    let mut steps = StepList::new(alloc);
-    let text = Text::new(String::from_str(alloc, "ab\ncd")?);
-    steps.push(Step::Insert(0, text, TagSet::empty()))?;
-    let prepared = store.prepare(&Edit { steps })?;
-    store.commit(prepared);
-    Ok(store)
-}
+// `ab` and `cd`, where `b` and the newline after it have the tag.
+static LINES: [PlainStep; 2] = [
+    PlainStep::Insert(0, "ab\ncd", &[]),
+    PlainStep::SetTag(1, 3, SLOT, true),
+];
 
-// `b` and the newline behind it have the tag.
-fn set_tag<S: TextStore>(rt: &impl Abort, alloc: Global, store: &mut S) -> Result<(), AllocError> {
-    assert!(rt; 3 <= store.len());
-    let mut steps = StepList::new(alloc);
-    steps.push(Step::SetTag(1, 3, SLOT, true))?;
-    let prepared = store.prepare(&Edit { steps })?;
-    store.commit(prepared);
-    Ok(())
-}
-
-fn check_looks<S: TextStore>(rt: &impl Abort, alloc: Global) -> Result<(), Fail> {
-    let mut store: S = two_lines(alloc)?;
-    set_tag(rt, alloc, &mut store)?;
-    for row in &LOOKED {
-        check_looked(rt, alloc, &store, row)?;
+fn check_rows<S: TextStore>(
+    rt: &impl Abort,
+    alloc: Global,
+    store: &S,
+    rows: &[Looked],
+) -> Result<(), Fail> {
+    for row in rows {
+        check_looked(rt, alloc, store, row)?;
     }
     Ok(())
 }
 
-fn check_lines<S: TextStore>(rt: &impl Abort, alloc: Global) -> Result<(), Fail> {
-    let store: S = two_lines(alloc)?;
+// Where lines begin.
+fn check_lines<S: TextStore>(rt: &impl Abort, store: &S) {
     assert!(rt; 6 <= store.len());
-    assert!(rt; line_at(&store, 4) == 3 && line_behind(&store, 2) == 3);
-    assert!(rt; line_behind(&store, 6) == 6);
+    assert!(rt; line_at(store, 4) == 3 && line_behind(store, 2) == 3 && line_behind(store, 6) == 6);
+}
+
+fn check_looks<S: TextStore>(rt: &impl Abort, alloc: Global) -> Result<(), Fail> {
+    let store: S = store_of(rt, alloc, &LINES)?;
+    check_rows(rt, alloc, &store, &LOOKED)?;
+    check_lines(rt, &store);
     Ok(())
 }
 
@@ -199,11 +188,4 @@ fn a_cursor_gives_its_parts(rt: HostRuntime) -> Result<(), Fail> {
     assert!(rt; old.from == 4 && old.to == 6 && old.slots.is_none());
     assert!(rt; new.from == 0 && new.to == 2 && new.slots.is_some());
     Ok(())
-}
-
-#[test]
-fn lines_begin(rt: HostRuntime) -> Result<(), Fail> {
-    check_lines::<PlainStore>(&rt, rt.alloc())?;
-    check_lines::<LineStore<LineVec>>(&rt, rt.alloc())?;
-    check_lines::<TreeStore>(&rt, rt.alloc())
 }

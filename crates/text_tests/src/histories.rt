@@ -1,3 +1,5 @@
+//! Histories of edits by their calls: groups, the limit, what counts as modified.
+
 use std::alloc::Global;
 use std::process::Abort;
 use std::test::Fail;
@@ -85,10 +87,21 @@ fn carry_out(
         HistoryStep::Has(undo, redo, modified) => {
             let undone = texts_of(alloc, history.last_undo())?;
             let redone = texts_of(alloc, history.last_redo())?;
-            assert!(rt; undone.as_str() == *undo, "{undone}");
-            assert!(rt; redone.as_str() == *redo, "{redone}");
-            assert!(rt; history.modified() == *modified);
+            let is_so = undone.as_str() == *undo && redone.as_str() == *redo;
+            assert!(rt; is_so && history.modified() == *modified, "{undone} {redone}");
         }
+    }
+    Ok(())
+}
+
+fn carry_out_all(
+    rt: &impl Abort,
+    alloc: Global,
+    history: &mut UndoStack,
+    steps: &[HistoryStep],
+) -> Result<(), Fail> {
+    for step in steps {
+        carry_out(rt, alloc, history, step)?;
     }
     Ok(())
 }
@@ -96,19 +109,21 @@ fn carry_out(
 #[test]
 fn groups_are_undone_and_redone(rt: HostRuntime) -> Result<(), Fail> {
     let mut history = UndoStack::new(rt.alloc());
-    for step in &STEPS {
-        carry_out(&rt, rt.alloc(), &mut history, step)?;
-    }
+    carry_out_all(&rt, rt.alloc(), &mut history, &STEPS)
+}
+
+// Room is given back, and an action is noted all the same.
+fn check_room(rt: &impl Abort, alloc: Global, history: &mut UndoStack) -> Result<(), Fail> {
+    history.reserve(1_000)?;
+    history.give_back_room();
+    note(alloc, history, "a")?;
+    history.give_back_room();
+    assert!(rt; history.last_undo().is_some());
     Ok(())
 }
 
 #[test]
 fn room_that_is_given_back_is_found_again(rt: HostRuntime) -> Result<(), Fail> {
     let mut history = UndoStack::new(rt.alloc());
-    history.reserve(1_000)?;
-    history.give_back_room();
-    note(rt.alloc(), &mut history, "a")?;
-    history.give_back_room();
-    assert!(rt; history.last_undo().is_some(), "an action is noted");
-    Ok(())
+    check_room(&rt, rt.alloc(), &mut history)
 }

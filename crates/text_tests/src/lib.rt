@@ -1,16 +1,28 @@
-//! The tests of what no script shows: of stores, sums, cursors over a text that is edited, histories, the slots of tags
-//! and the numbers of marks (`text_model`, `line_lists`, `toggle_sums`, `text_cursor`, `undo_stack`, `tag_table` and
-//! `mark_table`). A crate with tests is proved twice, so they stand apart.
+//! The tests of what no script shows, of the crates up to `line_tree`, `text_cursor`, `tag_table`, `mark_table` and
+//! `tcl_words`: values, lines, nodes, stores, histories, and scripts in pieces. A crate with tests is proved twice, so
+//! they have one of their own.
 #![tactic(auto)]
 
 #[cfg(test)]
 mod cursors;
 #[cfg(test)]
+mod edits;
+#[cfg(test)]
 mod histories;
+#[cfg(test)]
+mod lines;
+#[cfg(test)]
+mod lists;
 #[cfg(test)]
 mod mark_numbers;
 #[cfg(test)]
+mod nodes;
+#[cfg(test)]
+mod queries;
+#[cfg(test)]
 mod random_edits;
+#[cfg(test)]
+mod script_pieces;
 #[cfg(test)]
 mod stores;
 #[cfg(test)]
@@ -19,3 +31,5 @@ mod sums;
 mod tag_slots;
 #[cfg(test)]
 mod text_values;
+#[cfg(test)]
+mod trees;

@@ -1,3 +1,5 @@
+//! The numbers of marks over many commands.
+
 use mark_table::MarkTable;
 use std::alloc::Global;
 use std::process::Abort;
@@ -65,14 +67,28 @@ static STEPS: [MarkStep; 13] = [
     MarkStep::HasNumber("e", 128),
 ];
 
-#[test]
-fn numbers_are_taken_again(rt: HostRuntime) -> Result<(), Fail> {
-    let limits = Limits::new(10, 10, 10, 10, 10).ok_or("small numbers")?;
-    let mut marks = MarkTable::new(rt.alloc(), &limits)?;
-    for step in &STEPS {
-        carry_out(&rt, rt.alloc(), &mut marks, step)?;
+fn carry_out_all(
+    rt: &impl Abort,
+    alloc: Global,
+    marks: &mut MarkTable,
+    steps: &[MarkStep],
+) -> Result<(), Fail> {
+    for step in steps {
+        carry_out(rt, alloc, marks, step)?;
     }
     Ok(())
+}
+
+// A table of so many marks at most.
+fn table_of(alloc: Global, marks: u16) -> Result<MarkTable, Fail> {
+    let limits = Limits::new(10, 10, marks, 10, 10).ok_or("numbers in their bounds")?;
+    Ok(MarkTable::new(alloc, &limits)?)
+}
+
+#[test]
+fn numbers_are_taken_again(rt: HostRuntime) -> Result<(), Fail> {
+    let mut marks = table_of(rt.alloc(), 10)?;
+    carry_out_all(&rt, rt.alloc(), &mut marks, &STEPS)
 }
 
 fn name_of(alloc: Global, number: u16) -> Result<String, Fail> {
@@ -105,12 +121,8 @@ static AFTER_MANY: [MarkStep; 5] = [
 
 #[test]
 fn many_marks_come_and_go(rt: HostRuntime) -> Result<(), Fail> {
-    let limits = Limits::new(10, 10, MANY, 10, 10).ok_or("numbers in their bounds")?;
-    let mut marks = MarkTable::new(rt.alloc(), &limits)?;
+    let mut marks = table_of(rt.alloc(), MANY)?;
     create_many(&rt, rt.alloc(), &mut marks)?;
     unset_many(rt.alloc(), &mut marks)?;
-    for step in &AFTER_MANY {
-        carry_out(&rt, rt.alloc(), &mut marks, step)?;
-    }
-    Ok(())
+    carry_out_all(&rt, rt.alloc(), &mut marks, &AFTER_MANY)
 }

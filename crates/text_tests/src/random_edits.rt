@@ -1,217 +1,83 @@
-ghost use Rattle.std.specs.Prelude.{◌<◌, ◌==◌, ◌&&◌, not, refl};
+//! Edits of a plain store and of another, which answer the same after each: steps at both ends, and random ones.
 
-use crate::stores::{MARKS, PlainStep, SLOTS, length_after, make, step_of};
+use crate::edits::{Numbers, PlainStep, edit_of, make, random_edit, store_of};
+use crate::queries::{QUERIES, Query, ask};
 use line_lists::{LineStore, LineVec};
 use line_tree::TreeStore;
 use std::alloc::{AllocError, Global};
 use std::process::Abort;
 use std::test::Fail;
-use text_model::{
-    CharacterTest, Edit, Gravity, MarkNo, Place, PlainStore, StepList, TagSet, TagSlot, TextStore,
-};
+use text_model::{Edit, Gravity, PlainStore, TagSlot, TextStore};
 
-/// Texts of no newline to three, with characters of one byte to four.
-static TEXTS: [&str; 8] = ["", "a", "\n", "xyz", "é\n", "€b\n𐍈\n", "ü\n\nab\n𐍈", "1\n2"];
-
-/// Slots that a text is put in with.
-static SETS: [&[u16]; 4] = [&[], &[0], &[63, 64], &[0, 63, 64, 1023]];
+/// Each kind of step at both ends of a text, with no slot and with all; an edit for each.
+static EACH: [PlainStep; 24] = [
+    PlainStep::PutMark(0, 0, Gravity::Right),
+    PlainStep::PutMark(1, 0, Gravity::Left),
+    PlainStep::PutMark(4, 1, Gravity::Right),
+    PlainStep::Insert(0, "añ\nc", &[]),
+    PlainStep::Insert(4, "de", &[0, 63, 64, 1023]),
+    PlainStep::Insert(2, "", &[63]),
+    PlainStep::PutMark(2, 7, Gravity::Left),
+    PlainStep::SetTag(0, 7, TagSlot(64), true),
+    PlainStep::SetTag(6, 7, TagSlot(1023), true),
+    PlainStep::SetTag(0, 1, TagSlot(1023), true),
+    PlainStep::SetTag(3, 3, TagSlot(0), true),
+    PlainStep::SetTag(1, 5, TagSlot(64), false),
+    PlainStep::ClearTags(0),
+    PlainStep::ClearTags(6),
+    PlainStep::ClearSlot(TagSlot(64)),
+    PlainStep::SetTag(6, 7, TagSlot(0), true),
+    PlainStep::ClearSlot(TagSlot(0)),
+    PlainStep::PutMark(3, 6, Gravity::Left),
+    PlainStep::TakeMark(1),
+    PlainStep::TakeMark(1),
+    PlainStep::Remove(2, 2),
+    PlainStep::Remove(1, 4),
+    PlainStep::Remove(0, 1),
+    PlainStep::Remove(0, 2),
+];
 
 /// Twenty-four lines.
-static LINES: &str = "one\nñandú\n\n€ 4\nfive and six\n\n\n𐍈\n\
+static LINES: [PlainStep; 1] = [PlainStep::Insert(
+    0,
+    "one\nñandú\n\n€ 4\nfive and six\n\n\n𐍈\n\
     nine\nten\néleven\n12\n\n\nfifteen\n16\n\
-    a\nb\nc\nd\ne\nf\ng\nh";
-
-/// A run ends at a newline, and at an `n`.
-struct RunTest;
-
-impl CharacterTest for RunTest {
-    ghost test = { λ c. not (c == 10) && not (c == 110) };
-
-    fn passes(character: char) -> bool {
-        character != '\n' && character != 'n'
-    }
-
-    ghost stops_at_newline = { refl };
-}
-
-/// Numbers that look random.
-#[derive(Drop)]
-pub struct Numbers {
-    state: u64,
-    /// How many characters a range has at most.
-    reach: usize,
-}
-
-impl Numbers {
-    pub fn new(reach: usize) -> Numbers {
-        Numbers { state: 1, reach }
-    }
-
-    /// A number below another.
-    fn below(&mut self, end: usize) -> usize
-        requires { 0 < end }
-        ensures { result < end }
-    {
-        self.state = self
-            .state
-            .wrapping_mul(6_364_136_223_846_793_005)
-            .wrapping_add(1_442_695_040_888_963_407);
-        (self.state >> 33) as usize % end
-    }
-
-    fn slot(&mut self) -> TagSlot {
-        TagSlot(SLOTS[self.below(4)])
-    }
-
-    fn mark(&mut self) -> MarkNo {
-        MarkNo(self.below(MARKS as usize) as u16)
-    }
-
-    /// A place from an offset on, or behind the character there.
-    fn place(&mut self, offset: usize) -> Place
-        requires { offset < 1000000 }
-    {
-        let gravity = match self.below(2) {
-            0 => Gravity::Left,
-            _ => Gravity::Right,
-        };
-        let offset = offset + self.below(2);
-        Place { offset, gravity }
-    }
-
-    /// An offset before a character, the last one more often.
-    fn offset(&mut self, len: usize) -> usize
-        requires { 0 < len }
-        ensures { result < len }
-    {
-        match self.below(4) {
-            0 => len - 1,
-            _ => self.below(len),
-        }
-    }
-
-    /// A step that fits a text of so many characters.
-    fn step(&mut self, len: usize) -> PlainStep
-        requires some { 0 < len }
-        requires few { len < 1000000 }
-    {
-        let from = self.offset(len);
-        let to = from + self.below((len - from).min(self.reach).max(1));
-        match self.below(9) {
-            0 => PlainStep::Remove(from, to),
-            1 | 2 | 3 => PlainStep::Insert(from, TEXTS[self.below(8)], SETS[self.below(4)]),
-            4 => PlainStep::SetTag(from, to + self.below(2), self.slot(), self.below(2) == 0),
-            5 => PlainStep::ClearSlot(self.slot()),
-            6 => PlainStep::ClearTags(from),
-            7 => PlainStep::TakeMark(self.mark()),
-            _ => PlainStep::PutMark(self.mark(), self.place(to)),
-        }
-    }
-}
-
-/// One step to four, which fit a text of so many characters.
-pub fn random_steps(
-    rt: &impl Abort,
-    alloc: Global,
-    numbers: &mut Numbers,
-    len: usize,
-) -> Result<StepList, AllocError> {
-    let mut steps = StepList::new(alloc);
-    let mut len = len;
-    for _ in 0..1 + numbers.below(4) {
-        assert!(rt; 0 < len && len < 1_000_000);
-        let step = step_of(alloc, numbers.step(len))?;
-        len = length_after(len, &step).unwrap_or(0);
-        steps.push(step)?;
-    }
-    Ok(steps)
-}
+    a\nb\nc\nd\ne\nf\ng\nh",
+    &[63],
+)];
 
 /// A plain store and another that are to contain the same.
 #[derive(Drop)]
-struct Stores<S: TextStore> {
+struct Pair<S: TextStore> {
     plain: PlainStore,
     other: S,
 }
 
-/// Whether the character at an offset has the same tags.
-fn has_tags<S: TextStore>(stores: &Stores<S>, offset: usize) -> bool {
-    let Stores { plain, other } = stores;
-    offset < plain.len()
-        && offset < other.len()
-        && plain.tags_at(offset).words() == other.tags_at(offset).words()
+/// Both stores after one edit.
+fn pair_of<S: TextStore>(
+    rt: &impl Abort,
+    alloc: Global,
+    steps: &[PlainStep],
+) -> Result<Pair<S>, AllocError> {
+    Ok(Pair {
+        plain: store_of(rt, alloc, steps)?,
+        other: store_of(rt, alloc, steps)?,
+    })
 }
 
-/// Whether the characters on both sides of an offset have the same tags.
-fn has_tags_around<S: TextStore>(stores: &Stores<S>, offset: usize) -> bool {
-    let Stores { plain, other } = stores;
-    if plain.len() <= offset || other.len() <= offset {
-        return false;
+fn agrees<S: TextStore>(pair: &Pair<S>, query: Query, at: usize) -> bool {
+    ask(&pair.plain, query, at) == ask(&pair.other, query, at)
+}
+
+fn check_at<S: TextStore>(rt: &impl Abort, pair: &Pair<S>, at: usize) {
+    for (index, query) in QUERIES.iter().enumerate() {
+        assert!(rt; agrees(pair, *query, at), "query {index} at {at}");
     }
-    let (plain_before, plain_at) = plain.tags_around(offset);
-    let (before, at) = other.tags_around(offset);
-    plain_before.words() == before.words() && plain_at.words() == at.words()
-}
-
-/// Whether the character at an offset is the same, and its line.
-fn has_character<S: TextStore>(stores: &Stores<S>, offset: usize) -> bool {
-    let Stores { plain, other } = stores;
-    offset < plain.len()
-        && offset < other.len()
-        && plain.char_at(offset) == other.char_at(offset)
-        && plain.line_of(offset) == other.line_of(offset)
-}
-
-/// Whether the run from a character on ends in the same place, and the run up to it begins in the same place.
-fn has_runs<S: TextStore>(stores: &Stores<S>, offset: usize) -> bool {
-    let Stores { plain, other } = stores;
-    offset < plain.len()
-        && offset < other.len()
-        && plain.run_end::<RunTest>(offset) == other.run_end::<RunTest>(offset)
-        && plain.run_start::<RunTest>(offset + 1) == other.run_start::<RunTest>(offset + 1)
-}
-
-/// Whether a slot changes in the same places around the character at an offset.
-fn has_changes<S: TextStore>(stores: &Stores<S>, offset: usize, slot: TagSlot) -> bool {
-    let Stores { plain, other } = stores;
-    slot.0 < TagSet::SLOTS
-        && offset < plain.len()
-        && offset < other.len()
-        && plain.has_tag(offset, slot) == other.has_tag(offset, slot)
-        && plain.next_change(offset, slot) == other.next_change(offset, slot)
-        && plain.previous_change(offset + 1, slot) == other.previous_change(offset + 1, slot)
-}
-
-/// Whether the marks around an offset are the same.
-fn has_marks<S: TextStore>(stores: &Stores<S>, offset: usize) -> bool {
-    let Stores { plain, other } = stores;
-    plain.next_mark(offset) == other.next_mark(offset)
-        && plain.previous_mark(offset) == other.previous_mark(offset)
-        && plain.mark_at(offset, 0) == other.mark_at(offset, 0)
-        && plain.mark_at(offset, 1) == other.mark_at(offset, 1)
-        && plain.mark_at(offset, 2) == other.mark_at(offset, 2)
-}
-
-/// Whether a line begins in the same place.
-fn has_line<S: TextStore>(stores: &Stores<S>, line: usize) -> bool {
-    let Stores { plain, other } = stores;
-    line <= plain.lines()
-        && line <= other.lines()
-        && plain.line_start(line) == other.line_start(line)
-}
-
-/// Whether a line begins and ends in the same places.
-fn has_bounds<S: TextStore>(stores: &Stores<S>, line: usize) -> bool {
-    let Stores { plain, other } = stores;
-    line < plain.lines()
-        && line < other.lines()
-        && plain.line_bounds(line) == other.line_bounds(line)
-        && plain.line_bounds(line).0 == plain.line_start(line)
 }
 
 /// Whether the texts from an offset on are the same.
-fn has_text<S: TextStore>(stores: &Stores<S>, offset: usize) -> Result<bool, AllocError> {
-    let Stores { plain, other } = stores;
+fn has_text<S: TextStore>(pair: &Pair<S>, offset: usize) -> Result<bool, AllocError> {
+    let Pair { plain, other } = pair;
     if plain.len() < offset || other.len() < offset {
         return Ok(false);
     }
@@ -219,101 +85,85 @@ fn has_text<S: TextStore>(stores: &Stores<S>, offset: usize) -> Result<bool, All
     Ok(text == other.copy_text(offset, other.len())?)
 }
 
-fn check_tags<S: TextStore>(rt: &impl Abort, stores: &Stores<S>) {
-    assert!(rt; stores.plain.len() == stores.other.len());
-    for offset in 0..stores.plain.len() {
-        assert!(rt; has_tags(stores, offset), "at {offset}");
-        assert!(rt; has_tags_around(stores, offset), "at {offset}");
-    }
-}
-
-/// Compares what is found from a few offsets.
-fn check_places<S: TextStore>(rt: &impl Abort, stores: &Stores<S>, numbers: &mut Numbers) {
-    let len = stores.plain.len();
-    for _ in 0..12 {
-        let offset = numbers.below(len.max(1));
-        assert!(rt; has_character(stores, offset), "at {offset}");
-        assert!(rt; has_runs(stores, offset), "at {offset}");
-        assert!(rt; has_changes(stores, offset, numbers.slot()), "at {offset}");
-        assert!(rt; has_marks(stores, offset), "at {offset}");
-    }
-    assert!(rt; has_marks(stores, len));
-}
-
-fn check_lines<S: TextStore>(rt: &impl Abort, stores: &Stores<S>) {
-    assert!(rt; stores.plain.lines() == stores.other.lines());
-    for line in 0..stores.plain.lines().saturating_add(1) {
-        assert!(rt; has_line(stores, line), "line {line}");
-    }
-    for line in 0..stores.plain.lines() {
-        assert!(rt; has_bounds(stores, line), "line {line}");
-    }
-}
-
-fn check_marks<S: TextStore>(rt: &impl Abort, stores: &Stores<S>) {
-    let Stores { plain, other } = stores;
-    for number in 0..MARKS {
-        let number = MarkNo(number);
-        assert!(rt;
-            plain.mark_place(number) == other.mark_place(number),
-            "{number:?}"
-        );
-    }
+fn check_text<S: TextStore>(rt: &impl Abort, pair: &Pair<S>) -> Result<(), AllocError> {
+    let is_same = has_text(pair, 0)? && has_text(pair, pair.plain.len() / 2)?;
+    assert!(rt; is_same);
+    Ok(())
 }
 
 /// Makes an edit in both stores.
 fn make_both<S: TextStore>(
     rt: &impl Abort,
-    stores: &mut Stores<S>,
+    pair: &mut Pair<S>,
     edit: &Edit,
 ) -> Result<(), AllocError> {
-    let fits = make(&mut stores.plain, edit)?;
-    assert!(rt; fits);
-    let fits = make(&mut stores.other, edit)?;
-    assert!(rt; fits);
-    Ok(())
+    let is_made = make(&mut pair.plain, edit)? && make(&mut pair.other, edit)?;
+    assert!(rt; is_made);
+    check_text(rt, pair)
 }
 
-/// Makes random edits in both stores, and compares what they answer after each.
-fn make_random<S: TextStore>(
+/// Compares what both stores answer at each offset, also after the end.
+fn check_all<S: TextStore>(rt: &impl Abort, pair: &Pair<S>) {
+    for at in 0..pair.plain.len().saturating_add(2) {
+        check_at(rt, pair, at);
+    }
+}
+
+/// Compares what both stores answer at a few offsets, also after the end.
+fn check_some<S: TextStore>(rt: &impl Abort, pair: &Pair<S>, numbers: &mut Numbers) {
+    let end = pair.plain.len().saturating_add(2);
+    for _ in 0..12 {
+        check_at(rt, pair, numbers.below(end.max(1)));
+    }
+}
+
+fn make_each<S: TextStore>(
     rt: &impl Abort,
     alloc: Global,
-    stores: &mut Stores<S>,
-    numbers: &mut Numbers,
+    pair: &mut Pair<S>,
+    steps: &[PlainStep],
 ) -> Result<(), AllocError> {
-    for _ in 0..200 {
-        let steps = random_steps(rt, alloc, numbers, stores.plain.len())?;
-        make_both(rt, stores, &Edit { steps })?;
-        check_tags(rt, stores);
-        check_lines(rt, stores);
-        check_marks(rt, stores);
-        check_places(rt, stores, numbers);
-        let has_text = has_text(stores, numbers.below(4))?;
-        assert!(rt; has_text);
+    for step in steps {
+        make_both(rt, pair, &edit_of(alloc, &[*step])?)?;
+        check_all(rt, pair);
     }
     Ok(())
 }
 
-/// Both stores with some lines.
-fn two_stores<S: TextStore>(rt: &impl Abort, alloc: Global) -> Result<Stores<S>, AllocError> {
-    let mut stores = Stores {
-        plain: PlainStore::new(alloc)?,
-        other: S::new(alloc)?,
-    };
-    let mut steps = StepList::new(alloc);
-    steps.push(step_of(alloc, PlainStep::Insert(0, LINES, &[63]))?)?;
-    make_both(rt, &mut stores, &Edit { steps })?;
-    Ok(stores)
+fn make_random<S: TextStore>(
+    rt: &impl Abort,
+    alloc: Global,
+    pair: &mut Pair<S>,
+    numbers: &mut Numbers,
+) -> Result<(), AllocError> {
+    for _ in 0..200 {
+        let edit = random_edit(rt, alloc, numbers, pair.plain.len())?;
+        make_both(rt, pair, &edit)?;
+        check_some(rt, pair, numbers);
+    }
+    Ok(())
 }
 
-fn check<S: TextStore>(rt: &impl Abort, alloc: Global) -> Result<(), AllocError> {
-    let mut stores: Stores<S> = two_stores(rt, alloc)?;
-    make_random(rt, alloc, &mut stores, &mut Numbers::new(24))
+fn check_each<S: TextStore>(rt: &impl Abort, alloc: Global) -> Result<(), AllocError> {
+    let mut pair: Pair<S> = pair_of(rt, alloc, &[])?;
+    make_each(rt, alloc, &mut pair, &EACH)
+}
+
+fn check_random<S: TextStore>(rt: &impl Abort, alloc: Global) -> Result<(), AllocError> {
+    let mut pair: Pair<S> = pair_of(rt, alloc, &LINES)?;
+    make_random(rt, alloc, &mut pair, &mut Numbers::new())
+}
+
+#[test]
+fn each_step_is_made(rt: HostRuntime) -> Result<(), Fail> {
+    check_each::<LineStore<LineVec>>(&rt, rt.alloc())?;
+    check_each::<TreeStore>(&rt, rt.alloc())?;
+    Ok(())
 }
 
 #[test]
 fn lines_are_like_plain_text(rt: HostRuntime) -> Result<(), Fail> {
-    check::<LineStore<LineVec>>(&rt, rt.alloc())?;
-    check::<TreeStore>(&rt, rt.alloc())?;
+    check_random::<LineStore<LineVec>>(&rt, rt.alloc())?;
+    check_random::<TreeStore>(&rt, rt.alloc())?;
     Ok(())
 }

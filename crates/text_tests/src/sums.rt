@@ -1,3 +1,5 @@
+//! Sums of lines, characters, marks and toggles, and sets of slots.
+
 use text_model::{TagSet, TagSlot, WORDS};
 use toggle_sums::{Exchange, Summary, Sums};
 

@@ -1,3 +1,5 @@
+//! The slots of tags.
+
 use std::alloc::Global;
 use std::process::Abort;
 use std::test::Fail;

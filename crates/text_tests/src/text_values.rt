@@ -1,3 +1,5 @@
+//! The values of text_model: steps, characters, limits, sets of slots, texts.
+
 use std::alloc::Global;
 use std::process::Abort;
 use std::test::Fail;

@@ -88,12 +88,12 @@ pub fn insert(
     Ok(true)
 }
 
-/// Takes out line `k`, and says whether that was done.
-pub fn remove(counted: &mut Counted, k: usize, ticks: &mut Counter) -> bool {
+/// Removes line `k`, and returns its length if that was done.
+pub fn remove(counted: &mut Counted, k: usize, ticks: &mut Counter) -> Option<usize> {
     if counted.count < 2 || counted.count <= k {
-        return false;
+        return None;
     }
-    counted.tree.remove(k, ticks);
+    let line = counted.tree.remove(k, ticks);
     counted.count -= 1;
-    true
+    Some(line.len())
 }

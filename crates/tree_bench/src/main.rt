@@ -1,12 +1,14 @@
-//! `tree_bench WORK COUNT LENGTH` does one thing with a tree of so many lines of so many characters each, and prints
-//! how many lines there are then, and a count of the work's own: what `tools/bench_tree.py` times, and
-//! `tools/tree_refusals.py` runs where memory is refused.
+//! `tree_bench WORK COUNT LENGTH [COLUMN]` does one thing with a tree of COUNT lines of LENGTH characters, or without a
+//! tree, and prints how many lines there are then, and a count of the work's own. `tools/bench_tree.py`,
+//! `tools/bench_lines.py` and `tools/memory.py` measure it; `tools/tree_refusals.py` runs it with memory refused.
 #![tactic(auto)]
 
 mod counted;
 mod counter;
 mod lines;
+mod long_line;
 mod mixed;
+mod nodes;
 mod refused;
 mod shape;
 mod works;
@@ -14,8 +16,11 @@ mod works;
 use counted::{Counted, new_tree, whole};
 use counter::Counter;
 use lines::{make_lines, sum_of, text_of};
-use mixed::{mix, mixed_of};
+use long_line::{LineWork, work_on_line};
+use mixed::{come_and_go, mix, mixed_of};
+use nodes::fill_nodes;
 use refused::{Refusals, ask_twice};
+use segments::Line;
 use std::alloc::{AllocError, Global};
 use std::process::ExitCode;
 use std::{env, io};
@@ -36,11 +41,16 @@ enum Work {
     Insert,
     /// They are put in in one call, and then each is found by its number ten times. It prints the steps of that.
     Walk,
-    /// So many random splices of up to 40 lines. It prints how often the tree isn't as a plain list says.
+    /// So many random splices of up to 40 lines, and then lines that come and go one by one. It prints how often the
+    /// tree isn't as a plain list says.
     Mixed,
-    /// The same, and then a hundred lines that were reserved for. It prints how often a new tree was refused, and how
+    /// Such splices, and then a hundred lines that were reserved for. It prints how often a new tree was refused, how
     /// often that reservation, and the differences.
     Refused,
+    /// They are inserted into a store of nodes, which is then dropped. It prints their number, and 0.
+    Nodes,
+    /// COUNT times the same is done at one column of a line of LENGTH characters. It prints how long the line is then.
+    Line(LineWork),
 }
 
 impl Work {
@@ -54,6 +64,11 @@ impl Work {
             "walk" => Some(Work::Walk),
             "mixed" => Some(Work::Mixed),
             "refused" => Some(Work::Refused),
+            "nodes" => Some(Work::Nodes),
+            "line-copy" => Some(Work::Line(LineWork::Copy)),
+            "line-cut" => Some(Work::Line(LineWork::Cut)),
+            "line-insert" => Some(Work::Line(LineWork::Insert)),
+            "line-look" => Some(Work::Line(LineWork::Look)),
             _ => None,
         }
     }
@@ -98,7 +113,9 @@ fn lines_alone(alloc: Global, count: usize, text: &str) -> Result<Outcome, Alloc
 
 fn mixed_splices(alloc: Global, count: usize, length: usize) -> Result<Outcome, AllocError> {
     let mut mixed = mixed_of(alloc, new_tree(alloc)?)?;
-    mix(alloc, &mut mixed, count, length, &mut Counter::new())?;
+    let ticks = &mut Counter::new();
+    mix(alloc, &mut mixed, count, length, ticks)?;
+    come_and_go(alloc, &mut mixed, ticks)?;
     Ok(Outcome::Done {
         lines: mixed.counted.count,
         done: mixed.differences,
@@ -108,6 +125,29 @@ fn mixed_splices(alloc: Global, count: usize, length: usize) -> Result<Outcome, 
 fn refused_growths(alloc: Global, count: usize, length: usize) -> Result<Outcome, AllocError> {
     let refusals = ask_twice(alloc, count, length, &mut Counter::new())?;
     Ok(Outcome::Refused(refusals))
+}
+
+fn nodes_alone(alloc: Global, count: usize, text: &str) -> Result<Outcome, AllocError> {
+    fill_nodes(alloc, count, text)?;
+    Ok(Outcome::Done {
+        lines: count,
+        done: 0,
+    })
+}
+
+fn line_alone(
+    alloc: Global,
+    work: LineWork,
+    column: usize,
+    count: usize,
+    text: &str,
+) -> Result<Outcome, AllocError> {
+    let mut line = Line::new(alloc, text)?;
+    let done = work_on_line(&mut line, work, column, count)?;
+    Ok(Outcome::Done {
+        lines: line.len(),
+        done,
+    })
 }
 
 /// Does one of the works on a tree.
@@ -132,9 +172,17 @@ fn work_on(
     Ok(outcome_of(counted, ticks))
 }
 
-fn run(alloc: Global, work: Work, count: usize, length: usize) -> Result<Outcome, AllocError> {
+fn run(
+    alloc: Global,
+    work: Work,
+    count: usize,
+    length: usize,
+    column: usize,
+) -> Result<Outcome, AllocError> {
     let text = text_of(alloc, length)?;
     match work {
+        Work::Line(work) => line_alone(alloc, work, column, count, &text),
+        Work::Nodes => nodes_alone(alloc, count, &text),
         Work::Lines => lines_alone(alloc, count, &text),
         Work::Mixed => mixed_splices(alloc, count, length),
         Work::Refused => refused_growths(alloc, count, length),
@@ -153,10 +201,11 @@ fn main(rt: HostRuntime) -> io::Result<ExitCode> {
     let kind = words.next().and_then(|word| Work::parse(&word));
     let count = number(words.next());
     let length = number(words.next());
+    let column = number(words.next());
     let Some(work) = kind else {
         return Ok(ExitCode::from(1));
     };
-    match run(rt.alloc(), work, count, length)? {
+    match run(rt.alloc(), work, count, length, column)? {
         Outcome::Done { lines, done } => println!(&rt; "{lines} {done}")?,
         Outcome::Refused(
             Refusals {

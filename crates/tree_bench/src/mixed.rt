@@ -1,6 +1,6 @@
 ghost use Rattle.std.specs.Prelude.{◌+◌, ◌≤◌, length};
 
-use crate::counted::{Counted, splice, whole};
+use crate::counted::{Counted, insert, remove, splice, whole};
 use crate::counter::Counter;
 use crate::lines::{Numbers, text_of};
 use crate::shape::count_faults;
@@ -120,12 +120,40 @@ fn splice_both(
     splice_lines(alloc, mixed, k, gone, lines, ticks)
 }
 
+/// A line comes and goes again, alone. Says whether that was done.
+fn insert_and_remove(
+    alloc: Global,
+    counted: &mut Counted,
+    k: usize,
+    ticks: &mut Counter,
+) -> Result<bool, AllocError> {
+    let is_in = insert(counted, k, Line::new(alloc, "ab\n")?, ticks)?;
+    Ok(is_in && remove(counted, k, ticks) == Some(3))
+}
+
+/// Two hundred lines come and go again, each alone at a random place, with a look at that line after each.
+pub fn come_and_go(
+    alloc: Global,
+    mixed: &mut Mixed,
+    ticks: &mut Counter,
+) -> Result<(), AllocError> {
+    for _ in 0..200 {
+        let k = mixed.numbers.below(mixed.plain.len());
+        let is_done = insert_and_remove(alloc, &mut mixed.counted, k, ticks)?;
+        let wrong = count_differences(mixed, k, ticks).wrapping_add(!is_done as usize);
+        mixed.differences = mixed.differences.wrapping_add(wrong);
+    }
+    mixed.differences = mixed.differences.wrapping_add(walk_faults(mixed, ticks));
+    Ok(())
+}
+
 /// Whether all lines together are what they are to be.
 fn has_all(mixed: &Mixed, ticks: &mut Counter) -> bool {
     let Mixed { counted, plain, .. } = mixed;
     let sums = whole(counted, ticks);
     sums.lines() == plain.len()
         && counted.count == plain.len()
+        && counted.tree.len() == plain.len()
         && sums.characters() == sum_of(plain)
 }
 
@@ -141,7 +169,9 @@ fn has_line(mixed: &Mixed, k: usize, ticks: &mut Counter) -> bool {
     let down = ticks.seen;
     ticks.seen = 0;
     let is_found = counted.tree.rank(name, ticks) == k;
-    is_found && down <= 24 * height && ticks.seen <= 23 * height
+    let is_short = down <= 24 * height && ticks.seen <= 23 * height;
+    let is_counted = 0 < down && 0 < ticks.seen;
+    is_found && is_short && is_counted
 }
 
 /// Whether a line is found by its first character, in as few steps as is promised.
@@ -153,7 +183,7 @@ fn has_start(mixed: &Mixed, k: usize, ticks: &mut Counter) -> bool {
     }
     ticks.seen = 0;
     let is_found = counted.tree.locate(offset, ticks) == (k, 0);
-    is_found && ticks.seen <= 24 * counted.tree.height()
+    is_found && 0 < ticks.seen && ticks.seen <= 24 * counted.tree.height()
 }
 
 /// How much of the tree isn't as it is to be.
