@@ -61,7 +61,7 @@ pub fn splice(
         return Ok(false);
     }
     let more = lines.len().saturating_sub(gone);
-    counted.tree.reserve_for(more, more.min(1))?;
+    counted.tree.reserve_for_rows(more, more.min(1))?;
     counted.count = counted.count - gone + lines.len();
     counted.tree.splice(k, gone, lines, ticks);
     Ok(true)
@@ -69,7 +69,7 @@ pub fn splice(
 
 /// Reserves for so many lines to be put in.
 pub fn reserve(counted: &mut Counted, count: usize) -> Result<(), AllocError> {
-    counted.tree.reserve_for(count, 1)
+    counted.tree.reserve_for_rows(count, 1)
 }
 
 /// Puts in one line as number `k`, and says whether that was done.

@@ -19,11 +19,11 @@ overflow_add-counted c =
 
 pub splice-requires-clause-room : goal.splice-requires-clause-room
 splice-requires-clause-room c =
-    let tree = c.reserve_for.new.self in
+    let tree = c.reserve_for_rows.new.self in
     let more : c.saturating_sub-more.result ≡ more_lines c.args.gone c.args.lines.items + 0 = omega arith in
     let rows : c.min.result ≡ row_of c.args.gone c.args.lines.items + 0 = omega arith in (
       0,
       0,
       subst (λ n. HasRoom tree n (row_of c.args.gone c.args.lines.items + 0)) more
-          (subst (HasRoom tree c.saturating_sub-more.result) rows c.in_ok-reserve_for.ensures.room),
+          (subst (HasRoom tree c.saturating_sub-more.result) rows c.in_ok-reserve_for_rows.ensures.room),
     )
