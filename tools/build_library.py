@@ -5,8 +5,7 @@
 
 The crate `tktext_c` is proved and built over those that it stands on.  Mostly this is what tools/build.py does: what
 has changed since it was proved is proved.  A gate leaves the crates below as it proved them, but without the stamps by
-which `rt` knows them, so that `rt` would prove them all again; there the compiler of the kit is called over them, and
-proves and builds the one crate.
+which `rt` knows them, so that `rt` would prove them all again; there tools/over.py proves and builds the one crate.
 
 libtktext.a is this crate, the kit's few lines of C by which it asks for memory, and those of include/; libtktext.so.1
 the same, which shows the names of tktext.h alone, and libtktext.so a link to it.
@@ -63,39 +62,14 @@ def is_of_a_gate(name):
     return os.path.isdir(kept) and not has_stamp and os.path.getmtime(kept) > newest_source(name)
 
 
-def words_of(kit, crates, below):
-    """The command that builds the static crate over the libraries below, in the words of `rt lib`."""
-    words = [os.path.join(kit, "bin", "rattle"), "build", "--crate-name", CRATE, "src/lib.rt"]
-    for name in ["std", *libraries_of_kit(crates)]:
-        words += ["--extern", f"{name}={kit}/rlibs/{name}.rlib"]
-    words += ["-L", f"dependency={kit}/rlibs"]
-    for name in crates[CRATE]:
-        words += ["--extern", f"{name}={kept_of(name)}"]
-    for name in below:
-        words += ["-L", f"dependency={os.path.dirname(kept_of(name))}"]
-    words += ["--antt-project", f"{kit}/rattle/logic/antt-project.json", "--logic-built", f"{kit}/logic_built"]
-    words += ["--jobs", str(min(build.CORES, 4)), "--links", f"{CRATE}="]
-    for name in below:
-        words += ["--links", f"{name}="]
-    words += ["--crate-type", "staticlib", "--toolchain", f"{kit}/toolchain", "--backend", "llvm"]
-    return [*words, "-o", MADE]
-
-
-def libraries_of_kit(crates):
-    """The libraries of the kit that the crate's line names."""
-    with open(os.path.join(build.TOP, "crates.txt"), encoding="utf-8") as file:
-        lines = [line.partition(":") for line in file if line.split()[:1] == [CRATE]]
-    return [name for name in lines[0][2].split() if name not in crates]
-
-
-def prove(kit):
+def prove():
     """Proves and builds the crate, and tells whether it is proved."""
-    crates = build.read_crates(os.path.join(build.TOP, "crates.txt"))
-    below = [name for name in crates if name in build.crates_below(crates, CRATE)]
+    below = build.crates_below(build.read_crates(os.path.join(build.TOP, "crates.txt")), CRATE)
+    tools = os.path.join(build.TOP, "tools")
     if not all(map(is_of_a_gate, below)):
-        return subprocess.run([sys.executable, os.path.join(build.TOP, "tools", "build.py"), "--crate", CRATE]).returncode == 0
-    os.makedirs(os.path.dirname(MADE), exist_ok=True)
-    done = subprocess.run(words_of(kit, crates, below), cwd=folder_of(CRATE), capture_output=True, text=True, errors="replace")
+        return subprocess.run([sys.executable, os.path.join(tools, "build.py"), "--crate", CRATE]).returncode == 0
+    words = [sys.executable, os.path.join(tools, "over.py"), CRATE, "--build"]
+    done = subprocess.run(words, capture_output=True, text=True, errors="replace")
     if done.returncode:
         print(done.stdout[-4000:], done.stderr[-4000:], sep="\n", file=sys.stderr)
     return done.returncode == 0
@@ -143,7 +117,7 @@ def main(words):
         return 2
     try:
         kit = kit_folder()
-        if not prove(kit):
+        if not prove():
             return 1
         with tempfile.TemporaryDirectory() as folder:
             unpack(MADE, folder)

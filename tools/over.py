@@ -8,7 +8,8 @@ checked in some twenty seconds; it is no verdict, which `rt ci` alone gives.  A 
 its crate here, where `--build` has put it, and else from that of the same crate below FOLDER, a checkout in which a gate
 has run.  Those that are named by `--sources` are read as they stand, whether they are proved or not: these are all whose
 contracts changed, and all between them and the crate.  Behind `--` stand words of `rattle check` itself, as `--only
-FUNCTION`, `--allow-holes` or `--test`.  With `--build` the crate, a library, is proved and built, for crates above it.
+FUNCTION`, `--allow-holes` or `--test`.  With `--build` the crate, a library, is proved and built, for crates above it
+or, a static one, for C.
 
 What a check keeps for the next one stands in out/over/CRATE.  The exit status is that of `rattle`.
 """
@@ -27,10 +28,21 @@ RATTLE = f"{KIT}/bin/rattle"
 BUILT = "over"
 
 
+def line_of(crate):
+    """The words before and after the colon in the line of a crate."""
+    with open(os.path.join(build.TOP, "crates.txt"), encoding="utf-8") as file:
+        lines = [[part.split() for part in line.split(":")] for line in file if ":" in line and line[0] != "#"]
+    return next(parts for parts in lines if parts[0][0] == crate)
+
+
 def words_below(crate):
     """What the line of a crate names, libraries of the kit among them."""
-    with open(os.path.join(build.TOP, "crates.txt"), encoding="utf-8") as file:
-        return next(line.partition(":")[2].split() for line in file if line.split()[:1] in ([crate], [crate + ":"]))
+    return line_of(crate)[1]
+
+
+def is_static(crate):
+    """Whether a crate is a static library, for C."""
+    return "staticlib" in line_of(crate)[0]
 
 
 def rlib_folder(top, crate):
@@ -65,7 +77,21 @@ def words_of(options, crates):
     for folder in filter(os.path.isdir, folders):
         words += ["-L", f"dependency={folder}"]
     words += ["--logic-built", f"{KIT}/logic_built", "--antt-project", f"{KIT}/rattle/logic/antt-project.json"]
+    if is_static(options.crate):
+        words += ["--crate-type", "staticlib"]
     return [*words, "--links", f"{options.crate}=", "--jobs", str(options.jobs)]
+
+
+def words_of_build(crate):
+    """The words that `rattle build` takes beside these. Makes the folder of what it writes, an old library deleted."""
+    if is_static(crate):
+        folder = os.path.join(build.TOP, "crates", crate, "out")
+        os.makedirs(folder, exist_ok=True)
+        return ["--toolchain", f"{KIT}/toolchain", "--backend", "llvm", "-o", f"{folder}/lib{crate}.a"]
+    folder = rlib_folder(build.TOP, crate)
+    shutil.rmtree(folder, ignore_errors=True)
+    os.makedirs(folder)
+    return ["--statements", "-o", f"{folder}/{crate}.rlib"]
 
 
 def main():
@@ -78,19 +104,16 @@ def main():
     end = sys.argv.index("--") if "--" in sys.argv else len(sys.argv)
     options, given = parser.parse_args(sys.argv[1:end]), sys.argv[end + 1 :]
     words = words_of(options, build.read_crates(os.path.join(build.TOP, "crates.txt")))
-    folder = rlib_folder(build.TOP, options.crate)
     if options.build:
-        shutil.rmtree(folder, ignore_errors=True)
-        os.makedirs(folder)
-        words += ["--statements", "-o", f"{folder}/{options.crate}.rlib"]
+        words += words_of_build(options.crate)
     else:
         kept = os.path.join(build.TOP, "out", "over", options.crate)
         os.makedirs(kept, exist_ok=True)
         words += ["--incremental", kept]
     verb = "build" if options.build else "check"
     done = subprocess.run([RATTLE, verb, *words, *given], cwd=root_of(options.crate)[0])
-    if options.build and done.returncode == 0:
-        open(os.path.join(folder, BUILT), "w").close()
+    if options.build and done.returncode == 0 and not is_static(options.crate):
+        open(os.path.join(rlib_folder(build.TOP, options.crate), BUILT), "w").close()
     return done.returncode
 
 

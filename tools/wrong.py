@@ -161,18 +161,8 @@ def batches_of(crate, edits):
 # ---- checks
 
 
-def is_static(crate):
-    """Whether a crate is a library for C, which `rt ci` leaves no library of for other crates."""
-    return re.search(rf"^{crate} staticlib:", text_of(build.TOP, "crates.txt"), re.MULTILINE) is not None
-
-
 def calls_of(crate, libraries):
-    """The functions of a crate, by their paths, each with those of the crate that it names, as its library has them.
-
-    None of a library for C: what its functions call in the crate is proved with them.
-    """
-    if is_static(crate):
-        return {}
+    """The functions of a crate, by their paths, each with those of the crate that it names, as its library has them."""
     library = os.path.join(over.find_rlib(crate, libraries), f"{crate}.rlib")
     named = re.compile(rf'"{crate}::([^"]+)"')
     bodies = {
@@ -335,8 +325,7 @@ def main():
     options = parser.parse_args()
     crates = options.crates or build.read_crates(os.path.join(build.TOP, "crates.txt"))
     edits = {crate: found for crate in crates if (found := read_edits(crate))}
-    libraries = [crate for crate in edits if not is_static(crate)]
-    unbuilt = [crate for crate in libraries if not os.path.isdir(over.find_rlib(crate, options.libraries))]
+    unbuilt = [crate for crate in edits if not os.path.isdir(over.find_rlib(crate, options.libraries))]
     if unbuilt:
         sys.exit(f"wrong.py: no library of {', '.join(unbuilt)} is built: run `rt ci`, or give --libraries")
     # The crates with the most edits take longest, and begin first.

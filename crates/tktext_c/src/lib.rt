@@ -1,31 +1,19 @@
-//! Worlds of text widgets for C. What C owes stands in include/tktext.h.
+//! Worlds of text widgets for C: each export is a call of `handles`. What C owes is in include/tktext.h.
 #![tactic(auto)]
 
 ghost use Rattle.std.specs.Prelude.{◌≡◌, Bool, Option, None, min, length, option_map};
 ghost use Rattle.text_model.specs.LimitTable.{most_chars, most_tags, most_marks, most_widgets};
 ghost use Rattle.peers.specs.History.{can_redo_by, can_undo_by};
-ghost use Rattle.tktext_c.specs.Calls.{Makes, Calls, Feeds, Takes, Tells, finished};
-ghost use Rattle.tktext_c.specs.Codes.{make_code, move_code, call_code, feed_code, flag_code, turn_code, told_code};
-ghost use Rattle.tktext_c.specs.Handles.{reported, state, status_of, said_of};
-ghost use Rattle.tktext_c.specs.Room.{over};
-ghost use Rattle.tktext_c.specs.Told.{told_of, mark_told, place_told, spot_told, text_told, word_given, words_of};
-ghost use Rattle.tktext_c.specs.Told.{span_told, tag_told, widget_told, CallsTold, MakesReport, MovesReport};
-ghost use Rattle.tktext_c.specs.Told.{TakesTold};
+ghost use Rattle.handles.specs.Calls.{Makes, Calls, Feeds, Takes, Tells, finished};
+ghost use Rattle.handles.specs.Codes.{make_code, move_code, call_code, feed_code, flag_code, turn_code, told_code};
+ghost use Rattle.handles.specs.Handles.{reported, state, status_of, said_of};
+ghost use Rattle.handles.specs.Room.{over};
+ghost use Rattle.handles.specs.Told.{told_of, mark_told, place_told, spot_told, text_told, word_given, words_of};
+ghost use Rattle.handles.specs.Told.{span_told, tag_told, widget_told, CallsTold, MakesReport, MovesReport};
+ghost use Rattle.handles.specs.Told.{TakesTold};
 
-mod ends;
-mod exports;
-mod handle;
-mod loose;
-mod report;
-mod report_handle;
-mod room;
-mod session;
-mod turns;
-mod words;
-
-use ends::{CallEnd, FeedEnd, MakeEnd, MoveEnd, TurnEnd, Way, code_of_flag, code_of_told};
-use handle::Handle;
-use report_handle::ReportHandle;
+use handles::ends::{CallEnd, FeedEnd, MakeEnd, MoveEnd, TurnEnd, Way, code_of_flag, code_of_told};
+use handles::{Handle, ReportHandle};
 use std::alloc::Global;
 use text_model::Limits;
 
@@ -42,10 +30,7 @@ pub extern "C" fn tktext_new(
     ensures { (ended : MakeEnd) × (result ≡ make_code ended) × Makes (state handle.old)
         (record { chars = chars; tags = tags; marks = marks; widgets = widgets; reads = 0 }) (state handle.new) ended }
 {
-    match Limits::new(chars, tags, marks, widgets, 0) {
-        Some(limits) => exports::make(alloc, handle, limits).code(),
-        None => MakeEnd::WrongLimits.code(),
-    }
+    handle.make(alloc, chars, tags, marks, widgets).code()
 }
 
 /// The same with the program's limits, each the greatest.
@@ -76,7 +61,7 @@ pub extern "C" fn tktext_call(
     ensures { (ended : CallEnd) × (result ≡ call_code ended)
         × Calls (state handle.old) lengths.now bytes.now (state handle.new) ended }
 {
-    exports::call(alloc, handle, false, bytes, lengths).code()
+    handle.call(alloc, false, bytes, lengths).code()
 }
 
 /// Copies what was said last to the front of the room, as far as it goes, and gives the length of all.
@@ -86,13 +71,7 @@ pub extern "C" fn tktext_said(alloc: Global, handle: &mut Handle, room: &mut [u8
     ensures copied { room.new ≡ over (said_of (state handle.old)) room.old }
     ensures unchanged { state handle.new ≡ state handle.old }
 {
-    if !handle.full {
-        return 0;
-    }
-    let session = handle.take(alloc);
-    let length = session.copy_said(room);
-    handle.put(session);
-    length
+    handle.copy_said(alloc, room)
 }
 
 /// Carries out a command as `tktext_call` does, and keeps what it changed of the text that its widget shows.
@@ -106,7 +85,7 @@ pub extern "C" fn tktext_call_told(
     ensures { (ended : CallEnd) × (result ≡ call_code ended)
         × CallsTold (state handle.old) lengths.now bytes.now (state handle.new) ended }
 {
-    exports::call(alloc, handle, true, bytes, lengths).code()
+    handle.call(alloc, true, bytes, lengths).code()
 }
 
 /// Copies a word of the command that was given last to the front of the room, as far as it goes, and gives the length
@@ -122,13 +101,7 @@ pub extern "C" fn tktext_word(
     ensures copied { room.new ≡ over (word_given (words_of (state handle.old)) index) room.old }
     ensures unchanged { state handle.new ≡ state handle.old }
 {
-    if !handle.full {
-        return 0;
-    }
-    let session = handle.take(alloc);
-    let length = session.copy_word(index, room);
-    handle.put(session);
-    length
+    handle.copy_word(alloc, index, room)
 }
 
 /// Makes an empty report.
@@ -137,7 +110,7 @@ pub extern "C" fn tktext_report_new(alloc: Global, report: &mut ReportHandle) ->
     ensures { (ended : MakeEnd) × (result ≡ make_code ended)
         × MakesReport (reported report.old) (reported report.new) ended }
 {
-    exports::make_report(alloc, report).code()
+    report.make(alloc).code()
 }
 
 /// Moves what the last call that reports changed out of a world into a report, and leaves the world none.
@@ -150,7 +123,7 @@ pub extern "C" fn tktext_take_report(
     ensures { (ended : MoveEnd) × (result ≡ move_code ended)
         × MovesReport (state handle.old) (reported report.old) (state handle.new) (reported report.new) ended }
 {
-    exports::move_report(alloc, handle, report).code()
+    handle.move_report(alloc, report).code()
 }
 
 /// Drops the report, if there is one, and leaves it empty.
@@ -158,9 +131,7 @@ pub extern "C" fn tktext_take_report(
 pub extern "C" fn tktext_report_drop(alloc: Global, report: &mut ReportHandle)
     ensures { reported report.new ≡ None }
 {
-    if report.full {
-        drop(report.take(alloc));
-    }
+    report.clear(alloc);
 }
 
 /// Returns the number of a report's changes of the text.
@@ -169,13 +140,7 @@ pub extern "C" fn tktext_told(alloc: Global, report: &mut ReportHandle) -> usize
     ensures count { result ≡ length (told_of (reported report.old)).changes }
     ensures unchanged { reported report.new ≡ reported report.old }
 {
-    if !report.full {
-        return 0;
-    }
-    let held = report.take(alloc);
-    let count = held.count_changes();
-    report.put(held);
-    count
+    report.count_changes(alloc)
 }
 
 /// Returns the offset of one of these changes, in characters; 0 if there is no such change.
@@ -184,7 +149,7 @@ pub extern "C" fn tktext_told_at(alloc: Global, report: &mut ReportHandle, index
     ensures place { result ≡ (place_told (told_of (reported report.old)).changes index).0 }
     ensures unchanged { reported report.new ≡ reported report.old }
 {
-    exports::change_place(alloc, report, index).0
+    report.change_place(alloc, index).0
 }
 
 /// Returns the number of characters that it deleted; 0 if there is no such change.
@@ -197,7 +162,7 @@ pub extern "C" fn tktext_told_removed(
     ensures count { result ≡ (place_told (told_of (reported report.old)).changes index).1 }
     ensures unchanged { reported report.new ≡ reported report.old }
 {
-    exports::change_place(alloc, report, index).1
+    report.change_place(alloc, index).1
 }
 
 /// Copies the prefix of its inserted text that fits into the buffer, and returns the text's length.
@@ -212,13 +177,7 @@ pub extern "C" fn tktext_told_inserted(
     ensures copied { room.new ≡ over (text_told (told_of (reported report.old)).changes index) room.old }
     ensures unchanged { reported report.new ≡ reported report.old }
 {
-    if !report.full {
-        return 0;
-    }
-    let held = report.take(alloc);
-    let length = held.copy_inserted(index, room);
-    report.put(held);
-    length
+    report.copy_inserted(alloc, index, room)
 }
 
 /// Returns the line, from 1, of an end of a change: of its start (0), of the end of what it deleted, in the text before
@@ -233,7 +192,7 @@ pub extern "C" fn tktext_told_line(
     ensures line { result ≡ (spot_told (told_of (reported report.old)).changes index end).line }
     ensures unchanged { reported report.new ≡ reported report.old }
 {
-    exports::change_spot(alloc, report, index, end).line
+    report.change_spot(alloc, index, end).line
 }
 
 /// Returns the number of characters in that line before that end.
@@ -247,7 +206,7 @@ pub extern "C" fn tktext_told_column(
     ensures column { result ≡ (spot_told (told_of (reported report.old)).changes index end).column }
     ensures unchanged { reported report.new ≡ reported report.old }
 {
-    exports::change_spot(alloc, report, index, end).column
+    report.change_spot(alloc, index, end).column
 }
 
 /// Returns the number of bytes of UTF-8 in that line before that end.
@@ -261,7 +220,7 @@ pub extern "C" fn tktext_told_bytes(
     ensures bytes { result ≡ (spot_told (told_of (reported report.old)).changes index end).bytes }
     ensures unchanged { reported report.new ≡ reported report.old }
 {
-    exports::change_spot(alloc, report, index, end).bytes
+    report.change_spot(alloc, index, end).bytes
 }
 
 /// Returns the number of units of UTF-16 in that line before that end.
@@ -275,7 +234,7 @@ pub extern "C" fn tktext_told_units(
     ensures units { result ≡ (spot_told (told_of (reported report.old)).changes index end).units }
     ensures unchanged { reported report.new ≡ reported report.old }
 {
-    exports::change_spot(alloc, report, index, end).units
+    report.change_spot(alloc, index, end).units
 }
 
 /// Returns the number of a report's changes of tags, which are applied in order, after the changes of the text.
@@ -284,13 +243,7 @@ pub extern "C" fn tktext_told_tags(alloc: Global, report: &mut ReportHandle) -> 
     ensures count { result ≡ length (told_of (reported report.old)).tags }
     ensures unchanged { reported report.new ≡ reported report.old }
 {
-    if !report.full {
-        return 0;
-    }
-    let held = report.take(alloc);
-    let count = held.count_tags();
-    report.put(held);
-    count
+    report.count_tags(alloc)
 }
 
 /// Copies the prefix of the name of such a change's tag that fits into the buffer, and returns the name's length.
@@ -305,13 +258,7 @@ pub extern "C" fn tktext_told_tag(
     ensures copied { room.new ≡ over (tag_told (told_of (reported report.old)).tags index) room.old }
     ensures unchanged { reported report.new ≡ reported report.old }
 {
-    if !report.full {
-        return 0;
-    }
-    let held = report.take(alloc);
-    let length = held.copy_tag(index, room);
-    report.put(held);
-    length
+    report.copy_tag(alloc, index, room)
 }
 
 /// Copies the name of the widget whose `sel` the tag is in the same way; nothing for any other tag.
@@ -326,13 +273,7 @@ pub extern "C" fn tktext_told_tag_widget(
     ensures copied { room.new ≡ over (widget_told (told_of (reported report.old)).tags index) room.old }
     ensures unchanged { reported report.new ≡ reported report.old }
 {
-    if !report.full {
-        return 0;
-    }
-    let held = report.take(alloc);
-    let length = held.copy_tag_widget(index, room);
-    report.put(held);
-    length
+    report.copy_tag_widget(alloc, index, room)
 }
 
 /// Returns the offset, in characters, at which a change of a tag starts; 0 if there is no such change.
@@ -345,7 +286,7 @@ pub extern "C" fn tktext_told_tag_from(
     ensures from { result ≡ (span_told (told_of (reported report.old)).tags index).0 }
     ensures unchanged { reported report.new ≡ reported report.old }
 {
-    exports::tag_span(alloc, report, index).0
+    report.tag_span(alloc, index).0
 }
 
 /// Returns the offset, in characters, at which it ends; 0 if there is no such change.
@@ -358,7 +299,7 @@ pub extern "C" fn tktext_told_tag_to(
     ensures to { result ≡ (span_told (told_of (reported report.old)).tags index).1 }
     ensures unchanged { reported report.new ≡ reported report.old }
 {
-    exports::tag_span(alloc, report, index).1
+    report.tag_span(alloc, index).1
 }
 
 /// Returns 1 if it adds the tag, and 0 if it removes the tag or there is no such change.
@@ -367,7 +308,7 @@ pub extern "C" fn tktext_told_tag_on(alloc: Global, report: &mut ReportHandle, i
     ensures on { result ≡ flag_code (span_told (told_of (reported report.old)).tags index).2 }
     ensures unchanged { reported report.new ≡ reported report.old }
 {
-    code_of_flag(exports::tag_span(alloc, report, index).2)
+    code_of_flag(report.tag_span(alloc, index).2)
 }
 
 /// Returns the number of marks of a report: those that `mark set` or `mark unset` moved.
@@ -376,13 +317,7 @@ pub extern "C" fn tktext_told_marks(alloc: Global, report: &mut ReportHandle) ->
     ensures count { result ≡ length (told_of (reported report.old)).marks }
     ensures unchanged { reported report.new ≡ reported report.old }
 {
-    if !report.full {
-        return 0;
-    }
-    let held = report.take(alloc);
-    let count = held.count_marks();
-    report.put(held);
-    count
+    report.count_marks(alloc)
 }
 
 /// Copies the prefix of the name of one of these marks that fits into the buffer, and returns the name's length.
@@ -397,13 +332,7 @@ pub extern "C" fn tktext_told_mark(
     ensures copied { room.new ≡ over (mark_told (told_of (reported report.old)).marks index) room.old }
     ensures unchanged { reported report.new ≡ reported report.old }
 {
-    if !report.full {
-        return 0;
-    }
-    let held = report.take(alloc);
-    let length = held.copy_mark(index, room);
-    report.put(held);
-    length
+    report.copy_mark(alloc, index, room)
 }
 
 /// Whether `edit undo` would find something to undo in the text that the widget of a name shows: 1 or 0, and -1 where
@@ -414,7 +343,7 @@ pub extern "C" fn tktext_can_undo(alloc: Global, handle: &mut Handle, widget: &[
         × Tells can_undo_by (state handle.old) widget.now told }
     ensures unchanged { state handle.new ≡ state handle.old }
 {
-    code_of_told(exports::can(alloc, handle, Way::Undo, widget))
+    code_of_told(handle.can(alloc, Way::Undo, widget))
 }
 
 /// Whether `edit redo` would find something to redo there, in the same numbers.
@@ -424,7 +353,7 @@ pub extern "C" fn tktext_can_redo(alloc: Global, handle: &mut Handle, widget: &[
         × Tells can_redo_by (state handle.old) widget.now told }
     ensures unchanged { state handle.new ≡ state handle.old }
 {
-    code_of_told(exports::can(alloc, handle, Way::Redo, widget))
+    code_of_told(handle.can(alloc, Way::Redo, widget))
 }
 
 /// Takes the next bytes of a script.
@@ -433,7 +362,7 @@ pub extern "C" fn tktext_feed(alloc: Global, handle: &mut Handle, bytes: &[u8]) 
     ensures { (ended : FeedEnd) × (result ≡ feed_code ended)
         × Feeds (state handle.old) bytes.now (state handle.new) ended }
 {
-    exports::feed(alloc, handle, bytes).code()
+    handle.feed(alloc, bytes).code()
 }
 
 /// Ends the script, and so its last command.
@@ -441,11 +370,7 @@ pub extern "C" fn tktext_feed(alloc: Global, handle: &mut Handle, bytes: &[u8]) 
 pub extern "C" fn tktext_finish(alloc: Global, handle: &mut Handle)
     ensures { state handle.new ≡ option_map finished (state handle.old) }
 {
-    if handle.full {
-        let mut session = handle.take(alloc);
-        session.finish();
-        handle.put(session);
-    }
+    handle.finish(alloc);
 }
 
 /// Carries out the next command of the script that is at hand.
@@ -453,7 +378,7 @@ pub extern "C" fn tktext_finish(alloc: Global, handle: &mut Handle)
 pub extern "C" fn tktext_next(alloc: Global, handle: &mut Handle) -> i32
     ensures { (ended : TurnEnd) × (result ≡ turn_code ended) × Takes (state handle.old) (state handle.new) ended }
 {
-    exports::take_turn(alloc, handle, false).code()
+    handle.take_turn(alloc, false).code()
 }
 
 /// The same, and keeps what it changed of the text that the command's widget shows.
@@ -462,7 +387,7 @@ pub extern "C" fn tktext_next_told(alloc: Global, handle: &mut Handle) -> i32
     ensures { (ended : TurnEnd) × (result ≡ turn_code ended)
         × TakesTold (state handle.old) (state handle.new) ended }
 {
-    exports::take_turn(alloc, handle, true).code()
+    handle.take_turn(alloc, true).code()
 }
 
 /// The exit status of the script so far; 255 where the handle is empty.
@@ -471,13 +396,7 @@ pub extern "C" fn tktext_status(alloc: Global, handle: &mut Handle) -> i32
     ensures status { result ≡ status_of (state handle.old) }
     ensures unchanged { state handle.new ≡ state handle.old }
 {
-    if !handle.full {
-        return 255;
-    }
-    let session = handle.take(alloc);
-    let status = session.status();
-    handle.put(session);
-    i32::from(status)
+    handle.status(alloc)
 }
 
 /// Drops the world, if there is one, and leaves the handle empty.
@@ -485,7 +404,5 @@ pub extern "C" fn tktext_status(alloc: Global, handle: &mut Handle) -> i32
 pub extern "C" fn tktext_drop(alloc: Global, handle: &mut Handle)
     ensures { state handle.new ≡ None }
 {
-    if handle.full {
-        drop(handle.take(alloc));
-    }
+    handle.clear(alloc);
 }

@@ -1,0 +1,14 @@
+use Rattle.handles.proofs.Common.{place_of}
+use Rattle.handles.proofs.ReadLaws.{read-found, read-none}
+use Rattle.handles.proofs.report.Report.change_place.Goals as goal
+
+pub returns-in-Some : goal.returns-in-Some
+returns-in-Some c =
+    let found = c.in-Some.ensures.lookup in
+    read-found c.as_slice.result.now c.args.self.now.edit.changes c.args.index c.in-Some.change.now place_of
+    c.as_slice.ensures found.3.0 found.1
+
+pub returns-in-None : goal.returns-in-None
+returns-in-None c =
+    read-none c.as_slice.result.now c.args.self.now.edit.changes c.args.index place_of c.as_slice.ensures
+    c.in-None.ensures.lookup.3

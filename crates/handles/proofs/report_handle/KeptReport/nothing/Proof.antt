@@ -1,0 +1,40 @@
+-- `nothing` keeps no report.
+use Rattle.handles.proofs.Common.{◌≡◌, Option, None, [], ◌∷◌, refl, Ptr-Good, proved_at, leaves}
+use mir.Val.{Val}
+use base.Logic.{SProp, emp}
+use types.Kit.{‵, raw, ◌⊛◌, ◌$◌, ◌∵◌, !, qed, by, keep, split, use0}
+use types.Run.{lit, no_more, and_then, returns, enter}
+use types.ByLocal.{alloc_all, pass_all, free_all, look_at, sets}
+use types.Part.{agg}
+use contract.Monad.{fact, fact_i}
+use contract.Running.{tables}
+use denote.RattleType.{owns}
+use denote.Signature.{types_at}
+use denote.RawPtr.{null_ptr}
+use denote.Steps.{nothing}
+use denote.Triple.Entry.{alive}
+use denote.Triple.Walked.{Stays, walk_of}
+use Rattle.handles.proofs.KeptReportSteps.{kept_in}
+use Rattle.handles.proofs.KeptSteps.{word}
+use Rattle.handles.specs.contracts.report_handle.KeptReport.nothing.{ended, clauses}
+use Rattle.handles.specs.contracts.report_handle.KeptReport.nothing.Key.{name as #self}
+use Rattle.handles.proofs.report_handle.KeptReport.nothing.Statement.{statement}
+use Rattle.handles.specs.contracts.report.Report as report
+use Rattle.handles.proofs.report_handle.KeptReport.nothing.Code as code
+
+pub nothing_spec : {M : Type 1} → statement M
+nothing_spec 𝓤 𝓛 𝓜 𝓡 wired =
+    let H = 𝓛.H in let 𝓣 = tables 𝓤 H 𝓜 𝓡 𝓡.env in let En = ended in let c = clauses 𝓛 𝓜.mem 𝓡.returns in
+    let fn = code.function in
+    let hs : Stays En.signature.params En.kept = tt in
+    proved_at 𝓛 En hs c 𝓜 𝓡 tt #self fn (code.unfolded 𝓤 H 𝓜 𝓡 wired) (λ z are.
+    let n : Option report.the_row.Denot = None in
+    let Post : Val → SProp 𝓤 = (walk_of 𝓛 En hs c).post z in
+    qed 𝓛 ((raw (alive 𝓛 En.signature z.0.0 z.0.1) ⊛ ‵ (owns (types_at En.signature.params z.0.0) z.0.3 z.0.4))
+    ∷ raw ((c z.0.0 z.0.3).requires z.1) ∷ []) ∵
+    split ! $ keep ! (0 ∷ []) $ nothing ! $ kept_in ! null_ptr None $
+    enter ! 𝓣.C 𝓣.Λ fn [] Post $ alloc_all ! (λ l. pass_all ! refl tt $
+    sets ! (agg ! (and_then ! (lit ! tt) (no_more !))) refl (tt, ((Ptr-Good null_ptr).1, tt)) $
+    use0 𝓛 (raw (fact 𝓤 (n ≡ None))) (fact_i 𝓤 (n ≡ None) (emp 𝓤) refl) $ nothing ! $
+    returns ! (look_at ! 0 refl) $ free_all ! refl $ keep ! (3 ∷ 0 ∷ 2 ∷ 1 ∷ []) $ by !
+    (leaves 𝓛 En hs c z (word null_ptr) (record { at = null_ptr; report = None }) tt tt)))

@@ -1,0 +1,152 @@
+-- What a command that tells makes of a session, and what C reads of it.
+use Rattle.std.specs.Prelude.{◌≡◌, ℕ, Bool, true, false, List, [], Option, Some, None, IsSome, is_ok, slice_get}
+use Rattle.std.specs.Prelude.{encode_utf8_all, option_map, ◌==◌, if◌then◌else◌}
+use Rattle.tcl_words.specs.Unread.{TakesCommand}
+use Rattle.edit_ops.specs.declared.changes.TextChange.{TextChange}
+use Rattle.edit_ops.specs.declared.spots.Spot.{Spot}
+use Rattle.documents.specs.Documents.{sel}
+use Rattle.documents.specs.declared.tag_lists.TagChange.{TagChange}
+use Rattle.peers.specs.Step.{step}
+use Rattle.peers.specs.MarksTold.{MarksTellOf}
+use Rattle.peers.specs.Told.{TellsOf}
+use Rattle.peers.specs.World.{World}
+use Rattle.handles.specs.declared.ends.Given.{Given}
+use Rattle.handles.specs.declared.ends.Given.TheVariants as given
+use Rattle.handles.specs.declared.ends.CallEnd.{CallEnd}
+use Rattle.handles.specs.declared.ends.CallEnd.TheVariants as call
+use Rattle.handles.specs.declared.ends.MakeEnd.{MakeEnd}
+use Rattle.handles.specs.declared.ends.MakeEnd.TheVariants as make
+use Rattle.handles.specs.declared.ends.MoveEnd.{MoveEnd}
+use Rattle.handles.specs.declared.ends.MoveEnd.TheVariants as move
+use Rattle.handles.specs.declared.ends.TurnEnd.{TurnEnd}
+use Rattle.handles.specs.declared.ends.TurnEnd.TheVariants as turn
+use Rattle.handles.specs.Calls.{Called, Gives, Turns, stepped}
+use Rattle.handles.specs.State.{State, Telling, nothing_told}
+use Rattle.handles.specs.Words.{cut, words_at, AreLengths, AreTexts}
+
+-- nothing is told yet
+abbrev pub untold : State → State
+untold old = record old { told = nothing_told }
+
+-- what is told of a command of these words that made a world of another
+abbrev pub IsTold : World → World → List (List ℕ) → Telling → Type 0
+IsTold old new words told =
+    TellsOf old new words (record { changes = told.changes; tags = told.tags }) × MarksTellOf old new words told.marks
+
+-- From old to new a command is answered, and what it changed is told; or it is refused, which tells nothing.
+abbrev pub GivesTold : State → List (List ℕ) → State → Given → Type 0
+GivesTold old words new given.Answer =
+    (is_ok (step old.world words).reply ≡ true) × (new ≡ record (stepped old words) { told = new.told })
+    × IsTold old.world new.world words new.told
+GivesTold old words new given = Gives old words new given
+
+-- The same of words that stand in bytes, unless they are none.
+abbrev pub CalledTold : State → List ℕ → List ℕ → State → CallEnd → Type 0
+CalledTold old lengths bytes new (call.Given given.Answer) =
+    AreLengths lengths bytes × AreTexts (cut lengths bytes)
+    × GivesTold (untold old) (words_at lengths bytes) new given.Answer
+CalledTold old lengths bytes new ended = Called (untold old) lengths bytes new ended
+
+abbrev pub CallsTold : Option State → List ℕ → List ℕ → Option State → CallEnd → Type 0
+CallsTold None lengths bytes new ended = (new ≡ None) × (ended ≡ call.WrongHandle)
+CallsTold (Some old) lengths bytes None ended = ⊥
+CallsTold (Some old) lengths bytes (Some new) ended = CalledTold old lengths bytes new ended
+
+-- From old to new the next command of the script is carried out, and what it changed is told.
+abbrev pub TurnsTold : State → State → TurnEnd → Type 0
+TurnsTold old new (turn.Command given.Answer) =
+    (words : List (List ℕ)) × TakesCommand old.script words new.script
+    × GivesTold (untold old) words (record new { script = old.script; status = old.status }) given.Answer
+    × (new.status ≡ old.status)
+TurnsTold old new ended = Turns (untold old) new ended
+
+abbrev pub TakesTold : Option State → Option State → TurnEnd → Type 0
+TakesTold None new ended = (new ≡ None) × (ended ≡ turn.WrongHandle)
+TakesTold (Some old) None ended = ⊥
+TakesTold (Some old) (Some new) ended = TurnsTold old new ended
+
+-- ---- what C reads
+
+-- the bytes of a text, if there is one
+abbrev pub bytes_of : Option (List ℕ) → List ℕ
+bytes_of None = []
+bytes_of (Some text) = encode_utf8_all text
+
+-- a word of the command that was given last
+abbrev pub word_given : List (List ℕ) → ℕ → List ℕ
+word_given words index = bytes_of (slice_get words index)
+
+abbrev pub words_of : Option State → List (List ℕ)
+words_of None = []
+words_of (Some state) = state.words
+
+-- what a report has; nothing where there is none
+abbrev pub told_of : Option Telling → Telling
+told_of None = nothing_told
+told_of (Some telling) = telling
+
+-- From was to is an empty report is made.
+abbrev pub MakesReport : Option Telling → Option Telling → MakeEnd → Type 0
+MakesReport was is make.Made = (was ≡ None) × (is ≡ Some nothing_told)
+MakesReport was is make.Memory = (was ≡ None) × (is ≡ was)
+MakesReport was is make.WrongLimits = ⊥
+MakesReport was is make.WrongHandle = (is ≡ was) × IsSome was
+
+-- From old to new a session's report is moved out, and becomes the report that was another; where there is no session
+-- or no report, nothing changes.
+abbrev pub MovesReport : Option State → Option Telling → Option State → Option Telling → MoveEnd → Type 0
+MovesReport (Some old) (Some was) new is ended =
+    (new ≡ Some (untold old)) × (is ≡ Some old.told) × (ended ≡ move.Moved)
+MovesReport old was new is ended = (new ≡ old) × (is ≡ was) × (ended ≡ move.WrongHandle)
+
+-- where one of the changes is, and how many characters it took out; 0 where there is none
+abbrev pub place_of : Option TextChange → ℕ × ℕ
+place_of None = (0, 0)
+place_of (Some change) = (change.at, change.removed)
+
+abbrev pub place_told : List TextChange → ℕ → ℕ × ℕ
+place_told changes index = place_of (slice_get changes index)
+
+-- one of its ends: where it begins (0), where what it took out ended (1), where what it put in ends (2)
+abbrev pub spot_of : TextChange → ℕ → Spot
+spot_of change end = if end == 0 then change.start else (if end == 1 then change.old_end else change.new_end)
+
+abbrev pub spot_in : Option TextChange → ℕ → Spot
+spot_in None end = record { line = 0; column = 0; bytes = 0; units = 0 }
+spot_in (Some change) end = spot_of change end
+
+abbrev pub spot_told : List TextChange → ℕ → ℕ → Spot
+spot_told changes index end = spot_in (slice_get changes index) end
+
+-- the bytes of what it put in
+abbrev pub text_told : List TextChange → ℕ → List ℕ
+text_told changes index = bytes_of (option_map (λ (change : TextChange). change.inserted) (slice_get changes index))
+
+-- a change of a tag: the tag's name, and where it is some widget's `sel`, that widget's
+abbrev pub tag_name : TagChange → List ℕ
+tag_name change = if change.key.selects then sel else change.key.name
+
+abbrev pub tag_widget : TagChange → List ℕ
+tag_widget change = if change.key.selects then change.key.name else []
+
+-- where it begins and ends, and whether the tag is put on there
+abbrev pub tag_span : TagChange → ℕ × ℕ × Bool
+tag_span change = (change.from, change.to, change.on)
+
+-- the bytes of its names; nothing where there is none
+abbrev pub tag_told : List TagChange → ℕ → List ℕ
+tag_told tags index = bytes_of (option_map tag_name (slice_get tags index))
+
+abbrev pub widget_told : List TagChange → ℕ → List ℕ
+widget_told tags index = bytes_of (option_map tag_widget (slice_get tags index))
+
+abbrev pub span_in : Option TagChange → ℕ × ℕ × Bool
+span_in None = (0, 0, false)
+span_in (Some change) = tag_span change
+
+abbrev pub span_told : List TagChange → ℕ → ℕ × ℕ × Bool
+span_told tags index = span_in (slice_get tags index)
+
+-- the bytes of the name of one of the marks
+abbrev pub mark_told : List (List ℕ) → ℕ → List ℕ
+mark_told marks index = bytes_of (slice_get marks index)

@@ -1,0 +1,163 @@
+//! What a command that reports changed, as a value of its own, and what C reads of it.
+ghost use Rattle.std.specs.Prelude.{◌≡◌, chars, length, min};
+ghost use Rattle.handles.specs.Room.{over};
+ghost use Rattle.handles.specs.State.{nothing_told, telling_of};
+ghost use Rattle.handles.specs.Told.{mark_told, place_told, span_told, spot_of, spot_told, tag_name, tag_told};
+ghost use Rattle.handles.specs.Told.{tag_widget, text_told, widget_told};
+
+use crate::room::copy_whole;
+use peers::{EditTold, MovedMarks, Spot, TagChange, TextChange};
+use std::alloc::Global;
+
+/// The changes of a text and of its tags, and the names of the marks that moved.
+#[derive(Drop)]
+pub struct Report {
+    pub(crate) edit: EditTold,
+    pub(crate) marks: MovedMarks,
+}
+
+impl Report {
+    /// A report of no change. It allocates nothing.
+    pub(crate) fn nothing(alloc: Global) -> Report
+        ensures { telling_of result ≡ nothing_told }
+    {
+        Report {
+            edit: EditTold::nothing(alloc),
+            marks: MovedMarks::new(alloc),
+        }
+    }
+
+    /// How many changes of the text there are.
+    pub(crate) fn count_changes(&self) -> usize
+        ensures { result ≡ length (telling_of self.now).changes }
+    {
+        self.edit.changes.as_slice().len()
+    }
+
+    /// The offset of a change, and how many characters it deleted; 0 if there is no such change.
+    pub(crate) fn change_place(&self, index: usize) -> (usize, usize)
+        ensures { result ≡ place_told (telling_of self.now).changes index }
+    {
+        match self.edit.changes.as_slice().get(index) {
+            None => (0, 0),
+            Some(change) => (change.at, change.removed),
+        }
+    }
+
+    /// Copies the prefix of a change's inserted text that fits into the buffer, and returns the text's length.
+    pub(crate) fn copy_inserted(&self, index: usize, room: &mut [u8]) -> usize
+        ensures length { result ≡ min (length (text_told (telling_of self.now).changes index)) usize.MAX }
+        ensures copied { room.new ≡ over (text_told (telling_of self.now).changes index) room.old }
+    {
+        match self.edit.changes.as_slice().get(index) {
+            None => 0,
+            Some(change) => copy_whole(change.inserted.as_str(), room),
+        }
+    }
+
+    /// One of the ends of a change: its start (0), the end of what it deleted in the text before it (1), or the end of
+    /// what it inserted in the text after it (2 and above); zeros if there is no such change.
+    pub(crate) fn change_spot(&self, index: usize, end: usize) -> Spot
+        ensures { result ≡ spot_told (telling_of self.now).changes index end }
+    {
+        match self.edit.changes.as_slice().get(index) {
+            None => Spot {
+                line: 0,
+                column: 0,
+                bytes: 0,
+                units: 0,
+            },
+            Some(change) => spot_of(change, end),
+        }
+    }
+
+    /// How many changes of tags there are.
+    pub(crate) fn count_tags(&self) -> usize
+        ensures { result ≡ length (telling_of self.now).tags }
+    {
+        self.edit.tags.as_slice().len()
+    }
+
+    /// Copies the prefix of the name of a tag change's tag that fits into the buffer, and returns the name's length.
+    pub(crate) fn copy_tag(&self, index: usize, room: &mut [u8]) -> usize
+        ensures length { result ≡ min (length (tag_told (telling_of self.now).tags index)) usize.MAX }
+        ensures copied { room.new ≡ over (tag_told (telling_of self.now).tags index) room.old }
+    {
+        match self.edit.tags.as_slice().get(index) {
+            None => 0,
+            Some(change) => copy_whole(tag_name(change), room),
+        }
+    }
+
+    /// Copies the name of the widget whose `sel` the tag is in the same way; nothing for any other tag.
+    pub(crate) fn copy_tag_widget(&self, index: usize, room: &mut [u8]) -> usize
+        ensures length { result ≡ min (length (widget_told (telling_of self.now).tags index)) usize.MAX }
+        ensures copied { room.new ≡ over (widget_told (telling_of self.now).tags index) room.old }
+    {
+        match self.edit.tags.as_slice().get(index) {
+            None => 0,
+            Some(change) => copy_whole(tag_widget(change), room),
+        }
+    }
+
+    /// Where a tag change starts and ends, and whether it adds the tag; zeros if there is no such change.
+    pub(crate) fn tag_span(&self, index: usize) -> (usize, usize, bool)
+        ensures { result ≡ span_told (telling_of self.now).tags index }
+    {
+        match self.edit.tags.as_slice().get(index) {
+            None => (0, 0, false),
+            Some(change) => (change.from, change.to, change.on),
+        }
+    }
+
+    /// How many marks moved.
+    pub(crate) fn count_marks(&self) -> usize
+        ensures { result ≡ length (telling_of self.now).marks }
+    {
+        self.marks.as_slice().len()
+    }
+
+    /// Copies the prefix of a moved mark's name that fits into the buffer, and returns the name's length.
+    pub(crate) fn copy_mark(&self, index: usize, room: &mut [u8]) -> usize
+        ensures length { result ≡ min (length (mark_told (telling_of self.now).marks index)) usize.MAX }
+        ensures copied { room.new ≡ over (mark_told (telling_of self.now).marks index) room.old }
+    {
+        match self.marks.as_slice().get(index) {
+            None => 0,
+            Some(name) => copy_whole(name.as_str(), room),
+        }
+    }
+}
+
+/// One of the ends of a change, by its number.
+fn spot_of(change: &TextChange, end: usize) -> Spot
+    ensures { result ≡ spot_of change.now end }
+{
+    match end {
+        0 => change.start,
+        1 => change.old_end,
+        _ => change.new_end,
+    }
+}
+
+/// The name of the tag of a change.
+fn tag_name(change: &TagChange) -> &str
+    ensures { chars result.now ≡ tag_name change.now }
+{
+    if change.key.selects {
+        "sel"
+    } else {
+        change.key.name.as_str()
+    }
+}
+
+/// The name of the widget whose `sel` the tag of a change is; empty for any other tag.
+fn tag_widget(change: &TagChange) -> &str
+    ensures { chars result.now ≡ tag_widget change.now }
+{
+    if change.key.selects {
+        change.key.name.as_str()
+    } else {
+        ""
+    }
+}

@@ -1,8 +1,0 @@
-use Rattle.tktext_c.proofs.Common.{Bool, ap, sym, if◌then◌else◌}
-use Rattle.std.specs.Str.{chars}
-use Rattle.documents.specs.Documents.{sel}
-use Rattle.tktext_c.proofs.report.tag_name.Goals as goal
-
-pub returns-then-change : goal.returns-then-change
-unfolding chars
-returns-then-change c = ap (λ (b : Bool). if b then sel else c.args.change.now.key.name) (sym c.if-change.true)

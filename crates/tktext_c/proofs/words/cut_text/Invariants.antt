@@ -1,7 +1,0 @@
-use Rattle.tktext_c.proofs.Common.{drop, IsUtf8, texts_of}
-use Rattle.tktext_c.proofs.WordLaws.{Reading}
-use Rattle.tktext_c.proofs.words.cut_text.Given as goal
-
-abbrev pub invariant-loop-length : goal.invariant-loop-length
-invariant-loop-length l = IsUtf8 l.rest
-    × Reading l.lengths l.text (drop l.length-index l.lengths) l.rest (texts_of l.words.items)
