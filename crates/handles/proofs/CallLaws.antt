@@ -1,8 +1,7 @@
 -- What a handle's session does, seen from the handle; and a command of a script that is carried out.
 use Rattle.handles.proofs.Common.{◌≡◌, ℕ, List, Option, Some, refl, sym, subst, ap, ◌∙◌, Unread, TakesCommand, Session}
-use Rattle.handles.proofs.Common.{Given, TurnEnd, CallEnd, Gives, Called, Calls, Fed, Feeds, Turns, Takes}
-use Rattle.handles.proofs.Common.{status_after, State, state_of, CalledTold, CallsTold, TurnsTold, TakesTold}
-use Rattle.handles.proofs.Common.{option_map}
+use Rattle.handles.proofs.Common.{Given, TurnEnd, CallEnd, Gives, Called, Calls, Fed, Feeds, Turns, Takes, status_after}
+use Rattle.handles.proofs.Common.{State, state_of, CalledTold, CallsTold, TurnsTold, TakesTold, option_map}
 use Rattle.handles.specs.declared.ends.FeedEnd.{FeedEnd}
 use Rattle.handles.specs.declared.ends.Given.TheVariants as given
 use Rattle.handles.specs.declared.ends.TurnEnd.TheVariants as turn

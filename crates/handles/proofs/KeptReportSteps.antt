@@ -1,5 +1,5 @@
 -- The machine values of a `KeptReport`. Assumes `Logic`.
-use Rattle.handles.proofs.Common.{◌≡◌, Option, List, [], ◌∷◌, ◌++◌, refl, subst}
+use Rattle.handles.proofs.Common.{◌≡◌, Option, List, [], ◌∷◌, ◌++◌, refl, subst, held_value}
 use Rattle.handles.proofs.KeptSteps.{word}
 use Rattle.handles.specs.declared.report.Report.{Report}
 use seplogic.Ra.Ura.{Ura}
@@ -12,7 +12,6 @@ use denote.RawPtr.{Ptr, ptr_val}
 use denote.Steps.{nothing}
 use denote.Struct.Struct.{within}
 use denote.Struct.Owning.{shape}
-use Rattle.handles.specs.Held.{held_value}
 use Rattle.handles.specs.contracts.report.Report as report
 use Rattle.handles.specs.contracts.report_handle.KeptReport as kept
 

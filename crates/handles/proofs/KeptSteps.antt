@@ -1,6 +1,6 @@
 -- The machine values of a `Kept`. Assumes `Logic`.
-use Rattle.handles.proofs.Common.{◌≡◌, ℕ, Option, Some, None, List, [], ◌∷◌, ◌++◌, refl, sym, subst, true≢false}
-use Rattle.handles.proofs.Common.{IsSome, box_owns, Session}
+use Rattle.handles.proofs.Common.{◌≡◌, ℕ, Option, Some, None, List, [], ◌∷◌, ◌++◌, refl, sym, subst, true≢false, IsSome}
+use Rattle.handles.proofs.Common.{box_owns, Session, frees, held_value}
 use seplogic.Ra.Ura.{Ura}
 use mir.Raw.{raw as bare}
 use mir.Val.{Val, vstruct, vcons, vnil, of_list}
@@ -14,7 +14,6 @@ use denote.RawPtr.{Ptr, block_ptr, null_ptr, ptr_val, in_a_block}
 use denote.Steps.{nothing}
 use denote.Struct.Struct.{within}
 use denote.Struct.Owning.{shape}
-use Rattle.handles.specs.Held.{frees, held_value}
 use Rattle.handles.specs.contracts.session.Session as session
 use Rattle.handles.specs.contracts.handle.Kept as kept
 

@@ -1,9 +1,9 @@
 -- What a command makes of a session, where it tells and where it doesn't.
-use Rattle.handles.proofs.Common.{◌≡◌, ◌≢◌, Bool, true, false, ◌⊎◌, inl, inr, List, ℕ, refl, sym, subst, ap}
-use Rattle.handles.proofs.Common.{true≢false, Ok, Result, is_ok, is_err, encode_utf8_all, if◌then◌else◌, Unread}
-use Rattle.handles.proofs.Common.{TakesCommand, StopsAt, HasNoCommand, Given, TurnEnd, CallEnd, Gives, Called, Turns}
-use Rattle.handles.proofs.Common.{given_of, status_after, State, Telling, memory_said, said_text, untold, GivesTold}
-use Rattle.handles.proofs.Common.{CalledTold, IsTold, TurnsTold, cut, words_at, AreLengths, AreTexts, [], None, Err}
+use Rattle.handles.proofs.Common.{◌≡◌, ◌≢◌, Bool, true, false, ◌⊎◌, inl, inr, List, ℕ, refl, sym, subst, ap, true≢false}
+use Rattle.handles.proofs.Common.{Ok, Result, is_ok, is_err, encode_utf8_all, if◌then◌else◌, Unread, TakesCommand}
+use Rattle.handles.proofs.Common.{StopsAt, HasNoCommand, Given, TurnEnd, CallEnd, Gives, Called, Turns, given_of}
+use Rattle.handles.proofs.Common.{status_after, State, Telling, memory_said, said_text, untold, GivesTold, CalledTold}
+use Rattle.handles.proofs.Common.{IsTold, TurnsTold, cut, words_at, AreLengths, AreTexts, [], None, Err}
 use Rattle.tcl_words.specs.declared.fault.ScriptFault.{ScriptFault}
 use Rattle.command_effects.specs.declared.answers.Answer.{Answer}
 use Rattle.command_effects.specs.declared.answers.Fault.{Fault}

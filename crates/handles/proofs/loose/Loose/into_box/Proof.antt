@@ -1,6 +1,6 @@
 -- `into_box` makes the box again.
-use Rattle.handles.proofs.Common.{◌≡◌, List, [], ◌∷◌, ◌++◌, refl, sym, ap, subst, Goes-blank, fm, Good, box_out}
-use Rattle.handles.proofs.Common.{box_in, proved_at, leaves}
+use Rattle.handles.proofs.Common.{◌≡◌, List, [], ◌∷◌, ◌++◌, refl, sym, ap, subst, Goes-blank, fm, Good, box_out, box_in}
+use Rattle.handles.proofs.Common.{proved_at, leaves}
 use mir.Syntax.{a_type, dcons, dnil}
 use mir.Val.{Val, vptr}
 use mir.MapTy.{inst_fn}

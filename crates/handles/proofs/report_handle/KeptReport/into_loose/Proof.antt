@@ -1,6 +1,6 @@
 -- `into_loose` gives the pointer back with what it owns.
-use Rattle.handles.proofs.Common.{◌≡◌, Some, List, [], ◌∷◌, ◌++◌, refl, sym, subst, Goes-blank, handle_tells}
-use Rattle.handles.proofs.Common.{proved_at, leaves, IsSome}
+use Rattle.handles.proofs.Common.{◌≡◌, Some, List, [], ◌∷◌, ◌++◌, refl, sym, subst, Goes-blank, handle_tells, proved_at}
+use Rattle.handles.proofs.Common.{leaves, IsSome}
 use mir.Val.{Val, vptr}
 use base.Logic.{SProp, ent, emp, id⊢}
 use prog.Wp.{WpFn}
