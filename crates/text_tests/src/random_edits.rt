@@ -112,7 +112,7 @@ fn check_all<S: TextStore>(rt: &impl Abort, pair: &Pair<S>) {
 /// Compares what both stores answer at a few offsets, also after the end.
 fn check_some<S: TextStore>(rt: &impl Abort, pair: &Pair<S>, numbers: &mut Numbers) {
     let end = pair.plain.len().saturating_add(2);
-    for _ in 0..12 {
+    for _ in 0..4 {
         check_at(rt, pair, numbers.below(end.max(1)));
     }
 }
@@ -141,6 +141,7 @@ fn make_random<S: TextStore>(
         make_both(rt, pair, &edit)?;
         check_some(rt, pair, numbers);
     }
+    check_all(rt, pair);
     Ok(())
 }
 
