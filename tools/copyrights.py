@@ -13,8 +13,8 @@ import re
 import sys
 
 import build
-import install
 import unproved
+import version
 
 LICENCES = ("LICENSE*", "LICENCE*", "COPYING*")
 HEAD = """tktext {version}, made from the repository Riavolth
@@ -69,12 +69,12 @@ def kit_licences():
     return texts
 
 
-def text(version):
+def text(number):
     """What a release says of its licences."""
     own = files_of(build.TOP)
     texts = kit_licences()
     names = sorted({name for users in texts.values() for name in users})
-    parts = [HEAD.format(version=version, own="\n".join(map(text_of, own)) or NONE), KIT.format(names=", ".join(names))]
+    parts = [HEAD.format(version=number, own="\n".join(map(text_of, own)) or NONE), KIT.format(names=", ".join(names))]
     for (name, said), users in texts.items():
         title = f"{name} of {', '.join(users)}"
         parts.append(PART.format(title=title, line="-" * len(title), text=said))
@@ -85,7 +85,7 @@ def main(words):
     if words:
         print(__doc__)
         return 2
-    print(text(install.version()), end="")
+    print(text(version.text()), end="")
     return 0
 
 

@@ -29,6 +29,7 @@ import copyrights
 import gate
 import install
 import python_wheel
+import version
 
 TOP = install.TOP
 NOTE = os.path.join("share", "doc", "tktext", "PROVED")
@@ -98,7 +99,7 @@ def what_is_proved(root, is_tried):
     """The text of PROVED over what stands below a root."""
     commit = gate.commit()
     head = WHAT.format(
-        version=install.version(), proved=proved_words(is_tried), commit=commit,
+        version=version.text(), proved=proved_words(is_tried), commit=commit,
         toolchain=said(["rt", "version"], "unknown"), gate=gate.last_line_of(commit) or "not run on this commit here",
     )
     return head + checksums(root, files_below(root))
@@ -113,7 +114,7 @@ def stage(root, prefix, is_tried):
     missing = install.install(root, prefix, is_tried)
     if missing:
         sys.exit(f"not built: {' '.join(missing)}")
-    write(root, LICENCE, copyrights.text(install.version()))
+    write(root, LICENCE, copyrights.text(version.text()))
     write(root, NOTE, what_is_proved(root, is_tried))
 
 
@@ -133,28 +134,28 @@ def pack(folder, name, out):
 
 
 def make_tarball(folder, out, is_tried):
-    name = f"tktext-{install.version()}-{platform.machine()}"
+    name = f"tktext-{version.text()}-{platform.machine()}"
     stage(os.path.join(folder, name), MOVABLE, is_tried)
     return pack(folder, name, out)
 
 
 def make_wheel(folder, out, is_tried):
     """The wheel for Python, with the library in its extension."""
-    root, version = os.path.join(folder, "wheel"), install.version()
+    root, number = os.path.join(folder, "wheel"), version.text()
     build_python.build(root, os.path.join(TOP, os.path.dirname(install.library(is_tried)), "libtktext.a"))
     extension = os.path.join(root, "tktext", build_python.EXTENSION)
     notes = {
-        "METADATA": python_wheel.metadata(version, install.UNPROVED if is_tried else ""),
-        "PROVED": what_is_proved(root, is_tried), "COPYRIGHT": copyrights.text(version),
+        "METADATA": python_wheel.metadata(number, install.UNPROVED if is_tried else ""),
+        "PROVED": what_is_proved(root, is_tried), "COPYRIGHT": copyrights.text(number),
     }
-    return python_wheel.make(root, extension, notes, version, int(seconds_of_commit()), out)
+    return python_wheel.make(root, extension, notes, number, int(seconds_of_commit()), out)
 
 
 def write_control(package, machine, is_tried):
     """The files by which Debian knows a package."""
     size = sum(os.path.getsize(os.path.join(package, place)) for place in files_below(package)) // 1024 + 1
     control = CONTROL.format(
-        version=install.version(), machine=machine, size=size, note=f"/usr/{NOTE}",
+        version=version.for_debian(), machine=machine, size=size, note=f"/usr/{NOTE}",
         maintainer=said(["git", "log", "-1", "--format=%an <%ae>"], "unknown <unknown>"),
         proved="Not proved" if is_tried else "Proved",
     )
@@ -169,7 +170,7 @@ def make_package(folder, out, is_tried):
     machine = said(["dpkg", "--print-architecture"], "amd64")
     stage(os.path.join(package, "usr"), "/usr", is_tried)
     write_control(package, machine, is_tried)
-    path = os.path.join(out, f"tktext_{install.version()}_{machine}.deb")
+    path = os.path.join(out, f"tktext_{version.for_debian()}_{machine}.deb")
     words = ["dpkg-deb", "--root-owner-group", "--build", package, path]
     environment = {**os.environ, "SOURCE_DATE_EPOCH": seconds_of_commit()}
     subprocess.run(words, check=True, stdout=subprocess.DEVNULL, env=environment)

@@ -12,13 +12,13 @@ into out/.
 
 import argparse
 import os
-import re
 import shutil
 import subprocess
 import sys
 from typing import NamedTuple
 
 import examples
+import version
 from build_library import SONAME
 
 TOP = os.path.dirname(os.path.dirname(os.path.abspath(__file__)))
@@ -46,14 +46,8 @@ class Item(NamedTuple):
     mode: int = 0o644
 
 
-def version():
-    """The version that the Tcl package has."""
-    with open(os.path.join(TOP, "tcl", "pkgIndex.tcl"), encoding="utf-8") as file:
-        return re.search(r"package ifneeded tktext ([\d.]+)", file.read())[1]
-
-
 def tcl_folder():
-    return os.path.join("lib", "tcltk", f"tktext{version()}")
+    return os.path.join("lib", "tcltk", f"tktext{version.for_tcl()}")
 
 
 def library(is_tried):
@@ -96,7 +90,7 @@ def write_text(path, text):
 
 def description(prefix, is_tried):
     """What pkg-config reads."""
-    return PKG_CONFIG.format(prefix=prefix, version=version(), note=UNPROVED if is_tried else "")
+    return PKG_CONFIG.format(prefix=prefix, version=version.text(), note=UNPROVED if is_tried else "")
 
 
 def install(root, prefix, is_tried):

@@ -18,6 +18,7 @@ import sys
 import tempfile
 import time
 
+import version
 from harness import TIMEOUT_SECONDS, Tally
 
 TOP = os.path.dirname(os.path.dirname(os.path.abspath(__file__)))
@@ -84,7 +85,9 @@ def check_runs(module, home, tally):
     done = subprocess.run([*WORDS, "--help"], capture_output=True, env=environment(module, home))
     tally.check(done.returncode == 0 and b"--json" in done.stdout, f"--help: {done}")
     done = subprocess.run([*WORDS, "--version"], capture_output=True, env=environment(module, home))
-    tally.check(re.fullmatch(rb"tktext 1\.0 \(library 1\.0, (not )?proved\)\n", done.stdout), f"--version: {done}")
+    own = re.escape(version.text()).encode()
+    shown = re.fullmatch(rb"tktext %s \(library %s, (not )?proved\)\n" % (own, own), done.stdout)
+    tally.check(shown, f"--version: {done}")
     with open("/dev/full", "wb") as full:
         at = environment(module, home)
         done = subprocess.run(WORDS, input=SCRIPT, stdout=full, stderr=subprocess.PIPE, env=at)

@@ -1,6 +1,6 @@
 """The core of Tk's text widget without a display.
 
-`Text` has the methods of tkinter's `Text` that docs/use.md of its repository lists, by the same names and with the same
+`Text` has the methods of tkinter's `Text` that docs/guide/python.md of its repository lists, by the same names and with the same
 arguments, so code that calls these runs on it.
 
     from tktext import END, Text
@@ -39,9 +39,9 @@ _core.use(word, error_of_fault, make_content, MethodType)
 from ._text import Text  # noqa: E402  (after what `_core` uses)
 from ._world import World  # noqa: E402
 
-__version__ = "1.0"
-# What the library says of itself: its version, and whether it was proved.
+# The version of the library, and whether it was proved: "2.0.0, proved" or "2.0.0, not proved".
 library_version = _core.version
+__version__ = library_version.partition(",")[0]
 
 END = "end"
 INSERT = "insert"
