@@ -59,8 +59,8 @@ def blocks_of(page):
             lines.append(line)
         elif line.startswith(FENCE):
             is_shell, lines = line == FENCE + "sh", []
-        elif line.startswith("## "):
-            section = line[3:]
+        elif line.startswith(("## ", "### ")):
+            section = line.lstrip("# ")
 
 
 def examples_of(section, lines, prompt):
