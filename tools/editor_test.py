@@ -6,7 +6,7 @@
 MODULE is the folder of the Python package that the editor stands on.  The keys and the screens are in
 tools/editor.screens; with `--show` each screen is printed as it is.  Screens are those of tmux: where it isn't there
 a line says that they are skipped, and what needs no screen is tried in a pseudo-terminal alone: replacing, locks,
-saves, faults of the disk, kills and signals, and how long 20 MB take.  With `--measure` the figures of docs/use.md are
+saves, faults of the disk, kills and signals, and how long 20 MB take.  With `--measure` the figures of docs/guide/editor.md are
 taken, and no more is done.
 Ends in a line `N passed, M failed`; the exit status is 1 if anything failed.
 

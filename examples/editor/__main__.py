@@ -6,7 +6,7 @@ import sys
 try:
     from editor import Editor
 except ImportError as error:
-    sys.exit(f"{error}: `pip install .` installs the package (docs/use.md, The editor)")
+    sys.exit(f"{error}: install the package with `pip install .` (docs/guide/editor.md)")
 
 if len(sys.argv) != 2 or not os.isatty(0) or not os.isatty(1):
     sys.exit(__doc__)
