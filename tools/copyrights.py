@@ -30,7 +30,7 @@ KIT = """
 Compiled into it
 ----------------
 
-Libraries of the Rattle kit, each by its own licence, which stands below:
+Libraries of the Rattle kit, each by its own licence, which follows:
 {names}.
 Its standard library too, of which the kit has no file that says a licence.
 """
@@ -48,7 +48,7 @@ def text_of(path):
 
 
 def kit_libraries():
-    """The libraries of the kit that the crates name which stand in the program and in the library."""
+    """The libraries of the kit that the crates of the program and the library name."""
     crates = build.read_crates(os.path.join(build.TOP, "crates.txt"))
     packed = {name for top in ("tktext", "tktext_c") for name in build.crates_below(crates, top) | {top}}
     named = set()

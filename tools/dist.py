@@ -11,7 +11,7 @@
 
 Each has a file PROVED, which says what was proved: the commit, the toolchain, the last line of the gate where it was
 run on that commit, and the checksum of each file; and one that says by which licences it may be copied.  With `--try`
-they are made of what isn't proved, and say so.  Made twice of one commit and one build they are the same bytes; so the
+they contain the unproved builds, and say so.  Made twice of one commit and one build they are the same bytes; so the
 wheel is put together here (tools/python_wheel.py), and not by setuptools, whichever version of it is installed.
 """
 
@@ -44,7 +44,7 @@ Commit: {commit}
 Toolchain: {toolchain}
 The gate: {gate}
 
-What is proved, what is only tested and what is trusted stands in docs/theorems.md of that commit.
+docs/theorems.md of that commit lists what is proved, only tested, and trusted.
 `git checkout COMMIT && make test` proves it again; docs/release.md says more.
 
 SHA-256 of each file:
@@ -59,8 +59,8 @@ Depends: libc6
 Suggests: tcl8.6
 Installed-Size: {size}
 Description: editing core of the Tk text widget
- A program that reads a script of Tk's text widget and answers each command, the
- same as a library for C, and a package for Tcl. No display is needed.
+ A program that runs scripts of Tk's text widget, the same core as a library for
+ C, and a package for Tcl. No display is needed.
  .
  {proved}; {note} says which commit, and by which toolchain.
 """
@@ -81,7 +81,7 @@ def digest(path):
 
 
 def files_below(folder):
-    """The places of all files and links below a folder, in order."""
+    """The paths of all files and links below a folder, in order."""
     places = [os.path.relpath(os.path.join(at, name), folder) for at, _, names in os.walk(folder) for name in names]
     return sorted(places)
 
@@ -96,7 +96,7 @@ def proved_words(is_tried):
 
 
 def what_is_proved(root, is_tried):
-    """The text of PROVED over what stands below a root."""
+    """The text of PROVED for the files below a root."""
     commit = gate.commit()
     head = WHAT.format(
         version=version.text(), proved=proved_words(is_tried), commit=commit,
@@ -113,7 +113,7 @@ def stage(root, prefix, is_tried):
     """Puts everything below a root, and what is proved of it; ends where something isn't built."""
     missing = install.install(root, prefix, is_tried)
     if missing:
-        sys.exit(f"not built: {' '.join(missing)}")
+        sys.exit(f"make dist: not built: {' '.join(missing)}")
     write(root, LICENCE, copyrights.text(version.text()))
     write(root, NOTE, what_is_proved(root, is_tried))
 
@@ -178,7 +178,7 @@ def make_package(folder, out, is_tried):
 
 
 def make(out, is_tried):
-    """Makes a release in a folder.  Gives the files."""
+    """Makes a release in a folder, and returns its files."""
     os.makedirs(out, exist_ok=True)
     makers = [make_tarball] + [make_wheel] * build_python.can_build()
     makers += [make_package] * (shutil.which("dpkg-deb") is not None)
@@ -198,11 +198,11 @@ def main():
     made = make(os.path.abspath(options.out), options.is_tried)
     print(*made, sep="\n")
     if not made[-1].endswith(".deb"):
-        print("no Debian package is made: it wants dpkg-deb", file=sys.stderr)
+        print("make dist: no Debian package: it needs dpkg-deb", file=sys.stderr)
     if not build_python.can_build():
-        print(f"no wheel is made: it wants {build_python.WANTED}", file=sys.stderr)
+        print(f"make dist: no wheel: it needs {build_python.WANTED}", file=sys.stderr)
     if options.is_tried:
-        print("what was packed is NOT PROVED", file=sys.stderr)
+        print("make dist: these files are NOT PROVED", file=sys.stderr)
     return 0
 
 

@@ -267,9 +267,9 @@ def check_all(flags, is_tried, folder, tally):
     check_pages(prefix, work, tally)
     tally.check(call_install("--prefix", prefix, *flags), "it is installed once more")
     tally.check(call_install("--prefix", prefix, "--uninstall"), "it is uninstalled")
-    tally.check(not files_below(prefix), f"left behind: {files_below(prefix)}")
+    tally.check(not files_below(prefix), f"not uninstalled: {files_below(prefix)}")
     tally.check(call_install("--prefix", "/usr", "--destdir", root, *flags), "it is installed below a DESTDIR")
-    tally.check(files_below(os.path.join(root, "usr")) == places, "the same files stand below a DESTDIR")
+    tally.check(files_below(os.path.join(root, "usr")) == places, "the same files are below a DESTDIR")
     with open(os.path.join(root, "usr", install.DESCRIPTION), encoding="utf-8") as file:
         tally.check(file.read().startswith("prefix=/usr\n"), "the description doesn't name the DESTDIR")
     check_release(places, is_tried, wanted["examples/peers.py"], folder, tally)

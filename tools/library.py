@@ -179,10 +179,10 @@ def check_instructions(tally):
         return
     for way in ("words", "script"):
         _, status, _ = run([CLIENT, "edits", way, "2"])
-        tally.check(status == 0, f"C, lines put in and taken out by the {way}: status {status}")
+        tally.check(status == 0, f"C, lines inserted and deleted by the {way}: status {status}")
     words, script = instructions("words"), instructions("script")
     said = f"{words} instructions by its words, {script} by a script"
-    print(f"a command of a line put in or taken out: {said}")
+    print(f"a command that inserts or deletes a line: {said}")
     tally.check(words < script, f"a command takes {said}")
 
 

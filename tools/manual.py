@@ -161,7 +161,7 @@ def check_whole(page, examples, tally):
         tally.check(stands_in(words, commands), f"no example has {words!r}")
     answers = "\n".join(example.answer for example in examples)
     for text in FAULTS:
-        tally.check(text in answers, f"no example is answered by {text!r}")
+        tally.check(text in answers, f"no example returns {text!r}")
     for text in NOT_SHOWN:
         tally.check(text in page, f"the page doesn't name {text!r}")
 
