@@ -53,7 +53,7 @@ FIRST ?= 0
 SECONDS ?= 600
 SOURCES = crates.txt $(shell find crates -name '*.rt' -o -name '*.antt' | grep -v /out/)
 # The library's calls that are written in C, and what they are made of.
-IN_C = $(wildcard include/*) tools/forms.py tools/facts.py
+IN_C = $(wildcard include/*) tools/forms.py tools/table.py
 
 help:
 	@sed -n 's/^# \{0,1\}//p; /^$$/q' Makefile

@@ -18,13 +18,14 @@ import glob
 import os
 import re
 import sys
-from typing import NamedTuple, Optional
+from typing import NamedTuple
 
 import build
 import model
 import scripts
 import version
 from harness import Tally
+from table import LITERAL, Command, defined_commands, definitions, text_of
 
 TOP = os.path.dirname(os.path.dirname(os.path.abspath(__file__)))
 MOST_CHARACTERS = 120
@@ -34,7 +35,6 @@ MOST_README_LINES = 130
 MOST_IN_PROOFS = 160
 # A longer line is the output of a program, as it is.
 OUTPUTS = {os.path.join("docs", name) for name in ("tour.md", "performance.svg", "memory.svg")}
-LITERAL = re.compile(r'literal "([^"]*)"')
 # Names that a line brings in from the language of proofs: in a file of code one that begins with `ghost`.
 BROUGHT_IN = {".rt": re.compile(r"^\s*ghost use \S+\.\{(.*)\};$"), ".antt": re.compile(r"^\s*use \S+\.\{(.*)\}$")}
 PASSED_ON = re.compile(r"^pub use \S+\.\{(.*)\}$", re.MULTILINE)
@@ -89,66 +89,6 @@ DOCTEST = re.compile(r"^ *>>> .*(?:\n.*\S.*)*", re.MULTILINE)
 LINK = re.compile(r"\]\(([^)\s]+)\)|^\[\w+\]: (\S+)$", re.MULTILINE)
 # What stands for two or more words at the end of a command's form in docs/model.md.
 COUNTS = {"any number": (0, None), **{f"{count} and more": (count, None) for count in range(1, 4)}}
-
-
-class Command(NamedTuple):
-    """What may stand behind the words of a subcommand: least and greatest number, options, switches."""
-
-    least: int
-    greatest: Optional[int]
-    options: Optional[tuple] = None
-    switches: Optional[tuple] = None
-
-
-def text_of(*names):
-    with open(os.path.join(TOP, *names), encoding="utf-8") as file:
-        return file.read()
-
-
-# ---- the definition of the commands
-
-
-def definitions(page):
-    """The text behind `name =` of each definition."""
-    parts = re.split(r"^(\w+)(?: [\w ]*)? =", page, flags=re.M)
-    return dict(zip(parts[1::2], parts[2::2]))
-
-
-def number_of(word):
-    """A greatest number: `None`, `Some 2` or `2`."""
-    digits = re.search(r"\d+", word)
-    return int(digits[0]) if digits else None
-
-
-def switches_of(found, name):
-    """The names of the switches of a rule, and whether they may be abbreviated."""
-    return tuple(LITERAL.findall(found[name])), "abbreviated = true" in found[name]
-
-
-def record_of(text):
-    """The words and the command of an entry that is written out."""
-    least, greatest = (re.search(rf"{name} = ([^;]*);", text)[1] for name in ("least", "greatest"))
-    options = re.search(r"after = (\d+); valued = (\w+)", text)
-    spelled = tuple(LITERAL.findall(re.search(r"spelling = ([^;]*);", text)[1]))
-    return spelled, Command(int(least), number_of(greatest), (int(options[1]), options[2] == "true"))
-
-
-def entry_of(found, entry):
-    """The words and the command of an entry of the table."""
-    words = tuple(LITERAL.findall(entry))
-    kind, *rest = LITERAL.sub("", entry).replace("(", " ").replace(")", " ").split()
-    if kind not in ("alone", "member", "switched"):
-        return record_of(found[kind])
-    _, *rule, least = rest[: -1 if rest[-2] != "Some" else -2]
-    greatest = number_of(rest[-1])
-    return words, Command(int(least), greatest, None, switches_of(found, rule[0]) if rule else None)
-
-
-def defined_commands():
-    """Each subcommand's words with what may stand behind them."""
-    found = definitions(text_of("crates", "command_table", "specs", "Table.antt"))
-    entries = [entry.strip() for entry in found["table"].split("∷")]
-    return dict(entry_of(found, entry) for entry in entries if entry.split("--")[0].strip() != "[]")
 
 
 # ---- the same elsewhere
@@ -522,6 +462,7 @@ def check_readme(tally):
     """README is short, and has the figures of docs/performance.md and docs/bench.txt."""
     page = text_of("README.md")
     tally.check(page.count("\n") <= MOST_README_LINES, f"README.md has more than {MOST_README_LINES} lines")
+    page = " ".join(page.split())
     words = " ".join(text_of("docs", "performance.md").split())
     part = re.search(r"fewer instructions than Tk's own widget: ([\d.]+ to [\d.]+) of them", words)
     tally.check(part and f"| {part[1]} |" in page, f"README.md hasn't the part of Tk's instructions: {part and part[1]}")

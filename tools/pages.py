@@ -19,6 +19,7 @@ if anything failed.
 
 import argparse
 import glob
+import importlib.util
 import os
 import re
 import shutil
@@ -47,9 +48,7 @@ ELSEWHERE = (
     (re.compile(r"cc program\.c .*-o program"), "tools/install_test.py"),
     (re.compile(r"tclsh8\.6 program\.tcl"), "tools/install_test.py"),
     (re.compile(r"man (3 )?tktext"), "tools/install_test.py"),
-    (re.compile(r"git clone \S+ && cd \S+"), "none"),
-    (re.compile(r"rt version"), "none"),
-    (re.compile(r"sudo dpkg -i \S+|tar xzf \S+|sha256sum -c SHA256SUMS|pip install \S+\.whl"), "docs/release.md"),
+    (re.compile(r"rt version"), "tools/gate.py"),
 )
 
 
@@ -164,12 +163,16 @@ class Runner:
         return self.run(["sh", "-c", command], folder)
 
 
-def can_run(language):
+def can_run(language, source):
+    """Whether the packages that an example needs are installed."""
     if language == "c":
         return shutil.which("cc") is not None
-    if language == "python":
-        return build_python.can_build()
-    return examples.has_tcl() if language == "tcl" else True
+    if language == "tcl":
+        return examples.has_tcl()
+    needs_tkinter = language == "python" and "import tkinter" in source
+    needs_package = language == "python" or "python3 -m tktext" in source
+    has_tkinter = importlib.util.find_spec("_tkinter") is not None
+    return (has_tkinter or not needs_tkinter) and (build_python.can_build() or not needs_package)
 
 
 # ---- checking
@@ -188,8 +191,8 @@ def compare(block, given, tally, updates):
 
 def check_programs(runner, language, blocks, tally, updates):
     """The blocks of one language of a section."""
-    if not can_run(language):
-        print(f"skipped: {blocks[0].page}:{blocks[0].line}: the examples in {language} need packages that aren't here")
+    if not can_run(language, "\n".join(sum((block.lines for block in blocks), []))):
+        print(f"skipped: {blocks[0].page}:{blocks[0].line}: packages are missing for the examples in {language}")
         return
     run = {"python": runner.python, "tcl": runner.tcl, "c": runner.c}[language]
     for block, given in zip(blocks, run(["\n".join(block.lines) for block in blocks])):
@@ -228,6 +231,9 @@ def check_shell(runner, block, folder, tally, updates):
     if not any(line.startswith("$ ") for line in block.lines):
         for line in filter(None, block.lines):
             check_command(block, line, tally)
+        return
+    if not can_run(block.language, "\n".join(block.lines)):
+        print(f"skipped: {block.page}:{block.line}: packages are missing for the examples")
         return
     check_lines(block, shell_lines(runner, block, folder), tally, updates)
 
