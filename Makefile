@@ -14,7 +14,8 @@
 # make uninstall  takes them away again
 # make dist    a release in out/dist: a tarball and a Debian package of what `make install` puts down, and a wheel for
 #              Python, each with what was proved (docs/release.md); TRY=1 makes one of what isn't
-# make test    the gate, and then the checks that the gate can't do; the last line counts them
+# make check   builds the unproved program and library and runs their tests, in five minutes on two cores; proves nothing
+# make test    proves everything, and then runs the checks that a proof can't do; the last line counts them
 # make fuzz    the program against the plain model on random scripts: SEEDS=300 of them, FIRST=0 on
 # make fuzz-library  random calls of the library under sanitizers, for SECONDS=600, from the seed FIRST=0 on
 # make tk      the program against real Tk, where that is installed: the rows of docs/differences.md, the grammar of an
@@ -49,7 +50,7 @@ FIRST ?= 0
 SECONDS ?= 600
 SOURCES = crates.txt $(shell find crates -name '*.rt' -o -name '*.antt' | grep -v /out/)
 # The library's calls that are written in C, and what they are made of.
-IN_C = $(wildcard include/*) tools/forms.py tools/facts.py
+IN_C = $(wildcard include/*) tools/forms.py tools/table.py
 
 help:
 	@sed -n 's/^# \{0,1\}//p; /^$$/q' Makefile
@@ -147,10 +148,15 @@ test: $(SHIM) $(WEIGH)
 	  'python3 tools/manual.py --program $(PROGRAM)' \
 	  'python3 tools/tk.py --program $(PROGRAM)' \
 	  'python3 tools/library.py --build' \
+	  'python3 tools/pages.py' \
 	  'python3 tools/mirror.py' \
 	  'python3 tools/editor_test.py' \
 	  'python3 tools/install_test.py' \
 	  'python3 tools/fuzz_library.py'
+
+check:
+	@$(MAKE) --no-print-directory -j 2 $(TRIED) $(TRIED_LIBRARY)
+	@python3 tools/check.py
 
 fuzz: $(PROGRAM)
 	python3 tools/fuzz.py --program $(PROGRAM) --seeds $(SEEDS) --first $(FIRST)
@@ -192,5 +198,5 @@ tk: $(PROGRAM)
 	python3 tools/tk.py --program $(PROGRAM) --indices
 	python3 tools/tk.py --program $(PROGRAM) --scripts $(SEEDS) --first $(FIRST)
 
-.PHONY: help try try-lib run build lib python tcl man install uninstall dist examples test fuzz \
+.PHONY: help try try-lib run build lib python tcl man install uninstall dist examples check test fuzz \
   fuzz-library bench bench-python versus orders counts gains gate tk

@@ -15,7 +15,7 @@ const char *tktext_code_text(int32_t code)
         [TKTEXT_END] = "no command of the script is at hand",
         [TKTEXT_NOT_TEXT] = "a word isn't UTF-8",
         [TKTEXT_WRONG_LENGTHS] = "there is no word, or the lengths don't add up to the bytes",
-        [TKTEXT_WRONG_LIMITS] = "no characters, or a limit above its greatest",
+        [TKTEXT_WRONG_LIMITS] = "no characters, or a limit above its maximum",
         [TKTEXT_WRONG_HANDLE] = "the handle is full where a world is made, or else it is empty",
         [TKTEXT_FINISHED] = "the script has ended, so nothing can follow",
     };

@@ -31,7 +31,7 @@ extern "C" {
 #endif
 
 /* The version of this header. */
-#define TKTEXT_VERSION "1.0"
+#define TKTEXT_VERSION "2.0.0.dev0"
 
 /* Where a world is kept: nothing, or one world.  The caller reads `full` alone. */
 struct tktext_kept {
@@ -224,7 +224,7 @@ const char *tktext_code_text(int32_t code);
    alone, and a byte 0 ends it and each word. */
 const char *tktext_hint(size_t count, const char *const words[], const char *fault);
 
-/* The version of the library, and whether it was proved: "1.0, proved" or "1.0, not proved". */
+/* The version of the library, and whether it was proved: "2.0.0, proved" or "2.0.0, not proved". */
 const char *tktext_version(void);
 
 #ifdef __cplusplus

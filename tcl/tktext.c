@@ -1100,5 +1100,5 @@ int DLLEXPORT Tktext_Init(Tcl_Interp *interp)
     Tcl_CreateObjCommand(interp, "tktext::onchange", follow_changes, world, let_go);
     Tcl_CreateObjCommand(interp, "tktext::ontags", follow_tags, world, let_go);
     Tcl_CreateObjCommand(interp, "tktext::onmarks", follow_marks, world, let_go);
-    return Tcl_PkgProvide(interp, "tktext", "1.0");
+    return Tcl_PkgProvide(interp, "tktext", "2.0");
 }

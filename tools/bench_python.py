@@ -85,7 +85,7 @@ def version(module, python):
 
 
 def main():
-    parser = argparse.ArgumentParser(description="times our Text beside tkinter's")
+    parser = argparse.ArgumentParser(description="times our Text and tkinter's")
     parser.add_argument("--module", default=MODULE)
     parser.add_argument("--out")
     parser.add_argument("--python", default=python_probes.PYTHON)

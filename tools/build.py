@@ -1,9 +1,9 @@
 #!/usr/bin/env python3
-"""Proves and builds the program, and tells on standard error how far it is: what `make build` calls.
+"""Proves and builds the program, and reports its progress on standard error: what `make build` calls.
 
     python3 tools/build.py [--crate NAME]
 
-Proves the crates that the program (or another crate) stands on, lowest first, and it last, each over what earlier runs kept.
+Proves the crates below the program (or another crate), lowest first, and it last, each over what earlier runs kept.
 Crates that share no crate below are proved side by side, since the kit's `rt` lets one run at a time work in a folder;
 what is left is proved one crate after the other, each by as many processes as there are cores.  About how long the rest
 takes is reckoned from the table of docs/working.md, scaled by what the first crates took.  What `rt` says is kept in
@@ -49,7 +49,7 @@ def read_crates(path):
 
 
 def crates_below(crates, name):
-    """The crates that one stands on."""
+    """The crates below one."""
     found = set(crates[name])
     for need in crates[name]:
         found |= crates_below(crates, need)
@@ -152,7 +152,7 @@ class Progress:
 
 
 def prove(name, runs, share, progress, log):
-    """Proves one crate, and tells whether it is proved."""
+    """Proves one crate, and returns whether it is proved."""
     progress.start(name)
     began = time.monotonic()
     done = subprocess.run(
@@ -169,12 +169,12 @@ def prove(name, runs, share, progress, log):
     log.write(f"== {name}\n".encode() + said)
     if not is_proved:
         lines = said.decode("utf-8", "replace").splitlines()
-        print(*lines[-SHOWN_LINES:], f"(all of it is in {LOG})", sep="\n", file=sys.stderr)
+        print(*lines[-SHOWN_LINES:], f"(the whole log is in {LOG})", sep="\n", file=sys.stderr)
     return is_proved
 
 
 def prove_all(groups, progress, log):
-    """Proves group after group, and tells whether all are proved."""
+    """Proves group after group, and returns whether all are proved."""
     with ThreadPoolExecutor(CORES) as pool:
         for group in groups:
             share = max(CORES // len(group), 1)
@@ -185,12 +185,12 @@ def prove_all(groups, progress, log):
 
 
 def main():
-    parser = argparse.ArgumentParser(description="proves and builds a program, and tells how far it is")
+    parser = argparse.ArgumentParser(description="proves and builds a program, and reports its progress")
     parser.add_argument("--crate", default="tktext")
     program = parser.parse_args().crate
     groups = plan(read_crates(os.path.join(TOP, "crates.txt")), program)
     progress = Progress([name for group in groups for name in group])
-    progress.say(f"proving {progress.total} crates from what was kept; nothing kept, this takes many minutes")
+    progress.say(f"proving {progress.total} crates; the first time this takes over an hour")
     threading.Thread(target=progress.tell, daemon=True).start()
     os.makedirs(os.path.dirname(LOG), exist_ok=True)
     try:
@@ -199,7 +199,7 @@ def main():
     except KeyboardInterrupt:
         is_proved = False
     except OSError:
-        progress.say("there is no `rt` on the path: this wants the Rattle kit")
+        progress.say("there is no `rt` on the path: install the Rattle kit (docs/install.md)")
         is_proved = False
     return 0 if is_proved else 1
 

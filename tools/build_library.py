@@ -3,11 +3,11 @@
 
     python3 tools/build_library.py
 
-The crate `tktext_c` is proved and built over those that it stands on.  Mostly this is what tools/build.py does: what
+The crate `tktext_c` is proved and built over the crates below it.  Mostly this is what tools/build.py does: what
 has changed since it was proved is proved.  A gate leaves the crates below as it proved them, but without the stamps by
 which `rt` knows them, so that `rt` would prove them all again; there tools/over.py proves and builds the one crate.
 
-libtktext.a is this crate, the kit's few lines of C by which it asks for memory, and those of include/; libtktext.so.1
+libtktext.a is this crate, the kit's few lines of C that allocate memory, and those of include/; libtktext.so.1
 the same, which shows the names of tktext.h alone, and libtktext.so a link to it.
 """
 
@@ -21,6 +21,7 @@ import build
 import forms
 
 CRATE = "tktext_c"
+NEEDED = "install the Rattle kit (`rt` on the path) and a C compiler"
 OUT = os.path.join(build.TOP, "out")
 MADE = os.path.join(build.TOP, "crates", CRATE, "out", f"lib{CRATE}.a")
 # The name by which a program that was linked with the library looks for it; the number grows with what such a program
@@ -63,7 +64,7 @@ def is_of_a_gate(name):
 
 
 def prove():
-    """Proves and builds the crate, and tells whether it is proved."""
+    """Proves and builds the crate, and returns whether it is proved."""
     below = build.crates_below(build.read_crates(os.path.join(build.TOP, "crates.txt")), CRATE)
     tools = os.path.join(build.TOP, "tools")
     if not all(map(is_of_a_gate, below)):
@@ -124,7 +125,7 @@ def main(words):
             unpack(os.path.join(kit, "c", "liblibc_c.a"), folder)
             pack(folder, OUT, "proved")
     except (OSError, subprocess.CalledProcessError) as error:
-        print(f"the library isn't made: {error}; this wants the Rattle kit (`rt`) and a C compiler", file=sys.stderr)
+        print(f"make lib: cannot build the library: {error}: {NEEDED}", file=sys.stderr)
         return 1
     return 0
 

@@ -61,12 +61,12 @@ def build(folder, archive, *flags):
 
 
 def folder_of(out):
-    """Where the package stands that goes with a library below the repository's top."""
+    """The folder of the package that belongs to a library."""
     return os.path.join(TOP, out, "python")
 
 
 def build_in(out):
-    """Makes the package beside a library below the repository's top, and gives where it stands."""
+    """Builds the package next to a library, and returns its folder."""
     build(folder_of(out), os.path.join(TOP, out, "libtktext.a"))
     return folder_of(out)
 
@@ -76,7 +76,7 @@ def main():
     parser.add_argument("--try", action="store_true", dest="is_tried")
     options = parser.parse_args()
     if not can_build():
-        print(f"the Python package isn't built: it wants {WANTED}", file=sys.stderr)
+        print(f"make python: cannot build the Python package: it needs {WANTED}", file=sys.stderr)
         return 1
     print(build_in(os.path.join("out", "try") if options.is_tried else "out"))
     return 0

@@ -13,8 +13,8 @@ import re
 import sys
 
 import build
-import install
 import unproved
+import version
 
 LICENCES = ("LICENSE*", "LICENCE*", "COPYING*")
 HEAD = """tktext {version}, made from the repository Riavolth
@@ -30,7 +30,7 @@ KIT = """
 Compiled into it
 ----------------
 
-Libraries of the Rattle kit, each by its own licence, which stands below:
+Libraries of the Rattle kit, each by its own licence, which follows:
 {names}.
 Its standard library too, of which the kit has no file that says a licence.
 """
@@ -48,7 +48,7 @@ def text_of(path):
 
 
 def kit_libraries():
-    """The libraries of the kit that the crates name which stand in the program and in the library."""
+    """The libraries of the kit that the crates of the program and the library name."""
     crates = build.read_crates(os.path.join(build.TOP, "crates.txt"))
     packed = {name for top in ("tktext", "tktext_c") for name in build.crates_below(crates, top) | {top}}
     named = set()
@@ -69,12 +69,12 @@ def kit_licences():
     return texts
 
 
-def text(version):
+def text(number):
     """What a release says of its licences."""
     own = files_of(build.TOP)
     texts = kit_licences()
     names = sorted({name for users in texts.values() for name in users})
-    parts = [HEAD.format(version=version, own="\n".join(map(text_of, own)) or NONE), KIT.format(names=", ".join(names))]
+    parts = [HEAD.format(version=number, own="\n".join(map(text_of, own)) or NONE), KIT.format(names=", ".join(names))]
     for (name, said), users in texts.items():
         title = f"{name} of {', '.join(users)}"
         parts.append(PART.format(title=title, line="-" * len(title), text=said))
@@ -85,7 +85,7 @@ def main(words):
     if words:
         print(__doc__)
         return 2
-    print(text(install.version()), end="")
+    print(text(version.text()), end="")
     return 0
 
 

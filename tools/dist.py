@@ -11,7 +11,7 @@
 
 Each has a file PROVED, which says what was proved: the commit, the toolchain, the last line of the gate where it was
 run on that commit, and the checksum of each file; and one that says by which licences it may be copied.  With `--try`
-they are made of what isn't proved, and say so.  Made twice of one commit and one build they are the same bytes; so the
+they contain the unproved builds, and say so.  Made twice of one commit and one build they are the same bytes; so the
 wheel is put together here (tools/python_wheel.py), and not by setuptools, whichever version of it is installed.
 """
 
@@ -29,6 +29,7 @@ import copyrights
 import gate
 import install
 import python_wheel
+import version
 
 TOP = install.TOP
 NOTE = os.path.join("share", "doc", "tktext", "PROVED")
@@ -43,7 +44,7 @@ Commit: {commit}
 Toolchain: {toolchain}
 The gate: {gate}
 
-What is proved, what is only tested and what is trusted stands in docs/theorems.md of that commit.
+docs/theorems.md of that commit lists what is proved, only tested, and trusted.
 `git checkout COMMIT && make test` proves it again; docs/release.md says more.
 
 SHA-256 of each file:
@@ -58,8 +59,8 @@ Depends: libc6
 Suggests: tcl8.6
 Installed-Size: {size}
 Description: editing core of the Tk text widget
- A program that reads a script of Tk's text widget and answers each command, the
- same as a library for C, and a package for Tcl. No display is needed.
+ A program that runs scripts of Tk's text widget, the same core as a library for
+ C, and a package for Tcl. No display is needed.
  .
  {proved}; {note} says which commit, and by which toolchain.
 """
@@ -80,7 +81,7 @@ def digest(path):
 
 
 def files_below(folder):
-    """The places of all files and links below a folder, in order."""
+    """The paths of all files and links below a folder, in order."""
     places = [os.path.relpath(os.path.join(at, name), folder) for at, _, names in os.walk(folder) for name in names]
     return sorted(places)
 
@@ -95,10 +96,10 @@ def proved_words(is_tried):
 
 
 def what_is_proved(root, is_tried):
-    """The text of PROVED over what stands below a root."""
+    """The text of PROVED for the files below a root."""
     commit = gate.commit()
     head = WHAT.format(
-        version=install.version(), proved=proved_words(is_tried), commit=commit,
+        version=version.text(), proved=proved_words(is_tried), commit=commit,
         toolchain=said(["rt", "version"], "unknown"), gate=gate.last_line_of(commit) or "not run on this commit here",
     )
     return head + checksums(root, files_below(root))
@@ -112,8 +113,8 @@ def stage(root, prefix, is_tried):
     """Puts everything below a root, and what is proved of it; ends where something isn't built."""
     missing = install.install(root, prefix, is_tried)
     if missing:
-        sys.exit(f"not built: {' '.join(missing)}")
-    write(root, LICENCE, copyrights.text(install.version()))
+        sys.exit(f"make dist: not built: {' '.join(missing)}")
+    write(root, LICENCE, copyrights.text(version.text()))
     write(root, NOTE, what_is_proved(root, is_tried))
 
 
@@ -133,28 +134,28 @@ def pack(folder, name, out):
 
 
 def make_tarball(folder, out, is_tried):
-    name = f"tktext-{install.version()}-{platform.machine()}"
+    name = f"tktext-{version.text()}-{platform.machine()}"
     stage(os.path.join(folder, name), MOVABLE, is_tried)
     return pack(folder, name, out)
 
 
 def make_wheel(folder, out, is_tried):
     """The wheel for Python, with the library in its extension."""
-    root, version = os.path.join(folder, "wheel"), install.version()
+    root, number = os.path.join(folder, "wheel"), version.text()
     build_python.build(root, os.path.join(TOP, os.path.dirname(install.library(is_tried)), "libtktext.a"))
     extension = os.path.join(root, "tktext", build_python.EXTENSION)
     notes = {
-        "METADATA": python_wheel.metadata(version, install.UNPROVED if is_tried else ""),
-        "PROVED": what_is_proved(root, is_tried), "COPYRIGHT": copyrights.text(version),
+        "METADATA": python_wheel.metadata(number, install.UNPROVED if is_tried else ""),
+        "PROVED": what_is_proved(root, is_tried), "COPYRIGHT": copyrights.text(number),
     }
-    return python_wheel.make(root, extension, notes, version, int(seconds_of_commit()), out)
+    return python_wheel.make(root, extension, notes, number, int(seconds_of_commit()), out)
 
 
 def write_control(package, machine, is_tried):
     """The files by which Debian knows a package."""
     size = sum(os.path.getsize(os.path.join(package, place)) for place in files_below(package)) // 1024 + 1
     control = CONTROL.format(
-        version=install.version(), machine=machine, size=size, note=f"/usr/{NOTE}",
+        version=version.for_debian(), machine=machine, size=size, note=f"/usr/{NOTE}",
         maintainer=said(["git", "log", "-1", "--format=%an <%ae>"], "unknown <unknown>"),
         proved="Not proved" if is_tried else "Proved",
     )
@@ -169,7 +170,7 @@ def make_package(folder, out, is_tried):
     machine = said(["dpkg", "--print-architecture"], "amd64")
     stage(os.path.join(package, "usr"), "/usr", is_tried)
     write_control(package, machine, is_tried)
-    path = os.path.join(out, f"tktext_{install.version()}_{machine}.deb")
+    path = os.path.join(out, f"tktext_{version.for_debian()}_{machine}.deb")
     words = ["dpkg-deb", "--root-owner-group", "--build", package, path]
     environment = {**os.environ, "SOURCE_DATE_EPOCH": seconds_of_commit()}
     subprocess.run(words, check=True, stdout=subprocess.DEVNULL, env=environment)
@@ -177,7 +178,7 @@ def make_package(folder, out, is_tried):
 
 
 def make(out, is_tried):
-    """Makes a release in a folder.  Gives the files."""
+    """Makes a release in a folder, and returns its files."""
     os.makedirs(out, exist_ok=True)
     makers = [make_tarball] + [make_wheel] * build_python.can_build()
     makers += [make_package] * (shutil.which("dpkg-deb") is not None)
@@ -197,11 +198,11 @@ def main():
     made = make(os.path.abspath(options.out), options.is_tried)
     print(*made, sep="\n")
     if not made[-1].endswith(".deb"):
-        print("no Debian package is made: it wants dpkg-deb", file=sys.stderr)
+        print("make dist: no Debian package: it needs dpkg-deb", file=sys.stderr)
     if not build_python.can_build():
-        print(f"no wheel is made: it wants {build_python.WANTED}", file=sys.stderr)
+        print(f"make dist: no wheel: it needs {build_python.WANTED}", file=sys.stderr)
     if options.is_tried:
-        print("what was packed is NOT PROVED", file=sys.stderr)
+        print("make dist: these files are NOT PROVED", file=sys.stderr)
     return 0
 
 

@@ -6,7 +6,7 @@
 MODULE is the folder of the Python package that the editor stands on.  The keys and the screens are in
 tools/editor.screens; with `--show` each screen is printed as it is.  Screens are those of tmux: where it isn't there
 a line says that they are skipped, and what needs no screen is tried in a pseudo-terminal alone: replacing, locks,
-saves, faults of the disk, kills and signals, and how long 20 MB take.  With `--measure` the figures of docs/use.md are
+saves, faults of the disk, kills and signals, and how long 20 MB take.  With `--measure` the figures of docs/guide/editor.md are
 taken, and no more is done.
 Ends in a line `N passed, M failed`; the exit status is 1 if anything failed.
 
@@ -635,7 +635,7 @@ def check_kills(environment, tally):
             editing.send(b"#" + SAVE)
             editing.wait_for(b"saved")
             editing.status, _ = editing.end(LEAVE)
-            tally.check(os.listdir(folder) == [NAME], f"behind a save that was killed are left {os.listdir(folder)}")
+            tally.check(os.listdir(folder) == [NAME], f"after a killed save the folder has {os.listdir(folder)}")
 
 
 def limit_files():
@@ -701,7 +701,7 @@ def check_faults(environment, tally):
         os.mkfifo(os.path.join(folder, "pipe"))
         os.mkdir(os.path.join(folder, "sub"))
         os.symlink("loop", os.path.join(folder, "loop"))
-        refused = {"pipe": "no regular file", "sub": "no regular file", "pipe/x": "Not a directory", "loop": "Too many"}
+        refused = {"pipe": "not a regular file", "sub": "not a regular file", "pipe/x": "Not a directory", "loop": "Too many"}
         for name, editing in {name: Editing(environment, os.path.join(folder, name)) for name in refused}.items():
             status, given = editing.end()
             is_told = refused[name] in given and "Traceback" not in given
@@ -951,14 +951,14 @@ def check_save_as(environment, tally):
         with edited(environment, folder, b"one\r\ntwo\r\n", columns=WIDE) as editing:
             for name, answer in (
                 ("held.py", b"NOT saved: being edited by process %d" % held.pid),
-                ("copied.py", b"NOT saved: unsaved edits of copied.py are in "), ("none/x", b"NOT saved: [Errno 2]"),
-                ("", b"NOT saved: that is no regular file"),
+                ("copied.py", b"NOT saved: unsaved edits of copied.py are in "), ("none/x", b"NOT saved: cannot open '"),
+                ("", b"NOT saved: not a regular file"),
                 ("there.py", b"[o]verwrite there.py?"),
             ):
                 editing.send(SAVE_AS + os.path.join(folder, name).encode() + b"\r")
                 tally.check(editing.wait_for(answer), f"^O {name}: it doesn't say {answer}")
             editing.send(b"\x1b")
-            tally.check(editing.wait_for(b"NOT saved: given up"), "^O: Esc doesn't end it")
+            tally.check(editing.wait_for(b"NOT saved: cancelled"), "^O: Esc doesn't end it")
             tally.check(read(paths["there.py"]) == b"there\n", "^O: a file is overwritten unasked")
             left = sorted(name for name in os.listdir(folder) if name.endswith("lock~"))
             tally.check(left == [".held.py.lock~", LOCK], f"^O that is refused: the locks are {left}")
@@ -1081,9 +1081,9 @@ def check_progress(environment, tally):
     with tempfile.TemporaryDirectory() as folder:
         write(os.path.join(folder, NAME), long_text() * 5)
         editing = Editing(environment, os.path.join(folder, NAME))
-        tally.check(editing.wait_for(b"loading: ", OPENED), "it isn't told how far it is loaded")
+        tally.check(editing.wait_for(b"loading: ", OPENED), "the progress of loading isn't shown")
         editing.send(b"#" + SAVE)
-        tally.check(editing.wait_for(b"saving: ", b"saved"), "it isn't told how far it is saved")
+        tally.check(editing.wait_for(b"saving: ", b"saved"), "the progress of saving isn't shown")
         tally.check(editing.end(LEAVE)[0] == 0, "it doesn't end after a long save")
 
 

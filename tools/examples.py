@@ -22,7 +22,7 @@ TCL_INCLUDE = "/usr/include/tcl8.6"
 
 
 def run(words, **more):
-    """Runs a command at the top of the repository.  Gives what it printed, and its status."""
+    """Runs a command at the top of the repository, and returns its output and status."""
     done = subprocess.run(words, cwd=TOP, stdout=subprocess.PIPE, text=True, env=dict(os.environ, **more))
     return done.stdout, done.returncode
 
@@ -41,7 +41,7 @@ def has_tcl():
 
 
 def build_extension(out):
-    """Makes the Tcl extension of its glue and the library, with the file beside it by which Tcl finds it."""
+    """Makes the Tcl extension of its glue and the library, with the file next to it by which Tcl finds it."""
     words = ["cc", "-O2", "-shared", "-fPIC", "-DUSE_TCL_STUBS", "-Iinclude", "-I" + TCL_INCLUDE, "tcl/tktext.c"]
     # Of the library's names none is seen from outside.
     words += [f"{out}/libtktext.a", "-ltclstub8.6", "-Wl,--exclude-libs,ALL", "-o", f"{out}/tktext.so"]
@@ -65,7 +65,7 @@ EXAMPLES = (
 def build_alone(out):
     """Builds the Tcl extension, or says what it wants."""
     if not has_tcl():
-        print(f"the Tcl package isn't built: it wants {TCL_WANTED}", file=sys.stderr)
+        print(f"make tcl: cannot build the Tcl package: it needs {TCL_WANTED}", file=sys.stderr)
         return 0
     return build_extension(out)[1]
 
@@ -81,7 +81,7 @@ def main():
     for name, can_run, run_it, missing in EXAMPLES:
         print(f"== {name}")
         if not can_run():
-            print(f"not run: it wants {missing}")
+            print(f"not run: it needs {missing}")
             continue
         output, status = run_it(out)
         print(output, end="")

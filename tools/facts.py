@@ -13,25 +13,28 @@ on for proofs of which none does.
 Ends in a line `N passed, M failed`; the exit status is 1 if anything failed.
 """
 
+import ast
 import glob
 import os
 import re
 import sys
-from typing import NamedTuple, Optional
+from typing import NamedTuple
 
 import build
 import model
 import scripts
+import version
 from harness import Tally
+from table import LITERAL, Command, defined_commands, definitions, text_of
 
 TOP = os.path.dirname(os.path.dirname(os.path.abspath(__file__)))
 MOST_CHARACTERS = 120
 MOST_PAGE_LINES = 40
+MOST_README_LINES = 130
 # A line of a proof that `rt fmt` joins again may be longer.
 MOST_IN_PROOFS = 160
 # A longer line is the output of a program, as it is.
 OUTPUTS = {os.path.join("docs", name) for name in ("tour.md", "performance.svg", "memory.svg")}
-LITERAL = re.compile(r'literal "([^"]*)"')
 # Names that a line brings in from the language of proofs: in a file of code one that begins with `ghost`.
 BROUGHT_IN = {".rt": re.compile(r"^\s*ghost use \S+\.\{(.*)\};$"), ".antt": re.compile(r"^\s*use \S+\.\{(.*)\}$")}
 PASSED_ON = re.compile(r"^pub use \S+\.\{(.*)\}$", re.MULTILINE)
@@ -62,68 +65,29 @@ EDITS = (
     "insert, undo and redo", "many groups, all undone",
 )
 READS = ("index by position", "index by line number", "get one character")
+# The pages, the Python sources whose every text counts, and those of which messages alone do.
+PLAIN_PAGES = (
+    "README.md", "CHANGELOG.md", "docs/README.md", "docs/install.md", "docs/release.md", "docs/tktext.1.md",
+    "docs/guide/*.md",
+)
+PLAIN_SOURCES = (
+    "python/tktext/*.py", "examples/*.py", "examples/editor/*.py", "tools/build.py", "tools/build_library.py",
+    "tools/build_python.py", "tools/check.py", "tools/copyrights.py", "tools/dist.py", "tools/examples.py",
+    "tools/install.py", "tools/manpages.py", "tools/pages.py", "tools/python_backend.py", "tools/python_wheel.py",
+    "tools/try.py", "tools/unproved.py", "tools/version.py",
+)
+PLAIN_MESSAGES = ("tools/*.py",)
+PLAIN_STRINGS = ("python/tktext/*.c", "tcl/*.c", "include/*.c", "tools/run.sh")
+# Tools of the proof, which others maintain.
+NOT_PLAIN = {os.path.join("tools", name) for name in ("gate.py", "wrong.py", "gains.py")}
+# What a call of these prints.
+PRINTING = ("print", "exit", "check", "failed", "error", "add_argument", "ArgumentParser", "run_checks")
+CODE_SPAN = re.compile(r"`[^`]*`")
+FENCED = re.compile(r"^ *```.*?^ *```$", re.MULTILINE | re.DOTALL)
+DOCTEST = re.compile(r"^ *>>> .*(?:\n.*\S.*)*", re.MULTILINE)
+LINK = re.compile(r"\]\(([^)\s]+)\)|^\[\w+\]: (\S+)$", re.MULTILINE)
 # What stands for two or more words at the end of a command's form in docs/model.md.
 COUNTS = {"any number": (0, None), **{f"{count} and more": (count, None) for count in range(1, 4)}}
-
-
-class Command(NamedTuple):
-    """What may stand behind the words of a subcommand: least and greatest number, options, switches."""
-
-    least: int
-    greatest: Optional[int]
-    options: Optional[tuple] = None
-    switches: Optional[tuple] = None
-
-
-def text_of(*names):
-    with open(os.path.join(TOP, *names), encoding="utf-8") as file:
-        return file.read()
-
-
-# ---- the definition of the commands
-
-
-def definitions(page):
-    """The text behind `name =` of each definition."""
-    parts = re.split(r"^(\w+)(?: [\w ]*)? =", page, flags=re.M)
-    return dict(zip(parts[1::2], parts[2::2]))
-
-
-def number_of(word):
-    """A greatest number: `None`, `Some 2` or `2`."""
-    digits = re.search(r"\d+", word)
-    return int(digits[0]) if digits else None
-
-
-def switches_of(found, name):
-    """The names of the switches of a rule, and whether they may be abbreviated."""
-    return tuple(LITERAL.findall(found[name])), "abbreviated = true" in found[name]
-
-
-def record_of(text):
-    """The words and the command of an entry that is written out."""
-    least, greatest = (re.search(rf"{name} = ([^;]*);", text)[1] for name in ("least", "greatest"))
-    options = re.search(r"after = (\d+); valued = (\w+)", text)
-    spelled = tuple(LITERAL.findall(re.search(r"spelling = ([^;]*);", text)[1]))
-    return spelled, Command(int(least), number_of(greatest), (int(options[1]), options[2] == "true"))
-
-
-def entry_of(found, entry):
-    """The words and the command of an entry of the table."""
-    words = tuple(LITERAL.findall(entry))
-    kind, *rest = LITERAL.sub("", entry).replace("(", " ").replace(")", " ").split()
-    if kind not in ("alone", "member", "switched"):
-        return record_of(found[kind])
-    _, *rule, least = rest[: -1 if rest[-2] != "Some" else -2]
-    greatest = number_of(rest[-1])
-    return words, Command(int(least), greatest, None, switches_of(found, rule[0]) if rule else None)
-
-
-def defined_commands():
-    """Each subcommand's words with what may stand behind them."""
-    found = definitions(text_of("crates", "command_table", "specs", "Table.antt"))
-    entries = [entry.strip() for entry in found["table"].split("∷")]
-    return dict(entry_of(found, entry) for entry in entries if entry.split("--")[0].strip() != "[]")
 
 
 # ---- the same elsewhere
@@ -267,6 +231,7 @@ def check_lines(tally):
     patterns = {
         "crates/*/src/**/*.rt": MOST_CHARACTERS, "crates/*/specs/**/*.antt": MOST_CHARACTERS,
         "crates/*/proofs/**/*.antt": MOST_IN_PROOFS, "docs/*.*": MOST_CHARACTERS, "README.md": MOST_CHARACTERS,
+        "docs/guide/*.md": MOST_CHARACTERS, "CHANGELOG.md": MOST_CHARACTERS,
         "tools/README.md": MOST_CHARACTERS, "crates/*/README.md": MOST_CHARACTERS,
     }
     for pattern, most in patterns.items():
@@ -369,6 +334,145 @@ def check_figures(tally):
         tally.check(figure in page, f"docs/theorems.md doesn't say, as docs/bench.txt does: {figure}")
 
 
+# ---- the words of pages and messages
+
+
+class Refused(NamedTuple):
+    """A pattern that plain pages don't use, what they use instead, and where it is allowed."""
+
+    pattern: re.Pattern
+    instead: str
+    allowed: list
+
+
+def pattern_of(cell):
+    """The pattern of a cell, in which a table needs a backslash before each bar."""
+    return re.compile(cell.replace(r"\|", "|"), re.I)
+
+
+def refused_words():
+    """The table of docs/glossary.md."""
+    table = text_of("docs", "glossary.md").partition("## Words that pages and messages don't use")[2]
+    rows = re.findall(r"^\| `(.*?)` \| (.*?) \| ?(?:`(.*?)` )?\|$", table, re.M)
+    return [Refused(pattern_of(row[0]), row[1], [pattern_of(row[2])] if row[2] else []) for row in rows]
+
+
+def plain_text(text):
+    """The prose of a page or a docstring, with blanks in place of code, examples and the addresses of links."""
+    for pattern in (FENCED, DOCTEST, CODE_SPAN, LINK):
+        text = pattern.sub(lambda found: re.sub(r"[^\n]", " ", found[0]), text)
+    return text
+
+
+def refused_in(text, refused):
+    """Each refused word of a text, with its line."""
+    for word in refused:
+        allowed = [found.span() for pattern in word.allowed for found in pattern.finditer(text)]
+        for found in word.pattern.finditer(text):
+            if not any(start <= found.start() < end for start, end in allowed):
+                yield text.count("\n", 0, found.start()) + 1, found[0], word.instead
+
+
+def is_printing(node):
+    """Whether a node prints or raises what it is given."""
+    if isinstance(node, ast.Raise):
+        return True
+    name = node.func if isinstance(node, ast.Call) else None
+    return getattr(name, "id", getattr(name, "attr", None)) in PRINTING
+
+
+def constants_of(node):
+    """The texts below a node, with their lines, but for those that are values of a dictionary or a subscript."""
+    return [it for it in ast.walk(node) if isinstance(it, ast.Constant) and isinstance(it.value, str)]
+
+
+def texts_of(path, is_whole):
+    """The texts of a Python source: all, or those of its messages and its usage."""
+    tree = ast.parse(text_of(path))
+    nodes = [tree] if is_whole else [node for node in ast.walk(tree) if is_printing(node)]
+    found = {(it.lineno, it.col_offset): it for node in nodes for it in constants_of(node)}
+    return [(it.lineno, plain_text(it.value)) for it in found.values() if " " in it.value.strip()]
+
+
+def paths_of(patterns):
+    """The files of patterns below the top of the repository."""
+    found = [path for pattern in patterns for path in glob.glob(os.path.join(TOP, pattern))]
+    return sorted(os.path.relpath(path, TOP) for path in found)
+
+
+def strings_of(path):
+    """The texts in quotes of a file of C or of the shell, with their lines."""
+    code = re.sub(r"/\*.*?\*/", lambda found: re.sub(r"[^\n]", " ", found[0]), text_of(path), flags=re.DOTALL)
+    quoted = re.finditer(r'"((?:[^"\\\n]|\\.)*)"', code)
+    return [(code.count("\n", 0, found.start()) + 1, found[1]) for found in quoted]
+
+
+def check_words(tally):
+    """Pages, docstrings and messages don't use the words that docs/glossary.md refuses."""
+    refused = refused_words()
+    tally.check(len(refused) > 20, f"docs/glossary.md refuses {len(refused)} words")
+    for path in paths_of(PLAIN_PAGES):
+        for line, word, instead in refused_in(plain_text(text_of(path)), refused):
+            tally.failed(f"{path}:{line}: '{word}': write {instead}")
+    whole = paths_of(PLAIN_SOURCES)
+    for path in {*whole, *paths_of(PLAIN_MESSAGES)} - NOT_PLAIN:
+        for start, text in texts_of(path, path in whole):
+            for line, word, instead in refused_in(text, refused):
+                tally.failed(f"{path}:{start + line - 1}: '{word}': write {instead}")
+    for path in paths_of(PLAIN_STRINGS):
+        for start, text in strings_of(path):
+            for _, word, instead in refused_in(text, refused):
+                tally.failed(f"{path}:{start}: '{word}': write {instead}")
+
+
+# ---- links, and what repeats
+
+
+def slug(heading):
+    """The anchor of a heading."""
+    return re.sub(r"[^\w\- ]", "", heading.strip().lower()).replace(" ", "-")
+
+
+def anchors_of(path):
+    return {slug(heading) for heading in re.findall(r"^#+ (.*)$", FENCED.sub("", text_of(path)), re.M)}
+
+
+def check_links(tally):
+    """The links of the pages lead to files and headings that are there."""
+    for path in paths_of(PLAIN_PAGES):
+        for found in LINK.findall(FENCED.sub("", text_of(path))):
+            address = found[0] or found[1]
+            if address.startswith("https:"):
+                continue
+            name, _, anchor = address.partition("#")
+            target = os.path.normpath(os.path.join(os.path.dirname(path), name)) if name else path
+            tally.check(os.path.exists(os.path.join(TOP, target)), f"{path}: there is no {target}")
+            if anchor and target.endswith(".md"):
+                tally.check(anchor in anchors_of(target), f"{path}: {target} has no heading #{anchor}")
+
+
+def check_version(tally):
+    """The files that repeat the version have that of VERSION."""
+    for name, old, new in version.repeated():
+        tally.check(new and old == new, f"{name} hasn't the version of VERSION: `python3 tools/version.py --write` sets it")
+
+
+def check_readme(tally):
+    """README is short, and has the figures of docs/performance.md and docs/bench.txt."""
+    page = text_of("README.md")
+    tally.check(page.count("\n") <= MOST_README_LINES, f"README.md has more than {MOST_README_LINES} lines")
+    page = " ".join(page.split())
+    words = " ".join(text_of("docs", "performance.md").split())
+    part = re.search(r"fewer instructions than Tk's own widget: ([\d.]+ to [\d.]+) of them", words)
+    tally.check(part and f"| {part[1]} |" in page, f"README.md hasn't the part of Tk's instructions: {part and part[1]}")
+    sizes = re.search(r"(\d+) bytes a line at most .* and (\d+) afterwards", text_of("docs", "bench.txt"))
+    for size in sizes.groups():
+        tally.check(re.search(rf"\b{size} bytes", page), f"README.md hasn't {size} bytes a line, as docs/bench.txt has")
+    targets = set(re.findall(r"^# make ([\w-]+)", text_of("Makefile"), re.M)) - {"help"}
+    listed = set(re.findall(r"`make ([\w-]+)", text_of("docs", "install.md")))
+    tally.check(not targets - listed, f"docs/install.md doesn't list make {', '.join(sorted(targets - listed))}")
+
+
 def main():
     tally = Tally()
     check_commands(tally)
@@ -380,6 +484,10 @@ def main():
     check_names(tally)
     check_passed_on(tally)
     check_figures(tally)
+    check_words(tally)
+    check_links(tally)
+    check_version(tally)
+    check_readme(tally)
     return tally.close()
 
 

@@ -11,7 +11,7 @@ A form that takes another number of words than the table says is refused.
 import re
 import sys
 
-import facts
+import table
 
 # The letters of the forms, by the words that Tk's manual page has for them.
 WORDS = {"W": "pathName", "V": "pathName", "I": "index", "J": "index2", "A": "index1", "B": "index2", "M": "markName",
@@ -51,8 +51,8 @@ def literal(text):
 def written_forms():
     """The arguments in the form of each command, by the words that it begins with behind a widget's name."""
     forms = {}
-    names = sorted((" ".join(words) for words in facts.defined_commands()), key=len, reverse=True)
-    for form in FORM.findall(facts.text_of("crates", "command_table", "src", "commands.rt")):
+    names = sorted((" ".join(words) for words in table.defined_commands()), key=len, reverse=True)
+    for form in FORM.findall(table.text_of("crates", "command_table", "src", "commands.rt")):
         first, _, rest = form.partition(" ")
         if first in FIRST_WORDS:
             forms[first] = rest
@@ -75,7 +75,7 @@ def counts_of(form):
 def checked_forms():
     """The forms of all commands, each with as many words as the table says."""
     forms = written_forms()
-    for words, command in facts.defined_commands().items():
+    for words, command in table.defined_commands().items():
         name = " ".join(words)
         form = forms.get(name, "")
         counts = counts_of(SWITCHES.sub("", form) if command.switches else form)
@@ -106,21 +106,21 @@ def entry_of_text(form):
 
 def words_of(name, definition):
     """The literals of a definition in `command_effects/specs`."""
-    page = facts.text_of("crates", "command_effects", "specs", f"{name}.antt")
+    page = table.text_of("crates", "command_effects", "specs", f"{name}.antt")
     body = re.search(rf"^{definition} \w+ =(.*?)(?=^\S)", page, re.MULTILINE | re.DOTALL)
     if body is None:
         sys.exit(f"crates/command_effects/specs/{name}.antt doesn't define {definition}")
-    return facts.LITERAL.findall(body[1])
+    return table.LITERAL.findall(body[1])
 
 
 def option_names():
-    page = facts.text_of("crates", "command_table", "specs", "Table.antt")
-    return facts.LITERAL.findall(facts.definitions(page)["option_names"])
+    page = table.text_of("crates", "command_table", "specs", "Table.antt")
+    return table.LITERAL.findall(table.definitions(page)["option_names"])
 
 
 def header():
     """The tables as C."""
-    commands, written = facts.defined_commands(), checked_forms()
+    commands, written = table.defined_commands(), checked_forms()
     families = sorted({words[0] for words in commands if len(words) > 1})
     members = {family: sorted(words[1] for words in commands if words[0] == family) for family in families}
     lines = [f'{{"{it}", "{it} option ?arg ...?", "{one_of(members[it])}"}}' for it in families]

@@ -87,7 +87,7 @@ def main():
         of_process = list(map(int, closing.groups()))
         calls, refused = calls + of_process[0], refused + of_process[1]
         tally.passes, tally.failures = tally.passes + of_process[2], tally.failures + of_process[3]
-    print(f"random calls of the library: {calls}, of which {refused} were refused memory")
+    print(f"random calls of the library: {calls}, {refused} of them out of memory")
     return tally.close()
 
 

@@ -42,7 +42,7 @@ def resident_size(pid):
         for line in file:
             if line.startswith("VmHWM:"):
                 return int(line.split()[1])
-    sys.exit("no greatest resident size is told here")
+    sys.exit("this system reports no maximum resident size")
 
 
 def size_over(program, script):

@@ -73,7 +73,7 @@ def check_worked(program, name, script, plain, tally):
 
 
 def main():
-    parser = argparse.ArgumentParser(description="looks for want of memory where memory is ample")
+    parser = argparse.ArgumentParser(description="looks for commands that are out of memory while there is enough")
     parser.add_argument("--program", required=True)
     options = parser.parse_args()
     tally = Tally()

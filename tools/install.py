@@ -1,24 +1,24 @@
 #!/usr/bin/env python3
-"""Installs what was built, and takes it away again: what `make install` and `make uninstall` call.
+"""Installs what was built, and removes it: what `make install` and `make uninstall` call.
 
     python3 tools/install.py [--prefix /usr/local] [--destdir FOLDER] [--try]
     python3 tools/install.py [--prefix /usr/local] [--destdir FOLDER] --uninstall
 
 The program, the header, the library with its file for pkg-config, the manual pages and the Tcl package go below the
-prefix, and all of that below FOLDER, as where a package is made.  With `--try` those are taken that aren't proved.
-What wasn't built is left out, and what the system needs to find the rest is said.  Nothing is built here, nor written
-into out/.
+prefix, and all of that below FOLDER, as where a package is made.  With `--try` it installs the unproved builds.
+What wasn't built is left out and reported, and so are the variables that the system needs to find the rest.  Nothing is
+built here, nor written into out/.
 """
 
 import argparse
 import os
-import re
 import shutil
 import subprocess
 import sys
 from typing import NamedTuple
 
 import examples
+import version
 from build_library import SONAME
 
 TOP = os.path.dirname(os.path.dirname(os.path.abspath(__file__)))
@@ -39,21 +39,15 @@ LINKED_PREFIXES = ("/usr", "/usr/local")
 
 
 class Item(NamedTuple):
-    """What is installed: its place below the prefix, the file that it is copied from, and its mode."""
+    """An installed file: its path below the prefix, the file that it is copied from, and its mode."""
 
     place: str
     source: str
     mode: int = 0o644
 
 
-def version():
-    """The version that the Tcl package has."""
-    with open(os.path.join(TOP, "tcl", "pkgIndex.tcl"), encoding="utf-8") as file:
-        return re.search(r"package ifneeded tktext ([\d.]+)", file.read())[1]
-
-
 def tcl_folder():
-    return os.path.join("lib", "tcltk", f"tktext{version()}")
+    return os.path.join("lib", "tcltk", f"tktext{version.for_tcl()}")
 
 
 def library(is_tried):
@@ -96,11 +90,11 @@ def write_text(path, text):
 
 def description(prefix, is_tried):
     """What pkg-config reads."""
-    return PKG_CONFIG.format(prefix=prefix, version=version(), note=UNPROVED if is_tried else "")
+    return PKG_CONFIG.format(prefix=prefix, version=version.text(), note=UNPROVED if is_tried else "")
 
 
 def install(root, prefix, is_tried):
-    """Puts down everything that was built, below the root.  Gives what wasn't."""
+    """Installs everything that was built below the root, and returns what wasn't built."""
     missing = []
     for item in items(is_tried):
         source = os.path.join(TOP, item.source)
@@ -117,7 +111,7 @@ def install(root, prefix, is_tried):
 
 
 def uninstall(root):
-    """Takes away what is there of all that can be installed, and the Tcl package's folder."""
+    """Removes every file that can be installed, and the Tcl package's folder."""
     for place in (*(item.place for item in items(False)), LINK, DESCRIPTION):
         path = os.path.join(root, place)
         if os.path.lexists(path):
@@ -128,31 +122,31 @@ def uninstall(root):
 
 
 def asked(words, given=""):
-    """What a program answers, or nothing where it isn't there."""
+    """The output of a program, or nothing if it isn't installed."""
     if shutil.which(words[0]) is None:
         return ""
     return subprocess.run(words, input=given, capture_output=True, text=True, check=False).stdout
 
 
 def wants(prefix):
-    """What is to be set so that the system finds what stands below a prefix, line by line."""
+    """The variables that the system needs to find the files below a prefix, line by line."""
     library, packages, scripts = (os.path.join(prefix, place) for place in ("lib", "lib/pkgconfig", "lib/tcltk"))
     if prefix not in LINKED_PREFIXES:
-        yield f"LD_LIBRARY_PATH={library} for programs that are linked with libtktext.so, or -Wl,-rpath,{library}"
+        yield f"make install: set LD_LIBRARY_PATH={library} for libtktext.so, or link with -Wl,-rpath,{library}"
     if packages not in asked(["pkg-config", "--variable", "pc_path", "pkg-config"]).strip().split(":"):
-        yield f"PKG_CONFIG_PATH={packages} for pkg-config"
+        yield f"make install: set PKG_CONFIG_PATH={packages} for pkg-config"
     if scripts not in asked(["tclsh8.6"], "puts [join $auto_path \\n]\n").splitlines():
-        yield f"TCLLIBPATH={scripts} for Tcl, or `lappend auto_path {scripts}`"
+        yield f"make install: set TCLLIBPATH={scripts} for Tcl, or `lappend auto_path {scripts}`"
 
 
 def tell_linker(prefix):
-    """Has the dynamic linker look anew, where it looks below the prefix."""
+    """Updates the cache of the dynamic linker, if it searches the prefix."""
     if prefix in LINKED_PREFIXES and (os.geteuid() or subprocess.run(["ldconfig"], check=False).returncode):
-        print("say `ldconfig` as root, so that programs find the library", file=sys.stderr)
+        print("make install: run `ldconfig` as root, so that programs find the library", file=sys.stderr)
 
 
 def main():
-    parser = argparse.ArgumentParser(description="installs what was built, or takes it away")
+    parser = argparse.ArgumentParser(description="installs what was built, or removes it")
     parser.add_argument("--prefix", default="/usr/local")
     parser.add_argument("--destdir", default="")
     parser.add_argument("--try", action="store_true", dest="is_tried")
@@ -167,13 +161,13 @@ def main():
     missing = install(root, prefix, options.is_tried)
     print(f"installed below {root}")
     for source in missing:
-        print(f"not installed, since it isn't built: {source}", file=sys.stderr)
+        print(f"make install: not installed, since it isn't built: {source}", file=sys.stderr)
     if not options.destdir:
         tell_linker(prefix)
         for line in wants(prefix):
             print(line, file=sys.stderr)
     if options.is_tried:
-        print("what was installed is NOT PROVED: `make install` alone installs what is", file=sys.stderr)
+        print("make install: these files are NOT PROVED; without TRY=1 it installs proved ones", file=sys.stderr)
     return 0
 
 

@@ -26,7 +26,9 @@ import examples
 import install
 import library
 import manpages
+import pages
 import python_wheel
+import version
 from build_library import SONAME
 from harness import Tally
 
@@ -98,7 +100,7 @@ int main(void)
 
 def version_line(is_tried):
     """What the library says of itself."""
-    return f"{install.version()}, {'not proved' if is_tried else 'proved'}"
+    return f"{version.text()}, {'not proved' if is_tried else 'proved'}"
 
 
 def check_words(prefix, is_tried, folder, tally):
@@ -184,7 +186,7 @@ def check_record(wheel, tally):
 
 
 WHEEL_HAS = {*build_python.files(), build_python.EXTENSION, "METADATA", "WHEEL", "PROVED", "COPYRIGHT"}
-# Behind README's lines: what the text has, an error, whether it is proved, and where the package was found.
+# After README's lines: what the text has, an error, whether it is proved, and where the package was found.
 WHEEL_PROGRAM = """
 import tktext
 print(text.get("1.0", "1.end"))
@@ -203,7 +205,7 @@ def check_wheel(wheel, is_tried, example, folder, tally):
     if run([sys.executable, "-m", "pip", "--version"], folder)[1]:
         print("skipped: pip isn't installed, by which the wheel is tried")
         return
-    lines, version = library.shown_lines("README.md", "python"), version_line(is_tried)
+    block = pages.first_block("README.md", "python")
     for name, installed in (("wheel", wheel), ("source", TOP)):
         place = os.path.join(folder, name)
         python = os.path.join(place, "bin", "python3")
@@ -211,11 +213,11 @@ def check_wheel(wheel, is_tried, example, folder, tally):
         words = ["--python", python, "install", "--no-index", "--disable-pip-version-check", installed]
         _, status = run([sys.executable, "-m", "pip", *words], folder)
         tally.check(status == 0, f"it is installed by pip: {installed}")
-        given, _ = run([python, "-c", lines + WHEEL_PROGRAM], folder)
+        given, _ = run([python, "-c", "\n".join(block.lines) + WHEEL_PROGRAM], folder)
         said = given.decode("utf-8").splitlines()
-        wanted = ["hello, wide world", 'wrong # args: should be ".!text index index"', version]
-        tally.check(said[:3] == wanted, f"README's lines by the {name}: {said}")
-        tally.check(len(said) == 4 and said[3].startswith(place), f"where the package of the {name} stands: {said}")
+        wanted = ["hello, wide world", 'wrong # args: should be ".!text index index"', version_line(is_tried)]
+        tally.check(said[:-1] == [*block.output, *wanted], f"README's lines by the {name}: {said}")
+        tally.check(said[-1:] and said[-1].startswith(place), f"the folder of the package of the {name}: {said}")
         given = run([python, os.path.join(TOP, "examples", "peers.py")], folder)
         tally.check(given == (example, 0), f"peers.py by the {name}: {given!r}")
 
@@ -265,9 +267,9 @@ def check_all(flags, is_tried, folder, tally):
     check_pages(prefix, work, tally)
     tally.check(call_install("--prefix", prefix, *flags), "it is installed once more")
     tally.check(call_install("--prefix", prefix, "--uninstall"), "it is uninstalled")
-    tally.check(not files_below(prefix), f"left behind: {files_below(prefix)}")
+    tally.check(not files_below(prefix), f"not uninstalled: {files_below(prefix)}")
     tally.check(call_install("--prefix", "/usr", "--destdir", root, *flags), "it is installed below a DESTDIR")
-    tally.check(files_below(os.path.join(root, "usr")) == places, "the same files stand below a DESTDIR")
+    tally.check(files_below(os.path.join(root, "usr")) == places, "the same files are below a DESTDIR")
     with open(os.path.join(root, "usr", install.DESCRIPTION), encoding="utf-8") as file:
         tally.check(file.read().startswith("prefix=/usr\n"), "the description doesn't name the DESTDIR")
     check_release(places, is_tried, wanted["examples/peers.py"], folder, tally)

@@ -17,7 +17,7 @@ has just proved (tools/build_library.py).  Without a C compiler one line says so
 - Python and Tcl with growths of memory refused (tools/refuse_calls.c): out of memory is an error of the language, and the
   command answers as ever when it is given again; in Python, those who follow a text miss no change.
 - The instructions of a command by its words and by a script, where valgrind is installed: the words cost less.
-- The examples of three languages answer alike, and the lines of README and docs/use.md run.
+- The examples of three languages answer alike.
 
 Ends in a line `N passed, M failed`; the exit status is 1 if anything failed.
 """
@@ -179,10 +179,10 @@ def check_instructions(tally):
         return
     for way in ("words", "script"):
         _, status, _ = run([CLIENT, "edits", way, "2"])
-        tally.check(status == 0, f"C, lines put in and taken out by the {way}: status {status}")
+        tally.check(status == 0, f"C, lines inserted and deleted by the {way}: status {status}")
     words, script = instructions("words"), instructions("script")
     said = f"{words} instructions by its words, {script} by a script"
-    print(f"a command of a line put in or taken out: {said}")
+    print(f"a command that inserts or deletes a line: {said}")
     tally.check(words < script, f"a command takes {said}")
 
 
@@ -669,37 +669,6 @@ def check_examples(tally):
 # ---------------------------------------------------------------------------------------------------
 
 
-def shown_lines(page, language):
-    """The lines in a language that a page shows."""
-    with open(source(page), encoding="utf-8") as file:
-        return file.read().split(f"```{language}\n")[1].split("```")[0]
-
-
-def used_lines(language):
-    """The lines in a language that docs/use.md shows."""
-    return shown_lines(os.path.join("docs", "use.md"), language)
-
-
-def check_shown(has_tcl, folder, tally):
-    """The lines of README and of docs/use.md run as they stand there."""
-    file, program = os.path.join(folder, "shown.c"), os.path.join(folder, "shown")
-    with open(file, "w", encoding="utf-8") as written:
-        head = '#include "tktext.h"\n#include <stdio.h>\n#include <stdlib.h>\nint main(void)\n{\n'
-        written.write(f"{head}{used_lines('c')}return code != TKTEXT_ANSWER || length != 3;\n}}\n")
-    run(["cc", *FLAGS, file, ARCHIVE, "-o", program])
-    tally.check(run([program]) == (b"done: .t\n", 0, b""), "the lines in C of docs/use.md")
-    if build_python.can_build():
-        end = 'print(peer.get("1.0", "1.end"), *text.tag_ranges("bold"))'
-        given = run([sys.executable, "-c", used_lines("python") + end], env=dict(os.environ, PYTHONPATH=PYTHON))
-        tally.check(given == (b"hello, wide world 1.7 2.0\n", 0, b""), f"the lines in Python of docs/use.md: {given!r}")
-        end = 'print(text.get("1.0", "1.end"))'
-        given = run([sys.executable, "-c", shown_lines("README.md", "python") + end], env=dict(os.environ, PYTHONPATH=PYTHON))
-        tally.check(given == (b"hello, wide world\n", 0, b""), f"README's lines in Python: {given!r}")
-    if has_tcl:
-        given = run(["tclsh8.6"], used_lines("tcl").encode(), env=dict(os.environ, TCLLIBPATH=source("tcl")))
-        tally.check(given == (b"5.0\n1\n", 0, b""), f"the lines in Tcl of docs/use.md: {given!r}")
-
-
 def add_counts(output, status, tally):
     """Shows what a process of its own printed, and adds what it counted."""
     lines = output.decode("utf-8", "replace").splitlines()
@@ -750,8 +719,6 @@ def main():
     has_tcl = examples.has_tcl()
     compile_all(has_tcl)
     check_examples(tally)
-    with tempfile.TemporaryDirectory() as folder:
-        check_shown(has_tcl, folder, tally)
     check_uses(tally)
     for row in worked.ROWS:
         if row.limits == model.PROGRAM_LIMITS:

@@ -4,7 +4,7 @@
     python3 tools/manpages.py FOLDER
 
 The first is docs/tktext.1.md, the second the comments and calls of include/tktext.h; pandoc turns both into roff.
-Where it isn't installed that is said, and nothing is written.
+Without pandoc it writes nothing, and says so.
 """
 
 import os
@@ -14,7 +14,7 @@ import subprocess
 import sys
 
 TOP = os.path.dirname(os.path.dirname(os.path.abspath(__file__)))
-MISSING = "the manual pages aren't made: they want pandoc (Debian: apt-get install pandoc)"
+MISSING = "make man: no manual pages: they need pandoc (Debian: apt-get install pandoc)"
 # A comment with the call behind it; a code with its words; a call; where the types begin and end; a comment with the
 # names behind it that the preprocessor knows.
 CALL = re.compile(r"/\* ((?:(?!\*/).)*?) \*/\n(\w[\w ]*[ *](tktext_\w+)\([^;]*\);)", re.DOTALL)
@@ -46,7 +46,7 @@ def calls_page():
     calls = CALL.findall(header)
     missing = set(DECLARED.findall(header)) - {name for _, _, name in calls}
     if missing:
-        sys.exit(f"include/tktext.h says nothing of {' '.join(sorted(missing))}")
+        sys.exit(f"make man: include/tktext.h doesn't document {' '.join(sorted(missing))}")
     prototypes = "".join(prototype + "\n" for _, prototype, _ in calls)
     parts = [
         "# tktext(3)\n",

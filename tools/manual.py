@@ -6,8 +6,8 @@
 In a block of code a line that begins with `% ` is a command, and the lines behind it are its answer.  The blocks of a
 section are one run, until a script fault ends it.  In a block of `sh` a line that begins with `$ ` is a line for the
 shell, in which `tktext` is the program.  Each subcommand, option and switch has to stand in an example, and each text
-of an error too.  README's table has to be examples/first.tcl with its answers, its screen one of those
-that `editor_test.py` captures, and docs/tour.md examples/tour.tcl with its output.
+of an error too.  README's table has to be examples/first.tcl with its answers, the screen there and in
+docs/guide/editor.md one of those that `editor_test.py` captures, and docs/tour.md examples/tour.tcl with its output.
 
 Ends in a line `N passed, M failed`; the exit status is 1 if anything failed.
 """
@@ -38,6 +38,7 @@ FAULTS = (
     "substitution isn't supported", "bad character code", "script isn't UTF-8", "read failed", "write failed",
 )
 NOT_SHOWN = ("out of memory", "too many reads")
+SCREEN_PAGES = ("README.md", os.path.join("docs", "guide", "editor.md"))
 
 
 class Example(NamedTuple):
@@ -59,8 +60,8 @@ def blocks_of(page):
             lines.append(line)
         elif line.startswith(FENCE):
             is_shell, lines = line == FENCE + "sh", []
-        elif line.startswith("## "):
-            section = line[3:]
+        elif line.startswith(("## ", "### ")):
+            section = line.lstrip("# ")
 
 
 def examples_of(section, lines, prompt):
@@ -161,7 +162,7 @@ def check_whole(page, examples, tally):
         tally.check(stands_in(words, commands), f"no example has {words!r}")
     answers = "\n".join(example.answer for example in examples)
     for text in FAULTS:
-        tally.check(text in answers, f"no example is answered by {text!r}")
+        tally.check(text in answers, f"no example returns {text!r}")
     for text in NOT_SHOWN:
         tally.check(text in page, f"the page doesn't name {text!r}")
 
@@ -195,13 +196,14 @@ def check_tour(program, tally):
 
 
 def check_screen(tally):
-    """The screen of README is one that the editor showed in a terminal."""
-    screens = [lines for _, _, lines in blocks_of(text_of("README.md")) if any("list.py" in line for line in lines)]
+    """The screen of each page is one that the editor showed in a terminal."""
     captured = text_of("tools", "editor.screens")
-    for lines in screens:
-        is_captured = "".join(f"|{line}\n" for line in lines) in captured
-        tally.check(is_captured, "the screen of README isn't in tools/editor.screens")
-    tally.check(len(screens) == 1, f"README has {len(screens)} screens")
+    for page in SCREEN_PAGES:
+        screens = [lines for _, _, lines in blocks_of(text_of(page)) if any("list.py" in line for line in lines)]
+        for lines in screens:
+            is_captured = "".join(f"|{line}\n" for line in lines) in captured
+            tally.check(is_captured, f"the screen of {page} isn't in tools/editor.screens")
+        tally.check(len(screens) == 1, f"{page} has {len(screens)} screens")
 
 
 def main():

@@ -183,7 +183,7 @@ def run(script, package, mirror_class):
 
 
 def main():
-    parser = argparse.ArgumentParser(description="follows texts by what is told of them")
+    parser = argparse.ArgumentParser(description="follows texts by their reports")
     parser.add_argument("--module", default=os.path.join(TOP, "out", "python"))
     parser.add_argument("--seeds", type=int, default=300)
     parser.add_argument("--first", type=int, default=0)
@@ -200,9 +200,9 @@ def main():
         faults, told, tagged, moved = run(scripts.script(seed), tktext, mirror.Mirror)
         tally.check(not faults, f"seed {seed}: {' '.join(faults[:1])}")
         changes, tags, moves = changes + told, tags + tagged, moves + moved
-    tally.check(changes > options.seeds, f"only {changes} changes were told")
-    tally.check(tags > options.seeds, f"only {tags} changes of tags were told")
-    tally.check(moves > options.seeds // 4, f"only {moves} marks were told")
+    tally.check(changes > options.seeds, f"only {changes} changes were reported")
+    tally.check(tags > options.seeds, f"only {tags} changes of tags were reported")
+    tally.check(moves > options.seeds // 4, f"only {moves} marks were reported")
     return tally.close()
 
 

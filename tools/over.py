@@ -95,7 +95,7 @@ def words_of_build(crate):
 
 
 def main():
-    parser = argparse.ArgumentParser(description="checks one crate over libraries that stand built")
+    parser = argparse.ArgumentParser(description="checks one crate over built libraries")
     parser.add_argument("crate")
     parser.add_argument("--build", action="store_true")
     parser.add_argument("--libraries", default=build.TOP)

@@ -54,7 +54,7 @@ def main():
         folder = pathlib.Path(name) / CRATE
         shutil.copytree(pathlib.Path(build.TOP) / "crates" / CRATE, folder, ignore=shutil.ignore_patterns("out"))
         words, is_taken = compile_copy(folder)
-        tally.check(is_taken, f"the crate as it stands doesn't compile: {words}")
+        tally.check(is_taken, f"the unchanged crate doesn't compile: {words}")
         edit(folder / FILE)
         words, is_taken = compile_copy(folder)
         tally.check(not is_taken and WANTED in words, f"a counter of its own: {words}")

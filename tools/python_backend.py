@@ -15,9 +15,9 @@ import dist  # noqa: E402
 import examples  # noqa: E402
 
 NOT_BUILT = """
-libtktext.a isn't built: `make lib` makes and proves out/libtktext.a, `make try-lib` in some minutes an unproved one.
+pip: libtktext.a isn't built: run `make lib`, which proves it, or `make try-lib` for an unproved one in 4 minutes.
 """
-WANTED = f"\nThe Python package isn't built: it wants {build_python.WANTED}.\n"
+WANTED = f"\npip: cannot build the Python package: it needs {build_python.WANTED}.\n"
 
 
 def is_tried():
@@ -29,7 +29,7 @@ def is_tried():
 
 
 def build_wheel(wheel_directory, config_settings=None, metadata_directory=None):
-    """Makes the wheel in a folder, and gives its name."""
+    """Makes the wheel in a folder, and returns its name."""
     tried = is_tried()
     if not build_python.can_build():
         sys.exit(WANTED)

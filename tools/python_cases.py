@@ -179,7 +179,7 @@ for limits in ((10, 65541, 1, 1), (2**64 + 5, 1, 1, 1), (10, 1, 65536 + 4, 1), (
 with World((10, 1, 1, 1)) as world:
     print(tried(Text(world).insert, "1.0", "0123456789"))
 """
-LIMITS_SAY = """ValueError: no characters, or a limit above its greatest
+LIMITS_SAY = """ValueError: no characters, or a limit above its maximum
 """ * 8 + """ValueError: the limits are four: characters, tags, marks and widgets
 TclError: text is too long"""
 

@@ -385,7 +385,7 @@ def check(module, python, tally):
     theirs = answers(["xvfb-run", "-a", python], module, "tkinter")
     ours = answers([python], module, "tktext")
     for probe, their, our in zip(probes(), theirs, ours):
-        tally.check(our == OTHERWISE.get(probe, their), f"{probe}: {our}, tkinter gives {their}")
+        tally.check(our == OTHERWISE.get(probe, their), f"{probe}: {our}, and by tkinter {their}")
 
 
 if __name__ == "__main__":

@@ -18,6 +18,7 @@ import sys
 import tempfile
 import time
 
+import version
 from harness import TIMEOUT_SECONDS, Tally
 
 TOP = os.path.dirname(os.path.dirname(os.path.abspath(__file__)))
@@ -46,7 +47,14 @@ TYPED = (
     (".t peer create .peer\r", ".peer"),
     (".p\tindex end\r", "3.0"),
     ("\x1b[A\r", "3.0"),
-    (".t index foo\r", 'error: bad text index "foo"'),
+    (".t index foo\r", 'error: bad text index "foo"\r\n  hint: an index is line.char'),
+    (".t index\r", 'error: wrong # args\r\n  hint: should be ".t index index"'),
+    (".t mark gravity here up\r", 'error: bad mark gravity "up"\r\n  hint: must be left or right'),
+    (".none index end\r", 'error: invalid command name ".none"\r\n  hint: `text .t` creates'),
+    ("help\r", "text W ?option value ..?"),
+    ("help tag add\r", "W tag add tagName index ?index ...?"),
+    ("help edit\r", "W edit option ?arg ...?\r\n  option: modified, redo"),
+    ("help nothing\r", "tktext: no command 'nothing'"),
     ("\x03", "tktext> "),
 )
 
@@ -84,7 +92,9 @@ def check_runs(module, home, tally):
     done = subprocess.run([*WORDS, "--help"], capture_output=True, env=environment(module, home))
     tally.check(done.returncode == 0 and b"--json" in done.stdout, f"--help: {done}")
     done = subprocess.run([*WORDS, "--version"], capture_output=True, env=environment(module, home))
-    tally.check(re.fullmatch(rb"tktext 1\.0 \(library 1\.0, (not )?proved\)\n", done.stdout), f"--version: {done}")
+    own = re.escape(version.text()).encode()
+    shown = re.fullmatch(rb"tktext %s \(library %s, (not )?proved\)\n" % (own, own), done.stdout)
+    tally.check(shown, f"--version: {done}")
     with open("/dev/full", "wb") as full:
         at = environment(module, home)
         done = subprocess.run(WORDS, input=SCRIPT, stdout=full, stderr=subprocess.PIPE, env=at)
@@ -99,7 +109,7 @@ def check_answers_come(module, home, tally):
             process.stdin.write(command)
             process.stdin.flush()
             said = process.stdout.readline()
-            tally.check(said == answer, f"{command!r} is answered by {said!r}")
+            tally.check(said == answer, f"{command!r} returns {said!r}")
 
 
 class Terminal:
@@ -129,8 +139,8 @@ class Terminal:
         os.write(self.master, keys.encode("utf-8"))
 
     def close(self):
-        """Ends the input; the exit status."""
-        os.write(self.master, b"\x04")
+        """Ends the prompt; the exit status."""
+        os.write(self.master, b"exit\r")
         self.wait_for("nothing that is shown")
         return os.waitstatus_to_exitcode(os.waitpid(self.child, 0)[1])
 

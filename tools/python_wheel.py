@@ -35,12 +35,12 @@ Tag: {tag}
 """
 NEEDED = re.compile(r"\(NEEDED\).*\[(.*)\]")
 GLIBC = re.compile(r"GLIBC_(\d+)\.(\d+)")
-# The least that `pip` knows of by this form of a tag.
+# The minimum that `pip` supports in this form of a tag.
 LEAST_GLIBC = (2, 5)
 
 
 def metadata(version, note):
-    """METADATA, with a note on the library behind the summary."""
+    """METADATA, with a note on the library after the summary."""
     return METADATA.format(version=version, note=note)
 
 
@@ -49,7 +49,7 @@ def told(*words):
 
 
 def platform_of(library):
-    """The platform of an extension: one of Linux by its least version of glibc, where it needs nothing else."""
+    """The platform of an extension: one of Linux by its minimum version of glibc, if it needs nothing else."""
     machine = platform.machine()
     if shutil.which("readelf") is None or NEEDED.findall(told("readelf", "-d", library)) != ["libc.so.6"]:
         return f"linux_{machine}"
@@ -63,7 +63,7 @@ def record_line(place, content):
 
 
 def contents(root, notes, version, tag):
-    """Each file of the wheel, by its place: those of the folder, then the notes, and RECORD last."""
+    """Each file of the wheel, by its path: those of the folder, then the notes, and RECORD last."""
     own = f"tktext-{version}.dist-info"
     files = {}
     places = [os.path.relpath(os.path.join(at, name), root) for at, _, names in os.walk(root) for name in names]

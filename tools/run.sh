@@ -1,5 +1,5 @@
 #!/bin/sh
-# Runs a program on a script: the file that is named third, else standard input, and else the example.
+# Runs a program on a script: the third argument, else standard input, and at a terminal the example.
 # usage: run.sh PROGRAM EXAMPLE [SCRIPT]
 program=$1 script=${3:-}
 if [ -z "$script" ]; then
@@ -11,7 +11,16 @@ if [ -z "$script" ]; then
         [ -s "$piped" ] && script=$piped
     fi
 fi
+if ! [ -r "$script" ]; then
+    echo "make run: cannot open '$script'" >&2
+    exit 2
+fi
 "$program" < "$script"
 status=$?
-[ "$status" -eq 0 ] || echo "status $status" >&2
+case $status in
+0) ;;
+1) echo "make run: status 1: a command was refused (docs/tktext.1.md)" >&2 ;;
+2) echo "make run: status 2: a parse error or a failed read or write ended the run (docs/tktext.1.md)" >&2 ;;
+*) echo "make run: status $status: the program failed" >&2 ;;
+esac
 exit "$status"

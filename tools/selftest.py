@@ -343,13 +343,13 @@ def check_undo_runs(tally):
         is_before = text_of(world) == before
         for _ in range(count):
             world, _ = model.step(world, [".whole", "edit", "redo"])
-        tally.check(is_before and text_of(world) == behind, f"seed {seed}: {count} groups that are undone and made again give another text")
+        tally.check(is_before and text_of(world) == behind, f"seed {seed}: {count} groups, undone and redone, leave another text")
 
 
 def check_generator(tally):
     """Scripts are the same for the same seed, and reach every fault and every exit status."""
     runs = [model.run_output(scripts.script(seed)) for seed in range(SEEDS)]
-    tally.check(scripts.script(7) == scripts.script(7), "one seed gives two scripts")
+    tally.check(scripts.script(7) == scripts.script(7), "one seed makes two scripts")
     for fault in REACHED_FAULTS + (REACHED_BY_INDICES if indices.PROGRAM_READS_ALL else []):
         count = sum(run.output.count(fault) for run in runs)
         tally.check(count >= 10, f"{SEEDS} random scripts meet {fault!r} only {count} times")

@@ -36,9 +36,10 @@ def counts(last_line, status):
     return passed, failed if failed or status == 0 else 1
 
 
-def main():
+def run_all(commands):
+    """Runs all checks, prints the sum of their counts, and returns the exit status."""
     total_passed = total_failed = total_skipped = 0
-    for command in sys.argv[1:]:
+    for command in commands:
         print(f"== {command}", flush=True)
         last_line, status, skipped = run_check(command)
         passed, failed = counts(last_line, status)
@@ -53,4 +54,4 @@ def main():
 
 
 if __name__ == "__main__":
-    sys.exit(main())
+    sys.exit(run_all(sys.argv[1:]))

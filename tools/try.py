@@ -1,13 +1,13 @@
 #!/usr/bin/env python3
-"""Builds the program before anything is proved, and runs a script by it: what `make try` calls.
+"""Builds the program without a proof, and runs a script with it: what `make try` calls.
 
     python3 tools/try.py --build [PROGRAM]
     python3 tools/try.py EXAMPLE [SCRIPT]
 
 The first compiles the program as tools/unproved.py does, without a proof, without checks at run time and without a
-sanitizer, as PROGRAM, or else out/try/tktext.  The second runs it: the script is the file SCRIPT, or else what standard
-input brings, or else EXAMPLE.  The answers come on standard output; the exit status is the program's, as
-docs/tktext.1.md gives it, and 4 if a signal ended the program.
+sanitizer, as PROGRAM, by default out/try/tktext.  The second runs it: the script is the file SCRIPT, or else standard
+input, or at a terminal EXAMPLE.  The answers come on standard output; the exit status is the program's, as
+in docs/tktext.1.md, and 4 if a signal ended the program.
 """
 
 import os
@@ -21,9 +21,10 @@ import unproved
 TOP = os.path.dirname(os.path.dirname(os.path.abspath(__file__)))
 CRATE = os.path.join(TOP, "crates", "tktext")
 PROGRAM = os.path.join(TOP, "out", "try", "tktext")
-BUILDS = "make try: builds the program without a proof, in a minute or two; it is kept for the next script"
-NOTE = "make try: this program is NOT PROVED; `make run` proves and runs the program"
-FAULT, FAULT_STATUS = "make try: a signal ended the program: `rt try` in crates/tktext says which check failed", 4
+BUILDS = "make try: building the program without a proof (1 to 2 minutes); it is kept for the next script"
+NOTE = "make try: this program is NOT PROVED; `make run` proves and runs it"
+FAULT, FAULT_STATUS = "make try: a signal ended the program: run `rt try` in crates/tktext to see the failed check", 4
+MEANINGS = {1: "a command was refused", 2: "a parse error or a failed read or write ended the run"}
 
 
 def build(program=PROGRAM):
@@ -59,7 +60,7 @@ def main(arguments):
     try:
         script = script_bytes(example, path)
     except OSError as error:
-        print(f"make try: {error.filename}: {error.strerror}", file=sys.stderr)
+        print(f"make try: cannot open '{error.filename}': {error.strerror}", file=sys.stderr)
         return 2
     print(NOTE, file=sys.stderr, flush=True)
     status = subprocess.run([PROGRAM], input=script).returncode
@@ -67,7 +68,8 @@ def main(arguments):
         print(FAULT, file=sys.stderr)
         return FAULT_STATUS
     if status:
-        print(f"status {status}", file=sys.stderr)
+        meaning = MEANINGS.get(status, "the program failed")
+        print(f"make try: status {status}: {meaning} (docs/tktext.1.md)", file=sys.stderr)
     return status
 
 

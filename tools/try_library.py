@@ -5,8 +5,8 @@
 
 `rt try` compiles programs alone.  So a copy of the crate `tktext_c` gets a `main` that makes each call once, and is
 tried; what its compiler was given is compiled once more as tools/unproved.py does it, with the names of
-include/tktext.h and as if each check held, which is what a proof gives.  Where one doesn't hold it does anything at
-all: this library is for a first look, and for trying what stands around it.
+include/tktext.h and as if each check held, which a proof ensures.  Where one doesn't hold it does anything at
+all: this library is for a first look, and for testing code that uses it.
 """
 
 import os
@@ -131,14 +131,14 @@ def main(words):
     if words:
         print(__doc__)
         return 2
-    print("make try-lib: builds the library without a proof, in two or three minutes", file=sys.stderr, flush=True)
+    print("make try-lib: building the library without a proof (3 to 4 minutes)", file=sys.stderr, flush=True)
     try:
         with tempfile.TemporaryDirectory() as folder:
             compile_library(unproved.kit_folder(), folder)
     except (OSError, subprocess.CalledProcessError) as error:
-        print(f"the library isn't made: {error}; this wants the Rattle kit (`rt`) and a C compiler", file=sys.stderr)
+        print(f"make try-lib: cannot build the library: {error}: {build_library.NEEDED}", file=sys.stderr)
         return 1
-    print("out/try/libtktext.a and out/try/libtktext.so are NOT PROVED: `make lib` makes proved ones", file=sys.stderr)
+    print("make try-lib: out/try/libtktext.a and .so are NOT PROVED; `make lib` makes proved ones", file=sys.stderr)
     return 0
 
 

@@ -6,11 +6,11 @@ import sys
 try:
     from editor import Editor
 except ImportError as error:
-    sys.exit(f"{error}: `pip install .` installs the package (docs/use.md, The editor)")
+    sys.exit(f"editor: cannot import tktext: {error}: run `pip install .` (docs/guide/editor.md)")
 
 if len(sys.argv) != 2 or not os.isatty(0) or not os.isatty(1):
     sys.exit(__doc__)
 try:
     Editor(sys.argv[1]).run()
 except Exception as error:
-    sys.exit(f"{sys.argv[1]}: {error}")
+    sys.exit(f"editor: cannot edit '{sys.argv[1]}': {getattr(error, 'strerror', None) or error}")

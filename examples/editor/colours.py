@@ -17,7 +17,7 @@ _OUTSIDE = re.compile(r"^(?:def |class |@)", re.MULTILINE)  # where no string go
 
 
 def colour(widget, above, first, behind):
-    """Tags what stands from one index to before another, as it is read from one further above on."""
+    """Tags the text from one index to before another, as it is read from an index above."""
     source, shown = widget.get(above, behind), len(widget.get(above, first))
     if len(source) > MOST_CHARACTERS:
         return

@@ -1,4 +1,4 @@
-"""The editor: what each key does, as commands to the core, and what the screen shows then."""
+"""The editor: the effect of each key, as commands of the core, and the rows of the screen."""
 
 import contextlib
 import os
@@ -27,16 +27,23 @@ TYPED = ("text", "enter", "tab", "backspace", "delete")
 
 
 class GivenUp(OSError):
-    """The user ended a question by Esc."""
+    """The user cancelled a question by Esc."""
+
+
+def reason_of(error):
+    """Why a call of the system failed, and of which file; or what another error says."""
+    if isinstance(error, OSError) and error.strerror:
+        return f"cannot open '{error.filename}': {error.strerror}" if error.filename else error.strerror
+    return str(error) or "out of memory"
 
 
 @contextlib.contextmanager
 def saving():
-    """Reports of what fails that nothing is saved."""
+    """Adds to an error that the file isn't saved."""
     try:
         yield
     except (OSError, Held) as error:
-        raise OSError(f"NOT saved: {error}") from error
+        raise OSError(f"NOT saved: {reason_of(error)}") from error
 
 
 class Editor:
@@ -93,7 +100,7 @@ class Editor:
                 self.widget.edit_separator()
         except Exception as error:
             self.message = ""
-            self.fail(str(error) or "out of memory")
+            self.fail(reason_of(error))
         self.is_kept = self.is_kept and is_move
 
     # What the screen shows
@@ -158,7 +165,7 @@ class Editor:
             self.draw(is_asking=True)
             key, characters = self.terminal.key(self.keep)
             if key == "escape":
-                raise GivenUp("given up")
+                raise GivenUp("cancelled")
             before = "" if letters else typed
             typed = typed[:-1] if key == "backspace" else before + characters.partition("\n")[0]
         self.message = ""
@@ -197,7 +204,7 @@ class Editor:
             if answer == "t":
                 self.lock(takes_over=True)
         except OSError as error:
-            self.fail(f"no lock is held: {error}")
+            self.fail(f"cannot lock the file: {reason_of(error)}")
 
     def check_writable(self):
         if self.file.is_read_only:
@@ -208,7 +215,7 @@ class Editor:
         with saving():
             self.check_writable()
             if self.file.is_changed():
-                self.ask("[o]verwrite? On the disk is something else", "o")
+                self.ask("[o]verwrite? The file changed on disk", "o")
             self.report("saving", self.file.save(self.widget))
         self.widget.edit_modified(False)
         self.message = f"saved {self.file.name}"
@@ -261,13 +268,13 @@ class Editor:
                 if not is_last and self.terminal.wait(0):
                     return
         except OSError as error:
-            self.fail(f"no copy is kept: {error}")
+            self.fail(f"no copy is kept: {reason_of(error)}")
         self.is_kept = True
 
     # The text, and what is selected
 
     def put(self, characters, *ends):
-        """Puts characters in the place of what is selected, or else of a range, or at the cursor."""
+        """Replaces the selection, or else a range, by characters, or inserts them at the cursor."""
         self.check_writable()
         ends = self.widget.tag_ranges("sel") or ends
         place = self.widget.index(ends[0] if ends else "insert")
@@ -285,7 +292,7 @@ class Editor:
         self.select(place, began if selects else None, self.is_marking)
 
     def select(self, place, anchor=None, is_marking=False):
-        """Goes to a place, and selects what is between it and another, or nothing."""
+        """Moves the cursor to an index, and selects the text between it and another index, or nothing."""
         self.is_marking = is_marking
         self.widget.mark_set("insert", place)
         self.widget.mark_set(self.pane.anchor, anchor or "insert")
@@ -320,12 +327,12 @@ class Editor:
         self.select(f"{self.ask('line: ')}.0")
 
     def find(self, start="insert + 1c", pattern=""):
-        """Selects the next place of a pattern, or of the last one, round the end; capitals count where it has some."""
+        """Selects the next match of a pattern, or of the last one, and wraps around; capitals count if it has some."""
         self.pattern = pattern or self.pattern
         place = self.pattern and self.widget.search(self.pattern, start, nocase=self.pattern.islower())
         if place:
             self.select(place, f"{place} + {len(self.pattern)} chars")
-        self.message = "" if place else f"'{self.pattern}' isn't there"
+        self.message = "" if place else f"not found: '{self.pattern}'"
         return place
 
     def replace(self):
@@ -360,7 +367,7 @@ class Editor:
             turn.go_on(self.widget.index("insert"))
 
     def change_pane(self):
-        """Goes to the other pane; one that wasn't shown begins where this one stands."""
+        """Goes to the other pane; one that wasn't shown starts at the lines of this one."""
         was, self.pane = self.pane, self.panes[self.pane is self.panes[0]]
         self.widget = self.pane.widget
         if not self.is_split:

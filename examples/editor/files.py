@@ -20,7 +20,7 @@ _FULL = (errno.ENOSPC, errno.EDQUOT, errno.EFBIG)
 
 
 def decoded(data):
-    """The characters of any bytes; `encoded` gives the same bytes back."""
+    """The characters of any bytes; `encoded` returns the same bytes."""
     kept = lambda found: "".join(chr(BYTES + byte) for byte in found[0].encode("utf-8", "surrogateescape"))
     text = data.decode("utf-8", "surrogateescape")
     return text if text.isascii() else _UNUSUAL.sub(kept, text)
@@ -43,13 +43,13 @@ def drop(path):
 
 
 def state_folder():
-    """The editor's own folder, for what can't be created beside a file."""
+    """The editor's own folder, for what can't be created in the folder of a file."""
     state = os.environ.get("XDG_STATE_HOME", "")
     return os.path.join(state if os.path.isabs(state) else os.path.expanduser("~/.local/state"), "tktext-editor")
 
 
 def give_status(new, path, is_copy):
-    """Gives a new file the owner and the mode of another one; where it can't have them, a copy is private."""
+    """Sets the owner and the mode of a new file to those of another one; if it can't, a copy is private."""
     wanted, given = os.stat(path), os.stat(new)
     try:
         if (given.st_uid, given.st_gid) != (wanted.st_uid, wanted.st_gid):
@@ -85,10 +85,10 @@ def reserve(file, size):
 
 
 class File:
-    """A file that is edited, its lock, and the copy that is kept while edits aren't saved.
+    """An edited file, its lock, and the copy that is kept while edits aren't saved.
 
-    The lock and the copy are beside the file, or where nothing can be created there, at the same path under the state
-    folder.
+    The lock and the copy are in the folder of the file, or if nothing can be created there, at the same path under the
+    state folder.
     """
 
     def __init__(self, path):
@@ -99,7 +99,7 @@ class File:
         self.lock_held, self.is_read_only, self.is_half_written = None, False, False
         with contextlib.suppress(FileNotFoundError):
             if not stat.S_ISREG(os.stat(self.path).st_mode):
-                raise OSError("that is no regular file")
+                raise OSError("not a regular file")
             open(self.path, "rb").close()
         self.stamp = stamp_of(self.path)
 
@@ -178,7 +178,7 @@ class File:
         """Saves a text by a new file that takes the name, or else in place; yields the fraction done."""
         exists = os.path.exists(self.path)
         if exists and not os.access(self.path, os.W_OK):
-            raise PermissionError("it is write-protected")
+            raise PermissionError("the file is write-protected")
         if exists and os.stat(self.path).st_nlink > 1:
             yield from self.overwrite(text)
         else:
@@ -192,7 +192,7 @@ class File:
         self.drop_copies()
 
     def write(self, text, path, is_synchronised):
-        """Writes a new file, and only then gives it the name; yields the fraction done, and returns its stamp."""
+        """Writes a new file, then renames it; yields the fraction done, and returns its stamp."""
         folder = os.path.dirname(path)
         new = self.hidden(folder, "new")
         drop(new)
@@ -222,7 +222,7 @@ class File:
         try:
             copy = yield from self.keep(text, is_synchronised=True)
         except OSError as error:
-            raise OSError(f"no copy can be kept while it is overwritten: {error}") from error
+            raise OSError(f"cannot keep a copy while it is overwritten: {error}") from error
         try:
             with open(copy, "rb") as source, open(self.path, "r+b") as file:
                 reserve(file, os.path.getsize(copy))

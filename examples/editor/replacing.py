@@ -30,7 +30,7 @@ class Round:
         return f"{place} + {len(self.pattern)} chars"
 
     def go_on(self, place):
-        """Goes on from a place, in the span of the last match."""
+        """Continues from an index, in the span of the last match."""
         self.spans[0] = place, self.spans[0][1]
 
     def replace_rest(self):

@@ -62,7 +62,7 @@ class Terminal:
             print(f"\x1b[?25l{''.join(drawn)}\x1b[m\x1b[{cursor[0] + 1};{cursor[1] + 1}H\x1b[?25h", end="", flush=True)
 
     def wait(self, seconds):
-        """Waits for bytes, or a signal; tells whether one came."""
+        """Waits for bytes or a signal; returns whether one came."""
         ready, _, _ = select.select([0, self.signals], [], [], seconds)
         if self.signals in ready:
             for number in set(os.read(self.signals, 64)) & set(_ENDING):

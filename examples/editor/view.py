@@ -15,7 +15,7 @@ STYLES = {"sel": "7", "found": "30;43", **colours.STYLES, "active": "7", "other"
 
 @functools.lru_cache(maxsize=4096)
 def cell(character, at=0):
-    """How a character is shown so many columns behind a tab stop, and in how many columns."""
+    """How a character is shown at a column after a tab stop, and its number of columns."""
     number, category = ord(character), unicodedata.category(character)
     if character == "\t":
         return " " * (TAB - at), TAB - at
@@ -91,7 +91,7 @@ class Pane:
         return columns_of(self.widget.get("insert linestart", "insert"))[-1]
 
     def step(self, lines, pages):
-        """The place some lines and pages down, or up, at the column that was left last by another way."""
+        """The index some lines and pages down, or up, at the column of the last move of another kind."""
         place, last = self.place(), self.place("end - 1c")[0]
         goal = self.goal[1] if self.goal[0] == place else self.column()
         line = min(max(place[0] + lines + pages * max(1, self.height - 1), 1), last)
@@ -101,7 +101,7 @@ class Pane:
         return f"{line}.{character}"
 
     def follow(self, changes):
-        """Forgets what was seen, where a change isn't all behind it."""
+        """Forgets what was seen, unless all changes are after it."""
         if any(change.at <= self.behind for change in changes):
             self.seen = None
 
@@ -118,7 +118,7 @@ class Pane:
         return self.widget.dump(*shown, text=True, tag=True)
 
     def rows(self, pattern):
-        """The rows of the pane, all places of a pattern in a style, and where the cursor stands among them."""
+        """The rows of the pane, with all matches of a pattern in a style, and the position of the cursor in them."""
         line, top, column = self.place()[0], self.place(self.top)[0], self.column()
         first = max(min(top, line), line - self.height + 1)
         self.widget.mark_set(self.top, f"{first}.0")

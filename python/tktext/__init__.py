@@ -1,7 +1,7 @@
 """The core of Tk's text widget without a display.
 
-`Text` has the methods of tkinter's `Text` that docs/use.md of its repository lists, by the same names and with the same
-arguments, so code that calls these runs on it.
+`Text` has the methods of tkinter's `Text`, by the same names and with the same arguments, so code that calls them runs
+on it.  docs/guide/python.md of the repository lists the methods, and answers common questions.
 
     from tktext import END, Text
 
@@ -9,13 +9,13 @@ arguments, so code that calls these runs on it.
     text.insert(END, "hello, wide world")
     text.edit_undo()
 
-A command that is refused raises `TclError`, which is tkinter's where that is installed, and changes nothing.  What the
-core itself said is the error's `fault`.  Out of memory is `MemoryError`; `World.call` says what was carried out then.
+A refused command raises `TclError`, which is tkinter's if that is installed, and changes nothing.  The core's own
+message is the error's `fault`.  Out of memory is `MemoryError`; `World.call` documents what was carried out then.
 
-A `World` has texts with the widgets on them; each `Text` makes one of its own unless it is given one.  Threads may
-share a world and its widgets: one command is carried out at a time, with the global interpreter lock held.
+A `World` contains texts and their widgets; each `Text` creates its own unless it is given one.  Threads may share a
+world and its widgets: one command runs at a time, with the global interpreter lock held.
 
-`python3 -m tktext` runs scripts of the widget's commands, and has a prompt for them.
+`python3 -m tktext` runs scripts of commands, and has a prompt.
 """
 
 from __future__ import annotations
@@ -26,8 +26,8 @@ try:
     from . import _core
 except ImportError as error:
     raise ImportError(
-        "tktext isn't built: `pip install .` at the top of its repository builds and installs it, after `make lib`, or "
-        "`make try-lib` for an unproved one; `make python` builds it below out/python"
+        "tktext: the extension isn't built: run `make lib`, or `make try-lib` for an unproved one, and then "
+        "`pip install .` at the top of the repository"
     ) from error
 from ._errors import TclError, error_of_fault
 from ._events import Event
@@ -39,9 +39,9 @@ _core.use(word, error_of_fault, make_content, MethodType)
 from ._text import Text  # noqa: E402  (after what `_core` uses)
 from ._world import World  # noqa: E402
 
-__version__ = "1.0"
-# What the library says of itself: its version, and whether it was proved.
+# The version of the library, and whether it was proved: "2.0.0, proved" or "2.0.0, not proved".
 library_version = _core.version
+__version__ = library_version.partition(",")[0]
 
 END = "end"
 INSERT = "insert"
@@ -53,7 +53,7 @@ SEL_LAST = "sel.last"
 split_list = _core.split_list
 
 for _public in (Change, Event, Spot, TagChange, Text, World):
-    # It is shown where it is taken from.
+    # Its name is shown with the package that users import it from.
     _public.__module__ = __name__
 
 __all__ = [

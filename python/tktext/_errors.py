@@ -1,4 +1,4 @@
-"""What a refused command raises."""
+"""The error of a refused command."""
 
 from __future__ import annotations
 
@@ -20,9 +20,9 @@ else:
     except ImportError:
 
         class TclError(Exception):
-            """Why a command was refused: `fault` is what the core said of it; the text may say more behind that.
+            """Why a command was refused: `fault` is the core's message; the error's text may add a hint.
 
-            Where tkinter is installed this is its own class.
+            It is tkinter's own class if that is installed.
             """
 
 
@@ -30,15 +30,15 @@ _WRONG_ARGUMENTS = "wrong # args"
 
 
 def refusal(fault: str, more: str = "") -> TclError:
-    """The error of a fault, and of what it leaves unsaid."""
+    """Returns the error of a core's message and a hint."""
     error = TclError(f"{fault}: {more}" if more else fault)
     error.fault = fault
     return error
 
 
 def error_of_fault(words: list[bytes], fault: bytes) -> TclError:
-    """The error of a command's words and of the fault that the core told."""
-    # A byte 0 would end a word, or the fault; so it is written as another that no name has.
+    """Returns the error of a command's words and the core's message."""
+    # A byte 0 would end a word or the message, so another byte is used that no name has.
     hint = _core.hint([word.replace(b"\0", b"\x01") for word in words], fault.replace(b"\0", b"\x01"))
     said = fault.decode("utf-8")
     if hint is None:

@@ -1,4 +1,4 @@
-"""What is bound to events, and what a handler is called with."""
+"""Bindings of events, and the argument of a handler."""
 
 from __future__ import annotations
 
@@ -14,7 +14,7 @@ MODIFIED, SELECTION = "<<Modified>>", "<<Selection>>"
 
 
 class Event:
-    """What happened: `widget` is the one that it happened to, and `type` the sequence, as `<<Modified>>`.
+    """An event: `widget` is where it occurred, and `type` its sequence, such as `<<Modified>>`.
 
     >>> text = Text()
     >>> name = text.bind("<<Modified>>", lambda event: print(event.widget, event.type))
@@ -42,7 +42,7 @@ class Bindings:
         self._bound: dict[str, list[_Bound]] = {}
 
     def bind(self, sequence: str | None, handler: Handler | None, add: object) -> Any:
-        """Binds a handler and gives its name; or gives the names of a sequence's, or all sequences."""
+        """Binds a handler and returns its name; or returns the names of a sequence's handlers, or all sequences."""
         if sequence is None:
             return tuple(self._bound)
         if handler is None:
@@ -53,7 +53,7 @@ class Bindings:
         return name
 
     def unbind(self, sequence: str, name: str | None) -> None:
-        """Takes away the handler of a name, or all of a sequence."""
+        """Removes the handler of a name, or all of a sequence."""
         kept = [bound for bound in self._bound.get(sequence, ()) if name is not None and bound.name != name]
         self._bound.pop(sequence, None)
         if kept:
@@ -63,7 +63,7 @@ class Bindings:
         return any(sequence in self._bound for sequence in sequences)
 
     def send(self, event: Event) -> None:
-        """Calls the handlers of an event until one gives "break"."""
+        """Calls the handlers of an event until one returns "break"."""
         for bound in list(self._bound.get(event.type, ())):
             if called(bound.handler, event) == "break":
                 break

@@ -36,7 +36,7 @@ _Method = TypeVar("_Method", bound=Callable[..., Any])
 
 
 def _direct(form: int, *words: str) -> Callable[[_Method], _Method]:
-    """A method that hands its values on, behind words: a call by position alone is made without its function."""
+    """Makes a method that passes its values on after fixed words; a call by position skips its function."""
 
     def made(function: _Method) -> _Method:
         code, defaults = function.__code__, function.__defaults__ or ()
@@ -52,7 +52,7 @@ def _direct(form: int, *words: str) -> Callable[[_Method], _Method]:
 
 
 def _merged(cnf: Any, given: _Options, synonyms: Mapping[str, str] = _options.SYNONYMS) -> dict[str, Any]:
-    """Options as tkinter takes them: mappings, the words of a call behind them, a last underscore left out."""
+    """Options as tkinter takes them: mappings, then those of a call, each without a last underscore."""
     parts = cnf if isinstance(cnf, (tuple, list)) else [cnf or {}]
     merged = {name: value for part in [*parts, given] for name, value in (part or {}).items()}
     names = ((name[:-1] if name.endswith("_") else name) for name in merged)
@@ -65,7 +65,7 @@ def _words(options: _Options) -> list[Any]:
 
 
 def _kept(name: str, value: Any) -> Any:
-    """An option's value as tkinter would give it back."""
+    """An option's value as tkinter would return it."""
     if isinstance(value, bool):
         return int(value)
     if name == "font" and isinstance(value, (tuple, list)):
@@ -86,7 +86,7 @@ def _parted(options: _Options) -> tuple[list[Any], dict[str, Any]]:
 
 
 def _option(name: str) -> str:
-    """The name of an option that may have a minus in front, or an underscore behind."""
+    """The name of an option without a minus before it or an underscore after it."""
     bare = name[1:] if name[:1] == "-" else name
     return bare[:-1] if bare[-1:] == "_" else bare
 
@@ -94,14 +94,13 @@ def _option(name: str) -> str:
 class Text(_core.Widget):
     """A text widget as tkinter's `Text`, without a display: one of a text of its own, or a peer.
 
-    `master` is a `World`, or a `Text`, in whose world the widget is made; with any other, and with none, it gets a new
-    world.  Options are given as tkinter's are, by `cnf` or by name: `undo`, `maxundo`, `autoseparators`, `state`,
-    `startline` and `endline` are the core's; those of drawing are kept and given back alone.  `name` is the widget's
-    name, of which tkinter makes `.name`, or a whole one that begins with a dot; without it names are made as tkinter
-    makes them.
+    `master` is a `World` in which the widget is created, or a `Text` whose world is used; with anything else the widget
+    has a new world.  Options are as tkinter's, by `cnf` or by name: `undo`, `maxundo`, `autoseparators`, `state`,
+    `startline` and `endline` have an effect; drawing options are only stored.  `name` is a full widget name that begins
+    with a dot, or a name below the master; without it names are those that tkinter would choose.
 
-    An index is a text, as `"1.0"` (lines count from 1, characters from 0), `"end"`, a mark's name, `"sel.first"`,
-    `"insert + 2 chars"` or `"1.0 lineend"`; a wrong one is a `TclError`.  A refused command changes nothing.  After a
+    An index is a string: `"1.0"` (lines count from 1, characters from 0), `"end"`, a mark's name, `"sel.first"`,
+    `"insert + 2 chars"` or `"1.0 lineend"`.  A bad index raises `TclError`.  A refused command changes nothing.  For
     MemoryError see `World.call`.
 
     >>> with Text(undo=True) as text:
@@ -148,7 +147,7 @@ class Text(_core.Widget):
 
     @classmethod
     def named(cls, world: World, name: str) -> Text:
-        """The widget of a name that a world has, as one that a script made.
+        """Returns the widget of this name in a world, for example one that a script created.
 
         >>> world = World()
         >>> world.call("text", ".t")
@@ -174,7 +173,7 @@ class Text(_core.Widget):
         return self
 
     def __exit__(self, *_: object) -> None:
-        """Takes the widget away, and its world where it was made with it."""
+        """Deletes the widget, and its world if they were created together."""
         if self._owns_world:
             self.world.close()
         else:
@@ -190,10 +189,10 @@ class Text(_core.Widget):
 
     @_direct(_AS_NOTHING, "insert")
     def insert(self, index: object, chars: object, *args: object) -> None:
-        """Puts characters in before the one at an index; at the end they go before the last newline.
+        """Inserts characters before the one at an index; at the end, before the last newline.
 
-        Behind the characters may stand a tag, or a tuple of tags, then further characters and tags.  Characters without
-        tags of their own get those that stand on both sides.  Too long a text is a TclError.
+        A tag or a tuple of tags may follow the characters, then more characters and tags.  Characters without a tag
+        argument have the tags that both neighbours have.  A text that would be too long raises TclError.
 
         >>> text = Text()
         >>> text.insert("1.0", "one ", "a", "two")
@@ -204,7 +203,7 @@ class Text(_core.Widget):
 
     @_direct(_AS_NOTHING, "delete")
     def delete(self, index1: object, index2: object = None) -> None:
-        """Takes out the characters from one index to before another, or the one at it.  The last newline stays.
+        """Deletes the characters from one index to before another, or the one at it.  The last newline stays.
 
         >>> text = Text()
         >>> text.insert("1.0", "one two")
@@ -216,9 +215,9 @@ class Text(_core.Widget):
 
     @_direct(_AS_NOTHING, "replace")
     def replace(self, index1: object, index2: object, chars: object, *args: object) -> None:
-        """Puts characters, and tags as in `insert`, in the place of those from one index to before another.
+        """Replaces the characters from one index to before another by others, with tags as in `insert`.
 
-        An index before the first one is a TclError.
+        A second index before the first one raises TclError.
 
         >>> text = Text()
         >>> text.insert("1.0", "one two")
@@ -230,7 +229,7 @@ class Text(_core.Widget):
 
     @_direct(_AS_TEXT, "get")
     def get(self, index1: object, index2: object = None) -> str:
-        """The characters from one index to before another, or the one at it.
+        """Returns the characters from one index to before another, or the one at it.
 
         >>> text = Text()
         >>> text.insert("1.0", "one")
@@ -241,7 +240,7 @@ class Text(_core.Widget):
 
     @_direct(_AS_TEXT, "index")
     def index(self, index: object) -> str:
-        """The place of an index, as line.character.
+        """Returns an index in the form line.character.
 
         >>> text = Text()
         >>> text.insert("1.0", "one")
@@ -251,7 +250,7 @@ class Text(_core.Widget):
         return self._text("index", index)
 
     def compare(self, index1: object, op: str, index2: object) -> bool:
-        """Whether two indices stand so: `op` is <, <=, ==, >=, > or !=.
+        """Compares two indices; `op` is <, <=, ==, >=, > or !=.
 
         >>> Text().compare("1.0", "<", END)
         True
@@ -259,11 +258,11 @@ class Text(_core.Widget):
         return self._text("compare", index1, op, index2) == "1"
 
     def count(self, index1: object, index2: object, *args: str, return_ints: bool = False) -> Any:
-        """How many there are between two indices, fewer than 0 where the second stands first.
+        """Returns the number of characters between two indices, negative if the second is before the first.
 
-        Of each option a number: `"chars"`, `"indices"` (the same here), `"lines"`, `"displaychars"` and
-        `"displayindices"`; `"update"` does nothing.  Lines and points of a display aren't known: a TclError.  As in
-        tkinter, one number is a tuple of it, and None where it is 0; with `return_ints` it is a number.
+        Options select what is counted: `"chars"`, `"indices"` (the same here), `"lines"`, `"displaychars"` and
+        `"displayindices"`; `"update"` is a no-op.  Display lines and pixels raise TclError.  As in tkinter, a single
+        number is returned in a tuple, and as None if it is 0; with `return_ints` it is an int.
 
         >>> text = Text()
         >>> text.insert("1.0", "one\\ntwo")
@@ -283,12 +282,12 @@ class Text(_core.Widget):
     def search(self, pattern: object, index: object, stopindex: object = None, forwards: object = None,
                backwards: object = None, exact: object = None, *, nocase: object = None,
                count: Variable | None = None, strictlimits: object = None) -> str:
-        """The first place from an index on, round the end, at which a text stands, or "".
+        """Returns the index of the first match from an index on, or "".
 
-        With `stopindex` it ends there.  `backwards` goes towards the beginning, `nocase` takes characters for the same
-        whose simple folds are, and `strictlimits` has the whole match before `stopindex`.  `count` is a variable of
-        tkinter's, or anything with `set`: it gets the match's length in characters where there is one.  Patterns are
-        texts: tkinter's `regexp` can't be had here, and there is no need of `elide`, as nothing is hidden.
+        The search wraps around, unless `stopindex` limits it.  `backwards` searches towards the start, `nocase`
+        compares by simple case folding, and `strictlimits` requires the whole match before `stopindex`.  `count` is a
+        tkinter variable, or any object with `set`: it is set to the length of a match in characters.  The pattern is
+        plain text: there is no `regexp`, and no `elide`, since nothing is hidden.
 
         >>> text = Text()
         >>> text.insert("1.0", "one two one")
@@ -304,9 +303,9 @@ class Text(_core.Widget):
     def search_all(self, pattern: object, index: object, stopindex: object = None, *, backwards: object = None,
                    nocase: object = None, overlap: object = None, count: Variable | None = None,
                    strictlimits: object = None) -> tuple[str, ...]:
-        """All places that `search` would find; with `overlap` also those that share characters with one before.
+        """Returns the indices of all matches; with `overlap` also of those that share characters with an earlier one.
 
-        `count` gets a tuple of the lengths.
+        `count` is set to a tuple of the lengths.
 
         >>> text = Text()
         >>> text.insert("1.0", "aaa")
@@ -321,10 +320,10 @@ class Text(_core.Widget):
 
     def dump(self, index1: object, index2: object = None, command: Callable[[str, str, str], Any] | None = None,
              **kw: object) -> list[tuple[str, str, str]] | None:
-        """A list of (kind, value, index) of what stands there, or a call of `command` with the three for each.
+        """Returns a list of (kind, value, index) for a range, or calls `command` with the three for each.
 
-        A kind is `"text"`, `"tagon"`, `"tagoff"` or `"mark"`.  With `text`, `tag` or `mark` set it gives these alone;
-        there are no images and no windows.
+        A kind is `"text"`, `"tagon"`, `"tagoff"` or `"mark"`; `text`, `tag` and `mark` select kinds.  There are no
+        images and no windows.
 
         >>> text = Text()
         >>> text.insert("1.0", "one", "a")
@@ -347,9 +346,9 @@ class Text(_core.Widget):
 
     @_direct(_AS_NOTHING, "tag", "add")
     def tag_add(self, tagName: object, index1: object, *args: object) -> None:
-        """Puts a tag on the characters from one index to before another, or on the one at it; further pairs may follow.
+        """Adds a tag to the characters from one index to before another, or to the one at it; more pairs may follow.
 
-        Too many tags are a TclError.
+        Too many tags raise TclError.
 
         >>> text = Text()
         >>> text.insert("1.0", "one two")
@@ -361,7 +360,7 @@ class Text(_core.Widget):
 
     @_direct(_AS_NOTHING, "tag", "remove")
     def tag_remove(self, tagName: object, index1: object, index2: object = None) -> None:
-        """Takes a tag off the characters from one index to before another, or off the one at it.
+        """Removes a tag from the characters from one index to before another, or from the one at it.
 
         >>> text = Text()
         >>> text.insert("1.0", "one two", "a")
@@ -372,7 +371,7 @@ class Text(_core.Widget):
         self._do("tag", "remove", tagName, index1, index2)
 
     def tag_names(self, index: object = None) -> tuple[str, ...]:
-        """All tags, or those on the character at an index, from the lowest priority to the highest.
+        """Returns all tags, or those of the character at an index, from the lowest priority to the highest.
 
         >>> Text().tag_names()
         ('sel',)
@@ -380,7 +379,7 @@ class Text(_core.Widget):
         return self._tuple("tag", "names", index)
 
     def tag_ranges(self, tagName: object) -> tuple[str, ...]:
-        """Where each range of a tag begins, and the place behind it.
+        """Returns the start and the end of each range of a tag.
 
         >>> text = Text()
         >>> text.insert("1.0", "one", "a")
@@ -390,7 +389,7 @@ class Text(_core.Widget):
         return self._tuple("tag", "ranges", tagName)
 
     def tag_nextrange(self, tagName: object, index1: object, index2: object = None) -> tuple[str, ...]:
-        """The first range of a tag that begins at an index or behind it, and before another; or ().
+        """Returns the first range of a tag that starts at an index or after it, and before another; or ().
 
         >>> text = Text()
         >>> text.insert("1.0", "one", "a")
@@ -400,7 +399,7 @@ class Text(_core.Widget):
         return self._tuple("tag", "nextrange", tagName, index1, index2)
 
     def tag_prevrange(self, tagName: object, index1: object, index2: object = None) -> tuple[str, ...]:
-        """The last range of a tag that begins before an index, and not before another; or ().
+        """Returns the last range of a tag that starts before an index, and not before another; or ().
 
         >>> text = Text()
         >>> text.insert("1.0", "one", "a")
@@ -410,7 +409,7 @@ class Text(_core.Widget):
         return self._tuple("tag", "prevrange", tagName, index1, index2)
 
     def tag_raise(self, tagName: object, aboveThis: object = None) -> None:
-        """Moves a tag to the highest priority, or right above another one.
+        """Moves a tag to the highest priority, or directly above another one.
 
         >>> text = Text()
         >>> text.insert("1.0", "one", "a")
@@ -421,7 +420,7 @@ class Text(_core.Widget):
         self._do("tag", "raise", tagName, aboveThis)
 
     def tag_lower(self, tagName: object, belowThis: object = None) -> None:
-        """Moves a tag to the lowest priority, or right below another one.
+        """Moves a tag to the lowest priority, or directly below another one.
 
         >>> text = Text()
         >>> text.insert("1.0", "one", "a")
@@ -432,7 +431,7 @@ class Text(_core.Widget):
         self._do("tag", "lower", tagName, belowThis)
 
     def tag_delete(self, *tagNames: object) -> None:
-        """Forgets tags, with their ranges, options and bindings; `sel` stays.
+        """Deletes tags, with their ranges, options and bindings; `sel` stays.
 
         >>> text = Text()
         >>> text.insert("1.0", "one", "a")
@@ -446,9 +445,9 @@ class Text(_core.Widget):
             self._tag_bindings.pop(name, None)
 
     def tag_configure(self, tagName: object, cnf: Any = None, **kw: Any) -> Any:
-        """Keeps options of drawing for a tag, which is made if it is new; peers share them but for those of `sel`.
+        """Stores drawing options of a tag, and creates it if it is new; peers share all but those of `sel`.
 
-        Without options it gives all, and with the name of one that alone, as tkinter does.
+        Without options it returns all, and with the name of one that one, as tkinter does.
 
         >>> text = Text()
         >>> text.tag_configure("a", foreground="red")
@@ -471,7 +470,7 @@ class Text(_core.Widget):
     tag_config = tag_configure
 
     def tag_cget(self, tagName: object, option: str) -> str:
-        """An option that was kept for a tag, as a text, or "".  A tag or an option that there isn't is a TclError.
+        """Returns an option that was stored for a tag, or "".  An unknown tag or option raises TclError.
 
         >>> text = Text()
         >>> text.tag_configure("a", foreground="red")
@@ -493,7 +492,7 @@ class Text(_core.Widget):
 
     def tag_bind(self, tagName: object, sequence: str | None = None, func: Handler | None = None,
                  add: object = None) -> Any:
-        """Keeps a handler for events on a tag, which never come here, and gives its name.
+        """Stores a handler for events on a tag, which never occur here, and returns its name.
 
         >>> text = Text()
         >>> name = text.tag_bind("a", "<1>", print)
@@ -503,7 +502,7 @@ class Text(_core.Widget):
         return self._tag_bindings.setdefault(word(tagName), Bindings()).bind(sequence, func, add)
 
     def tag_unbind(self, tagName: object, sequence: str, funcid: str | None = None) -> None:
-        """Forgets what `tag_bind` keeps for a sequence, or one handler by its name.
+        """Removes the handlers of `tag_bind` for a sequence, or one handler by its name.
 
         >>> text = Text()
         >>> name = text.tag_bind("a", "<1>", print)
@@ -517,7 +516,7 @@ class Text(_core.Widget):
 
     @_direct(_AS_NOTHING, "mark", "set")
     def mark_set(self, markName: object, index: object) -> None:
-        """Sets a mark before the character at an index, and makes it if it is new.  Too many are a TclError.
+        """Sets a mark before the character at an index, and creates it if it is new.  Too many raise TclError.
 
         >>> text = Text()
         >>> text.insert("1.0", "one")
@@ -528,7 +527,7 @@ class Text(_core.Widget):
         self._do("mark", "set", markName, index)
 
     def mark_unset(self, *markNames: object) -> None:
-        """Takes marks away; `insert` and `current` stay.
+        """Deletes marks; `insert` and `current` stay.
 
         >>> text = Text()
         >>> text.mark_set("m", "1.0")
@@ -539,7 +538,7 @@ class Text(_core.Widget):
         self._do("mark", "unset", *markNames)
 
     def mark_names(self) -> tuple[str, ...]:
-        """All marks.
+        """Returns the names of all marks.
 
         >>> Text().mark_names()
         ('insert', 'current')
@@ -547,7 +546,7 @@ class Text(_core.Widget):
         return self._tuple("mark", "names")
 
     def mark_next(self, index: object) -> str | None:
-        """The next mark at an index or behind it, or None; of a mark's name, the one behind it.
+        """Returns the next mark at an index or after it, or None; for the name of a mark, the mark after it.
 
         >>> Text().mark_next("1.0")
         'insert'
@@ -555,7 +554,7 @@ class Text(_core.Widget):
         return self._text("mark", "next", index) or None
 
     def mark_previous(self, index: object) -> str | None:
-        """The last mark before an index, or None; of a mark's name, the one before it.
+        """Returns the previous mark before an index, or None; for the name of a mark, the mark before it.
 
         >>> Text().mark_previous("current")
         'insert'
@@ -563,7 +562,7 @@ class Text(_core.Widget):
         return self._text("mark", "previous", index) or None
 
     def mark_gravity(self, markName: object, direction: str | None = None) -> str:
-        """To which neighbour a mark holds, `"left"` or `"right"`; or sets that, and gives "".
+        """Returns the gravity of a mark, `"left"` or `"right"`; or sets it, and returns "".
 
         >>> text = Text()
         >>> text.mark_gravity(INSERT), text.mark_gravity(INSERT, "left"), text.mark_gravity(INSERT)
@@ -574,9 +573,9 @@ class Text(_core.Widget):
     # ---- the history
 
     def edit(self, *args: object) -> Any:
-        """What the methods below do, by a first word: `modified`, `redo`, `reset`, `separator` or `undo`.
+        """Runs a subcommand of `edit`: `modified`, `redo`, `reset`, `separator` or `undo`, as the methods below.
 
-        And whether there is something to undo or to redo, as 1 or 0: `canundo`, `canredo`.
+        `canundo` and `canredo` return 1 if there is something to undo or to redo, else 0.
 
         >>> text = Text(undo=True)
         >>> text.insert("1.0", "one")
@@ -588,7 +587,7 @@ class Text(_core.Widget):
         return number_or_text(self._text("edit", *args))
 
     def edit_undo(self) -> str:
-        """Takes back the last group of edits, where `undo` is set.  Where there is none it is a TclError.
+        """Reverts the last group of edits, if `undo` is set.  Raises TclError if there is none.
 
         >>> text = Text(undo=True)
         >>> text.insert("1.0", "one")
@@ -600,7 +599,7 @@ class Text(_core.Widget):
         return self._text("edit", "undo")
 
     def edit_redo(self) -> str:
-        """Makes again what was undone last.  Where there is nothing it is a TclError.
+        """Makes the group again that was undone last.  Raises TclError if there is none.
 
         >>> text = Text(undo=True)
         >>> text.insert("1.0", "one")
@@ -610,7 +609,7 @@ class Text(_core.Widget):
         return self._text("edit", "redo")
 
     def edit_separator(self) -> str:
-        """Ends the last group of edits.
+        """Closes the last group of edits.
 
         >>> text = Text(undo=True)
         >>> text.insert("1.0", "one")
@@ -623,7 +622,7 @@ class Text(_core.Widget):
         return self._text("edit", "separator")
 
     def edit_reset(self) -> str:
-        """Forgets all edits that could be undone or made again.
+        """Deletes the history: nothing can be undone or redone.
 
         >>> Text().edit_reset()
         ''
@@ -631,7 +630,7 @@ class Text(_core.Widget):
         return self._text("edit", "reset")
 
     def edit_modified(self, arg: object = None) -> Any:
-        """Whether the text was edited, as 1 or 0; or says so, and gives "".
+        """Returns 1 if the text was edited, else 0; or sets that, and returns "".
 
         >>> text = Text()
         >>> text.insert("1.0", "one")
@@ -643,9 +642,9 @@ class Text(_core.Widget):
     # ---- peers and options
 
     def peer_create(self, newPathName: object, cnf: Any = None, **kw: Any) -> Text:
-        """Makes a further widget of the same text, and gives it, where tkinter gives None.
+        """Creates another widget of the same text, and returns it; tkinter returns None.
 
-        Too many widgets, and a name that is there, are a TclError.
+        Too many widgets, or a name in use, raise TclError.
 
         >>> text = Text()
         >>> peer = text.peer_create(".p", startline=1)
@@ -662,7 +661,7 @@ class Text(_core.Widget):
         return peer
 
     def peer_names(self) -> tuple[str, ...]:
-        """The other widgets of the text.
+        """Returns the names of the other widgets of the text.
 
         >>> text = Text()
         >>> peer = text.peer_create(".p")
@@ -672,7 +671,7 @@ class Text(_core.Widget):
         return self._tuple("peer", "names")
 
     def cget(self, key: str) -> Any:
-        """The value of an option: a number, where it is one.  An option that there isn't is a TclError.
+        """Returns the value of an option: an int if it is a number.  An unknown option raises TclError.
 
         >>> text = Text(undo=True, width=20)
         >>> text.cget("undo"), text["width"], text["wrap"]
@@ -681,7 +680,7 @@ class Text(_core.Widget):
         name = key[:-1] if key[-1:] == "_" else key
         full = _options.SYNONYMS.get(name, name)
         if full in _options.DRAWN:
-            # A widget that was taken away has no options either.
+            # A deleted widget has no options either.
             self._do("edit", "modified")
             return self._drawn.get(full, _kept(full, _options.DRAWN[full].first))
         return number_or_text(self._text("cget", "-" + name))
@@ -689,9 +688,9 @@ class Text(_core.Widget):
     __getitem__ = cget
 
     def configure(self, cnf: Any = None, **kw: Any) -> Any:
-        """Sets options, as in `Text`.  All of the core's are set, or else none at all, and it is a TclError.
+        """Sets options, as in `Text`.  A bad option raises TclError, and none is set.
 
-        Without options it gives all as tuples of five, and with the name of one that alone, as tkinter does.
+        Without options it returns all as tuples of five, and with the name of one that one, as tkinter does.
 
         >>> text = Text()
         >>> text.configure(undo=True, width=20)
@@ -715,7 +714,7 @@ class Text(_core.Widget):
         self.configure({key: value})
 
     def keys(self) -> list[str]:
-        """The names of all options.
+        """Returns the names of all options.
 
         >>> Text().keys()[:3]
         ['autoseparators', 'background', 'bd']
@@ -723,7 +722,7 @@ class Text(_core.Widget):
         return list(_options.NAMES)
 
     def _described(self, name: str, is_short: bool = False) -> tuple[Any, ...]:
-        """An option as tkinter describes it; a synonym by what it stands for where it is to be short."""
+        """An option as tkinter describes it; a synonym by its full name if `is_short`."""
         full = _options.SYNONYMS.get(name, name)
         if is_short and full != name:
             return (name, "-" + full)
@@ -731,7 +730,7 @@ class Text(_core.Widget):
         return (full, *(_options.DRAWN[full] if full in _options.DRAWN else _options.CORE[full]), value)
 
     def destroy(self) -> None:
-        """Takes the widget away; its text goes with the last of its peers.
+        """Deletes the widget; its text is deleted with the last peer.
 
         >>> text = Text()
         >>> text.destroy()
@@ -747,10 +746,10 @@ class Text(_core.Widget):
     # ---- events
 
     def bind(self, sequence: str | None = None, func: Handler | None = None, add: object = None) -> Any:
-        """Has a function called with an `Event`, and gives the name by which `unbind` knows it.
+        """Calls a function with an `Event` for each event, and returns the name by which `unbind` removes it.
 
-        `<<Modified>>` comes after a command by which `edit_modified` changes, and `<<Selection>>` after one by which
-        the ranges of `sel` do; any other sequence comes by `event_generate` alone.  With `add` earlier functions stay.
+        `<<Modified>>` fires after a command that changes `edit_modified`, and `<<Selection>>` after one that changes
+        the ranges of `sel`; other sequences fire by `event_generate` only.  With `add`, earlier functions stay.
 
         >>> text = Text()
         >>> name = text.bind("<<Modified>>", print)
@@ -764,7 +763,7 @@ class Text(_core.Widget):
         return name
 
     def unbind(self, sequence: str, funcid: str | None = None) -> None:
-        """Forgets what is bound to a sequence, or one function by its name.
+        """Removes the functions of a sequence, or one function by its name.
 
         >>> text = Text()
         >>> name = text.bind("<<Modified>>", print)
@@ -775,7 +774,7 @@ class Text(_core.Widget):
         self.world._watch_text(self, self._bindings.has(MODIFIED, SELECTION))
 
     def event_generate(self, sequence: str, **kw: Any) -> None:
-        """Calls what is bound to a sequence, as if the event had come.
+        """Calls the functions of a sequence, as if the event had occurred.
 
         >>> text = Text()
         >>> name = text.bind("<<Paste>>", print)
@@ -786,7 +785,7 @@ class Text(_core.Widget):
         self.world._deliver()
 
     def event_add(self, virtual: str, *sequences: str) -> None:
-        """Keeps sequences for a virtual event; no keys and no clicks come here.
+        """Stores sequences of a virtual event; keys and clicks never occur here.
 
         >>> text = Text()
         >>> text.event_add("<<Find>>", "<Control-f>")
@@ -797,7 +796,7 @@ class Text(_core.Widget):
         kept.update(dict.fromkeys(sequences))
 
     def event_delete(self, virtual: str, *sequences: str) -> None:
-        """Forgets sequences of a virtual event, or all of them.
+        """Removes sequences of a virtual event, or all of them.
 
         >>> text = Text()
         >>> text.event_add("<<Find>>", "<Control-f>")
@@ -812,7 +811,7 @@ class Text(_core.Widget):
             self._virtual.pop(virtual, None)
 
     def event_info(self, virtual: str | None = None) -> tuple[str, ...]:
-        """The virtual events that have sequences, or the sequences of one.
+        """Returns the virtual events that have sequences, or the sequences of one.
 
         >>> text = Text()
         >>> text.event_add("<<Find>>", "<Control-f>")
@@ -824,14 +823,14 @@ class Text(_core.Widget):
         return tuple(self._virtual.get(virtual, {}))
 
     def _state(self) -> tuple[str, tuple[str, ...]] | None:
-        """Whether the text was edited, and what is selected; None where the widget is gone."""
+        """Whether the text was edited, and the ranges of `sel`; None if the widget was deleted."""
         try:
             return self._ask(_AS_TEXT, "edit", "modified"), self._ask(_AS_TUPLE, "tag", "ranges", _SEL)
         except (TclError, ValueError):
             return None
 
     def _news(self) -> list[Event]:
-        """The events of what has changed since this was asked last."""
+        """Returns the events of what has changed since the last call."""
         state, known = self._state(), self._known
         if state is None or state == known:
             return []
@@ -843,11 +842,11 @@ class Text(_core.Widget):
     def on_change(self, function: Callable[[list[Change]], Any]) -> Callable[[], None]:
         """Calls a function after each command that changes the text, by whichever peer, with a list of `Change`s.
 
-        Each is a change of the text that those before it leave, the last newline included; applied in order to the old
-        text they give the new one.  Each command is reported once, in order, to those who follow at that time, whatever
-        threads, signal handlers and finalizers do.  A report may come after further commands: those that a follower or
-        another thread gave in the meantime are reported later.  What the function raises is printed.  Returns a
-        function that ends this.
+        Each refers to the text that those before it produce, the last newline included; applied in order to the old
+        text they produce the new one.  Each command is reported once, in order, to the functions set at that time,
+        whatever threads, signal handlers and finalizers do.  A report may come after further commands: those that a
+        function or another thread ran in the meantime are reported later.  An exception in the function is printed.
+        Returns a function that ends the reports.
 
         >>> text = Text()
         >>> end = text.on_change(print)
@@ -861,10 +860,10 @@ class Text(_core.Widget):
     def on_tags(self, function: Callable[[list[TagChange]], Any]) -> Callable[[], None]:
         """Calls a function after each command that adds or removes tags of characters, with a list of `TagChange`s.
 
-        They come after what `on_change` reports of the same command: inserted characters have no tags at first, and
-        deleted ones are gone with theirs.  Applied in order to what is left of the old tags they give the new ones.
+        They follow the report of `on_change` for the same command: inserted characters have no tags at first, and
+        deleted ones are gone with theirs.  Applied in order to the rest of the old tags they produce the new ones.
         Offsets are of the whole text, whatever part of it the widget shows, and `sel` is the widget's own.  Returns a
-        function that ends this.
+        function that ends the reports.
 
         >>> text = Text()
         >>> end = text.on_tags(print)
@@ -880,9 +879,9 @@ class Text(_core.Widget):
     def on_marks(self, function: Callable[[list[str]], Any]) -> Callable[[], None]:
         """Calls a function after each `mark_set` and `mark_unset` that moves marks, with a list of their names.
 
-        A mark is named if it is at another offset of the text then, is new, or is gone.  Marks that an edit moves with
-        the text aren't named, nor is `insert` where undo, redo and `replace` move it.  `insert` and `current` are the
-        widget's own; of any other mark each peer hears.  Returns a function that ends this.
+        A mark is reported if it is at another offset after the command, is new, or is gone.  Marks that an edit moves
+        with the text aren't reported, nor is `insert` if undo, redo or `replace` moves it.  `insert` and `current` are
+        reported to their own widget, other marks to each peer.  Returns a function that ends the reports.
 
         >>> text = Text()
         >>> end = text.on_marks(print)
@@ -901,7 +900,7 @@ class Text(_core.Widget):
     def changes(self) -> list[Change]:
         """Returns the changes of the text since the last call, as `on_change` reports them; none the first time.
 
-        Those of the caller's own commands are among them once these have returned.
+        They include those of the caller's own commands that have returned.
 
         >>> text = Text()
         >>> text.changes()
@@ -911,7 +910,7 @@ class Text(_core.Widget):
         >>> [(change.at, change.removed, change.inserted, str(change.new_end)) for change in text.changes()]
         [(0, 0, 'one', '1.3'), (0, 1, '', '1.0')]
         """
-        # Not before, as it refers to the widget: one that nothing follows goes with its last reference.
+        # Only when first used, since it refers to the widget, which would otherwise be freed with its last reference.
         reader = self.__dict__.setdefault("_reader", Follower(self, changes_for, None))
         self.world._change_followers([reader])
         while True:
@@ -922,31 +921,31 @@ class Text(_core.Widget):
             if self._pass(links):
                 return changes
 
-    # ---- what a widget answers that isn't shown
+    # ---- what a widget returns that isn't shown
 
     def bbox(self, index: object) -> None:
-        """None, since no character is shown.
+        """Returns None, since no character is shown.
 
         >>> Text().bbox("1.0")
         """
         self._do("index", index)
 
     def dlineinfo(self, index: object) -> None:
-        """None, since no line is shown.
+        """Returns None, since no line is shown.
 
         >>> Text().dlineinfo("1.0")
         """
         self._do("index", index)
 
     def see(self, index: object) -> None:
-        """Does nothing for an index that there is.
+        """Does nothing for a valid index.
 
         >>> Text().see(END)
         """
         self._do("index", index)
 
     def debug(self, boolean: object = None) -> bool | None:
-        """Keeps whether a display would check itself, or gives it.
+        """Stores whether a display would check itself, or returns it.
 
         >>> Text().debug()
         False
@@ -969,7 +968,7 @@ class Text(_core.Widget):
         """
 
     def xview(self, *args: object) -> tuple[float, float] | None:
-        """All of the text as it were, from 0.0 to 1.0; with words nothing is done.
+        """Returns (0.0, 1.0), as if the whole text were shown; with arguments it does nothing.
 
         >>> Text().xview(), Text().xview("moveto", 0.5)
         ((0.0, 1.0), None)
@@ -1001,7 +1000,7 @@ class Text(_core.Widget):
         """
 
     def update(self) -> None:
-        """Does nothing: there is nothing to be drawn, and events come by themselves.
+        """Does nothing: nothing is drawn, and events need no loop.
 
         >>> Text().update()
         """
@@ -1022,10 +1021,10 @@ class Text(_core.Widget):
 
     focus = focus_set
 
-    # ---- images and windows, which can't be had
+    # ---- images and windows, which can't be embedded
 
     def image_names(self) -> tuple[str, ...]:
-        """(), since there are none.
+        """Returns (), since there are none.
 
         >>> Text().image_names()
         ()
@@ -1033,7 +1032,7 @@ class Text(_core.Widget):
         return ()
 
     def image_create(self, index: object, cnf: Any = None, **kw: Any) -> Any:
-        """A TclError: images can't be embedded.
+        """Raises TclError: images can't be embedded.
 
         >>> Text().image_create("1.0")
         Traceback (most recent call last):
@@ -1042,15 +1041,15 @@ class Text(_core.Widget):
         raise refusal(_NO_IMAGES)
 
     def image_cget(self, index: object, option: str) -> Any:
-        """A TclError, as `image_create`."""
+        """Raises TclError, as `image_create`."""
         raise refusal(_NO_IMAGES)
 
     def image_configure(self, index: object, cnf: Any = None, **kw: Any) -> Any:
-        """A TclError, as `image_create`."""
+        """Raises TclError, as `image_create`."""
         raise refusal(_NO_IMAGES)
 
     def window_names(self) -> tuple[str, ...]:
-        """(), since there are none.
+        """Returns (), since there are none.
 
         >>> Text().window_names()
         ()
@@ -1058,7 +1057,7 @@ class Text(_core.Widget):
         return ()
 
     def window_create(self, index: object, cnf: Any = None, **kw: Any) -> Any:
-        """A TclError: windows can't be embedded.
+        """Raises TclError: windows can't be embedded.
 
         >>> Text().window_create("1.0")
         Traceback (most recent call last):
@@ -1067,11 +1066,11 @@ class Text(_core.Widget):
         raise refusal(_NO_WINDOWS)
 
     def window_cget(self, index: object, option: str) -> Any:
-        """A TclError, as `window_create`."""
+        """Raises TclError, as `window_create`."""
         raise refusal(_NO_WINDOWS)
 
     def window_configure(self, index: object, cnf: Any = None, **kw: Any) -> Any:
-        """A TclError, as `window_create`."""
+        """Raises TclError, as `window_create`."""
         raise refusal(_NO_WINDOWS)
 
     window_config = window_configure

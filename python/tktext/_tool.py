@@ -1,4 +1,4 @@
-"""Scripts of the widget's commands, by files, standard input or a prompt: `python3 -m tktext`."""
+"""Runs scripts from files, standard input or a prompt: `python3 -m tktext`."""
 
 from __future__ import annotations
 
@@ -13,22 +13,38 @@ from . import __version__, _core
 from ._errors import TclError
 from ._world import World
 
-_ABOUT = """Carries out the commands of a script, and prints the answer of each, as the program tktext does:
-the files one behind the other, or standard input.  At a terminal there is a prompt, with history and
-completion.
+_ABOUT = """Runs the commands of a script and prints the answer of each, as the program tktext does: those of the
+files in order, or of standard input.  Without files at a terminal it is a prompt, with history and completion.
 
-The exit status is 0, 1 if a command was refused, and 2 after a fault of the script, or where reading or
-writing fails."""
+The exit status is 0, 1 if a command was refused, and 2 after a parse error, or if reading or writing fails."""
 _PIECE = 65536
-_ANSWER, _SCRIPT_FAULT = 0, 3
+_ANSWER, _FAULT, _SCRIPT_FAULT = 0, 1, 3
 _BEFORE_FAULT = "error: "
 _FAILED = 2
 _HISTORY = os.path.join("~", ".tktext_history")
 _PROMPT, _FURTHER = "tktext> ", "......> "
+_BANNER = "tktext {version}: `help` lists the commands, `exit` or Ctrl-D ends"
+_HELP = """text W ?option value ..?   creates a text and a widget for it, for example: text .t
+W COMMAND ?argument ..?    runs a command of a widget, for example: .t insert end "hello"
+destroy ?W ..?             deletes widgets
+help COMMAND               shows the arguments of a widget's command, for example: help insert
+exit                       ends the prompt, as Ctrl-D does
+
+Widget commands: {commands}
+Tab completes commands, options, widgets, marks and tags.  A line that isn't complete goes on at the next prompt."""
+# A hint for an error that the library has none for.
+_HINTS = {
+    "invalid command name": "`text .t` creates a widget `.t`; `help` lists the commands",
+    "bad text index": 'an index is line.char, end or a mark, for example 1.0 or "end - 1 chars"',
+    "text doesn't contain": "the tag is on no characters",
+    "nothing to undo": "`-undo 1` has to be set before the edit, and `edit separator` ends a group",
+    "window name": "`destroy` deletes it",
+}
+_NOT_RUN = "no command of this line was run; braces keep $, [ and quotes as they are"
 
 
 def _printed(code: int, line: bytes, is_json: bool) -> str:
-    """What is printed of a command: its line, or an object that tells an answer from a refusal."""
+    """The output of a command: its line, or an object that distinguishes an answer from an error."""
     text = line.decode("utf-8")
     if not is_json:
         return text
@@ -39,7 +55,7 @@ def _printed(code: int, line: bytes, is_json: bool) -> str:
 
 
 def _pieces(files: list[str]) -> Iterator[bytes]:
-    """The bytes of the files one behind the other, or of standard input, as they come."""
+    """The bytes of the files in order, or of standard input, as they come."""
     if not files:
         yield from _pieces_of(sys.stdin.buffer)
     for name in files:
@@ -48,7 +64,7 @@ def _pieces(files: list[str]) -> Iterator[bytes]:
 
 
 def _pieces_of(file: BinaryIO) -> Iterator[bytes]:
-    # What is at hand is taken, so that a command is answered before the next one is written.
+    # A short read is passed on, so that a command is answered before the next one is written.
     while piece := os.read(file.fileno(), _PIECE):
         yield piece
 
@@ -58,7 +74,7 @@ def _write(text: str) -> None:
 
 
 def run_script(world: World, pieces: Iterator[bytes], is_json: bool) -> int:
-    """Carries out a script, and gives the exit status."""
+    """Runs a script, and returns the exit status."""
     def carry_out() -> None:
         for code, line in world._turns():
             _write(_printed(code, line, is_json))
@@ -83,43 +99,43 @@ def _script(command: str) -> bytes:
 
 
 class Completion:
-    """The words that may stand where one is being written."""
+    """The possible words at the cursor."""
 
     def __init__(self, world: World) -> None:
         self._world = world
         self._named: set[str] = set()
 
     def learn(self, command: str) -> None:
-        """Takes note of the names that a command has, one of which may be of a new widget."""
+        """Notes the names in a command, one of which may be a new widget's."""
         self._named.update(re.findall(r"\.[^\s;{}\"\[\]$\\]+", command))
 
     def widgets(self) -> list[str]:
-        """Those of the names that are of a widget."""
+        """The names that belong to a widget."""
         return sorted(name for name in self._named if self._asked(name, "edit", "modified"))
 
     def words(self, before: list[str], begun: str) -> list[str]:
-        """The words that may stand behind some, and begin as one does."""
+        """The possible words after some, which start with the text typed so far."""
         return [word for word in dict.fromkeys(self._all(before, begun)) if word.startswith(begun)]
 
     def _all(self, before: list[str], begun: str) -> list[str]:
         widgets = self.widgets()
         if not before:
-            return ["text", "destroy", *widgets]
+            return ["text", "destroy", "help", "exit", *widgets]
         if before[0] == "destroy":
             return widgets
         return [*self._told(before, begun), *self._names(before, widgets)]
 
     @staticmethod
     def _told(before: list[str], begun: str) -> list[str]:
-        """The subcommands and switches that the library tells of."""
-        # A word that is none, but where a switch is begun.
+        """The subcommands and switches in the library's hint."""
+        # A word that is never valid; where a switch is typed, an unknown one.
         wrong = "-?" if begun.startswith("-") or len(before) > 1 and before[1] in ("cget", "configure") else "?"
         words = [word.encode("utf-8").replace(b"\0", b"\x01") for word in [*before, wrong]]
         hint = _core.hint(words, f'bad option "{wrong}"'.encode("ascii"))
         return re.findall(r"[\w-]+", hint.replace(" or ", " ")) if hint else []
 
     def _names(self, before: list[str], widgets: list[str]) -> list[str]:
-        """The tags and marks of the widget that a command is of."""
+        """The tags and marks of a command's widget."""
         if before[0] not in widgets or len(before) < 2:
             return []
         tags = self._asked(before[0], "tag", "names") or ()
@@ -136,7 +152,7 @@ class Completion:
 
 
 def is_whole(command: str) -> bool:
-    """Whether a command ends where it ends here, and no further line belongs to it.
+    """Whether a command is complete, and no more lines belong to it.
 
     >>> is_whole(".t index end"), is_whole(".t insert 1.0 {a")
     (True, False)
@@ -147,13 +163,13 @@ def is_whole(command: str) -> bool:
             pass
         if world.status() == _FAILED:
             return True
-        # What isn't whole is a fault at the end alone, or a line that a backslash joins with the next.
+        # Incomplete is what is an error only at the end, or a line that a backslash continues.
         world.finish()
         return not any(True for _ in world._turns())
 
 
 def fault_of(command: str) -> str | None:
-    """The fault for which a script of this command can't be read on, if there is one.
+    """Returns the parse error of a script of this command, or None.
 
     >>> fault_of(".t index [x]")
     "error: substitution isn't supported"
@@ -165,8 +181,41 @@ def fault_of(command: str) -> str | None:
         return said[0].decode("utf-8")[:-1] if said else None
 
 
+def hint_of(command: str, fault: str) -> str:
+    """Returns what to do next after a refused command, or "".
+
+    >>> hint_of(".t index", "wrong # args")
+    'should be ".t index index"'
+    """
+    try:
+        words = [word.encode("utf-8").replace(b"\0", b"\x01") for word in _core.split_list(command)]
+    except (UnicodeEncodeError, ValueError):
+        words = []
+    more = _core.hint(words, fault.encode("utf-8").replace(b"\0", b"\x01")) if words else None
+    if more and fault == "wrong # args":
+        return f'should be "{_core.split_list(command)[0]} {more}"'
+    return f"must be {more}" if more else next((it for start, it in _HINTS.items() if fault.startswith(start)), "")
+
+
+def help_of(words: list[str]) -> str:
+    """Returns what `help` prints with these arguments.
+
+    >>> help_of(["insert"])
+    'W insert index chars ?tagList chars ...?'
+    """
+    if not words:
+        commands = _core.hint([b"W", b"?"], b'bad option "?"') or ""
+        return _HELP.format(commands=commands.replace(" option ?arg ...?", "").replace(" or ", " "))
+    command = [b"W", *(word.encode("utf-8", "replace").replace(b"\0", b"\x01") for word in words)]
+    form = _core.hint(command, b"wrong # args")
+    if not form or form == _core.hint([b"W", b"?"], b"wrong # args"):
+        return f"tktext: no command '{' '.join(words)}': `help` lists the commands"
+    choices = _core.hint([*command, b"?"], b'bad option "?"') if " option " in f"{form} " else None
+    return f"W {form}" + (f"\n  option: {choices}" if choices else "")
+
+
 class Prompt:
-    """Commands that are typed, each carried out as soon as it is whole."""
+    """Runs typed commands, each as soon as it is complete."""
 
     def __init__(self, world: World, is_json: bool) -> None:
         self._world, self._is_json = world, is_json
@@ -174,8 +223,10 @@ class Prompt:
         self._found: list[str] = []
 
     def run(self) -> int:
-        """Reads commands to the end, and gives the exit status of them all."""
+        """Reads commands to the end, and returns the exit status of all."""
         self._set_up()
+        if not self._is_json:
+            print(_BANNER.format(version=__version__))
         while True:
             try:
                 command = self._read()
@@ -185,7 +236,13 @@ class Prompt:
             except KeyboardInterrupt:
                 print()
                 continue
-            self._carry_out(command)
+            words = command.split()
+            if words in (["exit"], ["quit"]):
+                return self._world.status()
+            if words[:1] == ["help"]:
+                print(help_of(words[1:]))
+            else:
+                self._carry_out(command)
 
     @staticmethod
     def _read() -> str:
@@ -197,17 +254,25 @@ class Prompt:
     def _carry_out(self, command: str) -> None:
         fault = fault_of(command)
         if fault is not None:
-            # None of it is carried out, so that the script goes on.
+            # None of it runs, so that the next command is read as usual.
             print(_printed(_SCRIPT_FAULT, (fault + "\n").encode("utf-8"), self._is_json), end="")
+            self._advise(_NOT_RUN)
             return
         self._completion.learn(command)
         self._world.feed(_script(command))
         for code, line in self._world._turns():
             printed = _printed(code, line, self._is_json)
             print(printed if printed != "\n" else "", end="", flush=True)
+            if code == _FAULT:
+                self._advise(hint_of(command, line.decode("utf-8")[len(_BEFORE_FAULT):-1]))
+
+    def _advise(self, hint: str) -> None:
+        """Prints what to do next, for a reader."""
+        if hint and not self._is_json:
+            print(f"  hint: {hint}")
 
     def _set_up(self) -> None:
-        """History and completion, where Python has `readline`."""
+        """Sets up history and completion, if Python has `readline`."""
         try:
             import atexit
             import readline
@@ -243,7 +308,7 @@ def _write_history(path: str) -> None:
 
 
 def main(words: list[str] | None = None) -> int:
-    """What `python3 -m tktext` does with its words; gives the exit status."""
+    """Runs `python3 -m tktext` with its arguments, and returns the exit status."""
     parser = argparse.ArgumentParser(
         prog="python3 -m tktext", description=_ABOUT, formatter_class=argparse.RawDescriptionHelpFormatter
     )
@@ -258,7 +323,7 @@ def main(words: list[str] | None = None) -> int:
         try:
             return run_script(world, _pieces(options.files), options.json)
         except BrokenPipeError:
-            # What is still to be written has no reader either.
+            # The rest of the output has no reader either.
             os.dup2(os.open(os.devnull, os.O_WRONLY), sys.stdout.fileno())
             print("write failed", file=sys.stderr)
         except OSError as error:

@@ -53,7 +53,7 @@ def _escaped(element: str, braces: str) -> str:
 
 
 def _float_text(number: float) -> str:
-    """A number as Tcl spells it: without an exponent below 1e17, and else with one without zeros in front."""
+    """A number as Tcl spells it: without an exponent below 1e17, else with one that has no leading zeros."""
     digits, is_long, exponent = repr(number).partition("e")
     if not is_long:
         return {"inf": "Inf", "-inf": "-Inf", "nan": "NaN"}.get(digits, digits)

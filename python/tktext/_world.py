@@ -1,4 +1,4 @@
-"""Worlds: texts with the widgets on them, and a script that may be fed."""
+"""Worlds: texts with their widgets, and a script that may be fed in pieces."""
 
 from __future__ import annotations
 
@@ -14,7 +14,7 @@ from ._reports import Follower
 if TYPE_CHECKING:
     from ._text import Text
 
-# How many numbers the library's types for the four limits have.
+# The number of values of the library's types for the four limits.
 _LIMIT_NUMBERS = (2 ** (8 * struct.calcsize("N")), 2**16, 2**16, 2**16)
 
 
@@ -24,23 +24,23 @@ def _limits_of(limits: Iterable[int]) -> tuple[int, ...]:
     if len(numbers) != len(_LIMIT_NUMBERS):
         raise ValueError("the limits are four: characters, tags, marks and widgets")
     if not all(0 <= number < count for number, count in zip(numbers, _LIMIT_NUMBERS)):
-        raise ValueError("no characters, or a limit above its greatest")
+        raise ValueError("no characters, or a limit above its maximum")
     return numbers
 
 
 def _bytes_of(piece: Any) -> bytes:
-    """The bytes of a buffer, as many as it has, whatever a class that stands on `bytes` says of its length."""
+    """The bytes of a buffer, all of them, whatever length a subclass of `bytes` reports."""
     return piece if type(piece) is bytes else bytes(memoryview(piece))
 
 
 class World(_core.World):
-    """Texts with the widgets on them, and a script that may be fed.
+    """Texts with their widgets, and a script that may be fed in pieces.
 
     `limits` are the maximum numbers of characters of a text, its last newline included (1 to 134217728), of tags of a
     text besides `sel` (960), of shared marks of a text (4096) and of widgets (64); these are the default.  A limit out
-    of range is a ValueError, and out of memory is a MemoryError.
+    of range raises ValueError, and out of memory MemoryError.
 
-    Threads may share a world: a command is carried out and its report queued as a whole.  It can't be copied.
+    Threads may share a world: a command runs and its report is queued as a whole.  A world can't be copied.
 
     >>> with World() as world:
     ...     world.call("text", ".t"), world.call(".t", "index", "end")
@@ -61,11 +61,11 @@ class World(_core.World):
         self.close()
 
     def __reduce_ex__(self, _protocol: object) -> Any:
-        """What copies and pickles a world, which has one handle."""
+        """Refuses to copy or pickle a world, which has one handle."""
         raise TypeError("a world can't be copied")
 
     def close(self) -> None:
-        """Drops the world with all that is in it, and reports that aren't delivered; a second time does nothing.
+        """Deletes the world with its texts, and reports that weren't delivered; a second call is a no-op.
 
         >>> world = World()
         >>> world.close()
@@ -76,11 +76,11 @@ class World(_core.World):
         self._drop()
 
     def call(self, *words: object) -> str:
-        """Carries out a command of these words, and returns its answer.
+        """Runs a command of these words, and returns its answer.
 
-        A word of bytes is UTF-8, and any other is its `str`.  A refused command is a TclError, and changes nothing.  A
-        MemoryError changes nothing either, unless memory ran out for the answer, or while the command was reported to
-        those who follow: then it was carried out, and what wasn't delivered comes after the next command.
+        A word of bytes is UTF-8; any other is its `str`.  A refused command raises TclError, and changes nothing.  So
+        does a MemoryError, unless memory ran out for the answer, or while the command was reported to functions: then
+        it was carried out, and the rest of the report is delivered after the next command.
 
         >>> world = World()
         >>> world.call("text", ".t")
@@ -92,7 +92,7 @@ class World(_core.World):
         return self._run(words)
 
     def give(self, words: Sequence[Any]) -> int:
-        """Carries out a command whose words are bytes, and returns the code of the call: of include/tktext.h.
+        """Runs a command whose words are bytes, and returns the code of the call, as in include/tktext.h.
 
         >>> world = World()
         >>> world.give([b"text", b".t"]), world.said()
@@ -101,10 +101,10 @@ class World(_core.World):
         return self._give(list(map(_bytes_of, words)))
 
     def said(self) -> bytes:
-        """Returns the line of the last command, as the program prints it: UTF-8, with its newline.
+        """Returns the output of the last command, as the program prints it: UTF-8, with its newline.
 
-        After `give` and `lines` it is that of their command, whatever followers did.  A command that another thread or
-        a signal handler gives in between has its own; `call` returns the answer itself.
+        After `give` and `lines` it is that of their command, whatever functions they called.  A command that another
+        thread or a signal handler runs in between has its own; `call` returns the answer itself.
 
         >>> world = World()
         >>> world.give([b"foo"]), world.said()
@@ -113,9 +113,9 @@ class World(_core.World):
         return self._said()
 
     def feed(self, piece: Any) -> None:
-        """Takes the next bytes of the script, as they come: UTF-8, cut anywhere.  Nothing is carried out yet.
+        """Takes the next bytes of the script: UTF-8, cut anywhere.  No command runs yet.
 
-        A piece is `bytes` or another buffer.  After `finish` it is a ValueError.
+        A piece is `bytes` or another buffer.  After `finish` it raises ValueError.
 
         >>> world = World()
         >>> world.feed(b"text .t\\n.t ins")
@@ -125,7 +125,7 @@ class World(_core.World):
         self._feed(_bytes_of(piece))
 
     def finish(self) -> None:
-        """Ends the script, and so its last command, which needs no newline then.
+        """Ends the script, and so its last command, which then needs no newline.
 
         >>> world = World()
         >>> world.feed(b"text .t")
@@ -136,11 +136,10 @@ class World(_core.World):
         self._finish()
 
     def lines(self) -> Iterator[bytes]:
-        """Carries out the commands of the script that are at hand, and yields the line that the program prints for each.
+        """Runs the commands of the script that are complete, and yields the output of the program for each.
 
-        Each is carried out when its line is asked for.  A command is at hand once it is whole however the script goes
-        on; the lines end where none is, and go on with a further call of `lines` after `feed` or `finish`.  A fault of
-        the script itself gives its line, and then no more.
+        Each runs when its output is requested.  A command is complete if it ends there however the script goes on.
+        After the next `feed` or `finish`, call `lines` again for the rest.  After a parse error there are no more.
 
         >>> world = World()
         >>> world.feed(b"text .t; .t index end; .t index foo\\n")
@@ -154,12 +153,12 @@ class World(_core.World):
             yield line
 
     def _turns(self) -> Iterator[tuple[int, bytes]]:
-        """What `lines` yields, each after its code of include/tktext.h."""
+        """Yields what `lines` yields, each after its code of include/tktext.h."""
         while (turn := self._next()) is not None:
             yield turn
 
     def status(self) -> int:
-        """The exit status of the script so far: 2 after a fault of the script, 1 after a refused command, else 0.
+        """Returns the exit status of the script so far: 2 after a parse error, 1 after a refused command, else 0.
 
         >>> world = World()
         >>> world.status()
@@ -167,7 +166,7 @@ class World(_core.World):
         """
         return self._status()
 
-    # ---- widgets and what is bound to them
+    # ---- widgets and their bindings
 
     def _name_child(self, parent: str, kind: str) -> str:
         """A new name, as tkinter makes it: .!text, .!text2."""
@@ -175,7 +174,7 @@ class World(_core.World):
         return f"{parent.rstrip('.')}.!{kind}{number if number > 1 else ''}"
 
     def _watch_text(self, text: Text, is_watched: bool) -> None:
-        """Looks after each command whether there are events of a widget, or no longer."""
+        """Starts or stops checking after each command whether a widget has events."""
         self._watched = [other for other in self._watched if other is not text] + [text] * is_watched
         self._watch(bool(self._watched))
 
@@ -186,7 +185,7 @@ class World(_core.World):
                 self._queue(partial(text._bindings.send, event))
 
     def _change_followers(self, added: Sequence[Follower], ended: Sequence[Follower] = ()) -> None:
-        """Has followers hear of each command that comes, and others of nothing more."""
+        """Adds followers, and ends others."""
         for follower in ended:
             follower.function = None
         while True:
