@@ -11,7 +11,8 @@ pub use Rattle.command_effects.proofs.WrittenLaws.{filter-append}
 pub use Rattle.command_effects.specs.Arguments.{first_of, first_two_of, none_or_one_of, one_or_two_of, two_of}
 pub use Rattle.command_effects.specs.Faults.{shape_fault, with_value}
 pub use Rattle.command_effects.specs.Listing.{is_filled}
-pub use Rattle.command_effects.specs.Lists.{Pair, pairs_at}
+pub use Rattle.command_effects.specs.Lists.{Pair, pairs_at, total, with_name}
+pub use Rattle.command_effects.specs.Marking.{gravity_of}
 pub use Rattle.command_effects.specs.Settings.{end_bound, first_settings, is_behind, line_numbered, line_of_word}
 pub use Rattle.command_effects.specs.Settings.{setting_read, settings_checked, settings_read, start_bound, state_of}
 pub use Rattle.command_effects.specs.Words.{is_among, is_same, literal}
@@ -19,12 +20,14 @@ pub use Rattle.command_effects.specs.declared.answers.Answer.{Answer}
 pub use Rattle.command_effects.specs.declared.answers.Answer.TheVariants.{Empty, Flag, Text, Word}
 pub use Rattle.command_effects.specs.declared.answers.Fault.{Fault}
 pub use Rattle.command_effects.specs.declared.answers.Fault.TheVariants.{BadBoolean, BadInteger, BadOption, IndexOrder}
-pub use Rattle.command_effects.specs.declared.answers.Fault.TheVariants.{InvalidCommandName, Memory, NothingToUndo}
-pub use Rattle.command_effects.specs.declared.answers.Fault.TheVariants.{StartLineAfterEndLine, TooManyWidgets}
-pub use Rattle.command_effects.specs.declared.answers.Fault.TheVariants.{WindowExists}
+pub use Rattle.command_effects.specs.declared.answers.Fault.TheVariants.{InvalidCommandName, Memory, NoSuchTag}
+pub use Rattle.command_effects.specs.declared.answers.Fault.TheVariants.{NothingToUndo, StartLineAfterEndLine}
+pub use Rattle.command_effects.specs.declared.answers.Fault.TheVariants.{TextTooLong, TooManyMarks, TooManyTags}
+pub use Rattle.command_effects.specs.declared.answers.Fault.TheVariants.{TooManyWidgets, WindowExists}
 pub use Rattle.command_effects.specs.declared.settings.Settings.{Settings}
 pub use Rattle.command_table.specs.Numbers.{boolean_of, integer_of}
-pub use Rattle.command_table.specs.Reading.{behind, reading, subcommand}
+pub use Rattle.command_table.specs.Reading.{bad_or, behind, reading, shape_in, subcommand}
+pub use Rattle.command_table.specs.Table.{destroy_entry, text_entry}
 pub use Rattle.command_table.specs.declared.commands.Command.{Command}
 pub use Rattle.command_table.specs.declared.commands.Command.TheVariants.{Configure, Delete, EditModified, EditRedo}
 pub use Rattle.command_table.specs.declared.commands.Command.TheVariants.{EditReset, EditSeparator, EditUndo, Insert}
@@ -41,25 +44,26 @@ pub use Rattle.documents.proofs.OptionLeadLaws.{leads-first, leads-left, leads-p
 pub use Rattle.documents.proofs.UndoRunLaws.{AnswersFor, after_times, by_found, by_name, undone-redone}
 pub use Rattle.documents.specs.Deletions.{delete_places, replace_span}
 pub use Rattle.documents.specs.Documents.{Document, Widget, characters, widget_at}
-pub use Rattle.documents.specs.History.{edit_redo, edit_reset, edit_undo, modified_set}
+pub use Rattle.documents.specs.History.{edit_redo, edit_reset, edit_undo, modified_set, redo_found, undo_found}
 pub use Rattle.documents.specs.Indices.{place_at}
 pub use Rattle.documents.specs.Kept.{is_window_name}
-pub use Rattle.documents.specs.Marks.{mark_offset, mark_unset, place_named}
+pub use Rattle.documents.specs.Marks.{mark_offset, mark_unset, place_named, set_found}
 pub use Rattle.documents.specs.MarksTold.{ForetellsMarks, MarksTold}
 pub use Rattle.documents.specs.Options.{AreLines, IsLine, settings_of, with_settings}
 pub use Rattle.documents.specs.Promise.{Change, Does, Gives, answered, change_with, refused, unless_idle}
-pub use Rattle.documents.specs.Tags.{add_spans, lowered, raised, remove_spans, reordered, tag_delete}
-pub use Rattle.documents.specs.Texts.{insert_at, insertion_offset}
+pub use Rattle.documents.specs.Tags.{add_spans, known_or, lowered, raised, remove_spans, reordered, tag_delete}
+pub use Rattle.documents.specs.Texts.{insert_at, insertion_offset, tags_with, within_limits}
 pub use Rattle.documents.specs.Told.{Foretells, TellsCells}
-pub use Rattle.documents.specs.Views.{shown, view_end}
+pub use Rattle.documents.specs.Views.{is_idle, shown, view_end}
 pub use Rattle.documents.specs.WellFormed.{IsPlaced, IsWellFormedDocument, window_names}
 pub use Rattle.documents.specs.Widgets.{ShowsOpenly, bare_document, is_kept, keeps_some, new_document, new_widget}
 pub use Rattle.documents.specs.Widgets.{thinned, widget_named, with_peer, without_widgets}
 pub use Rattle.documents.specs.declared.told.EditTold.{EditTold}
 pub use Rattle.peers.specs.Commands.{Call, arguments_of, call_of, command, done, shaped, switches_of}
 pub use Rattle.peers.specs.Deletions.{delete, replace, replace_places, replace_words}
-pub use Rattle.peers.specs.Laws.{AnswersBefore, AreSpared, BeginsToKeep, GoesBack, UndoRuns, after_all, forgets}
-pub use Rattle.peers.specs.Laws.{forgets_read, is_forgotten, is_spared, names_dropped, names_read, place_after}
+pub use Rattle.peers.specs.History.{edit_modified, modified_word}
+pub use Rattle.peers.specs.Laws.{AnswersBefore, AreSpared, BeginsToKeep, GoesBack, NamesWindow, UndoRuns, after_all}
+pub use Rattle.peers.specs.Laws.{forgets, forgets_read, is_forgotten, is_spared, names_dropped, names_read, place_after}
 pub use Rattle.peers.specs.Laws.{place_after_all, redo_words, repeated, sets_keeping, text_at, undo_words}
 pub use Rattle.peers.specs.Marks.{gravity_asked, gravity_given, gravity_words, mark_gravity, mark_set, set_at}
 pub use Rattle.peers.specs.Marks.{set_words}
@@ -95,7 +99,10 @@ pub use Rattle.std.proofs.lemmas.Str.{encodes-chars}
 pub use Rattle.std.specs.List.{All, AllByRecursion, IsDistinct}
 pub use Rattle.std.specs.Map.{keys_of, lookup, values_of}
 pub use Rattle.std.specs.Option.{option_map_or}
-pub use Rattle.std.specs.Prelude.{ℤ, ⊤, OnErr, OnOk, bytes_eq, negsuc, option_and_then, pos, position}
+pub use Rattle.std.specs.Prelude.{ℤ, ⊤, OnErr, OnOk, bytes_eq, negsuc, option_and_then, pos, position, slice_index_or}
 pub use Rattle.tcl_words.specs.ListGrowth.{Goes}
 pub use Rattle.tcl_words.specs.Unread.{texts_of}
 pub use Rattle.text_model.specs.LimitTable.{AreLimits, LimitTable}
+pub use Rattle.text_model.specs.declared.places.Gravity.{Gravity}
+pub use Rattle.text_model.specs.declared.places.Place.{Place}
+pub use Rattle.undo_stack.specs.History.{limit_of, next_redo, next_undo}

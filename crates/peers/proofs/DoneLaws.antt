@@ -14,14 +14,10 @@ use Rattle.peers.proofs.Common.{replace_places, replace_words, gravity_asked, gr
 use Rattle.peers.proofs.Common.{mark_gravity, mark_set, set_at, set_words, configure, settings_given, places_at}
 use Rattle.peers.proofs.Common.{add_words, remove_words, tag_add, tag_lower, tag_raise, tag_remove, insert_pairs}
 use Rattle.peers.proofs.Common.{insert_words, peer_create, peer_settings, peer_with, Result, nat_le, nat_lt}
-use Rattle.peers.proofs.Common.{if◌then◌else◌}
+use Rattle.peers.proofs.Common.{if◌then◌else◌, Gravity, Place, gravity_of, edit_modified, modified_word}
 use Rattle.peers.specs.Texts.{insert}
-use Rattle.text_model.specs.declared.places.Gravity.{Gravity}
-use Rattle.text_model.specs.declared.places.Place.{Place}
-use Rattle.command_effects.specs.Marking.{gravity_of}
 use Rattle.documents.proofs.CarriedLaws.{IsCarried, IsMarked, IsQuiet, IsTagged, carried-active, carried-with}
 use Rattle.documents.proofs.IndexPlaceLaws.{place-within}
-use Rattle.peers.specs.History.{edit_modified, modified_word}
 
 -- ---- places of indices
 

@@ -8,9 +8,8 @@ use Rattle.peers.proofs.Common.{state_of, is_among, is_same, literal, Document, 
 use Rattle.peers.proofs.Common.{AreLines, settings_of, with_settings, Change, answered, change_with, refused, with_peer}
 use Rattle.peers.proofs.Common.{Leads, settings-kept, AreNamed, named-peer, named-same, leads-peer, leads-settings}
 use Rattle.peers.proofs.Common.{own-lines, configure, settings_given, peer_create, peer_settings, peer_with}
-use Rattle.peers.proofs.Common.{sets_keeping, ok_or, or_parts}
+use Rattle.peers.proofs.Common.{sets_keeping, ok_or, or_parts, limit_of}
 use Rattle.text_model.specs.Lines.{lines}
-use Rattle.undo_stack.specs.History.{limit_of}
 use Rattle.peers.proofs.OptionLaws.{given-lines, if-ok, through}
 
 -- ---- options

@@ -14,6 +14,7 @@ pub mod OptionLaws
 pub mod PeerLaws
 pub mod PlaceLaws
 pub mod PromiseLaws
+pub mod SettledLaws
 pub mod SwitchLaws
 pub mod ToldLaws
 pub mod ToldStepLaws

@@ -1,7 +1,9 @@
 -- The names that most proofs of this crate cite, passed on from one place. Declares nothing.
 pub use Rattle.std.proofs.Common.{[], ℕ, ◌*◌, ◌++◌, ◌+◌, ◌-◌, ◌<◌, ◌||◌, ◌∙◌, ◌∷◌, ◌≡◌, ◌≢◌, ◌≤◌, ◌⊎◌, Bool, List, None}
 pub use Rattle.std.proofs.Common.{Option, Some, ap, append_assoc, arith, cond, drop, encode_utf8_all, false, inl, inr}
-pub use Rattle.std.proofs.Common.{length, length-append, not, refl, rules, suc, sym, take, true}
+pub use Rattle.std.proofs.Common.{length, length-append, not, refl, rules, subst, suc, sym, take, true}
+pub use Rattle.command_effects.specs.declared.answers.Answer.{Answer}
+pub use Rattle.command_effects.specs.declared.answers.Fault.{Fault}
 pub use Rattle.command_effects.specs.declared.answers.Fault.TheVariants.{Memory}
 pub use Rattle.devices.specs.Devices.{Appends, Consumes, HandsOut, LeavesNone, ReadLog, Takes, WriteLog}
 pub use Rattle.peers.specs.Step.{step}
@@ -15,7 +17,7 @@ pub use Rattle.script_cli.specs.Told.{WantsMemory, WritesFrontOf, WritesFrontOfR
 pub use Rattle.script_cli.specs.Turns.{Meets, MeetsCommand, Replies, goes_on, is_fault, is_refusal}
 pub use Rattle.script_cli.specs.declared.summary.RunSummary.{RunSummary}
 pub use Rattle.script_cli.specs.declared.turns.Met.{Met}
-pub use Rattle.std.proofs.lemmas.Bool.{false≢true}
+pub use Rattle.std.proofs.lemmas.Bool.{false≢true, true≢false}
 pub use Rattle.std.proofs.lemmas.Grind.{common_steps}
 pub use Rattle.std.proofs.lemmas.List.{append-nil, take-append-drop, take_all}
 pub use Rattle.std.proofs.lemmas.Str.{encodes-append}

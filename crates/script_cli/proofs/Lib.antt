@@ -1,3 +1,4 @@
+mod HarmlessLaws
 pub mod Common
 pub mod RunLaws
 mod SameLaws

@@ -1,15 +1,18 @@
 -- A run so far, and whatever the rest of it prints.
-use Rattle.script_cli.proofs.Common.{◌≡◌, ℕ, suc, ◌+◌, ◌<◌, ◌||◌, take, Bool, true, false, not, cond, List, [], ◌∷◌}
-use Rattle.script_cli.proofs.Common.{◌++◌, length, Option, None, Some, ◌⊎◌, inl, inr, refl, sym, ap, ◌∙◌, append_assoc}
-use Rattle.script_cli.proofs.Common.{arith, encode_utf8_all, is_some, is_err, is_ok, Result, Ok, Err, OnOk, OnErr}
-use Rattle.script_cli.proofs.Common.{false≢true, append-nil, encodes-append, LimitTable, IsCommandBefore, Unread}
-use Rattle.script_cli.proofs.Common.{IsNextCommand, HasNoCommand, HasFault, ScriptFault, a_reading, World, step}
-use Rattle.script_cli.proofs.Common.{RunSummary, Met, ReadLog, WriteLog, HandsOut, Takes, piece, memory_line}
-use Rattle.script_cli.proofs.Common.{no_documents, run_output, refused_count, RunsTo, Holds, WritesRun, WritesFront}
-use Rattle.script_cli.proofs.Common.{Feeds, Sends, Gathers, Replies, MeetsCommand, Meets}
+use Rattle.script_cli.proofs.Common.{◌≡◌, ℕ, suc, ◌+◌, ◌<◌, ◌||◌, Bool, true, false, not, cond, List, [], ◌∷◌, ◌++◌}
+use Rattle.script_cli.proofs.Common.{length, Option, None, Some, ◌⊎◌, inl, inr, refl, sym, ap, ◌∙◌, append_assoc, arith}
+use Rattle.script_cli.proofs.Common.{encode_utf8_all, is_some, is_err, is_ok, Result, Ok, Err, OnOk, OnErr, false≢true}
+use Rattle.script_cli.proofs.Common.{append-nil, encodes-append, LimitTable, IsCommandBefore, Unread, IsNextCommand}
+use Rattle.script_cli.proofs.Common.{HasNoCommand, HasFault, ScriptFault, a_reading, World, step, RunSummary, Met}
+use Rattle.script_cli.proofs.Common.{ReadLog, WriteLog, HandsOut, Takes, piece, memory_line, no_documents, run_output}
+use Rattle.script_cli.proofs.Common.{refused_count, RunsTo, Holds, WritesRun, WritesFront, Feeds, Sends, Gathers}
+use Rattle.script_cli.proofs.Common.{Replies, MeetsCommand, Meets, true≢false, subst}
 use Rattle.script_cli.specs.declared.summary.RunFault.{RunFault}
 use Rattle.script_cli.specs.Carrying.{RunsBytes, MayFollow, Carries, CarriesOut, Carried, Cuts}
-use Rattle.script_cli.specs.PlainRun.{IsPlain, IsPlainUpToRefusal}
+use Rattle.script_cli.specs.PlainRun.{IsPlain, IsPlainOutput, IsPlainUpToRefusal}
+use Rattle.script_cli.proofs.HarmlessLaws.{harmless}
+use Rattle.documents.proofs.MarksToldLaws.{same-word, words-are}
+use Rattle.command_table.specs.Words.{is_same}
 use Rattle.script_cli.proofs.SendingLaws.{Takes-nil, Takes-then, HandsOut-nil, HandsOut-then}
 use Rattle.script_cli.specs.declared.turns.Met.TheVariants as kinds
 
@@ -627,41 +630,99 @@ run_to_end limits source_old source source_new sink_old sink sink_new world rest
     ) carried.3.0 carried.3.1)
     refl carried.4 carried.5 unfaulted carried.6
 
-one_past : (k n : ℕ) → k < n → suc k < suc n
-one_past k n below = omega (arith, below)
+-- ---- the plain run, and runs in which allocations fail
 
-none_past : (n : ℕ) → 0 < suc n
-none_past n = omega arith
+-- what a run is next to the plain one
+abbrev pub Compares : World → List (List (List ℕ)) → Option ScriptFault → List ℕ → ℕ → Type 0
+Compares world commands fault out refused =
+    IsPlain world commands fault out refused
+    ⊎ (IsPlainOutput world commands fault out refused ⊎ IsPlainUpToRefusal world commands out)
+
+later_refused : (few one other : ℕ) → one < other → few + one < few + other
+later_refused few one other less = omega (arith, less)
+
+-- a run up to a failed allocation, with one command more before it
+cut_later : (world : World) (words : List (List ℕ)) (commands : List (List (List ℕ))) (out rest : List ℕ)
+    → out ≡ piece words (step world words).reply ++ rest → IsPlainUpToRefusal (step world words).world commands rest
+    → IsPlainUpToRefusal world (words ∷ commands) out
+cut_later world words commands out rest is cut =
+    let text = piece words (step world words).reply in
+    let before = run_output (step world words).world cut.0 None in (
+      words ∷ cut.0,
+      cut.1,
+      cut.2,
+      cut.3,
+      ap (λ cs. words ∷ cs) cut.4,
+      is ∙ ap (λ more. text ++ more) cut.5 ∙ sym (append_assoc text before (memory_line ++ cut.3)),
+      cut.6,
+    )
 
 -- after a command that is answered as in the plain run
 plain_more : (world : World) (words : List (List ℕ)) (commands : List (List (List ℕ))) (fault : Option ScriptFault)
     (out rest : List ℕ) (refused others : ℕ)
     → out ≡ piece words (step world words).reply ++ rest → refused ≡ cond (is_err (step world words).reply) 1 0 + others
-    → IsPlain (step world words).world commands fault rest others
-    ⊎ IsPlainUpToRefusal (step world words).world commands rest
-    → IsPlain world (words ∷ commands) fault out refused ⊎ IsPlainUpToRefusal world (words ∷ commands) out
+    → Compares (step world words).world commands fault rest others → Compares world (words ∷ commands) fault out refused
 plain_more world words commands fault out rest refused others is count (inl plain) =
     inl (
       is ∙ ap (λ more. piece words (step world words).reply ++ more) plain.0,
       count ∙ ap (λ n. cond (is_err (step world words).reply) 1 0 + n) plain.1,
     )
-plain_more world words commands fault out rest refused others is count (inr cut) =
-    let text = piece words (step world words).reply in
-    let before = run_output (step world words).world (take cut.0 commands) None in
-    inr (
-      suc cut.0,
-      cut.1,
-      one_past cut.0 (length commands) cut.2,
-      is ∙ ap (λ more. text ++ more) cut.3 ∙ sym (append_assoc text before (memory_line ++ cut.1)),
-    )
+plain_more world words commands fault out rest refused others is count (inr (inl same)) =
+    let one : ℕ = cond (is_err (step world words).reply) 1 0 in
+    let later = refused_count (step world words).world commands in
+    inr (inl (
+      is ∙ ap (λ more. piece words (step world words).reply ++ more) same.0,
+      subst (λ n. one + later < n) (sym count) (later_refused one later others same.1),
+    ))
+plain_more world words commands fault out rest refused others is count (inr (inr cut)) =
+    inr (inr (cut_later world words commands out rest is cut))
 
-pub plain_up_to_refusal : (commands : List (List (List ℕ))) (world : World) (fault : Option ScriptFault) (out : List ℕ)
+-- a run with the same output that refuses more commands
+refused_more : (world : World) (commands : List (List (List ℕ))) (fault : Option ScriptFault) (out : List ℕ)
+    (few refused : ℕ)
+    → few < refused → Compares world commands fault out few → Compares world commands fault out refused
+refused_more world commands fault out few refused less (inl plain) =
+    inr (inl (plain.0, subst (λ n. n < refused) plain.1 less))
+refused_more world commands fault out few refused less (inr (inl same)) =
+    inr (inl (same.0, omega (arith, less, same.1)))
+refused_more world commands fault out few refused less (inr (inr cut)) = inr (inr cut)
+
+-- after a command that is refused where an allocation fails, and prints in the plain run what this prints
+same_more : (world : World) (words : List (List ℕ)) (commands : List (List (List ℕ))) (fault : Option ScriptFault)
+    (out rest : List ℕ) (refused others : ℕ)
+    → out ≡ piece words (step world words).reply ++ rest → refused ≡ 1 + others
+    → Compares (step world words).world commands fault rest others → Compares world (words ∷ commands) fault out refused
+same_more world words commands fault out rest refused others is count later =
+    elim (is_err (step world words).reply) as (λ b. is_err (step world words).reply ≡ b →
+    Compares world (words ∷ commands) fault out refused) [
+      | true ↦ λ err. plain_more world words commands fault out rest refused others is
+          (count ∙ ap (λ b. cond b 1 0 + others) (sym err)) later
+      | false ↦ λ ok. refused_more world (words ∷ commands) fault out (cond (is_err (step world words).reply) 1 0 + others)
+          refused (subst (λ b. cond b 1 0 + others < refused) (sym ok) (omega (arith, count)))
+          (plain_more world words commands fault out rest
+          (cond (is_err (step world words).reply) 1 0 + others) others is refl later)
+    ] refl
+
+pub compared : (commands : List (List (List ℕ))) (world : World) (fault : Option ScriptFault) (out : List ℕ)
     (refused : ℕ)
-    → RunsTo world commands fault out refused → IsPlain world commands fault out refused
-    ⊎ IsPlainUpToRefusal world commands out
-plain_up_to_refusal [] world fault out refused runs = inl runs
-plain_up_to_refusal (words ∷ commands) world fault out refused (inl by_step) =
+    → RunsTo world commands fault out refused → Compares world commands fault out refused
+compared [] world fault out refused runs = inl runs
+compared (words ∷ commands) world fault out refused (inl by_step) =
     plain_more world words commands fault out by_step.0 refused by_step.1 by_step.2 by_step.3
-    (plain_up_to_refusal commands (step world words).world fault by_step.0 by_step.1 by_step.4)
-plain_up_to_refusal (words ∷ commands) world fault out refused (inr by_memory) =
-    inr (0, by_memory.0, none_past (length commands), by_memory.2)
+    (compared commands (step world words).world fault by_step.0 by_step.1 by_step.4)
+compared (words ∷ commands) world fault out refused (inr by_memory) =
+    let text = piece words (step world words).reply in
+    let later = compared commands world fault by_memory.0 by_memory.1 by_memory.4 in
+    elim (is_same text memory_line) as (λ b. is_same text memory_line ≡ b →
+    Compares world (words ∷ commands) fault out refused) [
+      | true ↦ λ same.
+          let line : text ≡ memory_line = words-are text memory_line same in
+          let kept : (step world words).world ≡ world = harmless world words line in
+          same_more world words commands fault out by_memory.0 refused by_memory.1
+          (by_memory.2 ∙ ap (λ xs. xs ++ by_memory.0) (sym line)) by_memory.3
+          (subst (λ after. Compares after commands fault by_memory.0 by_memory.1) (sym kept) later)
+      | false ↦ λ other. inr (inr (
+          [], words, commands, by_memory.0, refl, by_memory.2,
+          λ line. true≢false (sym (same-word memory_line) ∙ ap (λ xs. is_same xs memory_line) (sym line) ∙ other),
+        ))
+    ] refl

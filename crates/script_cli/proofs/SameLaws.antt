@@ -3,7 +3,7 @@ use Rattle.script_cli.proofs.Common.{◌≡◌, ℕ, List, [], Option, Some, ◌
 use Rattle.script_cli.proofs.Common.{LimitTable, ReadsScript, ScriptFault, one_script, RunSummary, no_documents}
 use Rattle.script_cli.proofs.Common.{run_output, WritesRunOf, WantsMemory}
 use Rattle.std.proofs.lemmas.Option.{same_Some}
-use Rattle.script_cli.proofs.RunLaws.{plain_up_to_refusal}
+use Rattle.script_cli.proofs.RunLaws.{compared}
 
 -- the plain run of a script, as bytes
 abbrev IsPlainBytes : LimitTable → List ℕ → List ℕ → Type 0
@@ -17,10 +17,13 @@ plain_or_wanting : (limits : LimitTable) (script bytes : List ℕ) (summary : Ru
 plain_or_wanting limits script bytes summary writes =
     let commands = writes.0 in let fault = writes.1 in let out = writes.2 in
     let told = same_Some bytes (encode_utf8_all out) writes.5 in
-    elim (plain_up_to_refusal commands (no_documents limits) fault out summary.refused writes.4) as
+    elim (compared commands (no_documents limits) fault out summary.refused writes.4) as
     (λ _. IsPlainBytes limits script bytes ⊎ WantsMemory limits script bytes) [
       | inl plain ↦ inl (commands, fault, writes.3, told ∙ ap encode_utf8_all plain.0)
-      | inr refused ↦ inr (commands, fault, out, writes.3, refused, told)
+      | inr other ↦ elim other as (λ _. IsPlainBytes limits script bytes ⊎ WantsMemory limits script bytes) [
+          | inl same ↦ inl (commands, fault, writes.3, told ∙ ap encode_utf8_all same.0)
+          | inr cut ↦ inr (commands, fault, out, writes.3, cut, told)
+        ]
     ]
 
 same_plain : (limits : LimitTable) (script one other : List ℕ) → IsPlainBytes limits script one →

@@ -2,9 +2,7 @@
 use Rattle.script_cli.proofs.Common.{◌≡◌, ◌≢◌, ◌<◌, length, ℕ, Bool, true, List, None, inl, inr, refl, ap, rules}
 use Rattle.script_cli.proofs.Common.{Result, Ok, Err, IfErr, is_err, Unread, TakesCommand, HasFault, StopsAt}
 use Rattle.script_cli.proofs.Common.{ScriptFault, World, step, piece, Replies, MeetsCommand, Meets, goes_on, is_refusal}
-use Rattle.script_cli.proofs.Common.{Met, false≢true}
-use Rattle.command_effects.specs.declared.answers.Answer.{Answer}
-use Rattle.command_effects.specs.declared.answers.Fault.{Fault}
+use Rattle.script_cli.proofs.Common.{Met, false≢true, Answer, Fault}
 use Rattle.command_effects.specs.declared.answers.Fault.TheVariants as fault
 use Rattle.script_cli.specs.declared.turns.Met.TheVariants as met
 

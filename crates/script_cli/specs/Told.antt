@@ -35,7 +35,7 @@ WritesFrontOfRead limits script (Some unread) old new =
     × ReadsFront read commands fault × RunsTo (no_documents limits) commands fault out refused
     × (encode_utf8_all out ≡ front ++ back) × Appends old new front
 
--- These bytes are what a run of a script writes in which memory is refused to a command.
+-- These bytes are those of a run of a script in which a failed allocation shows.
 abbrev pub WantsMemory : LimitTable → List ℕ → List ℕ → Type 0
 WantsMemory limits script bytes =
     (commands : List (List (List ℕ))) × (fault : Option ScriptFault) × (out : List ℕ)

@@ -8,15 +8,17 @@ ghost use Rattle.script_cli.specs.declared.summary.RunSummary.{RunSummary};
 ghost use Rattle.devices.specs.Devices.{ReadLog, WriteLog};
 ghost use Rattle.script_cli.specs.Run.{RunsTo, run_output, refused_count, WritesRun, WritesFront};
 ghost use Rattle.script_cli.specs.Told.{WritesRunOf, WritesFrontOf, WritesFrontOfRead, WantsMemory};
-ghost use Rattle.script_cli.specs.PlainRun.{IsPlain, IsPlainUpToRefusal};
+ghost use Rattle.script_cli.specs.PlainRun.{IsPlain, IsPlainOutput, IsPlainUpToRefusal};
 
-/// What a run prints is what the run without refusals for memory prints, up to the first command that is refused for
-/// memory, and all of it where none is.
+/// A run prints what the run prints in which no allocation fails, and refuses as many commands; or it prints the same
+/// and refuses more; or it prints the same up to a command, and there the line of a failed allocation, which the other
+/// run doesn't print for that command.
 pub fn plain_run()
     ensures { (world : World) (commands : List (List (List ℕ))) (fault : Option ScriptFault) (out : List ℕ)
         (refused : ℕ) →
         RunsTo world commands fault out refused →
-        IsPlain world commands fault out refused ⊎ IsPlainUpToRefusal world commands out }
+        IsPlain world commands fault out refused
+        ⊎ (IsPlainOutput world commands fault out refused ⊎ IsPlainUpToRefusal world commands out) }
 {}
 
 /// Any commands have a run in any world: the one without refusals for memory.
@@ -41,9 +43,9 @@ pub fn told_bytes()
         IfSome source_old.left (λ script. WritesFrontOfRead limits script source_new.left sink_old.held sink_new.held) }
 {}
 
-/// Two runs of one script with the same limits, each over a store of any kind, write the same bytes, but where memory
-/// is refused to a command of one of them: the store over the tree of lines writes what the plain one writes. For what
-/// a run promises names no store.
+/// Two runs of one script with the same limits, each over a store of any kind, write the same bytes, unless a command
+/// of one of them is refused because an allocation failed, and prints so what it wouldn't print otherwise: the store
+/// over the tree of lines writes what the plain one writes, since the clauses of a run name no store.
 pub fn same_bytes()
     ensures { (limits : LimitTable) (script one other : List ℕ) (summary another : RunSummary) →
         WritesRunOf limits script (Some []) (Some one) summary →
