@@ -163,8 +163,7 @@ fn is_as_wanted(seen: &Seen, wanted: &Wanted) -> bool {
 }
 
 // Whether a reader that failed isn't called again.
-fn is_read_no_more(source: &mut Watched<TestReader>) -> bool
-{
+fn is_read_no_more(source: &mut Watched<TestReader>) -> bool {
     let reads = source.get_ref().reads;
     source.read(&mut [0; 4]) == 0 && source.get_ref().reads == reads
 }
@@ -217,7 +216,12 @@ fn check(
     wanted: Wanted,
 ) -> Result<(), Fail> {
     let seen = run_over(alloc, all, &setting)?;
-    assert!(rt; is_as_wanted(&seen, &wanted), "{} bytes in {} reads", seen.written, seen.reads);
+    assert!(rt;
+        is_as_wanted(&seen, &wanted),
+        "{} bytes in {} reads",
+        seen.written,
+        seen.reads
+    );
     Ok(())
 }
 
@@ -232,25 +236,21 @@ const REFUSED: RunSummary = RunSummary {
 // How a run ended, its status, and the words that are printed of it.
 static ENDS: [(Ended, u8, &str); 7] = [
     (
-        Ok(
-            RunSummary {
-                commands: 3,
-                refused: 0,
-                script_fault: false,
-            },
-        ),
+        Ok(RunSummary {
+            commands: 3,
+            refused: 0,
+            script_fault: false,
+        }),
         0,
         "",
     ),
     (Ok(REFUSED), 1, ""),
     (
-        Ok(
-            RunSummary {
-                commands: 3,
-                refused: 0,
-                script_fault: true,
-            },
-        ),
+        Ok(RunSummary {
+            commands: 3,
+            refused: 0,
+            script_fault: true,
+        }),
         2,
         "",
     ),
@@ -439,7 +439,11 @@ fn check_allowed(
             ..PLAIN
         };
         let wanted = Wanted {
-            ended: if *ends { Ok(NOTHING) } else { Err(RunFault::Endless) },
+            ended: if *ends {
+                Ok(NOTHING)
+            } else {
+                Err(RunFault::Endless)
+            },
             written: 0,
             reads: Some(*reads as usize),
             writes: None,

@@ -61,7 +61,12 @@ fn check_index(rt: &impl Abort, alloc: Global, scene: &Scene, row: &Indexed) -> 
     Ok(())
 }
 
-fn check_indices(rt: &impl Abort, alloc: Global, scene: &Scene, rows: &[Indexed]) -> Result<(), Fail> {
+fn check_indices(
+    rt: &impl Abort,
+    alloc: Global,
+    scene: &Scene,
+    rows: &[Indexed],
+) -> Result<(), Fail> {
     for row in rows {
         check_index(rt, alloc, scene, row)?;
     }

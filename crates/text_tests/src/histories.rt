@@ -88,7 +88,10 @@ fn carry_out(
             let undone = texts_of(alloc, history.last_undo())?;
             let redone = texts_of(alloc, history.last_redo())?;
             let is_so = undone.as_str() == *undo && redone.as_str() == *redo;
-            assert!(rt; is_so && history.modified() == *modified, "{undone} {redone}");
+            assert!(rt;
+                is_so && history.modified() == *modified,
+                "{undone} {redone}"
+            );
         }
     }
     Ok(())

@@ -362,7 +362,10 @@ fn toggles(line: &Line, index: usize, column: usize) -> Answer
     requires within { column ≤ length line.now.columns }
 {
     let slot = SLOTS[index];
-    near(line.previous_toggle(column, slot), line.next_toggle(column, slot))
+    near(
+        line.previous_toggle(column, slot),
+        line.next_toggle(column, slot),
+    )
 }
 
 fn marks_at(line: &Line, column: usize, index: usize) -> Answer {
@@ -435,7 +438,10 @@ fn check_rows(rt: &impl Abort, line: &Line, rows: &[Row]) {
 
 fn check_characters(rt: &impl Abort, line: &Line, wanted: &str) {
     for (column, character) in wanted.chars().enumerate() {
-        assert!(rt; column < line.len() && line.char_at(column) == character, "{column}");
+        assert!(rt;
+            column < line.len() && line.char_at(column) == character,
+            "{column}"
+        );
     }
 }
 

@@ -256,9 +256,7 @@ static CASES: [Case; 6] = [
     },
     // More lines than a node has.
     Case {
-        steps: &[
-            PlainStep::Insert(0, "a\nbé\n\nd\ne\nf\ng\nh\ni\nj\nk\nl\nm\nn\no\np", &[]),
-        ],
+        steps: &[PlainStep::Insert(0, "a\nbé\n\nd\ne\nf\ng\nh\ni\nj\nk\nl\nm\nn\no\np", &[])],
         text: "a\nbé\n\nd\ne\nf\ng\nh\ni\nj\nk\nl\nm\nn\no\np\n",
         rows: &[
             (Query::Size, 0, (32, 16)),
@@ -298,7 +296,10 @@ fn check_text<S: TextStore>(rt: &impl Abort, store: &S, text: &str) -> Result<()
 fn check_rows<S: TextStore>(rt: &impl Abort, store: &S, rows: &[Row]) {
     let len = rows.len();
     for (index, row) in rows.iter().enumerate() {
-        assert!(rt; ask(store, row.0, row.1) == Some(row.2), "row {index} of {len}");
+        assert!(rt;
+            ask(store, row.0, row.1) == Some(row.2),
+            "row {index} of {len}"
+        );
     }
 }
 

@@ -190,10 +190,7 @@ fn ask_before(tree: &LineTree<Steps>, query: Query, k: usize, ticks: &mut Steps)
     let sums = tree.prefix(k, ticks);
     match query {
         Query::Count => (tree.start(k, ticks), sums.marks()),
-        _ => (
-            sums.lines(),
-            tree.odd_slots(k, ticks).has(SLOT) as usize,
-        ),
+        _ => (sums.lines(), tree.odd_slots(k, ticks).has(SLOT) as usize),
     }
 }
 
