@@ -122,7 +122,7 @@ class Terminal:
             # A parent that runs in the background may have it ignored.
             signal.signal(signal.SIGINT, signal.SIG_DFL)
             os.execvpe(WORDS[0], WORDS, environment(module, home))
-        self.shown = ""
+        self.shown, self.has_ended = "", False
 
     def wait_for(self, wanted):
         """Reads until a text is shown, and tells whether it was."""
@@ -132,6 +132,7 @@ class Terminal:
                 try:
                     self.shown += os.read(self.master, 4096).decode("utf-8", "replace")
                 except OSError:
+                    self.has_ended = True
                     break
         return wanted in self.shown
 
@@ -140,9 +141,11 @@ class Terminal:
         os.write(self.master, keys.encode("utf-8"))
 
     def close(self):
-        """Ends the prompt; the exit status."""
+        """Ends the prompt; the exit status, negative if it had to be killed."""
         os.write(self.master, b"exit\r")
         self.wait_for("nothing that is shown")
+        if not self.has_ended:
+            os.kill(self.child, signal.SIGKILL)
         return os.waitstatus_to_exitcode(os.waitpid(self.child, 0)[1])
 
 
