@@ -390,7 +390,7 @@ def check_saving(environment, tally):
             editing.send(b"b" + LEAVE)
             tally.check(editing.wait_for(b"[s]ave or [d]rop"), "edits are dropped unasked")
             editing.send(b"\x1b")
-            editing.wait_for(b"given up")
+            editing.wait_for(b"cancelled")
             write(real, b"another\n")
             editing.send(b"c")
             tally.check(editing.wait_for(b"CHANGED ON DISK"), "a file that changed isn't noticed")

@@ -25,6 +25,7 @@ TOP = os.path.dirname(os.path.dirname(os.path.abspath(__file__)))
 MODULE = os.path.join(TOP, "out", "python")
 WORDS = [sys.executable, "-m", "tktext"]
 PATIENCE = 20
+INTERRUPT, SETTLE_SECONDS = "\x03", 0.5
 SCRIPT = b'text .t\n.t insert 1.0 "error: x\\ny"\n.t get 1.0 1.end\n.t index foo\n'
 PRINTS = b'.t\n\nerror: x\nerror: bad text index "foo"\n'
 OBJECTS = [
@@ -55,7 +56,7 @@ TYPED = (
     ("help tag add\r", "W tag add tagName index ?index ...?"),
     ("help edit\r", "W edit option ?arg ...?\r\n  option: modified, redo"),
     ("help nothing\r", "tktext: no command 'nothing'"),
-    ("\x03", "tktext> "),
+    (INTERRUPT, "tktext> "),
 )
 
 
@@ -121,7 +122,7 @@ class Terminal:
             # A parent that runs in the background may have it ignored.
             signal.signal(signal.SIGINT, signal.SIG_DFL)
             os.execvpe(WORDS[0], WORDS, environment(module, home))
-        self.shown = ""
+        self.shown, self.has_ended = "", False
 
     def wait_for(self, wanted):
         """Reads until a text is shown, and tells whether it was."""
@@ -131,6 +132,7 @@ class Terminal:
                 try:
                     self.shown += os.read(self.master, 4096).decode("utf-8", "replace")
                 except OSError:
+                    self.has_ended = True
                     break
         return wanted in self.shown
 
@@ -139,9 +141,11 @@ class Terminal:
         os.write(self.master, keys.encode("utf-8"))
 
     def close(self):
-        """Ends the prompt; the exit status."""
+        """Ends the prompt; the exit status, negative if it had to be killed."""
         os.write(self.master, b"exit\r")
         self.wait_for("nothing that is shown")
+        if not self.has_ended:
+            os.kill(self.child, signal.SIGKILL)
         return os.waitstatus_to_exitcode(os.waitpid(self.child, 0)[1])
 
 
@@ -150,6 +154,9 @@ def check_prompt(module, home, tally):
     terminal = Terminal(module, home)
     tally.check(terminal.wait_for("tktext> "), "there is a prompt")
     for keys, wanted in TYPED:
+        if keys == INTERRUPT:
+            # Python's readline loses one that comes between the prompt and the first wait for a key.
+            time.sleep(SETTLE_SECONDS)
         terminal.type(keys)
         is_shown = terminal.wait_for(f"\r\n{wanted}")
         tally.check(is_shown, f"{keys!r}: {terminal.shown!r}, wanted {wanted!r}")
