@@ -265,6 +265,14 @@ fn a_tree_answers(rt: HostRuntime) -> Result<(), Fail> {
     Ok(())
 }
 
+#[test]
+fn a_tree_reserves_for_lines(rt: HostRuntime) -> Result<(), Fail> {
+    let mut tree: LineTree<Steps> = LineTree::new(rt.alloc())?;
+    tree.reserve_for(12)?;
+    assert!(rt; tree.height() == 1);
+    Ok(())
+}
+
 // Lines of one character.
 fn many_lines(alloc: Global, count: usize) -> Result<Edit, AllocError> {
     let mut text = String::new(alloc);
