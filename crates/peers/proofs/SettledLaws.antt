@@ -337,8 +337,8 @@ settled world (name ∷ others) =
     else on_widget world name words))) [
       | true ↦ λ text.
           let read : reading words ≡ behind text_entry 1 others =
-              ap (λ b. if b then behind text_entry 1 others
-              else (if is_same name (literal "destroy") then behind destroy_entry 1 others else subcommand others)) text in
+          ap (λ b. if b then behind text_entry 1 others
+          else (if is_same name (literal "destroy") then behind destroy_entry 1 others else subcommand others)) text in
           subst (λ shape. IsSettledIn world words (create_shaped world words shape)) (sym read)
           (creates-shaped world words (bad_option text_entry.options 1 others) (fits text_entry (length others))
           (length others))

@@ -722,7 +722,12 @@ compared (words ∷ commands) world fault out refused (inr by_memory) =
           (by_memory.2 ∙ ap (λ xs. xs ++ by_memory.0) (sym line)) by_memory.3
           (subst (λ after. Compares after commands fault by_memory.0 by_memory.1) (sym kept) later)
       | false ↦ λ other. inr (inr (
-          [], words, commands, by_memory.0, refl, by_memory.2,
-          λ line. true≢false (sym (same-word memory_line) ∙ ap (λ xs. is_same xs memory_line) (sym line) ∙ other),
-        ))
+        [],
+        words,
+        commands,
+        by_memory.0,
+        refl,
+        by_memory.2,
+        λ line. true≢false (sym (same-word memory_line) ∙ ap (λ xs. is_same xs memory_line) (sym line) ∙ other),
+      ))
     ] refl

@@ -21,9 +21,9 @@ plain_or_wanting limits script bytes summary writes =
     (λ _. IsPlainBytes limits script bytes ⊎ WantsMemory limits script bytes) [
       | inl plain ↦ inl (commands, fault, writes.3, told ∙ ap encode_utf8_all plain.0)
       | inr other ↦ elim other as (λ _. IsPlainBytes limits script bytes ⊎ WantsMemory limits script bytes) [
-          | inl same ↦ inl (commands, fault, writes.3, told ∙ ap encode_utf8_all same.0)
-          | inr cut ↦ inr (commands, fault, out, writes.3, cut, told)
-        ]
+        | inl same ↦ inl (commands, fault, writes.3, told ∙ ap encode_utf8_all same.0)
+        | inr cut ↦ inr (commands, fault, out, writes.3, cut, told)
+      ]
     ]
 
 same_plain : (limits : LimitTable) (script one other : List ℕ) → IsPlainBytes limits script one →
