@@ -12,13 +12,13 @@
 # make install    installs program, library, Tcl package and manual pages below PREFIX=/usr/local, and all of it below
 #                 DESTDIR; TRY=1 installs the unproved builds
 # make uninstall  removes them
-# make dist       packs a release in out/dist: a tarball, a Debian package and a Python wheel; TRY=1 packs unproved builds
+# make dist       packs a release in out/dist: a tarball, a Debian package and a Python wheel; TRY=1: unproved
 # make test       proves everything, then runs the tests that aren't proofs; the last line counts them
 # make fuzz       compares the program with a model on random scripts: SEEDS=300 of them, from FIRST=0
 # make fuzz-library  calls the library at random under sanitizers, for SECONDS=600, from the seed FIRST=0
 # make tk         compares the program with Tk, if that is installed: docs/differences.md, indices and random scripts
 # make gate       runs the gate alone, from nothing, and measures its processor time on an otherwise idle machine
-# make bench      measures time per command and memory: docs/bench.txt, bench_lines.txt, bench_tree.txt, bench_library.txt
+# make bench      measures time and memory: docs/bench.txt, bench_lines.txt, bench_tree.txt, bench_library.txt
 # make bench-python  measures Python's calls and tkinter's: docs/bench_python.txt; needs python3-tk and xvfb; TRY=1 only
 #                 shows them, with the unproved library
 # make versus     measures the program and Tk on tools/workloads.py: docs/performance.md and its pictures; needs Tk
