@@ -1,38 +1,30 @@
-# make help    these lines
-# make try     a script before anything is proved: standard input, SCRIPT=file, or with neither examples/first.tcl
-# make run     the same by the proved program, which is proved and built first where it isn't yet
-# make build   the proved program alone: crates/tktext/out/tktext
-# make lib     the library for C, Python and Tcl: out/libtktext.a and out/libtktext.so, proved where it isn't yet
-# make try-lib  the same before anything is proved, in two or three minutes: libtktext.a and libtktext.so of out/try
-# make examples  its examples in C, Python and Tcl, and what is missing for one that can't be run; TRY=1 runs them by
-#              the library of make try-lib
-# make python  the Python package for PYTHONPATH: out/python, or out/try/python with TRY=1; `pip install .` installs it
-# make tcl     the Tcl package of the library alone: out/tktext.so, or out/try/tktext.so with TRY=1
-# make man     the manual pages as roff: out/man/tktext.1 and out/man/tktext.3; they want pandoc
-# make install  puts the program, the library, the Tcl package and the manual pages below PREFIX=/usr/local, and all of
-#              that below DESTDIR; TRY=1 puts those there that aren't proved
-# make uninstall  takes them away again
-# make dist    a release in out/dist: a tarball and a Debian package of what `make install` puts down, and a wheel for
-#              Python, each with what was proved (docs/release.md); TRY=1 makes one of what isn't
-# make check   builds the unproved program and library and runs their tests, in five minutes on two cores; proves nothing
-# make test    proves everything, and then runs the checks that a proof can't do; the last line counts them
-# make fuzz    the program against the plain model on random scripts: SEEDS=300 of them, FIRST=0 on
-# make fuzz-library  random calls of the library under sanitizers, for SECONDS=600, from the seed FIRST=0 on
-# make tk      the program against real Tk, where that is installed: the rows of docs/differences.md, the grammar of an
-#              index crossed, and random scripts
-# make gate    the gate alone, from nothing, and its processor time over that of a fixed check; with nothing else running
-# make bench   the program's time per command as the text grows, and its memory as the script does, into docs/bench.txt;
-#              what is done to one long line, into docs/bench_lines.txt; lines in the tree, into docs/bench_tree.txt; and
-#              a command through the library, into docs/bench_library.txt
-# make bench-python  the time of Python's calls beside tkinter's, into docs/bench_python.txt; it needs python3-tk and xvfb;
-#              TRY=1 shows it by the library of `make try-lib`, and writes nothing
-# make versus  the program beside real Tk on the workloads of tools/workloads.py, into docs/performance.md and its two
-#              pictures; it needs Tk
-# make counts  the instructions of a command on texts of two sizes, into docs/bench_counts.txt; it needs valgrind
-# make orders  by which power of each of its sizes a command's cost grows, into docs/bench_orders.txt; it needs valgrind,
-#              and shows real Tk's beside it where that is installed
-# make gains   what the program takes beside docs/gains.txt, which it may not pass by more than a twentieth; UPDATE=1
-#              writes that file. It needs valgrind
+# make help       these lines; docs/install.md has the times and what each target needs
+# make try        runs a script with the unproved program: SCRIPT=file, standard input, or by default examples/first.tcl
+# make try-lib    builds the unproved library for C, Python and Tcl: out/try/libtktext.a and out/try/libtktext.so
+# make check      builds the unproved program and library and runs their tests, in five minutes on two cores
+# make run        runs a script with the proved program, which it first proves and builds if needed
+# make build      proves and builds the program: crates/tktext/out/tktext
+# make lib        proves and builds the library: out/libtktext.a and out/libtktext.so
+# make examples   runs the library's examples in C, Python and Tcl; TRY=1 with the unproved library
+# make python     builds the Python package for PYTHONPATH: out/python, or out/try/python with TRY=1
+# make tcl        builds the Tcl package: out/tktext.so, or out/try/tktext.so with TRY=1
+# make man        makes the manual pages out/man/tktext.1 and out/man/tktext.3, with pandoc
+# make install    installs program, library, Tcl package and manual pages below PREFIX=/usr/local, and all of it below
+#                 DESTDIR; TRY=1 installs the unproved builds
+# make uninstall  removes them
+# make dist       packs a release in out/dist: a tarball, a Debian package and a Python wheel; TRY=1: unproved
+# make test       proves everything, then runs the tests that aren't proofs; the last line counts them
+# make fuzz       compares the program with a model on random scripts: SEEDS=300 of them, from FIRST=0
+# make fuzz-library  calls the library at random under sanitizers, for SECONDS=600, from the seed FIRST=0
+# make tk         compares the program with Tk, if that is installed: docs/differences.md, indices and random scripts
+# make gate       runs the gate alone, from nothing, and measures its processor time on an otherwise idle machine
+# make bench      measures time and memory: docs/bench.txt, bench_lines.txt, bench_tree.txt, bench_library.txt
+# make bench-python  measures Python's calls and tkinter's: docs/bench_python.txt; needs python3-tk and xvfb; TRY=1 only
+#                 shows them, with the unproved library
+# make versus     measures the program and Tk on tools/workloads.py: docs/performance.md and its pictures; needs Tk
+# make counts     counts the instructions of commands on texts of two sizes: docs/bench_counts.txt; needs valgrind
+# make orders     measures how each command's cost grows with each size: docs/bench_orders.txt; needs valgrind
+# make gains      compares the cost with docs/gains.txt, allows a twentieth more; UPDATE=1 writes it; needs valgrind
 
 .DEFAULT_GOAL = try
 PROGRAM = crates/tktext/out/tktext

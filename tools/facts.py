@@ -419,6 +419,9 @@ def check_words(tally):
         for start, text in texts_of(path, path in whole):
             for line, word, instead in refused_in(text, refused):
                 tally.failed(f"{path}:{start + line - 1}: '{word}': write {instead}")
+    help_lines = text_of("Makefile").partition("\n\n")[0]
+    for line, word, instead in refused_in(help_lines, refused):
+        tally.failed(f"Makefile:{line}: '{word}': write {instead}")
     for path in paths_of(PLAIN_STRINGS):
         for start, text in strings_of(path):
             for _, word, instead in refused_in(text, refused):
