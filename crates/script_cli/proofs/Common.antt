@@ -21,7 +21,7 @@ pub use Rattle.std.proofs.lemmas.Bool.{false≢true, true≢false}
 pub use Rattle.std.proofs.lemmas.Grind.{common_steps}
 pub use Rattle.std.proofs.lemmas.List.{append-nil, take-append-drop, take_all}
 pub use Rattle.std.proofs.lemmas.Str.{encodes-append}
-pub use Rattle.std.specs.Prelude.{Err, IfErr, IfSome, Ok, OnErr, OnOk, Result, is_err, is_ok, is_some}
+pub use Rattle.std.specs.Prelude.{Err, IfErr, IfSome, Ok, OnErr, OnOk, Result, bytes_eq, is_err, is_ok, is_some}
 pub use Rattle.tcl_words.proofs.Readings.{a_reading, one_script}
 pub use Rattle.tcl_words.specs.ScriptGrammar.{IsCommandBefore, ReadsFront, ReadsScript}
 pub use Rattle.tcl_words.specs.Unread.{HasFault, HasNoCommand, IsNextCommand, StopsAt, TakesCommand, Unread, texts_of}

@@ -6,13 +6,12 @@ use Rattle.script_cli.proofs.Common.{append-nil, encodes-append, LimitTable, IsC
 use Rattle.script_cli.proofs.Common.{HasNoCommand, HasFault, ScriptFault, a_reading, World, step, RunSummary, Met}
 use Rattle.script_cli.proofs.Common.{ReadLog, WriteLog, HandsOut, Takes, piece, memory_line, no_documents, run_output}
 use Rattle.script_cli.proofs.Common.{refused_count, RunsTo, Holds, WritesRun, WritesFront, Feeds, Sends, Gathers}
-use Rattle.script_cli.proofs.Common.{Replies, MeetsCommand, Meets, true≢false, subst}
+use Rattle.script_cli.proofs.Common.{Replies, MeetsCommand, Meets, true≢false, subst, bytes_eq}
 use Rattle.script_cli.specs.declared.summary.RunFault.{RunFault}
 use Rattle.script_cli.specs.Carrying.{RunsBytes, MayFollow, Carries, CarriesOut, Carried, Cuts}
 use Rattle.script_cli.specs.PlainRun.{IsPlain, IsPlainOutput, IsPlainUpToRefusal}
 use Rattle.script_cli.proofs.HarmlessLaws.{harmless}
-use Rattle.documents.proofs.MarksToldLaws.{same-word, words-are}
-use Rattle.command_table.specs.Words.{is_same}
+use Rattle.std.proofs.lemmas.Slice.Eq.{bytes_eq-Decides}
 use Rattle.script_cli.proofs.SendingLaws.{Takes-nil, Takes-then, HandsOut-nil, HandsOut-then}
 use Rattle.script_cli.specs.declared.turns.Met.TheVariants as kinds
 
@@ -713,10 +712,10 @@ compared (words ∷ commands) world fault out refused (inl by_step) =
 compared (words ∷ commands) world fault out refused (inr by_memory) =
     let text = piece words (step world words).reply in
     let later = compared commands world fault by_memory.0 by_memory.1 by_memory.4 in
-    elim (is_same text memory_line) as (λ b. is_same text memory_line ≡ b →
+    elim (bytes_eq text memory_line) as (λ b. bytes_eq text memory_line ≡ b →
     Compares world (words ∷ commands) fault out refused) [
       | true ↦ λ same.
-          let line : text ≡ memory_line = words-are text memory_line same in
+          let line : text ≡ memory_line = (bytes_eq-Decides text memory_line).0 same in
           let kept : (step world words).world ≡ world = harmless world words line in
           same_more world words commands fault out by_memory.0 refused by_memory.1
           (by_memory.2 ∙ ap (λ xs. xs ++ by_memory.0) (sym line)) by_memory.3
@@ -728,6 +727,6 @@ compared (words ∷ commands) world fault out refused (inr by_memory) =
         by_memory.0,
         refl,
         by_memory.2,
-        λ line. true≢false (sym (same-word memory_line) ∙ ap (λ xs. is_same xs memory_line) (sym line) ∙ other),
+        λ line. true≢false (sym ((bytes_eq-Decides text memory_line).1 line) ∙ other),
       ))
     ] refl
