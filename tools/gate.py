@@ -274,7 +274,7 @@ def write_table(runs):
         lines.append("| " + " | ".join([name, *cells]) + " |")
     with open(PAGE, encoding="utf-8") as file:
         page = file.read()
-    start = page.index(PAGE_HEAD)
+    start = page.index("| Crate |")
     end = page.index("\n", page.index("\n| all |", start) + 1)
     with open(PAGE, "w", encoding="utf-8") as file:
         file.write(page[:start] + "\n".join(lines) + page[end:])
