@@ -467,7 +467,9 @@ def check_readme(tally):
     page = " ".join(page.split())
     words = " ".join(text_of("docs", "performance.md").split())
     part = re.search(r"fewer instructions than Tk's own widget: ([\d.]+ to [\d.]+) of them", words)
-    tally.check(part and f"| {part[1]} |" in page, f"README.md hasn't the part of Tk's instructions: {part and part[1]}")
+    time = re.search(r"Of its time it is ([\d.]+ to [\d.]+)\.", words)
+    parts = part and time and f"{part[1]}; {time[1]}"
+    tally.check(parts and f"| {parts} |" in page, f"README.md hasn't the parts of Tk's instructions and time: {parts}")
     sizes = re.search(r"(\d+) bytes a line at most .* and (\d+) afterwards", text_of("docs", "bench.txt"))
     for size in sizes.groups():
         tally.check(re.search(rf"\b{size} bytes", page), f"README.md hasn't {size} bytes a line, as docs/bench.txt has")
