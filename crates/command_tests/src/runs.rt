@@ -514,6 +514,8 @@ fn a_command_is_answered_before_the_next_read(rt: HostRuntime) -> Result<(), Fai
     });
     let mut sink = Watched::new(LineWriter { taken: &taken });
     let ended = run::<PlainStore, _, _>(rt.alloc(), &mut source, &mut sink, limits(100)?);
-    assert!(rt; ended.is_ok() && source.get_ref().taken_at_ninth == 3 && taken.get() == 7);
+    assert!(rt; ended.is_ok());
+    assert_eq!(rt; source.get_ref().taken_at_ninth, 3);
+    assert_eq!(rt; taken.get(), 7);
     Ok(())
 }
