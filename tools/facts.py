@@ -78,8 +78,6 @@ PLAIN_SOURCES = (
 )
 PLAIN_MESSAGES = ("tools/*.py",)
 PLAIN_STRINGS = ("python/tktext/*.c", "tcl/*.c", "include/*.c", "tools/run.sh")
-# Tools of the proof, which others maintain.
-NOT_PLAIN = {os.path.join("tools", name) for name in ("gate.py", "wrong.py", "gains.py")}
 # What a call of these prints.
 PRINTING = ("print", "exit", "check", "failed", "error", "add_argument", "ArgumentParser", "run_checks")
 CODE_SPAN = re.compile(r"`[^`]*`")
@@ -415,7 +413,7 @@ def check_words(tally):
         for line, word, instead in refused_in(plain_text(text_of(path)), refused):
             tally.failed(f"{path}:{line}: '{word}': write {instead}")
     whole = paths_of(PLAIN_SOURCES)
-    for path in {*whole, *paths_of(PLAIN_MESSAGES)} - NOT_PLAIN:
+    for path in {*whole, *paths_of(PLAIN_MESSAGES)}:
         for start, text in texts_of(path, path in whole):
             for line, word, instead in refused_in(text, refused):
                 tally.failed(f"{path}:{start + line - 1}: '{word}': write {instead}")

@@ -327,7 +327,8 @@ def main():
     edits = {crate: found for crate in crates if (found := read_edits(crate))}
     unbuilt = [crate for crate in edits if not os.path.isdir(over.find_rlib(crate, options.libraries))]
     if unbuilt:
-        sys.exit(f"wrong.py: no library of {', '.join(unbuilt)} is built: run `rt ci`, or give --libraries")
+        names = ", ".join(unbuilt)
+        sys.exit(f"wrong.py: no library of {names} is built: run `rt ci`, or name a checkout by --libraries")
     # The crates with the most edits take longest, and begin first.
     longest_first = sorted(edits, key=lambda crate: len(edits[crate]), reverse=True)
     tally = Tally()
