@@ -162,7 +162,12 @@ def batches_of(crate, edits):
 
 
 def calls_of(crate, libraries):
-    """The functions of a crate, by their paths, each with those of the crate that it names, as its library has them."""
+    """The functions of a crate, by their paths, each with those of the crate that it names, as its library has them.
+
+    None of a static crate, which leaves no library: its functions call those of other crates.
+    """
+    if over.is_static(crate):
+        return {}
     library = os.path.join(over.find_rlib(crate, libraries), f"{crate}.rlib")
     named = re.compile(rf'"{crate}::([^"]+)"')
     bodies = {
@@ -325,7 +330,8 @@ def main():
     options = parser.parse_args()
     crates = options.crates or build.read_crates(os.path.join(build.TOP, "crates.txt"))
     edits = {crate: found for crate in crates if (found := read_edits(crate))}
-    unbuilt = [crate for crate in edits if not os.path.isdir(over.find_rlib(crate, options.libraries))]
+    libraries = [crate for crate in edits if not over.is_static(crate)]
+    unbuilt = [crate for crate in libraries if not os.path.isdir(over.find_rlib(crate, options.libraries))]
     if unbuilt:
         names = ", ".join(unbuilt)
         sys.exit(f"wrong.py: no library of {names} is built: run `rt ci`, or name a checkout by --libraries")
